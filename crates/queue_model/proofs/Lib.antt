@@ -1,0 +1,9 @@
+pub mod ListLemmas
+pub mod PlaceLemmas
+pub mod SelectionLemmas
+pub mod LawfulLemmas
+pub mod JournalLemmas
+pub mod LowestLemmas
+pub mod EffectLemmas
+pub mod HoldsLemmas
+pub mod OrderLemmas
