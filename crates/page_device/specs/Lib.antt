@@ -1,0 +1,6 @@
+pub mod Device
+pub mod Fault
+pub mod Faulty
+pub mod File
+pub mod Pages
+pub mod Sealed

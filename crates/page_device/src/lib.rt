@@ -1,0 +1,24 @@
+//! Devices of numbered, sealed pages: a read gives what was last written there.
+
+#![tactic(auto)]
+
+mod device;
+mod fault;
+mod faulty;
+mod file;
+mod memory;
+mod page;
+mod page_file;
+mod sealed;
+
+pub use device::PageDevice;
+pub use fault::DeviceFault;
+pub use faulty::FaultyDevice;
+pub use file::FileDevice;
+pub use memory::MemDevice;
+pub use page::{DIGEST_BYTES, MAX_PAGES, PAGE_BYTES, PAYLOAD_BYTES, Page, Payload};
+pub use page_file::{PageFile, SystemFile};
+pub use sealed::{seal, unseal, unseal_into};
+
+#[cfg(test)]
+mod tests;
