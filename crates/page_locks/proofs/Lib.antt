@@ -1,0 +1,5 @@
+pub mod ChangeLemmas
+pub mod NameLemmas
+pub mod RowLemmas
+pub mod TableLemmas
+pub mod WriterLemmas

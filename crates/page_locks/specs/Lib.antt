@@ -1,0 +1,4 @@
+pub mod Grants
+pub mod Locks
+pub mod Table
+pub mod Writers

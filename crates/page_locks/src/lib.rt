@@ -1,0 +1,21 @@
+//! Locks on names, which seats hold in three kinds: a table of what each seat was granted.
+//! Whatever two seats hold of one name goes together, and a lock is refused only for such a reason.
+
+#![tactic(auto)]
+
+mod grant;
+mod laws;
+mod lock;
+mod lock_table;
+mod no_memory;
+mod row;
+
+pub use grant::Grant;
+pub use laws::{changes_are_local, names_differ};
+pub use lock::{Lock, LockKind, LockName};
+pub use lock_table::{LockTable, MAX_SEATS};
+pub use no_memory::NoMemory;
+pub use row::MAX_LOCKS;
+
+#[cfg(test)]
+mod tests;

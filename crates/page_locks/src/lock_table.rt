@@ -1,0 +1,150 @@
+//! The table: who holds what.
+
+ghost use Rattle.std.specs.Prelude.{◌≡◌, ◌<◌, ◌≤◌, ◌↔◌, [], length, replicate, None, IsSome, IsTrue, IfSome, IfNone, IfOk};
+ghost use Rattle.page_locks.specs.Grants.{OnGranted, IfBlocked, IsBlocked};
+ghost use Rattle.page_locks.specs.Table.{row_of, held, with_lock, without_lock, with_kind};
+ghost use Rattle.page_locks.specs.Table.{IsSeat, Opposes, IsOpposed, IsFree, IsLawful, IsPairwiseCompatible};
+
+use crate::grant::Grant;
+use crate::lock::{Lock, LockKind, LockName};
+use crate::no_memory::NoMemory;
+use crate::row::{MAX_LOCKS, Row};
+use std::alloc::Global;
+use std::marker::Model;
+
+/// The most seats of a table.
+pub const MAX_SEATS: u8 = 64;
+
+/// What each seat holds. Seats count from 1.
+#[derive(Debug, Drop)]
+pub struct LockTable {
+    rows: Vec<Row>,
+}
+
+impl Model for LockTable {
+    ghost use Rattle.page_locks.specs.Table.{Table, IsLawful};
+
+    ghost Value = { Table };
+
+    ghost view = { λ t. t.rows.items };
+
+    ghost invariant = { λ t. IsLawful t.rows.items };
+}
+
+impl LockTable {
+    /// A table for this many seats, none of which holds a lock.
+    pub fn new(alloc: Global, seats: u8) -> Result<LockTable, NoMemory>
+        requires some { 1 ≤ seats }
+        requires few { seats ≤ MAX_SEATS }
+        ensures { IfOk result (λ table. table ≡ replicate seats []) }
+    {
+        let mut rows = Vec::with_capacity(alloc, seats as usize)?;
+        for _ in 0..seats {
+            rows.push(Row::new())?;
+        }
+        Ok(LockTable { rows })
+    }
+
+    /// How many seats there are.
+    pub fn seats(&self) -> u8
+        ensures { result ≡ length self.now }
+    {
+        self.rows.len() as u8
+    }
+
+    /// Whether the seat holds as many locks as a seat may.
+    pub fn is_full(&self, seat: u8) -> bool
+        requires seat { IsSeat self.now seat }
+        ensures { IsTrue result ↔ (MAX_LOCKS ≤ length (row_of self.now seat)) }
+    {
+        self.row(seat).len() >= MAX_LOCKS
+    }
+
+    /// The kind in which the seat holds the name.
+    pub fn holds(&self, seat: u8, name: LockName) -> Option<LockKind>
+        requires seat { IsSeat self.now seat }
+        ensures { result ≡ held self.now seat name }
+    {
+        self.row(seat).kind_of(name)
+    }
+
+    /// Grants the seat the name in this kind. It is blocked exactly where another seat holds the
+    /// name in a kind that does not go with this one, and is told such a seat.
+    pub fn try_grant(&mut self, seat: u8, name: LockName, kind: LockKind) -> Grant
+        requires seat { IsSeat self.old seat }
+        requires room { length (row_of self.old seat) < MAX_LOCKS }
+        requires fresh { held self.old seat name ≡ None }
+        ensures ok { OnGranted result (self.new ≡ with_lock self.old seat name kind) }
+        ensures busy { IsBlocked result ↔ IsOpposed self.old seat name kind }
+        ensures blocked { IfBlocked result (Opposes self.old seat name kind) }
+        ensures same { IfBlocked result (λ _. self.new ≡ self.old) }
+    {
+        let lock = Lock { name, kind };
+        if let Some(other) = self.opponent(seat, lock) {
+            return Grant::Blocked(other);
+        }
+        self.rows[seat as usize - 1].push(lock);
+        Grant::Granted
+    }
+
+    /// Takes the name back from the seat. A name that the seat does not hold changes nothing.
+    pub fn release(&mut self, seat: u8, name: LockName)
+        requires seat { IsSeat self.old seat }
+        ensures { self.new ≡ without_lock self.old seat name }
+    {
+        self.rows[seat as usize - 1].remove(name);
+    }
+
+    /// Changes the kind in which the seat holds the name. It is blocked as in `try_grant`.
+    pub fn convert(&mut self, seat: u8, name: LockName, kind: LockKind) -> Grant
+        requires seat { IsSeat self.old seat }
+        requires held { IsSome (held self.old seat name) }
+        ensures ok { OnGranted result (self.new ≡ with_kind self.old seat name kind) }
+        ensures busy { IsBlocked result ↔ IsOpposed self.old seat name kind }
+        ensures blocked { IfBlocked result (Opposes self.old seat name kind) }
+        ensures same { IfBlocked result (λ _. self.new ≡ self.old) }
+    {
+        if let Some(other) = self.opponent(seat, Lock { name, kind }) {
+            return Grant::Blocked(other);
+        }
+        self.rows[seat as usize - 1].convert(name, kind);
+        Grant::Granted
+    }
+
+    /// What is true of every table: its limits, no name twice in a row, and that locks go together.
+    pub fn keeps_limits(&self)
+        ensures { IsLawful self.now }
+    {
+        let _ = &self.rows;
+    }
+
+    /// In every table two seats hold one name in compatible kinds, or one of them does not hold it.
+    pub fn locks_are_compatible(&self)
+        ensures { IsPairwiseCompatible self.now }
+    {
+        let _ = &self.rows;
+    }
+
+    /// The row of a seat.
+    fn row(&self, seat: u8) -> &Row
+        requires seat { IsSeat self.now seat }
+        ensures { result.now ≡ row_of self.now seat }
+    {
+        &self.rows[seat as usize - 1]
+    }
+
+    /// Another seat that holds the name in a kind that does not go with this one.
+    fn opponent(&self, seat: u8, lock: Lock) -> Option<u8>
+        ensures none { IfNone result (IsFree self.now seat lock.name lock.kind) }
+        ensures some { IfSome result (Opposes self.now seat lock.name lock.kind) }
+    {
+        let mut other = 0;
+        for row in &self.rows {
+            other += 1;
+            if other != seat && row.is_against(lock) {
+                return Some(other);
+            }
+        }
+        None
+    }
+}
