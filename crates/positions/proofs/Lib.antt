@@ -1,0 +1,10 @@
+pub mod ReversalLaws
+pub mod PositionLaws
+pub mod RangeLaws
+pub mod MemberLaws
+pub mod TileLaws
+pub mod BuddyLaws
+pub mod ChangeLaws
+pub mod CountLaws
+pub mod WalkLaws
+pub mod PartitionLaws
