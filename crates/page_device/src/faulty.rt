@@ -45,7 +45,8 @@ impl<D: PageDevice> FaultyDevice<D> {
 fn is_due(left: &mut u64, failed: &mut u64) -> bool
     ensures due { IsTrue result ↔ (left.old ≡ 1) }
     ensures left { left.new ≡ left.old - 1 }
-    ensures failed { failed.new ≡ (if result then min (failed.old + 1) MOST_FAULTS else failed.old) }
+    ensures failed { failed.new ≡
+        (if result then min (failed.old + 1) MOST_FAULTS else failed.old) }
 {
     let due = *left == 1;
     *left = left.saturating_sub(1);

@@ -123,7 +123,8 @@ impl Queue {
         requires selected { IsSelectedAt arguments.now.mtype self.old.messages place }
         ensures lawful { IsLawfulQueue self.new }
         ensures gone { self.new ≡ without_message pid arguments.now self.old }
-        ensures given { result ≡ cut_at arguments.now.size (slice_index_or self.old.messages place result) }
+        ensures given { result ≡ cut_at arguments.now.size
+            (slice_index_or self.old.messages place result) }
     {
         let mut message = self.messages.remove(place);
         message.bytes.cut(arguments.size as usize);

@@ -196,7 +196,8 @@ impl System {
     }
 
     fn receive(&mut self, caller: Caller, arguments: &ReceiveArguments) -> Applied
-        ensures { Meets result (outcome_of_receive caller arguments.now self.old) self.old self.new }
+        ensures { Meets result
+            (outcome_of_receive caller arguments.now self.old) self.old self.new }
     {
         let place = match self.place_of(arguments.id) {
             Ok(place) => place,

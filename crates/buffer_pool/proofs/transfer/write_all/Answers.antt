@@ -1,0 +1,31 @@
+-- One more frame agrees with the device.
+use Rattle.std.proofs.Common.{◌≡◌, ◌∙◌, sym, ap, subst, ◌⊎◌, inl, inr, ℕ, ◌<◌, ◌+◌, None, slice_index_or, arith}
+use Rattle.std.proofs.lemmas.Bool.{cases_eq}
+use Rattle.buffer_pool.specs.Pool.{IsClean}
+use Rattle.buffer_pool.proofs.transfer.write_all.Goals as goal
+
+pub loop-frame-preserved : goal.loop-frame-preserved
+loop-frame-preserved g c =
+    let before = c.loop-frame.invariant in
+    let now = c.write_back.ensures in
+    record {
+      sound = now.sound;
+      clean = λ f below. clean_at f below (cases_eq f c.loop-frame.frame);
+      images = now.images ∙ before.images;
+      pages = record {
+        places = now.pages.places ∙ before.pages.places;
+        pins = now.pages.pins ∙ before.pages.pins;
+        pages = now.pages.pages ∙ before.pages.pages;
+        payloads = now.pages.payloads ∙ before.pages.payloads;
+        clean = λ f was. now.pages.clean f (before.pages.clean f was);
+      };
+      honest = now.honest ∙ before.honest;
+      later = let first = before.later in let next = now.cause.later in omega arith;
+      seals = λ is n was. let honest = rw (← before.honest) at is in c.in-Ok.ensures.seals honest n (before.seals is n was);
+    }
+  where
+    clean_at : (f : ℕ) → f < c.loop-frame.frame + 1 → (f ≡ c.loop-frame.frame) ⊎ (f ≡ c.loop-frame.frame → ⊥) → IsClean c.write_back.new.table f
+    clean_at f below (inl last) = subst (λ n. IsClean c.write_back.new.table n) (sym last) c.in-Ok.ensures.ok
+    clean_at f below (inr earlier) = λ page here.
+        let was_here = sym (ap (λ pages. slice_index_or pages f None) c.write_back.ensures.pages.pages) ∙ here in
+        c.write_back.ensures.pages.clean f (c.loop-frame.invariant.clean f (omega arith) page was_here)

@@ -1,0 +1,44 @@
+-- The device has what the frame has once the page is written, and the frame stays changed where that fails.
+use Rattle.std.proofs.Common.{◌∙◌, sym, ap, [], slice_index_or}
+use Rattle.std.proofs.lemmas.List.{get_or-set_same}
+use Rattle.page_device.specs.Sealed.{payload_of}
+use Rattle.buffer_pool.proofs.PoolLemmas.{IsSound-failed, IsSound-cleaned, images-written, page_within}
+use Rattle.buffer_pool.proofs.TransferLemmas.{only_fails, seals_written}
+use Rattle.buffer_pool.proofs.transfer.write_back.Goals as goal
+
+pub returns-in-Err-clause-sound : goal.returns-in-Err-clause-sound
+returns-in-Err-clause-sound g c =
+    let here = sym c.page.ensures ∙ c.in-Some.is in
+    rw c.write.ensures.honest (IsSound-failed _ _ _ c.requires.sound _ c.args.frame c.in-Some.page here c.write.ensures.others (sym c.is_changed.ensures ∙ c.if-not-is_changed.false))
+
+pub returns-in-Err-clause-images : goal.returns-in-Err-clause-images
+returns-in-Err-clause-images g c =
+    let here = sym c.page.ensures ∙ c.in-Some.is in
+    images-written _ _ _ c.requires.sound _ c.args.frame c.in-Some.page here c.write.ensures.others
+
+pub returns-in-Err-clause-cause : goal.returns-in-Err-clause-cause
+returns-in-Err-clause-cause g c =
+    let here = sym c.page.ensures ∙ c.in-Some.is in
+    let within = page_within _ _ _ c.requires.sound c.args.frame c.in-Some.page here in
+    only_fails c.in-Err.fault _ _ _ c.in-Some.page c.in-Err.ensures.cause c.in-Err.ensures.past within
+
+pub returns-clause-sound : goal.returns-clause-sound
+returns-clause-sound g c =
+    let here = sym c.page.ensures ∙ c.in-Some.is in
+    let within = page_within _ _ _ c.requires.sound c.args.frame c.in-Some.page here in
+    rw (c.write.ensures.honest, c.clean.ensures)
+    (IsSound-cleaned _ _ _ c.requires.sound _ c.args.frame c.in-Some.page here c.write.ensures.others (λ is.
+    ap (λ s. payload_of (slice_index_or s c.in-Some.page [])) (c.in-Ok.ensures.ok is)
+    ∙ ap payload_of (get_or-set_same _ c.in-Some.page c.seal-sealed.result [] within)
+    ∙ c.seal-sealed.ensures.payload ∙ c.payload.ensures))
+
+pub returns-clause-images : goal.returns-clause-images
+returns-clause-images g c =
+    let here = sym c.page.ensures ∙ c.in-Some.is in
+    rw c.clean.ensures (images-written _ _ _ c.requires.sound _ c.args.frame c.in-Some.page here c.write.ensures.others)
+
+pub returns-clause-seals : goal.returns-clause-seals
+returns-clause-seals g c = λ is.
+    let here = sym c.page.ensures ∙ c.in-Some.is in
+    let within = page_within _ _ _ c.requires.sound c.args.frame c.in-Some.page here in
+    rw (c.in-Ok.ensures.ok is) (seals_written _ c.in-Some.page _ within c.seal-sealed.ensures.sealed)

@@ -1,0 +1,168 @@
+//! Pools: the images of a device's pages, in frames.
+ghost use Rattle.std.specs.Prelude.{◌≡◌, ◌↔◌, ◌+◌, ◌-◌, ◌^◌, ◌<◌, ◌≤◌, [], length, map, is_ok, Some, IsTrue, IfOk, IfErr, IsErrAnd, IsErrOf, OnOk, slice_get, slice_set, if◌then◌else◌};
+ghost use Rattle.page_device.specs.declared.fault.DeviceFault.TheVariants.{PastEnd};
+ghost use Rattle.buffer_pool.specs.Pool.{pins_at, opened, IsAtRest, payloads_of, IsCrowded, KeepsImages, PoolHasCause, MayNotPin, MayNotFlush};
+ghost use Rattle.std.specs.Borrow.{sem};
+ghost use Rattle.buffer_pool.specs.Lending.{LendsImage};
+
+use crate::fault::PoolFault;
+use crate::frame::Frame;
+use crate::table::Table;
+use crate::transfer::{bring_in, write_all};
+use page_device::{DeviceFault, PageDevice, Payload};
+use std::alloc::Global;
+use std::marker::Model;
+
+/// Frames over a device. A clause sees the image of each page, which is what was last stored there,
+/// else the payload that the device has.
+#[derive(Drop)]
+pub struct Pool<D: PageDevice> {
+    device: D,
+    table: Table,
+}
+
+impl<D: PageDevice> Model for Pool<D> {
+    ghost use Rattle.std.specs.Prelude.{length};
+    ghost use Rattle.buffer_pool.specs.Pool.{PoolState, IsSound, images_of};
+
+    ghost Value = { PoolState };
+
+    ghost view = { λ p. record {
+      images = images_of (D.content p.device) p.table;
+      pins = p.table.pins;
+      stored = D.content p.device;
+      frames = length p.table.pages;
+      honest = D.is_honest p.device;
+      synced = D.is_synced p.device;
+      faults = D.fault_count p.device;
+    } };
+
+    ghost invariant = { λ p. IsSound (D.content p.device) (D.is_honest p.device) p.table };
+}
+
+impl<D: PageDevice> Pool<D> {
+    /// A pool of so many frames, which takes its memory here and none later. With no frame it is
+    /// `TooFewFrames`; each refusal gives the device back.
+    pub fn open(alloc: Global, device: D, frames: usize) -> Result<Pool<D>, (D, PoolFault)>
+        ensures ok { IfOk result (λ pool. pool ≡ opened frames (D.content device)
+            (D.is_honest device) (D.is_synced device) (D.fault_count device)) }
+        ensures rest { IfOk result IsAtRest }
+        ensures few { IsErrAnd result (λ refusal. refusal.1 ≡ PoolFault.TooFewFrames) ↔ (frames ≡ 0) }
+        ensures device { IfErr result (λ refusal. refusal.0 ≡ device) }
+    {
+        if frames == 0 {
+            return Err((device, PoolFault::TooFewFrames));
+        }
+        match Table::new(alloc, device.pages() as usize, frames) {
+            Ok(table) => Ok(Pool { device, table }),
+            Err(_) => Err((device, PoolFault::NoMemory)),
+        }
+    }
+
+    /// How many pages the device has.
+    #[tactic(auto, using(crate::proofs::PoolLemmas::images_length))]
+    pub fn pages(&self) -> u32
+        ensures { result ≡ length self.now.images }
+    {
+        self.device.pages()
+    }
+
+    /// How many transfers of the device have failed.
+    pub fn faults(&self) -> u64
+        ensures { result ≡ self.now.faults }
+    {
+        self.device.faults()
+    }
+
+    /// Pins a page, so that it stays in its frame, and reads it where it has none.
+    #[tactic(auto, using(crate::proofs::PoolLemmas::images_length))]
+    pub fn pin(&mut self, page: u32) -> Result<Frame, PoolFault>
+        requires { pins_at self.old page + 1 < 2 ^ 32 }
+        ensures ok { IfOk result (λ frame.
+            (frame ≡ page) × (pins_at self.new page ≡ pins_at self.old page + 1)) }
+        ensures pins { self.new.pins ≡ (if is_ok result
+            then slice_set self.old.pins page (pins_at self.old page + 1) else self.old.pins) }
+        ensures past { IsErrOf result (PoolFault.Device PastEnd) ↔ (length self.old.images ≤ page) }
+        ensures crowded { IsErrOf result PoolFault.TooFewFrames ↔ IsCrowded page self.old }
+        ensures keeps { KeepsImages (is_ok result) self.old self.new }
+        ensures cause { PoolHasCause (MayNotPin page self.old) self.old.faults self.new.faults result }
+    {
+        if page >= self.device.pages() {
+            return Err(PoolFault::Device(DeviceFault::PastEnd));
+        }
+        if self.table.pins(page) == 0 && self.table.pinned() >= self.table.frames() {
+            return Err(PoolFault::TooFewFrames);
+        }
+        match bring_in(&mut self.device, &mut self.table, page) {
+            Ok(()) => {}
+            Err(fault) => return Err(PoolFault::Device(fault)),
+        }
+        self.table.pin(page);
+        Ok(Frame::new(page))
+    }
+
+    /// Gives a pin back.
+    pub fn unpin(&mut self, frame: Frame)
+        requires { 0 < pins_at self.old frame }
+        ensures { self.new ≡ record self.old {
+          pins = slice_set self.old.pins frame (pins_at self.old frame - 1);
+        } }
+    {
+        self.table.unpin(frame.into_page());
+    }
+
+    /// The image of a pinned page.
+    pub fn image(&self, frame: &Frame) -> &Payload
+        requires { 0 < pins_at self.now frame.now }
+        ensures { slice_get self.now.images frame.now ≡ Some result.now }
+    {
+        self.table.payload(self.table.frame_of(frame.page()))
+    }
+
+    /// Makes this the image of a pinned page.
+    pub fn store(&mut self, frame: &Frame, payload: &Payload)
+        requires { 0 < pins_at self.old frame.now }
+        ensures { self.new ≡ record self.old {
+          images = slice_set self.old.images frame.now payload.now;
+        } }
+    {
+        *self.image_mut(frame) = *payload;
+    }
+
+    /// Lends the image of a pinned page, to be changed in place. It counts as stored, and the page is
+    /// sealed when it is written back.
+    pub fn image_mut(&mut self, frame: &Frame) -> &mut Payload
+        requires { 0 < pins_at self.old frame.now }
+        ensures* writes_back { sem 𝓛 (LendsImage D.row D.PageDevice self.entry frame.now result) }
+        ensures value { slice_get self.old.images frame.now ≡ Some result.now }
+    {
+        let at = self.table.frame_of(frame.page());
+        self.table.payload_mut(at)
+    }
+
+    /// Writes each image that was stored to the device, and syncs it.
+    pub fn flush(&mut self) -> Result<(), PoolFault>
+        ensures ok { IsTrue self.old.honest → OnOk result (payloads_of self.new.stored ≡ self.old.images) }
+        ensures synced { IsTrue self.old.honest → OnOk result (IsTrue self.new.synced) }
+        ensures pins { self.new.pins ≡ self.old.pins }
+        ensures keeps { KeepsImages (is_ok result) self.old self.new }
+        ensures cause { PoolHasCause MayNotFlush self.old.faults self.new.faults result }
+    {
+        match write_all(&mut self.device, &mut self.table) {
+            Ok(()) => {}
+            Err(fault) => return Err(PoolFault::Device(fault)),
+        }
+        Ok(())
+    }
+
+    /// The device, as it is. What was stored since the last flush may be lost.
+    pub fn into_device(self) -> D
+        ensures content { D.content result ≡ self.stored }
+        ensures honest { D.is_honest result ≡ self.honest }
+        ensures synced { D.is_synced result ≡ self.synced }
+        ensures faults { D.fault_count result ≡ self.faults }
+    {
+        let Pool { device, table: _ } = self;
+        device
+    }
+}

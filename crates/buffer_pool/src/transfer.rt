@@ -1,0 +1,111 @@
+//! Pages between a device and the frames.
+ghost use Rattle.std.specs.Prelude.{◌≡◌, ◌<◌, ℕ, [], length, None, IsSome, IsTrue, OnOk, IfErr, slice_index_or};
+ghost use Rattle.page_device.specs.Device.{HasCause, MayOnlyFail};
+ghost use Rattle.page_device.specs.Sealed.{IsSealed};
+ghost use Rattle.buffer_pool.specs.Pool.{IsSound, IsClean, KeepsSeals, images_of};
+ghost use Rattle.buffer_pool.specs.Table.{place_of, count_pinned};
+ghost use Rattle.buffer_pool.specs.Transfer.{KeepsPages, KeepsPins, MayBeUnread};
+
+use crate::table::Table;
+use page_device::{DeviceFault, PAGE_BYTES, PageDevice, seal, unseal};
+
+/// Writes the page of a frame to the device where the frame was changed.
+pub fn write_back<D: PageDevice>(
+    device: &mut D,
+    table: &mut Table,
+    frame: usize,
+) -> Result<(), DeviceFault>
+    requires sound { IsSound (D.content device.old) (D.is_honest device.old) table.old }
+    requires within { frame < length table.old.pages }
+    ensures sound { IsSound (D.content device.new) (D.is_honest device.new) table.new }
+    ensures ok { OnOk result (IsClean table.new frame) }
+    ensures images { images_of (D.content device.new) table.new ≡
+        images_of (D.content device.old) table.old }
+    ensures pages { KeepsPages table.old table.new }
+    ensures honest { D.is_honest device.new ≡ D.is_honest device.old }
+    ensures seals { IsTrue (D.is_honest device.old) →
+        OnOk result (KeepsSeals (D.content device.old) (D.content device.new)) }
+    ensures cause { HasCause MayOnlyFail (D.fault_count device.old) (D.fault_count device.new) result }
+{
+    let Some(page) = table.page(frame) else {
+        return Ok(());
+    };
+    if !table.is_changed(frame) {
+        return Ok(());
+    }
+    let sealed = seal(page, table.payload(frame));
+    match device.write(page, &sealed) {
+        Ok(()) => {}
+        Err(fault) => return Err(fault),
+    }
+    table.clean(frame);
+    Ok(())
+}
+
+/// Sees that a page is in a frame. Where it is in none it is read into a frame whose page may go, and
+/// which is written to the device before.
+pub fn bring_in<D: PageDevice>(
+    device: &mut D,
+    table: &mut Table,
+    page: u32,
+) -> Result<(), DeviceFault>
+    requires sound { IsSound (D.content device.old) (D.is_honest device.old) table.old }
+    requires page { page < length table.old.places }
+    requires room { place_of table.old page ≡ None →
+        count_pinned table.old.pins < length table.old.pages }
+    ensures sound { IsSound (D.content device.new) (D.is_honest device.new) table.new }
+    ensures ok { OnOk result (IsSome (place_of table.new page)) }
+    ensures sealed { IsTrue (D.is_honest device.old) →
+        IsSealed page (slice_index_or (D.content device.old) page []) → IfErr result MayOnlyFail }
+    ensures images { IsTrue (D.is_honest device.old) →
+        images_of (D.content device.new) table.new ≡ images_of (D.content device.old) table.old }
+    ensures pins { KeepsPins table.old table.new }
+    ensures honest { D.is_honest device.new ≡ D.is_honest device.old }
+    ensures seals { IsTrue (D.is_honest device.old) →
+        OnOk result (KeepsSeals (D.content device.old) (D.content device.new)) }
+    ensures cause { HasCause MayBeUnread (D.fault_count device.old) (D.fault_count device.new) result }
+{
+    if let Some(frame) = table.place(page) {
+        table.touch(frame);
+        return Ok(());
+    }
+    let mut bytes = [0; PAGE_BYTES];
+    match device.read(page, &mut bytes) {
+        Ok(()) => {}
+        Err(fault) => return Err(fault),
+    }
+    let payload = match unseal(page, &bytes) {
+        Ok(payload) => payload,
+        Err(fault) => return Err(fault),
+    };
+    let frame = table.free_frame();
+    match write_back(device, table, frame) {
+        Ok(()) => {}
+        Err(fault) => return Err(fault),
+    }
+    table.move_in(frame, page, &payload);
+    Ok(())
+}
+
+/// Writes each page that was changed to the device, and syncs it.
+pub fn write_all<D: PageDevice>(device: &mut D, table: &mut Table) -> Result<(), DeviceFault>
+    requires { IsSound (D.content device.old) (D.is_honest device.old) table.old }
+    ensures sound { IsSound (D.content device.new) (D.is_honest device.new) table.new }
+    ensures ok { OnOk result ((frame : ℕ) → frame < length table.new.pages → IsClean table.new frame) }
+    ensures synced { IsTrue (D.is_honest device.old) → OnOk result (IsTrue (D.is_synced device.new)) }
+    ensures images { images_of (D.content device.new) table.new ≡
+        images_of (D.content device.old) table.old }
+    ensures pages { KeepsPages table.old table.new }
+    ensures honest { D.is_honest device.new ≡ D.is_honest device.old }
+    ensures seals { IsTrue (D.is_honest device.old) →
+        OnOk result (KeepsSeals (D.content device.old) (D.content device.new)) }
+    ensures cause { HasCause MayOnlyFail (D.fault_count device.old) (D.fault_count device.new) result }
+{
+    for frame in 0..table.frames() {
+        match write_back(device, table, frame) {
+            Ok(()) => {}
+            Err(fault) => return Err(fault),
+        }
+    }
+    device.sync()
+}

@@ -1,0 +1,6 @@
+pub mod EntryLaws
+pub mod Fields
+pub mod HeaderLaws
+pub mod NumberLaws
+pub mod SlotLaws
+pub mod Zeros

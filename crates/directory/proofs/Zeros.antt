@@ -1,0 +1,29 @@
+-- Bytes that are zero.
+use Rattle.std.proofs.Common.{◌≡◌, ℕ, zero, suc, ◌==◌, Bool, true, false, ◌&&◌, List, [], ◌∷◌, length, refl, ap, ◌∙◌}
+use Rattle.std.proofs.lemmas.Bool.{eqb-true}
+use Rattle.std.proofs.lemmas.List.{length-replicate}
+use Rattle.directory.specs.Numbers.{zeros, is_zero}
+
+pub both_true : (a b : Bool) → (a && b) ≡ true → (a ≡ true) × (b ≡ true)
+both_true true b h = (refl, h)
+both_true false b h = absurd cc
+
+pub zeros_are : (bytes : List ℕ) → is_zero bytes ≡ true → bytes ≡ zeros (length bytes)
+unfolding zeros
+zeros_are [] h = refl
+zeros_are (b ∷ bytes) h =
+    let both = both_true (b == 0) (is_zero bytes) h in
+    λ i. eqb-true b 0 both.0 i ∷ zeros_are bytes both.1 i
+
+-- so many bytes that are zero
+pub zeros_of : (n : ℕ) (bytes : List ℕ) → length bytes ≡ n → is_zero bytes ≡ true → bytes ≡ zeros n
+zeros_of n bytes long h = zeros_are bytes h ∙ ap zeros long
+
+pub zeros_again : (n : ℕ) → is_zero (zeros n) ≡ true
+unfolding zeros
+zeros_again zero = refl
+zeros_again (suc n) = zeros_again n
+
+pub length-zeros : (n : ℕ) → length (zeros n) ≡ n
+unfolding zeros
+length-zeros n = length-replicate n 0

@@ -1,0 +1,119 @@
+//! Which header a payload spells.
+
+ghost use Rattle.std.specs.Prelude.{◌≡◌, IfOk, Ok, length};
+ghost use Rattle.page_device.specs.declared.page.TheConstants.{PAYLOAD_BYTES};
+ghost use Rattle.directory.specs.Fault.{number_of};
+ghost use Rattle.directory.specs.Numbers.{numbers_of};
+ghost use Rattle.directory.specs.Reading.{counts_at, has_layout, has_magic, has_padding, has_range, reading};
+ghost use Rattle.directory.specs.Spelling.{Spells};
+
+use crate::field::{four_at, is_zero};
+use crate::header::Header;
+use crate::layout::{
+    GREATEST_DEPTH, HEADER, HEADER_BYTES, LEAST_PAGES, LOCAL_DEPTHS, MAGIC, VERSION,
+};
+use byteorder::{BigEndian, ByteOrder};
+use page_device::{MAX_PAGES, Payload};
+use thiserror::Error;
+
+/// Why a payload is no header.
+#[derive(Clone, Copy, Debug, PartialEq, Eq, Error)]
+pub enum HeaderFault {
+    /// The kind or the magic is wrong; or, under the right version, the depth or the number of pages is
+    /// out of range, or a byte that no field names isn't zero.
+    #[error("not a header")]
+    BadHeader,
+    /// The kind and the magic are right, and the version is another.
+    #[error("a header of another version")]
+    BadVersion,
+}
+
+impl HeaderFault {
+    /// The number that a program prints for this fault.
+    pub fn number(self) -> u8
+        ensures { result ≡ number_of self }
+    {
+        match self {
+            HeaderFault::BadHeader => 41,
+            HeaderFault::BadVersion => 42,
+        }
+    }
+}
+
+/// The header that a payload spells. The payload is accepted exactly where it is the one spelling of a header
+/// in range.
+pub fn read_header(payload: &Payload) -> Result<Header, HeaderFault>
+    // The first test that fails names the refusal.
+    ensures value { result ≡ reading payload.now }
+    // What is read is spelled so, and what is spelled so is read.
+    ensures ok { IfOk result (λ header. Spells header payload.now) }
+    ensures only { (header : Header) → Spells header payload.now → result ≡ Ok header }
+{
+    read(payload)
+}
+
+fn read(bytes: &[u8]) -> Result<Header, HeaderFault>
+    requires { length bytes.now ≡ PAYLOAD_BYTES }
+    ensures { result ≡ reading bytes.now }
+{
+    if bytes[0] != HEADER || !has_magic(bytes) {
+        return Err(HeaderFault::BadHeader);
+    }
+    if bytes[1] != VERSION {
+        return Err(HeaderFault::BadVersion);
+    }
+    if !has_layout(bytes) {
+        return Err(HeaderFault::BadHeader);
+    }
+    Ok(Header {
+        depth: bytes[2],
+        pages: four_at(bytes, 12),
+        first_free: four_at(bytes, 16),
+        counts: counts_at(bytes),
+    })
+}
+
+/// Whether the magic stands at its place.
+#[tactic(auto, unfolding(crate::specs::Reading::has_magic))]
+fn has_magic(bytes: &[u8]) -> bool
+    requires { length bytes.now ≡ PAYLOAD_BYTES }
+    ensures { result ≡ has_magic bytes.now }
+{
+    &bytes[4..12] == MAGIC.as_slice()
+}
+
+/// Whether the numbers are in range, and each byte that no field names is zero.
+#[tactic(auto, unfolding(crate::specs::Reading::has_layout))]
+fn has_layout(bytes: &[u8]) -> bool
+    requires { length bytes.now ≡ PAYLOAD_BYTES }
+    ensures { result ≡ has_layout bytes.now }
+{
+    has_range(bytes) && has_padding(bytes)
+}
+
+fn has_range(bytes: &[u8]) -> bool
+    requires { length bytes.now ≡ PAYLOAD_BYTES }
+    ensures { result ≡ has_range bytes.now }
+{
+    let pages = four_at(bytes, 12);
+    bytes[2] <= GREATEST_DEPTH && LEAST_PAGES <= pages && pages <= MAX_PAGES
+}
+
+fn has_padding(bytes: &[u8]) -> bool
+    requires { length bytes.now ≡ PAYLOAD_BYTES }
+    ensures { result ≡ has_padding bytes.now }
+{
+    let (_, rest) = bytes.split_at(HEADER_BYTES);
+    bytes[3] == 0 && is_zero(rest)
+}
+
+/// The counts of live buckets.
+#[tactic(auto, unfolding(crate::specs::Reading::counts_at, crate::specs::Reading::counts_area))]
+fn counts_at(bytes: &[u8]) -> [u32; LOCAL_DEPTHS]
+    requires { length bytes.now ≡ PAYLOAD_BYTES }
+    ensures { result ≡ counts_at bytes.now }
+{
+    let mut counts = [0; LOCAL_DEPTHS];
+    BigEndian::read_u32_into(&bytes[20..HEADER_BYTES], &mut counts);
+    counts
+}

@@ -1,0 +1,3 @@
+pub mod NumberLemmas
+pub mod CommandLemmas
+pub mod ScriptLemmas

@@ -1,0 +1,6 @@
+pub mod FieldLaws
+pub mod OneRecord
+pub mod PartsLaws
+pub mod RangeLaws
+pub mod ReadingLaws
+pub mod SpellingLaws

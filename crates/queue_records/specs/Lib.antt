@@ -1,0 +1,5 @@
+pub mod Fields
+pub mod Range
+pub mod Reading
+pub mod Records
+pub mod Spelling

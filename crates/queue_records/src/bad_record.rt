@@ -1,0 +1,22 @@
+//! Why bytes are no record.
+
+ghost use Rattle.std.specs.Prelude.{◌≡◌};
+
+use thiserror::Error;
+
+/// The key and the value are not the spelling of a record in range.
+#[derive(Clone, Copy, Debug, PartialEq, Eq, Error)]
+#[error("the key and the value are not a record's")]
+pub struct BadRecord;
+
+impl BadRecord {
+    /// The number of this fault.
+    pub const NUMBER: u8 = 43;
+
+    /// The number of this fault, as docs/FAULTS.md lists it.
+    pub fn number(self) -> u8
+        ensures { result ≡ BadRecord.NUMBER }
+    {
+        BadRecord::NUMBER
+    }
+}

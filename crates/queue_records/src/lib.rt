@@ -1,0 +1,33 @@
+//! Records of message queues as keys and bytes, each read exactly where they spell a record.
+
+#![tactic(auto)]
+
+mod bad_record;
+mod body;
+mod counter;
+mod field;
+mod key_entry;
+mod laws;
+mod layout;
+mod limits;
+mod message_entry;
+mod queue_entry;
+mod record;
+mod type_entry;
+mod value;
+
+pub use bad_record::BadRecord;
+pub use body::Body;
+pub use counter::Counter;
+pub use key_entry::KeyEntry;
+pub use laws::a_spelling_is_of_one_record;
+pub use layout::{COUNTER, KEY, MAX_VALUE_BYTES, MESSAGE, QUEUE, TYPE};
+pub use limits::{END_OF_IDS, MAX_BODY, MAX_MESSAGES, MAX_QBYTES, MAX_QUEUES, MODES};
+pub use message_entry::MessageEntry;
+pub use queue_entry::QueueEntry;
+pub use record::Record;
+pub use type_entry::TypeEntry;
+pub use value::Value;
+
+#[cfg(test)]
+mod tests;

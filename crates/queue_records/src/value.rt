@@ -1,0 +1,103 @@
+//! The bytes of a record's value, in a buffer of fixed size.
+
+ghost use Rattle.std.specs.Prelude.{◌≡◌, ◌≤◌, ◌+◌, [], ◌∷◌, ◌++◌, length};
+ghost use Rattle.bucket_page.specs.Numbers.{two, four, eight};
+
+use crate::layout::MAX_VALUE_BYTES;
+use arrayvec::ArrayVec;
+use byteorder::{BigEndian, ByteOrder};
+use std::marker::Model;
+
+/// The bytes of a record's value, which contracts see as a list. It takes no memory beside itself.
+#[derive(Debug, Drop)]
+pub struct Value {
+    bytes: ArrayVec<u8, MAX_VALUE_BYTES>,
+}
+
+impl Model for Value {
+    ghost use Rattle.std.specs.Prelude.{ℕ, List};
+
+    ghost Value = { List ℕ };
+
+    ghost view = { λ v. v.bytes.items };
+}
+
+impl Value {
+    /// No byte.
+    pub fn new() -> Value
+        ensures { result ≡ [] }
+    {
+        Value {
+            bytes: ArrayVec::new(),
+        }
+    }
+
+    /// The bytes in order.
+    pub fn as_slice(&self) -> &[u8]
+        ensures value { result.now ≡ self.now }
+        ensures within { length self.now ≤ MAX_VALUE_BYTES }
+    {
+        self.bytes.as_slice()
+    }
+
+    /// Takes out all bytes.
+    pub(crate) fn clear(&mut self)
+        ensures { self.new ≡ [] }
+    {
+        self.bytes.clear();
+    }
+
+    /// Puts a byte last.
+    pub(crate) fn put_one(&mut self, number: u8)
+        requires { length self.old + 1 ≤ MAX_VALUE_BYTES }
+        ensures value { self.new ≡ self.old ++ number ∷ [] }
+        ensures len { length self.new ≡ length self.old + 1 }
+    {
+        self.bytes.push(number);
+    }
+
+    /// Puts the two bytes of a number last.
+    #[tactic(auto, unfolding(bucket_page::specs::Numbers::two))]
+    pub(crate) fn put_two(&mut self, number: u16)
+        requires { length self.old + 2 ≤ MAX_VALUE_BYTES }
+        ensures value { self.new ≡ self.old ++ two number }
+        ensures len { length self.new ≡ length self.old + 2 }
+    {
+        let mut bytes = [0; 2];
+        BigEndian::write_u16(&mut bytes, number);
+        self.put_all(&bytes);
+    }
+
+    /// Puts the four bytes of a number last.
+    #[tactic(auto, unfolding(bucket_page::specs::Numbers::four))]
+    pub(crate) fn put_four(&mut self, number: u32)
+        requires { length self.old + 4 ≤ MAX_VALUE_BYTES }
+        ensures value { self.new ≡ self.old ++ four number }
+        ensures len { length self.new ≡ length self.old + 4 }
+    {
+        let mut bytes = [0; 4];
+        BigEndian::write_u32(&mut bytes, number);
+        self.put_all(&bytes);
+    }
+
+    /// Puts the eight bytes of a number last.
+    #[tactic(auto, unfolding(bucket_page::specs::Numbers::eight))]
+    pub(crate) fn put_eight(&mut self, number: u64)
+        requires { length self.old + 8 ≤ MAX_VALUE_BYTES }
+        ensures value { self.new ≡ self.old ++ eight number }
+        ensures len { length self.new ≡ length self.old + 8 }
+    {
+        let mut bytes = [0; 8];
+        BigEndian::write_u64(&mut bytes, number);
+        self.put_all(&bytes);
+    }
+
+    /// Puts these bytes last.
+    pub(crate) fn put_all(&mut self, bytes: &[u8])
+        requires { length self.old + length bytes.now ≤ MAX_VALUE_BYTES }
+        ensures value { self.new ≡ self.old ++ bytes.now }
+        ensures len { length self.new ≡ length self.old + length bytes.now }
+    {
+        self.bytes.try_extend_from_slice(bytes).unwrap();
+    }
+}
