@@ -47,7 +47,8 @@ impl<D: PageDevice> Pool<D> {
         ensures ok { IfOk result (λ pool. pool ≡ opened frames (D.content device)
             (D.is_honest device) (D.is_synced device) (D.fault_count device)) }
         ensures rest { IfOk result IsAtRest }
-        ensures few { IsErrAnd result (λ refusal. refusal.1 ≡ PoolFault.TooFewFrames) ↔ (frames ≡ 0) }
+        ensures few { IsErrAnd result (λ refusal. refusal.1 ≡ PoolFault.TooFewFrames) ↔
+            (frames ≡ 0) }
         ensures device { IfErr result (λ refusal. refusal.0 ≡ device) }
     {
         if frames == 0 {
@@ -85,7 +86,8 @@ impl<D: PageDevice> Pool<D> {
         ensures past { IsErrOf result (PoolFault.Device PastEnd) ↔ (length self.old.images ≤ page) }
         ensures crowded { IsErrOf result PoolFault.TooFewFrames ↔ IsCrowded page self.old }
         ensures keeps { KeepsImages (is_ok result) self.old self.new }
-        ensures cause { PoolHasCause (MayNotPin page self.old) self.old.faults self.new.faults result }
+        ensures cause { PoolHasCause (MayNotPin page self.old) self.old.faults self.new.faults
+            result }
     {
         if page >= self.device.pages() {
             return Err(PoolFault::Device(DeviceFault::PastEnd));
@@ -142,7 +144,8 @@ impl<D: PageDevice> Pool<D> {
 
     /// Writes each image that was stored to the device, and syncs it.
     pub fn flush(&mut self) -> Result<(), PoolFault>
-        ensures ok { IsTrue self.old.honest → OnOk result (payloads_of self.new.stored ≡ self.old.images) }
+        ensures ok { IsTrue self.old.honest →
+            OnOk result (payloads_of self.new.stored ≡ self.old.images) }
         ensures synced { IsTrue self.old.honest → OnOk result (IsTrue self.new.synced) }
         ensures pins { self.new.pins ≡ self.old.pins }
         ensures keeps { KeepsImages (is_ok result) self.old self.new }
