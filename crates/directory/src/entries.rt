@@ -28,7 +28,8 @@ pub fn entry(payload: &Payload, slot: u32) -> u32
 pub fn set_entry(payload: &mut Payload, slot: u32, bucket: u32)
     requires { slot < ENTRIES_IN_A_PAGE }
     ensures ok { slot_at slot payload.new ≡ bucket }
-    ensures others { (other : ℕ) → other ≢ slot → slot_at other payload.new ≡ slot_at other payload.old }
+    ensures others { (other : ℕ) → other ≢ slot →
+        slot_at other payload.new ≡ slot_at other payload.old }
     ensures same { KeepsOtherBytes payload.old payload.new }
 {
     set_four(payload, ENTRIES_BEGIN + 4 * slot as usize, bucket);

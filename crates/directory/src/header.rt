@@ -55,7 +55,9 @@ impl Header {
     /// Sets how many live buckets have a local depth.
     pub fn set_count(&mut self, local_depth: u8, count: u32)
         requires { local_depth ≤ GREATEST_DEPTH }
-        ensures { self.new ≡ record self.old { counts = slice_set self.old.counts local_depth count } }
+        ensures { self.new ≡ record self.old {
+          counts = slice_set self.old.counts local_depth count;
+        } }
     {
         self.counts[local_depth as usize] = count;
     }
