@@ -1,3 +1,4 @@
+pub mod ImagesLemmas
 pub mod PoolLemmas
 pub mod TableLemmas
 pub mod TransferLemmas

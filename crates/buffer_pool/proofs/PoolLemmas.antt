@@ -1,16 +1,24 @@
 -- What the changes of a pool leave true of it, and of its images.
-use Rattle.std.proofs.Common.{◌≡◌, ◌∙◌, refl, sym, ap, subst, ℕ, ◌+◌, ◌-◌, ◌<◌, ◌≤◌, Bool, true, false, List, [], length, arith, ◌⊎◌, inl, inr, Option, Some, None, IsTrue, unwrap_or, zero, suc, replicate, slice_get, slice_index_or, slice_set}
+use Rattle.std.proofs.Common.{◌≡◌, ◌∙◌, refl, sym, ap, subst, ℕ, ◌+◌, ◌-◌, ◌<◌, ◌≤◌, Bool, true, false, List, []}
+use Rattle.std.proofs.Common.{length, arith, ◌⊎◌, inl, inr, Option, Some, None, IsTrue, unwrap_or, zero, suc}
+use Rattle.std.proofs.Common.{replicate, slice_get, slice_index_or, slice_set}
 use Rattle.std.proofs.Math.ListN.{get_or, get_or-map, get_or-eq_default}
 use Rattle.std.proofs.lemmas.Bool.{cases_eq, cases_lt}
-use Rattle.std.proofs.lemmas.List.{get_or-set_same, get_or-set_other, length-set, length-map, same_lists, get_or_default}
+use Rattle.std.proofs.lemmas.List.{get_or-set_same, get_or-set_other, length-set, length-map, same_lists}
+use Rattle.std.proofs.lemmas.List.{get_or_default}
 use Rattle.std.proofs.lemmas.Option.{unwrap_or-slice_get}
 use Rattle.page_device.specs.Pages.{first_pages}
 use Rattle.page_device.specs.Sealed.{payload_of}
 use Rattle.page_device.specs.Device.{DiffersAtMostAt}
-use Rattle.page_device.proofs.PagesLemmas.{first_pages_length, first_pages_at, first_pages_get, first_pages_same, first_pages_set}
-use Rattle.buffer_pool.specs.Table.{Held, IsFree, place_of, page_of, is_changed, payload_in, with_pins, moved_in, stored_in, cleaned_at, without, no_pages}
-use Rattle.buffer_pool.specs.Pool.{PoolState, IsAtRest, pins_at, IsSound, IsClean, AgreesAt, shown, image_at, images_of, payloads_of}
-use Rattle.buffer_pool.proofs.TableLemmas.{IsWhole-moved_in, IsWhole-with_pins, within_if_found, without_keeps, without_goes, length-without}
+use Rattle.page_device.proofs.PagesLemmas.{first_pages_length, first_pages_at, first_pages_get, first_pages_same}
+use Rattle.page_device.proofs.PagesLemmas.{first_pages_set}
+use Rattle.buffer_pool.specs.Table.{Held, IsFree, place_of, page_of, is_changed, payload_in, with_pins, moved_in}
+use Rattle.buffer_pool.specs.Table.{stored_in, cleaned_at, without, no_pages}
+use Rattle.buffer_pool.specs.Pool.{PoolState, IsAtRest, pins_at, IsSound, IsClean, AgreesAt, shown, image_at}
+use Rattle.buffer_pool.specs.Pool.{images_of, payloads_of}
+use Rattle.buffer_pool.proofs.TableLemmas.{IsWhole-moved_in, IsWhole-with_pins, within_if_found, without_keeps}
+use Rattle.buffer_pool.proofs.TableLemmas.{without_goes, length-without}
+use Rattle.buffer_pool.proofs.ImagesLemmas.{images_same, images_length, payload_at}
 
 -- whether an option is this number
 cases_some : (o : Option ℕ) (n : ℕ) → (o ≡ Some n) ⊎ (o ≡ Some n → ⊥)
@@ -21,68 +29,9 @@ cases_some (Some m) n = at (cases_eq m n)
     at (inl same) = inl (ap Some same)
     at (inr other) = inr (λ is. let same : m ≡ n = cc in other same)
 
--- the same images at each page are the same list
-pub images_same : (stored after : List (List ℕ)) (s t : Held) → length after ≡ length stored
-    → ((n : ℕ) → n < length stored → image_at after t n ≡ image_at stored s n) → images_of after t ≡ images_of stored s
-images_same stored after s t size same =
-    ap (λ n. first_pages n (image_at after t)) size ∙ first_pages_same (length stored) (image_at stored s) (image_at after t) same
-
-pub images_length : (stored : List (List ℕ)) (t : Held) → length (images_of stored t) ≡ length stored
-images_length stored t = first_pages_length (length stored) (image_at stored t)
-
--- no page is pinned in a list of zeros
-pub none_pinned : (n page : ℕ) → ◌≡◌ {A = ℕ} (slice_index_or (replicate n 0) page 0) 0
-none_pinned zero page = refl
-none_pinned (suc n) zero = refl
-none_pinned (suc n) (suc page) = none_pinned n page
-
--- the payload of each page
-payload_at : (stored : List (List ℕ)) (n : ℕ) (d : List ℕ) → n < length stored → get_or (payloads_of stored) n d ≡ payload_of (slice_index_or stored n [])
-payload_at stored n d within =
-    get_or_default (payloads_of stored) n d (payload_of []) (subst (λ m. n < m) (sym (length-map stored payload_of)) within)
-    ∙ get_or-map payload_of stored n []
-
--- the images of a pool that was opened
-pub images_of-no_pages : (stored : List (List ℕ)) (pages frames : ℕ) → images_of stored (no_pages pages frames) ≡ payloads_of stored
-images_of-no_pages stored pages frames =
-    same_lists (images_of stored t) (payloads_of stored) (images_length stored t ∙ sym (length-map stored payload_of))
-    (λ n d within. at n d (subst (λ m. n < m) (images_length stored t) within))
-  where
-    t : Held
-    t = no_pages pages frames
-
-    none_at : (m n : ℕ) → ◌≡◌ {A = Option ℕ} (slice_index_or (replicate m None) n None) None
-    none_at zero n = refl
-    none_at (suc m) zero = refl
-    none_at (suc m) (suc n) = none_at m n
-
-    at : (n : ℕ) (d : List ℕ) → n < length stored → get_or (images_of stored t) n d ≡ get_or (payloads_of stored) n d
-    at n d within =
-        first_pages_at (length stored) n (image_at stored t) d within
-        ∙ ap (λ p. shown t p (slice_index_or stored n [])) (none_at pages n)
-        ∙ sym (payload_at stored n d within)
-
--- the image of a page in a frame
-pub image_found : (stored : List (List ℕ)) (t : Held) (page frame : ℕ) → page < length stored → place_of t page ≡ Some frame
-    → slice_get (images_of stored t) page ≡ Some (payload_in t frame)
-image_found stored t page frame within place =
-    first_pages_get (length stored) page (image_at stored t) within ∙ ap (λ p. Some (shown t p (slice_index_or stored page []))) place
-
--- the image of a page without a frame is its payload on the device
-image_outside : (stored : List (List ℕ)) (t : Held) (page : ℕ) → page < length stored → place_of t page ≡ None
-    → get_or (images_of stored t) page [] ≡ payload_of (slice_index_or stored page [])
-image_outside stored t page within outside =
-    first_pages_at (length stored) page (image_at stored t) [] within ∙ ap (λ p. shown t p (slice_index_or stored page [])) outside
-
--- so it is the same before and after a change that keeps the images
-pub stored_outside : (stored after : List (List ℕ)) (s t : Held) (page : ℕ) → images_of after t ≡ images_of stored s
-    → page < length stored → page < length after → place_of s page ≡ None → place_of t page ≡ None
-    → payload_of (slice_index_or after page []) ≡ payload_of (slice_index_or stored page [])
-stored_outside stored after s t page same within within_after outside outside_after =
-    sym (image_outside after t page within_after outside_after) ∙ ap (λ xs. get_or xs page []) same ∙ image_outside stored s page within outside
-
 module _ (stored : List (List ℕ)) (honest : Bool) (t : Held) (sound : IsSound stored honest t) where
-  pub IsSound-with_pins : (page n : ℕ) → ((frame : ℕ) × (place_of t page ≡ Some frame)) → IsSound stored honest (with_pins page n t)
+  pub IsSound-with_pins : (page n : ℕ) → ((frame : ℕ) × (place_of t page ≡ Some frame))
+      → IsSound stored honest (with_pins page n t)
   IsSound-with_pins page n place = record {
     as_many = sound.as_many;
     whole = IsWhole-with_pins t sound.whole page n place;
@@ -90,12 +39,14 @@ module _ (stored : List (List ℕ)) (honest : Bool) (t : Held) (sound : IsSound 
   }
 
   -- where no frame is changed the device has the images
-  pub payloads_if_clean : IsTrue honest → ((frame : ℕ) → frame < length t.pages → IsClean t frame) → payloads_of stored ≡ images_of stored t
+  pub payloads_if_clean : IsTrue honest → ((frame : ℕ) → frame < length t.pages → IsClean t frame)
+      → payloads_of stored ≡ images_of stored t
   payloads_if_clean is clean =
       same_lists (payloads_of stored) (images_of stored t) (length-map stored payload_of ∙ sym (images_length stored t))
       (λ n d within. at n d (subst (λ m. n < m) (length-map stored payload_of) within))
     where
-      in_place : (n : ℕ) (o : Option ℕ) → place_of t n ≡ o → payload_of (slice_index_or stored n []) ≡ shown t o (slice_index_or stored n [])
+      in_place : (n : ℕ) (o : Option ℕ) → place_of t n ≡ o
+          → payload_of (slice_index_or stored n []) ≡ shown t o (slice_index_or stored n [])
       in_place n None place = refl
       in_place n (Some frame) place =
           let here = sound.whole.in_frame n frame place in
@@ -112,8 +63,10 @@ module _ (stored : List (List ℕ)) (honest : Bool) (t : Held) (sound : IsSound 
       subst (λ n. page < n) sound.as_many (within_if_found t.places page frame (sound.whole.at_place page frame here))
 
   -- a page of the device comes into a frame whose page may go
-  module _ (frame page : ℕ) (payload : List ℕ) (in_range : frame < length t.pages) (free : IsFree t frame) (on_device : page < length t.places)
-      (outside : place_of t page ≡ None) (clean : IsClean t frame) (read : IsTrue honest → payload ≡ payload_of (slice_index_or stored page [])) where
+  module _ (frame page : ℕ) (payload : List ℕ) (in_range : frame < length t.pages) (free : IsFree t frame)
+      (on_device : page < length t.places)
+      (outside : place_of t page ≡ None) (clean : IsClean t frame)
+      (read : IsTrue honest → payload ≡ payload_of (slice_index_or stored page [])) where
     abbrev after : Held
     after = moved_in frame page payload t
 
@@ -124,7 +77,8 @@ module _ (stored : List (List ℕ)) (honest : Bool) (t : Held) (sound : IsSound 
     put = get_or-set_same t.pages frame (Some page) None in_range
 
     filled : payload_in after frame ≡ payload
-    filled = get_or-set_same t.payloads frame payload [] (subst (λ n. frame < n) (sym sound.whole.even_payloads) in_range)
+    filled = get_or-set_same t.payloads frame payload []
+        (subst (λ n. frame < n) (sym sound.whole.even_payloads) in_range)
 
     -- another frame has what it had
     put_other : (g : ℕ) → (g ≡ frame → ⊥) → page_of after g ≡ page_of t g
@@ -147,18 +101,22 @@ module _ (stored : List (List ℕ)) (honest : Bool) (t : Held) (sound : IsSound 
             ap (payload_in after) same ∙ filled ∙ read is ∙ ap (λ n. payload_of (slice_index_or stored n [])) pages_same
         agrees_at is j g (inr other) here unchanged =
             filled_other g other
-            ∙ sound.agrees is j g (sym (put_other g other) ∙ here) (sym (get_or-set_other t.changed frame g false false other) ∙ unchanged)
+            ∙ sound.agrees is j g (sym (put_other g other) ∙ here)
+            (sym (get_or-set_other t.changed frame g false false other) ∙ unchanged)
 
     pub images-moved_in : IsTrue honest → images_of stored after ≡ images_of stored t
     images-moved_in is = images_same stored stored t after refl (λ n within. at n within (cases_eq n page))
       where
-        at_rest : (n : ℕ) → (o : Option ℕ) → place_of t n ≡ o → (page_of t frame ≡ Some n → ⊥) → shown after o (slice_index_or stored n []) ≡ shown t o (slice_index_or stored n [])
+        at_rest : (n : ℕ) → (o : Option ℕ) → place_of t n ≡ o → (page_of t frame ≡ Some n → ⊥)
+            → shown after o (slice_index_or stored n []) ≡ shown t o (slice_index_or stored n [])
         at_rest n None place elsewhere = refl
         at_rest n (Some g) place elsewhere =
             filled_other g (λ same. elsewhere (ap (page_of t) (sym same) ∙ sound.whole.in_frame n g place))
 
-        not_page : (n : ℕ) → (n ≡ page → ⊥) → n < length t.places → (o : Option ℕ) → page_of t frame ≡ o → (o ≡ Some n) ⊎ (o ≡ Some n → ⊥)
-            → shown after (slice_index_or (without o t.places) n None) (slice_index_or stored n []) ≡ image_at stored t n
+        not_page : (n : ℕ) → (n ≡ page → ⊥) → n < length t.places → (o : Option ℕ) → page_of t frame ≡ o
+            → (o ≡ Some n) ⊎ (o ≡ Some n → ⊥)
+            → shown after (slice_index_or (without o t.places) n None)
+            (slice_index_or stored n []) ≡ image_at stored t n
         not_page n other within o is_o (inl leaves) =
             ap (λ p. shown after p (slice_index_or stored n [])) (without_goes o t.places n leaves within)
             ∙ sym (ap (λ p. shown t p (slice_index_or stored n [])) (sound.whole.at_place n frame (is_o ∙ leaves))
@@ -171,19 +129,23 @@ module _ (stored : List (List ℕ)) (honest : Bool) (t : Held) (sound : IsSound 
         at n within (inl same) =
             ap (image_at stored after) same
             ∙ ap (λ p. shown after p (slice_index_or stored page []))
-            (get_or-set_same gone page (Some frame) None (subst (λ m. page < m) (sym (length-without (page_of t frame) t.places)) on_device))
+            (get_or-set_same gone page (Some frame) None
+            (subst (λ m. page < m) (sym (length-without (page_of t frame) t.places)) on_device))
             ∙ filled ∙ read is
             ∙ sym (ap (λ p. shown t p (slice_index_or stored page [])) outside)
             ∙ ap (image_at stored t) (sym same)
         at n within (inr other) =
             ap (λ p. shown after p (slice_index_or stored n [])) (get_or-set_other gone page n (Some frame) None other)
-            ∙ not_page n other (subst (λ m. n < m) (sym sound.as_many) within) (page_of t frame) refl (cases_some (page_of t frame) n)
+            ∙ not_page n other (subst (λ m. n < m) (sym sound.as_many) within) (page_of t frame) refl
+            (cases_some (page_of t frame) n)
 
   -- a frame's page is written to the device, or the write fails
-  module _ (written : List (List ℕ)) (frame page : ℕ) (here : page_of t frame ≡ Some page) (differs : DiffersAtMostAt page stored written) where
+  module _ (written : List (List ℕ)) (frame page : ℕ) (here : page_of t frame ≡ Some page)
+      (differs : DiffersAtMostAt page stored written) where
     others : (n : ℕ) → (n ≡ page → ⊥) → slice_index_or written n [] ≡ slice_index_or stored n []
     others n other =
-        sym (unwrap_or-slice_get written n []) ∙ ap (λ o. unwrap_or o []) (differs.others n other) ∙ unwrap_or-slice_get stored n []
+        sym (unwrap_or-slice_get written n []) ∙ ap (λ o. unwrap_or o []) (differs.others n other)
+        ∙ unwrap_or-slice_get stored n []
 
     -- no other frame has that page
     apart : (j g : ℕ) → page_of t g ≡ Some j → (g ≡ frame → ⊥) → j ≡ page → ⊥
@@ -203,7 +165,8 @@ module _ (stored : List (List ℕ)) (honest : Bool) (t : Held) (sound : IsSound 
     pub images-written : images_of written t ≡ images_of stored t
     images-written = images_same stored written t t differs.as_many (λ n within. at n (place_of t n) refl)
       where
-        at : (n : ℕ) (o : Option ℕ) → place_of t n ≡ o → shown t o (slice_index_or written n []) ≡ shown t o (slice_index_or stored n [])
+        at : (n : ℕ) (o : Option ℕ) → place_of t n ≡ o
+            → shown t o (slice_index_or written n []) ≡ shown t o (slice_index_or stored n [])
         at n (Some g) place = refl
         at n None place = ap payload_of (others n (λ same.
             let place_here = sound.whole.at_place page frame here in
@@ -214,10 +177,12 @@ module _ (stored : List (List ℕ)) (honest : Bool) (t : Held) (sound : IsSound 
     IsSound-failed changed = record {
       as_many = sound.as_many ∙ sym differs.as_many;
       whole = sound.whole;
-      agrees = λ is j g at_g unchanged. agrees_elsewhere is j g at_g (λ same. let marked = ap (is_changed t) same in absurd cc) unchanged;
+      agrees = λ is j g at_g unchanged. agrees_elsewhere is j g at_g
+          (λ same. let marked = ap (is_changed t) same in absurd cc) unchanged;
     }
 
-    pub IsSound-cleaned : (IsTrue honest → payload_of (slice_index_or written page []) ≡ payload_in t frame) → IsSound written honest (cleaned_at frame t)
+    pub IsSound-cleaned : (IsTrue honest → payload_of (slice_index_or written page []) ≡ payload_in t frame)
+        → IsSound written honest (cleaned_at frame t)
     IsSound-cleaned same_there = record {
       as_many = sound.as_many ∙ sym differs.as_many;
       whole = record {
@@ -261,8 +226,10 @@ module _ (stored : List (List ℕ)) (honest : Bool) (t : Held) (sound : IsSound 
       where
         at : IsTrue honest → (j g : ℕ) → (g ≡ frame) ⊎ (g ≡ frame → ⊥) → AgreesAt stored (stored_in frame payload t) j g
         at is j g (inl same) at_g unchanged =
-            let marked = get_or-set_same t.changed frame true false (subst (λ n. frame < n) (sym sound.whole.even_changed) frame_in_range) in
-            let moved : is_changed (stored_in frame payload t) g ≡ is_changed (stored_in frame payload t) frame = ap (is_changed (stored_in frame payload t)) same in
+            let marked = get_or-set_same t.changed frame true false
+            (subst (λ n. frame < n) (sym sound.whole.even_changed) frame_in_range) in
+            let moved : is_changed (stored_in frame payload t) g ≡ is_changed (stored_in frame payload t) frame = ap
+            (is_changed (stored_in frame payload t)) same in
             absurd cc
         at is j g (inr other) at_g unchanged =
             get_or-set_other t.payloads frame g payload [] other
@@ -273,7 +240,8 @@ module _ (stored : List (List ℕ)) (honest : Bool) (t : Held) (sound : IsSound 
         first_pages_set (length stored) page (image_at stored t) (image_at stored (stored_in frame payload t)) payload
         (subst (λ n. page < n) sound.as_many (within_if_found t.places page frame place))
         (ap (λ p. shown (stored_in frame payload t) p (slice_index_or stored page [])) place
-        ∙ get_or-set_same t.payloads frame payload [] (subst (λ n. frame < n) (sym sound.whole.even_payloads) frame_in_range))
+        ∙ get_or-set_same t.payloads frame payload []
+        (subst (λ n. frame < n) (sym sound.whole.even_payloads) frame_in_range))
         (λ n other. at n other (place_of t n) refl)
       where
         at : (n : ℕ) → (n ≡ page → ⊥) → (o : Option ℕ) → place_of t n ≡ o
@@ -286,24 +254,3 @@ module _ (stored : List (List ℕ)) (honest : Bool) (t : Held) (sound : IsSound 
             let equal : Some n ≡ Some page = sym in_g ∙ moved ∙ in_f in
             let pages_same : n ≡ page = cc in
             other pages_same)
-
--- a page that is pinned once and given back leaves no pin
-pub rest_again : (s t : PoolState) (page frame : ℕ) → IsAtRest s → t.pins ≡ slice_set s.pins page (pins_at s page + 1) → frame ≡ page
-    → pins_at t page ≡ pins_at s page + 1 → (k : ℕ) → ◌≡◌ {A = ℕ} (slice_index_or (slice_set t.pins frame (pins_at t frame - 1)) k 0) 0
-rest_again s t page frame rest pinned same once k = at (cases_eq k frame)
-  where
-    last : pins_at t frame - 1 ≡ 0
-    last = let was = rest page in let here : pins_at t frame ≡ pins_at t page = ap (pins_at t) same in omega arith
-
-    at_frame : (frame < length t.pins) ⊎ (length t.pins ≤ frame) → ◌≡◌ {A = ℕ} (slice_index_or (slice_set t.pins frame (pins_at t frame - 1)) frame 0) 0
-    at_frame (inl within) = get_or-set_same t.pins frame (pins_at t frame - 1) 0 within ∙ last
-    at_frame (inr past) =
-        get_or-eq_default (slice_set t.pins frame (pins_at t frame - 1)) 0 (subst (λ n. n ≤ frame) (sym (length-set t.pins frame (pins_at t frame - 1))) past)
-
-    at : (k ≡ frame) ⊎ (k ≡ frame → ⊥) → ◌≡◌ {A = ℕ} (slice_index_or (slice_set t.pins frame (pins_at t frame - 1)) k 0) 0
-    at (inl is) = ap (λ n. slice_index_or (slice_set t.pins frame (pins_at t frame - 1)) n 0) is ∙ at_frame (cases_lt frame (length t.pins))
-    at (inr other) =
-        get_or-set_other t.pins frame k (pins_at t frame - 1) 0 other
-        ∙ ap (λ pins. slice_index_or pins k 0) pinned
-        ∙ get_or-set_other s.pins page k (pins_at s page + 1) 0 (λ is. other (is ∙ sym same))
-        ∙ rest k

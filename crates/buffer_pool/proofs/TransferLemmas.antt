@@ -1,5 +1,6 @@
 -- Why a transfer of a page that is there fails, and what a run of write-backs leaves.
-use Rattle.std.proofs.Common.{◌≡◌, ℕ, ◌<◌, ◌≤◌, Bool, List, arith, ◌↔◌, Err, IsErrOf, refl, sym, subst, [], IsTrue, slice_index_or, slice_set, length, ◌⊎◌, inl, inr}
+use Rattle.std.proofs.Common.{◌≡◌, ℕ, ◌<◌, ◌≤◌, Bool, List, arith, ◌↔◌, Err, IsErrOf, refl, sym, subst, [], IsTrue}
+use Rattle.std.proofs.Common.{slice_index_or, slice_set, length, ◌⊎◌, inl, inr}
 use Rattle.page_device.specs.Device.{HasCause, HasRisen, MayMeetTheEnd, MayOnlyFail}
 use Rattle.page_device.specs.declared.fault.DeviceFault.{DeviceFault}
 use Rattle.page_device.specs.declared.fault.DeviceFault.TheVariants.{Device, BadDigest, PastEnd, DeviceFull, NoMemory}
@@ -11,16 +12,20 @@ use Rattle.buffer_pool.specs.Pool.{IsSound, IsClean, KeepsSeals, images_of}
 use Rattle.buffer_pool.specs.Transfer.{KeepsPages, MayBeUnread}
 
 -- a page that is there is not past the end
-pub only_fails : (fault : DeviceFault) (old new pages page : ℕ) → HasCause {T = Unit {0}} MayMeetTheEnd old new (Err fault)
-    → (IsErrOf {T = Unit {0}} (Err fault) PastEnd ↔ (pages ≤ page)) → page < pages → HasCause {T = Unit {0}} MayOnlyFail old new (Err fault)
-only_fails Device old new pages page cause past within = record { later = cause.later; failed = cause.failed; told = tt }
+pub only_fails : (fault : DeviceFault) (old new pages page : ℕ)
+    → HasCause {T = Unit {0}} MayMeetTheEnd old new (Err fault)
+    → (IsErrOf {T = Unit {0}} (Err fault) PastEnd ↔ (pages ≤ page)) → page < pages
+    → HasCause {T = Unit {0}} MayOnlyFail old new (Err fault)
+only_fails Device old new pages page cause past within =
+    record { later = cause.later; failed = cause.failed; told = tt }
 only_fails BadDigest old new pages page cause past within = absurd cause.told
 only_fails PastEnd old new pages page cause past within = let outside = past.0 refl in absurd (omega arith)
 only_fails DeviceFull old new pages page cause past within = absurd cause.told
 only_fails NoMemory old new pages page cause past within = absurd cause.told
 
 -- a call after one that told nothing
-pub caused : {T : Type 0} (old mid new : ℕ) (fault : DeviceFault) → old ≤ mid → HasCause {T = Unit {0}} MayOnlyFail mid new (Err fault)
+pub caused : {T : Type 0} (old mid new : ℕ) (fault : DeviceFault) → old ≤ mid
+    → HasCause {T = Unit {0}} MayOnlyFail mid new (Err fault)
     → HasCause {T = T} MayBeUnread old new (Err fault)
 caused old mid new Device before cause = record {
   later = let after = cause.later in omega arith;
@@ -37,7 +42,8 @@ caused old mid new DeviceFull before cause = absurd cause.told
 caused old mid new NoMemory before cause = absurd cause.told
 
 -- the frames below one were written back
-pub record IsWritten {D : Type 0} (content : D → List (List ℕ)) (is_honest : D → Bool) (fault_count : D → ℕ) (first : D) (old : Held)
+pub record IsWritten {D : Type 0} (content : D → List (List ℕ)) (is_honest : D → Bool) (fault_count : D → ℕ)
+    (first : D) (old : Held)
     (device : D) (t : Held) (frame : ℕ) : Type 0 where
   pub sound : IsSound (content device) (is_honest device) t
   pub clean : (g : ℕ) → g < frame → IsClean t g

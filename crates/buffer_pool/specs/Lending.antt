@@ -14,4 +14,5 @@ LendsPayload t frame r = Lends table.the_row (Array u8 4064) t r (λ payload. st
 -- the pool ends with what was last written as the image of a page
 abbrev pub LendsImage : (D : RattleType) → Ghosts D.Denot → MutBor PoolState → ℕ → MutBor (List ℕ) → Fml
 LendsImage D device s page r =
-    Lends (pool.the_row D device) (Array u8 4064) s r (λ payload. record s.now { images = slice_set s.now.images page payload })
+    Lends (pool.the_row D device) (Array u8 4064) s r
+    (λ payload. record s.now { images = slice_set s.now.images page payload })

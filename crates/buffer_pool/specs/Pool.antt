@@ -1,5 +1,6 @@
 -- What a pool shows: the image of each page, and how often it is pinned.
-use Rattle.std.specs.Prelude.{◌≡◌, ℕ, ◌<◌, ◌≤◌, Bool, false, List, [], map, length, replicate, Option, Some, None, IsTrue, Result, IsErrOf, IfErr, slice_index_or, ⊤}
+use Rattle.std.specs.Prelude.{◌≡◌, ℕ, ◌<◌, ◌≤◌, Bool, false, List, [], map, length, replicate, Option, Some, None}
+use Rattle.std.specs.Prelude.{IsTrue, Result, IsErrOf, IfErr, slice_index_or, ⊤}
 use Rattle.page_device.specs.Pages.{first_pages}
 use Rattle.page_device.specs.Sealed.{payload_of, IsSealed}
 use Rattle.page_device.specs.Device.{HasRisen}
@@ -36,7 +37,8 @@ images_of stored t = first_pages (length stored) (image_at stored t)
 -- what the page of a frame has on the device is what the frame has, or the frame was changed
 abbrev pub AgreesAt : List (List ℕ) → Held → ℕ → ℕ → Type 0
 AgreesAt stored t page frame =
-    page_of t frame ≡ Some page → is_changed t frame ≡ false → payload_in t frame ≡ payload_of (slice_index_or stored page [])
+    page_of t frame ≡ Some page → is_changed t frame ≡ false
+    → payload_in t frame ≡ payload_of (slice_index_or stored page [])
 
 -- what is true of each pool
 pub record IsSound (stored : List (List ℕ)) (honest : Bool) (t : Held) : Type 0 where
@@ -87,7 +89,8 @@ pub record KeepsImages (succeeded : Bool) (old new : PoolState) : Type 0 where
   pub seals : IsTrue old.honest → IsTrue succeeded → KeepsSeals old.stored new.stored
 
 -- what a pool may tell, and that a failure of the device comes only where its count of faults rose
-pub record PoolHasCause {T : Type 0} (MayTell : PoolFault → Type 0) (old new : ℕ) (result : Result T PoolFault) : Type 0 where
+pub record PoolHasCause {T : Type 0} (MayTell : PoolFault → Type 0) (old new : ℕ)
+    (result : Result T PoolFault) : Type 0 where
   pub later : old ≤ new
   pub failed : IsErrOf result (Device device.Device) → HasRisen old new
   pub told : IfErr result MayTell

@@ -61,7 +61,7 @@ impl<D: PageDevice> Pool<D> {
     }
 
     /// How many pages the device has.
-    #[tactic(auto, using(crate::proofs::PoolLemmas::images_length))]
+    #[tactic(auto, using(crate::proofs::ImagesLemmas::images_length))]
     pub fn pages(&self) -> u32
         ensures { result ≡ length self.now.images }
     {
@@ -76,7 +76,7 @@ impl<D: PageDevice> Pool<D> {
     }
 
     /// Pins a page, so that it stays in its frame, and reads it where it has none.
-    #[tactic(auto, using(crate::proofs::PoolLemmas::images_length))]
+    #[tactic(auto, using(crate::proofs::ImagesLemmas::images_length))]
     pub fn pin(&mut self, page: u32) -> Result<Frame, PoolFault>
         requires { pins_at self.old page + 1 < 2 ^ 32 }
         ensures ok { IfOk result (λ frame.
@@ -86,8 +86,8 @@ impl<D: PageDevice> Pool<D> {
         ensures past { IsErrOf result (PoolFault.Device PastEnd) ↔ (length self.old.images ≤ page) }
         ensures crowded { IsErrOf result PoolFault.TooFewFrames ↔ IsCrowded page self.old }
         ensures keeps { KeepsImages (is_ok result) self.old self.new }
-        ensures cause { PoolHasCause (MayNotPin page self.old) self.old.faults self.new.faults
-            result }
+        ensures cause { PoolHasCause (MayNotPin page self.old)
+            self.old.faults self.new.faults result }
     {
         if page >= self.device.pages() {
             return Err(PoolFault::Device(DeviceFault::PastEnd));
@@ -131,8 +131,8 @@ impl<D: PageDevice> Pool<D> {
         *self.image_mut(frame) = *payload;
     }
 
-    /// Lends the image of a pinned page, to be changed in place. It counts as stored, and the page is
-    /// sealed when it is written back.
+    /// Lends the image of a pinned page, to be changed in place. It counts as stored, and the page
+    /// is sealed when it is written back.
     pub fn image_mut(&mut self, frame: &Frame) -> &mut Payload
         requires { 0 < pins_at self.old frame.now }
         ensures* writes_back { sem 𝓛 (LendsImage D.row D.PageDevice self.entry frame.now result) }

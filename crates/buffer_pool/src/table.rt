@@ -148,8 +148,8 @@ impl Table {
         let _ = &self.pinned;
     }
 
-    /// A frame that holds no page, or one that is not pinned: the first one that was not used since the
-    /// hand went by.
+    /// A frame that holds no page, or one that is not pinned: the first one that was not used since
+    /// the hand went by.
     pub fn free_frame(&mut self) -> usize
         requires { count_pinned self.old.pins < length self.old.pages }
         ensures free { IsFree self.old result }

@@ -25,8 +25,8 @@ pub fn write_back<D: PageDevice>(
     ensures honest { D.is_honest device.new ≡ D.is_honest device.old }
     ensures seals { IsTrue (D.is_honest device.old) →
         OnOk result (KeepsSeals (D.content device.old) (D.content device.new)) }
-    ensures cause { HasCause MayOnlyFail (D.fault_count device.old)
-        (D.fault_count device.new) result }
+    ensures cause { HasCause MayOnlyFail
+        (D.fault_count device.old) (D.fault_count device.new) result }
 {
     let Some(page) = table.page(frame) else {
         return Ok(());
@@ -43,8 +43,8 @@ pub fn write_back<D: PageDevice>(
     Ok(())
 }
 
-/// Sees that a page is in a frame. Where it is in none it is read into a frame whose page may go, and
-/// which is written to the device before.
+/// Sees that a page is in a frame. Where it is in none it is read into a frame whose page may go,
+/// and which is written to the device before.
 pub fn bring_in<D: PageDevice>(
     device: &mut D,
     table: &mut Table,
@@ -64,8 +64,8 @@ pub fn bring_in<D: PageDevice>(
     ensures honest { D.is_honest device.new ≡ D.is_honest device.old }
     ensures seals { IsTrue (D.is_honest device.old) →
         OnOk result (KeepsSeals (D.content device.old) (D.content device.new)) }
-    ensures cause { HasCause MayBeUnread (D.fault_count device.old)
-        (D.fault_count device.new) result }
+    ensures cause { HasCause MayBeUnread
+        (D.fault_count device.old) (D.fault_count device.new) result }
 {
     if let Some(frame) = table.place(page) {
         table.touch(frame);
@@ -93,8 +93,8 @@ pub fn bring_in<D: PageDevice>(
 pub fn write_all<D: PageDevice>(device: &mut D, table: &mut Table) -> Result<(), DeviceFault>
     requires { IsSound (D.content device.old) (D.is_honest device.old) table.old }
     ensures sound { IsSound (D.content device.new) (D.is_honest device.new) table.new }
-    ensures ok { OnOk result ((frame : ℕ) → frame < length table.new.pages →
-        IsClean table.new frame) }
+    ensures ok { OnOk result
+        ((frame : ℕ) → frame < length table.new.pages → IsClean table.new frame) }
     ensures synced { IsTrue (D.is_honest device.old) →
         OnOk result (IsTrue (D.is_synced device.new)) }
     ensures images { images_of (D.content device.new) table.new ≡
@@ -103,8 +103,8 @@ pub fn write_all<D: PageDevice>(device: &mut D, table: &mut Table) -> Result<(),
     ensures honest { D.is_honest device.new ≡ D.is_honest device.old }
     ensures seals { IsTrue (D.is_honest device.old) →
         OnOk result (KeepsSeals (D.content device.old) (D.content device.new)) }
-    ensures cause { HasCause MayOnlyFail (D.fault_count device.old)
-        (D.fault_count device.new) result }
+    ensures cause { HasCause MayOnlyFail
+        (D.fault_count device.old) (D.fault_count device.new) result }
 {
     for frame in 0..table.frames() {
         match write_back(device, table, frame) {

@@ -3,4 +3,5 @@ pub mod Fields
 pub mod HeaderLaws
 pub mod NumberLaws
 pub mod SlotLaws
+pub mod PageLaws
 pub mod Zeros

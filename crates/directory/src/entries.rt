@@ -1,10 +1,10 @@
 //! Entries on one page of the directory, and their changes.
 
-ghost use Rattle.std.specs.Prelude.{◌≡◌, ◌≢◌, ◌+◌, ◌*◌, ◌-◌, ◌≤◌, ◌<◌, ◌%◌, ◌^◌, ℕ};
+ghost use Rattle.std.specs.Prelude.{◌≡◌, ◌≢◌, ◌+◌, ◌*◌, ◌-◌, ◌≤◌, ◌<◌, ◌%◌, ◌^◌, ℕ, true};
 ghost use Rattle.directory.specs.declared.layout.TheConstants.{DIRECTORY_PAGES, ENTRIES_IN_A_PAGE, GREATEST_DEPTH};
 ghost use Rattle.directory.specs.Entries.{KeepsOtherBytes, copied, entry_in, is_in_range, is_upper, page_of, retargeted, slot_at};
 
-use crate::directory::slot_of;
+use crate::directory::{page_of, slot_of};
 use crate::field::{four_at, set_four};
 use crate::layout::{ENTRIES_BEGIN, ENTRIES_IN_A_PAGE, FIRST_DIRECTORY_PAGE};
 use page_device::Payload;
@@ -52,6 +52,17 @@ pub fn copy_upper(payload: &mut Payload, page: u32, depth: u8, lower: &Payload)
     }
 }
 
+/// The page on which the lower half's entries stand that `copy_upper` copies onto a page.
+pub fn lower_page(page: u32, depth: u8) -> u32
+    requires first { FIRST_DIRECTORY_PAGE ≤ page }
+    requires last { page ≤ DIRECTORY_PAGES }
+    requires depth { depth < GREATEST_DEPTH }
+    ensures { (i : ℕ) → page_of i ≡ page → is_upper depth i ≡ true →
+        page_of (i - 2 ^ depth) ≡ result }
+{
+    page_of(first_entry(page).saturating_sub(half_of(depth)))
+}
+
 /// Has the entries of a range on one page of a directory of a depth name a bucket's page.
 pub fn retarget(payload: &mut Payload, page: u32, depth: u8, range: Range, bucket: u32)
     requires first { FIRST_DIRECTORY_PAGE ≤ page }
@@ -76,6 +87,14 @@ fn first_entry(page: u32) -> u32
     ensures { result ≡ ENTRIES_IN_A_PAGE * (page - FIRST_DIRECTORY_PAGE) }
 {
     ENTRIES_IN_A_PAGE * (page - FIRST_DIRECTORY_PAGE)
+}
+
+/// Entries of a directory of a depth.
+fn half_of(depth: u8) -> u32
+    requires { depth < GREATEST_DEPTH }
+    ensures { result ≡ 2 ^ depth }
+{
+    1 << depth
 }
 
 /// What an entry becomes where the directory doubles.

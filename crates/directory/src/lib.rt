@@ -11,7 +11,7 @@ mod read;
 mod write;
 
 pub use directory::{index, page_of, slot_of};
-pub use entries::{Range, copy_upper, entry, retarget, set_entry};
+pub use entries::{Range, copy_upper, entry, lower_page, retarget, set_entry};
 pub use header::Header;
 pub use layout::{
     DIRECTORY_PAGES, ENTRIES_IN_A_PAGE, FIRST_DIRECTORY_PAGE, GREATEST_DEPTH, LEAST_PAGES,

@@ -129,4 +129,5 @@ fn a_range_gets_its_bucket(rt: HostRuntime) {
     assert_eq!(rt; index(0x1d, 3), 5);
     assert_eq!(rt; page_of(0x1_ffff), 256);
     assert_eq!(rt; slot_of(513), 1);
+    assert_eq!(rt; lower_page(4, 10), 2);
 }

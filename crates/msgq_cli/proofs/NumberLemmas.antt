@@ -1,7 +1,6 @@
 -- What `parse` reads of words of digits.
-use Rattle.std.proofs.Common.{◌≡◌, ℕ, ◌<◌, ◌≤◌, ◌+◌, ◌-◌, ◌^◌, ◌&&◌, ◌==◌, not, nat_lt, true, false, Bool, cond, List, [], ◌∷◌, length, get_or, drop, Option, Some, None, Result, Ok, Err, refl, arith, rules, ℤ, pos, neg_ℤ, ◌∙◌, sym}
+use Rattle.std.proofs.Common.{◌≡◌, ℕ, ◌<◌, ◌≤◌, ◌+◌, ◌^◌, ◌==◌, true, false, Bool, cond, List, [], ◌∷◌, length, Result, Ok, Err, refl, arith, ℤ, pos, neg_ℤ}
 use Rattle.std.proofs.lemmas.Bool.Decides.{nat_tests}
-use Rattle.std.proofs.lemmas.Str.{IsUtf8-from_ascii}
 use Rattle.std.proofs.lemmas.Str.Ascii.{IsAscii-nil, IsAscii-cons}
 use Rattle.std.proofs.lemmas.Str.Parse.{IsDigitsTest, IsNumeralModel, numerals_by_value, parse_digits, parse_signed_digits, parse_signed_minus}
 use Rattle.std.specs.Char.{is_ascii_digit}
@@ -9,7 +8,7 @@ use Rattle.std.specs.List.{list_all}
 use Rattle.std.specs.Int.{w64}
 use Rattle.std.specs.Option.{option_map}
 use Rattle.std.specs.Result.{result_ok, OkIff}
-use Rattle.std.specs.Str.{IsAscii, IsUtf8}
+use Rattle.std.specs.Str.{IsAscii}
 use Rattle.std.specs.Str.Parse.{digits_value, ParsesUnsigned, ParsesSigned}
 use Rattle.msgq_cli.specs.Numbers.{decimal_of, without_minus, signed_of}
 

@@ -1,5 +1,5 @@
 -- Answers as lines of text. docs/SCRIPTS.md, "Answers".
-use Rattle.std.specs.Prelude.{ℕ, ◌+◌, ◌/◌, ◌%◌, ◌==◌, List, [], ◌∷◌, ◌++◌, length, codes, Option, Some, None, if◌then◌else◌}
+use Rattle.std.specs.Prelude.{ℕ, ◌/◌, ◌%◌, ◌==◌, List, [], ◌∷◌, ◌++◌, length, codes, Option, Some, None, if◌then◌else◌}
 use Rattle.std.specs.Fmt.{decimal, signed_decimal}
 use Rattle.hex.specs.Hex.{encode_lower}
 use Rattle.queue_model.specs.Errnos.{name_of}
@@ -11,7 +11,7 @@ use Rattle.queue_model.specs.declared.permissions.Permissions.{Permissions}
 use Rattle.msgq_cli.specs.declared.reply.Reply.{Reply}
 use Rattle.msgq_cli.specs.declared.reply.Reply.TheVariants.{Answered, Stopped, Failed}
 
--- words with a space between each two, and an LF behind them
+-- words with a space (32) between each two, and an LF (10) behind them
 abbrev pub line_of : List (List ℕ) → List ℕ
 line_of [] = 10 ∷ []
 line_of (word ∷ []) = word ++ 10 ∷ []
@@ -21,6 +21,7 @@ line_of (word ∷ next ∷ words) = word ++ 32 ∷ line_of (next ∷ words)
 abbrev pub body_text : List ℕ → List ℕ
 body_text body = if length body == 0 then codes "-" else encode_lower body
 
+-- a key, or `private` where there is none
 abbrev pub key_text : Option ℕ → List ℕ
 key_text None = codes "private"
 key_text (Some key) = decimal key
@@ -29,6 +30,7 @@ key_text (Some key) = decimal key
 abbrev pub mode_text : ℕ → List ℕ
 mode_text mode = decimal (mode / 64 % 8) ++ decimal (mode / 8 % 8) ++ decimal (mode % 8)
 
+-- owner, creator and mode
 abbrev pub permission_words : Permissions → List (List ℕ)
 permission_words p = decimal p.uid ∷ decimal p.gid ∷ decimal p.cuid ∷ decimal p.cgid ∷ mode_text p.mode ∷ []
 
@@ -38,10 +40,12 @@ info_words i = codes "info" ∷ decimal i.id ∷ key_text i.key ∷ decimal i.qn
     ∷ decimal i.lspid ∷ decimal i.lrpid ∷ decimal i.stime ∷ decimal i.rtime ∷ decimal i.ctime
     ∷ permission_words i.permissions
 
+-- a message that was received
 abbrev pub message_words : Message → List (List ℕ)
 message_words m =
     codes "received" ∷ decimal m.serial ∷ decimal m.sender ∷ signed_decimal m.mtype ∷ body_text m.bytes ∷ []
 
+-- what is said of an answer
 abbrev pub answer_words : Answer → List (List ℕ)
 answer_words (Id id) = codes "id" ∷ decimal id ∷ []
 answer_words (Sent serial) = codes "sent" ∷ decimal serial ∷ []
@@ -50,6 +54,7 @@ answer_words (Info info) = info_words info
 answer_words Done = codes "done" ∷ []
 answer_words (Refused errno) = codes "refused" ∷ name_of errno ∷ []
 
+-- what is said of a reply; a `stop` is done
 abbrev pub reply_words : Reply → List (List ℕ)
 reply_words (Answered answer) = answer_words answer
 reply_words Stopped = codes "done" ∷ []

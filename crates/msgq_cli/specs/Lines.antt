@@ -1,7 +1,6 @@
 -- What a line says by itself. docs/SCRIPTS.md, "Lines and words".
-use Rattle.std.specs.Prelude.{ℕ, ◌-◌, ◌==◌, ◌||◌, nat_lt, List, [], ◌∷◌, length, take, slice_index, codes, Option, Some, None, ⊤, if◌then◌else◌}
+use Rattle.std.specs.Prelude.{ℕ, ◌-◌, ◌==◌, nat_lt, List, [], ◌∷◌, length, take, slice_index, codes, Option, Some, None, ⊤, if◌then◌else◌}
 use Rattle.std.specs.List.{list_all, onto_first}
-use Rattle.std.specs.Option.{option_map}
 use Rattle.std.specs.Str.{bytes_eq}
 use Rattle.std.specs.Str.Lines.{strip_carriage_return}
 use Rattle.msgq_cli.specs.Commands.{command_of}
@@ -17,15 +16,16 @@ HasSeat content.Nothing = ⊤
 HasSeat (content.Ids ids) = IsSeat ids.seat
 HasSeat (content.Line line) = IsSeat line.seat
 
--- the lines of a text, each with the LF that ends it; the last may lack it
+-- the lines of a text, each with the LF (10) that ends it; the last may lack it
 abbrev pub lines_of : List ℕ → List (List ℕ)
 lines_of [] = []
 lines_of (byte ∷ rest) = if byte == 10 then (byte ∷ []) ∷ lines_of rest else onto_first byte (lines_of rest)
 
+-- the last byte of a line that is not empty
 abbrev pub last_byte : List ℕ → ℕ
 last_byte line = slice_index line (length line - 1)
 
--- a line without its end, LF or CR LF; a CR at the very end of the script is no end
+-- a line without its end, LF or CR LF; where the script ends in a CR (13), its last line is wrong
 abbrev pub text_of : List ℕ → Option (List ℕ)
 text_of line =
     if last_byte line == 10 then Some (strip_carriage_return (take (length line - 1) line))
@@ -48,11 +48,12 @@ entry_of number seat words = do
   c ← command_of number words
   Some (content.Line (record { number = number; seat = s; command = c }))
 
+-- what the words of the line of a number say
 abbrev pub worded : ℕ → List (List ℕ) → Option Content
 worded number [] = None
 worded number (first ∷ words) = if bytes_eq first (codes "ids") then ids_of words else entry_of number first words
 
--- an empty line and a comment say nothing; a line of blanks alone has no words
+-- an empty line and a comment behind `#` (35) say nothing; a line of blanks alone has no words
 abbrev pub said_by : ℕ → List ℕ → Option Content
 said_by number [] = Some content.Nothing
 said_by number (byte ∷ bytes) = if byte == 35 then Some content.Nothing else worded number (words_of (byte ∷ bytes))

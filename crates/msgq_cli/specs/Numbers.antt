@@ -23,7 +23,7 @@ decimal_of bound word =
 abbrev pub number_of : List ℕ → Option ℕ
 number_of word = decimal_of (2 ^ 32) word
 
--- a word without the `-` in front
+-- a word without the `-` (45) in front
 abbrev pub without_minus : List ℕ → List ℕ
 without_minus [] = []
 without_minus (first ∷ rest) = if first == 45 then rest else first ∷ rest
@@ -35,6 +35,7 @@ signed_of (first ∷ rest) =
     if first == 45 then option_map (λ n. neg_ℤ (pos n)) (decimal_of (2 ^ 63 + 1) rest)
     else option_map pos (decimal_of (2 ^ 63) (first ∷ rest))
 
+-- seats count from 1
 abbrev pub IsSeat : ℕ → Type 0
 IsSeat n = (1 ≤ n) × (n ≤ SEATS)
 
@@ -48,6 +49,7 @@ seat_of word = do
 abbrev pub key_of : List ℕ → Option (Option ℕ)
 key_of word = if bytes_eq word (codes "private") then Some None else option_map Some (number_of word)
 
+-- the value of a digit from `0` to `7`
 abbrev pub octal_of : ℕ → Option ℕ
 octal_of digit = if nat_le 48 digit && nat_le digit 55 then Some (digit - 48) else None
 

@@ -5,6 +5,7 @@ use Rattle.msgq_cli.specs.Numbers.{number_of, mode_of}
 use Rattle.msgq_cli.specs.Reading.{◌>>=◌}
 use Rattle.msgq_cli.specs.declared.options.Options.{Options}
 
+-- no option at all
 abbrev pub no_options : Options
 no_options =
     record { create = false; excl = false; nowait = false; noerror = false; mode = None; uid = None; gid = None }
@@ -22,16 +23,19 @@ begins name word = bytes_eq (take (length name) word) name
 abbrev pub value_in : List ℕ → List ℕ → List ℕ
 value_in name word = drop (length name) word
 
+-- `mode=OOO`
 abbrev pub with_mode : Options → List ℕ → Option Options
 with_mode o value = do
   mode ← mode_of value
   once o.mode (record o { mode = Some mode })
 
+-- `uid=N`
 abbrev pub with_uid : Options → List ℕ → Option Options
 with_uid o value = do
   uid ← number_of value
   once o.uid (record o { uid = Some uid })
 
+-- `gid=N`
 abbrev pub with_gid : Options → List ℕ → Option Options
 with_gid o value = do
   gid ← number_of value
@@ -65,15 +69,18 @@ options_after o (word ∷ words) = do
 abbrev pub options_of : List (List ℕ) → Option Options
 options_of words = options_after no_options words
 
--- the options that a call knows, and no others
+-- those that `get` knows, and no others
 abbrev pub fits_get : Options → Bool
 fits_get o = not (o.nowait || o.noerror || is_some o.uid || is_some o.gid)
 
+-- those that `snd` knows
 abbrev pub fits_send : Options → Bool
 fits_send o = not (o.create || o.excl || o.noerror || is_some o.mode || is_some o.uid || is_some o.gid)
 
+-- those that `rcv` knows
 abbrev pub fits_receive : Options → Bool
 fits_receive o = not (o.create || o.excl || is_some o.mode || is_some o.uid || is_some o.gid)
 
+-- those that `set` knows
 abbrev pub fits_set : Options → Bool
 fits_set o = not (o.create || o.excl || o.nowait || o.noerror)

@@ -17,6 +17,7 @@ pub record Parts : Type 0 where
   pub ids : List SeatIds
   pub lines : List Line
 
+-- an `ids` line is that of a seat
 abbrev pub is_of_seat : ℕ → SeatIds → Bool
 is_of_seat seat ids = ids.seat == seat
 
@@ -29,6 +30,7 @@ with_content s (content.Ids ids) =
     else None
 with_content s (content.Line line) = Some (record s { lines = s.lines ++ line ∷ [] })
 
+-- one line more, as bytes with its end
 abbrev pub with_line : ℕ → Parts → List ℕ → Option Parts
 with_line number s line = do
   said ← content_of number line
@@ -44,6 +46,7 @@ abbrev pub script_from : ℕ → Parts → List (List ℕ) → Result Parts ℕ
 script_from number s [] = Ok s
 script_from number s (line ∷ lines) = or_wrong number (with_line number s line) (λ t. script_from (number + 1) t lines)
 
+-- the script with no lines
 abbrev pub empty_script : Parts
 empty_script = record { ids = []; lines = [] }
 
@@ -57,6 +60,7 @@ Reads (Ok s) given = given ≡ Ok s
 Reads (Err (WrongLine line)) given = given ≡ Err line
 Reads (Err NoMemory) given = ⊤
 
+-- the process of a seat, with the ids of a line or 0 and 0
 abbrev pub caller_with : ℕ → Option SeatIds → Caller
 caller_with seat None = record { pid = seat; uid = 0; gid = 0 }
 caller_with seat (Some ids) = record { pid = seat; uid = ids.uid; gid = ids.gid }

@@ -94,8 +94,8 @@ fn each_wrong_line_is_named(rt: HostRuntime) -> Result<(), Fail> {
 /// The script that the next test reads.
 const SCRIPT: &[u8] = b"# a \x01 comment\r\r\n\r\nids 1 100 10\nids 03 0 4294967295\n\
     1 get 7 create\n1 snd 1 5 61\r\n1 rcv 1 10 0\n2 rcv 1 10 -9223372036854775808 noerror nowait\n\
-    4 set 1 30000 uid=200\n\t1  get private mode=640 excl \n01 snd 007 -0 - nowait\n1 snd 1 1 aBC0\n\
-    1 stat 4294967295\n\n64 rm 0\n1 stop";
+    4 set 1 30000 uid=200\n\t1  get private mode=640 excl \n\
+    01 snd 007 -0 - nowait\n1 snd 1 1 aBC0\n1 stat 4294967295\n\n64 rm 0\n1 stop";
 
 #[test]
 fn each_command_is_read(rt: HostRuntime) -> Result<(), Fail> {

@@ -1,8 +1,10 @@
 -- The pages at the first n places, one by one.
-use Rattle.std.proofs.Common.{◌≡◌, ◌≢◌, refl, ◌∙◌, sym, ap, subst, ℕ, zero, suc, ◌+◌, ◌<◌, ◌≤◌, List, [], ◌∷◌, ◌++◌, length, arith, ◌⊎◌, inl, inr, Some, None, slice_get, slice_set}
+use Rattle.std.proofs.Common.{◌≡◌, ◌≢◌, refl, ◌∙◌, sym, ap, subst, ℕ, zero, suc, ◌<◌, ◌≤◌, List, [], ◌∷◌, ◌++◌}
+use Rattle.std.proofs.Common.{length, arith, ◌⊎◌, inl, inr, Some, None, slice_get, slice_set}
 use Rattle.std.proofs.Math.ListN.{get_or}
 use Rattle.std.proofs.lemmas.Bool.{cases_eq, cases_lt}
-use Rattle.std.proofs.lemmas.List.{same_lists, get_or_append_left, get_or-set_same, get_or-set_other, length_push, length-set}
+use Rattle.std.proofs.lemmas.List.{same_lists, get_or_append_left, get_or-set_same, get_or-set_other, length_push}
+use Rattle.std.proofs.lemmas.List.{length-set}
 use Rattle.std.proofs.Math.Seq.{get_or-append_seam}
 use Rattle.std.proofs.lemmas.Option.{slice_get-get_or, slice_get_past}
 use Rattle.page_device.specs.Device.{DiffersAtMostAt}
@@ -10,9 +12,10 @@ use Rattle.page_device.specs.Pages.{first_pages}
 
 pub first_pages_length : (n : ℕ) (f : ℕ → List ℕ) → length (first_pages n f) ≡ n
 first_pages_length zero f = refl
-first_pages_length (suc n) f = let longer = length_push (first_pages n f) (f n) in let size = first_pages_length n f in omega arith
+first_pages_length (suc n) f = let longer = length_push (first_pages n f)
+    (f n) in let size = first_pages_length n f in omega arith
 
-first_pages_at : (n k : ℕ) (f : ℕ → List ℕ) (d : List ℕ) → k < n → get_or (first_pages n f) k d ≡ f k
+pub first_pages_at : (n k : ℕ) (f : ℕ → List ℕ) (d : List ℕ) → k < n → get_or (first_pages n f) k d ≡ f k
 first_pages_at zero k f d within = absurd (omega arith)
 first_pages_at (suc n) k f d within = at (cases_eq k n) (λ below. first_pages_at n k f d below)
   where
@@ -24,7 +27,8 @@ first_pages_at (suc n) k f d within = at (cases_eq k n) (λ below. first_pages_a
 
     at : (k ≡ n) ⊎ (k ≡ n → ⊥) → (k < n → get_or shown k d ≡ f k) → get_or (shown ++ f n ∷ []) k d ≡ f k
     at (inl last) before =
-        ap (λ i. get_or (shown ++ f n ∷ []) i d) (last ∙ sym size) ∙ get_or-append_seam shown (f n) [] d ∙ ap f (sym last)
+        ap (λ i. get_or (shown ++ f n ∷ []) i d) (last ∙ sym size) ∙ get_or-append_seam shown (f n) [] d
+        ∙ ap f (sym last)
     at (inr earlier) before =
         let below : k < n = omega arith in
         get_or_append_left shown (f n ∷ []) d k (subst (λ m. k < m) (sym size) below) ∙ before below
@@ -52,7 +56,8 @@ first_pages_set n p f g page within is_page others =
     old : List (List ℕ)
     old = first_pages n f
 
-    at : (k : ℕ) (d : List ℕ) → k < n → (k ≡ p) ⊎ (k ≡ p → ⊥) → get_or (first_pages n g) k d ≡ get_or (slice_set old p page) k d
+    at : (k : ℕ) (d : List ℕ) → k < n → (k ≡ p) ⊎ (k ≡ p → ⊥)
+        → get_or (first_pages n g) k d ≡ get_or (slice_set old p page) k d
     at k d inside (inl same) =
         first_pages_at n k g d inside ∙ ap g same ∙ is_page
         ∙ sym (get_or-set_same old p page d (subst (λ m. p < m) (sym (first_pages_length n f)) within))
@@ -62,7 +67,8 @@ first_pages_set n p f g page within is_page others =
         ∙ sym (get_or-set_other old p k page d other)
 
 -- pages of which one may have become any other
-pub first_pages_differ : (n p : ℕ) (f g : ℕ → List ℕ) → ((k : ℕ) → k ≢ p → g k ≡ f k) → DiffersAtMostAt p (first_pages n f) (first_pages n g)
+pub first_pages_differ : (n p : ℕ) (f g : ℕ → List ℕ) → ((k : ℕ) → k ≢ p → g k ≡ f k)
+    → DiffersAtMostAt p (first_pages n f) (first_pages n g)
 first_pages_differ n p f g others = record {
   as_many = first_pages_length n g ∙ sym (first_pages_length n f);
   others = λ k other. at k (others k other) (cases_lt k n);

@@ -18,7 +18,8 @@ HasRisen old new = (old < new) ⊎ (new ≡ MOST_FAULTS)
 
 -- the count of faults never falls, `Device` comes only where it rose or can't rise, and any other
 -- fault is one that the call may tell
-pub record HasCause (MayTell : DeviceFault → Type 0) (old new : ℕ) (result : Result Unit DeviceFault) : Type 0 where
+pub record HasCause {T : Type 0} (MayTell : DeviceFault → Type 0) (old new : ℕ)
+    (result : Result T DeviceFault) : Type 0 where
   pub later : old ≤ new
   pub failed : IsErrOf result Device → HasRisen old new
   pub told : IfErr result MayTell

@@ -1,5 +1,5 @@
 -- What a `FileDevice` keeps, and the pages that it shows.
-use Rattle.std.specs.Prelude.{ℕ, zero, suc, List, [], ◌∷◌, ◌++◌}
+use Rattle.std.specs.Prelude.{ℕ}
 use Rattle.page_device.specs.declared.file.FileDevice.{FileDevice}
 
 -- the file of a device

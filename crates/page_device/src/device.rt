@@ -38,8 +38,8 @@ pub trait PageDevice {
         ensures past { IsErrOf result DeviceFault.PastEnd ↔ (length (content self.old) ≤ page) }
         ensures same { content self.new ≡ content self.old }
         ensures honest { is_honest self.new ≡ is_honest self.old }
-        ensures cause { HasCause MayMeetTheEnd (fault_count self.old)
-            (fault_count self.new) result };
+        ensures cause { HasCause MayMeetTheEnd
+            (fault_count self.old) (fault_count self.new) result };
 
     /// Writes over a page. After an error that page alone may hold anything.
     fn write(&mut self, page: u32, bytes: &Page) -> Result<(), DeviceFault>
@@ -48,8 +48,8 @@ pub trait PageDevice {
         ensures past { IsErrOf result DeviceFault.PastEnd ↔ (length (content self.old) ≤ page) }
         ensures others { DiffersAtMostAt page (content self.old) (content self.new) }
         ensures honest { is_honest self.new ≡ is_honest self.old }
-        ensures cause { HasCause MayMeetTheEnd (fault_count self.old)
-            (fault_count self.new) result };
+        ensures cause { HasCause MayMeetTheEnd
+            (fault_count self.old) (fault_count self.new) result };
 
     /// Adds a page behind the last.
     fn extend(&mut self, bytes: &Page) -> Result<(), DeviceFault>

@@ -8,8 +8,8 @@ use crate::page::{MAX_PAGES, Page};
 
 /// A device that passes its transfers on to another, but for one that fails.
 ///
-/// Transfers are reads, writes, extensions and syncs, counted from 1. A call that is refused as past
-/// the end or as full transfers nothing, and is not counted.
+/// Transfers are reads, writes, extensions and syncs, counted from 1. A call that is refused as
+/// past the end or as full transfers nothing, and is not counted.
 #[derive(Drop)]
 pub struct FaultyDevice<D: PageDevice> {
     inner: D,

@@ -5,25 +5,30 @@ use Rattle.page_device.specs.Sealed.{payload_of, IsSealed}
 use Rattle.buffer_pool.specs.Table.{place_of}
 use Rattle.std.proofs.lemmas.List.{length-set}
 use Rattle.buffer_pool.proofs.TableLemmas.{within_if_found, some_if_placed, length-places}
-use Rattle.buffer_pool.proofs.PoolLemmas.{IsSound-moved_in, images-moved_in, stored_outside}
+use Rattle.buffer_pool.proofs.ImagesLemmas.{stored_outside}
+use Rattle.buffer_pool.proofs.PoolLemmas.{IsSound-moved_in, images-moved_in}
 use Rattle.buffer_pool.proofs.transfer.bring_in.Given as given
 use Rattle.buffer_pool.proofs.transfer.bring_in.Goals as goal
 
 pub touch-requires : goal.touch-requires
-touch-requires g c = within_if_found _ c.in-Some.frame c.args.page (c.requires.sound.whole.in_frame c.args.page c.in-Some.frame (sym c.place.ensures ∙ c.in-Some.is))
+touch-requires g c = within_if_found _ c.in-Some.frame c.args.page
+    (c.requires.sound.whole.in_frame c.args.page c.in-Some.frame (sym c.place.ensures ∙ c.in-Some.is))
 
 pub returns-in-Err-unseal-clause-sealed : goal.returns-in-Err-unseal-clause-sealed
 returns-in-Err-unseal-clause-sealed g c = λ is sealed.
-    let bytes = get_or_from_slice_get (g.D.PageDevice.content c.args.device.now) c.args.page c.read.new.into [] (c.in-Ok.ensures.ok is) in
+    let bytes = get_or_from_slice_get (g.D.PageDevice.content c.args.device.now) c.args.page c.read.new.into []
+    (c.in-Ok.ensures.ok is) in
     let unsealed = c.in-Err-unseal.ensures.sealed.1 (subst (λ page. IsSealed c.args.page page) bytes sealed) in
     absurd cc
 
 -- what was read is there still
 still_there : (g : given.Over) (c : goal.After-move_in g) → IsTrue (g.D.PageDevice.is_honest c.write_back.new.device)
-    → c.in-Ok-unseal.payload ≡ payload_of (slice_index_or (g.D.PageDevice.content c.write_back.new.device) c.args.page [])
+    → c.in-Ok-unseal.payload ≡ payload_of
+    (slice_index_or (g.D.PageDevice.content c.write_back.new.device) c.args.page [])
 still_there g c is =
     let honest = rw (c.write_back.ensures.honest, c.read.ensures.honest) at is in
-    let bytes = get_or_from_slice_get (g.D.PageDevice.content c.args.device.now) c.args.page c.read.new.into [] (c.in-Ok.ensures.ok honest) in
+    let bytes = get_or_from_slice_get (g.D.PageDevice.content c.args.device.now) c.args.page c.read.new.into []
+    (c.in-Ok.ensures.ok honest) in
     let within : c.args.page < length (g.D.PageDevice.content c.read.new.self) = search rules in
     let on_device : c.args.page < length c.write_back.new.table.places = search rules in
     let within_after = subst (λ n. c.args.page < n) c.write_back.ensures.sound.as_many on_device in
@@ -31,14 +36,16 @@ still_there g c is =
     let outside_after : place_of c.write_back.new.table c.args.page ≡ None = search rules in
     c.in-Ok-unseal.ensures.payload ∙ ap payload_of (sym bytes)
     ∙ ap (λ s. payload_of (slice_index_or s c.args.page [])) (sym c.read.ensures.same)
-    ∙ sym (stored_outside _ _ c.free_frame-frame.new.self c.write_back.new.table c.args.page c.write_back.ensures.images within within_after outside outside_after)
+    ∙ sym (stored_outside _ _ c.free_frame-frame.new.self c.write_back.new.table c.args.page c.write_back.ensures.images
+    within within_after outside outside_after)
 
 pub returns-clause-sound : goal.returns-clause-sound
 returns-clause-sound g c =
     let on_device : c.args.page < length c.write_back.new.table.places = search rules in
     let outside : place_of c.write_back.new.table c.args.page ≡ None = search rules in
     rw c.move_in.ensures
-    (IsSound-moved_in _ _ _ c.write_back.ensures.sound c.free_frame-frame.result c.args.page c.in-Ok-unseal.payload (search rules) (search rules)
+    (IsSound-moved_in _ _ _ c.write_back.ensures.sound c.free_frame-frame.result c.args.page c.in-Ok-unseal.payload
+    (search rules) (search rules)
     on_device outside c.in-Ok-write_back.ensures.ok (still_there g c))
 
 pub returns-clause-images : goal.returns-clause-images
@@ -47,14 +54,16 @@ returns-clause-images g c = λ is.
     let outside : place_of c.write_back.new.table c.args.page ≡ None = search rules in
     let honest = rw (← c.read.ensures.honest, ← c.write_back.ensures.honest) at is in
     rw c.move_in.ensures
-    (images-moved_in _ _ _ c.write_back.ensures.sound c.free_frame-frame.result c.args.page c.in-Ok-unseal.payload (search rules) (search rules)
+    (images-moved_in _ _ _ c.write_back.ensures.sound c.free_frame-frame.result c.args.page c.in-Ok-unseal.payload
+    (search rules) (search rules)
     on_device outside c.in-Ok-write_back.ensures.ok (still_there g c) honest
     ∙ c.write_back.ensures.images ∙ rw (c.free_frame-frame.ensures.same, c.read.ensures.same) refl)
 
 pub returns-clause-ok : goal.returns-clause-ok
 returns-clause-ok g c =
     let on_device : c.args.page < length c.write_back.new.table.places = search rules in
-    rw c.move_in.ensures (some_if_placed c.write_back.new.table c.free_frame-frame.result c.args.page c.in-Ok-unseal.payload on_device)
+    rw c.move_in.ensures
+    (some_if_placed c.write_back.new.table c.free_frame-frame.result c.args.page c.in-Ok-unseal.payload on_device)
 
 pub returns-clause-pins : goal.returns-clause-pins
 returns-clause-pins g c =
@@ -62,6 +71,8 @@ returns-clause-pins g c =
     let same = c.free_frame-frame.ensures.same in
     rw c.move_in.ensures (record {
       pins = kept.pins ∙ ap (λ t. t.pins) same;
-      places = length-places c.write_back.new.table c.free_frame-frame.result c.args.page c.in-Ok-unseal.payload ∙ ap length kept.places ∙ ap (λ t. length t.places) same;
-      frames = length-set c.write_back.new.table.pages c.free_frame-frame.result _ ∙ ap length kept.pages ∙ ap (λ t. length t.pages) same;
+      places = length-places c.write_back.new.table c.free_frame-frame.result c.args.page c.in-Ok-unseal.payload
+          ∙ ap length kept.places ∙ ap (λ t. length t.places) same;
+      frames = length-set c.write_back.new.table.pages c.free_frame-frame.result _ ∙ ap length kept.pages
+          ∙ ap (λ t. length t.pages) same;
     })

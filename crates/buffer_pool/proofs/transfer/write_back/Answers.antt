@@ -9,7 +9,9 @@ use Rattle.buffer_pool.proofs.transfer.write_back.Goals as goal
 pub returns-in-Err-clause-sound : goal.returns-in-Err-clause-sound
 returns-in-Err-clause-sound g c =
     let here = sym c.page.ensures ∙ c.in-Some.is in
-    rw c.write.ensures.honest (IsSound-failed _ _ _ c.requires.sound _ c.args.frame c.in-Some.page here c.write.ensures.others (sym c.is_changed.ensures ∙ c.if-not-is_changed.false))
+    rw c.write.ensures.honest
+    (IsSound-failed _ _ _ c.requires.sound _ c.args.frame c.in-Some.page here c.write.ensures.others
+    (sym c.is_changed.ensures ∙ c.if-not-is_changed.false))
 
 pub returns-in-Err-clause-images : goal.returns-in-Err-clause-images
 returns-in-Err-clause-images g c =

@@ -1,4 +1,4 @@
-use Rattle.std.proofs.Common.{◌≡◌, ℕ, ◌+◌, ◌≤◌, length}
+use Rattle.std.proofs.Common.{◌≡◌, ◌+◌, ◌≤◌, length}
 use Rattle.std.specs.Slice.Iter.{split_inclusive_rest}
 use Rattle.msgq_cli.specs.Lines.{lines_of}
 use Rattle.msgq_cli.specs.Scripts.{script_from, script_of}

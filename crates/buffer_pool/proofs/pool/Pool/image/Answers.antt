@@ -2,7 +2,7 @@
 use Rattle.std.proofs.Common.{◌≡◌, ◌∙◌, sym, ap, subst, ◌<◌, Some}
 use Rattle.buffer_pool.specs.Table.{place_of}
 use Rattle.buffer_pool.proofs.TableLemmas.{within_if_found}
-use Rattle.buffer_pool.proofs.PoolLemmas.{image_found}
+use Rattle.buffer_pool.proofs.ImagesLemmas.{image_found}
 use Rattle.buffer_pool.proofs.pool.Pool.image.Goals as goal
 
 pub returns : goal.returns

@@ -3,7 +3,8 @@ use Rattle.std.proofs.Common.{◌≡◌, ◌∙◌, refl, sym, ap, subst, ℕ, �
 use Rattle.buffer_pool.specs.Table.{place_of}
 use Rattle.buffer_pool.specs.Pool.{PoolState}
 use Rattle.buffer_pool.proofs.TableLemmas.{within_if_found}
-use Rattle.buffer_pool.proofs.PoolLemmas.{image_found, images-stored_in}
+use Rattle.buffer_pool.proofs.ImagesLemmas.{image_found}
+use Rattle.buffer_pool.proofs.PoolLemmas.{images-stored_in}
 use Rattle.buffer_pool.proofs.pool.Pool.image_mut.Goals as goal
 
 pub returns : goal.returns
@@ -23,9 +24,14 @@ returns g c =
       synced = g.D.PageDevice.is_synced device;
       faults = g.D.PageDevice.fault_count device;
     } in (
-      (refl, λ payload. rw (← c.self.view_is) (ap with_images (images-stored_in _ _ _ c.self.invariant frame page payload place))),
+      (
+        refl,
+        λ payload. rw (← c.self.view_is)
+            (ap with_images (images-stored_in _ _ _ c.self.invariant frame page payload place)),
+      ),
       record {
         writes_back = tt;
-        value = rw (← c.self.view_is) (image_found _ table page frame within place ∙ ap Some (sym c.payload_mut.ensures.value));
+        value = rw (← c.self.view_is)
+            (image_found _ table page frame within place ∙ ap Some (sym c.payload_mut.ensures.value));
       },
     )

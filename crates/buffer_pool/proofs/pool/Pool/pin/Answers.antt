@@ -1,7 +1,8 @@
 -- The page that was brought in stays in its frame.
 use Rattle.std.proofs.Common.{◌∙◌, sym}
 use Rattle.buffer_pool.proofs.TableLemmas.{some_place}
-use Rattle.buffer_pool.proofs.PoolLemmas.{IsSound-with_pins, images_length}
+use Rattle.buffer_pool.proofs.ImagesLemmas.{images_length}
+use Rattle.buffer_pool.proofs.PoolLemmas.{IsSound-with_pins}
 use Rattle.buffer_pool.proofs.pool.Pool.pin.Goals as goal
 
 pub invariant_of-self-2 : goal.invariant_of-self-2

@@ -9,7 +9,8 @@ invariant_of-self c =
     let kept = c.self.invariant in
     let placed = rw (← c.self.view_is) at c.requires.placed in
     let place = some_place _ placed in
-    let within = subst (λ n. c.args.page < n) (sym kept.whole.even_pins) (within_if_found _ c.args.page place.0 place.1) in
+    let within = subst (λ n. c.args.page < n) (sym kept.whole.even_pins)
+    (within_if_found _ c.args.page place.0 place.1) in
     let read = get_or_default_zero c.self.inside.pins.items c.args.page c.index-pins.result.now within in
     let none = sym read ∙ sym c.index-pins.ensures ∙ c.if-pins-eq0.true in
     let first = count_pinned-first _ kept.whole c.args.page c.index-pins.result.now within none in

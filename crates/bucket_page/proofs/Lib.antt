@@ -1,0 +1,17 @@
+pub mod ChangeLaws
+pub mod DivideLaws
+pub mod EntryLaws
+pub mod Fields
+pub mod HeadLaws
+pub mod JoinLaws
+pub mod KeyLaws
+pub mod KeyOrderLaws
+pub mod LookupLaws
+pub mod OrderLaws
+pub mod PageLaws
+pub mod ReadingLaws
+pub mod RecordLaws
+pub mod SpliceLaws
+pub mod StandingLaws
+pub mod Steps
+pub mod Zeros

@@ -1,0 +1,100 @@
+-- A page is read from its spelling, so a payload spells at most one page.
+use Rattle.std.proofs.Common.{◌≡◌, ℕ, ◌-◌, ◌^◌, ◌<◌, ◌≤◌, true, List, ◌++◌, length, take, drop, leb, ltb, None, Result, Ok, refl, sym, ap, ◌∙◌, arith}
+use Rattle.std.proofs.lemmas.Bool.{le-leb, lt-ltb}
+use Rattle.std.proofs.lemmas.List.{take_at, drop_at}
+use Rattle.std.proofs.Math.Nat.{pow-le-pow_right}
+use Rattle.bucket_page.specs.declared.layout.TheConstants.{GREATEST_DEPTH, ROOM_BYTES}
+use Rattle.bucket_page.specs.declared.page.Malformed.{Malformed}
+use Rattle.bucket_page.specs.declared.page.PageKind.{PageKind}
+use Rattle.bucket_page.specs.declared.page.PageKind.TheVariants as kinds
+use Rattle.bucket_page.specs.Numbers.{four, zeros, four_at}
+use Rattle.bucket_page.specs.Records.{record_bytes, pairs_of, fills, ascend}
+use Rattle.bucket_page.specs.Bucket.{Bucket}
+use Rattle.bucket_page.specs.Entries.{entry_bytes, entries_of}
+use Rattle.bucket_page.specs.Spelling.{head_of, bucket_bytes, directory_bytes, link_bytes, bytes_of, IsBucket, IsDirectory, IsPage, Spells}
+use Rattle.bucket_page.specs.Reading.{count_at, used_at, area, after_area, entries_area, after_entries, bucket_at, page_at, is_zero, bucket_fault, directory_fault, link_fault, fault_of, reading, answer}
+use Rattle.bucket_page.proofs.Zeros.{zeros_again, length-zeros}
+use Rattle.bucket_page.proofs.Fields.{after_part, four_again, length-four}
+use Rattle.bucket_page.proofs.HeadLaws.{head_again}
+use Rattle.bucket_page.proofs.RecordLaws.{records_again, count_below}
+use Rattle.bucket_page.proofs.EntryLaws.{entries_again, length-entries}
+
+-- a pattern of a depth in range has four bytes: all that is used of the greatest depth
+pub pattern_small : (depth pattern : ℕ) → depth ≤ GREATEST_DEPTH → pattern < 2 ^ depth → pattern < 2 ^ 32
+pattern_small depth pattern d p =
+    let shallow : depth ≤ 32 = omega (arith, d) in
+    let le : 2 ^ depth ≤ 2 ^ 32 = pow-le-pow_right (omega arith) shallow in
+    omega (arith, p, le)
+
+-- what the whole of a bucket says
+pub record IsWhole (b : Bucket) (bytes : List ℕ) : Type 0 where
+  pub count : count_at bytes ≡ length b.records
+  pub used : used_at bytes ≡ length (record_bytes b.records)
+  pub fault : bucket_fault bytes ≡ None
+  pub fills : fills (count_at bytes) (area bytes) ≡ true
+  pub value : bucket_at bytes ≡ b
+
+pub bucket_again : (b : Bucket) → IsBucket b → IsWhole b (bucket_bytes b)
+bucket_again b is =
+    let body : List ℕ = record_bytes b.records in
+    let blank : List ℕ = zeros (ROOM_BYTES - length body) in
+    let bytes : List ℕ = bucket_bytes b in
+    let few = count_below b.records in
+    let h = head_again (head_of b) (body ++ blank) (omega (arith, few, is.room)) (pattern_small b.depth b.pattern is.depth is.pattern) is.next (omega (arith, is.room)) in
+    let inside : area bytes ≡ body = rw (h.used, h.rest) (take_at body blank (length body) refl) in
+    let behind : after_area bytes ≡ blank = rw (h.used, h.rest) (drop_at body blank (length body) refl) in
+    let records = records_again b.records is.pairs in
+    let depth : leb b.depth GREATEST_DEPTH ≡ true = le-leb _ _ is.depth in
+    let pattern : ltb (four_at 4 bytes) (2 ^ b.depth) ≡ true = rw h.pattern (lt-ltb _ _ is.pattern) in
+    let room : leb (used_at bytes) ROOM_BYTES ≡ true = rw h.used (le-leb _ _ is.room) in
+    let full : fills (count_at bytes) (area bytes) ≡ true = rw (h.count, inside) records.0 in
+    let found : pairs_of (count_at bytes) (area bytes) ≡ b.records = rw (h.count, inside) records.1 in
+    let order : ascend (pairs_of (count_at bytes) (area bytes)) ≡ true = rw found is.order in
+    let padding : is_zero (after_area bytes) ≡ true = rw behind (zeros_again (ROOM_BYTES - length body)) in
+    record {
+      count = h.count;
+      used = h.used;
+      fault = rw (depth, pattern, room, full, order, h.blank, padding) refl;
+      fills = full;
+      value = λ i. record { depth = b.depth; pattern = h.pattern i; next = h.next i; records = found i };
+    }
+
+directory_again : (es : List ℕ) → IsDirectory es → (directory_fault (directory_bytes es) ≡ None) × (entries_of (entries_area (directory_bytes es)) ≡ es)
+directory_again es is =
+    let bytes : List ℕ = directory_bytes es in
+    let tail : List ℕ = entry_bytes es ++ zeros 2000 in
+    let long : length (entry_bytes es) ≡ 2048 = omega (arith, length-entries es, is.number) in
+    let rest : drop 16 bytes ≡ tail = after_part 1 15 bytes (zeros 15) tail refl (length-zeros 15) in
+    let front : is_zero (take 15 (drop 1 bytes)) ≡ true = rw (take_at (zeros 15) tail 15 (length-zeros 15)) (zeros_again 15) in
+    let inside : entries_area bytes ≡ entry_bytes es = ap (take 2048) rest ∙ take_at (entry_bytes es) (zeros 2000) 2048 long in
+    let behind : after_entries bytes ≡ zeros 2000 = ap (drop 2048) rest ∙ drop_at (entry_bytes es) (zeros 2000) 2048 long in
+    let back : is_zero (after_entries bytes) ≡ true = rw behind (zeros_again 2000) in
+    (rw (front, back) refl, ap entries_of inside ∙ entries_again es is.number is.entries)
+
+link_again : (kind page : ℕ) → page < 2 ^ 32 → (link_fault (link_bytes kind page) ≡ None) × (four_at 4 (link_bytes kind page) ≡ page)
+link_again kind page small =
+    let bytes : List ℕ = link_bytes kind page in
+    let tail : List ℕ = four page ++ zeros 4056 in
+    let at4 : drop 4 bytes ≡ tail = after_part 1 3 bytes (zeros 3) tail refl (length-zeros 3) in
+    let at8 : drop 8 bytes ≡ zeros 4056 = after_part 4 4 bytes (four page) (zeros 4056) at4 (length-four page) in
+    let front : is_zero (take 3 (drop 1 bytes)) ≡ true = rw (take_at (zeros 3) tail 3 (length-zeros 3)) (zeros_again 3) in
+    let back : is_zero (drop 8 bytes) ≡ true = rw at8 (zeros_again 4056) in
+    (rw (front, back) refl, four_again 4 page bytes (zeros 4056) at4 small)
+
+page_again : (page : PageKind) → IsPage page → (fault_of (bytes_of page) ≡ None) × (page_at (bytes_of page) ≡ page)
+page_again (kinds.Bucket b) is = let it = bucket_again b is in (it.fault, ap kinds.Bucket it.value)
+page_again (kinds.Directory es) is = let it = directory_again es is in (it.0, ap kinds.Directory it.1)
+page_again (kinds.Tombstone link) is = let it = link_again 4 link is in (it.0, ap kinds.Tombstone it.1)
+page_again (kinds.Free next) is = let it = link_again 5 next is in (it.0, ap kinds.Free it.1)
+
+-- what a payload spells is read from it
+pub spelled_reads : (page : PageKind) (payload : List ℕ) → Spells page payload → reading payload ≡ Ok page
+spelled_reads page payload it =
+    let again = page_again page it.in_range in
+    ap reading it.spelled ∙ (λ i. answer (again.0 i) (again.1 i))
+
+-- a payload spells at most one page
+pub spelled_once : (a b : PageKind) (payload : List ℕ) → Spells a payload → Spells b payload → a ≡ b
+spelled_once a b payload one other =
+    let same : ◌≡◌ {A = Result PageKind Malformed} (Ok a) (Ok b) = sym (spelled_reads a payload one) ∙ spelled_reads b payload other in
+    cc

@@ -1,0 +1,72 @@
+-- Changes of a bucket's records: those of a set of pairs that is listed in the order of its keys.
+use Rattle.std.specs.Prelude.{◌≡◌, ℕ, ◌+◌, ◌-◌, true, List, [], ◌∷◌, ◌++◌, length, take, drop, if◌then◌else◌}
+use Rattle.bucket_page.specs.declared.record_key.RecordKey.{RecordKey}
+use Rattle.bucket_page.specs.declared.page.PageKind.TheVariants as kinds
+use Rattle.bucket_page.specs.Numbers.{zeros}
+use Rattle.bucket_page.specs.Keys.{is_same, is_below}
+use Rattle.bucket_page.specs.Records.{Pair, record_bytes, ascend}
+use Rattle.bucket_page.specs.Bucket.{Bucket}
+use Rattle.bucket_page.specs.Spelling.{Spells}
+use Rattle.bucket_page.specs.Reading.{bucket_at, entries_at, records_at}
+
+abbrev pub pair : RecordKey → List ℕ → Pair
+pair key value = record { key = key; value = value }
+
+-- a pair is put before the first greater key
+abbrev pub inserted : Pair → List Pair → List Pair
+inserted p [] = p ∷ []
+inserted p (q ∷ qs) = if is_below q.key p.key then q ∷ inserted p qs else p ∷ q ∷ qs
+
+-- the pair of a key is replaced by this one
+abbrev pub replaced : Pair → List Pair → List Pair
+replaced p [] = []
+replaced p (q ∷ qs) = if is_same q.key p.key then p ∷ qs else q ∷ replaced p qs
+
+-- the pair of a key is gone
+abbrev pub removed : RecordKey → List Pair → List Pair
+removed key [] = []
+removed key (q ∷ qs) = if is_same q.key key then qs else q ∷ removed key qs
+
+-- ---- payloads
+
+abbrev pub SpellsBucket : Bucket → List ℕ → Type 0
+SpellsBucket b payload = Spells (kinds.Bucket b) payload
+
+-- the payload is a bucket's
+abbrev pub IsBucketPage : List ℕ → Type 0
+IsBucketPage payload = SpellsBucket (bucket_at payload) payload
+
+-- the payload is a directory page's
+abbrev pub IsDirectoryPage : List ℕ → Type 0
+IsDirectoryPage payload = Spells (kinds.Directory (entries_at payload)) payload
+
+-- the bucket's records became what the change makes of them, and its other numbers stayed
+abbrev pub ChangesRecords : (List Pair → List Pair) → List ℕ → List ℕ → Type 0
+ChangesRecords change old new =
+    SpellsBucket (record (bucket_at old) { records = change (records_at old) }) new
+
+-- ---- what the code does on the way
+
+-- a pair is put behind all others
+abbrev pub Appends : Pair → List ℕ → List ℕ → Type 0
+Appends p old new = ChangesRecords (λ ps. ps ++ p ∷ []) old new
+
+-- the records below a key
+abbrev pub below : RecordKey → List Pair → List Pair
+below key [] = []
+below key (q ∷ qs) = if is_below q.key key then q ∷ below key qs else []
+
+-- a pair is put behind so many bytes of records, where it keeps the order
+abbrev pub InsertsAt : ℕ → Pair → List ℕ → List ℕ → Type 0
+InsertsAt at p old new =
+    (lower upper : List Pair) → records_at old ≡ lower ++ upper → at ≡ length (record_bytes lower)
+    → ascend (lower ++ p ∷ upper) ≡ true → ChangesRecords (λ _. lower ++ p ∷ upper) old new
+
+-- new bytes stand at a place, in the room behind the used ones
+abbrev pub inserted_at : List ℕ → ℕ → ℕ → List ℕ → List ℕ
+inserted_at bytes used at new = take at bytes ++ (new ++ (drop at (take used bytes) ++ drop (used + length new) bytes))
+
+-- so many bytes at a place are gone, with as many zeros behind the other used ones
+abbrev pub taken_out : List ℕ → ℕ → ℕ → ℕ → List ℕ
+taken_out bytes used at count =
+    take at bytes ++ ((drop count (take (used - at) (drop at bytes)) ++ zeros count) ++ drop (used - at) (drop at bytes))

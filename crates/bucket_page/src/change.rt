@@ -1,0 +1,153 @@
+//! Changes of a bucket in its payload.
+
+ghost use Rattle.std.specs.Prelude.{[], ◌∷◌, ◌++◌, true, ◌≡◌, ◌↔◌, ◌+◌, ◌<◌, ◌≤◌, IsErr, IsSome, OnErr, OnOk, Some, None, length};
+ghost use Rattle.std.specs.Option.{option_map};
+ghost use Rattle.bucket_page.specs.Records.{ascend, lookup, record_bytes};
+ghost use Rattle.bucket_page.specs.Reading.{records_at, used_at};
+ghost use Rattle.bucket_page.specs.Changes.{Appends, ChangesRecords, InsertsAt, IsBucketPage, below, inserted, pair, removed, replaced};
+
+use crate::field::{set_bytes, two_at};
+use crate::head::Head;
+use crate::layout::{HEAD_BYTES, RECORD_HEAD_BYTES, ROOM_BYTES};
+use crate::record_key::RecordKey;
+use crate::records::Records;
+use crate::splice::{insert, take_out};
+use page_device::{PAYLOAD_BYTES, Payload};
+use thiserror::Error;
+
+/// A record has more bytes than its bucket has room. The bucket is as it was.
+#[derive(Clone, Copy, Debug, PartialEq, Eq, Error)]
+#[error("the record does not fit its bucket")]
+pub struct DoesNotFit;
+
+/// Puts a record into a bucket that has none of its key, in its place by the order of keys.
+#[tactic(auto, using(crate::proofs::ChangeLaws::opened))]
+pub fn put(payload: &mut Payload, key: &RecordKey, value: &[u8]) -> Result<(), DoesNotFit>
+    requires bucket { IsBucketPage payload.old }
+    requires absent { lookup key.now (records_at payload.old) ≡ None }
+    ensures ok { OnOk result (ChangesRecords (inserted (pair key.now value.now)) payload.old payload.new) }
+    ensures full { IsErr result ↔ ROOM_BYTES
+        < length (record_bytes (records_at payload.old)) + (RECORD_HEAD_BYTES + length value.now) }
+    ensures err { OnErr result (payload.new ≡ payload.old) }
+{
+    let used = two_at(payload, 12) as usize;
+    if value.len() > ROOM_BYTES {
+        return Err(DoesNotFit);
+    }
+    if used + (RECORD_HEAD_BYTES + value.len()) > ROOM_BYTES {
+        return Err(DoesNotFit);
+    }
+    put_fitting(payload, key, value);
+    Ok(())
+}
+
+/// Puts a record that fits.
+pub(crate) fn put_fitting(payload: &mut Payload, key: &RecordKey, value: &[u8])
+    requires bucket { IsBucketPage payload.old }
+    requires absent { lookup key.now (records_at payload.old) ≡ None }
+    requires room { used_at payload.old + (RECORD_HEAD_BYTES + length value.now) ≤ ROOM_BYTES }
+    ensures { ChangesRecords (inserted (pair key.now value.now)) payload.old payload.new }
+{
+    let at = place(payload, key);
+    insert_record(payload, at, key, value);
+}
+
+/// Puts a record that fits behind all others, where it keeps the order.
+pub(crate) fn append(payload: &mut Payload, key: &RecordKey, value: &[u8])
+    requires bucket { IsBucketPage payload.old }
+    requires order { ascend (records_at payload.old ++ pair key.now value.now ∷ []) ≡ true }
+    requires room { used_at payload.old + (RECORD_HEAD_BYTES + length value.now) ≤ ROOM_BYTES }
+    ensures { Appends (pair key.now value.now) payload.old payload.new }
+{
+    let used = two_at(payload, 12) as usize;
+    insert_record(payload, used, key, value);
+}
+
+/// Replaces the value of a key that the bucket has by one of the same length.
+pub fn replace(payload: &mut Payload, key: &RecordKey, value: &[u8])
+    requires bucket { IsBucketPage payload.old }
+    requires there { option_map length (lookup key.now (records_at payload.old)) ≡ Some (length value.now) }
+    ensures ok { ChangesRecords (replaced (pair key.now value.now)) payload.old payload.new }
+{
+    let at = place(payload, key);
+    let (_, body) = payload.split_at_mut(HEAD_BYTES);
+    set_bytes(body, at + RECORD_HEAD_BYTES, value);
+}
+
+/// Takes the record of a key that the bucket has.
+pub fn remove(payload: &mut Payload, key: &RecordKey)
+    requires bucket { IsBucketPage payload.old }
+    requires there { IsSome (lookup key.now (records_at payload.old)) }
+    ensures ok { ChangesRecords (removed key.now) payload.old payload.new }
+{
+    let at = place(payload, key);
+    let head = Head::read(payload);
+    let used = head.used as usize;
+    let (front, body) = payload.split_at_mut(HEAD_BYTES);
+    let len = RECORD_HEAD_BYTES + two_at(body, at) as usize;
+    take_out(body, used, at, len);
+    let shrunk = Head {
+        count: head.count - 1,
+        used: (used - len) as u16,
+        ..head
+    };
+    shrunk.write(front);
+}
+
+/// Puts a record at a place among the bytes of records.
+#[tactic(auto, using(crate::proofs::ChangeLaws::opened))]
+fn insert_record(payload: &mut Payload, at: usize, key: &RecordKey, value: &[u8])
+    requires bucket { IsBucketPage payload.old }
+    requires at { at ≤ used_at payload.old }
+    requires room { used_at payload.old + (RECORD_HEAD_BYTES + length value.now) ≤ ROOM_BYTES }
+    ensures { InsertsAt at (pair key.now value.now) payload.old payload.new }
+{
+    key.is_in_range();
+    let head = Head::read(payload);
+    let used = head.used as usize;
+    let (front, body) = payload.split_at_mut(HEAD_BYTES);
+    insert(body, used, at, key, value);
+    let grown = Head {
+        count: head.count + 1,
+        used: (used + (RECORD_HEAD_BYTES + value.len())) as u16,
+        ..head
+    };
+    grown.write(front);
+}
+
+/// Where a key's record stands or would stand, in bytes behind the head.
+#[tactic(auto, using(crate::proofs::ChangeLaws::opened))]
+fn place(bytes: &[u8], key: &RecordKey) -> usize
+    requires long { length bytes.now ≡ PAYLOAD_BYTES }
+    requires bucket { IsBucketPage bytes.now }
+    ensures { result ≡ length (record_bytes (below key.now (records_at bytes.now))) }
+{
+    bytes_below(&records_of(bytes), key)
+}
+
+/// The records of a bucket's payload.
+#[tactic(auto, using(crate::proofs::ChangeLaws::opened))]
+pub(crate) fn records_of(bytes: &[u8]) -> Records
+    requires long { length bytes.now ≡ PAYLOAD_BYTES }
+    requires bucket { IsBucketPage bytes.now }
+    ensures { result ≡ records_at bytes.now }
+{
+    let (_, body) = bytes.split_at(HEAD_BYTES);
+    let (area, _) = body.split_at(two_at(bytes, 12) as usize);
+    Records::known(two_at(bytes, 2), area)
+}
+
+/// The bytes of the records below a key.
+fn bytes_below(records: &Records, key: &RecordKey) -> usize
+    requires { length (record_bytes records.now) ≤ ROOM_BYTES }
+    ensures { result ≡ length (record_bytes (below key.now records.now)) }
+{
+    let mut at = 0;
+    for record in records.again() {
+        if !record.key.is_below(key) {
+            return at;
+        }
+        at += RECORD_HEAD_BYTES + record.value.len();
+    }
+    at
+}

@@ -1,0 +1,71 @@
+//! Numbers in slices of bytes, the highest byte first.
+
+ghost use Rattle.std.specs.Prelude.{◌≡◌, ◌+◌, ◌≤◌, length};
+ghost use Rattle.bucket_page.specs.Numbers.{two, four, eight, two_at, four_at, eight_at, zeros, overwritten};
+
+use byteorder::{BigEndian, ByteOrder};
+
+/// The number in the two bytes from `at` on.
+#[tactic(auto, unfolding(crate::specs::Numbers::two_at))]
+pub fn two_at(bytes: &[u8], at: usize) -> u16
+    requires { at + 2 ≤ length bytes.now }
+    ensures { result ≡ two_at at bytes.now }
+{
+    BigEndian::read_u16(&bytes[at..])
+}
+
+/// The number in the four bytes from `at` on.
+#[tactic(auto, unfolding(crate::specs::Numbers::four_at))]
+pub fn four_at(bytes: &[u8], at: usize) -> u32
+    requires { at + 4 ≤ length bytes.now }
+    ensures { result ≡ four_at at bytes.now }
+{
+    BigEndian::read_u32(&bytes[at..])
+}
+
+/// The number in the eight bytes from `at` on.
+#[tactic(auto, unfolding(crate::specs::Numbers::eight_at))]
+pub fn eight_at(bytes: &[u8], at: usize) -> u64
+    requires { at + 8 ≤ length bytes.now }
+    ensures { result ≡ eight_at at bytes.now }
+{
+    BigEndian::read_u64(&bytes[at..])
+}
+
+/// Writes these bytes from `at` on.
+pub fn set_bytes(bytes: &mut [u8], at: usize, new: &[u8])
+    requires { at + length new.now ≤ length bytes.old }
+    ensures { bytes.new ≡ overwritten bytes.old at new.now }
+{
+    bytes[at..at + new.len()].copy_from_slice(new);
+}
+
+/// Writes a number into the two bytes from `at` on.
+#[tactic(auto, unfolding(crate::specs::Numbers::two))]
+pub fn set_two(bytes: &mut [u8], at: usize, number: u16)
+    requires { at + 2 ≤ length bytes.old }
+    ensures { bytes.new ≡ overwritten bytes.old at (two number) }
+{
+    let mut new = [0; 2];
+    BigEndian::write_u16(&mut new, number);
+    set_bytes(bytes, at, &new);
+}
+
+/// Writes a number into the four bytes from `at` on.
+#[tactic(auto, unfolding(crate::specs::Numbers::four))]
+pub fn set_four(bytes: &mut [u8], at: usize, number: u32)
+    requires { at + 4 ≤ length bytes.old }
+    ensures { bytes.new ≡ overwritten bytes.old at (four number) }
+{
+    let mut new = [0; 4];
+    BigEndian::write_u32(&mut new, number);
+    set_bytes(bytes, at, &new);
+}
+
+/// Fills with zeros.
+#[tactic(auto, unfolding(crate::specs::Numbers::zeros))]
+pub fn blank(bytes: &mut [u8])
+    ensures { bytes.new ≡ zeros (length bytes.old) }
+{
+    bytes.fill(0);
+}

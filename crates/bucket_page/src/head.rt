@@ -1,0 +1,57 @@
+//! The head of a bucket: the sixteen bytes before its records.
+
+ghost use Rattle.std.specs.Prelude.{◌≡◌, ◌≤◌, length};
+ghost use Rattle.bucket_page.specs.Reading.{head_at};
+ghost use Rattle.bucket_page.specs.Spelling.{head_bytes};
+
+use crate::field::{blank, four_at, two_at};
+use crate::layout::{BUCKET, HEAD_BYTES};
+use byteorder::{BigEndian, ByteOrder};
+
+/// The numbers at the head of a bucket.
+#[derive(Clone, Copy, Debug)]
+pub struct Head {
+    pub depth: u8,
+    /// How many records there are.
+    pub count: u16,
+    pub pattern: u32,
+    pub next: u32,
+    /// The bytes of the records.
+    pub used: u16,
+}
+
+impl Head {
+    /// The head that the bytes begin with.
+    pub fn read(bytes: &[u8]) -> Head
+        requires { HEAD_BYTES ≤ length bytes.now }
+        ensures { result ≡ head_at bytes.now }
+    {
+        Head {
+            depth: bytes[1],
+            count: two_at(bytes, 2),
+            pattern: four_at(bytes, 4),
+            next: four_at(bytes, 8),
+            used: two_at(bytes, 12),
+        }
+    }
+
+    /// Writes this head.
+    #[tactic(auto, unfolding(crate::specs::Numbers::two, crate::specs::Numbers::four))]
+    pub fn write(self, bytes: &mut [u8])
+        requires { length bytes.old ≡ HEAD_BYTES }
+        ensures { bytes.new ≡ head_bytes self }
+    {
+        let (first, others) = bytes.split_at_mut(2);
+        let (count, others) = others.split_at_mut(2);
+        let (pattern, others) = others.split_at_mut(4);
+        let (next, others) = others.split_at_mut(4);
+        let (used, last) = others.split_at_mut(2);
+        first[0] = BUCKET;
+        first[1] = self.depth;
+        BigEndian::write_u16(count, self.count);
+        BigEndian::write_u32(pattern, self.pattern);
+        BigEndian::write_u32(next, self.next);
+        BigEndian::write_u16(used, self.used);
+        blank(last);
+    }
+}

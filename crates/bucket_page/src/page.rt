@@ -1,0 +1,157 @@
+//! Which page a payload spells.
+
+ghost use Rattle.std.specs.Prelude.{◌≡◌, IfOk, Ok, drop, length, take};
+ghost use Rattle.page_device.specs.declared.page.TheConstants.{PAYLOAD_BYTES};
+ghost use Rattle.bucket_page.specs.Numbers.{four_at};
+ghost use Rattle.bucket_page.specs.Reading.{answer, bucket_at, bucket_fault, directory_fault, entries_at, is_zero, link_fault, reading};
+ghost use Rattle.bucket_page.specs.Spelling.{Spells};
+
+use crate::field::{four_at, two_at};
+use crate::layout::{
+    BUCKET, DIRECTORY, ENTRIES_BYTES, FREE, GREATEST_DEPTH, HEAD_BYTES, ROOM_BYTES, TOMBSTONE,
+};
+use crate::records::Records;
+use crate::view::{BucketView, DirectoryView};
+use page_device::{PAYLOAD_BYTES, Payload};
+use thiserror::Error;
+
+/// The first test that a payload fails.
+#[derive(Clone, Copy, Debug, PartialEq, Eq, Error)]
+pub enum Malformed {
+    /// The first byte is that of no bucket, directory page, tombstone or free page.
+    #[error("not a kind of page")]
+    Kind,
+    /// The local depth is above the greatest.
+    #[error("the local depth is too great")]
+    Depth,
+    /// The pattern has a bit beyond the local depth.
+    #[error("the pattern has too many bits")]
+    Pattern,
+    /// The records don't fill their bytes just so, or those don't fit the page.
+    #[error("the records don't fill their bytes")]
+    Lengths,
+    /// The keys don't ascend strictly.
+    #[error("the keys don't ascend")]
+    Order,
+    /// A byte that no field names isn't zero.
+    #[error("a byte that no field names is not zero")]
+    Padding,
+}
+
+/// A page that isn't the header.
+#[derive(Debug, Drop)]
+pub enum PageKind<'a> {
+    /// A bucket of records.
+    Bucket(BucketView<'a>),
+    /// A page of the directory.
+    Directory(DirectoryView<'a>),
+    /// A bucket that was merged into the one on the page that it names.
+    Tombstone { link: u32 },
+    /// A free page, and the next one on the list of free pages, 0 for the last.
+    Free { next: u32 },
+}
+
+/// The page that a payload spells. The payload is accepted exactly where it is the one spelling of a page.
+pub fn read_page(payload: &Payload) -> Result<PageKind<'_>, Malformed>
+    // The first test that fails names the refusal.
+    ensures value { result ≡ reading payload.now }
+    // What is read is spelled so, and what is spelled so is read.
+    ensures ok { IfOk result (λ page. Spells page payload.now) }
+    ensures only { (page : PageKind) → Spells page payload.now → result ≡ Ok page }
+{
+    read(payload)
+}
+
+fn read(bytes: &[u8]) -> Result<PageKind, Malformed>
+    requires { length bytes.now ≡ PAYLOAD_BYTES }
+    ensures { result ≡ reading bytes.now }
+{
+    match bytes[0] {
+        BUCKET => match read_bucket(bytes) {
+            Ok(bucket) => Ok(PageKind::Bucket(bucket)),
+            Err(fault) => Err(fault),
+        },
+        DIRECTORY => match read_directory(bytes) {
+            Ok(directory) => Ok(PageKind::Directory(directory)),
+            Err(fault) => Err(fault),
+        },
+        TOMBSTONE => match read_link(bytes) {
+            Ok(link) => Ok(PageKind::Tombstone { link }),
+            Err(fault) => Err(fault),
+        },
+        FREE => match read_link(bytes) {
+            Ok(next) => Ok(PageKind::Free { next }),
+            Err(fault) => Err(fault),
+        },
+        _ => Err(Malformed::Kind),
+    }
+}
+
+fn read_bucket(bytes: &[u8]) -> Result<BucketView, Malformed>
+    requires { length bytes.now ≡ PAYLOAD_BYTES }
+    ensures { result ≡ answer (bucket_fault bytes.now) (bucket_at bytes.now) }
+{
+    let depth = bytes[1];
+    if depth > GREATEST_DEPTH {
+        return Err(Malformed::Depth);
+    }
+    let pattern = four_at(bytes, 4);
+    if pattern >= 1 << depth {
+        return Err(Malformed::Pattern);
+    }
+    let used = two_at(bytes, 12) as usize;
+    if used > ROOM_BYTES {
+        return Err(Malformed::Lengths);
+    }
+    let (area, after) = bytes[HEAD_BYTES..].split_at(used);
+    let Some(records) = Records::of(two_at(bytes, 2), area) else {
+        return Err(Malformed::Lengths);
+    };
+    if !records.ascend() {
+        return Err(Malformed::Order);
+    }
+    if !is_zero(&bytes[14..HEAD_BYTES]) || !is_zero(after) {
+        return Err(Malformed::Padding);
+    }
+    Ok(BucketView {
+        depth,
+        pattern,
+        next: four_at(bytes, 8),
+        records,
+    })
+}
+
+fn read_directory(bytes: &[u8]) -> Result<DirectoryView, Malformed>
+    requires { length bytes.now ≡ PAYLOAD_BYTES }
+    ensures { result ≡ answer (directory_fault bytes.now) (entries_at bytes.now) }
+{
+    let (entries, after) = bytes[HEAD_BYTES..].split_at(ENTRIES_BYTES);
+    if !is_zero(&bytes[1..HEAD_BYTES]) {
+        return Err(Malformed::Padding);
+    }
+    if !is_zero(after) {
+        return Err(Malformed::Padding);
+    }
+    Ok(DirectoryView { entries })
+}
+
+/// The page that a tombstone or a free page names.
+fn read_link(bytes: &[u8]) -> Result<u32, Malformed>
+    requires { length bytes.now ≡ PAYLOAD_BYTES }
+    ensures { result ≡ answer (link_fault bytes.now) (four_at 4 bytes.now) }
+{
+    if !is_zero(&bytes[1..4]) {
+        return Err(Malformed::Padding);
+    }
+    if !is_zero(&bytes[8..]) {
+        return Err(Malformed::Padding);
+    }
+    Ok(four_at(bytes, 4))
+}
+
+/// Whether all bytes are zero.
+fn is_zero(bytes: &[u8]) -> bool
+    ensures { result ≡ is_zero bytes.now }
+{
+    bytes.iter().all(|byte| *byte == 0)
+}

@@ -1,0 +1,181 @@
+//! Records one after the other, lent by the bytes that hold them.
+
+ghost use Rattle.std.specs.Prelude.{◌≡◌, true, false, length, ◌<◌, ◌+◌, ◌≤◌, IfSome, IfNone, Some, None};
+ghost use Rattle.bucket_page.specs.Keys.{is_below};
+ghost use Rattle.bucket_page.specs.Records.{Pair, pair_at, after_pair, pairs_of, begins, fills, record_bytes, lookup, ascend, is_above};
+ghost use Rattle.bucket_page.specs.Numbers.{two_at};
+
+use crate::field::two_at;
+use crate::layout::RECORD_HEAD_BYTES;
+use crate::record_key::{RecordKey, key_at};
+use std::marker::Model;
+
+/// A record: its key, and its value as the page holds it.
+#[derive(Clone, Copy, Debug)]
+pub struct Record<'a> {
+    pub key: RecordKey,
+    pub value: &'a [u8],
+}
+
+/// The records of a bucket, from the lowest key on.
+#[derive(Debug, Drop)]
+pub struct Records<'a> {
+    count: u16,
+    bytes: &'a [u8],
+}
+
+impl<'a> Model for Records<'a> {
+    ghost use Rattle.std.specs.Prelude.{◌≡◌, List, true};
+    ghost use Rattle.bucket_page.specs.Records.{Pair, pairs_of, fills};
+
+    ghost Value = { List Pair };
+
+    ghost view = { λ r. pairs_of r.count r.bytes.now };
+
+    ghost invariant = { λ r. fills r.count r.bytes.now ≡ true };
+}
+
+impl<'a> Iterator for Records<'a> {
+    type Item = Record<'a>;
+
+    ghost use Rattle.std.specs.Iterator.{YieldsFirstBy, item_count};
+    ghost use Rattle.bucket_page.specs.Records.{Pair};
+
+    ghost next_gives = { YieldsFirstBy (λ r. record { key = r.key; value = r.value.now }) (λ s. s) };
+
+    ghost remaining = { item_count (λ s. s) };
+
+    #[tactic(auto, using(crate::proofs::Steps::fills_rest, crate::proofs::Steps::pairs_first))]
+    fn next(&mut self) -> Option<Record<'a>> {
+        if self.count == 0 {
+            return None;
+        }
+        let (first, after) = split_record(self.bytes);
+        self.count -= 1;
+        self.bytes = after;
+        Some(first)
+    }
+}
+
+impl<'a> Records<'a> {
+    /// So many records, where they fill the bytes.
+    pub fn of(count: u16, bytes: &'a [u8]) -> Option<Records<'a>>
+        ensures some { IfSome result (λ records. (records ≡ pairs_of count bytes.now) × (fills count bytes.now ≡ true)) }
+        ensures none { IfNone result (fills count bytes.now ≡ false) }
+    {
+        if !fill(count, bytes) {
+            return None;
+        }
+        Some(Records { count, bytes })
+    }
+
+    /// So many records, which are known to fill the bytes.
+    pub fn known(count: u16, bytes: &'a [u8]) -> Records<'a>
+        requires { fills count bytes.now ≡ true }
+        ensures { result ≡ pairs_of count bytes.now }
+    {
+        Records { count, bytes }
+    }
+
+    /// The same records, once more from the lowest key on.
+    pub fn again(&self) -> Records<'a>
+        ensures { result ≡ self.now }
+    {
+        Records {
+            count: self.count,
+            bytes: self.bytes,
+        }
+    }
+
+    /// The bytes that they take.
+    #[tactic(auto, using(crate::proofs::Steps::length_records))]
+    pub fn used(&self) -> usize
+        ensures { result ≡ length (record_bytes self.now) }
+    {
+        self.bytes.len()
+    }
+
+    /// The value of a key. Nothing is read behind the first greater key.
+    pub fn value_of(&self, key: &RecordKey) -> Option<&'a [u8]>
+        requires { ascend self.now ≡ true }
+        ensures some { IfSome result (λ value. lookup key.now self.now ≡ Some value.now) }
+        ensures none { IfNone result (lookup key.now self.now ≡ None) }
+    {
+        for record in self.again() {
+            if record.key == *key {
+                return Some(record.value);
+            }
+            if key.is_below(&record.key) {
+                return None;
+            }
+        }
+        None
+    }
+
+    /// Whether each key stands above the one before it.
+    pub fn ascend(&self) -> bool
+        ensures { result ≡ ascend self.now }
+    {
+        let mut low: Option<RecordKey> = None;
+        for record in self.again() {
+            if !is_above(&low, &record.key) {
+                return false;
+            }
+            low = Some(record.key);
+        }
+        true
+    }
+}
+
+/// Whether a key stands above the one before it, where there is one.
+fn is_above(low: &Option<RecordKey>, key: &RecordKey) -> bool
+    ensures { result ≡ is_above low.now key.now }
+{
+    match low {
+        None => true,
+        Some(low) => low.is_below(key),
+    }
+}
+
+/// Whether a record lies whole within the bytes.
+fn begins(bytes: &[u8]) -> bool
+    ensures { result ≡ begins bytes.now }
+{
+    bytes.len() >= RECORD_HEAD_BYTES
+        && two_at(bytes, 0) as usize <= bytes[RECORD_HEAD_BYTES..].len()
+}
+
+/// The record that stands first, and the bytes after it.
+fn split_record(bytes: &[u8]) -> (Record, &[u8])
+    requires { begins bytes.now ≡ true }
+    ensures key { result.0.key ≡ (pair_at bytes.now).key }
+    ensures value { result.0.value.now ≡ (pair_at bytes.now).value }
+    ensures after { result.1.now ≡ after_pair bytes.now }
+{
+    let len = two_at(bytes, 0) as usize;
+    let (_, rest) = bytes.split_at(RECORD_HEAD_BYTES);
+    let (value, after) = rest.split_at(len);
+    (
+        Record {
+            key: key_at(&bytes[2..]),
+            value,
+        },
+        after,
+    )
+}
+
+/// Whether so many records fill the bytes.
+#[tactic(auto, using(crate::proofs::Steps::fills_more, crate::proofs::Steps::fills_none))]
+fn fill(count: u16, bytes: &[u8]) -> bool
+    ensures { result ≡ fills count bytes.now }
+{
+    let mut rest = bytes;
+    for _ in 0..count {
+        if !begins(rest) {
+            return false;
+        }
+        let (_, after) = split_record(rest);
+        rest = after;
+    }
+    rest.is_empty()
+}

@@ -1,0 +1,71 @@
+//! Edits of the bytes of records, which stand at the front of a slice with room behind them.
+
+ghost use Rattle.std.specs.Prelude.{◌≡◌, ◌+◌, ◌-◌, ◌≤◌, ◌++◌, drop, length, take};
+ghost use Rattle.bucket_page.specs.Numbers.{zeros};
+ghost use Rattle.bucket_page.specs.Records.{pair_bytes};
+ghost use Rattle.bucket_page.specs.Changes.{inserted_at, pair, taken_out};
+
+use crate::field::blank;
+use crate::layout::{RECORD_HEAD_BYTES, ROOM_BYTES};
+use crate::record_key::{KEY_BYTES, RecordKey, write_key};
+use byteorder::{BigEndian, ByteOrder};
+
+/// Puts a record among the used bytes.
+pub fn insert(bytes: &mut [u8], used: usize, at: usize, key: &RecordKey, value: &[u8])
+    requires at { at ≤ used }
+    requires room { used + (RECORD_HEAD_BYTES + length value.now) ≤ length bytes.old }
+    requires short { length value.now ≤ ROOM_BYTES }
+    ensures { bytes.new ≡ inserted_at bytes.old used at (pair_bytes (pair key.now value.now)) }
+{
+    let (_, back) = bytes.split_at_mut(at);
+    let (region, _) = back.split_at_mut(used + (RECORD_HEAD_BYTES + value.len()) - at);
+    put_first(region, key, value);
+}
+
+/// Takes bytes out of the used ones, with as many zeros behind the others.
+pub fn take_out(bytes: &mut [u8], used: usize, at: usize, count: usize)
+    requires at { at + count ≤ used }
+    requires room { used ≤ length bytes.old }
+    ensures { bytes.new ≡ taken_out bytes.old used at count }
+{
+    let (_, back) = bytes.split_at_mut(at);
+    let (region, _) = back.split_at_mut(used - at);
+    drop_first(region, count);
+}
+
+/// Puts a record at the front, over what stood at the end.
+fn put_first(region: &mut [u8], key: &RecordKey, value: &[u8])
+    requires room { RECORD_HEAD_BYTES + length value.now ≤ length region.old }
+    requires short { length value.now ≤ ROOM_BYTES }
+    ensures { region.new ≡ pair_bytes (pair key.now value.now)
+        ++ take (length region.old - (RECORD_HEAD_BYTES + length value.now)) region.old }
+{
+    let kept = region.len() - (RECORD_HEAD_BYTES + value.len());
+    let (_, place) = region.split_at_mut(kept);
+    write_record(place, key, value);
+    region.rotate_right(RECORD_HEAD_BYTES + value.len());
+}
+
+/// Writes a record over a slice of its length.
+#[tactic(auto, unfolding(crate::specs::Numbers::two))]
+fn write_record(bytes: &mut [u8], key: &RecordKey, value: &[u8])
+    requires room { length bytes.old ≡ RECORD_HEAD_BYTES + length value.now }
+    requires short { length value.now ≤ ROOM_BYTES }
+    ensures { bytes.new ≡ pair_bytes (pair key.now value.now) }
+{
+    let (len, others) = bytes.split_at_mut(2);
+    let (name, rest) = others.split_at_mut(KEY_BYTES);
+    BigEndian::write_u16(len, value.len() as u16);
+    write_key(name, key);
+    rest.copy_from_slice(value);
+}
+
+/// Lets the first bytes go, with as many zeros at the end.
+fn drop_first(region: &mut [u8], count: usize)
+    requires { count ≤ length region.old }
+    ensures { region.new ≡ drop count region.old ++ zeros count }
+{
+    region.rotate_left(count);
+    let (_, last) = region.split_at_mut(region.len() - count);
+    blank(last);
+}

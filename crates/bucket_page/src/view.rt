@@ -1,0 +1,105 @@
+//! Buckets and directory pages, lent by the payload that spells them.
+
+ghost use Rattle.std.specs.Prelude.{◌≡◌, ◌<◌, length, slice_index, IfSome, IfNone, Some, None};
+ghost use Rattle.bucket_page.specs.Records.{record_bytes, lookup};
+
+use crate::field::four_at;
+use crate::layout::PAGE_ENTRIES;
+use crate::record_key::RecordKey;
+use crate::records::Records;
+use std::marker::Model;
+
+/// A bucket.
+#[derive(Debug, Drop)]
+pub struct BucketView<'a> {
+    pub(crate) depth: u8,
+    pub(crate) pattern: u32,
+    pub(crate) next: u32,
+    pub(crate) records: Records<'a>,
+}
+
+impl<'a> Model for BucketView<'a> {
+    ghost use Rattle.std.specs.Prelude.{◌≡◌, true};
+    ghost use Rattle.bucket_page.specs.Bucket.{Bucket};
+    ghost use Rattle.bucket_page.specs.Records.{ascend};
+
+    ghost Value = { Bucket };
+
+    ghost view = { λ b. record { depth = b.depth; pattern = b.pattern; next = b.next; records = b.records } };
+
+    ghost invariant = { λ b. ascend b.records ≡ true };
+}
+
+impl<'a> BucketView<'a> {
+    /// The local depth: how many low bits of their pseudokeys its records have in common.
+    pub fn depth(&self) -> u8
+        ensures { result ≡ self.now.depth }
+    {
+        self.depth
+    }
+
+    /// The low bits of its records' pseudokeys.
+    pub fn pattern(&self) -> u32
+        ensures { result ≡ self.now.pattern }
+    {
+        self.pattern
+    }
+
+    /// The next bucket's page on the chain, 0 for the last.
+    pub fn next(&self) -> u32
+        ensures { result ≡ self.now.next }
+    {
+        self.next
+    }
+
+    /// The bytes of its records.
+    pub fn used(&self) -> usize
+        ensures { result ≡ length (record_bytes self.now.records) }
+    {
+        self.records.used()
+    }
+
+    /// The value of a key, lent by the payload.
+    pub fn find(&self, key: &RecordKey) -> Option<&'a [u8]>
+        ensures some { IfSome result (λ value. lookup key.now self.now.records ≡ Some value.now) }
+        ensures none { IfNone result (lookup key.now self.now.records ≡ None) }
+    {
+        self.records.value_of(key)
+    }
+
+    /// The records, from the lowest key on.
+    pub fn records(&self) -> Records<'a>
+        ensures { result ≡ self.now.records }
+    {
+        self.records.again()
+    }
+}
+
+/// A page of the directory.
+#[derive(Debug, Drop)]
+pub struct DirectoryView<'a> {
+    pub(crate) entries: &'a [u8],
+}
+
+impl<'a> Model for DirectoryView<'a> {
+    ghost use Rattle.std.specs.Prelude.{◌≡◌, ℕ, List, length};
+    ghost use Rattle.bucket_page.specs.declared.layout.TheConstants.{ENTRIES_BYTES};
+    ghost use Rattle.bucket_page.specs.Entries.{entries_of};
+
+    ghost Value = { List ℕ };
+
+    ghost view = { λ d. entries_of d.entries.now };
+
+    ghost invariant = { λ d. length d.entries.now ≡ ENTRIES_BYTES };
+}
+
+impl<'a> DirectoryView<'a> {
+    /// The bucket's page that a slot names.
+    #[tactic(auto, using(crate::proofs::EntryLaws::entry_is))]
+    pub fn entry(&self, slot: usize) -> u32
+        requires { slot < PAGE_ENTRIES }
+        ensures { result ≡ slice_index self.now slot }
+    {
+        four_at(self.entries, 4 * slot)
+    }
+}

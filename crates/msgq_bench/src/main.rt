@@ -1,0 +1,99 @@
+//! Times of the parts of `msgq`. Without an argument each workload runs once and prints what never varies;
+//! with the path of a file to be made it prints nanoseconds.
+#![tactic(auto)]
+
+mod making;
+mod pinning;
+mod sealing;
+
+use page_device::MAX_PAGES;
+use std::time::Instant;
+
+/// How often a workload runs when it is timed.
+const ROUNDS: u32 = 20_000;
+
+/// How often a page that has a frame is pinned.
+const PINS: u32 = 2_000_000;
+
+fn main(rt: HostRuntime) -> anyhow::Result<()> {
+    let words: Vec<String> = std::env::args(&rt)?.collect(rt.alloc())?;
+    let Some(path) = words.get(1) else {
+        return once(&rt);
+    };
+    seals(&rt)?;
+    for frames in [64, MAX_PAGES] {
+        pins(&rt, frames)?;
+    }
+    for frames in [64, MAX_PAGES / 2] {
+        evicts(&rt, frames)?;
+    }
+    makes(&rt, path.as_str())
+}
+
+/// Runs each workload once, small.
+fn once(rt: &HostRuntime) -> anyhow::Result<()> {
+    let marks = (sealing::digests(1), sealing::seals(1), sealing::unseals(1));
+    println!(rt; "sealing: {marks:?}")?;
+    let mut pool = pinning::pool_over(rt.alloc(), 4, 2)?;
+    let mark = pinning::pins(&mut pool, 0, 4, 8)?;
+    println!(rt; "pinning: {mark}")?;
+    Ok(())
+}
+
+/// Times digests, and pages sealed and unsealed.
+fn seals(rt: &HostRuntime) -> anyhow::Result<()> {
+    let start = Instant::now(rt)?;
+    let mark = sealing::digests(ROUNDS);
+    report(rt, "a digest of 4,068 bytes", mark, start, ROUNDS)?;
+    let start = Instant::now(rt)?;
+    let mark = sealing::seals(ROUNDS);
+    report(rt, "a page sealed", mark, start, ROUNDS)?;
+    let start = Instant::now(rt)?;
+    let mark = sealing::unseals(ROUNDS);
+    report(rt, "a page unsealed", mark, start, ROUNDS)
+}
+
+/// Times pins of pages that have a frame, in a pool of so many frames.
+fn pins(rt: &HostRuntime, frames: u32) -> anyhow::Result<()> {
+    let mut pool = pinning::pool_over(rt.alloc(), frames, frames as usize)?;
+    pinning::pins(&mut pool, 0, frames, frames)?;
+    println!(rt; "with {frames} frames:")?;
+    let start = Instant::now(rt)?;
+    let mark = pinning::pins(&mut pool, 0, frames, PINS)?;
+    report(rt, "a pin of a page that has a frame", mark, start, PINS)
+}
+
+/// Times pins of pages that have no frame, in a pool of so many frames over twice as many pages.
+fn evicts(rt: &HostRuntime, frames: u32) -> anyhow::Result<()> {
+    let pages = frames.saturating_mul(2);
+    let mut pool = pinning::pool_over(rt.alloc(), pages, frames as usize)?;
+    pinning::pins(&mut pool, 0, pages, frames)?;
+    println!(rt; "with {frames} frames:")?;
+    let start = Instant::now(rt)?;
+    let mark = pinning::pins(&mut pool, frames, pages, ROUNDS)?;
+    report(rt, "a pin of a page that has none", mark, start, ROUNDS)
+}
+
+/// Times the making of a file of the most pages.
+fn makes(rt: &HostRuntime, path: &str) -> anyhow::Result<()> {
+    let start = Instant::now(rt)?;
+    making::file_of(rt, path, MAX_PAGES)?;
+    report(rt, "a page of a new file", 0, start, MAX_PAGES)
+}
+
+/// Prints the nanoseconds that one of so many rounds took. The mark of the work is told, so that none is left out.
+fn report(
+    rt: &HostRuntime,
+    name: &str,
+    mark: u8,
+    start: Instant,
+    rounds: u32,
+) -> anyhow::Result<()> {
+    let nanoseconds = start
+        .elapsed(rt)?
+        .as_nanos()
+        .checked_div(u128::from(rounds))
+        .unwrap_or(0);
+    println!(rt; "{name}: {nanoseconds} ns ({mark})")?;
+    Ok(())
+}

@@ -1,0 +1,12 @@
+pub mod Tests
+pub mod Elements
+pub mod Cases
+pub mod Local
+pub mod Limits
+pub mod Unique
+pub mod Members
+pub mod Images
+pub mod Pairs
+pub mod Owners
+pub mod TypesStand
+pub mod Read

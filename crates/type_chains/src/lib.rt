@@ -1,0 +1,12 @@
+//! The records of a system of queues, with the links of its chains.
+
+#![tactic(auto)]
+
+mod laws;
+
+pub use laws::{
+    a_key_tells_its_queue, a_queue_is_read_off_its_record, a_record_stands_at_its_key,
+    other_queues_keep_their_records, records_keep_their_limits,
+    records_of_the_image_have_distinct_keys, the_image_is_the_records_at_their_keys,
+    the_types_are_those_of_the_messages,
+};
