@@ -23,7 +23,8 @@ number_is zero i bytes lt = absurd (omega (arith, lt))
 number_is (suc n) zero bytes lt = refl
 number_is (suc n) (suc i) bytes lt =
     let next : 4 + 4 * i ≡ 4 * suc i = omega arith in
-    number_is n i (drop 4 bytes) (omega (arith, lt)) ∙ four_at-past (4 * i) 4 bytes ∙ ap (λ (k : ℕ). four_at k bytes) next
+    number_is n i (drop 4 bytes) (omega (arith, lt)) ∙ four_at-past (4 * i) 4 bytes
+    ∙ ap (λ (k : ℕ). four_at k bytes) next
 
 pub entry_is : (i : ℕ) (bytes : List ℕ) → i < 512 → slice_index (entries_of bytes) i ≡ four_at (4 * i) bytes
 unfolding entries_of
@@ -31,12 +32,17 @@ entry_is i bytes lt = number_is 512 i bytes lt
 
 -- bytes are those of the numbers in them
 pub numbers_take : (n : ℕ) (bytes : List ℕ) → length bytes ≡ 4 * n → IsBytes bytes
-    → (bytes ≡ entry_bytes (numbers_of n bytes)) × AllByRecursion (λ e. e < 2 ^ 32) (numbers_of n bytes) × (length (numbers_of n bytes) ≡ n)
+    → (bytes ≡ entry_bytes (numbers_of n bytes)) × AllByRecursion (λ e. e < 2 ^ 32) (numbers_of n bytes)
+    × (length (numbers_of n bytes) ≡ n)
 numbers_take zero bytes long all = (nil_from_length bytes long, tt, refl)
 numbers_take (suc n) bytes long all =
     let first = four_takes 0 bytes (omega (arith, long)) all in
-    let others = numbers_take n (drop 4 bytes) (omega (arith, long, length-drop 4 bytes)) (IsBytes-drop 4 bytes all) in
-    (first ∙ ap (λ (xs : List ℕ). four (four_at 0 bytes) ++ xs) others.0, (four_small 0 bytes all, others.1), ap suc others.2)
+    let others = numbers_take n (drop 4 bytes) (omega (arith, long, length-drop 4 bytes))
+    (IsBytes-drop 4 bytes all) in (
+      first ∙ ap (λ (xs : List ℕ). four (four_at 0 bytes) ++ xs) others.0,
+      (four_small 0 bytes all, others.1),
+      ap suc others.2,
+    )
 
 -- numbers are read from their bytes
 pub numbers_again : (es : List ℕ) → AllByRecursion (λ e. e < 2 ^ 32) es → numbers_of (length es) (entry_bytes es) ≡ es
@@ -52,11 +58,13 @@ length-entries (e ∷ es) = omega (arith, length-entries es, length-four e, leng
 
 -- the entries of a page
 pub entries_take : (bytes : List ℕ) → length bytes ≡ 2048 → IsBytes bytes
-    → (bytes ≡ entry_bytes (entries_of bytes)) × AllByRecursion (λ e. e < 2 ^ 32) (entries_of bytes) × (length (entries_of bytes) ≡ 512)
+    → (bytes ≡ entry_bytes (entries_of bytes)) × AllByRecursion (λ e. e < 2 ^ 32) (entries_of bytes)
+    × (length (entries_of bytes) ≡ 512)
 unfolding entries_of
 entries_take bytes long all = numbers_take 512 bytes long all
 
-pub entries_again : (es : List ℕ) → length es ≡ 512 → AllByRecursion (λ e. e < 2 ^ 32) es → entries_of (entry_bytes es) ≡ es
+pub entries_again : (es : List ℕ) → length es ≡ 512 → AllByRecursion (λ e. e < 2 ^ 32) es
+    → entries_of (entry_bytes es) ≡ es
 unfolding entries_of
 entries_again es long all = ap (λ (n : ℕ). numbers_of n (entry_bytes es)) (sym long) ∙ numbers_again es all
 
@@ -66,16 +74,23 @@ all_small : (es : List ℕ) → ((i : ℕ) → get_or es i 0 < 2 ^ 32) → AllBy
 all_small [] small = tt
 all_small (e ∷ es) small = (small 0, all_small es (λ i. small (suc i)))
 
-pub directory_spelled : (es payload : List ℕ) → length es ≡ 512 → ((i : ℕ) → get_or es i 0 < 2 ^ 32) → payload ≡ directory_bytes es → Spells (kinds.Directory es) payload
-directory_spelled es payload long small is = record { in_range = record { number = long; entries = all_small es small }; spelled = is }
+pub directory_spelled : (es payload : List ℕ) → length es ≡ 512 → ((i : ℕ) → get_or es i 0 < 2 ^ 32)
+    → payload ≡ directory_bytes es → Spells (kinds.Directory es) payload
+directory_spelled es payload long small is = record {
+  in_range =
+      record { number = long; entries = all_small es small };
+  spelled = is;
+}
 
-all_set : (es : List ℕ) (slot page : ℕ) → page < 2 ^ 32 → AllByRecursion (λ e. e < 2 ^ 32) es → AllByRecursion (λ e. e < 2 ^ 32) (slice_set es slot page)
+all_set : (es : List ℕ) (slot page : ℕ) → page < 2 ^ 32 → AllByRecursion (λ e. e < 2 ^ 32) es
+    → AllByRecursion (λ e. e < 2 ^ 32) (slice_set es slot page)
 all_set [] slot page small all = tt
 all_set (e ∷ es) zero page small all = (small, all.1)
 all_set (e ∷ es) (suc slot) page small all = (all.0, all_set es slot page small all.1)
 
 -- the bytes before and behind one entry
-one_written : (es rest : List ℕ) (slot page : ℕ) → slot < length es → overwritten (entry_bytes es ++ rest) (4 * slot) (four page) ≡ entry_bytes (slice_set es slot page) ++ rest
+one_written : (es rest : List ℕ) (slot page : ℕ) → slot < length es
+    → overwritten (entry_bytes es ++ rest) (4 * slot) (four page) ≡ entry_bytes (slice_set es slot page) ++ rest
 one_written [] rest slot page within = absurd (omega (arith, within))
 one_written (e ∷ es) rest zero page within =
     ap (λ (xs : List ℕ). overwritten xs 0 (four page)) (append_assoc (four e) (entry_bytes es) rest)
@@ -88,8 +103,10 @@ one_written (e ∷ es) rest (suc slot) page within =
     ∙ ap (λ (xs : List ℕ). four e ++ xs) (one_written es rest slot page (omega (arith, within)))
     ∙ sym (append_assoc (four e) (entry_bytes (slice_set es slot page)) rest)
 
-pub set_makes : (payload front back body : List ℕ) (slot page : ℕ) → IsDirectoryPage payload → slot < 512 → page < 2 ^ 32 → front ≡ take 16 payload → back ≡ drop 16 payload
-    → body ≡ overwritten back (4 * slot) (four page) → Spells (kinds.Directory (slice_set (entries_at payload) slot page)) (front ++ body)
+pub set_makes : (payload front back body : List ℕ) (slot page : ℕ) → IsDirectoryPage payload → slot < 512
+    → page < 2 ^ 32 → front ≡ take 16 payload → back ≡ drop 16 payload
+    → body ≡ overwritten back (4 * slot) (four page) → Spells
+    (kinds.Directory (slice_set (entries_at payload) slot page)) (front ++ body)
 set_makes payload front back body slot page it within small front-is back-is body-is =
     let es : List ℕ = entries_at payload in
     let tail : List ℕ = entry_bytes es ++ zeros 2000 in
@@ -99,8 +116,13 @@ set_makes payload front back body slot page it within small front-is back-is bod
     let back-of : back ≡ tail = back-is ∙ ap (drop 16) it.spelled ∙ drop_at head tail 16 len in
     let number : length es ≡ 512 = it.in_range.number in
     record {
-      in_range = record { number = length-set es slot page ∙ number; entries = all_set es slot page small it.in_range.entries };
-      spelled = (λ i. front-of i ++ (body-is ∙ ap (λ (xs : List ℕ). overwritten xs (4 * slot) (four page)) back-of ∙ one_written es (zeros 2000) slot page (omega (arith, within, number))) i);
+      in_range = record {
+        number = length-set es slot page ∙ number;
+        entries =
+            all_set es slot page small it.in_range.entries;
+      };
+      spelled = (λ i. front-of i ++ (body-is ∙ ap (λ (xs : List ℕ). overwritten xs (4 * slot) (four page)) back-of
+          ∙ one_written es (zeros 2000) slot page (omega (arith, within, number))) i);
     }
 
 pub one_byte : (bytes : List ℕ) (b : ℕ) → length bytes ≡ 1 → slice_set bytes 0 b ≡ b ∷ []

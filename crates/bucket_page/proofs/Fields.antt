@@ -37,25 +37,32 @@ byte_at-is (suc n) x = refl
 low_bytes : (n c r : ℕ) → big_bytes n (r + c * 256 ^ n) ≡ big_bytes n r
 low_bytes zero c r = refl
 low_bytes (suc n) c r =
-    let wide : r + c * 256 ^ suc n ≡ r + (c * 256) * 256 ^ n = ap (λ (x : ℕ). r + x) (ap (λ (x : ℕ). c * x) (pow-succ' 256 n) ∙ sym (mul_assoc c 256 (256 ^ n))) in
+    let wide : r + c * 256 ^ suc n ≡ r + (c * 256) * 256 ^ n =
+    ap (λ (x : ℕ). r + x) (ap (λ (x : ℕ). c * x) (pow-succ' 256 n) ∙ sym (mul_assoc c 256 (256 ^ n))) in
     let first : (r + (c * 256) * 256 ^ n) / 256 ^ n % 256 ≡ r / 256 ^ n % 256 =
-    ap (λ (x : ℕ). x % 256) (add-mul-div_right r (c * 256) (positive n)) ∙ add-mul-mod_self_right (r / 256 ^ n) c 256 in
-    let top : byte_at n (r + (c * 256) * 256 ^ n) ≡ byte_at n r = byte_at-is n (r + (c * 256) * 256 ^ n) ∙ first ∙ sym (byte_at-is n r) in
+    ap (λ (x : ℕ). x % 256) (add-mul-div_right r (c * 256) (positive n))
+    ∙ add-mul-mod_self_right (r / 256 ^ n) c 256 in
+    let top : byte_at n (r + (c * 256) * 256 ^ n) ≡ byte_at n r =
+    byte_at-is n (r + (c * 256) * 256 ^ n) ∙ first ∙ sym (byte_at-is n r) in
     ap (big_bytes (suc n)) wide ∙ (λ i. top i ∷ low_bytes n (c * 256) r i)
 
 -- bytes are those of the number in them
-pub number_takes : (n : ℕ) (bytes : List ℕ) → n ≤ length bytes → IsBytes bytes → bytes ≡ big_bytes n (big_number n bytes) ++ drop n bytes
+pub number_takes : (n : ℕ) (bytes : List ℕ) → n ≤ length bytes → IsBytes bytes
+    → bytes ≡ big_bytes n (big_number n bytes) ++ drop n bytes
 number_takes zero bytes long all = refl
 number_takes (suc n) [] long all = absurd (omega (arith, long))
 number_takes (suc n) (b ∷ bytes) long all =
     let others : IsBytes bytes = λ i. all (suc i) in
     let low = big_from-lt 0 n bytes others in
-    let moved : big_number (suc n) (b ∷ bytes) ≡ big_number n bytes + b * 256 ^ n = ap (λ (x : ℕ). b * 256 ^ n + x) (big_from-cons 0 n b bytes) ∙ omega arith in
-    let quotient : (big_number n bytes + b * 256 ^ n) / 256 ^ n ≡ b = add-mul-div_right (big_number n bytes) b (positive n) ∙ ap (λ (x : ℕ). x + b) (div-eq_of_lt low) ∙ zero-add b in
+    let moved : big_number (suc n) (b ∷ bytes) ≡ big_number n bytes + b * 256 ^ n =
+    ap (λ (x : ℕ). b * 256 ^ n + x) (big_from-cons 0 n b bytes) ∙ omega arith in
+    let quotient : (big_number n bytes + b * 256 ^ n) / 256 ^ n ≡ b =
+    add-mul-div_right (big_number n bytes) b (positive n) ∙ ap (λ (x : ℕ). x + b) (div-eq_of_lt low) ∙ zero-add b in
     let first : byte_at n (big_number n bytes + b * 256 ^ n) ≡ b =
     byte_at-is n _ ∙ ap (λ (x : ℕ). x % 256) quotient ∙ mod-eq_of_lt (all 0) in
     let tail : bytes ≡ big_bytes n (big_number n bytes + b * 256 ^ n) ++ drop n bytes =
-    number_takes n bytes (omega (arith, long)) others ∙ ap (λ (xs : List ℕ). xs ++ drop n bytes) (sym (low_bytes n b (big_number n bytes))) in
+    number_takes n bytes (omega (arith, long)) others ∙ ap (λ (xs : List ℕ). xs ++ drop n bytes)
+    (sym (low_bytes n b (big_number n bytes))) in
     (λ i. sym first i ∷ tail i) ∙ ap (λ (x : ℕ). big_bytes (suc n) x ++ drop n bytes) (sym moved)
 
 -- ---- two, four and eight bytes
@@ -73,19 +80,22 @@ unfolding eight
 length-eight n = length-bytes_high_first 8 n
 
 -- from a place on stand the bytes of the number there
-pub two_takes : (at : ℕ) (bytes : List ℕ) → at + 2 ≤ length bytes → IsBytes bytes → drop at bytes ≡ two (two_at at bytes) ++ drop (at + 2) bytes
+pub two_takes : (at : ℕ) (bytes : List ℕ) → at + 2 ≤ length bytes → IsBytes bytes
+    → drop at bytes ≡ two (two_at at bytes) ++ drop (at + 2) bytes
 unfolding two two_at
 two_takes at bytes long all =
     number_takes 2 (drop at bytes) (omega (arith, long, length-drop at bytes)) (IsBytes-drop at bytes all)
     ∙ ap (λ (xs : List ℕ). big_bytes 2 (big_number 2 (drop at bytes)) ++ xs) (past at 2 bytes)
 
-pub four_takes : (at : ℕ) (bytes : List ℕ) → at + 4 ≤ length bytes → IsBytes bytes → drop at bytes ≡ four (four_at at bytes) ++ drop (at + 4) bytes
+pub four_takes : (at : ℕ) (bytes : List ℕ) → at + 4 ≤ length bytes → IsBytes bytes
+    → drop at bytes ≡ four (four_at at bytes) ++ drop (at + 4) bytes
 unfolding four four_at
 four_takes at bytes long all =
     number_takes 4 (drop at bytes) (omega (arith, long, length-drop at bytes)) (IsBytes-drop at bytes all)
     ∙ ap (λ (xs : List ℕ). big_bytes 4 (big_number 4 (drop at bytes)) ++ xs) (past at 4 bytes)
 
-pub eight_takes : (at : ℕ) (bytes : List ℕ) → at + 8 ≤ length bytes → IsBytes bytes → drop at bytes ≡ eight (eight_at at bytes) ++ drop (at + 8) bytes
+pub eight_takes : (at : ℕ) (bytes : List ℕ) → at + 8 ≤ length bytes → IsBytes bytes
+    → drop at bytes ≡ eight (eight_at at bytes) ++ drop (at + 8) bytes
 unfolding eight eight_at
 eight_takes at bytes long all =
     number_takes 8 (drop at bytes) (omega (arith, long, length-drop at bytes)) (IsBytes-drop at bytes all)
@@ -100,7 +110,8 @@ pub four_again : (at n : ℕ) (bytes rest : List ℕ) → drop at bytes ≡ four
 unfolding four four_at
 four_again at n bytes rest is small = ap (big_number 4) is ∙ big_number-reads_back 4 n rest (omega (arith, small))
 
-pub eight_again : (at n : ℕ) (bytes rest : List ℕ) → drop at bytes ≡ eight n ++ rest → n < 2 ^ 64 → eight_at at bytes ≡ n
+pub eight_again : (at n : ℕ) (bytes rest : List ℕ) → drop at bytes ≡ eight n ++ rest → n < 2 ^ 64
+    → eight_at at bytes ≡ n
 unfolding eight eight_at
 eight_again at n bytes rest is small = ap (big_number 8) is ∙ big_number-reads_back 8 n rest (omega (arith, small))
 

@@ -10,7 +10,8 @@ use Rattle.bucket_page.proofs.Zeros.{zeros_again, length-zeros}
 use Rattle.bucket_page.proofs.Fields.{after_part, two_again, four_again, length-two, length-four}
 
 -- the fields one by one
-pub head_parts : (h : Head) (body : List ℕ) → head_bytes h ++ body ≡ BUCKET ∷ h.depth ∷ (two h.count ++ (four h.pattern ++ (four h.next ++ (two h.used ++ (zeros 2 ++ body)))))
+pub head_parts : (h : Head) (body : List ℕ) → head_bytes h ++ body
+    ≡ BUCKET ∷ h.depth ∷ (two h.count ++ (four h.pattern ++ (four h.next ++ (two h.used ++ (zeros 2 ++ body)))))
 head_parts h body =
     let x3 : List ℕ = two h.used ++ zeros 2 in
     let x2 : List ℕ = four h.next ++ x3 in
@@ -18,7 +19,8 @@ head_parts h body =
     let used = append_assoc (two h.used) (zeros 2) body in
     let next = append_assoc (four h.next) x3 body ∙ ap (λ (xs : List ℕ). four h.next ++ xs) used in
     let pattern = append_assoc (four h.pattern) x2 body ∙ ap (λ (xs : List ℕ). four h.pattern ++ xs) next in
-    ap (λ (xs : List ℕ). BUCKET ∷ h.depth ∷ xs) (append_assoc (two h.count) x1 body ∙ ap (λ (xs : List ℕ). two h.count ++ xs) pattern)
+    ap (λ (xs : List ℕ). BUCKET ∷ h.depth ∷ xs) (append_assoc (two h.count) x1 body
+    ∙ ap (λ (xs : List ℕ). two h.count ++ xs) pattern)
 
 pub length-head : (h : Head) → length (head_bytes h) ≡ 16
 length-head h =
@@ -47,7 +49,8 @@ pub record IsHead (h : Head) (body bytes : List ℕ) : Type 0 where
   pub blank : is_zero (take 2 (drop 14 bytes)) ≡ true
   pub rest : drop 16 bytes ≡ body
 
-pub head_again : (h : Head) (body : List ℕ) → h.count < 2 ^ 16 → h.pattern < 2 ^ 32 → h.next < 2 ^ 32 → h.used < 2 ^ 16 → IsHead h body (head_bytes h ++ body)
+pub head_again : (h : Head) (body : List ℕ) → h.count < 2 ^ 16 → h.pattern < 2 ^ 32 → h.next < 2 ^ 32
+    → h.used < 2 ^ 16 → IsHead h body (head_bytes h ++ body)
 head_again h body count pattern next used =
     let bytes : List ℕ = head_bytes h ++ body in
     let x4 : List ℕ = zeros 2 ++ body in

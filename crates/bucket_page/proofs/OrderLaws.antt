@@ -4,14 +4,15 @@ use Rattle.std.proofs.lemmas.List.{length-append}
 use Rattle.std.proofs.lemmas.List.Concat.{flat_map-append}
 use Rattle.bucket_page.specs.declared.record_key.RecordKey.{RecordKey}
 use Rattle.bucket_page.specs.Keys.{is_same, is_below}
-use Rattle.bucket_page.specs.Records.{Pair, is_above, pair_bytes, ascend_from, ascend, lookup, record_bytes}
-use Rattle.bucket_page.specs.Changes.{below, inserted, pair, replaced, removed}
+use Rattle.bucket_page.specs.Records.{Pair, pair, is_above, pair_bytes, ascend_from, ascend, lookup, record_bytes}
+use Rattle.bucket_page.specs.Changes.{below, inserted, replaced, removed}
 use Rattle.bucket_page.proofs.Steps.{length-cons}
 use Rattle.bucket_page.proofs.Zeros.{both_true}
 use Rattle.bucket_page.proofs.KeyLaws.{below_other, below_past, other_way, same_is}
 
 -- the records above a key don't have it
-pub none_above : (key low : RecordKey) (ps : List Pair) → is_below key low ≡ true → ascend_from (Some low) ps ≡ true → lookup key ps ≡ None
+pub none_above : (key low : RecordKey) (ps : List Pair) → is_below key low ≡ true → ascend_from (Some low) ps ≡ true
+    → lookup key ps ≡ None
 none_above key low [] under h = refl
 none_above key low (p ∷ ps) under h =
     let both = both_true _ _ h in
@@ -19,7 +20,8 @@ none_above key low (p ∷ ps) under h =
     rw (below_other key p.key first).1 (none_above key p.key ps first both.1)
 
 -- nor does a record that is above it, or one behind that
-pub none_from : (key : RecordKey) (p : Pair) (ps qs : List Pair) → ascend qs ≡ true → qs ≡ p ∷ ps → is_below key p.key ≡ true → lookup key qs ≡ None
+pub none_from : (key : RecordKey) (p : Pair) (ps qs : List Pair) → ascend qs ≡ true → qs ≡ p ∷ ps
+    → is_below key p.key ≡ true → lookup key qs ≡ None
 none_from key p ps qs h is under =
     let others : ascend_from (Some p.key) ps ≡ true = ap ascend (sym is) ∙ h in
     ap (lookup key) is ∙ rw (below_other key p.key under).1 (none_above key p.key ps under others)
@@ -30,7 +32,8 @@ ascend_rest low [] h = refl
 ascend_rest low (p ∷ ps) h = (both_true _ _ h).1
 
 -- a look-up goes on behind a record of another key
-pub lookup_on : (key : RecordKey) (p : Pair) (ps qs : List Pair) (same : Bool) → qs ≡ p ∷ ps → same ≡ is_same p.key key → same ≡ false
+pub lookup_on : (key : RecordKey) (p : Pair) (ps qs : List Pair) (same : Bool) → qs ≡ p ∷ ps
+    → same ≡ is_same p.key key → same ≡ false
     → ascend qs ≡ true → (ascend ps ≡ true) × (lookup key ps ≡ lookup key qs)
 lookup_on key p ps qs same is test other h =
     let others : ascend_from (Some p.key) ps ≡ true = ap ascend (sym is) ∙ h in
@@ -39,14 +42,18 @@ lookup_on key p ps qs same is test other h =
 -- ---- the records below a key
 
 -- a record below the key is counted
-pub below_step : (key : RecordKey) (p : Pair) (ps qs : List Pair) (at total : ℕ) (r : Bool) → qs ≡ p ∷ ps → r ≡ is_below p.key key → r ≡ true
+pub below_step : (key : RecordKey) (p : Pair) (ps qs : List Pair) (at total : ℕ) (r : Bool) → qs ≡ p ∷ ps
+    → r ≡ is_below p.key key → r ≡ true
     → at + length (record_bytes qs) ≤ 4048 → at + length (record_bytes (below key qs)) ≡ total
-    → (at + (15 + length p.value) + length (record_bytes ps) ≤ 4048) × (at + (15 + length p.value) + length (record_bytes (below key ps)) ≡ total)
+    → (at + (15 + length p.value) + length (record_bytes ps) ≤ 4048)
+    × (at + (15 + length p.value) + length (record_bytes (below key ps)) ≡ total)
 below_step key p ps qs at total r is test under room so-far =
     let all = length-cons p ps in
-    let len : length (record_bytes qs) ≡ length (record_bytes (p ∷ ps)) = ap (λ (xs : List Pair). length (record_bytes xs)) is in
+    let len : length (record_bytes qs) ≡ length (record_bytes (p ∷ ps)) =
+    ap (λ (xs : List Pair). length (record_bytes xs)) is in
     let first : below key (p ∷ ps) ≡ p ∷ below key ps = rw (sym test ∙ under) refl in
-    let part : length (record_bytes (below key qs)) ≡ length (record_bytes (p ∷ below key ps)) = ap (λ (xs : List Pair). length (record_bytes xs)) (ap (below key) is ∙ first) in
+    let part : length (record_bytes (below key qs)) ≡ length (record_bytes (p ∷ below key ps)) =
+    ap (λ (xs : List Pair). length (record_bytes xs)) (ap (below key) is ∙ first) in
     (omega (arith, all, len, room), omega (arith, length-cons p (below key ps), part, so-far))
 
 -- the records from a key on
@@ -54,7 +61,8 @@ abbrev pub from : RecordKey → List Pair → List Pair
 from key [] = []
 from key (q ∷ qs) = cond (is_below q.key key) (from key qs) (q ∷ qs)
 
-parted_by : (q : Pair) (lower others qs : List Pair) (b : Bool) → qs ≡ lower ++ others → q ∷ qs ≡ cond b (q ∷ lower) [] ++ cond b others (q ∷ qs)
+parted_by : (q : Pair) (lower others qs : List Pair) (b : Bool) → qs ≡ lower ++ others
+    → q ∷ qs ≡ cond b (q ∷ lower) [] ++ cond b others (q ∷ qs)
 parted_by q lower others qs true is = ap (λ (xs : List Pair). q ∷ xs) is
 parted_by q lower others qs false is = refl
 
@@ -62,7 +70,8 @@ pub parted : (key : RecordKey) (ps : List Pair) → ps ≡ below key ps ++ from 
 parted key [] = refl
 parted key (q ∷ qs) = parted_by q (below key qs) (from key qs) qs (is_below q.key key) (parted key qs)
 
-pub below_within : (key : RecordKey) (ps : List Pair) → length (record_bytes (below key ps)) ≤ length (record_bytes ps)
+pub below_within : (key : RecordKey) (ps : List Pair) → length (record_bytes (below key ps)) ≤ length
+    (record_bytes ps)
 below_within key ps =
     let parts : record_bytes ps ≡ record_bytes (below key ps) ++ record_bytes (from key ps) =
     ap record_bytes (parted key ps) ∙ flat_map-append pair_bytes (below key ps) (from key ps) in
@@ -76,7 +85,8 @@ inserted_by p q lower others qs false is = refl
 -- a pair is put between the records below its key and the others
 pub inserted_between : (p : Pair) (ps : List Pair) → inserted p ps ≡ below p.key ps ++ p ∷ from p.key ps
 inserted_between p [] = refl
-inserted_between p (q ∷ qs) = inserted_by p q (below p.key qs) (from p.key qs) qs (is_below q.key p.key) (inserted_between p qs)
+inserted_between p (q ∷ qs) = inserted_by p q (below p.key qs) (from p.key qs) qs (is_below q.key p.key)
+    (inserted_between p qs)
 
 -- ---- a pair put in keeps the order
 
@@ -84,18 +94,22 @@ fresh : (b : Bool) (value : List ℕ) (o : Option (List ℕ)) → cond b (Some v
 fresh true value o e = absurd cc
 fresh false value o e = (refl, e)
 
-ascends_by : (low : Option RecordKey) (p q : Pair) (qs : List Pair) (b : Bool) → is_below q.key p.key ≡ b → is_above low p.key ≡ true → is_above low q.key ≡ true
-    → ascend_from (Some q.key) qs ≡ true → is_same q.key p.key ≡ false → (is_below q.key p.key ≡ true → ascend_from (Some q.key) (inserted p qs) ≡ true)
+ascends_by : (low : Option RecordKey) (p q : Pair) (qs : List Pair) (b : Bool) → is_below q.key p.key ≡ b
+    → is_above low p.key ≡ true → is_above low q.key ≡ true
+    → ascend_from (Some q.key) qs ≡ true → is_same q.key p.key ≡ false
+    → (is_below q.key p.key ≡ true → ascend_from (Some q.key) (inserted p qs) ≡ true)
     → ascend_from low (cond b (q ∷ inserted p qs) (p ∷ q ∷ qs)) ≡ true
 ascends_by low p q qs true test mine first others other more = rw first (more test)
 ascends_by low p q qs false test mine first others other more = rw (mine, other_way q.key p.key test other) others
 
-pub ascends_with : (low : Option RecordKey) (p : Pair) (ps : List Pair) → is_above low p.key ≡ true → ascend_from low ps ≡ true → lookup p.key ps ≡ None → ascend_from low (inserted p ps) ≡ true
+pub ascends_with : (low : Option RecordKey) (p : Pair) (ps : List Pair) → is_above low p.key ≡ true
+    → ascend_from low ps ≡ true → lookup p.key ps ≡ None → ascend_from low (inserted p ps) ≡ true
 ascends_with low p [] mine h absent = rw mine refl
 ascends_with low p (q ∷ qs) mine h absent =
     let both = both_true _ _ h in
     let other = fresh (is_same q.key p.key) q.value (lookup p.key qs) absent in
-    ascends_by low p q qs (is_below q.key p.key) refl mine both.0 both.1 other.0 (λ test. ascends_with (Some q.key) p qs test both.1 other.1)
+    ascends_by low p q qs (is_below q.key p.key) refl mine both.0 both.1 other.0
+    (λ test. ascends_with (Some q.key) p qs test both.1 other.1)
 
 -- ---- a pair that is there
 
@@ -117,7 +131,8 @@ not_below a b same = by_test (is_below a b) refl
     by_test true is = absurd (let other = (below_other a b is).0 in cc)
     by_test false is = refl
 
-is_first : (key : RecordKey) (value : List ℕ) (q : Pair) (qs : List Pair) → is_same q.key key ≡ true → q.value ≡ value → IsAmong key value (q ∷ qs)
+is_first : (key : RecordKey) (value : List ℕ) (q : Pair) (qs : List Pair) → is_same q.key key ≡ true → q.value ≡ value
+    → IsAmong key value (q ∷ qs)
 is_first key value q qs same is =
     let low = not_below q.key key same in
     let q-is : q ≡ pair key value = λ i. record { key = same_is q.key key same i; value = is i } in
@@ -127,7 +142,8 @@ is_first key value q qs same is =
       removed = rw (same, low) refl;
     }
 
-is_later : (key : RecordKey) (value : List ℕ) (q : Pair) (qs : List Pair) → is_same q.key key ≡ false → is_below q.key key ≡ true → IsAmong key value qs → IsAmong key value (q ∷ qs)
+is_later : (key : RecordKey) (value : List ℕ) (q : Pair) (qs : List Pair) → is_same q.key key ≡ false
+    → is_below q.key key ≡ true → IsAmong key value qs → IsAmong key value (q ∷ qs)
 is_later key value q qs other low it =
     record {
       parts = rw low (ap (λ (xs : List Pair). q ∷ xs) it.parts);
@@ -135,13 +151,17 @@ is_later key value q qs other low it =
       removed = rw (other, low) (ap (λ (xs : List Pair). q ∷ xs) it.removed);
     }
 
-pub is_among : (key : RecordKey) (value : List ℕ) (low : Option RecordKey) (ps : List Pair) → ascend_from low ps ≡ true → lookup key ps ≡ Some value → IsAmong key value ps
+pub is_among : (key : RecordKey) (value : List ℕ) (low : Option RecordKey) (ps : List Pair)
+    → ascend_from low ps ≡ true → lookup key ps ≡ Some value → IsAmong key value ps
 is_among key value low [] h there = absurd cc
 is_among key value low (q ∷ qs) h there =
-    let others : ascend_from (Some q.key) qs ≡ true = (both_true (is_above low q.key) (ascend_from (Some q.key) qs) h).1 in
-    by_test (is_same q.key key) (is_below q.key key) refl refl others (λ later. is_among key value (Some q.key) qs others later)
+    let others : ascend_from (Some q.key) qs ≡ true = (both_true (is_above low q.key) (ascend_from (Some q.key) qs)
+    h).1 in
+    by_test (is_same q.key key) (is_below q.key key) refl refl others
+    (λ later. is_among key value (Some q.key) qs others later)
   where
-    by_test : (same under : Bool) → is_same q.key key ≡ same → is_below q.key key ≡ under → ascend_from (Some q.key) qs ≡ true
+    by_test : (same under : Bool) → is_same q.key key ≡ same → is_below q.key key ≡ under
+        → ascend_from (Some q.key) qs ≡ true
         → (lookup key qs ≡ Some value → IsAmong key value qs) → IsAmong key value (q ∷ qs)
     by_test true under same below others more =
         let found : ◌≡◌ {A = Option (List ℕ)} (Some q.value) (Some value) = sym (rw same refl) ∙ there in
@@ -156,14 +176,16 @@ is_among key value low (q ∷ qs) h there =
         absurd cc
 
 -- what is left of ascending records ascends
-pub ascend_lower : (low : Option RecordKey) (p : Pair) (ps : List Pair) → is_above low p.key ≡ true → ascend_from (Some p.key) ps ≡ true → ascend_from low ps ≡ true
+pub ascend_lower : (low : Option RecordKey) (p : Pair) (ps : List Pair) → is_above low p.key ≡ true
+    → ascend_from (Some p.key) ps ≡ true → ascend_from low ps ≡ true
 ascend_lower low p [] first h = refl
 ascend_lower None p (q ∷ ps) first h = (both_true (is_above (Some p.key) q.key) (ascend_from (Some q.key) ps) h).1
 ascend_lower (Some low) p (q ∷ ps) first h =
     let both = both_true (is_above (Some p.key) q.key) (ascend_from (Some q.key) ps) h in
     rw (below_past low p.key q.key first both.0) both.1
 
-pub ascend_without : (low : Option RecordKey) (p : Pair) (lower upper : List Pair) → ascend_from low (lower ++ p ∷ upper) ≡ true → ascend_from low (lower ++ upper) ≡ true
+pub ascend_without : (low : Option RecordKey) (p : Pair) (lower upper : List Pair)
+    → ascend_from low (lower ++ p ∷ upper) ≡ true → ascend_from low (lower ++ upper) ≡ true
 ascend_without low p [] upper h =
     let both = both_true (is_above low p.key) (ascend_from (Some p.key) upper) h in
     ascend_lower low p upper both.0 both.1

@@ -40,7 +40,8 @@ bucket_again b is =
     let blank : List ℕ = zeros (ROOM_BYTES - length body) in
     let bytes : List ℕ = bucket_bytes b in
     let few = count_below b.records in
-    let h = head_again (head_of b) (body ++ blank) (omega (arith, few, is.room)) (pattern_small b.depth b.pattern is.depth is.pattern) is.next (omega (arith, is.room)) in
+    let h = head_again (head_of b) (body ++ blank) (omega (arith, few, is.room))
+    (pattern_small b.depth b.pattern is.depth is.pattern) is.next (omega (arith, is.room)) in
     let inside : area bytes ≡ body = rw (h.used, h.rest) (take_at body blank (length body) refl) in
     let behind : after_area bytes ≡ blank = rw (h.used, h.rest) (drop_at body blank (length body) refl) in
     let records = records_again b.records is.pairs in
@@ -59,25 +60,31 @@ bucket_again b is =
       value = λ i. record { depth = b.depth; pattern = h.pattern i; next = h.next i; records = found i };
     }
 
-directory_again : (es : List ℕ) → IsDirectory es → (directory_fault (directory_bytes es) ≡ None) × (entries_of (entries_area (directory_bytes es)) ≡ es)
+directory_again : (es : List ℕ) → IsDirectory es → (directory_fault (directory_bytes es) ≡ None)
+    × (entries_of (entries_area (directory_bytes es)) ≡ es)
 directory_again es is =
     let bytes : List ℕ = directory_bytes es in
     let tail : List ℕ = entry_bytes es ++ zeros 2000 in
     let long : length (entry_bytes es) ≡ 2048 = omega (arith, length-entries es, is.number) in
     let rest : drop 16 bytes ≡ tail = after_part 1 15 bytes (zeros 15) tail refl (length-zeros 15) in
-    let front : is_zero (take 15 (drop 1 bytes)) ≡ true = rw (take_at (zeros 15) tail 15 (length-zeros 15)) (zeros_again 15) in
-    let inside : entries_area bytes ≡ entry_bytes es = ap (take 2048) rest ∙ take_at (entry_bytes es) (zeros 2000) 2048 long in
-    let behind : after_entries bytes ≡ zeros 2000 = ap (drop 2048) rest ∙ drop_at (entry_bytes es) (zeros 2000) 2048 long in
+    let front : is_zero (take 15 (drop 1 bytes)) ≡ true =
+    rw (take_at (zeros 15) tail 15 (length-zeros 15)) (zeros_again 15) in
+    let inside : entries_area bytes ≡ entry_bytes es =
+    ap (take 2048) rest ∙ take_at (entry_bytes es) (zeros 2000) 2048 long in
+    let behind : after_entries bytes ≡ zeros 2000 = ap (drop 2048) rest
+    ∙ drop_at (entry_bytes es) (zeros 2000) 2048 long in
     let back : is_zero (after_entries bytes) ≡ true = rw behind (zeros_again 2000) in
     (rw (front, back) refl, ap entries_of inside ∙ entries_again es is.number is.entries)
 
-link_again : (kind page : ℕ) → page < 2 ^ 32 → (link_fault (link_bytes kind page) ≡ None) × (four_at 4 (link_bytes kind page) ≡ page)
+link_again : (kind page : ℕ) → page < 2 ^ 32 → (link_fault (link_bytes kind page) ≡ None)
+    × (four_at 4 (link_bytes kind page) ≡ page)
 link_again kind page small =
     let bytes : List ℕ = link_bytes kind page in
     let tail : List ℕ = four page ++ zeros 4056 in
     let at4 : drop 4 bytes ≡ tail = after_part 1 3 bytes (zeros 3) tail refl (length-zeros 3) in
     let at8 : drop 8 bytes ≡ zeros 4056 = after_part 4 4 bytes (four page) (zeros 4056) at4 (length-four page) in
-    let front : is_zero (take 3 (drop 1 bytes)) ≡ true = rw (take_at (zeros 3) tail 3 (length-zeros 3)) (zeros_again 3) in
+    let front : is_zero (take 3 (drop 1 bytes)) ≡ true =
+    rw (take_at (zeros 3) tail 3 (length-zeros 3)) (zeros_again 3) in
     let back : is_zero (drop 8 bytes) ≡ true = rw at8 (zeros_again 4056) in
     (rw (front, back) refl, four_again 4 page bytes (zeros 4056) at4 small)
 
@@ -96,5 +103,6 @@ spelled_reads page payload it =
 -- a payload spells at most one page
 pub spelled_once : (a b : PageKind) (payload : List ℕ) → Spells a payload → Spells b payload → a ≡ b
 spelled_once a b payload one other =
-    let same : ◌≡◌ {A = Result PageKind Malformed} (Ok a) (Ok b) = sym (spelled_reads a payload one) ∙ spelled_reads b payload other in
+    let same : ◌≡◌ {A = Result PageKind Malformed} (Ok a) (Ok b) =
+    sym (spelled_reads a payload one) ∙ spelled_reads b payload other in
     cc

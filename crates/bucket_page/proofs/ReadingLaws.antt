@@ -24,9 +24,15 @@ passed true m o e = (refl, e)
 passed false m o e = absurd cc
 
 -- bytes that are zero from a place on
-zeros_at : (at n : ℕ) (bytes : List ℕ) → at + n ≤ length bytes → is_zero (take n (drop at bytes)) ≡ true → drop at bytes ≡ zeros n ++ drop (at + n) bytes
+zeros_at : (at n : ℕ) (bytes : List ℕ) → at + n ≤ length bytes → is_zero (take n (drop at bytes)) ≡ true
+    → drop at bytes ≡ zeros n ++ drop (at + n) bytes
 zeros_at at n bytes long h =
-    let len : length (take n (drop at bytes)) ≡ n = omega (arith, long, length-take n (drop at bytes), length-drop at bytes) in
+    let len : length (take n (drop at bytes)) ≡ n = omega (
+      arith,
+      long,
+      length-take n (drop at bytes),
+      length-drop at bytes,
+    ) in
     sym (take-append-drop n (drop at bytes)) ∙ (λ i. zeros_of n (take n (drop at bytes)) len h i ++ past at n bytes i)
 
 kind_first : (bytes : List ℕ) → 1 ≤ length bytes → bytes ≡ kind_at bytes ∷ drop 1 bytes
@@ -38,16 +44,23 @@ head_first [] long = absurd (omega (arith, long))
 head_first (a ∷ []) long = absurd (omega (arith, long))
 head_first (a ∷ b ∷ rest) long = refl
 
-head_takes : (bytes : List ℕ) → 16 ≤ length bytes → IsBytes bytes → kind_at bytes ≡ BUCKET → is_zero (take 2 (drop 14 bytes)) ≡ true
+head_takes : (bytes : List ℕ) → 16 ≤ length bytes → IsBytes bytes → kind_at bytes ≡ BUCKET
+    → is_zero (take 2 (drop 14 bytes)) ≡ true
     → bytes ≡ head_bytes (head_at bytes) ++ drop 16 bytes
 head_takes bytes long all kind blank =
-    let used = two_takes 12 bytes (omega (arith, long)) all ∙ ap (λ (xs : List ℕ). two (two_at 12 bytes) ++ xs) (zeros_at 14 2 bytes (omega (arith, long)) blank) in
-    let next = four_takes 8 bytes (omega (arith, long)) all ∙ ap (λ (xs : List ℕ). four (four_at 8 bytes) ++ xs) used in
-    let pattern = four_takes 4 bytes (omega (arith, long)) all ∙ ap (λ (xs : List ℕ). four (four_at 4 bytes) ++ xs) next in
-    let count = two_takes 2 bytes (omega (arith, long)) all ∙ ap (λ (xs : List ℕ). two (two_at 2 bytes) ++ xs) pattern in
-    head_first bytes (omega (arith, long)) ∙ (λ i. kind i ∷ depth_at bytes ∷ count i) ∙ sym (head_parts (head_at bytes) (drop 16 bytes))
+    let used = two_takes 12 bytes (omega (arith, long)) all
+    ∙ ap (λ (xs : List ℕ). two (two_at 12 bytes) ++ xs) (zeros_at 14 2 bytes (omega (arith, long)) blank) in
+    let next = four_takes 8 bytes (omega (arith, long)) all
+    ∙ ap (λ (xs : List ℕ). four (four_at 8 bytes) ++ xs) used in
+    let pattern = four_takes 4 bytes (omega (arith, long)) all
+    ∙ ap (λ (xs : List ℕ). four (four_at 4 bytes) ++ xs) next in
+    let count = two_takes 2 bytes (omega (arith, long)) all
+    ∙ ap (λ (xs : List ℕ). two (two_at 2 bytes) ++ xs) pattern in
+    head_first bytes (omega (arith, long)) ∙ (λ i. kind i ∷ depth_at bytes ∷ count i)
+    ∙ sym (head_parts (head_at bytes) (drop 16 bytes))
 
-bucket_takes : (bytes : List ℕ) → length bytes ≡ 4064 → IsBytes bytes → kind_at bytes ≡ BUCKET → bucket_fault bytes ≡ None → Spells (kinds.Bucket (bucket_at bytes)) bytes
+bucket_takes : (bytes : List ℕ) → length bytes ≡ 4064 → IsBytes bytes → kind_at bytes ≡ BUCKET
+    → bucket_fault bytes ≡ None → Spells (kinds.Bucket (bucket_at bytes)) bytes
 bucket_takes bytes long all kind passes =
     let depth = passed _ _ _ passes in
     let pattern = passed _ _ _ depth.1 in
@@ -58,67 +71,115 @@ bucket_takes bytes long all kind passes =
     let blanks = both_true _ _ padding.0 in
     let ps : List Pair = pairs_of (count_at bytes) (area bytes) in
     let used : used_at bytes ≤ ROOM_BYTES = leb-true _ _ room.0 in
-    let records = records_take (count_at bytes) (area bytes) room.1 (IsBytes-take (used_at bytes) (drop 16 bytes) (IsBytes-drop 16 bytes all)) in
-    let area-len : length (area bytes) ≡ used_at bytes = omega (arith, used, long, length-take (used_at bytes) (drop 16 bytes), length-drop 16 bytes) in
-    let after-len : length (after_area bytes) ≡ ROOM_BYTES - length (area bytes) = omega (arith, used, long, area-len, length-drop (used_at bytes) (drop 16 bytes), length-drop 16 bytes) in
+    let records = records_take (count_at bytes) (area bytes) room.1
+    (IsBytes-take (used_at bytes) (drop 16 bytes) (IsBytes-drop 16 bytes all)) in
+    let area-len : length (area bytes) ≡ used_at bytes =
+    omega (arith, used, long, length-take (used_at bytes) (drop 16 bytes), length-drop 16 bytes) in
+    let after-len : length (after_area bytes) ≡ ROOM_BYTES - length (area bytes) =
+    omega (arith, used, long, area-len, length-drop (used_at bytes) (drop 16 bytes), length-drop 16 bytes) in
     let spelled-len : length (record_bytes ps) ≡ used_at bytes = ap length (sym records.0) ∙ area-len in
     let body : drop 16 bytes ≡ padded ROOM_BYTES (area bytes) =
-    sym (take-append-drop (used_at bytes) (drop 16 bytes)) ∙ ap (λ (xs : List ℕ). area bytes ++ xs) (zeros_of _ (after_area bytes) after-len blanks.1) in
+    sym (take-append-drop (used_at bytes) (drop 16 bytes))
+    ∙ ap (λ (xs : List ℕ). area bytes ++ xs) (zeros_of _ (after_area bytes) after-len blanks.1) in
     let front = head_takes bytes (omega (arith, long)) all kind blanks.0 in
     record {
-      in_range = record { depth = leb-true _ _ depth.0; pattern = ltb-true _ _ pattern.0; next = four_small 8 bytes all; pairs = records.1; room = omega (arith, spelled-len, used); order = order.0 };
-      spelled = front ∙ (λ i. head_bytes (record { depth = depth_at bytes; count = sym records.2 i; pattern = four_at 4 bytes; next = four_at 8 bytes; used = sym spelled-len i }) ++ (body ∙ ap (padded ROOM_BYTES) records.0) i);
+      in_range = record {
+        depth = leb-true _ _ depth.0;
+        pattern = ltb-true _ _ pattern.0;
+        next =
+            four_small 8 bytes all;
+        pairs = records.1;
+        room = omega (arith, spelled-len, used);
+        order = order.0;
+      };
+      spelled = front ∙ (λ i. head_bytes (record {
+        depth = depth_at bytes;
+        count = sym records.2 i;
+        pattern =
+            four_at 4 bytes;
+        next = four_at 8 bytes;
+        used = sym spelled-len i;
+      }) ++ (body
+          ∙ ap (padded ROOM_BYTES) records.0) i);
     }
 
-directory_takes : (bytes : List ℕ) → length bytes ≡ 4064 → IsBytes bytes → kind_at bytes ≡ DIRECTORY → directory_fault bytes ≡ None → Spells (kinds.Directory (entries_of (entries_area bytes))) bytes
+directory_takes : (bytes : List ℕ) → length bytes ≡ 4064 → IsBytes bytes → kind_at bytes ≡ DIRECTORY
+    → directory_fault bytes ≡ None → Spells (kinds.Directory (entries_of (entries_area bytes))) bytes
 directory_takes bytes long all kind passes =
     let blanks = both_true _ _ (passed _ _ _ passes).0 in
     let front = zeros_at 1 15 bytes (omega (arith, long)) blanks.0 in
-    let area-len : length (entries_area bytes) ≡ 2048 = omega (arith, long, length-take 2048 (drop 16 bytes), length-drop 16 bytes) in
-    let after-len : length (after_entries bytes) ≡ 2000 = omega (arith, long, length-drop 2048 (drop 16 bytes), length-drop 16 bytes) in
-    let entries = entries_take (entries_area bytes) area-len (IsBytes-take 2048 (drop 16 bytes) (IsBytes-drop 16 bytes all)) in
+    let area-len : length (entries_area bytes) ≡ 2048 =
+    omega (arith, long, length-take 2048 (drop 16 bytes), length-drop 16 bytes) in
+    let after-len : length (after_entries bytes) ≡ 2000 =
+    omega (arith, long, length-drop 2048 (drop 16 bytes), length-drop 16 bytes) in
+    let entries = entries_take (entries_area bytes) area-len
+    (IsBytes-take 2048 (drop 16 bytes) (IsBytes-drop 16 bytes all)) in
     let body : drop 16 bytes ≡ entry_bytes (entries_of (entries_area bytes)) ++ zeros 2000 =
-    sym (take-append-drop 2048 (drop 16 bytes)) ∙ (λ i. entries.0 i ++ zeros_of 2000 (after_entries bytes) after-len blanks.1 i) in
+    sym (take-append-drop 2048 (drop 16 bytes)) ∙ (λ i. entries.0 i
+    ++ zeros_of 2000 (after_entries bytes) after-len blanks.1 i) in
     record {
       in_range = record { number = entries.2; entries = entries.1 };
-      spelled = kind_first bytes (omega (arith, long)) ∙ (λ i. kind i ∷ (front ∙ ap (λ (xs : List ℕ). zeros 15 ++ xs) body) i);
+      spelled = kind_first bytes (omega (arith, long))
+          ∙ (λ i. kind i ∷ (front ∙ ap (λ (xs : List ℕ). zeros 15 ++ xs) body) i);
     }
 
 -- four bytes from place 4 on, between zeros
-link_takes : (kind : ℕ) (bytes : List ℕ) → length bytes ≡ 4064 → IsBytes bytes → kind_at bytes ≡ kind → link_fault bytes ≡ None → bytes ≡ link_bytes kind (four_at 4 bytes)
+link_takes : (kind : ℕ) (bytes : List ℕ) → length bytes ≡ 4064 → IsBytes bytes → kind_at bytes ≡ kind
+    → link_fault bytes ≡ None → bytes ≡ link_bytes kind (four_at 4 bytes)
 link_takes kind bytes long all is passes =
     let blanks = both_true _ _ (passed _ _ _ passes).0 in
     let front = zeros_at 1 3 bytes (omega (arith, long)) blanks.0 in
     let page = four_takes 4 bytes (omega (arith, long)) all in
-    let back : drop 8 bytes ≡ zeros 4056 = zeros_of 4056 (drop 8 bytes) (omega (arith, long, length-drop 8 bytes)) blanks.1 in
-    let parts = front ∙ ap (λ (xs : List ℕ). zeros 3 ++ xs) (page ∙ ap (λ (xs : List ℕ). four (four_at 4 bytes) ++ xs) back) in
+    let back : drop 8 bytes ≡ zeros 4056 = zeros_of 4056 (drop 8 bytes) (omega (arith, long, length-drop 8 bytes))
+    blanks.1 in
+    let parts = front ∙ ap (λ (xs : List ℕ). zeros 3 ++ xs) (page
+    ∙ ap (λ (xs : List ℕ). four (four_at 4 bytes) ++ xs) back) in
     kind_first bytes (omega (arith, long)) ∙ (λ i. is i ∷ parts i)
 
-page_takes : (bytes : List ℕ) → length bytes ≡ 4064 → IsBytes bytes → fault_of bytes ≡ None → Spells (page_at bytes) bytes
-page_takes bytes long all passes = by_kind (eqb (kind_at bytes) 3) (eqb (kind_at bytes) 2) (eqb (kind_at bytes) 4) (eqb (kind_at bytes) 5) refl refl refl refl passes
+page_takes : (bytes : List ℕ) → length bytes ≡ 4064 → IsBytes bytes → fault_of bytes ≡ None
+    → Spells (page_at bytes) bytes
+page_takes bytes long all passes = by_kind (eqb (kind_at bytes) 3) (eqb (kind_at bytes) 2) (eqb (kind_at bytes) 4)
+    (eqb (kind_at bytes) 5) refl refl refl refl passes
   where
-    by_kind : (bucket directory tombstone free : Bool) → eqb (kind_at bytes) 3 ≡ bucket → eqb (kind_at bytes) 2 ≡ directory → eqb (kind_at bytes) 4 ≡ tombstone → eqb (kind_at bytes) 5 ≡ free
-        → cond bucket (bucket_fault bytes) (cond directory (directory_fault bytes) (cond (tombstone || free) (link_fault bytes) (Some faults.Kind))) ≡ None
-        → Spells (cond bucket (kinds.Bucket (bucket_at bytes)) (cond directory (kinds.Directory (entries_of (entries_area bytes))) (cond tombstone (kinds.Tombstone (four_at 4 bytes)) (kinds.Free (four_at 4 bytes))))) bytes
+    by_kind : (bucket directory tombstone free : Bool) → eqb (kind_at bytes) 3 ≡ bucket
+        → eqb (kind_at bytes) 2 ≡ directory → eqb (kind_at bytes) 4 ≡ tombstone → eqb (kind_at bytes) 5 ≡ free
+        → cond bucket (bucket_fault bytes) (cond directory (directory_fault bytes)
+        (cond (tombstone || free) (link_fault bytes) (Some faults.Kind))) ≡ None
+        → Spells (cond bucket (kinds.Bucket (bucket_at bytes))
+        (cond directory (kinds.Directory (entries_of (entries_area bytes)))
+        (cond tombstone (kinds.Tombstone (four_at 4 bytes)) (kinds.Free (four_at 4 bytes))))) bytes
     by_kind true directory tombstone free a b c d passes = bucket_takes bytes long all (eqb-true _ _ a) passes
     by_kind false true tombstone free a b c d passes = directory_takes bytes long all (eqb-true _ _ b) passes
-    by_kind false false true free a b c d passes = record { in_range = four_small 4 bytes all; spelled = link_takes 4 bytes long all (eqb-true _ _ c) passes }
-    by_kind false false false true a b c d passes = record { in_range = four_small 4 bytes all; spelled = link_takes 5 bytes long all (eqb-true _ _ d) passes }
+    by_kind false false true free a b c d passes = record {
+      in_range = four_small 4 bytes all;
+      spelled =
+          link_takes 4 bytes long all (eqb-true _ _ c) passes;
+    }
+    by_kind false false false true a b c d passes = record {
+      in_range = four_small 4 bytes all;
+      spelled =
+          link_takes 5 bytes long all (eqb-true _ _ d) passes;
+    }
     by_kind false false false false a b c d passes = absurd cc
 
-answered : (fault : Option Malformed) (page : PageKind) (bytes : List ℕ) → (fault ≡ None → Spells page bytes) → IfOk (answer fault page) (λ p. Spells p bytes)
+answered : (fault : Option Malformed) (page : PageKind) (bytes : List ℕ) → (fault ≡ None → Spells page bytes)
+    → IfOk (answer fault page) (λ p. Spells p bytes)
 answered None page bytes spells = spells refl
 answered (Some m) page bytes spells = tt
 
 -- what is read is spelled
-pub is_spelled : (bytes : List ℕ) (r : Result PageKind Malformed) → length bytes ≡ 4064 → IsBytes bytes → r ≡ reading bytes → IfOk r (λ page. Spells page bytes)
+pub is_spelled : (bytes : List ℕ) (r : Result PageKind Malformed) → length bytes ≡ 4064 → IsBytes bytes
+    → r ≡ reading bytes → IfOk r (λ page. Spells page bytes)
 is_spelled bytes r long all is =
-    subst (λ (x : Result PageKind Malformed). IfOk x (λ page. Spells page bytes)) (sym is) (answered (fault_of bytes) (page_at bytes) bytes (page_takes bytes long all))
+    subst (λ (x : Result PageKind Malformed). IfOk x (λ page. Spells page bytes)) (sym is)
+    (answered (fault_of bytes) (page_at bytes) bytes (page_takes bytes long all))
 
 -- a fault is answered whatever the value
-pub refused : {X Y : Type 0} (fault : Option Malformed) (x : X) (y : Y) (m : Malformed) → ◌≡◌ {A = Result X Malformed} (Err m) (answer fault x) → ◌≡◌ {A = Result Y Malformed} (Err m) (answer fault y)
+pub refused : {X Y : Type 0} (fault : Option Malformed) (x : X) (y : Y) (m : Malformed)
+    → ◌≡◌ {A = Result X Malformed} (Err m) (answer fault x) → ◌≡◌ {A = Result Y Malformed} (Err m) (answer fault y)
 refused None x y m is = absurd cc
 refused (Some f) x y m is = let same : m ≡ f = cc in ap Err same
 
-pub bucket_kind : (bytes : List ℕ) → kind_at bytes ≡ BUCKET → answer (bucket_fault bytes) (page_at bytes) ≡ reading bytes
+pub bucket_kind : (bytes : List ℕ) → kind_at bytes ≡ BUCKET
+    → answer (bucket_fault bytes) (page_at bytes) ≡ reading bytes
 bucket_kind bytes is = rw is refl

@@ -8,19 +8,32 @@ use Rattle.bucket_page.specs.Changes.{inserted_at, taken_out}
 use Rattle.bucket_page.proofs.Zeros.{drop-zeros, zeros-zeros}
 
 -- the parts that `insert` makes are those of its contract
-pub insert_parts : (bytes : List ℕ) (used at n : ℕ) (new front back region rest placed : List ℕ) → at ≤ used → length new ≡ n → used + n ≤ length bytes
-    → front ≡ take at bytes → back ≡ drop at bytes → region ≡ take (used + n - at) back → rest ≡ drop (used + n - at) back
+pub insert_parts : (bytes : List ℕ) (used at n : ℕ) (new front back region rest placed : List ℕ) → at ≤ used
+    → length new ≡ n → used + n ≤ length bytes
+    → front ≡ take at bytes → back ≡ drop at bytes → region ≡ take (used + n - at) back
+    → rest ≡ drop (used + n - at) back
     → placed ≡ new ++ take (length region - n) region → front ++ (placed ++ rest) ≡ inserted_at bytes used at new
-insert_parts bytes used at n new front back region rest placed low len fits front-is back-is region-is rest-is placed-is =
+insert_parts bytes used at n new front back region rest placed low len fits front-is back-is region-is rest-is
+    placed-is =
     let back-len : length back ≡ length bytes - at = ap length back-is ∙ length-drop at bytes in
-    let kept : length region - n ≡ used - at = omega (arith, low, fits, back-len, ap length region-is, length-take (used + n - at) back) in
+    let kept : length region - n ≡ used - at = omega (
+      arith,
+      low,
+      fits,
+      back-len,
+      ap length region-is,
+      length-take (used + n - at) back,
+    ) in
     let old : take (length region - n) region ≡ drop at (take used bytes) =
-    (λ i. take (kept i) (region-is i)) ∙ take-take (used - at) (used + n - at) back (omega (arith, low)) ∙ ap (take (used - at)) back-is
+    (λ i. take (kept i) (region-is i)) ∙ take-take (used - at) (used + n - at) back (omega (arith, low))
+    ∙ ap (take (used - at)) back-is
     ∙ sym (drop-take at (used - at) bytes) ∙ ap (λ (k : ℕ). drop at (take k bytes)) reach in
     let after : rest ≡ drop (used + length new) bytes =
-    rest-is ∙ ap (drop (used + n - at)) back-is ∙ drop-drop (used + n - at) at bytes ∙ ap (λ (k : ℕ). drop k bytes) end in
+    rest-is ∙ ap (drop (used + n - at)) back-is ∙ drop-drop (used + n - at) at bytes
+    ∙ ap (λ (k : ℕ). drop k bytes) end in
     (λ i. front-is i ++ ((placed-is ∙ ap (λ (xs : List ℕ). new ++ xs) old) i ++ after i))
-    ∙ ap (λ (xs : List ℕ). take at bytes ++ xs) (append_assoc new (drop at (take used bytes)) (drop (used + length new) bytes))
+    ∙ ap (λ (xs : List ℕ). take at bytes ++ xs) (append_assoc new (drop at (take used bytes))
+    (drop (used + length new) bytes))
   where
     reach : at + (used - at) ≡ used
     reach = omega (arith, low)
@@ -34,13 +47,18 @@ pub inserted_between : (f b new : List ℕ) (room : ℕ) → length (f ++ b) + l
 inserted_between f b new room fits =
     let r : List ℕ = f ++ b in
     let z : List ℕ = zeros (room - length r) in
-    let front : take (length f) (r ++ z) ≡ f = ap (take (length f)) (append_assoc f b z) ∙ take_at f (b ++ z) (length f) refl in
-    let middle : drop (length f) (take (length r) (r ++ z)) ≡ b = ap (drop (length f)) (take_at r z (length r) refl) ∙ drop_at f b (length f) refl in
-    let left : room - length r - length new ≡ room - length (f ++ (new ++ b)) = omega (arith, fits, length-append f b, length-append f (new ++ b), length-append new b) in
+    let front : take (length f) (r ++ z) ≡ f = ap (take (length f)) (append_assoc f b z)
+    ∙ take_at f (b ++ z) (length f) refl in
+    let middle : drop (length f) (take (length r) (r ++ z)) ≡ b =
+    ap (drop (length f)) (take_at r z (length r) refl) ∙ drop_at f b (length f) refl in
+    let left : room - length r - length new ≡ room - length (f ++ (new ++ b)) =
+    omega (arith, fits, length-append f b, length-append f (new ++ b), length-append new b) in
     let rest : drop (length r) (r ++ z) ≡ z = drop_at r z (length r) refl in
     let back : drop (length r + length new) (r ++ z) ≡ zeros (room - length (f ++ (new ++ b))) =
-    sym (drop-drop (length new) (length r) (r ++ z)) ∙ ap (drop (length new)) rest ∙ drop-zeros (length new) (room - length r) ∙ ap zeros left in
-    let whole = append_assoc f (new ++ b) (zeros (room - length (f ++ (new ++ b)))) ∙ ap (λ (xs : List ℕ). f ++ xs) (append_assoc new b (zeros (room - length (f ++ (new ++ b))))) in
+    sym (drop-drop (length new) (length r) (r ++ z)) ∙ ap (drop (length new)) rest
+    ∙ drop-zeros (length new) (room - length r) ∙ ap zeros left in
+    let whole = append_assoc f (new ++ b) (zeros (room - length (f ++ (new ++ b))))
+    ∙ ap (λ (xs : List ℕ). f ++ xs) (append_assoc new b (zeros (room - length (f ++ (new ++ b))))) in
     (λ i. front i ++ (new ++ (middle i ++ back i))) ∙ sym whole
 
 -- bytes between a front and a back are gone
@@ -50,31 +68,42 @@ taken_between f x b room fits =
     let r : List ℕ = f ++ (x ++ b) in
     let z : List ℕ = zeros (room - length r) in
     let whole : r ++ z ≡ f ++ ((x ++ b) ++ z) = append_assoc f (x ++ b) z in
-    let front : take (length f) (r ++ z) ≡ f = ap (take (length f)) whole ∙ take_at f ((x ++ b) ++ z) (length f) refl in
-    let rest : drop (length f) (r ++ z) ≡ (x ++ b) ++ z = ap (drop (length f)) whole ∙ drop_at f ((x ++ b) ++ z) (length f) refl in
+    let front : take (length f) (r ++ z) ≡ f = ap (take (length f)) whole
+    ∙ take_at f ((x ++ b) ++ z) (length f) refl in
+    let rest : drop (length f) (r ++ z) ≡ (x ++ b) ++ z =
+    ap (drop (length f)) whole ∙ drop_at f ((x ++ b) ++ z) (length f) refl in
     let len : length (x ++ b) ≡ length r - length f = omega (arith, length-append f (x ++ b)) in
-    let used : take (length r - length f) (drop (length f) (r ++ z)) ≡ x ++ b = ap (take (length r - length f)) rest ∙ take_at (x ++ b) z (length r - length f) len in
-    let left : drop (length x) (take (length r - length f) (drop (length f) (r ++ z))) ≡ b = ap (drop (length x)) used ∙ drop_at x b (length x) refl in
-    let behind : drop (length r - length f) (drop (length f) (r ++ z)) ≡ z = ap (drop (length r - length f)) rest ∙ drop_at (x ++ b) z (length r - length f) len in
-    let room-left : length x + (room - length r) ≡ room - length (f ++ b) = omega (arith, fits, length-append f (x ++ b), length-append x b, length-append f b) in
+    let used : take (length r - length f) (drop (length f) (r ++ z)) ≡ x ++ b =
+    ap (take (length r - length f)) rest ∙ take_at (x ++ b) z (length r - length f) len in
+    let left : drop (length x) (take (length r - length f) (drop (length f) (r ++ z))) ≡ b =
+    ap (drop (length x)) used ∙ drop_at x b (length x) refl in
+    let behind : drop (length r - length f) (drop (length f) (r ++ z)) ≡ z =
+    ap (drop (length r - length f)) rest ∙ drop_at (x ++ b) z (length r - length f) len in
+    let room-left : length x + (room - length r) ≡ room - length (f ++ b) =
+    omega (arith, fits, length-append f (x ++ b), length-append x b, length-append f b) in
     (λ i. front i ++ ((left i ++ zeros (length x)) ++ behind i))
-    ∙ ap (λ (xs : List ℕ). f ++ xs) (append_assoc b (zeros (length x)) z ∙ ap (λ (xs : List ℕ). b ++ xs) (zeros-zeros (length x) (room - length r) ∙ ap zeros room-left))
+    ∙ ap (λ (xs : List ℕ). f ++ xs) (append_assoc b (zeros (length x)) z
+    ∙ ap (λ (xs : List ℕ). b ++ xs) (zeros-zeros (length x) (room - length r) ∙ ap zeros room-left))
     ∙ sym (append_assoc f b (zeros (room - length (f ++ b))))
 
 -- bytes between a front and a back are written over
-pub written_between : (f old new b : List ℕ) (at : ℕ) → length f ≡ at → length old ≡ length new → overwritten (f ++ (old ++ b)) at new ≡ f ++ (new ++ b)
+pub written_between : (f old new b : List ℕ) (at : ℕ) → length f ≡ at → length old ≡ length new
+    → overwritten (f ++ (old ++ b)) at new ≡ f ++ (new ++ b)
 written_between f old new b at len same =
     let front = take_at f (old ++ b) at len in
     let back : drop (at + length new) (f ++ (old ++ b)) ≡ b =
-    sym (drop-drop (length new) at (f ++ (old ++ b))) ∙ ap (drop (length new)) (drop_at f (old ++ b) at len) ∙ drop_at old b (length new) same in
+    sym (drop-drop (length new) at (f ++ (old ++ b))) ∙ ap (drop (length new)) (drop_at f (old ++ b) at len)
+    ∙ drop_at old b (length new) same in
     (λ i. front i ++ new ++ back i) ∙ append_assoc f new b
 
 -- what is written behind a part leaves it
-pub written_behind : (p q new : List ℕ) (at : ℕ) → overwritten (p ++ q) (length p + at) new ≡ p ++ overwritten q at new
+pub written_behind : (p q new : List ℕ) (at : ℕ) → overwritten (p ++ q) (length p + at) new
+    ≡ p ++ overwritten q at new
 written_behind p q new at =
     let front = take-append-add p q at in
     let end : length p + at + length new ≡ length p + (at + length new) = omega arith in
-    let back : drop (length p + at + length new) (p ++ q) ≡ drop (at + length new) q = ap (λ (k : ℕ). drop k (p ++ q)) end ∙ drop-append-add p q (at + length new) in
+    let back : drop (length p + at + length new) (p ++ q) ≡ drop (at + length new) q =
+    ap (λ (k : ℕ). drop k (p ++ q)) end ∙ drop-append-add p q (at + length new) in
     (λ i. front i ++ new ++ back i)
     ∙ ap (λ (xs : List ℕ). xs ++ drop (at + length new) q) (append_assoc p (take at q) new)
     ∙ append_assoc p (take at q ++ new) (drop (at + length new) q)

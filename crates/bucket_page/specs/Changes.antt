@@ -1,16 +1,14 @@
 -- Changes of a bucket's records: those of a set of pairs that is listed in the order of its keys.
-use Rattle.std.specs.Prelude.{◌≡◌, ℕ, ◌+◌, ◌-◌, true, List, [], ◌∷◌, ◌++◌, length, take, drop, if◌then◌else◌}
+use Rattle.std.specs.Prelude.{◌≡◌, ℕ, ◌+◌, ◌-◌, true, Some, List, [], ◌∷◌, ◌++◌, length, take, drop, if◌then◌else◌}
+use Rattle.std.specs.Option.{option_map}
 use Rattle.bucket_page.specs.declared.record_key.RecordKey.{RecordKey}
 use Rattle.bucket_page.specs.declared.page.PageKind.TheVariants as kinds
 use Rattle.bucket_page.specs.Numbers.{zeros}
 use Rattle.bucket_page.specs.Keys.{is_same, is_below}
-use Rattle.bucket_page.specs.Records.{Pair, record_bytes, ascend}
+use Rattle.bucket_page.specs.Records.{Pair, record_bytes, ascend, lookup}
 use Rattle.bucket_page.specs.Bucket.{Bucket}
 use Rattle.bucket_page.specs.Spelling.{Spells}
 use Rattle.bucket_page.specs.Reading.{bucket_at, entries_at, records_at}
-
-abbrev pub pair : RecordKey → List ℕ → Pair
-pair key value = record { key = key; value = value }
 
 -- a pair is put before the first greater key
 abbrev pub inserted : Pair → List Pair → List Pair
@@ -27,6 +25,10 @@ abbrev pub removed : RecordKey → List Pair → List Pair
 removed key [] = []
 removed key (q ∷ qs) = if is_same q.key key then qs else q ∷ removed key qs
 
+-- the key has a value of so many bytes
+abbrev pub HasValueOf : ℕ → RecordKey → List Pair → Type 0
+HasValueOf n key ps = option_map length (lookup key ps) ≡ Some n
+
 -- ---- payloads
 
 abbrev pub SpellsBucket : Bucket → List ℕ → Type 0
@@ -36,20 +38,23 @@ SpellsBucket b payload = Spells (kinds.Bucket b) payload
 abbrev pub IsBucketPage : List ℕ → Type 0
 IsBucketPage payload = SpellsBucket (bucket_at payload) payload
 
+abbrev pub SpellsDirectory : List ℕ → List ℕ → Type 0
+SpellsDirectory es payload = Spells (kinds.Directory es) payload
+
 -- the payload is a directory page's
 abbrev pub IsDirectoryPage : List ℕ → Type 0
-IsDirectoryPage payload = Spells (kinds.Directory (entries_at payload)) payload
+IsDirectoryPage payload = SpellsDirectory (entries_at payload) payload
 
 -- the bucket's records became what the change makes of them, and its other numbers stayed
-abbrev pub ChangesRecords : (List Pair → List Pair) → List ℕ → List ℕ → Type 0
-ChangesRecords change old new =
+abbrev pub Changes : (List Pair → List Pair) → List ℕ → List ℕ → Type 0
+Changes change old new =
     SpellsBucket (record (bucket_at old) { records = change (records_at old) }) new
 
 -- ---- what the code does on the way
 
 -- a pair is put behind all others
 abbrev pub Appends : Pair → List ℕ → List ℕ → Type 0
-Appends p old new = ChangesRecords (λ ps. ps ++ p ∷ []) old new
+Appends p old new = Changes (λ ps. ps ++ p ∷ []) old new
 
 -- the records below a key
 abbrev pub below : RecordKey → List Pair → List Pair
@@ -60,13 +65,16 @@ below key (q ∷ qs) = if is_below q.key key then q ∷ below key qs else []
 abbrev pub InsertsAt : ℕ → Pair → List ℕ → List ℕ → Type 0
 InsertsAt at p old new =
     (lower upper : List Pair) → records_at old ≡ lower ++ upper → at ≡ length (record_bytes lower)
-    → ascend (lower ++ p ∷ upper) ≡ true → ChangesRecords (λ _. lower ++ p ∷ upper) old new
+    → ascend (lower ++ p ∷ upper) ≡ true → Changes (λ _. lower ++ p ∷ upper) old new
 
 -- new bytes stand at a place, in the room behind the used ones
 abbrev pub inserted_at : List ℕ → ℕ → ℕ → List ℕ → List ℕ
-inserted_at bytes used at new = take at bytes ++ (new ++ (drop at (take used bytes) ++ drop (used + length new) bytes))
+inserted_at bytes used at new =
+    take at bytes ++ (new ++ (drop at (take used bytes) ++ drop (used + length new) bytes))
 
 -- so many bytes at a place are gone, with as many zeros behind the other used ones
 abbrev pub taken_out : List ℕ → ℕ → ℕ → ℕ → List ℕ
 taken_out bytes used at count =
-    take at bytes ++ ((drop count (take (used - at) (drop at bytes)) ++ zeros count) ++ drop (used - at) (drop at bytes))
+    take at bytes
+    ++ ((drop count (take (used - at) (drop at bytes)) ++ zeros count)
+    ++ drop (used - at) (drop at bytes))

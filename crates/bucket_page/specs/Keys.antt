@@ -9,13 +9,17 @@ pub record IsKey (k : RecordKey) : Type 0 where
   pub queue : k.queue < 2 ^ 32
   pub number : k.number < 2 ^ 64
 
--- the thirteen bytes of a key; unfoldable, as is the next, so that goals about records keep them as one word
+-- the thirteen bytes of a key; unfoldable, as are the next two, so that goals keep them as one word
 unfoldable pub key_bytes : RecordKey → List ℕ
 key_bytes k = k.kind ∷ (four k.queue ++ eight k.number)
 
 -- the key whose bytes stand first
 unfoldable pub key_at : List ℕ → RecordKey
-key_at bytes = record { kind = slice_index bytes 0; queue = four_at 1 bytes; number = eight_at 5 bytes }
+key_at bytes = record {
+  kind = slice_index bytes 0;
+  queue = four_at 1 bytes;
+  number = eight_at 5 bytes;
+}
 
 -- two keys are one
 abbrev pub is_same : RecordKey → RecordKey → Bool
@@ -24,5 +28,5 @@ is_same a b = a.kind == b.kind && (a.queue == b.queue && a.number == b.number)
 -- the order of keys: by kind, then by queue, then by number
 unfoldable pub is_below : RecordKey → RecordKey → Bool
 is_below a b =
-    nat_lt a.kind b.kind
-    || a.kind == b.kind && (nat_lt a.queue b.queue || a.queue == b.queue && nat_lt a.number b.number)
+    nat_lt a.kind b.kind || a.kind == b.kind
+    && (nat_lt a.queue b.queue || a.queue == b.queue && nat_lt a.number b.number)

@@ -1,4 +1,4 @@
--- What a reader wants to know of the definitions, each on the contract of a function of src/laws.rt.
+-- What a reader wants to know of the definitions; each is the contract of a function of laws.rt.
 use Rattle.std.specs.Prelude.{◌≡◌, ◌↔◌, ℕ, ◌<◌, Bool, true, false, Option, Some, None, IsSome, List, length, get_or, if◌then◌else◌}
 use Rattle.std.specs.List.{AllByRecursion}
 use Rattle.std.specs.Ordering.{is_lt, nat_cmp}
@@ -17,7 +17,8 @@ SpelledOnce = (a b : PageKind) (payload : List ℕ) → Spells a payload → Spe
 
 -- the order of keys is that of their bytes
 abbrev pub OrderIsOfBytes : Type 0
-OrderIsOfBytes = (a b : RecordKey) → IsKey a → IsKey b → is_below a b ≡ is_lt (slice_cmp nat_cmp (key_bytes a) (key_bytes b))
+OrderIsOfBytes = (a b : RecordKey) → IsKey a → IsKey b →
+    is_below a b ≡ is_lt (slice_cmp nat_cmp (key_bytes a) (key_bytes b))
 
 -- the order is strict, and any two keys stand in it
 pub record IsStrictOrder : Type 0 where
@@ -26,12 +27,17 @@ pub record IsStrictOrder : Type 0 where
   pub linear : (a b : RecordKey) → is_below a b ≡ false → is_same a b ≡ false → is_below b a ≡ true
   pub same : (a b : RecordKey) → is_same a b ≡ true → a ≡ b
 
--- bytes are filled by so many records where they are the bytes of so many
+-- so many pairs that have bytes
+abbrev pub AreRecords : ℕ → List Pair → Type 0
+AreRecords n ps = AllByRecursion IsPair ps × (length ps ≡ n)
+
+-- bytes are those of so many records
 abbrev pub AreBytesOf : ℕ → List ℕ → Type 0
-AreBytesOf n bytes = (ps : List Pair) × AllByRecursion IsPair ps × (length ps ≡ n) × (bytes ≡ record_bytes ps)
+AreBytesOf n bytes = (ps : List Pair) × AreRecords n ps × (bytes ≡ record_bytes ps)
 
 abbrev pub FillsIsSpelled : Type 0
-FillsIsSpelled = (n : ℕ) (bytes : List ℕ) → ((i : ℕ) → get_or bytes i 0 < 256) → (fills n bytes ≡ true) ↔ AreBytesOf n bytes
+FillsIsSpelled = (n : ℕ) (bytes : List ℕ) → ((i : ℕ) → get_or bytes i 0 < 256) →
+    (fills n bytes ≡ true) ↔ AreBytesOf n bytes
 
 -- ---- the changes are those of a set of pairs
 
@@ -50,8 +56,10 @@ RemoveClearsOneKey = (key gone : RecordKey) (ps : List Pair) → ascend ps ≡ t
 
 -- a half has the pairs whose pseudokey has the bit as it should be
 abbrev pub HalfHasItsPairs : Type 0
-HalfHasItsPairs = (set : Bool) (place : ℕ) (of_key : RecordKey → ℕ) (key : RecordKey) (ps : List Pair) →
-    lookup key (with_bit set place of_key ps) ≡ (if has_bit_as set place (of_key key) then lookup key ps else None)
+HalfHasItsPairs =
+    (set : Bool) (place : ℕ) (of_key : RecordKey → ℕ) (key : RecordKey) (ps : List Pair) →
+    lookup key (with_bit set place of_key ps)
+    ≡ (if has_bit_as set place (of_key key) then lookup key ps else None)
 
 -- the one or the other, where there is one
 abbrev pub either : {X : Type 0} → Option X → Option X → Option X

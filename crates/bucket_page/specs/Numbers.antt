@@ -1,4 +1,4 @@
--- Numbers in bytes, the highest byte first. They are unfoldable, so that no proof counts their bytes out.
+-- Numbers in bytes, the highest byte first; unfoldable, so that no proof counts their bytes out.
 use Rattle.std.specs.Prelude.{ℕ, ◌+◌, List, ◌++◌, length, take, drop, replicate}
 use Rattle.byteorder.specs.Endian.{big_bytes, big_number}
 

@@ -35,7 +35,8 @@ IsBytes-append (x ∷ a) b first second (suc i) = IsBytes-append a b (λ j. firs
 IsBytes-digest : (h : List ℕ) (n : ℕ) → IsBytes (digest_bytes h n)
 unfolding digest_bytes
 IsBytes-digest h zero i = omega arith
-IsBytes-digest h (suc n) i = IsBytes-append (digest_bytes h n) _ (IsBytes-digest h n) (IsBytes-number 4 _) i
+IsBytes-digest h (suc n) i =
+    IsBytes-append (digest_bytes h n) _ (IsBytes-digest h n) (IsBytes-number 4 _) i
 
 IsBytes-sha256 : (m : List ℕ) → IsBytes (sha256 m)
 unfolding sha256

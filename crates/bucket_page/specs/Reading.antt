@@ -65,7 +65,8 @@ head_at bytes = record {
 -- a tombstone or a free page
 abbrev pub link_page_at : List ℕ → PageKind
 link_page_at bytes =
-    if kind_at bytes == TOMBSTONE then kinds.Tombstone (four_at 4 bytes) else kinds.Free (four_at 4 bytes)
+    if kind_at bytes == TOMBSTONE then kinds.Tombstone (four_at 4 bytes)
+    else kinds.Free (four_at 4 bytes)
 
 abbrev pub page_at : List ℕ → PageKind
 page_at bytes =
@@ -112,16 +113,24 @@ bucket_fault bytes = first_failed (
     ∷ (has_padding bytes, faults.Padding)
     ∷ [])
 
+-- each byte that is neither a directory page's kind nor its entries is zero
+abbrev pub has_directory_padding : List ℕ → Bool
+has_directory_padding bytes = is_zero (take 15 (drop 1 bytes)) && is_zero (after_entries bytes)
+
 abbrev pub directory_fault : List ℕ → Option Malformed
-directory_fault bytes =
-    first_failed ((is_zero (take 15 (drop 1 bytes)) && is_zero (after_entries bytes), faults.Padding) ∷ [])
+directory_fault bytes = first_failed ((has_directory_padding bytes, faults.Padding) ∷ [])
+
+-- each byte that is neither the kind nor the link is zero
+abbrev pub has_link_padding : List ℕ → Bool
+has_link_padding bytes = is_zero (take 3 (drop 1 bytes)) && is_zero (drop 8 bytes)
 
 abbrev pub link_fault : List ℕ → Option Malformed
-link_fault bytes = first_failed ((is_zero (take 3 (drop 1 bytes)) && is_zero (drop 8 bytes), faults.Padding) ∷ [])
+link_fault bytes = first_failed ((has_link_padding bytes, faults.Padding) ∷ [])
 
 abbrev pub link_page_fault : List ℕ → Option Malformed
 link_page_fault bytes =
-    if kind_at bytes == TOMBSTONE || kind_at bytes == FREE then link_fault bytes else Some faults.Kind
+    if kind_at bytes == TOMBSTONE || kind_at bytes == FREE then link_fault bytes
+    else Some faults.Kind
 
 abbrev pub fault_of : List ℕ → Option Malformed
 fault_of bytes =

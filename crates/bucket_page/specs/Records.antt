@@ -1,4 +1,4 @@
--- Records of a bucket, and their bytes: two bytes of length of the value, thirteen of key, the value.
+-- Records of a bucket, and their bytes: the value's length (2), the key (13), the value.
 use Rattle.std.specs.Prelude.{ℕ, zero, suc, ◌<◌, ◌^◌, ◌==◌, nat_le, Option, Some, None, Bool, true, ◌&&◌, List, [], ◌∷◌, ◌++◌, length, take, drop, if◌then◌else◌}
 use Rattle.std.specs.List.{flat_map}
 use Rattle.bucket_page.specs.declared.record_key.RecordKey.{RecordKey}
@@ -9,6 +9,9 @@ use Rattle.bucket_page.specs.Keys.{IsKey, key_bytes, key_at, is_same, is_below}
 pub record Pair : Type 0 where
   pub key : RecordKey
   pub value : List ℕ
+
+abbrev pub pair : RecordKey → List ℕ → Pair
+pair key value = record { key = key; value = value }
 
 -- a pair that has bytes
 pub record IsPair (p : Pair) : Type 0 where
@@ -23,7 +26,7 @@ record_bytes ps = flat_map pair_bytes ps
 
 -- the record that stands first
 abbrev pub pair_at : List ℕ → Pair
-pair_at bytes = record { key = key_at (drop 2 bytes); value = take (two_at 0 bytes) (drop 15 bytes) }
+pair_at bytes = pair (key_at (drop 2 bytes)) (take (two_at 0 bytes) (drop 15 bytes))
 
 -- the bytes after it
 abbrev pub after_pair : List ℕ → List ℕ

@@ -1,10 +1,9 @@
 //! Changes of a bucket in its payload.
 
 ghost use Rattle.std.specs.Prelude.{[], ◌∷◌, ◌++◌, true, ◌≡◌, ◌↔◌, ◌+◌, ◌<◌, ◌≤◌, IsErr, IsSome, OnErr, OnOk, Some, None, length};
-ghost use Rattle.std.specs.Option.{option_map};
-ghost use Rattle.bucket_page.specs.Records.{ascend, lookup, record_bytes};
+ghost use Rattle.bucket_page.specs.Records.{ascend, pair, lookup, record_bytes};
 ghost use Rattle.bucket_page.specs.Reading.{records_at, used_at};
-ghost use Rattle.bucket_page.specs.Changes.{Appends, ChangesRecords, InsertsAt, IsBucketPage, below, inserted, pair, removed, replaced};
+ghost use Rattle.bucket_page.specs.Changes.{Appends, Changes, InsertsAt, HasValueOf, IsBucketPage, below, inserted, removed, replaced};
 
 use crate::field::{set_bytes, two_at};
 use crate::head::Head;
@@ -25,7 +24,7 @@ pub struct DoesNotFit;
 pub fn put(payload: &mut Payload, key: &RecordKey, value: &[u8]) -> Result<(), DoesNotFit>
     requires bucket { IsBucketPage payload.old }
     requires absent { lookup key.now (records_at payload.old) ≡ None }
-    ensures ok { OnOk result (ChangesRecords (inserted (pair key.now value.now)) payload.old payload.new) }
+    ensures ok { OnOk result (Changes (inserted (pair key.now value.now)) payload.old payload.new) }
     ensures full { IsErr result ↔ ROOM_BYTES
         < length (record_bytes (records_at payload.old)) + (RECORD_HEAD_BYTES + length value.now) }
     ensures err { OnErr result (payload.new ≡ payload.old) }
@@ -46,7 +45,7 @@ pub(crate) fn put_fitting(payload: &mut Payload, key: &RecordKey, value: &[u8])
     requires bucket { IsBucketPage payload.old }
     requires absent { lookup key.now (records_at payload.old) ≡ None }
     requires room { used_at payload.old + (RECORD_HEAD_BYTES + length value.now) ≤ ROOM_BYTES }
-    ensures { ChangesRecords (inserted (pair key.now value.now)) payload.old payload.new }
+    ensures { Changes (inserted (pair key.now value.now)) payload.old payload.new }
 {
     let at = place(payload, key);
     insert_record(payload, at, key, value);
@@ -66,8 +65,8 @@ pub(crate) fn append(payload: &mut Payload, key: &RecordKey, value: &[u8])
 /// Replaces the value of a key that the bucket has by one of the same length.
 pub fn replace(payload: &mut Payload, key: &RecordKey, value: &[u8])
     requires bucket { IsBucketPage payload.old }
-    requires there { option_map length (lookup key.now (records_at payload.old)) ≡ Some (length value.now) }
-    ensures ok { ChangesRecords (replaced (pair key.now value.now)) payload.old payload.new }
+    requires there { HasValueOf (length value.now) key.now (records_at payload.old) }
+    ensures ok { Changes (replaced (pair key.now value.now)) payload.old payload.new }
 {
     let at = place(payload, key);
     let (_, body) = payload.split_at_mut(HEAD_BYTES);
@@ -78,7 +77,7 @@ pub fn replace(payload: &mut Payload, key: &RecordKey, value: &[u8])
 pub fn remove(payload: &mut Payload, key: &RecordKey)
     requires bucket { IsBucketPage payload.old }
     requires there { IsSome (lookup key.now (records_at payload.old)) }
-    ensures ok { ChangesRecords (removed key.now) payload.old payload.new }
+    ensures ok { Changes (removed key.now) payload.old payload.new }
 {
     let at = place(payload, key);
     let head = Head::read(payload);

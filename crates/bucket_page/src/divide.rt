@@ -1,4 +1,4 @@
-//! A bucket cut in two, and two buddies joined. The new buckets are written into payloads that are handed in.
+//! A bucket cut in two, and two buddies joined, written into payloads that are handed in.
 
 ghost use Rattle.std.specs.Prelude.{[], Bool, ◌≡◌, ◌+◌, ◌<◌, ◌≤◌, ◌==◌, length, true};
 ghost use Rattle.bucket_page.specs.Reading.{bucket_at, records_at};
@@ -13,8 +13,8 @@ use crate::pseudokey::PseudoKey;
 use crate::write::write_bucket;
 use page_device::Payload;
 
-/// Cuts a bucket in two: the old one keeps the records whose pseudokeys have 0 in the next bit, and the new one,
-/// which is to stand on `page`, gets the others and follows it.
+/// Cuts a bucket in two: the old one keeps the records whose pseudokeys have 0 in the next bit, and
+/// the new one, which is to stand on `page`, gets the others and follows it (Fagin et al. 1979).
 pub fn cut<K: PseudoKey>(keys: &K, full: &Payload, page: u32, old: &mut Payload, new: &mut Payload)
     requires bucket { IsBucketPage full.now }
     requires depth { (bucket_at full.now).depth < GREATEST_DEPTH }
@@ -40,7 +40,8 @@ pub fn join(left: &Payload, right: &Payload, into: &mut Payload)
     }
 }
 
-/// Writes the half of a bucket whose pseudokeys have 0 in the next bit. The other half is to stand on `page`.
+/// Writes the half of a bucket whose pseudokeys have 0 in the next bit. The other half is to stand
+/// on `page`.
 pub fn write_lower_half<K: PseudoKey>(keys: &K, full: &Payload, page: u32, into: &mut Payload)
     requires bucket { IsBucketPage full.now }
     requires depth { (bucket_at full.now).depth < GREATEST_DEPTH }
@@ -58,7 +59,7 @@ pub fn write_upper_half<K: PseudoKey>(keys: &K, full: &Payload, into: &mut Paylo
     write_half(keys, full, true, four_at(full, 8), into);
 }
 
-/// Writes the half of a bucket whose pseudokeys have 1 in the next bit, or the one whose pseudokeys have 0 there.
+/// Writes the half of a bucket whose pseudokeys have 1 in the next bit, or that of those with 0.
 fn write_half<K: PseudoKey>(keys: &K, full: &Payload, set: bool, next: u32, into: &mut Payload)
     requires bucket { IsBucketPage full.now }
     requires depth { (bucket_at full.now).depth < GREATEST_DEPTH }

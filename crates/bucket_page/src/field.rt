@@ -62,6 +62,24 @@ pub fn set_four(bytes: &mut [u8], at: usize, number: u32)
     set_bytes(bytes, at, &new);
 }
 
+/// Writes a number over four bytes.
+#[tactic(auto, unfolding(crate::specs::Numbers::four))]
+pub fn write_four(bytes: &mut [u8], number: u32)
+    requires { length bytes.old ≡ 4 }
+    ensures { bytes.new ≡ four number }
+{
+    BigEndian::write_u32(bytes, number);
+}
+
+/// Writes a number over eight bytes.
+#[tactic(auto, unfolding(crate::specs::Numbers::eight))]
+pub fn write_eight(bytes: &mut [u8], number: u64)
+    requires { length bytes.old ≡ 8 }
+    ensures { bytes.new ≡ eight number }
+{
+    BigEndian::write_u64(bytes, number);
+}
+
 /// Fills with zeros.
 #[tactic(auto, unfolding(crate::specs::Numbers::zeros))]
 pub fn blank(bytes: &mut [u8])

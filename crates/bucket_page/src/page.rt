@@ -51,7 +51,7 @@ pub enum PageKind<'a> {
     Free { next: u32 },
 }
 
-/// The page that a payload spells. The payload is accepted exactly where it is the one spelling of a page.
+/// The page that a payload spells. It is accepted exactly where it is the one spelling of a page.
 pub fn read_page(payload: &Payload) -> Result<PageKind<'_>, Malformed>
     // The first test that fails names the refusal.
     ensures value { result ≡ reading payload.now }

@@ -1,4 +1,4 @@
-//! Pseudokeys: how the keys of records are spread over buckets (Fagin, Nievergelt, Pippenger and Strong 1979).
+//! Pseudokeys: how the keys of records are spread over buckets (Fagin et al. 1979).
 
 ghost use Rattle.std.specs.Prelude.{◌≡◌, ◌%◌, ◌^◌};
 ghost use Rattle.bucket_page.specs.Pseudokeys.{sha_key};

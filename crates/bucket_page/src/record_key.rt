@@ -4,8 +4,7 @@ ghost use Rattle.std.specs.Prelude.{◌≡◌, ◌≤◌, length, true, IsTrue, 
 ghost use Rattle.bucket_page.specs.Numbers.{four, eight};
 ghost use Rattle.bucket_page.specs.Keys.{IsKey, key_bytes, key_at, is_below};
 
-use crate::field::{eight_at, four_at};
-use byteorder::{BigEndian, ByteOrder};
+use crate::field::{eight_at, four_at, write_eight, write_four};
 
 /// Bytes of a key.
 pub const KEY_BYTES: usize = 13;
@@ -38,8 +37,8 @@ impl RecordKey {
         key_at(bytes)
     }
 
-    /// Whether this key stands before another: by kind, then by queue, then by number. This is the order of
-    /// their bytes.
+    /// Whether this key stands before another: by kind, then by queue, then by number. This is the
+    /// order of their bytes.
     #[tactic(auto, unfolding(crate::specs::Keys::is_below))]
     pub fn is_below(&self, other: &RecordKey) -> bool
         ensures { result ≡ is_below self.now other.now }
@@ -77,7 +76,7 @@ pub fn key_at(bytes: &[u8]) -> RecordKey
 }
 
 /// Writes a key's bytes.
-#[tactic(auto, unfolding(crate::specs::Keys::key_bytes, crate::specs::Numbers::four, crate::specs::Numbers::eight))]
+#[tactic(auto, unfolding(crate::specs::Keys::key_bytes))]
 pub fn write_key(bytes: &mut [u8], key: &RecordKey)
     requires { length bytes.old ≡ KEY_BYTES }
     ensures { bytes.new ≡ key_bytes key.now }
@@ -85,6 +84,6 @@ pub fn write_key(bytes: &mut [u8], key: &RecordKey)
     let (kind, others) = bytes.split_at_mut(1);
     let (queue, number) = others.split_at_mut(4);
     kind[0] = key.kind;
-    BigEndian::write_u32(queue, key.queue);
-    BigEndian::write_u64(number, key.number);
+    write_four(queue, key.queue);
+    write_eight(number, key.number);
 }

@@ -39,9 +39,9 @@ impl<'a> Iterator for Records<'a> {
     type Item = Record<'a>;
 
     ghost use Rattle.std.specs.Iterator.{YieldsFirstBy, item_count};
-    ghost use Rattle.bucket_page.specs.Records.{Pair};
+    ghost use Rattle.bucket_page.specs.Records.{pair};
 
-    ghost next_gives = { YieldsFirstBy (λ r. record { key = r.key; value = r.value.now }) (λ s. s) };
+    ghost next_gives = { YieldsFirstBy (λ r. pair r.key r.value.now) (λ s. s) };
 
     ghost remaining = { item_count (λ s. s) };
 
@@ -60,7 +60,8 @@ impl<'a> Iterator for Records<'a> {
 impl<'a> Records<'a> {
     /// So many records, where they fill the bytes.
     pub fn of(count: u16, bytes: &'a [u8]) -> Option<Records<'a>>
-        ensures some { IfSome result (λ records. (records ≡ pairs_of count bytes.now) × (fills count bytes.now ≡ true)) }
+        ensures some { IfSome result (λ records. records ≡ pairs_of count bytes.now) }
+        ensures fills { IfSome result (λ _. fills count bytes.now ≡ true) }
         ensures none { IfNone result (fills count bytes.now ≡ false) }
     {
         if !fill(count, bytes) {

@@ -2,8 +2,8 @@
 
 ghost use Rattle.std.specs.Prelude.{◌≡◌, ◌+◌, ◌-◌, ◌≤◌, ◌++◌, drop, length, take};
 ghost use Rattle.bucket_page.specs.Numbers.{zeros};
-ghost use Rattle.bucket_page.specs.Records.{pair_bytes};
-ghost use Rattle.bucket_page.specs.Changes.{inserted_at, pair, taken_out};
+ghost use Rattle.bucket_page.specs.Records.{pair, pair_bytes};
+ghost use Rattle.bucket_page.specs.Changes.{inserted_at, taken_out};
 
 use crate::field::blank;
 use crate::layout::{RECORD_HEAD_BYTES, ROOM_BYTES};

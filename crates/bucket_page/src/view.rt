@@ -20,12 +20,12 @@ pub struct BucketView<'a> {
 
 impl<'a> Model for BucketView<'a> {
     ghost use Rattle.std.specs.Prelude.{◌≡◌, true};
-    ghost use Rattle.bucket_page.specs.Bucket.{Bucket};
+    ghost use Rattle.bucket_page.specs.Bucket.{Bucket, bucket};
     ghost use Rattle.bucket_page.specs.Records.{ascend};
 
     ghost Value = { Bucket };
 
-    ghost view = { λ b. record { depth = b.depth; pattern = b.pattern; next = b.next; records = b.records } };
+    ghost view = { λ b. bucket b.depth b.pattern b.next b.records };
 
     ghost invariant = { λ b. ascend b.records ≡ true };
 }

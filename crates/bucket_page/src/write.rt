@@ -1,13 +1,13 @@
 //! Pages written whole, and entries of directory pages.
 
 ghost use Rattle.std.specs.Prelude.{[], ◌≡◌, ◌<◌, ◌≤◌, ◌^◌, ◌*◌, length, slice_set};
-ghost use Rattle.bucket_page.specs.Numbers.{four};
+ghost use Rattle.bucket_page.specs.Bucket.{bucket};
 ghost use Rattle.bucket_page.specs.Entries.{entry_bytes};
 ghost use Rattle.bucket_page.specs.Spelling.{Spells, directory_bytes, link_bytes};
 ghost use Rattle.bucket_page.specs.Reading.{entries_at};
-ghost use Rattle.bucket_page.specs.Changes.{IsDirectoryPage, SpellsBucket};
+ghost use Rattle.bucket_page.specs.Changes.{IsDirectoryPage, SpellsBucket, SpellsDirectory};
 
-use crate::field::{blank, set_four};
+use crate::field::{blank, set_four, write_four};
 use crate::head::Head;
 use crate::layout::{
     DIRECTORY, ENTRIES_BYTES, FREE, GREATEST_DEPTH, HEAD_BYTES, PAGE_ENTRIES, TOMBSTONE,
@@ -32,7 +32,7 @@ pub fn write_free(payload: &mut Payload, next: u32)
 
 /// Writes a page of the directory.
 pub fn write_directory(payload: &mut Payload, entries: &[u32; PAGE_ENTRIES])
-    ensures { Spells (PageKind.Directory entries.now) payload.new }
+    ensures { SpellsDirectory entries.now payload.new }
 {
     write_slots(payload, entries);
 }
@@ -41,7 +41,7 @@ pub fn write_directory(payload: &mut Payload, entries: &[u32; PAGE_ENTRIES])
 pub fn set_entry(payload: &mut Payload, slot: usize, page: u32)
     requires directory { IsDirectoryPage payload.old }
     requires slot { slot < PAGE_ENTRIES }
-    ensures { Spells (PageKind.Directory (slice_set (entries_at payload.old) slot page)) payload.new }
+    ensures { SpellsDirectory (slice_set (entries_at payload.old) slot page) payload.new }
 {
     let (_, entries) = payload.split_at_mut(HEAD_BYTES);
     set_four(entries, 4 * slot, page);
@@ -51,7 +51,7 @@ pub fn set_entry(payload: &mut Payload, slot: usize, page: u32)
 pub fn write_bucket(payload: &mut Payload, depth: u8, pattern: u32, next: u32)
     requires depth { depth ≤ GREATEST_DEPTH }
     requires pattern { pattern < 2 ^ depth }
-    ensures { SpellsBucket (record { depth = depth; pattern = pattern; next = next; records = [] }) payload.new }
+    ensures { SpellsBucket (bucket depth pattern next []) payload.new }
 {
     let head = Head {
         depth,
@@ -91,14 +91,6 @@ fn write_slots(bytes: &mut [u8], entries: &[u32])
     blank(reserved);
     write_entries(places, entries);
     blank(last);
-}
-
-#[tactic(auto, unfolding(crate::specs::Numbers::four))]
-fn write_four(bytes: &mut [u8], number: u32)
-    requires { length bytes.old ≡ 4 }
-    ensures { bytes.new ≡ four number }
-{
-    BigEndian::write_u32(bytes, number);
 }
 
 #[tactic(auto, unfolding(crate::specs::Numbers::four))]

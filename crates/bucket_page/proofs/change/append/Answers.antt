@@ -7,4 +7,5 @@ use Rattle.bucket_page.proofs.change.append.Goals as goal
 pub returns : goal.returns
 returns c =
     let says = opened c.args.payload.now c.requires.bucket in
-    c.insert_record.ensures (records_at c.args.payload.now) [] (sym (append-nil (records_at c.args.payload.now))) (c.two_at-used.ensures ∙ says.used) c.requires.order
+    c.insert_record.ensures (records_at c.args.payload.now) [] (sym (append-nil (records_at c.args.payload.now)))
+    (c.two_at-used.ensures ∙ says.used) c.requires.order

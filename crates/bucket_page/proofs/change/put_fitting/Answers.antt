@@ -1,6 +1,6 @@
 use Rattle.std.proofs.Common.{arith}
 use Rattle.bucket_page.specs.Reading.{records_at}
-use Rattle.bucket_page.specs.Changes.{pair}
+use Rattle.bucket_page.specs.Records.{pair}
 use Rattle.bucket_page.proofs.OrderLaws.{below_within}
 use Rattle.bucket_page.proofs.ChangeLaws.{opened, put_in_place}
 use Rattle.bucket_page.proofs.change.put_fitting.Goals as goal
@@ -14,4 +14,5 @@ insert_record-requires-clause-at c =
 
 pub returns : goal.returns
 returns c =
-    put_in_place c.args.payload.now _ (pair c.args.key.now c.args.value.now) c.place-at.result c.requires.bucket c.requires.absent c.place-at.ensures c.insert_record.ensures
+    put_in_place c.args.payload.now _ (pair c.args.key.now c.args.value.now) c.place-at.result c.requires.bucket
+    c.requires.absent c.place-at.ensures c.insert_record.ensures

@@ -8,4 +8,5 @@ abbrev pub invariant-loop-record : goal.invariant-loop-record
 invariant-loop-record g l =
     (goal.iterator-loop-record g).can_next l.record-iterator ×
     (goal.iterator-loop-record g).is_finite l.record-iterator ×
-    Filling (half_of l.set (g.K.PseudoKey.of_key l.keys) l.next (bucket_at l.full)) (with_bit l.set l.depth (g.K.PseudoKey.of_key l.keys) l.record-iterator) l.into
+    Filling (half_of l.set (g.K.PseudoKey.of_key l.keys) l.next (bucket_at l.full))
+    (with_bit l.set l.depth (g.K.PseudoKey.of_key l.keys) l.record-iterator) l.into

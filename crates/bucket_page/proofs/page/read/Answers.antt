@@ -7,4 +7,5 @@ use Rattle.bucket_page.proofs.page.read.Goals as goal
 pub returns-in-Err : goal.returns-in-Err
 returns-in-Err c =
     let bytes = c.args.bytes.now in
-    refused (bucket_fault bytes) (bucket_at bytes) (page_at bytes) c.in-Err.fault c.in-Err.ensures ∙ bucket_kind bytes c.in-3.is
+    refused (bucket_fault bytes) (bucket_at bytes) (page_at bytes) c.in-Err.fault c.in-Err.ensures
+    ∙ bucket_kind bytes c.in-3.is

@@ -6,4 +6,5 @@ pub returns : goal.returns
 returns c =
     let split = c.split_at_mut-entries.ensures in
     let small : c.args.page < 2 ^ 32 = omega (arith, c.ranges.page.fits) in
-    set_makes c.args.payload.now _ _ _ c.args.slot c.args.page c.requires.directory c.requires.slot small split.front split.back c.set_four.ensures
+    set_makes c.args.payload.now _ _ _ c.args.slot c.args.page c.requires.directory c.requires.slot small split.front
+    split.back c.set_four.ensures

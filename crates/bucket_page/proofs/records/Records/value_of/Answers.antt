@@ -6,7 +6,8 @@ use Rattle.bucket_page.proofs.records.Records.value_of.Goals as goal
 pub returns-then-is_below-clause-none : goal.returns-then-is_below-clause-none
 returns-then-is_below-clause-none c =
     let so-far = c.loop-record.invariant in
-    let none = none_from c.args.key.now _ _ _ so-far.2 c.in-Some.ensures.steps (sym c.is_below.ensures ∙ c.if-is_below.true) in
+    let none = none_from c.args.key.now _ _ _ so-far.2 c.in-Some.ensures.steps (sym c.is_below.ensures
+    ∙ c.if-is_below.true) in
     sym so-far.3 ∙ none
 
 pub loop-record-preserved : goal.loop-record-preserved
