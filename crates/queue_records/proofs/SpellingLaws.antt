@@ -7,7 +7,6 @@ use Rattle.bucket_page.specs.declared.record_key.RecordKey.{RecordKey}
 use Rattle.bucket_page.specs.Numbers.{two, four, eight}
 use Rattle.bucket_page.specs.Keys.{is_same}
 use Rattle.bucket_page.proofs.Fields.{length-two, length-four, length-eight}
-use Rattle.bucket_page.proofs.KeyLaws.{same_self}
 use Rattle.queue_records.specs.declared.bad_record.BadRecord.{BadRecord}
 use Rattle.queue_records.specs.declared.counter.Counter.{Counter}
 use Rattle.queue_records.specs.declared.key_entry.KeyEntry.{KeyEntry}
@@ -35,6 +34,10 @@ is_long : (n m : ℕ) → n ≡ m → (n == m) ≡ true
 is_long n m same = rw same (self m) where
   self : (k : ℕ) → (k == k) ≡ true
   self k = grind (arith, nat_tests)
+
+-- a key is the same as itself
+same_self : (a : RecordKey) → is_same a a ≡ true
+same_self a = grind (arith, nat_tests)
 
 own_key : (a b : RecordKey) → a ≡ b → is_same a b ≡ true
 own_key a b same = rw same (same_self b)
