@@ -10,3 +10,6 @@ pub mod Pairs
 pub mod Owners
 pub mod TypesStand
 pub mod Read
+pub mod Spelled
+pub mod OneQueue
+pub mod Sends

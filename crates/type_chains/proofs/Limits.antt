@@ -47,7 +47,7 @@ module _ (s : State) (lawful : IsLawful s) (q : Queue) (stands : Contains s.queu
       lawful_queue.messages_lawful)
 
   -- each type on the list of types has a message
-  types_stand : All (λ (t : ℤ). 1 ≤ length (serials_of_type t q.messages)) (types q.messages)
+  pub types_stand : All (λ (t : ℤ). 1 ≤ length (serials_of_type t q.messages)) (types q.messages)
   types_stand = All-types (λ (t : ℤ). 1 ≤ length (serials_of_type t q.messages)) [] q.messages
       (All-nil (λ (t : ℤ). 1 ≤ length (serials_of_type t q.messages)))
       (All-weaker (Contains q.messages) (λ (m : Message). 1 ≤ length (serials_of_type m.mtype q.messages))

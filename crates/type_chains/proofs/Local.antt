@@ -11,7 +11,7 @@ use Rattle.queue_model.specs.State.{State}
 use Rattle.queue_records.specs.declared.layout.TheConstants.{COUNTER, KEY, QUEUE, TYPE, MESSAGE}
 use Rattle.queue_records.specs.declared.record.Record.TheVariants as records
 use Rattle.type_chains.specs.Entries.{key_entry, queue_entry}
-use Rattle.type_chains.specs.Laws.{IsElsewhere, IsNoKeyOf, others}
+use Rattle.type_chains.specs.Others.{IsElsewhere, IsNoKeyOf, others}
 use Rattle.type_chains.specs.RecordOf.{type_record, message_record, record_of}
 use Rattle.type_chains.proofs.Tests.{find_filter}
 

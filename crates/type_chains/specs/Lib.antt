@@ -1,7 +1,10 @@
 pub mod Entries
+pub mod Fits
 pub mod Image
 pub mod Laws
 pub mod Lists
 pub mod Neighbours
+pub mod Others
 pub mod Reading
 pub mod RecordOf
+pub mod Sending

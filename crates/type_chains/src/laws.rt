@@ -1,11 +1,16 @@
 //! Laws of the records of a system. Each stands on the contract of a function that does nothing.
 
 ghost use Rattle.std.specs.Prelude.{ℕ, List};
+ghost use Rattle.queue_model.specs.declared.call.SendArguments.{SendArguments};
 ghost use Rattle.queue_model.specs.declared.message.Message.{Message};
+ghost use Rattle.queue_model.specs.declared.queue.Queue.{Queue};
+ghost use Rattle.queue_model.specs.Lawful.{IsLawfulQueue};
 ghost use Rattle.queue_model.specs.State.{State};
-ghost use Rattle.type_chains.specs.Laws.{AgreesWithImage, HasDistinctKeys, IsLocal, KeepsLimits, StandsAtItsKey, TellsQueue};
+ghost use Rattle.type_chains.specs.Laws.{AgreesWithImage, AreSpelled, HasDistinctKeys, KeepsLimits, StandsAtItsKey, TellsQueue};
 ghost use Rattle.type_chains.specs.Lists.{AreTypesOf, types};
+ghost use Rattle.type_chains.specs.Others.{ChangesOneQueue, IsLocal};
 ghost use Rattle.type_chains.specs.Reading.{IsReadable};
+ghost use Rattle.type_chains.specs.Sending.{IsMadeOfTheQueue};
 
 /// A record stands at its own key.
 pub fn a_record_stands_at_its_key()
@@ -47,4 +52,20 @@ pub fn the_types_are_those_of_the_messages()
 /// all that Stat answers. Where there is none the id has no queue.
 pub fn a_queue_is_read_off_its_record()
     ensures { (s : State) (id : ℕ) → IsReadable s id }
+{}
+
+/// Where the numbers of a lawful system fit their fields, each of its records is spelled by its key and its value, so
+/// these are read as that record alone.
+pub fn records_are_spelled()
+    ensures { AreSpelled }
+{}
+
+/// A call that is answered leaves all queues but the one that it names, or makes.
+pub fn a_call_changes_one_queue()
+    ensures { ChangesOneQueue }
+{}
+
+/// After a Send the Queue's record and the new Message's are made of the Queue's record before and the call alone.
+pub fn a_send_is_made_of_the_queues_record()
+    ensures { (pid : ℕ) (a : SendArguments) (q : Queue) → IsLawfulQueue q → IsMadeOfTheQueue pid a q }
 {}
