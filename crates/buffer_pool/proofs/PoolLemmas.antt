@@ -1,20 +1,18 @@
 -- What the changes of a pool leave true of it, and of its images.
-use Rattle.std.proofs.Common.{◌≡◌, ◌∙◌, refl, sym, ap, subst, ℕ, ◌+◌, ◌-◌, ◌<◌, ◌≤◌, Bool, true, false, List, []}
-use Rattle.std.proofs.Common.{length, arith, ◌⊎◌, inl, inr, Option, Some, None, IsTrue, unwrap_or, zero, suc}
-use Rattle.std.proofs.Common.{replicate, slice_get, slice_index_or, slice_set}
-use Rattle.std.proofs.Math.ListN.{get_or, get_or-map, get_or-eq_default}
-use Rattle.std.proofs.lemmas.Bool.{cases_eq, cases_lt}
+use Rattle.std.proofs.Common.{◌≡◌, ◌∙◌, refl, sym, ap, subst, ℕ, ◌<◌, Bool, true, false, List, []}
+use Rattle.std.proofs.Common.{length, ◌⊎◌, inl, inr, Option, Some, None, IsTrue, unwrap_or}
+use Rattle.std.proofs.Common.{slice_index_or, slice_set}
+use Rattle.std.proofs.Math.ListN.{get_or}
+use Rattle.std.proofs.lemmas.Bool.{cases_eq}
 use Rattle.std.proofs.lemmas.List.{get_or-set_same, get_or-set_other, length-set, length-map, same_lists}
-use Rattle.std.proofs.lemmas.List.{get_or_default}
 use Rattle.std.proofs.lemmas.Option.{unwrap_or-slice_get}
-use Rattle.page_device.specs.Pages.{first_pages}
 use Rattle.page_device.specs.Sealed.{payload_of}
 use Rattle.page_device.specs.Device.{DiffersAtMostAt}
-use Rattle.page_device.proofs.PagesLemmas.{first_pages_length, first_pages_at, first_pages_get, first_pages_same}
+use Rattle.page_device.proofs.PagesLemmas.{first_pages_at}
 use Rattle.page_device.proofs.PagesLemmas.{first_pages_set}
 use Rattle.buffer_pool.specs.Table.{Held, IsFree, place_of, page_of, is_changed, payload_in, with_pins, moved_in}
-use Rattle.buffer_pool.specs.Table.{stored_in, cleaned_at, without, no_pages}
-use Rattle.buffer_pool.specs.Pool.{PoolState, IsAtRest, pins_at, IsSound, IsClean, AgreesAt, shown, image_at}
+use Rattle.buffer_pool.specs.Table.{stored_in, cleaned_at, without}
+use Rattle.buffer_pool.specs.Pool.{IsSound, IsClean, AgreesAt, shown, image_at}
 use Rattle.buffer_pool.specs.Pool.{images_of, payloads_of}
 use Rattle.buffer_pool.proofs.TableLemmas.{IsWhole-moved_in, IsWhole-with_pins, within_if_found, without_keeps}
 use Rattle.buffer_pool.proofs.TableLemmas.{without_goes, length-without}

@@ -24,22 +24,23 @@ only_fails DeviceFull old new pages page cause past within = absurd cause.told
 only_fails NoMemory old new pages page cause past within = absurd cause.told
 
 -- a call after one that told nothing
-pub caused : {T : Type 0} (old mid new : ℕ) (fault : DeviceFault) → old ≤ mid
-    → HasCause {T = Unit {0}} MayOnlyFail mid new (Err fault)
-    → HasCause {T = T} MayBeUnread old new (Err fault)
-caused old mid new Device before cause = record {
-  later = let after = cause.later in omega arith;
-  failed = λ _. risen (cause.failed refl);
-  told = tt;
-}
-  where
-    risen : HasRisen mid new → HasRisen old new
-    risen (inl more) = inl (omega arith)
-    risen (inr most) = inr most
-caused old mid new BadDigest before cause = absurd cause.told
-caused old mid new PastEnd before cause = absurd cause.told
-caused old mid new DeviceFull before cause = absurd cause.told
-caused old mid new NoMemory before cause = absurd cause.told
+module _ (honest : Bool) (page : ℕ) (stored : List (List ℕ)) where
+  pub caused : {T : Type 0} (old mid new : ℕ) (fault : DeviceFault) → old ≤ mid
+      → HasCause {T = Unit {0}} MayOnlyFail mid new (Err fault)
+      → HasCause {T = T} (MayBeUnread honest page stored) old new (Err fault)
+  caused old mid new Device before cause = record {
+    later = let after = cause.later in omega arith;
+    failed = λ _. risen (cause.failed refl);
+    told = tt;
+  }
+    where
+      risen : HasRisen mid new → HasRisen old new
+      risen (inl more) = inl (omega arith)
+      risen (inr most) = inr most
+  caused old mid new BadDigest before cause = absurd cause.told
+  caused old mid new PastEnd before cause = absurd cause.told
+  caused old mid new DeviceFull before cause = absurd cause.told
+  caused old mid new NoMemory before cause = absurd cause.told
 
 -- the frames below one were written back
 pub record IsWritten {D : Type 0} (content : D → List (List ℕ)) (is_honest : D → Bool) (fault_count : D → ℕ)

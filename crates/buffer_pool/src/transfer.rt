@@ -1,10 +1,9 @@
 //! Pages between a device and the frames.
-ghost use Rattle.std.specs.Prelude.{◌≡◌, ◌<◌, ℕ, [], length, None, IsSome, IsTrue, OnOk, IfErr, slice_index_or};
+ghost use Rattle.std.specs.Prelude.{◌≡◌, ◌<◌, length, is_ok, None, IsSome, IsTrue, OnOk};
 ghost use Rattle.page_device.specs.Device.{HasCause, MayOnlyFail};
-ghost use Rattle.page_device.specs.Sealed.{IsSealed};
-ghost use Rattle.buffer_pool.specs.Pool.{IsSound, IsClean, KeepsSeals, images_of};
+ghost use Rattle.buffer_pool.specs.Pool.{IsSound, IsClean, images_of};
 ghost use Rattle.buffer_pool.specs.Table.{place_of, count_pinned};
-ghost use Rattle.buffer_pool.specs.Transfer.{KeepsPages, KeepsPins, MayBeUnread};
+ghost use Rattle.buffer_pool.specs.Transfer.{AreWritten, KeepsDevice, KeepsPages, KeepsPins, MayBeUnread};
 
 use crate::table::Table;
 use page_device::{DeviceFault, PAGE_BYTES, PageDevice, seal, unseal};
@@ -22,9 +21,8 @@ pub fn write_back<D: PageDevice>(
     ensures images { images_of (D.content device.new) table.new ≡
         images_of (D.content device.old) table.old }
     ensures pages { KeepsPages table.old table.new }
-    ensures honest { D.is_honest device.new ≡ D.is_honest device.old }
-    ensures seals { IsTrue (D.is_honest device.old) →
-        OnOk result (KeepsSeals (D.content device.old) (D.content device.new)) }
+    ensures device { KeepsDevice (is_ok result) (D.is_honest device.old) (D.is_honest device.new)
+        (D.content device.old) (D.content device.new) }
     ensures cause { HasCause MayOnlyFail
         (D.fault_count device.old) (D.fault_count device.new) result }
 {
@@ -56,15 +54,12 @@ pub fn bring_in<D: PageDevice>(
         count_pinned table.old.pins < length table.old.pages }
     ensures sound { IsSound (D.content device.new) (D.is_honest device.new) table.new }
     ensures ok { OnOk result (IsSome (place_of table.new page)) }
-    ensures sealed { IsTrue (D.is_honest device.old) →
-        IsSealed page (slice_index_or (D.content device.old) page []) → IfErr result MayOnlyFail }
     ensures images { IsTrue (D.is_honest device.old) →
         images_of (D.content device.new) table.new ≡ images_of (D.content device.old) table.old }
     ensures pins { KeepsPins table.old table.new }
-    ensures honest { D.is_honest device.new ≡ D.is_honest device.old }
-    ensures seals { IsTrue (D.is_honest device.old) →
-        OnOk result (KeepsSeals (D.content device.old) (D.content device.new)) }
-    ensures cause { HasCause MayBeUnread
+    ensures device { KeepsDevice (is_ok result) (D.is_honest device.old) (D.is_honest device.new)
+        (D.content device.old) (D.content device.new) }
+    ensures cause { HasCause (MayBeUnread (D.is_honest device.old) page (D.content device.old))
         (D.fault_count device.old) (D.fault_count device.new) result }
 {
     if let Some(frame) = table.place(page) {
@@ -94,15 +89,12 @@ pub fn write_all<D: PageDevice>(device: &mut D, table: &mut Table) -> Result<(),
     requires { IsSound (D.content device.old) (D.is_honest device.old) table.old }
     ensures sound { IsSound (D.content device.new) (D.is_honest device.new) table.new }
     ensures ok { OnOk result
-        ((frame : ℕ) → frame < length table.new.pages → IsClean table.new frame) }
-    ensures synced { IsTrue (D.is_honest device.old) →
-        OnOk result (IsTrue (D.is_synced device.new)) }
+        (AreWritten (D.is_honest device.old) (D.is_synced device.new) table.new) }
     ensures images { images_of (D.content device.new) table.new ≡
         images_of (D.content device.old) table.old }
     ensures pages { KeepsPages table.old table.new }
-    ensures honest { D.is_honest device.new ≡ D.is_honest device.old }
-    ensures seals { IsTrue (D.is_honest device.old) →
-        OnOk result (KeepsSeals (D.content device.old) (D.content device.new)) }
+    ensures device { KeepsDevice (is_ok result) (D.is_honest device.old) (D.is_honest device.new)
+        (D.content device.old) (D.content device.new) }
     ensures cause { HasCause MayOnlyFail
         (D.fault_count device.old) (D.fault_count device.new) result }
 {

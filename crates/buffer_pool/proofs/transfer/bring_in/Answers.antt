@@ -14,19 +14,24 @@ pub touch-requires : goal.touch-requires
 touch-requires g c = within_if_found _ c.in-Some.frame c.args.page
     (c.requires.sound.whole.in_frame c.args.page c.in-Some.frame (sym c.place.ensures ∙ c.in-Some.is))
 
-pub returns-in-Err-unseal-clause-sealed : goal.returns-in-Err-unseal-clause-sealed
-returns-in-Err-unseal-clause-sealed g c = λ is sealed.
-    let bytes = get_or_from_slice_get (g.D.PageDevice.content c.args.device.now) c.args.page c.read.new.into []
-    (c.in-Ok.ensures.ok is) in
-    let unsealed = c.in-Err-unseal.ensures.sealed.1 (subst (λ page. IsSealed c.args.page page) bytes sealed) in
-    absurd cc
+-- a sealed page of an honest device has no wrong digest
+pub returns-in-Err-unseal-clause-cause : goal.returns-in-Err-unseal-clause-cause
+returns-in-Err-unseal-clause-cause g c = rw c.in-Err-unseal.ensures.bad_digest (record {
+  later = c.read.ensures.cause.later;
+  failed = λ is. absurd cc;
+  told = λ is sealed.
+      let bytes = get_or_from_slice_get (g.D.PageDevice.content c.args.device.now) c.args.page c.read.new.into []
+      (c.in-Ok.ensures.ok is) in
+      let unsealed = c.in-Err-unseal.ensures.sealed.1 (subst (λ page. IsSealed c.args.page page) bytes sealed) in
+      absurd cc;
+})
 
 -- what was read is there still
 still_there : (g : given.Over) (c : goal.After-move_in g) → IsTrue (g.D.PageDevice.is_honest c.write_back.new.device)
     → c.in-Ok-unseal.payload ≡ payload_of
     (slice_index_or (g.D.PageDevice.content c.write_back.new.device) c.args.page [])
 still_there g c is =
-    let honest = rw (c.write_back.ensures.honest, c.read.ensures.honest) at is in
+    let honest = rw (c.write_back.ensures.device.honest, c.read.ensures.honest) at is in
     let bytes = get_or_from_slice_get (g.D.PageDevice.content c.args.device.now) c.args.page c.read.new.into []
     (c.in-Ok.ensures.ok honest) in
     let within : c.args.page < length (g.D.PageDevice.content c.read.new.self) = search rules in
@@ -52,7 +57,7 @@ pub returns-clause-images : goal.returns-clause-images
 returns-clause-images g c = λ is.
     let on_device : c.args.page < length c.write_back.new.table.places = search rules in
     let outside : place_of c.write_back.new.table c.args.page ≡ None = search rules in
-    let honest = rw (← c.read.ensures.honest, ← c.write_back.ensures.honest) at is in
+    let honest = rw (← c.read.ensures.honest, ← c.write_back.ensures.device.honest) at is in
     rw c.move_in.ensures
     (images-moved_in _ _ _ c.write_back.ensures.sound c.free_frame-frame.result c.args.page c.in-Ok-unseal.payload
     (search rules) (search rules)

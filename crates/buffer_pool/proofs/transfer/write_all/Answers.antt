@@ -1,5 +1,5 @@
 -- One more frame agrees with the device.
-use Rattle.std.proofs.Common.{◌≡◌, ◌∙◌, sym, ap, subst, ◌⊎◌, inl, inr, ℕ, ◌<◌, ◌+◌, None, slice_index_or, arith}
+use Rattle.std.proofs.Common.{◌≡◌, ◌∙◌, refl, sym, ap, subst, ◌⊎◌, inl, inr, ℕ, ◌<◌, ◌+◌, None, slice_index_or, arith}
 use Rattle.std.proofs.lemmas.Bool.{cases_eq}
 use Rattle.buffer_pool.specs.Pool.{IsClean}
 use Rattle.buffer_pool.proofs.transfer.write_all.Goals as goal
@@ -19,9 +19,9 @@ loop-frame-preserved g c =
         payloads = now.pages.payloads ∙ before.pages.payloads;
         clean = λ f was. now.pages.clean f (before.pages.clean f was);
       };
-      honest = now.honest ∙ before.honest;
+      honest = now.device.honest ∙ before.honest;
       later = let first = before.later in let next = now.cause.later in omega arith;
-      seals = λ is n was. let honest = rw (← before.honest) at is in c.in-Ok.ensures.seals honest n
+      seals = λ is n was. let honest = rw (← before.honest) at is in c.in-Ok.ensures.device.seals honest refl n
           (before.seals is n was);
     }
   where

@@ -39,8 +39,11 @@ returns-clause-images g c =
     let here = sym c.page.ensures ∙ c.in-Some.is in
     rw c.clean.ensures (images-written _ _ _ c.requires.sound _ c.args.frame c.in-Some.page here c.write.ensures.others)
 
-pub returns-clause-seals : goal.returns-clause-seals
-returns-clause-seals g c = λ is.
-    let here = sym c.page.ensures ∙ c.in-Some.is in
-    let within = page_within _ _ _ c.requires.sound c.args.frame c.in-Some.page here in
-    rw (c.in-Ok.ensures.ok is) (seals_written _ c.in-Some.page _ within c.seal-sealed.ensures.sealed)
+pub returns-clause-device : goal.returns-clause-device
+returns-clause-device g c = record {
+  honest = c.write.ensures.honest;
+  seals = λ is _.
+      let here = sym c.page.ensures ∙ c.in-Some.is in
+      let within = page_within _ _ _ c.requires.sound c.args.frame c.in-Some.page here in
+      rw (c.in-Ok.ensures.ok is) (seals_written _ c.in-Some.page _ within c.seal-sealed.ensures.sealed);
+}

@@ -1,5 +1,5 @@
 -- The page that was brought in stays in its frame.
-use Rattle.std.proofs.Common.{◌∙◌, sym}
+use Rattle.std.proofs.Common.{◌∙◌, refl, sym}
 use Rattle.buffer_pool.proofs.TableLemmas.{some_place}
 use Rattle.buffer_pool.proofs.ImagesLemmas.{images_length}
 use Rattle.buffer_pool.proofs.PoolLemmas.{IsSound-with_pins}
@@ -17,6 +17,6 @@ returns-clause-keeps g c =
       images = λ is. brought.images is;
       as_many = images_length _ c.bring_in.new.table ∙ stored ∙ sym (images_length _ c.self.inside.table);
       frames = brought.pins.frames;
-      honest = brought.honest;
-      seals = λ is _. c.in-Ok.ensures.seals is;
+      honest = brought.device.honest;
+      seals = λ is _. c.in-Ok.ensures.device.seals is refl;
     })
