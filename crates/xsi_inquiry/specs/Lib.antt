@@ -1,0 +1,4 @@
+pub mod Deciding
+pub mod Sweeping
+pub mod Telling
+pub mod Writing
