@@ -1,6 +1,6 @@
 -- What a Get knows at each stage.
 -- docs/QUEUES.md, "Get"; docs/STEPS.md, "What a call reads".
-use Rattle.std.specs.Prelude.{◌≡◌, ℕ, ◌+◌, ◌&&◌, [], ◌∷◌, ◌++◌, Option, Some, None, if◌then◌else◌}
+use Rattle.std.specs.Prelude.{◌≡◌, ℕ, ◌+◌, Bool, ◌&&◌, [], ◌∷◌, ◌++◌, Option, Some, None, if◌then◌else◌}
 use Rattle.bucket_page.specs.declared.record_key.RecordKey.{RecordKey}
 use Rattle.queue_model.specs.declared.answer.Answer.TheVariants.{Id}
 use Rattle.queue_model.specs.declared.call.GetArguments.{GetArguments}
@@ -10,10 +10,10 @@ use Rattle.queue_model.specs.Places.{IsFreshKey}
 use Rattle.queue_model.specs.Rules.{Outcome, create, new_queue, outcome_of_get, refuse}
 use Rattle.queue_model.specs.State.{State}
 use Rattle.queue_records.specs.declared.layout.TheConstants.{KEY}
-use Rattle.queue_records.specs.Spelling.{counter_key}
 use Rattle.type_chains.specs.Entries.{counter_of}
 use Rattle.xsi_control.specs.declared.get_inquiry.Getting.{Getting}
 use Rattle.xsi_control.specs.declared.get_inquiry.Getting.TheVariants.{Unread, Found, Absent, Making, Counted}
+use Rattle.xsi_inquiry.specs.Seeking.{counter_key}
 
 -- the key of the Key of a queue's key
 abbrev pub key_of_key : ℕ → RecordKey
@@ -34,6 +34,10 @@ reads_left (Found id) = 0
 reads_left Absent = 0
 reads_left Making = 1
 reads_left (Counted counter) = 0
+
+-- where no queue has the key: whether one is to be made
+abbrev pub absent_or_making : Bool → Getting
+absent_or_making create = if create then Making else Absent
 
 -- the system with a new queue, which has the next id
 abbrev pub with_new_queue : Caller → GetArguments → State → State

@@ -2,17 +2,19 @@
 
 ghost use Rattle.std.specs.Prelude.{◌≡◌, ◌<◌};
 ghost use Rattle.queue_model.specs.declared.call.Call.TheVariants as calls;
+ghost use Rattle.queue_model.specs.Places.{IsFreshKey};
+ghost use Rattle.queue_model.specs.Rules.{new_queue};
 ghost use Rattle.queue_model.specs.State.{State};
-ghost use Rattle.type_chains.specs.Entries.{counter_of};
+ghost use Rattle.type_chains.specs.Entries.{counter_of, queue_entry};
 ghost use Rattle.type_chains.specs.RecordOf.{record_of};
-ghost use Rattle.xsi_control.specs.Getting.{IsToMake, KnowsOfGet, reads_left, wanted_by, with_new_queue};
+ghost use Rattle.xsi_control.specs.Getting.{absent_or_making, with_new_queue};
 ghost use Rattle.xsi_inquiry.specs.Telling.{IsFiled};
 ghost use Rattle.xsi_inquiry.specs.Writing.{Leads};
 
 use bucket_page::RecordKey;
 use queue_model::{Caller, DEFAULT_QBYTES, Errno, GetArguments, Permissions};
 use queue_records::{COUNTER, Counter, END_OF_IDS, KEY, KeyEntry, MAX_QUEUES, QueueEntry, Record};
-use xsi_inquiry::{Decision, Inquiry, NotASystem, Plan, Trials, Verdict, Writes};
+use xsi_inquiry::{Decision, Inquiry, NotASystem, Plan, Trials, Verdict, Writes, counter_in, key_in};
 
 /// How far a Get has come.
 #[derive(Clone, Copy, Debug, PartialEq)]
@@ -87,22 +89,24 @@ impl Inquiry for GetInquiry {
     }
 
     fn take(&mut self, found: Option<Record<'_>>) -> Result<(), NotASystem> {
-        match (self.getting, found) {
-            (Getting::Unread(_), Some(Record::Key(entry))) => {
-                self.getting = Getting::Found(entry.id);
-            }
-            (Getting::Unread(_), None) => {
-                self.getting = match self.arguments.create {
-                    true => Getting::Making,
-                    false => Getting::Absent,
+        match self.getting {
+            Getting::Unread(_) => {
+                let Some(entry) = found else {
+                    self.getting = by_create(self.arguments.create);
+                    return Ok(());
                 };
+                self.getting = Getting::Found(key_in(entry)?.id);
+                Ok(())
             }
-            (Getting::Making, Some(Record::Counter(counter))) => {
-                self.getting = Getting::Counted(counter);
+            Getting::Making => {
+                let Some(entry) = found else {
+                    return Err(NotASystem);
+                };
+                self.getting = Getting::Counted(counter_in(entry)?);
+                Ok(())
             }
-            _ => return Err(NotASystem),
+            Getting::Found(_) | Getting::Absent | Getting::Counted(_) => Err(NotASystem),
         }
-        Ok(())
     }
 
     fn decide(&self, _stopped: bool) -> Result<Decision<'_>, NotASystem> {
@@ -121,6 +125,16 @@ impl Inquiry for GetInquiry {
             }
             Getting::Unread(_) | Getting::Making => Err(NotASystem),
         }
+    }
+}
+
+/// Where no queue has the key, one is made if the call says so.
+fn by_create(create: bool) -> Getting
+    ensures { result ≡ absent_or_making create }
+{
+    match create {
+        true => Getting::Making,
+        false => Getting::Absent,
     }
 }
 

@@ -4,13 +4,13 @@
 #![tactic(auto)]
 
 mod get_inquiry;
-
-
-
+mod remove_inquiry;
+mod set_inquiry;
+mod stat_inquiry;
 mod turn;
 
 pub use get_inquiry::{GetInquiry, plan_create};
-
-
-
+pub use remove_inquiry::{RemoveInquiry, plan_remove};
+pub use set_inquiry::{SetInquiry, plan_set};
+pub use stat_inquiry::StatInquiry;
 pub use turn::plan_remove_turn;
