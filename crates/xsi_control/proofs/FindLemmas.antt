@@ -1,7 +1,7 @@
 -- What is found on a list where one element more stands last, or the first that passes a test became another or went.
-use Rattle.std.proofs.Common.{◌≡◌, zero, suc, Bool, true, false, cond, List, [], ◌∷◌, ◌++◌, Option, Some, None, refl, sym, ap, ◌∙◌, subst}
+use Rattle.std.proofs.Common.{◌≡◌, ℕ, zero, suc, Bool, true, false, cond, List, [], ◌∷◌, ◌++◌, Option, Some, None, refl, sym, ap, ◌∙◌, arith}
 use Rattle.std.specs.Prelude.{slice_set}
-use Rattle.std.specs.List.{All, AllPairs, find, position_or_len, remove}
+use Rattle.std.specs.List.{All, find, position_or_len, remove}
 use Rattle.std.proofs.lemmas.List.Elements.{All-contains, All-head, All-tail, All-weaker}
 use Rattle.queue_model.proofs.ListLemmas.{find-Some}
 use Rattle.type_chains.proofs.Unique.{PassesOnce, pairs_head, pairs_tail}
@@ -18,11 +18,20 @@ none_passes {X} r (x ∷ xs) none =
 
 -- ---- one more
 
-pub find_push_other : {X : Type 0} (r : X → Bool) (xs : List X) (y : X) → r y ≡ false →
-    find r (xs ++ y ∷ []) ≡ find r xs
-find_push_other r [] y other = rw other refl
-find_push_other {X} r (x ∷ xs) y other =
-    ap (λ (o : Option X). cond (r x) (Some x) o) (find_push_other r xs y other)
+-- a search finds the same, or y where it found none
+pub find_push_alike : {X Y : Type 0} (F : Option X → Y) (r : X → Bool) (xs : List X) (y : X) →
+    (r y ≡ true → F (Some y) ≡ F None) → F (find r (xs ++ y ∷ [])) ≡ F (find r xs)
+find_push_alike {X} {Y} F r [] y alike = by (r y) refl
+  where
+    by : (b : Bool) → r y ≡ b → F (cond b (Some y) None) ≡ F None
+    by true e = alike e
+    by false e = refl
+find_push_alike {X} {Y} F r (x ∷ xs) y alike = by (r x) (find_push_alike F r xs y alike)
+  where
+    by : (b : Bool) → F (find r (xs ++ y ∷ [])) ≡ F (find r xs) →
+        F (cond b (Some x) (find r (xs ++ y ∷ []))) ≡ F (cond b (Some x) (find r xs))
+    by true rest = refl
+    by false rest = rest
 
 pub find_push_new : {X : Type 0} (r : X → Bool) (xs : List X) (y : X) → find r xs ≡ None → r y ≡ true →
     find r (xs ++ y ∷ []) ≡ Some y
@@ -33,6 +42,15 @@ find_push_new {X} r (x ∷ xs) y none passes = by (r x) refl none (λ rest. find
         (find r xs ≡ None → find r (xs ++ y ∷ []) ≡ Some y) → find r (x ∷ (xs ++ y ∷ [])) ≡ Some y
     by true e none later = absurd cc
     by false e none later = rw e (later none)
+
+-- ---- the place of the first that passes
+
+place_here : {X : Type 0} (p : X → Bool) (x : X) (xs : List X) → p x ≡ true → position_or_len p (x ∷ xs) ≡ zero
+place_here p x xs e = rw e refl
+
+place_later : {X : Type 0} (p : X → Bool) (x : X) (xs : List X) → p x ≡ false →
+    position_or_len p (x ∷ xs) ≡ suc (position_or_len p xs)
+place_later p x xs e = rw e (omega arith)
 
 -- ---- the first that passes p became y
 
@@ -45,20 +63,22 @@ module _ {X : Type 0} (p : X → Bool) (y : X) where
       by : (b : Bool) → p z ≡ b → cond b (Some z) (find p xs) ≡ Some x →
           (find p xs ≡ Some x → find p (slice_set xs (position_or_len p xs) y) ≡ Some y) →
           find p (slice_set (z ∷ xs) (position_or_len p (z ∷ xs)) y) ≡ Some y
-      by true e found later = rw (e, passes) refl
-      by false e found later = rw (e, e) (later found)
+      by true e found later =
+          ap (λ (i : ℕ). find p (slice_set (z ∷ xs) i y)) (place_here p z xs e) ∙ rw passes refl
+      by false e found later =
+          ap (λ (i : ℕ). find p (slice_set (z ∷ xs) i y)) (place_later p z xs e) ∙ rw e (later found)
 
   -- any other search finds the same, or y in the place of what it became
   pub find_set_alike : {Y : Type 0} (F : Option X → Y) (r : X → Bool) (xs : List X) (x : X) →
-      find p xs ≡ Some x → r y ≡ r x → F (Some y) ≡ F (Some x) →
+      find p xs ≡ Some x → r y ≡ r x → (r x ≡ true → F (Some y) ≡ F (Some x)) →
       F (find r (slice_set xs (position_or_len p xs) y)) ≡ F (find r xs)
   find_set_alike F r [] x found same alike = absurd cc
   find_set_alike {Y} F r (z ∷ xs) x found same alike =
       by (p z) refl found (λ rest. find_set_alike F r xs x rest same alike)
     where
-      at_first : (b : Bool) → F (cond b (Some y) (find r xs)) ≡ F (cond b (Some x) (find r xs))
-      at_first true = alike
-      at_first false = refl
+      at_first : (b : Bool) → r x ≡ b → F (cond b (Some y) (find r xs)) ≡ F (cond b (Some x) (find r xs))
+      at_first true e = alike e
+      at_first false e = refl
 
       behind_it : (b : Bool) → F (find r (slice_set xs (position_or_len p xs) y)) ≡ F (find r xs) →
           F (cond b (Some z) (find r (slice_set xs (position_or_len p xs) y))) ≡ F (cond b (Some z) (find r xs))
@@ -70,8 +90,11 @@ module _ {X : Type 0} (p : X → Bool) (y : X) where
           F (find r (slice_set (z ∷ xs) (position_or_len p (z ∷ xs)) y)) ≡ F (find r (z ∷ xs))
       by true e found later =
           let is : z ≡ x = cc in
-          rw (e, same) (at_first (r x) ∙ ap (λ (u : X). F (cond (r u) (Some u) (find r xs))) (sym is))
-      by false e found later = rw e (behind_it (r z) (later found))
+          ap (λ (i : ℕ). F (find r (slice_set (z ∷ xs) i y))) (place_here p z xs e)
+          ∙ ap (λ (b : Bool). F (cond b (Some y) (find r xs))) same
+          ∙ at_first (r x) refl ∙ ap (λ (u : X). F (cond (r u) (Some u) (find r xs))) (sym is)
+      by false e found later =
+          ap (λ (i : ℕ). F (find r (slice_set (z ∷ xs) i y))) (place_later p z xs e) ∙ behind_it (r z) (later found)
 
 -- ---- the first that passes p went
 
@@ -88,8 +111,10 @@ module _ {X : Type 0} (p : X → Bool) where
       by true e found later =
           let is : z ≡ x = cc in
           let over : r z ≡ false = ap r is ∙ other in
-          rw (e, over) refl
-      by false e found later = rw e (ap (λ (o : Option X). cond (r z) (Some z) o) (later found))
+          ap (λ (i : ℕ). find r (remove (z ∷ xs) i)) (place_here p z xs e) ∙ rw over refl
+      by false e found later =
+          ap (λ (i : ℕ). find r (remove (z ∷ xs) i)) (place_later p z xs e)
+          ∙ ap (λ (o : Option X). cond (r z) (Some z) o) (later found)
 
   -- where no two pass, it is not found again
   pub find_removed : (r : X → Bool) (xs : List X) (x : X) → find p xs ≡ Some x → r x ≡ true → PassesOnce r xs →
@@ -112,5 +137,6 @@ module _ {X : Type 0} (p : X → Bool) where
           find r (remove (z ∷ xs) (position_or_len p (z ∷ xs))) ≡ None
       by true e found later =
           let is : z ≡ x = cc in
-          rw e (none (ap r is ∙ passes))
-      by false e found later = rw (e, over found) (later found)
+          ap (λ (i : ℕ). find r (remove (z ∷ xs) i)) (place_here p z xs e) ∙ none (ap r is ∙ passes)
+      by false e found later =
+          ap (λ (i : ℕ). find r (remove (z ∷ xs) i)) (place_later p z xs e) ∙ rw (over found) (later found)

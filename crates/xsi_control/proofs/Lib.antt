@@ -1,2 +1,4 @@
 pub mod FindLemmas
 pub mod KindLemmas
+pub mod LengthLemmas
+pub mod SettingLemmas

@@ -117,7 +117,7 @@ impl Inquiry for GetInquiry {
             Getting::Found(id) => Ok(Decision::Answers(Verdict::Id(id), Plan::nothing())),
             Getting::Absent => Ok(Decision::refuses(Errno::ENOENT)),
             Getting::Counted(counter) => {
-                if counter.queues_alive >= MAX_QUEUES || counter.next_id == END_OF_IDS {
+                if counter.queues_alive >= MAX_QUEUES || counter.next_id >= END_OF_IDS {
                     return Ok(Decision::refuses(Errno::ENOSPC));
                 }
                 let plan = plan_create(self.caller, &self.arguments, &counter);

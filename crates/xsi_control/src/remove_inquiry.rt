@@ -1,6 +1,6 @@
 //! Remove.
 
-ghost use Rattle.std.specs.Prelude.{◌≡◌, ◌≤◌, length};
+ghost use Rattle.std.specs.Prelude.{◌≡◌, ◌≤◌, ℕ, length};
 ghost use Rattle.queue_model.specs.declared.call.Call.TheVariants as calls;
 ghost use Rattle.queue_model.specs.Rules.{without_queue};
 ghost use Rattle.queue_model.specs.State.{State};
@@ -115,10 +115,9 @@ impl Inquiry for RemoveInquiry {
 /// records of the system without the queue.
 pub fn plan_remove<'a>(queue: &QueueEntry, counter: &Counter) -> Plan<'a>
     requires { 1 ≤ counter.now.queues_alive }
-    ensures { (s : State) → IsFiled s → (is : IsEntryOf queue.now.id queue.now s) →
+    ensures { (id : ℕ) (s : State) → IsFiled s → (is : IsEntryOf id queue.now s) →
         counter.now ≡ counter_of s →
-        Leads result (swept queue.now.id (length is.queue.messages) s)
-            (record_of (without_queue queue.now.id s)) }
+        Leads result (swept id (length is.queue.messages) s) (record_of (without_queue id s)) }
 {
     let mut writes = Writes::new();
     if let Some(key) = queue.key {
