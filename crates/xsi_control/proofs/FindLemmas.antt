@@ -10,7 +10,7 @@ not_true : (b : Bool) → (b ≡ true → ⊥) → b ≡ false
 not_true true never = absurd (never refl)
 not_true false never = refl
 
-none_passes : {X : Type 0} (r : X → Bool) (xs : List X) → All (λ (x : X). r x ≡ true → ⊥) xs → find r xs ≡ None
+pub none_passes : {X : Type 0} (r : X → Bool) (xs : List X) → All (λ (x : X). r x ≡ true → ⊥) xs → find r xs ≡ None
 none_passes r [] none = refl
 none_passes {X} r (x ∷ xs) none =
     let over : r x ≡ false = not_true (r x) (All-head (λ (x : X). r x ≡ true → ⊥) x xs none) in
