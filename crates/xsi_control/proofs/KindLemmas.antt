@@ -1,10 +1,8 @@
--- Records compared kind by kind, and at written keys.
+-- Records compared kind by kind.
 use Rattle.std.proofs.Common.{◌≡◌, ℕ, Bool, true, false, cond, refl, ap}
 use Rattle.std.specs.Prelude.{◌==◌}
 use Rattle.std.proofs.lemmas.Bool.{eqb-true}
-use Rattle.std.proofs.lemmas.Bool.Decides.{Decides-eqb}
 use Rattle.bucket_page.specs.declared.record_key.RecordKey.{RecordKey}
-use Rattle.bucket_page.specs.Keys.{is_same}
 use Rattle.queue_model.specs.State.{State}
 use Rattle.queue_records.specs.declared.layout.TheConstants.{COUNTER, KEY, QUEUE, TYPE, MESSAGE}
 use Rattle.type_chains.specs.RecordOf.{at_counter, at_key, at_queue, at_queue_of, type_record, message_record, record_of}
@@ -36,15 +34,9 @@ same_record s t key has =
     alike (key.kind == MESSAGE) _ _ _ _ (λ e. has.message (eqb-true key.kind MESSAGE e)) (λ _. refl)))))
 
 -- the record at a key of a kind
-pub kind_counter : (s : State) (key : RecordKey) → key.kind ≡ COUNTER → record_of s key ≡ at_counter s key
-kind_counter s key kind = ap (λ (k : ℕ). record_of s (record { kind = k; queue = key.queue; number = key.number })) kind
+pub kind_type : (s : State) (key : RecordKey) → key.kind ≡ TYPE → record_of s key ≡ at_queue_of type_record s key
+kind_type s key kind = ap (λ (k : ℕ). record_of s (record { kind = k; queue = key.queue; number = key.number })) kind
 
--- two keys of one kind whose other parts are the same are one
-pub is_one : (a b : RecordKey) → a ≡ b → is_same a b ≡ true
-is_one a b same = rw same (same_self b)
-  where
-    self : (n : ℕ) → (n == n) ≡ true
-    self n = (Decides-eqb n n).1 refl
-
-    same_self : (k : RecordKey) → is_same k k ≡ true
-    same_self k = rw (self k.kind, self k.queue, self k.number) refl
+pub kind_message : (s : State) (key : RecordKey) → key.kind ≡ MESSAGE →
+    record_of s key ≡ at_queue_of message_record s key
+kind_message s key kind = ap (λ (k : ℕ). record_of s (record { kind = k; queue = key.queue; number = key.number })) kind
