@@ -1,26 +1,24 @@
 -- What the record at a queue's key, or the Counter, tells a Get; and the Counter a Remove.
 use Rattle.std.proofs.Common.{◌≡◌, ℕ, Bool, true, false, Option, Some, None, refl, sym, ap, ◌∙◌, subst}
-use Rattle.std.specs.Prelude.{◌&&◌, option_map, if◌then◌else◌}
+use Rattle.std.specs.Prelude.{option_map, if◌then◌else◌}
 use Rattle.std.specs.List.{find}
-use Rattle.queue_model.specs.declared.answer.Answer.TheVariants.{Id}
 use Rattle.queue_model.specs.declared.call.GetArguments.{GetArguments}
 use Rattle.queue_model.specs.declared.caller.Caller.{Caller}
 use Rattle.queue_model.specs.declared.errno.Errno.TheVariants.{ENOENT}
 use Rattle.queue_model.specs.declared.queue.Queue.{Queue}
 use Rattle.queue_model.specs.Places.{IsFreshKey}
-use Rattle.queue_model.specs.Rules.{Outcome, create, get_by, get_found, has_key, outcome_of_get, refuse}
+use Rattle.queue_model.specs.Rules.{create, get_by, get_found, has_key, outcome_of_get, refuse}
 use Rattle.queue_model.specs.State.{State}
 use Rattle.queue_records.specs.declared.counter.Counter.{Counter}
 use Rattle.queue_records.specs.declared.key_entry.KeyEntry.{KeyEntry}
 use Rattle.queue_records.specs.declared.record.Record.{Record}
 use Rattle.queue_records.specs.declared.record.Record.TheVariants as records
 use Rattle.type_chains.specs.Entries.{counter_of, key_entry}
-use Rattle.type_chains.specs.RecordOf.{record_of}
 use Rattle.type_chains.proofs.Tests.{mapped}
 use Rattle.xsi_inquiry.specs.Seeking.{counter_key}
 use Rattle.xsi_inquiry.specs.Telling.{IsTold}
-use Rattle.xsi_control.specs.declared.get_inquiry.Getting.TheVariants.{Unread, Found, Absent, Making, Counted}
-use Rattle.xsi_control.specs.Getting.{IsToMake, KnowsOfGet, absent_or_making, id_found, key_of_key, wanted_by}
+use Rattle.xsi_control.specs.declared.get_inquiry.Getting.TheVariants.{Unread, Found}
+use Rattle.xsi_control.specs.Getting.{KnowsOfGet, absent_or_making, id_found, key_of_key, wanted_by}
 
 -- ---- the Counter always stands
 
