@@ -6,3 +6,4 @@ pub mod CreatingLemmas
 pub mod SweptLemmas
 pub mod RemovingLemmas
 pub mod TakingLemmas
+pub mod DecidingLemmas

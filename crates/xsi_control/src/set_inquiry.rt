@@ -1,8 +1,8 @@
 //! Set.
 
-ghost use Rattle.std.specs.Prelude.{◌≡◌, ◌≤◌};
+ghost use Rattle.std.specs.Prelude.{◌≡◌, ◌≤◌, ◌==◌, ◌&&◌, nat_lt, not};
 ghost use Rattle.queue_model.specs.declared.call.Call.TheVariants as calls;
-ghost use Rattle.queue_model.specs.declared.limits.TheConstants.{MAX_QBYTES};
+ghost use Rattle.queue_model.specs.declared.limits.TheConstants.{MAX_QBYTES, SUPERUSER};
 ghost use Rattle.queue_model.specs.State.{State};
 ghost use Rattle.type_chains.specs.RecordOf.{record_of};
 ghost use Rattle.xsi_control.specs.Setting.{entry_with_settings, with_settings_in};
@@ -75,7 +75,7 @@ impl Inquiry for SetInquiry {
                 if !permissions_in(&queue).is_owned_by(self.caller) {
                     return Ok(Decision::refuses(Errno::EPERM));
                 }
-                if self.arguments.qbytes > queue.qbytes && self.caller.uid != SUPERUSER {
+                if raises(self.caller, self.arguments.qbytes, &queue) {
                     return Ok(Decision::refuses(Errno::EPERM));
                 }
                 let plan = plan_set(&self.arguments, &queue);
@@ -85,6 +85,13 @@ impl Inquiry for SetInquiry {
             Sought::Unread | Sought::Absent => Err(NotASystem),
         }
     }
+}
+
+/// Whether the caller raises the limit of the queue and is not user 0.
+fn raises(caller: Caller, qbytes: u32, queue: &QueueEntry) -> bool
+    ensures { result ≡ (nat_lt queue.now.qbytes qbytes && not (caller.uid == SUPERUSER)) }
+{
+    qbytes > queue.qbytes && caller.uid != SUPERUSER
 }
 
 /// The Queue takes the settings. In every system whose queue this is, that leads to the records of the system in which
