@@ -45,10 +45,10 @@ find_push_new {X} r (x ∷ xs) y none passes = by (r x) refl none (λ rest. find
 
 -- ---- the place of the first that passes
 
-place_here : {X : Type 0} (p : X → Bool) (x : X) (xs : List X) → p x ≡ true → position_or_len p (x ∷ xs) ≡ zero
+pub place_here : {X : Type 0} (p : X → Bool) (x : X) (xs : List X) → p x ≡ true → position_or_len p (x ∷ xs) ≡ zero
 place_here p x xs e = rw e refl
 
-place_later : {X : Type 0} (p : X → Bool) (x : X) (xs : List X) → p x ≡ false →
+pub place_later : {X : Type 0} (p : X → Bool) (x : X) (xs : List X) → p x ≡ false →
     position_or_len p (x ∷ xs) ≡ suc (position_or_len p xs)
 place_later p x xs e = rw e (omega arith)
 

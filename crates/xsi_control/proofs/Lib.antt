@@ -7,3 +7,4 @@ pub mod SweptLemmas
 pub mod RemovingLemmas
 pub mod TakingLemmas
 pub mod DecidingLemmas
+pub mod LastLemmas

@@ -1,6 +1,6 @@
 -- What the record at a queue's key, or the Counter, tells a Get; and the Counter a Remove.
 use Rattle.std.proofs.Common.{◌≡◌, ℕ, Bool, true, false, Option, Some, None, refl, sym, ap, ◌∙◌, subst}
-use Rattle.std.specs.Prelude.{option_map, if◌then◌else◌}
+use Rattle.std.specs.Prelude.{IsSome, option_map, if◌then◌else◌}
 use Rattle.std.specs.List.{find}
 use Rattle.queue_model.specs.declared.call.GetArguments.{GetArguments}
 use Rattle.queue_model.specs.declared.caller.Caller.{Caller}
@@ -11,11 +11,14 @@ use Rattle.queue_model.specs.Rules.{create, get_by, get_found, has_key, outcome_
 use Rattle.queue_model.specs.State.{State}
 use Rattle.queue_records.specs.declared.counter.Counter.{Counter}
 use Rattle.queue_records.specs.declared.key_entry.KeyEntry.{KeyEntry}
+use Rattle.queue_records.specs.declared.queue_entry.QueueEntry.{QueueEntry}
 use Rattle.queue_records.specs.declared.record.Record.{Record}
 use Rattle.queue_records.specs.declared.record.Record.TheVariants as records
 use Rattle.type_chains.specs.Entries.{counter_of, key_entry}
 use Rattle.type_chains.proofs.Tests.{mapped}
+use Rattle.xsi_inquiry.specs.declared.sought.Sought.TheVariants as sought
 use Rattle.xsi_inquiry.specs.Seeking.{counter_key}
+use Rattle.xsi_control.specs.Removing.{wanted_by_remove}
 use Rattle.xsi_inquiry.specs.Telling.{IsTold}
 use Rattle.xsi_control.specs.declared.get_inquiry.Getting.TheVariants.{Unread, Found}
 use Rattle.xsi_control.specs.Getting.{KnowsOfGet, absent_or_making, id_found, key_of_key, wanted_by}
@@ -78,3 +81,11 @@ module _ (c : Caller) (a : GetArguments) (s : State) (key : ℕ) (given : a.key 
       (records.Key e) (sym (told (key_of_key key) refl)) in
       let same : key_entry key q ≡ e = cc in
       by_key (Some q) found ∙ ap (λ (e : KeyEntry). id_found e.id a s) same
+
+-- ---- what a Remove asks for once its Queue is found
+
+pub counter_wanted : (id : ℕ) (e : QueueEntry) (counter : Option Counter) (s : State) (found : Option Record) →
+    IsSome (wanted_by_remove id (sought.Found e) counter) →
+    IsTold s (wanted_by_remove id (sought.Found e) counter) found → IsTold s (Some counter_key) found
+counter_wanted id e None s found wants told = told
+counter_wanted id e (Some n) s found wants told = absurd cc

@@ -17,21 +17,13 @@ use queue_model::{Caller, Errno};
 use queue_records::{COUNTER, Counter, KEY, QueueEntry, Record};
 use xsi_inquiry::{Decision, Inquiry, NotASystem, Plan, Sought, Trials, Writes, counter_in};
 
-/// How far a Remove has come.
-#[derive(Clone, Copy, Debug, PartialEq)]
-enum Removing {
-    /// The queue is sought. Once its Queue is found the Counter is to be read.
-    Seeking(Sought),
-    /// Its Queue, and the Counter.
-    Counted(QueueEntry, Counter),
-}
-
 /// A Remove (POSIX.1-2017, `msgctl()` with `IPC_RMID`). It reads the Queue and then the Counter.
 #[derive(Debug, Drop)]
 pub struct RemoveInquiry {
     caller: Caller,
     id: u32,
-    removing: Removing,
+    sought: Sought,
+    counter: Option<Counter>,
 }
 
 impl RemoveInquiry {
@@ -44,7 +36,8 @@ impl RemoveInquiry {
         RemoveInquiry {
             caller,
             id,
-            removing: Removing::Seeking(Sought::new(id)),
+            sought: Sought::new(id),
+            counter: None,
         }
     }
 }
@@ -57,45 +50,46 @@ impl Inquiry for RemoveInquiry {
 
     ghost call = { λ i. calls.Remove i.id };
 
-    ghost wanted = { λ i. wanted_by_remove i.id i.removing };
+    ghost wanted = { λ i. wanted_by_remove i.id i.sought i.counter };
 
-    ghost Knows = { λ i s. KnowsOfRemove i.id i.removing s };
+    ghost Knows = { λ i s. KnowsOfRemove i.id i.sought i.counter s };
 
-    ghost left = { λ i. reads_left_of_remove i.removing };
+    ghost left = { λ i. reads_left_of_remove i.sought i.counter };
 
     fn wants(&self) -> Option<RecordKey> {
-        match self.removing {
-            Removing::Seeking(Sought::Found(_)) => Some(RecordKey {
+        let Sought::Found(_) = self.sought else {
+            return self.sought.wants(self.id);
+        };
+        match self.counter {
+            None => Some(RecordKey {
                 kind: COUNTER,
                 queue: 0,
                 number: 0,
             }),
-            Removing::Seeking(sought) => sought.wants(self.id),
-            Removing::Counted(_, _) => None,
+            Some(_) => None,
         }
     }
 
     fn take(&mut self, found: Option<Record<'_>>) -> Result<(), NotASystem> {
-        match self.removing {
-            Removing::Seeking(Sought::Found(queue)) => {
+        match self.sought {
+            Sought::Unread | Sought::Absent => self.sought.take(self.id, found),
+            Sought::Found(_) => {
                 let Some(entry) = found else {
                     return Err(NotASystem);
                 };
-                self.removing = Removing::Counted(queue, counter_in(entry)?);
+                self.counter = Some(counter_in(entry)?);
+                Ok(())
             }
-            Removing::Seeking(sought) => {
-                let mut sought = sought;
-                sought.take(self.id, found)?;
-                self.removing = Removing::Seeking(sought);
-            }
-            Removing::Counted(_, _) => return Err(NotASystem),
+            Sought::Refused(_) => Err(NotASystem),
         }
-        Ok(())
     }
 
     fn decide(&self, _stopped: bool) -> Result<Decision<'_>, NotASystem> {
-        match self.removing {
-            Removing::Counted(queue, counter) => {
+        match self.sought {
+            Sought::Found(queue) => {
+                let Some(counter) = self.counter else {
+                    return Err(NotASystem);
+                };
                 if !permissions_in(&queue).is_owned_by(self.caller) {
                     return Ok(Decision::refuses(Errno::EPERM));
                 }
@@ -104,8 +98,8 @@ impl Inquiry for RemoveInquiry {
                 }
                 Ok(Decision::Sweeps(queue.first, plan_remove(&queue, &counter)))
             }
-            Removing::Seeking(Sought::Refused(errno)) => Ok(Decision::refuses(errno)),
-            Removing::Seeking(_) => Err(NotASystem),
+            Sought::Refused(errno) => Ok(Decision::refuses(errno)),
+            Sought::Unread | Sought::Absent => Err(NotASystem),
         }
     }
 }

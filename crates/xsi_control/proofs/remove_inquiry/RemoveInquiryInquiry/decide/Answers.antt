@@ -1,4 +1,4 @@
-use Rattle.std.proofs.Common.{◌≡◌, Bool, sym, ap, ◌∙◌}
+use Rattle.std.proofs.Common.{sym, ap, ◌∙◌}
 use Rattle.queue_model.specs.declared.call.Call.TheVariants as calls
 use Rattle.queue_model.specs.declared.errno.Errno.TheVariants.{EPERM}
 use Rattle.queue_model.specs.declared.permissions.Permissions.{Permissions}
@@ -15,9 +15,8 @@ returns-then-not-is_owned_by c s filed knows stopped =
     let id = c.args.self.now.id in
     let owns = ap (λ (p : Permissions). is_owner who p) (sym c.permissions_in.ensures)
     ∙ sym c.is_owned_by.ensures ∙ c.if-not-is_owned_by.true in
-    let known = rw c.in-Counted.is at knows in
     rw c.refuses.ensures (decides_refused who (calls.Remove id) s EPERM
-    (remove_refused who id s c.in-Counted.queue known.0 owns))
+    (remove_refused who id s c.in-Found.queue (rw c.in-Found.is at knows.tells) owns))
 
 -- the queue is swept
 pub returns-else-counter-eq0 : goal.returns-else-counter-eq0
@@ -26,14 +25,14 @@ returns-else-counter-eq0 c s filed knows stopped =
     let id = c.args.self.now.id in
     let owns = ap (λ (p : Permissions). is_owner who p) (sym c.permissions_in.ensures)
     ∙ sym c.is_owned_by.ensures ∙ c.if-not-is_owned_by.false in
-    let known = rw c.in-Counted.is at knows in
-    remove_swept who id s c.in-Counted.queue known.0 c.plan_remove.result owns
-    (c.plan_remove.ensures id s filed known.0 known.1)
+    let is = rw c.in-Found.is at knows.tells in
+    remove_swept who id s c.in-Found.queue is c.plan_remove.result owns
+    (c.plan_remove.ensures id s filed is (rw c.in-Some.is at knows.counted))
 
 -- the id has no queue
-pub returns-in-Seeking-Refused : goal.returns-in-Seeking-Refused
-returns-in-Seeking-Refused c s filed knows stopped =
+pub returns-in-Refused : goal.returns-in-Refused
+returns-in-Refused c s filed knows stopped =
     let who = c.args.self.now.caller in
-    let refused = rw c.in-Seeking-Refused.is at knows in
-    rw c.refuses-in-Seeking-Refused.ensures (decides_refused who (calls.Remove c.args.self.now.id) s
-    c.in-Seeking-Refused.errno (refused (remove_from who c.args.self.now.id s)))
+    let refused = rw c.in-Refused.is at knows.tells in
+    rw c.refuses-in-Refused.ensures (decides_refused who (calls.Remove c.args.self.now.id) s
+    c.in-Refused.errno (refused (remove_from who c.args.self.now.id s)))
