@@ -8,3 +8,4 @@ pub mod RemovingLemmas
 pub mod TakingLemmas
 pub mod DecidingLemmas
 pub mod LastLemmas
+pub mod TurnLemmas
