@@ -1,8 +1,7 @@
 -- One turn of a sweep: a message goes and, where it is the last of its type, the type.
-use Rattle.std.proofs.Common.{◌≡◌, ℕ, suc, ◌<◌, ℤ, pos, ◌≤ℤ◌, Bool, true, false, cond, List, [], ◌∷◌, length, drop, Option, Some, None, refl, sym, ap, ◌∙◌, arith}
+use Rattle.std.proofs.Common.{◌≡◌, ℕ, suc, ◌+◌, ◌<◌, ℤ, pos, ◌≤ℤ◌, Bool, true, false, cond, List, [], ◌∷◌, drop, Some, None, refl, sym, ap, ◌∙◌, arith}
 use Rattle.std.specs.Prelude.{◌==◌, ◌≢◌, ◌||◌, option_and_then, slice_get}
-use Rattle.std.specs.List.{All, Contains, find, list_any}
-use Rattle.std.specs.Ordering.{int_eq}
+use Rattle.std.specs.List.{Contains, find, list_any}
 use Rattle.std.proofs.lemmas.Bool.{eqb-true}
 use Rattle.std.proofs.lemmas.Bool.Decides.{Decides-eqb, Decides-int_eq, nat_tests}
 use Rattle.std.proofs.lemmas.List.Elements.{All-contains, All-cons, All-drop, All-nil, All-weaker, Contains-append_left, Contains-append_right}
@@ -17,24 +16,29 @@ use Rattle.queue_model.specs.Rules.{has_id}
 use Rattle.queue_model.specs.State.{State}
 use Rattle.queue_model.proofs.ListLemmas.{find-Some}
 use Rattle.queue_records.specs.declared.layout.TheConstants.{TYPE, MESSAGE}
+use Rattle.queue_records.specs.declared.message_entry.MessageEntry.{MessageEntry}
 use Rattle.queue_records.specs.declared.record.Record.{Record}
 use Rattle.queue_records.specs.declared.record.Record.TheVariants as records
+use Rattle.queue_records.specs.declared.type_entry.TypeEntry.{TypeEntry}
 use Rattle.queue_records.specs.Fields.{type_number}
-use Rattle.queue_records.specs.Spelling.{key_of}
+use Rattle.queue_records.specs.Spelling.{key_of, message_key, type_key}
 use Rattle.type_chains.specs.Entries.{message_entry, queue_entry, type_entry}
 use Rattle.type_chains.specs.Image.{key_records, message_records, queue_records, type_records}
 use Rattle.type_chains.specs.Lists.{is_of_type, types}
-use Rattle.type_chains.specs.RecordOf.{has_serial, message_record, record_of, type_record}
+use Rattle.type_chains.specs.RecordOf.{has_serial, message_record, type_record}
+use Rattle.type_chains.proofs.Cases.{found_id}
 use Rattle.type_chains.proofs.Images.{queue_has}
 use Rattle.type_chains.proofs.Limits.{lawful_queue}
 use Rattle.type_chains.proofs.Members.{contains_tail, in_map}
 use Rattle.type_chains.proofs.TypesStand.{are_types_of}
 use Rattle.xsi_inquiry.specs.declared.decision.Plan.{Plan}
 use Rattle.xsi_inquiry.specs.declared.decision.Trials.TheVariants as trials
+use Rattle.xsi_inquiry.specs.declared.write.Write.{Write}
 use Rattle.xsi_inquiry.specs.declared.write.Write.TheVariants.{Delete}
-use Rattle.xsi_inquiry.specs.Sweeping.{has_type_number, message_left, swept, type_left}
+use Rattle.xsi_inquiry.specs.Sweeping.{has_type_number, swept}
 use Rattle.xsi_inquiry.specs.Writing.{HasRange, Leads}
-use Rattle.xsi_control.proofs.KindLemmas.{by_test, kind_message, kind_type}
+use Rattle.xsi_control.specs.Turns.{IsTurnOf}
+use Rattle.xsi_control.proofs.KindLemmas.{by_test}
 use Rattle.xsi_control.proofs.LastLemmas.{any_alike, at_place, drop_at, is_last, is_not_last, pairs_behind, same_number}
 use Rattle.xsi_control.proofs.SweptLemmas.{some_is, swept_elsewhere, swept_message, swept_otherwise, swept_type}
 
@@ -242,3 +246,39 @@ module _ (id count : ℕ) (s : State) (lawful : IsLawful s) (q : Queue) (m : Mes
       by : (b : Bool) → list_any (is_of_type m.mtype) behind_it ≡ b → list_any (is_of_type m.mtype) behind_it ≡ true
       by true some = some
       by false none = absurd (other (is_last (is_of_type m.mtype) q.messages count m at same_type none))
+
+-- ---- by the entries of the turn
+
+module _ (id count : ℕ) (s : State) (e : MessageEntry) (t : TypeEntry) (lawful : IsLawful s)
+    (turn : IsTurnOf id count s e t) (ws : List Write) where
+  its_id : turn.queue.id ≡ id
+  its_id = found_id s id turn.queue turn.alive
+
+  next_place : suc count ≡ count + 1
+  next_place = omega arith
+
+  pub turn_with_type : ws ≡ Delete (message_key e) ∷ Delete (type_key t) ∷ [] → t.last ≡ e.serial →
+      Leads (record { trials = trials.None; writes = ws }) (swept id count s) (swept id (count + 1) s)
+  turn_with_type written last =
+      let q = turn.queue in
+      let m = turn.message in
+      let is_last : (type_entry q m.mtype).last ≡ m.serial =
+      ap (λ (x : TypeEntry). x.last) (sym turn.its_type) ∙ last ∙ ap (λ (x : MessageEntry). x.serial) turn.its_entry in
+      let leads = last_leads id count s lawful q m turn.alive its_id turn.stands
+      (is_last_of_type id count s lawful q m turn.alive its_id turn.stands is_last) in
+      let writes_are = written
+      ∙ ap (λ (x : MessageEntry). Delete (message_key x) ∷ Delete (type_key t) ∷ []) turn.its_entry
+      ∙ ap (λ (x : TypeEntry). Delete (message_key (message_entry q m)) ∷ Delete (type_key x) ∷ []) turn.its_type in
+      rw (writes_are, ← next_place) leads
+
+  pub turn_without_type : ws ≡ Delete (message_key e) ∷ [] → t.last ≢ e.serial →
+      Leads (record { trials = trials.None; writes = ws }) (swept id count s) (swept id (count + 1) s)
+  turn_without_type written other =
+      let q = turn.queue in
+      let m = turn.message in
+      let not_last : (type_entry q m.mtype).last ≢ m.serial = λ last. other (
+      ap (λ (x : TypeEntry). x.last) turn.its_type ∙ last ∙ ap (λ (x : MessageEntry). x.serial) (sym turn.its_entry)) in
+      let leads = other_leads id count s lawful q m turn.alive its_id turn.stands
+      (is_not_last_of_type id count s lawful q m turn.alive its_id turn.stands not_last) in
+      let writes_are = written ∙ ap (λ (x : MessageEntry). Delete (message_key x) ∷ []) turn.its_entry in
+      rw (writes_are, ← next_place) leads
