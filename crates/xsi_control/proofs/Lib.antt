@@ -9,3 +9,4 @@ pub mod TakingLemmas
 pub mod DecidingLemmas
 pub mod LastLemmas
 pub mod TurnLemmas
+pub mod SweepLemmas

@@ -49,7 +49,7 @@ last_turn message mtype = record { trials = trials.None; writes = Delete message
 abbrev pub other_turn : RecordKey → Plan
 other_turn message = record { trials = trials.None; writes = Delete message ∷ [] }
 
-not_both : (b : Bool) → b ≡ true → b ≡ false → ⊥
+pub not_both : (b : Bool) → b ≡ true → b ≡ false → ⊥
 not_both true t f = absurd cc
 not_both false t f = absurd cc
 
