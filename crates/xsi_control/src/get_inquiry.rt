@@ -14,7 +14,9 @@ ghost use Rattle.xsi_inquiry.specs.Writing.{Leads};
 use bucket_page::RecordKey;
 use queue_model::{Caller, DEFAULT_QBYTES, Errno, GetArguments, Permissions};
 use queue_records::{COUNTER, Counter, END_OF_IDS, KEY, KeyEntry, MAX_QUEUES, QueueEntry, Record};
-use xsi_inquiry::{Decision, Inquiry, NotASystem, Plan, Trials, Verdict, Writes, counter_in, key_in};
+use xsi_inquiry::{
+    Decision, Inquiry, NotASystem, Plan, Trials, Verdict, Writes, counter_in, key_in,
+};
 
 /// How far a Get has come.
 #[derive(Clone, Copy, Debug, PartialEq)]

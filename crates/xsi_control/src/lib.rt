@@ -16,3 +16,6 @@ pub use remove_inquiry::{RemoveInquiry, plan_remove};
 pub use set_inquiry::{SetInquiry, plan_set};
 pub use stat_inquiry::StatInquiry;
 pub use turn::plan_remove_turn;
+
+#[cfg(test)]
+mod tests;

@@ -37,6 +37,8 @@ returns-in_err-counter_in-in-Making-clause-told c s filed knows told =
 
 pub returns-in_ok-counter_in-in-Making-clause-told : goal.returns-in_ok-counter_in-in-Making-clause-told
 returns-in_ok-counter_in-in-Making-clause-told c s filed knows told =
-    let given = c.in_ok-counter_in-in-Making.ensures.ok in
-    (rw c.in-Making.is at knows, same_counter s c.in_ok-counter_in-in-Making.field-0
-    (rw given at (rw c.in-Some-found.is at (rw c.in-Making.is at told))))
+    let given = c.in_ok-counter_in-in-Making.ensures.ok in (
+      rw c.in-Making.is at knows,
+      same_counter s c.in_ok-counter_in-in-Making.field-0
+          (rw given at (rw c.in-Some-found.is at (rw c.in-Making.is at told))),
+    )

@@ -22,6 +22,6 @@ returns-in_ok-counter_in-in-Found-clause-told c s filed knows told =
     record {
       tells = knows.tells;
       counted = same_counter s c.in_ok-counter_in-in-Found.field-0
-      (rw given at (rw c.in-Some.is at (counter_wanted c.args.self.now.id c.in-Found.field-0
-      c.args.self.now.counter s c.args.found (rw c.in-Found.is at c.requires) (rw c.in-Found.is at told))));
+          (rw given at (rw c.in-Some.is at (counter_wanted c.args.self.now.id c.in-Found.field-0
+          c.args.self.now.counter s c.args.found (rw c.in-Found.is at c.requires) (rw c.in-Found.is at told))));
     }

@@ -33,7 +33,7 @@ returns-then-not-is_owned_by c s filed knows stopped =
 
 -- the caller raises the limit
 pub returns-then-raises : goal.returns-then-raises
-returns-then-raises c s filed knows stopped = 
+returns-then-raises c s filed knows stopped =
     let small : nat_lt MAX_QBYTES c.args.self.now.arguments.qbytes ≡ false =
     grind (arith, nat_tests, c.if-self-gt-MAX_QBYTES.false) in
     let a = c.args.self.now.arguments in
