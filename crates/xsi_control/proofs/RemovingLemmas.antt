@@ -1,5 +1,5 @@
 -- A queue of which the messages are swept goes.
-use Rattle.std.proofs.Common.{◌≡◌, ℕ, ◌+◌, ◌-◌, ◌<◌, Bool, true, false, cond, List, [], ◌∷◌, ◌++◌, length, drop, Option, Some, None, refl, sym, ap, ◌∙◌, arith}
+use Rattle.std.proofs.Common.{◌≡◌, ℕ, ◌+◌, ◌-◌, ◌<◌, Bool, true, false, cond, List, [], ◌∷◌, length, drop, Option, Some, None, refl, sym, ap, ◌∙◌, arith}
 use Rattle.std.specs.Prelude.{◌==◌, ◌≢◌, ◌&&◌, IsSome, option_map, option_and_then}
 use Rattle.std.specs.List.{find, position_or_len, remove, list_any}
 use Rattle.std.proofs.lemmas.Bool.{eqb-true}
@@ -22,8 +22,7 @@ use Rattle.queue_records.specs.declared.counter.Counter.{Counter}
 use Rattle.queue_records.specs.declared.layout.TheConstants.{TYPE, MESSAGE}
 use Rattle.queue_records.specs.declared.record.Record.{Record}
 use Rattle.queue_records.specs.declared.record.Record.TheVariants as records
-use Rattle.queue_records.specs.declared.queue_entry.QueueEntry.{QueueEntry}
-use Rattle.queue_records.specs.Spelling.{key_of, queue_key}
+use Rattle.queue_records.specs.Spelling.{key_of}
 use Rattle.type_chains.specs.Entries.{counter_of, key_entry, queue_entry}
 use Rattle.type_chains.specs.RecordOf.{has_serial, type_record, message_record, record_of}
 use Rattle.type_chains.proofs.Limits.{in_range}
@@ -32,7 +31,6 @@ use Rattle.xsi_inquiry.specs.declared.decision.Plan.{Plan}
 use Rattle.xsi_inquiry.specs.declared.decision.Trials.TheVariants as trials
 use Rattle.xsi_inquiry.specs.declared.write.Write.{Write}
 use Rattle.xsi_inquiry.specs.declared.write.Write.TheVariants.{Replace, Delete}
-use Rattle.xsi_inquiry.specs.Seeking.{IsEntryOf}
 use Rattle.xsi_inquiry.specs.Sweeping.{swept, has_type_number}
 use Rattle.xsi_inquiry.specs.Writing.{Leads, HasRange, value_length}
 use Rattle.xsi_control.specs.Getting.{key_of_key}
@@ -113,7 +111,8 @@ module _ (id : ℕ) (s : State) (q : Queue) (lawful : IsLawful s) (found : find 
   key_then key given = ap (option_map (λ (q : Queue). records.Key (key_entry key q))) (key_gone key given)
 
   queue_stands : left (key_of_queue id) ≡ Some (records.Queue (queue_entry q))
-  queue_stands = swept_otherwise id (length q.messages) s (key_of_queue id) (λ e. omega (arith, e)) (λ e. omega (arith, e))
+  queue_stands =
+      swept_otherwise id (length q.messages) s (key_of_queue id) (λ e. omega (arith, e)) (λ e. omega (arith, e))
       ∙ ap (option_map (λ (q : Queue). records.Queue (queue_entry q))) found
 
   key_stands : (key : ℕ) → q.key ≡ Some key → IsSome (left (key_of_key key))
@@ -125,7 +124,8 @@ module _ (id : ℕ) (s : State) (q : Queue) (lawful : IsLawful s) (found : find 
       ∙ ap (option_map (λ (q : Queue). records.Key (key_entry key q))) by_key)
 
   counter_stands : left (key_of less) ≡ Some (records.Counter (counter_of s))
-  counter_stands = swept_otherwise id (length q.messages) s (key_of less) (λ e. omega (arith, e)) (λ e. omega (arith, e))
+  counter_stands =
+      swept_otherwise id (length q.messages) s (key_of less) (λ e. omega (arith, e)) (λ e. omega (arith, e))
 
   as_long : option_map value_length (left (key_of less)) ≡ Some (value_length less)
   as_long = ap (option_map value_length) counter_stands
@@ -197,7 +197,8 @@ module _ (id : ℕ) (s : State) (q : Queue) (lawful : IsLawful s) (found : find 
           let no_type : key.kind ≢ TYPE = λ kind. grind (arith, nat_tests, f, kind) in
           let no_message : key.kind ≢ MESSAGE = λ kind. grind (arith, nat_tests, g, kind) in
           swept_otherwise id (length q.messages) s key no_type no_message
-          ∙ same_record s t key (others_same key other (λ kind. absurd (no_type kind)) (λ kind. absurd (no_message kind)))
+          ∙ same_record s t key (others_same key other (λ kind. absurd (no_type kind))
+          (λ kind. absurd (no_message kind)))
 
   queue_can : IsSome (left (key_of_queue id))
   queue_can = some_is (left (key_of_queue id)) (records.Queue (queue_entry q)) queue_stands
@@ -249,30 +250,3 @@ module _ (id : ℕ) (s : State) (q : Queue) (lawful : IsLawful s) (found : find 
       Leads (remove_plan key id (counter_of s)) left (record_of t)
   remove_leads None is = private_leads is
   remove_leads (Some k) is = keyed_leads k is
-
--- the deletion of the Key, where there is one
-abbrev pub key_deleted : Option ℕ → List Write
-key_deleted None = []
-key_deleted (Some key) = Delete (key_of_key key) ∷ []
-
-in_order : (key : Option ℕ) (id : ℕ) (n : Counter) →
-    (key_deleted key ++ Delete (key_of_queue id) ∷ []) ++ Replace (one_less n) ∷ [] ≡ writes_of_remove key id n
-in_order None id n = refl
-in_order (Some key) id n = refl
-
--- what the Queue and the Counter say is what the system's say
-pub removed : (id : ℕ) (s : State) (e : QueueEntry) (n : Counter) (ws : List Write) → IsLawful s →
-    (is : IsEntryOf id e s) → n ≡ counter_of s →
-    ws ≡ (key_deleted e.key ++ Delete (queue_key e) ∷ []) ++ Replace (one_less n) ∷ [] →
-    Leads (record { trials = trials.None; writes = ws }) (swept id (length is.queue.messages) s)
-    (record_of (without_queue id s))
-removed id s e n ws lawful is counted written =
-    let q = is.queue in
-    let key : e.key ≡ q.key = ap (λ (x : QueueEntry). x.key) is.entry in
-    let own : e.id ≡ id = ap (λ (x : QueueEntry). x.id) is.entry ∙ is.its_id in
-    let writes_are : ws ≡ writes_of_remove q.key id (counter_of s) =
-    written ∙ in_order e.key e.id n
-    ∙ ap (λ (k : Option ℕ). writes_of_remove k e.id n) key
-    ∙ ap (λ (i : ℕ). writes_of_remove q.key i n) own
-    ∙ ap (λ (x : Counter). writes_of_remove q.key id x) counted in
-    rw writes_are (remove_leads id s q lawful is.found is.its_id q.key refl)

@@ -67,7 +67,8 @@ module _ (a : SetArguments) (s : State) (q : Queue) (lawful : IsLawful s)
   stands_then =
       let has : has_id a.id new ≡ true = grind (arith, nat_tests, its) in
       ap (λ (id : ℕ). option_map (λ (q : Queue). records.Queue (queue_entry q)) (find (has_id id) t.queues)) its
-      ∙ ap (option_map (λ (q : Queue). records.Queue (queue_entry q))) (find_set_first (has_id a.id) new s.queues q found has)
+      ∙ ap (option_map (λ (q : Queue). records.Queue (queue_entry q)))
+      (find_set_first (has_id a.id) new s.queues q found has)
 
   others_same : (key : RecordKey) → is_same key (key_of changed_record) ≡ false → HasSame s t key
   others_same key other = record {
@@ -91,9 +92,11 @@ module _ (a : SetArguments) (s : State) (q : Queue) (lawful : IsLawful s)
     absent = tt;
     trials_in_range = All-nil _;
     can = (ap (option_map _) stood ∙ ap Some (length-queue (queue_entry q) ∙ sym (length-queue (queue_entry new))), tt);
-    in_range = All-cons HasRange (Replace changed_record) [] (in_range t (key_of changed_record) changed_record stays_lawful stands_then)
+    in_range = All-cons HasRange (Replace changed_record) []
+        (in_range t (key_of changed_record) changed_record stays_lawful stands_then)
         (All-nil HasRange);
-    leads = λ key. by_test (is_same key (key_of changed_record)) (Some changed_record) (record_of s key) (record_of t key)
+    leads = λ key.
+        by_test (is_same key (key_of changed_record)) (Some changed_record) (record_of s key) (record_of t key)
         (λ same. sym (ap (record_of t) (same_is key (key_of changed_record) same) ∙ stands_then))
         (λ other. same_record s t key (others_same key other));
   }

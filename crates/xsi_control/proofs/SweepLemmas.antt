@@ -1,10 +1,10 @@
 -- How a sweep begins, what each turn reads, and how it ends.
-use Rattle.std.proofs.Common.{◌≡◌, ℕ, zero, suc, ◌+◌, ◌≤◌, ℤ, Bool, true, false, cond, List, [], ◌∷◌, length, map, Option, Some, None, inl, inr, ◌↔◌, refl, sym, ap, ◌∙◌, subst, arith}
+use Rattle.std.proofs.Common.{◌≡◌, ℕ, zero, suc, ◌+◌, ◌≤◌, ℤ, Bool, true, false, cond, List, [], ◌∷◌, length, Option, Some, None, inl, inr, ◌↔◌, refl, sym, ap, ◌∙◌, arith}
 use Rattle.std.specs.Prelude.{◌==◌, ◌&&◌, ◌||◌, option_and_then, option_map, slice_get}
 use Rattle.std.specs.List.{Contains, find, list_any}
 use Rattle.std.proofs.lemmas.Bool.{eqb-true}
 use Rattle.std.proofs.lemmas.List.{length-map}
-use Rattle.std.proofs.lemmas.Option.{slice_get_past, slice_get_within}
+use Rattle.std.proofs.lemmas.Option.{slice_get_past}
 use Rattle.bucket_page.specs.declared.record_key.RecordKey.{RecordKey}
 use Rattle.bucket_page.proofs.Zeros.{both_true}
 use Rattle.queue_model.specs.declared.message.Message.{Message}
@@ -15,7 +15,6 @@ use Rattle.queue_model.proofs.ListLemmas.{find-Some}
 use Rattle.queue_records.specs.declared.layout.TheConstants.{TYPE, MESSAGE}
 use Rattle.queue_records.specs.declared.record.Record.{Record}
 use Rattle.queue_records.specs.declared.record.Record.TheVariants as records
-use Rattle.queue_records.specs.Fields.{type_number}
 use Rattle.type_chains.specs.Entries.{message_entry, type_entry}
 use Rattle.type_chains.specs.Lists.{serials, types}
 use Rattle.type_chains.specs.RecordOf.{at_queue_of, has_number, has_serial, message_record, record_of, type_record}
@@ -29,7 +28,7 @@ use Rattle.xsi_inquiry.specs.Telling.{IsFiled}
 use Rattle.xsi_control.specs.Turns.{IsRead, key_of_message, key_of_type}
 use Rattle.xsi_control.proofs.FindLemmas.{none_passes}
 use Rattle.xsi_control.proofs.KindLemmas.{by_test, kind_message, kind_type}
-use Rattle.xsi_control.proofs.LastLemmas.{at_place, place_of_serial}
+use Rattle.xsi_control.proofs.LastLemmas.{place_of_serial}
 use Rattle.xsi_control.proofs.TurnLemmas.{message_stands, not_both, type_stands}
 
 -- ---- the beginning
@@ -112,7 +111,8 @@ is_read id place s q serial filed found at =
       turn = record { queue = q; message = m; alive = found; stands = stands; its_entry = refl; its_type = refl };
       message_own = its;
       type_own = its;
-      next = ap (λ (i : ℕ). slice_get (serials q.messages) (suc i)) (place_of_serial q.messages place m own.serials_ascend stands)
+      next = ap (λ (i : ℕ). slice_get (serials q.messages) (suc i))
+          (place_of_serial q.messages place m own.serials_ascend stands)
           ∙ ap (slice_get (serials q.messages)) next_place;
     }
 

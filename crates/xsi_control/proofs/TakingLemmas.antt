@@ -21,7 +21,7 @@ use Rattle.xsi_inquiry.specs.Seeking.{counter_key}
 use Rattle.xsi_control.specs.Removing.{wanted_by_remove}
 use Rattle.xsi_inquiry.specs.Telling.{IsTold}
 use Rattle.xsi_control.specs.declared.get_inquiry.Getting.TheVariants.{Unread, Found}
-use Rattle.xsi_control.specs.Getting.{KnowsOfGet, absent_or_making, id_found, key_of_key, wanted_by}
+use Rattle.xsi_control.specs.Getting.{KnowsOfGet, absent_or_making, id_found, key_of_key, wanted_by_get}
 
 -- ---- the Counter always stands
 
@@ -52,7 +52,7 @@ module _ (c : Caller) (a : GetArguments) (s : State) (key : ℕ) (given : a.key 
   none_mapped (Some q) none = absurd cc
 
   -- no queue has the key: one is made, or ENOENT
-  pub absent_told : IsTold s (wanted_by (Unread key)) None → KnowsOfGet c a (absent_or_making a.create) s
+  pub absent_told : IsTold s (wanted_by_get (Unread key)) None → KnowsOfGet c a (absent_or_making a.create) s
   absent_told told =
       let none = none_mapped (find (has_key key) s.queues) (told (key_of_key key) refl) in
       let fresh : IsFreshKey a.key s = λ k its.
@@ -67,14 +67,14 @@ module _ (c : Caller) (a : GetArguments) (s : State) (key : ℕ) (given : a.key 
       by true fresh outcome = record { outcome = outcome; fresh = fresh }
       by false fresh outcome = outcome
 
-  pub key_told : (r : Record) → IsTold s (wanted_by (Unread key)) (Some r) → (e : KeyEntry) × (r ≡ records.Key e)
+  pub key_told : (r : Record) → IsTold s (wanted_by_get (Unread key)) (Some r) → (e : KeyEntry) × (r ≡ records.Key e)
   key_told r told =
       let (q, found, is) = mapped (λ (q : Queue). records.Key (key_entry key q)) (find (has_key key) s.queues) r
       (sym (told (key_of_key key) refl)) in
       (key_entry key q, sym is)
 
   -- a queue has the key
-  pub found_told : (e : KeyEntry) → IsTold s (wanted_by (Unread key)) (Some (records.Key e)) →
+  pub found_told : (e : KeyEntry) → IsTold s (wanted_by_get (Unread key)) (Some (records.Key e)) →
       KnowsOfGet c a (Found e.id) s
   found_told e told =
       let (q, found, is) = mapped (λ (q : Queue). records.Key (key_entry key q)) (find (has_key key) s.queues)

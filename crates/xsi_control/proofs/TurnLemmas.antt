@@ -1,5 +1,5 @@
 -- One turn of a sweep: a message goes and, where it is the last of its type, the type.
-use Rattle.std.proofs.Common.{◌≡◌, ℕ, suc, ◌+◌, ◌<◌, ℤ, pos, ◌≤ℤ◌, Bool, true, false, cond, List, [], ◌∷◌, drop, Some, None, refl, sym, ap, ◌∙◌, arith}
+use Rattle.std.proofs.Common.{◌≡◌, ℕ, suc, ◌<◌, ℤ, pos, ◌≤ℤ◌, Bool, true, false, cond, List, [], ◌∷◌, drop, Some, None, refl, sym, ap, ◌∙◌, arith}
 use Rattle.std.specs.Prelude.{◌==◌, ◌≢◌, ◌||◌, option_and_then, slice_get}
 use Rattle.std.specs.List.{Contains, find, list_any}
 use Rattle.std.proofs.lemmas.Bool.{eqb-true}
@@ -16,28 +16,23 @@ use Rattle.queue_model.specs.Rules.{has_id}
 use Rattle.queue_model.specs.State.{State}
 use Rattle.queue_model.proofs.ListLemmas.{find-Some}
 use Rattle.queue_records.specs.declared.layout.TheConstants.{TYPE, MESSAGE}
-use Rattle.queue_records.specs.declared.message_entry.MessageEntry.{MessageEntry}
 use Rattle.queue_records.specs.declared.record.Record.{Record}
 use Rattle.queue_records.specs.declared.record.Record.TheVariants as records
-use Rattle.queue_records.specs.declared.type_entry.TypeEntry.{TypeEntry}
 use Rattle.queue_records.specs.Fields.{type_number}
-use Rattle.queue_records.specs.Spelling.{key_of, message_key, type_key}
+use Rattle.queue_records.specs.Spelling.{key_of}
 use Rattle.type_chains.specs.Entries.{message_entry, queue_entry, type_entry}
 use Rattle.type_chains.specs.Image.{key_records, message_records, queue_records, type_records}
 use Rattle.type_chains.specs.Lists.{is_of_type, types}
 use Rattle.type_chains.specs.RecordOf.{has_serial, message_record, type_record}
-use Rattle.type_chains.proofs.Cases.{found_id}
 use Rattle.type_chains.proofs.Images.{queue_has}
 use Rattle.type_chains.proofs.Limits.{lawful_queue}
 use Rattle.type_chains.proofs.Members.{contains_tail, in_map}
 use Rattle.type_chains.proofs.TypesStand.{are_types_of}
 use Rattle.xsi_inquiry.specs.declared.decision.Plan.{Plan}
 use Rattle.xsi_inquiry.specs.declared.decision.Trials.TheVariants as trials
-use Rattle.xsi_inquiry.specs.declared.write.Write.{Write}
 use Rattle.xsi_inquiry.specs.declared.write.Write.TheVariants.{Delete}
 use Rattle.xsi_inquiry.specs.Sweeping.{has_type_number, swept}
 use Rattle.xsi_inquiry.specs.Writing.{HasRange, Leads}
-use Rattle.xsi_control.specs.Turns.{IsTurnOf}
 use Rattle.xsi_control.proofs.KindLemmas.{by_test}
 use Rattle.xsi_control.proofs.LastLemmas.{any_alike, at_place, drop_at, is_last, is_not_last, pairs_behind, same_number}
 use Rattle.xsi_control.proofs.SweptLemmas.{some_is, swept_elsewhere, swept_message, swept_otherwise, swept_type}
@@ -115,7 +110,8 @@ module _ (id count : ℕ) (s : State) (lawful : IsLawful s) (q : Queue) (m : Mes
       (Contains-append_left (type_records q) (message_records q) r has))
 
   message_there : Contains (queue_records q) message
-  message_there = Contains-append_right (key_records q) _ message (contains_tail (records.Queue (queue_entry q)) message _
+  message_there = Contains-append_right (key_records q) _ message
+      (contains_tail (records.Queue (queue_entry q)) message _
       (Contains-append_right (type_records q) (message_records q) message
       (in_map (λ (n : Message). records.Message (message_entry q n)) q.messages m there)))
 
@@ -187,8 +183,9 @@ module _ (id count : ℕ) (s : State) (lawful : IsLawful s) (q : Queue) (m : Mes
           ∙ ap (λ (b : Bool). cond b (message_record key.number q) None) (any_later (has_serial key.number) other)
           ∙ sym (swept_message id (suc count) s q found key at_id kind)
 
-      by : (its_id : Bool) (of_type : Bool) (message : Bool) → (key.queue == id) ≡ its_id → (key.kind == TYPE) ≡ of_type →
-          (key.kind == MESSAGE) ≡ message → swept id count s key ≡ swept id (suc count) s key
+      by : (its_id of_type message : Bool) → (key.queue == id) ≡ its_id →
+          (key.kind == TYPE) ≡ of_type → (key.kind == MESSAGE) ≡ message →
+          swept id count s key ≡ swept id (suc count) s key
       by false t n e f g =
           let apart : key.queue ≢ id = λ same. grind (arith, nat_tests, e, same) in
           swept_elsewhere id count s key apart ∙ sym (swept_elsewhere id (suc count) s key apart)
@@ -215,7 +212,8 @@ module _ (id count : ℕ) (s : State) (lawful : IsLawful s) (q : Queue) (m : Mes
         (λ same. sym (ap (swept id (suc count) s) (same_is key (key_of of_type) same) ∙ type_gone none))
         (λ no_type. by_test (is_same key (key_of message)) None (swept id count s key) (swept id (suc count) s key)
         (λ same. sym (ap (swept id (suc count) s) (same_is key (key_of message) same) ∙ message_gone))
-        (λ no_message. others_stay key no_message (λ same. absurd (not_both (is_same key (key_of of_type)) same no_type))));
+        (λ no_message. others_stay key no_message
+        (λ same. absurd (not_both (is_same key (key_of of_type)) same no_type))));
   }
 
   pub other_leads : list_any (is_of_type m.mtype) behind_it ≡ true →
@@ -237,7 +235,8 @@ module _ (id count : ℕ) (s : State) (lawful : IsLawful s) (q : Queue) (m : Mes
   is_last_of_type last = by (list_any (is_of_type m.mtype) behind_it) refl
     where
       by : (b : Bool) → list_any (is_of_type m.mtype) behind_it ≡ b → list_any (is_of_type m.mtype) behind_it ≡ false
-      by true some = absurd (is_not_last (is_of_type m.mtype) q.messages count m at same_type some own.serials_ascend last)
+      by true some = absurd (is_not_last (is_of_type m.mtype) q.messages count m at same_type some
+          own.serials_ascend last)
       by false none = none
 
   pub is_not_last_of_type : (type_entry q m.mtype).last ≢ m.serial → list_any (is_of_type m.mtype) behind_it ≡ true
@@ -246,39 +245,3 @@ module _ (id count : ℕ) (s : State) (lawful : IsLawful s) (q : Queue) (m : Mes
       by : (b : Bool) → list_any (is_of_type m.mtype) behind_it ≡ b → list_any (is_of_type m.mtype) behind_it ≡ true
       by true some = some
       by false none = absurd (other (is_last (is_of_type m.mtype) q.messages count m at same_type none))
-
--- ---- by the entries of the turn
-
-module _ (id count : ℕ) (s : State) (e : MessageEntry) (t : TypeEntry) (lawful : IsLawful s)
-    (turn : IsTurnOf id count s e t) (ws : List Write) where
-  its_id : turn.queue.id ≡ id
-  its_id = found_id s id turn.queue turn.alive
-
-  next_place : suc count ≡ count + 1
-  next_place = omega arith
-
-  pub turn_with_type : ws ≡ Delete (message_key e) ∷ Delete (type_key t) ∷ [] → t.last ≡ e.serial →
-      Leads (record { trials = trials.None; writes = ws }) (swept id count s) (swept id (count + 1) s)
-  turn_with_type written last =
-      let q = turn.queue in
-      let m = turn.message in
-      let is_last : (type_entry q m.mtype).last ≡ m.serial =
-      ap (λ (x : TypeEntry). x.last) (sym turn.its_type) ∙ last ∙ ap (λ (x : MessageEntry). x.serial) turn.its_entry in
-      let leads = last_leads id count s lawful q m turn.alive its_id turn.stands
-      (is_last_of_type id count s lawful q m turn.alive its_id turn.stands is_last) in
-      let writes_are = written
-      ∙ ap (λ (x : MessageEntry). Delete (message_key x) ∷ Delete (type_key t) ∷ []) turn.its_entry
-      ∙ ap (λ (x : TypeEntry). Delete (message_key (message_entry q m)) ∷ Delete (type_key x) ∷ []) turn.its_type in
-      rw (writes_are, ← next_place) leads
-
-  pub turn_without_type : ws ≡ Delete (message_key e) ∷ [] → t.last ≢ e.serial →
-      Leads (record { trials = trials.None; writes = ws }) (swept id count s) (swept id (count + 1) s)
-  turn_without_type written other =
-      let q = turn.queue in
-      let m = turn.message in
-      let not_last : (type_entry q m.mtype).last ≢ m.serial = λ last. other (
-      ap (λ (x : TypeEntry). x.last) turn.its_type ∙ last ∙ ap (λ (x : MessageEntry). x.serial) (sym turn.its_entry)) in
-      let leads = other_leads id count s lawful q m turn.alive its_id turn.stands
-      (is_not_last_of_type id count s lawful q m turn.alive its_id turn.stands not_last) in
-      let writes_are = written ∙ ap (λ (x : MessageEntry). Delete (message_key x) ∷ []) turn.its_entry in
-      rw (writes_are, ← next_place) leads

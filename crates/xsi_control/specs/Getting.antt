@@ -20,20 +20,20 @@ abbrev pub key_of_key : ℕ → RecordKey
 key_of_key key = record { kind = KEY; queue = 0; number = key }
 
 -- the key of the record to be read next
-abbrev pub wanted_by : Getting → Option RecordKey
-wanted_by (Unread key) = Some (key_of_key key)
-wanted_by (Found id) = None
-wanted_by Absent = None
-wanted_by Making = Some counter_key
-wanted_by (Counted counter) = None
+abbrev pub wanted_by_get : Getting → Option RecordKey
+wanted_by_get (Unread key) = Some (key_of_key key)
+wanted_by_get (Found id) = None
+wanted_by_get Absent = None
+wanted_by_get Making = Some counter_key
+wanted_by_get (Counted counter) = None
 
 -- records that may still be read
-abbrev pub reads_left : Getting → ℕ
-reads_left (Unread key) = 2
-reads_left (Found id) = 0
-reads_left Absent = 0
-reads_left Making = 1
-reads_left (Counted counter) = 0
+abbrev pub reads_left_of_get : Getting → ℕ
+reads_left_of_get (Unread key) = 2
+reads_left_of_get (Found id) = 0
+reads_left_of_get Absent = 0
+reads_left_of_get Making = 1
+reads_left_of_get (Counted counter) = 0
 
 -- where no queue has the key: whether one is to be made
 abbrev pub absent_or_making : Bool → Getting

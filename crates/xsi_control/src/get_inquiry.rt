@@ -62,17 +62,17 @@ impl GetInquiry {
 
 impl Inquiry for GetInquiry {
     ghost use Rattle.queue_model.specs.declared.call.Call.TheVariants as calls;
-    ghost use Rattle.xsi_control.specs.Getting.{KnowsOfGet, reads_left, wanted_by};
+    ghost use Rattle.xsi_control.specs.Getting.{KnowsOfGet, reads_left_of_get, wanted_by_get};
 
     ghost caller = { λ i. i.caller };
 
     ghost call = { λ i. calls.Get i.arguments };
 
-    ghost wanted = { λ i. wanted_by i.getting };
+    ghost wanted = { λ i. wanted_by_get i.getting };
 
     ghost Knows = { λ i s. KnowsOfGet i.caller i.arguments i.getting s };
 
-    ghost left = { λ i. reads_left i.getting };
+    ghost left = { λ i. reads_left_of_get i.getting };
 
     fn wants(&self) -> Option<RecordKey> {
         match self.getting {
@@ -146,7 +146,8 @@ fn by_create(create: bool) -> Getting
 pub fn plan_create<'a>(caller: Caller, arguments: &GetArguments, counter: &Counter) -> Plan<'a>
     requires few { counter.now.queues_alive < MAX_QUEUES }
     requires more { counter.now.next_id < END_OF_IDS }
-    ensures { (s : State) → IsFiled s → IsFreshKey arguments.now.key s → counter.now ≡ counter_of s →
+    ensures { (s : State) → IsFiled s → IsFreshKey arguments.now.key s →
+        counter.now ≡ counter_of s →
         Leads result (record_of s) (record_of (with_new_queue caller arguments.now s)) }
 {
     let id = counter.next_id;

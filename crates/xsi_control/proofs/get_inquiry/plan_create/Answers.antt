@@ -20,7 +20,8 @@ returns c s filed fresh is =
       | in-None w ↦ w.trials-is ∙ ap (λ (e : QueueEntry). trials.One (records.Queue e)) c.new_entry.ensures
           ∙ ap (λ (key : Option ℕ). trials_with key q) (sym w.in-None.is)
       | in-Some w ↦ w.trials-is
-          ∙ ap (λ (e : QueueEntry). trials.Two (records.Queue e) (records.Key (key_entry w.in-Some.key q))) c.new_entry.ensures
+          ∙ ap (λ (e : QueueEntry). trials.Two (records.Queue e) (records.Key (key_entry w.in-Some.key q)))
+          c.new_entry.ensures
           ∙ ap (λ (key : Option ℕ). trials_with key q) (sym w.in-Some.is)
     ] in
     let written : c.replace.new.self ≡ Replace (one_more n) ∷ [] =

@@ -4,7 +4,8 @@ use Rattle.queue_records.specs.Spelling.{queue_key}
 use Rattle.xsi_inquiry.specs.declared.write.Write.{Write}
 use Rattle.xsi_inquiry.specs.declared.write.Write.TheVariants.{Replace, Delete}
 use Rattle.xsi_control.specs.Getting.{key_of_key}
-use Rattle.xsi_control.proofs.RemovingLemmas.{key_deleted, one_less, removed}
+use Rattle.xsi_control.proofs.RemovedLemmas.{key_deleted, removed}
+use Rattle.xsi_control.proofs.RemovingLemmas.{one_less}
 use Rattle.xsi_control.proofs.remove_inquiry.plan_remove.Goals as goal
 use Rattle.xsi_control.proofs.remove_inquiry.plan_remove.Goals.{in-Some, in_default}
 

@@ -17,6 +17,7 @@ returns c s filed is =
     let entry = c.entry_with_settings.ensures
     ∙ ap (entry_with_settings c.args.arguments.now) is.entry in
     let writes : c.replace.new.self ≡ Replace (queue_with c.args.arguments.now is.queue) ∷ [] =
-    c.replace.ensures ∙ ap (λ (ws : List Write). ws ++ Replace (records.Queue c.entry_with_settings.result) ∷ []) c.new-writes.ensures
+    c.replace.ensures
+    ∙ ap (λ (ws : List Write). ws ++ Replace (records.Queue c.entry_with_settings.result) ∷ []) c.new-writes.ensures
     ∙ ap (λ (e : QueueEntry). Replace (records.Queue e) ∷ []) entry in
     rw writes (set_leads c.args.arguments.now s is.queue filed.lawful is.found is.its_id small)

@@ -3,7 +3,7 @@ use Rattle.bucket_page.specs.declared.record_key.RecordKey.{RecordKey}
 use Rattle.queue_records.specs.Spelling.{message_key, type_key}
 use Rattle.xsi_inquiry.specs.declared.write.Write.{Write}
 use Rattle.xsi_inquiry.specs.declared.write.Write.TheVariants.{Delete}
-use Rattle.xsi_control.proofs.TurnLemmas.{turn_with_type, turn_without_type}
+use Rattle.xsi_control.proofs.EntryLemmas.{turn_with_type, turn_without_type}
 use Rattle.xsi_control.proofs.turn.plan_remove_turn.Goals as goal
 use Rattle.xsi_control.proofs.turn.plan_remove_turn.Goals.{then-of_type-message, else-of_type-message}
 

@@ -28,7 +28,8 @@ returns-else-keeps_out c s filed knows stopped =
     let id = c.args.self.now.id in
     let lacks = ap (λ (p : Permissions). lacks_access Read who p) (sym c.permissions_in.ensures)
     ∙ sym c.keeps_out.ensures ∙ c.if-keeps_out.false in
-    rw (c.info_in.ensures, c.nothing.ensures) (decides_left who (calls.Stat id) s (verdicts.Info (info_in c.in-Found.queue))
+    rw (c.info_in.ensures, c.nothing.ensures)
+    (decides_left who (calls.Stat id) s (verdicts.Info (info_in c.in-Found.queue))
     (stat_told who id s c.in-Found.queue (rw c.in-Found.is at knows) lacks))
 
 -- the id has no queue
