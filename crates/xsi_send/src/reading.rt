@@ -1,0 +1,184 @@
+//! The records that a Send reads, one after the other.
+
+ghost use Rattle.std.specs.Prelude.{◌≡◌, ◌<◌, ◌≤◌, ◌+◌, length, IfOk, IsSome, Some};
+ghost use Rattle.queue_model.specs.State.{State};
+ghost use Rattle.queue_records.specs.declared.message_entry.MessageEntry.{MessageEntry};
+ghost use Rattle.queue_records.specs.declared.record.Record.TheVariants as records;
+ghost use Rattle.xsi_inquiry.specs.declared.sought.Sought.TheVariants.{Found};
+ghost use Rattle.xsi_inquiry.specs.Seeking.{key_sought};
+ghost use Rattle.xsi_inquiry.specs.Telling.{Gives, IsFiled, IsTold};
+ghost use Rattle.xsi_send.specs.declared.stage.Stage.TheVariants.{AtLast, AtLastOfType, AtNeighbour, AtType, Seeking};
+ghost use Rattle.xsi_send.specs.Knowing.{KnowsAt, asks_left, key_wanted, natural};
+
+use crate::queue::{lacks_room, permissions_in};
+use crate::reads::{SendReads, TypePlace};
+use crate::stage::Stage;
+use queue_model::{Access, Caller, Errno, SendArguments};
+use queue_records::{MAX_BODY, MessageEntry, QueueEntry, Record, TypeEntry};
+use std::cmp::Ordering;
+use xsi_inquiry::{HeldMessage, NotASystem, Sought};
+
+/// The Queue, or the Counter where there is none.
+pub fn seek(
+    caller: Caller,
+    arguments: &SendArguments,
+    sought: Sought,
+    found: Option<Record<'_>>,
+) -> Result<Stage, NotASystem>
+    requires { IsSome (key_sought arguments.now.id sought) }
+    ensures told { (s : State) → IsFiled s → KnowsAt caller arguments.now (Seeking sought) s →
+        IsTold s (key_sought arguments.now.id sought) found.entry →
+        Gives result (λ stage. KnowsAt caller arguments.now stage s) }
+    ensures fewer { IfOk result (λ stage.
+        asks_left arguments.now stage < asks_left arguments.now (Seeking sought)) }
+{
+    let mut sought = sought;
+    sought.take(arguments.id, found)?;
+    Ok(match sought {
+        Sought::Refused(errno) => Stage::Refused(errno),
+        Sought::Found(queue) => at_queue(caller, arguments, queue),
+        Sought::Unread | Sought::Absent => Stage::Seeking(sought),
+    })
+}
+
+/// What the Queue says: no permission, no room, or more is to be read.
+fn at_queue(caller: Caller, arguments: &SendArguments, queue: QueueEntry) -> Stage
+    ensures told { (s : State) → IsFiled s → KnowsAt caller arguments.now (Seeking (Found queue)) s →
+        KnowsAt caller arguments.now result s }
+    ensures fewer { asks_left arguments.now result ≤ natural arguments.now.mtype + 3 }
+{
+    if permissions_in(&queue).keeps_out(Access::Write, caller) {
+        return Stage::Refused(Errno::EACCES);
+    }
+    if lacks_room(arguments.body.len(), &queue) {
+        return Stage::Full;
+    }
+    match queue.last {
+        Some(serial) => Stage::AtLast(queue, serial),
+        None => Stage::AtType(queue, None),
+    }
+}
+
+/// The last Message of the queue.
+pub fn take_last(
+    caller: Caller,
+    arguments: &SendArguments,
+    queue: QueueEntry,
+    serial: u64,
+    found: Option<Record<'_>>,
+) -> Result<Stage, NotASystem>
+    ensures told { let before = AtLast queue serial in
+        (s : State) → IsFiled s → KnowsAt caller arguments.now before s →
+        IsTold s (key_wanted arguments.now before) found.entry →
+        Gives result (λ stage. KnowsAt caller arguments.now stage s) }
+    ensures fewer { IfOk result (λ stage.
+        asks_left arguments.now stage < asks_left arguments.now (AtLast queue serial)) }
+{
+    let message = held(found)?;
+    Ok(Stage::AtType(queue, Some(message)))
+}
+
+/// The Type of the message's type. Where it stands, the last Message of it is read unless it is the queue's last;
+/// where it does not, its neighbours are sought from the lowest type up.
+pub fn take_type(
+    caller: Caller,
+    arguments: &SendArguments,
+    queue: QueueEntry,
+    last: Option<HeldMessage>,
+    found: Option<Record<'_>>,
+) -> Result<Stage, NotASystem>
+    ensures told { let before = AtType queue last in
+        (s : State) → IsFiled s → KnowsAt caller arguments.now before s →
+        IsTold s (key_wanted arguments.now before) found.entry →
+        Gives result (λ stage. KnowsAt caller arguments.now stage s) }
+    ensures fewer { IfOk result (λ stage.
+        asks_left arguments.now stage < asks_left arguments.now (AtType queue last)) }
+{
+    match found {
+        Some(Record::Type(entry)) if queue.last == Some(entry.last) => Ok(Stage::Done(SendReads {
+            queue,
+            last,
+            place: TypePlace::Standing(entry, None),
+        })),
+        Some(Record::Type(entry)) => Ok(Stage::AtLastOfType(queue, last, entry)),
+        Some(_) => Err(NotASystem),
+        None => match queue.lowest {
+            None => Ok(Stage::Done(SendReads {
+                queue,
+                last,
+                place: TypePlace::Between(None, None),
+            })),
+            Some(lowest) if lowest < 1 => Err(NotASystem),
+            Some(lowest) => Ok(Stage::AtNeighbour(queue, last, None, lowest)),
+        },
+    }
+}
+
+/// The last Message of the type.
+pub fn take_last_of_type(
+    caller: Caller,
+    arguments: &SendArguments,
+    queue: QueueEntry,
+    last: Option<HeldMessage>,
+    entry: TypeEntry,
+    found: Option<Record<'_>>,
+) -> Result<Stage, NotASystem>
+    ensures told { let before = AtLastOfType queue last entry in
+        (s : State) → IsFiled s → KnowsAt caller arguments.now before s →
+        IsTold s (key_wanted arguments.now before) found.entry →
+        Gives result (λ stage. KnowsAt caller arguments.now stage s) }
+    ensures fewer { IfOk result (λ stage.
+        asks_left arguments.now stage < asks_left arguments.now (AtLastOfType queue last entry)) }
+{
+    let message = held(found)?;
+    Ok(Stage::Done(SendReads {
+        queue,
+        last,
+        place: TypePlace::Standing(entry, Some(message)),
+    }))
+}
+
+/// A Type on the way up. The types ascend, so the way ends.
+pub fn take_neighbour(
+    caller: Caller,
+    arguments: &SendArguments,
+    queue: QueueEntry,
+    last: Option<HeldMessage>,
+    lower: Option<TypeEntry>,
+    next: i64,
+    found: Option<Record<'_>>,
+) -> Result<Stage, NotASystem>
+    ensures told { let before = AtNeighbour queue last lower next in
+        (s : State) → IsFiled s → KnowsAt caller arguments.now before s →
+        IsTold s (key_wanted arguments.now before) found.entry →
+        Gives result (λ stage. KnowsAt caller arguments.now stage s) }
+    ensures fewer { IfOk result (λ stage.
+        asks_left arguments.now stage < asks_left arguments.now (AtNeighbour queue last lower next)) }
+{
+    let Some(Record::Type(entry)) = found else {
+        return Err(NotASystem);
+    };
+    let place = match next.cmp(&arguments.mtype) {
+        Ordering::Equal => return Err(NotASystem),
+        Ordering::Greater => TypePlace::Between(lower, Some(entry)),
+        Ordering::Less => match entry.higher {
+            None => TypePlace::Between(Some(entry), None),
+            Some(higher) if higher <= next => return Err(NotASystem),
+            Some(higher) => return Ok(Stage::AtNeighbour(queue, last, Some(entry), higher)),
+        },
+    };
+    Ok(Stage::Done(SendReads { queue, last, place }))
+}
+
+/// The Message that was read, kept.
+fn held(found: Option<Record<'_>>) -> Result<HeldMessage, NotASystem>
+    ensures { (m : MessageEntry) → found.entry ≡ Some (records.Message m) → length m.body ≤ MAX_BODY →
+        Gives result (λ message. message ≡ m) }
+{
+    match found {
+        Some(Record::Message(message)) if message.body.len() <= MAX_BODY => {
+            Ok(HeldMessage::new(&message))
+        }
+        _ => Err(NotASystem),
+    }
+}
