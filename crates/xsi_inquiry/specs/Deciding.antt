@@ -1,6 +1,6 @@
 -- What a decision means for the system of which the records were read.
 -- docs/QUEUES.md, "Calls".
-use Rattle.std.specs.Prelude.{◌≡◌, ℕ, List, length, Option, Some, None}
+use Rattle.std.specs.Prelude.{◌≡◌, ℕ, length, Option, Some, None}
 use Rattle.std.specs.List.{find}
 use Rattle.queue_model.specs.declared.answer.Answer.{Answer}
 use Rattle.queue_model.specs.declared.answer.Answer.TheVariants as answers

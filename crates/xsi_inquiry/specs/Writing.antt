@@ -1,6 +1,6 @@
 -- Records at their keys, and what writes make of them.
 -- docs/STEPS.md, "What a call writes".
-use Rattle.std.specs.Prelude.{◌≡◌, ℕ, ◌≤◌, List, [], ◌∷◌, length, Option, Some, None, IsSome, ⊤, if◌then◌else◌}
+use Rattle.std.specs.Prelude.{◌≡◌, ℕ, List, [], ◌∷◌, length, Option, Some, None, IsSome, ⊤, if◌then◌else◌}
 use Rattle.std.specs.List.{All}
 use Rattle.std.specs.Option.{option_map}
 use Rattle.bucket_page.specs.declared.record_key.RecordKey.{RecordKey}
@@ -11,7 +11,6 @@ use Rattle.queue_records.specs.Spelling.{key_of, value_of}
 use Rattle.xsi_inquiry.specs.declared.decision.Plan.{Plan}
 use Rattle.xsi_inquiry.specs.declared.decision.Trials.{Trials}
 use Rattle.xsi_inquiry.specs.declared.decision.Trials.TheVariants as trials
-use Rattle.xsi_inquiry.specs.declared.write.TheConstants.{MAX_WRITES}
 use Rattle.xsi_inquiry.specs.declared.write.Write.{Write}
 use Rattle.xsi_inquiry.specs.declared.write.Write.TheVariants.{Replace, Delete}
 
