@@ -84,10 +84,10 @@ KnowsAt c a (Seeking sought) s =
 KnowsAt c a (Refused errno) s = outcome_of_send c a s ≡ refuse errno s
 KnowsAt c a Full s = outcome_of_send c a s ≡ put_off a.nowait EAGAIN s
 KnowsAt c a (AtLast e serial) s = IsOpen c a e s × (e.last ≡ Some serial)
-KnowsAt c a (AtType e last) s = (open : IsOpen c a e s) × (last ≡ last_message_of open.queue)
+KnowsAt c a (AtType e last) s = (known : IsOpen c a e s) × (last ≡ last_message_of known.queue)
 KnowsAt c a (AtLastOfType e last entry) s =
-    (open : IsOpen c a e s) × (last ≡ last_message_of open.queue)
-    × Contains (types open.queue.messages) a.mtype × (entry ≡ type_entry open.queue a.mtype)
+    (known : IsOpen c a e s) × (last ≡ last_message_of known.queue)
+    × Contains (types known.queue.messages) a.mtype × (entry ≡ type_entry known.queue a.mtype)
 KnowsAt c a (AtNeighbour e last lower next) s =
-    (open : IsOpen c a e s) × (last ≡ last_message_of open.queue) × IsWalked a.mtype lower next open.queue
-KnowsAt c a (Done reads) s = (open : IsOpen c a reads.queue s) × AreOf a.mtype reads open.queue
+    (known : IsOpen c a e s) × (last ≡ last_message_of known.queue) × IsWalked a.mtype lower next known.queue
+KnowsAt c a (Done reads) s = (known : IsOpen c a reads.queue s) × AreOf a.mtype reads known.queue

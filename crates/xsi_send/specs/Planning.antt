@@ -22,7 +22,7 @@ use Rattle.xsi_send.specs.declared.reads.TypePlace.TheVariants.{Standing, Betwee
 abbrev pub linked : ℤ → ℕ → MessageEntry → MessageEntry
 linked mtype serial e = record e {
   next = Some (unwrap_or e.next serial);
-  next_of_type = if int_eq e.mtype mtype then Some (unwrap_or e.next_of_type serial) else e.next_of_type;
+  next_of_type = if int_eq mtype e.mtype then Some (unwrap_or e.next_of_type serial) else e.next_of_type;
 }
 
 -- the Type of a type whose one message has this serial

@@ -26,20 +26,20 @@ IsLastOfType mtype None q = last_of (filter (is_of_type mtype) q.messages) ≡ l
 IsLastOfType mtype (Some e) q = Some e ≡ option_map (message_entry q) (last_of (filter (is_of_type mtype) q.messages))
 
 -- a message of the type stands on the queue
-pub record IsStanding (mtype : ℤ) (entry : TypeEntry) (last : Option MessageEntry) (q : Queue) : Type 0 where
+pub record IsStanding (mtype : ℤ) (read : TypeEntry) (held : Option MessageEntry) (q : Queue) : Type 0 where
   pub stands : Contains (types q.messages) mtype
-  pub entry : entry ≡ type_entry q mtype
-  pub last : IsLastOfType mtype last q
+  pub entry : read ≡ type_entry q mtype
+  pub last : IsLastOfType mtype held q
 
 -- none does: each type of the queue is below it or above it, and these are next to it
-pub record IsBetween (mtype : ℤ) (lower higher : Option TypeEntry) (q : Queue) : Type 0 where
+pub record IsBetween (mtype : ℤ) (low high : Option TypeEntry) (q : Queue) : Type 0 where
   pub below : List ℤ
   pub above : List ℤ
-  pub types : types q.messages ≡ below ++ above
+  pub split : types q.messages ≡ below ++ above
   pub less : All (λ (t : ℤ). t <ℤ mtype) below
   pub more : All (λ (t : ℤ). mtype <ℤ t) above
-  pub lower : lower ≡ option_map (type_entry q) (last_of below)
-  pub higher : higher ≡ option_map (type_entry q) (first_of above)
+  pub lower : low ≡ option_map (type_entry q) (last_of below)
+  pub higher : high ≡ option_map (type_entry q) (first_of above)
 
 -- the type's place on the queue
 abbrev pub IsPlaceOf : ℤ → TypePlace → Queue → Type 0
@@ -59,10 +59,10 @@ pub record IsReadOf (a : SendArguments) (reads : SendReads) (s : State) : Type 0
   pub entries : AreOf a.mtype reads queue
 
 -- the types from the lowest up to the one before the next are below the type, which is not among them
-pub record IsWalked (mtype : ℤ) (lower : Option TypeEntry) (next : ℤ) (q : Queue) : Type 0 where
+pub record IsWalked (mtype : ℤ) (low : Option TypeEntry) (next : ℤ) (q : Queue) : Type 0 where
   pub walked : List ℤ
   pub rest : List ℤ
-  pub types : types q.messages ≡ walked ++ next ∷ rest
+  pub split : types q.messages ≡ walked ++ next ∷ rest
   pub less : All (λ (t : ℤ). t <ℤ mtype) walked
   pub absent : All (λ (t : ℤ). t ≢ mtype) (types q.messages)
-  pub lower : lower ≡ option_map (type_entry q) (last_of walked)
+  pub lower : low ≡ option_map (type_entry q) (last_of walked)

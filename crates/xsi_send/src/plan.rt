@@ -18,7 +18,7 @@ ghost use Rattle.xsi_send.specs.ReadOf.{IsReadOf};
 use crate::reads::{SendReads, TypePlace};
 use queue_model::{Caller, SendArguments};
 use queue_records::{Body, MessageEntry, QueueEntry, Record, TypeEntry};
-use xsi_inquiry::{HeldMessage, NotASystem, Plan, Trials, Writes};
+use xsi_inquiry::{HeldMessage, MAX_WRITES, NotASystem, Plan, Trials, Writes};
 
 /// The plan of a Send of this caller, from the entries that it read: in every system in which the Send is answered with
 /// a serial and whose entries those are, it takes the records to those of the system after it. At most seven records
@@ -167,7 +167,7 @@ fn linked(message: MessageEntry<'_>, mtype: i64, serial: u64) -> MessageEntry<'_
 {
     MessageEntry {
         next: Some(message.next.unwrap_or(serial)),
-        next_of_type: match message.mtype == mtype {
+        next_of_type: match mtype == message.mtype {
             true => Some(message.next_of_type.unwrap_or(serial)),
             false => message.next_of_type,
         },

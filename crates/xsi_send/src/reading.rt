@@ -1,22 +1,20 @@
 //! The records that a Send reads, one after the other.
 
-ghost use Rattle.std.specs.Prelude.{◌≡◌, ◌<◌, ◌≤◌, ◌+◌, length, IfOk, IsSome, Some};
+ghost use Rattle.std.specs.Prelude.{◌≡◌, ◌<◌, ◌≤◌, ◌+◌, None, IfOk, IsSome};
 ghost use Rattle.queue_model.specs.State.{State};
-ghost use Rattle.queue_records.specs.declared.message_entry.MessageEntry.{MessageEntry};
-ghost use Rattle.queue_records.specs.declared.record.Record.TheVariants as records;
+ghost use Rattle.type_chains.specs.RecordOf.{record_of};
 ghost use Rattle.xsi_inquiry.specs.declared.sought.Sought.TheVariants.{Found};
 ghost use Rattle.xsi_inquiry.specs.Seeking.{key_sought};
 ghost use Rattle.xsi_inquiry.specs.Telling.{Gives, IsFiled, IsTold};
 ghost use Rattle.xsi_send.specs.declared.stage.Stage.TheVariants.{AtLast, AtLastOfType, AtNeighbour, AtType, Seeking};
-ghost use Rattle.xsi_send.specs.Knowing.{KnowsAt, asks_left, key_wanted, natural};
+ghost use Rattle.xsi_send.specs.Knowing.{KnowsAt, asks_left, key_wanted, natural, type_key_of};
 
 use crate::queue::{lacks_room, permissions_in};
 use crate::reads::{SendReads, TypePlace};
 use crate::stage::Stage;
 use queue_model::{Access, Caller, Errno, SendArguments};
-use queue_records::{MAX_BODY, MessageEntry, QueueEntry, Record, TypeEntry};
-use std::cmp::Ordering;
-use xsi_inquiry::{HeldMessage, NotASystem, Sought};
+use queue_records::{QueueEntry, Record, TypeEntry};
+use xsi_inquiry::{HeldMessage, NotASystem, Sought, message_in, type_in};
 
 /// The Queue, or the Counter where there is none.
 pub fn seek(
@@ -74,7 +72,10 @@ pub fn take_last(
     ensures fewer { IfOk result (λ stage.
         asks_left arguments.now stage < asks_left arguments.now (AtLast queue serial)) }
 {
-    let message = held(found)?;
+    let Some(found) = found else {
+        return Err(NotASystem);
+    };
+    let message = message_in(found)?;
     Ok(Stage::AtType(queue, Some(message)))
 }
 
@@ -94,23 +95,45 @@ pub fn take_type(
     ensures fewer { IfOk result (λ stage.
         asks_left arguments.now stage < asks_left arguments.now (AtType queue last)) }
 {
-    match found {
-        Some(Record::Type(entry)) if queue.last == Some(entry.last) => Ok(Stage::Done(SendReads {
+    let Some(found) = found else {
+        return walk(caller, arguments, queue, last);
+    };
+    let entry = type_in(found)?;
+    if queue.last != Some(entry.last) {
+        return Ok(Stage::AtLastOfType(queue, last, entry));
+    }
+    Ok(Stage::Done(SendReads {
+        queue,
+        last,
+        place: TypePlace::Standing(entry, None),
+    }))
+}
+
+/// The way from the lowest type up begins.
+fn walk(
+    caller: Caller,
+    arguments: &SendArguments,
+    queue: QueueEntry,
+    last: Option<HeldMessage>,
+) -> Result<Stage, NotASystem>
+    ensures told { (s : State) → IsFiled s → KnowsAt caller arguments.now (AtType queue last) s →
+        record_of s (type_key_of arguments.now.id arguments.now.mtype) ≡ None →
+        Gives result (λ stage. KnowsAt caller arguments.now stage s) }
+    ensures fewer { IfOk result (λ stage.
+        asks_left arguments.now stage < asks_left arguments.now (AtType queue last)) }
+{
+    match queue.lowest {
+        None => Ok(Stage::Done(SendReads {
             queue,
             last,
-            place: TypePlace::Standing(entry, None),
+            place: TypePlace::Between(None, None),
         })),
-        Some(Record::Type(entry)) => Ok(Stage::AtLastOfType(queue, last, entry)),
-        Some(_) => Err(NotASystem),
-        None => match queue.lowest {
-            None => Ok(Stage::Done(SendReads {
-                queue,
-                last,
-                place: TypePlace::Between(None, None),
-            })),
-            Some(lowest) if lowest < 1 => Err(NotASystem),
-            Some(lowest) => Ok(Stage::AtNeighbour(queue, last, None, lowest)),
-        },
+        Some(lowest) => {
+            if lowest < 1 {
+                return Err(NotASystem);
+            }
+            Ok(Stage::AtNeighbour(queue, last, None, lowest))
+        }
     }
 }
 
@@ -130,7 +153,10 @@ pub fn take_last_of_type(
     ensures fewer { IfOk result (λ stage.
         asks_left arguments.now stage < asks_left arguments.now (AtLastOfType queue last entry)) }
 {
-    let message = held(found)?;
+    let Some(found) = found else {
+        return Err(NotASystem);
+    };
+    let message = message_in(found)?;
     Ok(Stage::Done(SendReads {
         queue,
         last,
@@ -155,30 +181,29 @@ pub fn take_neighbour(
     ensures fewer { IfOk result (λ stage.
         asks_left arguments.now stage < asks_left arguments.now (AtNeighbour queue last lower next)) }
 {
-    let Some(Record::Type(entry)) = found else {
+    let Some(found) = found else {
         return Err(NotASystem);
     };
-    let place = match next.cmp(&arguments.mtype) {
-        Ordering::Equal => return Err(NotASystem),
-        Ordering::Greater => TypePlace::Between(lower, Some(entry)),
-        Ordering::Less => match entry.higher {
-            None => TypePlace::Between(Some(entry), None),
-            Some(higher) if higher <= next => return Err(NotASystem),
-            Some(higher) => return Ok(Stage::AtNeighbour(queue, last, Some(entry), higher)),
-        },
-    };
-    Ok(Stage::Done(SendReads { queue, last, place }))
-}
-
-/// The Message that was read, kept.
-fn held(found: Option<Record<'_>>) -> Result<HeldMessage, NotASystem>
-    ensures { (m : MessageEntry) → found.entry ≡ Some (records.Message m) → length m.body ≤ MAX_BODY →
-        Gives result (λ message. message ≡ m) }
-{
-    match found {
-        Some(Record::Message(message)) if message.body.len() <= MAX_BODY => {
-            Ok(HeldMessage::new(&message))
-        }
-        _ => Err(NotASystem),
+    let entry = type_in(found)?;
+    if next == arguments.mtype {
+        return Err(NotASystem);
     }
+    if next > arguments.mtype {
+        return Ok(Stage::Done(SendReads {
+            queue,
+            last,
+            place: TypePlace::Between(lower, Some(entry)),
+        }));
+    }
+    let Some(higher) = entry.higher else {
+        return Ok(Stage::Done(SendReads {
+            queue,
+            last,
+            place: TypePlace::Between(Some(entry), None),
+        }));
+    };
+    if higher <= next {
+        return Err(NotASystem);
+    }
+    Ok(Stage::AtNeighbour(queue, last, Some(entry), higher))
 }

@@ -107,6 +107,6 @@ fn type_key(id: u32, mtype: i64) -> RecordKey
     RecordKey {
         kind: TYPE,
         queue: id,
-        number: mtype as u64,
+        number: mtype.cast_unsigned(),
     }
 }
