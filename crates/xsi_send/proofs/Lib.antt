@@ -5,3 +5,6 @@ pub mod Puts
 pub mod Sorted
 pub mod TypeLinks
 pub mod Told
+pub mod Opening
+pub mod Lengths
+pub mod Sent

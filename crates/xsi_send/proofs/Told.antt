@@ -1,19 +1,23 @@
 -- What the records at the keys that a Send asks for tell of its queue.
 use Rattle.std.proofs.Common.{◌≡◌, ℕ, suc, ◌-◌, ◌≤◌, ◌<◌, ℤ, pos, negsuc, ◌≤ℤ◌, ◌<ℤ◌, Bool, true, false, List, [], ◌∷◌, ◌++◌, length, map, Option, Some, None, refl, sym, ap, ◌∙◌, subst, arith}
-use Rattle.std.specs.Prelude.{◌≢◌, int_lt, slice_index, option_map, option_and_then}
+use Rattle.std.specs.Prelude.{◌≢◌, ◌+◌, ◌^◌, int_lt, nat_lt, slice_index, nat_eq, not, ◌==◌, option_map, option_and_then, FitsSigned}
+use Rattle.std.specs.Int.{w64, of_z, to_z}
+use Rattle.std.specs.Option.{option_eq}
 use Rattle.std.specs.List.{All, AllPairs, Contains, filter, find}
 use Rattle.std.proofs.lemmas.Bool.{eqb-true}
 use Rattle.std.proofs.lemmas.Bool.Decides.{Decides-eqb}
-use Rattle.std.proofs.lemmas.Int.{ints}
+use Rattle.std.proofs.lemmas.Int.{ints, to_z-of_z}
 use Rattle.std.proofs.lemmas.List.{append-nil, append_assoc}
 use Rattle.std.proofs.lemmas.Option.{same_Some, slice_get-get_or}
 use Rattle.std.proofs.lemmas.List.Elements.{Contains-append_left, Contains-append_right, All-nil, All-cons, All-push, All-contains, All-contains_itself, All-filter, All-weaker}
 use Rattle.queue_model.specs.declared.call.SendArguments.{SendArguments}
 use Rattle.queue_model.specs.declared.caller.Caller.{Caller}
+use Rattle.queue_model.specs.declared.limits.TheConstants.{END_OF_SERIALS}
 use Rattle.queue_model.specs.declared.message.Message.{Message}
 use Rattle.queue_model.specs.declared.queue.Queue.{Queue}
 use Rattle.queue_model.specs.Lawful.{IsLawful, IsLawfulQueue, IsLawfulMessage}
 use Rattle.queue_model.specs.Rules.{has_id}
+use Rattle.queue_model.specs.Selection.{total_bytes}
 use Rattle.queue_model.specs.State.{State}
 use Rattle.queue_model.proofs.ListLemmas.{find-Some}
 use Rattle.queue_records.specs.declared.limits.TheConstants.{MAX_BODY}
@@ -26,10 +30,12 @@ use Rattle.queue_records.specs.Fields.{type_number}
 use Rattle.queue_records.specs.Range.{IsType}
 use Rattle.queue_records.specs.Spelling.{key_of}
 use Rattle.type_chains.specs.Entries.{queue_entry, type_entry, message_entry, is_same_type}
+use Rattle.type_chains.specs.Fits.{HasFittingMessage, HasFittingQueue}
 use Rattle.type_chains.specs.Image.{queue_records, key_records, type_records, message_records}
 use Rattle.type_chains.specs.Lists.{serials, serials_of_type, types, is_of_type}
 use Rattle.type_chains.specs.Neighbours.{first_of, last_of, behind}
 use Rattle.type_chains.specs.RecordOf.{has_number, has_serial, type_record, message_record, record_of}
+use Rattle.type_chains.proofs.Elements.{All-types}
 use Rattle.type_chains.proofs.Images.{queue_has}
 use Rattle.type_chains.proofs.Limits.{all_types, lawful_queue, types_stand}
 use Rattle.type_chains.proofs.Members.{contains_head, contains_tail, in_map}
@@ -141,9 +147,44 @@ serial_tells {q} lawful m n first second same =
         omega (arith, lawful.serials_ascend i j d before within, f, g))
 
 -- what a filter keeps stands on the list
-of_filter : {X : Type 0} (p : X → Bool) (xs : List X) (x : X) → Contains (filter p xs) x → Contains xs x
+pub of_filter : {X : Type 0} (p : X → Bool) (xs : List X) (x : X) → Contains (filter p xs) x → Contains xs x
 of_filter p xs x there = All-contains (Contains xs) (filter p xs) x
     (All-filter p (Contains xs) xs (All-contains_itself xs)) there
+
+unmapped : {X Y : Type 0} (f : X → Y) (o : Option X) → option_map f o ≡ None → o ≡ None
+unmapped f None none = refl
+unmapped f (Some x) none = absurd cc
+
+-- a test that told a serial to be this one
+pub is_serial : (o : Option ℕ) (n : ℕ) → not (option_eq nat_eq o (Some n)) ≡ false → o ≡ Some n
+is_serial None n test = absurd cc
+is_serial (Some k) n test = by (k == n) refl test
+  where
+    by : (b : Bool) → (k == n) ≡ b → not b ≡ false → Some k ≡ Some n
+    by true same test = ap Some (eqb-true k n same)
+    by false other test = absurd cc
+
+-- types that are told to be one, or one less than the other
+pub same_of_z : (t u : ℤ) → FitsSigned w64 t → FitsSigned w64 u → of_z w64 t ≡ of_z w64 u → t ≡ u
+same_of_z t u first second same = sym (to_z-of_z w64 t first) ∙ ap (to_z w64) same ∙ to_z-of_z w64 u second
+
+pub less_of_z : (t u : ℤ) (b : Bool) → FitsSigned w64 t → FitsSigned w64 u →
+    int_lt (to_z w64 (of_z w64 t)) (to_z w64 (of_z w64 u)) ≡ b → int_lt t u ≡ b
+less_of_z t u b first second test =
+    sym (λ i. int_lt (to_z-of_z w64 t first i) (to_z-of_z w64 u second i)) ∙ test
+
+-- what was found is one record
+pub same_found : (found : Option Record) (r x : Record) → found ≡ Some r → found ≡ Some x → r ≡ x
+same_found found r x one other = same_Some r x (sym one ∙ other)
+
+pub never_none : (found : Option Record) (r : Record) → found ≡ Some r → found ≡ None → ⊥
+never_none found r one none = let clash : ◌≡◌ {A = Option Record} None (Some r) = sym none ∙ one in absurd cc
+
+pub same_message : (m n : MessageEntry) → records.Message m ≡ records.Message n → m ≡ n
+same_message m n same = cc
+
+pub same_type : (m n : TypeEntry) → records.Type m ≡ records.Type n → m ≡ n
+same_type m n same = cc
 
 split_first : {X : Type 0} (xs : List X) (x : X) → first_of xs ≡ Some x → (back : List X) × (xs ≡ x ∷ back)
 split_first [] x first = absurd cc
@@ -153,13 +194,22 @@ no_first : {X : Type 0} (xs : List X) → first_of xs ≡ None → xs ≡ []
 no_first [] first = refl
 no_first (y ∷ ys) first = absurd cc
 
+-- without a last serial there is no last message
+pub last_none : (c : Caller) (a : SendArguments) (e : QueueEntry) (s : State) (known : IsOpen c a e s) → e.last ≡ None →
+    None ≡ last_message_of known.queue
+last_none c a e s known none =
+    let q = known.queue in
+    let serial = sym (last-map (λ (m : Message). m.serial) q.messages)
+    ∙ sym (ap (λ (x : QueueEntry). x.last) known.entry) ∙ none in
+    sym (ap (option_map (message_entry q)) (unmapped (λ (m : Message). m.serial) (last_of q.messages) serial))
+
 -- ---- what each record that is asked for tells
 
 module _ (c : Caller) (a : SendArguments) (e : QueueEntry) (s : State) (filed : IsFiled s) (known : IsOpen c a e s) where
   abbrev q : Queue
   q = known.queue
 
-  typed : pos 1 ≤ℤ a.mtype
+  pub typed : pos 1 ≤ℤ a.mtype
   typed = let t = known.typed in grind (arith, ints, t)
 
   message_of : (found : Option Record) (m : Message) → Contains known.queue.messages m →
@@ -354,3 +404,41 @@ module _ (c : Caller) (a : SendArguments) (e : QueueEntry) (s : State) (filed : 
         lower = sym (ap (option_map (type_entry q)) (last_push walked.walked next));
         higher = refl;
       }
+
+  -- types of a system whose numbers fit do
+  pub type_fits : (u : ℤ) → Contains (types known.queue.messages) u → FitsSigned w64 u
+  type_fits u there =
+      let fitting = All-contains HasFittingQueue s.queues q filed.fits
+      (stands s filed.lawful a.id q known.found known.its_id) in
+      All-contains (FitsSigned w64) (types q.messages) u (All-types (FitsSigned w64) [] q.messages
+      (All-nil (FitsSigned w64)) (All-weaker HasFittingMessage (λ (m : Message). FitsSigned w64 m.mtype) (λ m f. f.mtype)
+      q.messages fitting.messages)) there
+
+  pub lowest_fits : (lowest : ℤ) → e.lowest ≡ Some lowest → FitsSigned w64 lowest
+  lowest_fits lowest is = type_fits lowest (in_first (types q.messages) lowest
+      (sym (ap (λ (x : QueueEntry). x.lowest) known.entry) ∙ is))
+
+  pub higher_fits : (low : Option TypeEntry) (next higher : ℤ) → IsWalked a.mtype low next known.queue →
+      (type_entry known.queue next).higher ≡ Some higher → FitsSigned w64 higher
+  higher_fits low next higher walked is = type_fits higher (subst (λ ts. Contains ts higher) (sym walked.split)
+      (Contains-append_right walked.walked (next ∷ walked.rest) higher (contains_tail next higher walked.rest
+      (in_first walked.rest higher (sym (next_higher low next walked) ∙ is)))))
+
+  -- the Queue's counts stay numbers
+  pub numbers_fit : (e.cbytes + length a.body < 2 ^ 32) × (e.qnum + 1 < 2 ^ 32) × (e.next_serial + 1 < 2 ^ 64)
+  numbers_fit = subst (λ (x : QueueEntry). (x.cbytes + length a.body < 2 ^ 32) × (x.qnum + 1 < 2 ^ 32)
+      × (x.next_serial + 1 < 2 ^ 64)) (sym known.entry) of_queue
+    where
+      of_queue : (total_bytes known.queue.messages + length a.body < 2 ^ 32) × (length known.queue.messages + 1 < 2 ^ 32)
+          × (known.queue.next_serial + 1 < 2 ^ 64)
+      of_queue =
+          let lawful = lawful_queue s filed.lawful q (stands s filed.lawful a.id q known.found known.its_id) in
+          let room = known.room in
+          let bytes : nat_lt q.qbytes (total_bytes q.messages + length a.body) ≡ false = grind (arith, room) in
+          let more : q.next_serial ≢ END_OF_SERIALS = λ last. grind (arith, room, last) in
+          let within : total_bytes q.messages + length a.body ≤ q.qbytes = grind (arith, bytes) in
+          (
+            omega (arith, within, lawful.small_limit),
+            omega (arith, lawful.few_messages),
+            omega (arith, more, lawful.serials_end),
+          )

@@ -228,7 +228,7 @@ module _ (pid : ℕ) (a : SendArguments) (q : Queue) where
   -- ---- where the type stands
 
   module _ (stands : Contains (types q.messages) a.mtype) where
-    same_types : types (with_message pid a q).messages ≡ types q.messages
+    pub same_types : types (with_message pid a q).messages ≡ types q.messages
     same_types = more_types ∙ with_type_same (types q.messages) a.mtype (types_ascend q.messages) stands
 
     -- its last serial is the new one

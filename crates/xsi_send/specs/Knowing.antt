@@ -1,6 +1,6 @@
 -- What a Send knows of a system at each stage of its reading, and what it asks for next.
 -- docs/STEPS.md, "Calls".
-use Rattle.std.specs.Prelude.{◌≡◌, ℕ, zero, ◌+◌, ℤ, pos, negsuc, ◌-ℤ◌, nat_lt, int_lt, false, ◌||◌, length, Option, Some, None}
+use Rattle.std.specs.Prelude.{◌≡◌, ℕ, zero, ◌+◌, ℤ, pos, negsuc, ◌-ℤ◌, nat_lt, int_lt, false, ◌||◌, length, Option, Some, None, IsSome}
 use Rattle.std.specs.List.{Contains, find}
 use Rattle.bucket_page.specs.declared.record_key.RecordKey.{RecordKey}
 use Rattle.queue_model.specs.declared.answer.Answer.TheVariants.{Sent}
@@ -65,6 +65,10 @@ asks_left a (AtLastOfType e last entry) = 1
 asks_left a (AtNeighbour e last lower next) = types_left a next
 asks_left a (Done reads) = 0
 
+-- the type and the body are within their limits
+abbrev pub IsAllowed : SendArguments → Type 0
+IsAllowed a = (int_lt a.mtype (pos 1) || nat_lt MAX_BODY (length a.body)) ≡ false
+
 -- the entry is that of the queue, and the message is put on it
 pub record IsOpen (c : Caller) (a : SendArguments) (e : QueueEntry) (s : State) : Type 0 where
   pub queue : Queue
@@ -79,8 +83,7 @@ pub record IsOpen (c : Caller) (a : SendArguments) (e : QueueEntry) (s : State) 
 
 -- what is known is so in s
 abbrev pub KnowsAt : Caller → SendArguments → Stage → State → Type 0
-KnowsAt c a (Seeking sought) s =
-    ((int_lt a.mtype (pos 1) || nat_lt MAX_BODY (length a.body)) ≡ false) × Tells a.id sought s
+KnowsAt c a (Seeking sought) s = IsAllowed a × Tells a.id sought s × IsSome (key_sought a.id sought)
 KnowsAt c a (Refused errno) s = outcome_of_send c a s ≡ refuse errno s
 KnowsAt c a Full s = outcome_of_send c a s ≡ put_off a.nowait EAGAIN s
 KnowsAt c a (AtLast e serial) s = IsOpen c a e s × (e.last ≡ Some serial)

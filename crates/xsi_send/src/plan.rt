@@ -32,9 +32,10 @@ pub fn plan_send<'a>(
         outcome_of_send caller arguments.now s ≡ Some (Sent serial, t) →
         Gives result (λ plan. Leads plan (record_of s) (record_of t)) }
 {
-    let queue = with_one_more(caller.pid, arguments, &reads.queue).ok_or(NotASystem)?;
-    let plan = plan_of(caller.pid, arguments, reads, queue);
-    Ok(plan)
+    let Some(queue) = with_one_more(caller.pid, arguments, &reads.queue) else {
+        return Err(NotASystem);
+    };
+    Ok(plan_of(caller.pid, arguments, reads, queue))
 }
 
 /// The plan that leaves this Queue.

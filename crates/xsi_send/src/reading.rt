@@ -3,11 +3,10 @@
 ghost use Rattle.std.specs.Prelude.{◌≡◌, ◌<◌, ◌≤◌, ◌+◌, None, IfOk, IsSome};
 ghost use Rattle.queue_model.specs.State.{State};
 ghost use Rattle.type_chains.specs.RecordOf.{record_of};
-ghost use Rattle.xsi_inquiry.specs.declared.sought.Sought.TheVariants.{Found};
-ghost use Rattle.xsi_inquiry.specs.Seeking.{key_sought};
+ghost use Rattle.xsi_inquiry.specs.Seeking.{IsEntryOf, Tells, key_sought, reads_left};
 ghost use Rattle.xsi_inquiry.specs.Telling.{Gives, IsFiled, IsTold};
 ghost use Rattle.xsi_send.specs.declared.stage.Stage.TheVariants.{AtLast, AtLastOfType, AtNeighbour, AtType, Seeking};
-ghost use Rattle.xsi_send.specs.Knowing.{KnowsAt, asks_left, key_wanted, natural, type_key_of};
+ghost use Rattle.xsi_send.specs.Knowing.{IsAllowed, KnowsAt, asks_left, key_wanted, natural, type_key_of};
 
 use crate::queue::{lacks_room, permissions_in};
 use crate::reads::{SendReads, TypePlace};
@@ -32,16 +31,25 @@ pub fn seek(
 {
     let mut sought = sought;
     sought.take(arguments.id, found)?;
-    Ok(match sought {
-        Sought::Refused(errno) => Stage::Refused(errno),
-        Sought::Found(queue) => at_queue(caller, arguments, queue),
+    Ok(at_sought(caller, arguments, sought))
+}
+
+/// What is known of the queue: it is still sought, or it is found, or calls on it are refused.
+pub fn at_sought(caller: Caller, arguments: &SendArguments, sought: Sought) -> Stage
+    ensures told { (s : State) → IsAllowed arguments.now → Tells arguments.now.id sought s →
+        KnowsAt caller arguments.now result s }
+    ensures fewer { asks_left arguments.now result ≤ reads_left sought + (natural arguments.now.mtype + 3) }
+{
+    match sought {
         Sought::Unread | Sought::Absent => Stage::Seeking(sought),
-    })
+        Sought::Found(queue) => at_queue(caller, arguments, queue),
+        Sought::Refused(errno) => Stage::Refused(errno),
+    }
 }
 
 /// What the Queue says: no permission, no room, or more is to be read.
 fn at_queue(caller: Caller, arguments: &SendArguments, queue: QueueEntry) -> Stage
-    ensures told { (s : State) → IsFiled s → KnowsAt caller arguments.now (Seeking (Found queue)) s →
+    ensures told { (s : State) → IsAllowed arguments.now → IsEntryOf arguments.now.id queue s →
         KnowsAt caller arguments.now result s }
     ensures fewer { asks_left arguments.now result ≤ natural arguments.now.mtype + 3 }
 {
@@ -185,10 +193,11 @@ pub fn take_neighbour(
         return Err(NotASystem);
     };
     let entry = type_in(found)?;
-    if next == arguments.mtype {
+    let mtype = arguments.mtype;
+    if next == mtype {
         return Err(NotASystem);
     }
-    if next > arguments.mtype {
+    if next > mtype {
         return Ok(Stage::Done(SendReads {
             queue,
             last,

@@ -78,7 +78,11 @@ impl<'c> Inquiry for SendInquiry<'c> {
                 Verdict::Sent(reads.queue.next_serial),
                 plan_send(self.caller, self.arguments, reads)?,
             )),
-            _ => Err(NotASystem),
+            Stage::Seeking(_)
+            | Stage::AtLast(..)
+            | Stage::AtType(..)
+            | Stage::AtLastOfType(..)
+            | Stage::AtNeighbour(..) => Err(NotASystem),
         }
     }
 }

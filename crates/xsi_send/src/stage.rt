@@ -5,7 +5,7 @@ ghost use Rattle.queue_model.specs.State.{State};
 ghost use Rattle.xsi_inquiry.specs.Telling.{Gives, IsFiled, IsTold};
 ghost use Rattle.xsi_send.specs.Knowing.{KnowsAt, asks_left, key_wanted, message_key_of, type_key_of};
 
-use crate::reading::{seek, take_last, take_last_of_type, take_neighbour, take_type};
+use crate::reading::{at_sought, seek, take_last, take_last_of_type, take_neighbour, take_type};
 use crate::reads::SendReads;
 use bucket_page::RecordKey;
 use queue_model::{Caller, Errno, MAX_BODY, SendArguments};
@@ -41,10 +41,7 @@ impl Stage {
         if arguments.mtype < 1 || arguments.body.len() > MAX_BODY {
             return Stage::Refused(Errno::EINVAL);
         }
-        match Sought::new(arguments.id) {
-            Sought::Refused(errno) => Stage::Refused(errno),
-            sought => Stage::Seeking(sought),
-        }
+        at_sought(caller, arguments, Sought::new(arguments.id))
     }
 
     /// The key of the record that is read next, where there is one.
