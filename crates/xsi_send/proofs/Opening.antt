@@ -1,6 +1,6 @@
 -- When a Send goes on at its queue, and what its outcome tells.
 use Rattle.std.proofs.Common.{◌≡◌, ℕ, pos, Bool, true, false, cond, List, [], length, Option, Some, None, inl, inr, refl, sym, ap, ◌∙◌, subst, arith}
-use Rattle.std.specs.Prelude.{◌==◌, ◌||◌, nat_le, nat_lt, int_lt}
+use Rattle.std.specs.Prelude.{◌==◌, ◌||◌, nat_le, nat_lt, int_lt, IsSome}
 use Rattle.std.specs.List.{find}
 use Rattle.std.proofs.lemmas.Int.{ints}
 use Rattle.queue_model.specs.declared.answer.Answer.{Answer}
@@ -125,3 +125,7 @@ sends c a reads s t n of at =
                     )
               ]
         ]
+
+pub no_some : {X : Type 0} (o : Option X) → IsSome o → o ≡ None → ⊥
+no_some None some none = absurd cc
+no_some (Some x) some none = absurd cc

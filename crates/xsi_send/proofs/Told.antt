@@ -1,7 +1,7 @@
 -- What the records at the keys that a Send asks for tell of its queue.
-use Rattle.std.proofs.Common.{◌≡◌, ℕ, suc, ◌-◌, ◌≤◌, ◌<◌, ℤ, pos, negsuc, ◌≤ℤ◌, ◌<ℤ◌, Bool, true, false, List, [], ◌∷◌, ◌++◌, length, map, Option, Some, None, refl, sym, ap, ◌∙◌, subst, arith}
+use Rattle.std.proofs.Common.{of_z, to_z, ◌≡◌, ℕ, suc, ◌-◌, ◌≤◌, ◌<◌, ℤ, pos, negsuc, ◌≤ℤ◌, ◌<ℤ◌, Bool, true, false, List, [], ◌∷◌, ◌++◌, length, map, Option, Some, None, refl, sym, ap, ◌∙◌, subst, arith}
 use Rattle.std.specs.Prelude.{◌≢◌, ◌+◌, ◌^◌, int_lt, nat_lt, slice_index, nat_eq, not, ◌==◌, option_map, option_and_then, FitsSigned}
-use Rattle.std.specs.Int.{w64, of_z, to_z}
+use Rattle.std.specs.Int.{w64}
 use Rattle.std.specs.Option.{option_eq}
 use Rattle.std.specs.List.{All, AllPairs, Contains, filter, find}
 use Rattle.std.proofs.lemmas.Bool.{eqb-true}

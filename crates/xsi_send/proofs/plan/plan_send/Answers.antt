@@ -1,5 +1,6 @@
-use Rattle.std.proofs.Common.{◌≡◌, sym, ◌∙◌}
-use Rattle.xsi_send.proofs.Opening.{sends}
+
+
+use Rattle.xsi_send.proofs.Opening.{no_some, sends}
 use Rattle.xsi_send.proofs.Sent.{leads_sent}
 use Rattle.xsi_send.proofs.Told.{numbers_fit}
 use Rattle.xsi_send.proofs.plan.plan_send.Goals as goal
@@ -10,8 +11,7 @@ returns-in_default c s t n filed read at =
     let (known, after, of) = sends c.args.caller c.args.arguments.now c.args.reads.now s t n read at in
     let (bytes, number, serial) = numbers_fit c.args.caller c.args.arguments.now c.args.reads.now.queue s filed known in
     let some = c.with_one_more.ensures.some bytes number serial in
-    let none = c.in_default.is in
-    ?
+    no_some c.with_one_more.result some c.in_default.is
 
 pub returns : goal.returns
 returns c s t n filed read at =
