@@ -5,6 +5,7 @@ use Rattle.std.specs.List.{find}
 use Rattle.std.proofs.lemmas.Int.{ints}
 use Rattle.queue_model.specs.declared.answer.Answer.{Answer}
 use Rattle.queue_model.specs.declared.answer.Answer.TheVariants.{Sent, Refused}
+use Rattle.queue_model.specs.declared.call.Call.TheVariants.{Send}
 use Rattle.queue_model.specs.declared.call.SendArguments.{SendArguments}
 use Rattle.queue_model.specs.declared.caller.Caller.{Caller}
 use Rattle.queue_model.specs.declared.errno.Errno.{Errno}
@@ -18,9 +19,14 @@ use Rattle.queue_model.specs.State.{State}
 use Rattle.queue_records.specs.declared.queue_entry.QueueEntry.{QueueEntry}
 use Rattle.type_chains.specs.Entries.{queue_entry}
 use Rattle.type_chains.specs.Reading.{lacks_room_in, permissions_in}
+use Rattle.type_chains.specs.RecordOf.{record_of}
 use Rattle.type_chains.proofs.Cases.{found_id}
 use Rattle.type_chains.proofs.Tests.{by_test}
+use Rattle.xsi_inquiry.specs.declared.decision.Plan.{Plan}
+use Rattle.xsi_inquiry.specs.declared.verdict.Verdict.TheVariants as verdicts
+use Rattle.xsi_inquiry.specs.Deciding.{IsAnswered}
 use Rattle.xsi_inquiry.specs.Seeking.{IsEntryOf}
+use Rattle.xsi_inquiry.specs.Writing.{Leads}
 use Rattle.xsi_send.specs.Knowing.{IsOpen}
 use Rattle.xsi_send.specs.ReadOf.{AreOf, IsReadOf}
 use Rattle.xsi_send.specs.declared.reads.SendReads.{SendReads}
@@ -129,3 +135,16 @@ sends c a reads s t n of at =
 pub no_some : {X : Type 0} (o : Option X) → IsSome o → o ≡ None → ⊥
 no_some None some none = absurd cc
 no_some (Some x) some none = absurd cc
+
+-- the answer and the plan are those of the call
+pub answered : (c : Caller) (a : SendArguments) (e : QueueEntry) (s : State) (known : IsOpen c a e s) (p : Plan) →
+    Leads p (record_of s) (record_of (with_queue a.id (with_message c.pid a known.queue) s)) →
+    IsAnswered c (Send a) s (verdicts.Sent e.next_serial) p
+answered c a e s known p leads =
+    let serial = ap (λ (x : QueueEntry). x.next_serial) known.entry in
+    let t = with_queue a.id (with_message c.pid a known.queue) s in
+    record {
+      after = t;
+      outcome = known.outcome ∙ ap (λ n. Some (Sent n, t)) (sym serial);
+      leads = leads;
+    }

@@ -14,3 +14,6 @@ mod stage;
 pub use plan::plan_send;
 pub use reads::{SendReads, TypePlace};
 pub use send_inquiry::SendInquiry;
+
+#[cfg(test)]
+mod tests;

@@ -20,15 +20,16 @@ use queue_model::{Caller, SendArguments};
 use queue_records::{Body, MessageEntry, QueueEntry, Record, TypeEntry};
 use xsi_inquiry::{HeldMessage, MAX_WRITES, NotASystem, Plan, Trials, Writes};
 
-/// The plan of a Send of this caller, from the entries that it read: in every system in which the Send is answered with
-/// a serial and whose entries those are, it takes the records to those of the system after it. At most seven records
-/// are written. It refuses counts that no queue has.
+/// The plan of a Send of this caller, from the entries that it read. In every system whose entries those are, and in
+/// which the Send is answered with a serial, it takes the records to those of the system after it. It writes at most
+/// seven records, and refuses counts that no queue has.
 pub fn plan_send<'a>(
     caller: Caller,
     arguments: &'a SendArguments,
     reads: &'a SendReads,
 ) -> Result<Plan<'a>, NotASystem>
-    ensures { (s t : State) (serial : ℕ) → IsFiled s → IsReadOf arguments.now reads.now s →
+    ensures value { IfOk result (λ plan. plan ≡ sent_plan caller.pid arguments.now reads.now) }
+    ensures leads { (s t : State) (serial : ℕ) → IsFiled s → IsReadOf arguments.now reads.now s →
         outcome_of_send caller arguments.now s ≡ Some (Sent serial, t) →
         Gives result (λ plan. Leads plan (record_of s) (record_of t)) }
 {
@@ -80,14 +81,7 @@ fn plan_of<'a>(
                     ..*entry
                 }));
             }
-            let entry = TypeEntry {
-                id: reads.queue.id,
-                mtype,
-                first: serial,
-                last: serial,
-                lower: lower.map(|entry| entry.mtype),
-                higher: higher.map(|entry| entry.mtype),
-            };
+            let entry = new_type(reads.queue.id, mtype, serial, lower, higher);
             Plan {
                 trials: Trials::Two(Record::Message(message), Record::Type(entry)),
                 writes,
@@ -143,6 +137,26 @@ fn last_message<'a>(
         next: None,
         next_of_type: None,
         body: Body::new(arguments.body.as_slice()),
+    }
+}
+
+/// The Type of a type of which this is the one message, between its neighbours.
+fn new_type(
+    id: u32,
+    mtype: i64,
+    serial: u64,
+    lower: &Option<TypeEntry>,
+    higher: &Option<TypeEntry>,
+) -> TypeEntry
+    ensures { result ≡ new_type id mtype serial lower.now higher.now }
+{
+    TypeEntry {
+        id,
+        mtype,
+        first: serial,
+        last: serial,
+        lower: lower.map(|entry| entry.mtype),
+        higher: higher.map(|entry| entry.mtype),
     }
 }
 

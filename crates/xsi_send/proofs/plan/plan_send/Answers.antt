@@ -6,15 +6,15 @@ use Rattle.xsi_send.proofs.Told.{numbers_fit}
 use Rattle.xsi_send.proofs.plan.plan_send.Goals as goal
 
 -- the counts of a queue with room stay numbers
-pub returns-in_default : goal.returns-in_default
-returns-in_default c s t n filed read at =
+pub returns-in_default-clause-leads : goal.returns-in_default-clause-leads
+returns-in_default-clause-leads c s t n filed read at =
     let (known, after, of) = sends c.args.caller c.args.arguments.now c.args.reads.now s t n read at in
     let (bytes, number, serial) = numbers_fit c.args.caller c.args.arguments.now c.args.reads.now.queue s filed known in
     let some = c.with_one_more.ensures.some bytes number serial in
     no_some c.with_one_more.result some c.in_default.is
 
-pub returns : goal.returns
-returns c s t n filed read at =
+pub returns-clause-leads : goal.returns-clause-leads
+returns-clause-leads c s t n filed read at =
     let (known, after, of) = sends c.args.caller c.args.arguments.now c.args.reads.now s t n read at in
     rw c.plan_of.ensures (rw after (leads_sent c.args.caller c.args.arguments.now c.args.reads.now.queue s filed known
     c.args.reads.now of))
