@@ -115,3 +115,11 @@ in_first (y ∷ ys) x first = let same : y ≡ x = cc in (zero, omega arith, sam
 
 pub last-map : {X Y : Type 0} (f : X → Y) (xs : List X) → last_of (map f xs) ≡ option_map f (last_of xs)
 last-map f xs = ap (λ n. slice_get (map f xs) (n - 1)) (length-map xs f) ∙ get-map f xs (length xs - 1)
+
+pub split_first : {X : Type 0} (xs : List X) (x : X) → first_of xs ≡ Some x → (back : List X) × (xs ≡ x ∷ back)
+split_first [] x first = absurd cc
+split_first (y ∷ ys) x first = let same : y ≡ x = cc in (ys, ap (λ z. z ∷ ys) same)
+
+pub no_first : {X : Type 0} (xs : List X) → first_of xs ≡ None → xs ≡ []
+no_first [] first = refl
+no_first (y ∷ ys) first = absurd cc

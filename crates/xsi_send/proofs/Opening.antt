@@ -114,8 +114,7 @@ sends c a reads s t n of at =
                     let typed : int_lt a.mtype (pos 1) ≡ false = grind (arith, valid) in
                     let short : nat_lt MAX_BODY (length a.body) ≡ false = grind (arith, valid) in
                     let u = with_queue a.id (with_message c.pid a of.queue) s in
-                    let after = same_state of.queue.next_serial n u t done in
-                    (
+                    let after = same_state of.queue.next_serial n u t done in (
                       record {
                         queue = of.queue;
                         found = of.found;

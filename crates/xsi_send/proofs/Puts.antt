@@ -86,8 +86,7 @@ module _ (old new : Records) where
   can_all [] cur all = tt
   can_all (Delete k ∷ ws) cur all = absurd (All-head (IsAsLong cur) (Delete k) ws all)
   can_all (Replace r ∷ ws) cur all =
-      let first = All-head (IsAsLong cur) (Replace r) ws all in
-      (
+      let first = All-head (IsAsLong cur) (Replace r) ws all in (
         first,
         can_all ws (with_at (key_of r) (Some r) cur)
             (All-weaker (IsAsLong cur) (IsAsLong (with_at (key_of r) (Some r) cur)) (stays_long r cur first) ws

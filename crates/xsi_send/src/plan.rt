@@ -121,11 +121,7 @@ fn lesser(mtype: i64, lowest: Option<i64>) -> i64
 }
 
 /// The Message, which is the last of its queue and of its type.
-fn last_message<'a>(
-    pid: u32,
-    arguments: &'a SendArguments,
-    queue: &QueueEntry,
-) -> MessageEntry<'a>
+fn last_message<'a>(pid: u32, arguments: &'a SendArguments, queue: &QueueEntry) -> MessageEntry<'a>
     ensures { result ≡ last_message pid arguments.now queue.now }
 {
     MessageEntry {
@@ -161,12 +157,7 @@ fn new_type(
 }
 
 /// Where the links of a Message end they go on to the new message.
-fn relink<'a>(
-    writes: &mut Writes<'a>,
-    message: &'a Option<HeldMessage>,
-    mtype: i64,
-    serial: u64,
-)
+fn relink<'a>(writes: &mut Writes<'a>, message: &'a Option<HeldMessage>, mtype: i64, serial: u64)
     requires { length writes.old + 1 ≤ MAX_WRITES }
     ensures { writes.new ≡ writes.old ++ replaced (option_map
         (λ (m : MessageEntry). records.Message (linked mtype serial m)) message.now) }

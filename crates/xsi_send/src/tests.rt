@@ -7,7 +7,7 @@ use queue_records::{
 use std::alloc::Global;
 use std::process::Abort;
 use std::test::Fail;
-use xsi_inquiry::{Decision, Inquiry, NotASystem, Plan, Trials, Verdict, Write};
+use xsi_inquiry::{Decision, Inquiry, NotASystem, Plan, Trials, Verdict, Write, Writes};
 
 const CALLER: Caller = Caller {
     pid: 1,
@@ -116,6 +116,10 @@ fn asks(
     inquiry.take(found)
 }
 
+fn are(planned: &Writes<'_>, writes: &[Write<'_>]) -> bool {
+    planned.as_slice() == writes
+}
+
 /// The inquiry has what it wants, and decides to put the message on the queue with this plan.
 fn sends(
     rt: &impl Abort,
@@ -136,14 +140,17 @@ fn sends(
         trials,
         writes: planned,
     } = plan;
-    assert!(rt; planned.as_slice() == writes);
-    match (trials, new_type) {
-        (Trials::One(first), None) => assert!(rt; first == Record::Message(message)),
-        (Trials::Two(first, second), Some(entry)) => {
+    assert!(rt; are(&planned, writes));
+    match trials {
+        Trials::None => assert!(rt; false),
+        Trials::One(first) => {
             assert!(rt; first == Record::Message(message));
-            assert!(rt; second == Record::Type(entry));
+            assert!(rt; new_type == None);
         }
-        _ => assert!(rt; false),
+        Trials::Two(first, second) => {
+            assert!(rt; first == Record::Message(message));
+            assert!(rt; new_type.map(Record::Type) == Some(second));
+        }
     }
     Ok(())
 }
@@ -187,7 +194,12 @@ fn four_sends_link_messages_and_types(rt: HostRuntime) -> Result<(), Fail> {
     let mut inquiry = SendInquiry::new(CALLER, &second);
     let last = message(1, 5, None, None, b"a");
     let five = mtype(5, (1, 1), None, None);
-    asks(&rt, &mut inquiry, (QUEUE, 0), Some(Record::Queue(queue(1, 10, 5))))?;
+    asks(
+        &rt,
+        &mut inquiry,
+        (QUEUE, 0),
+        Some(Record::Queue(queue(1, 10, 5))),
+    )?;
     asks(&rt, &mut inquiry, (MESSAGE, 1), Some(Record::Message(last)))?;
     asks(&rt, &mut inquiry, (TYPE, 2), None)?;
     asks(&rt, &mut inquiry, (TYPE, 5), Some(Record::Type(five)))?;
@@ -209,7 +221,12 @@ fn four_sends_link_messages_and_types(rt: HostRuntime) -> Result<(), Fail> {
     let last = message(2, 2, None, None, b"b");
     let two = mtype(2, (2, 2), None, Some(5));
     let five = mtype(5, (1, 1), Some(2), None);
-    asks(&rt, &mut inquiry, (QUEUE, 0), Some(Record::Queue(queue(2, 11, 2))))?;
+    asks(
+        &rt,
+        &mut inquiry,
+        (QUEUE, 0),
+        Some(Record::Queue(queue(2, 11, 2))),
+    )?;
     asks(&rt, &mut inquiry, (MESSAGE, 2), Some(Record::Message(last)))?;
     asks(&rt, &mut inquiry, (TYPE, 3), None)?;
     asks(&rt, &mut inquiry, (TYPE, 2), Some(Record::Type(two)))?;
@@ -233,10 +250,20 @@ fn four_sends_link_messages_and_types(rt: HostRuntime) -> Result<(), Fail> {
     let last = message(3, 3, None, None, b"c");
     let two = mtype(2, (2, 2), None, Some(3));
     let last_of_two = message(2, 2, Some(3), None, b"b");
-    asks(&rt, &mut inquiry, (QUEUE, 0), Some(Record::Queue(queue(3, 12, 2))))?;
+    asks(
+        &rt,
+        &mut inquiry,
+        (QUEUE, 0),
+        Some(Record::Queue(queue(3, 12, 2))),
+    )?;
     asks(&rt, &mut inquiry, (MESSAGE, 3), Some(Record::Message(last)))?;
     asks(&rt, &mut inquiry, (TYPE, 2), Some(Record::Type(two)))?;
-    asks(&rt, &mut inquiry, (MESSAGE, 2), Some(Record::Message(last_of_two)))?;
+    asks(
+        &rt,
+        &mut inquiry,
+        (MESSAGE, 2),
+        Some(Record::Message(last_of_two)),
+    )?;
     sends(
         &rt,
         &inquiry,
@@ -256,7 +283,12 @@ fn four_sends_link_messages_and_types(rt: HostRuntime) -> Result<(), Fail> {
 #[test]
 fn what_cannot_be_sent_is_refused_or_waits(rt: HostRuntime) -> Result<(), Fail> {
     let of_type_0 = arguments(rt.alloc(), 0, b"a", 10)?;
-    refuses(&rt, &SendInquiry::new(CALLER, &of_type_0), false, Errno::EINVAL)?;
+    refuses(
+        &rt,
+        &SendInquiry::new(CALLER, &of_type_0),
+        false,
+        Errno::EINVAL,
+    )?;
 
     let first = arguments(rt.alloc(), 5, b"a", 10)?;
     let mut inquiry = SendInquiry::new(CALLER, &first);
@@ -265,7 +297,12 @@ fn what_cannot_be_sent_is_refused_or_waits(rt: HostRuntime) -> Result<(), Fail> 
         queues_alive: 0,
     };
     asks(&rt, &mut inquiry, (QUEUE, 0), None)?;
-    asks(&rt, &mut inquiry, (COUNTER, 0), Some(Record::Counter(counter)))?;
+    asks(
+        &rt,
+        &mut inquiry,
+        (COUNTER, 0),
+        Some(Record::Counter(counter)),
+    )?;
     refuses(&rt, &inquiry, false, Errno::EIDRM)?;
 
     let mut inquiry = SendInquiry::new(CALLER, &first);
@@ -293,7 +330,12 @@ fn types_that_do_not_ascend_are_no_system(rt: HostRuntime) -> Result<(), Fail> {
     let first = arguments(rt.alloc(), 5, b"a", 10)?;
     let mut inquiry = SendInquiry::new(CALLER, &first);
     let last = message(1, 2, None, None, b"a");
-    asks(&rt, &mut inquiry, (QUEUE, 0), Some(Record::Queue(queue(1, 10, 2))))?;
+    asks(
+        &rt,
+        &mut inquiry,
+        (QUEUE, 0),
+        Some(Record::Queue(queue(1, 10, 2))),
+    )?;
     asks(&rt, &mut inquiry, (MESSAGE, 1), Some(Record::Message(last)))?;
     asks(&rt, &mut inquiry, (TYPE, 5), None)?;
     let round = Record::Type(mtype(2, (1, 1), None, Some(2)));

@@ -1,8 +1,6 @@
-
-
 use Rattle.xsi_send.proofs.Opening.{no_some, sends}
 use Rattle.xsi_send.proofs.Sent.{leads_sent}
-use Rattle.xsi_send.proofs.Told.{numbers_fit}
+use Rattle.xsi_send.proofs.Walked.{numbers_fit}
 use Rattle.xsi_send.proofs.plan.plan_send.Goals as goal
 
 -- the counts of a queue with room stay numbers

@@ -30,8 +30,7 @@ returns-clause-told c s filed (known, last, stands, entry) told =
     entry told in
     let (m, is, of_type, short) = last_typed_told c.args.caller c.args.arguments.now c.args.queue s filed known
     c.args.found stands asked in
-    let one = same_message _ _ (sym c.in_ok-message.ensures.ok ∙ same_found c.args.found _ _ c.in-Some.is is) in
-    (
+    let one = same_message _ _ (sym c.in_ok-message.ensures.ok ∙ same_found c.args.found _ _ c.in-Some.is is) in (
       known,
       record {
         queue = known.entry;

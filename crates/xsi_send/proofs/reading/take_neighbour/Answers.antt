@@ -5,7 +5,8 @@ use mir.Syntax.{w64}
 use Rattle.queue_records.specs.declared.type_entry.TypeEntry.{TypeEntry}
 use Rattle.xsi_inquiry.proofs.SeekLemmas.{clash}
 use Rattle.xsi_send.specs.ReadOf.{IsBetween, IsWalked}
-use Rattle.xsi_send.proofs.Told.{higher_fits, less_of_z, never_none, next_apart, next_told, same_found, same_type, same_of_z, walk_ascends, walk_ends_above, walk_ends_behind, walk_goes_on}
+use Rattle.xsi_send.proofs.Told.{less_of_z, never_none, same_found, same_type, same_of_z}
+use Rattle.xsi_send.proofs.Walked.{higher_fits, next_apart, next_told, walk_ascends, walk_ends_above, walk_ends_behind, walk_goes_on}
 use Rattle.xsi_send.proofs.reading.take_neighbour.Goals as goal
 
 -- the next type stands
@@ -39,8 +40,7 @@ returns-then-next-mtype-2-clause-told c s filed (known, last, walked) told =
     let more : c.args.arguments.now.mtype <ℤ c.args.next = grind (arith, ints, less) in
     let is = next_told c.args.caller c.args.arguments.now c.args.queue s filed known c.args.lower c.args.next c.args.found
     walked told in
-    let entry = same_type _ _ (sym c.in_ok-entry.ensures.ok ∙ same_found c.args.found _ _ c.in-Some.is is) in
-    (
+    let entry = same_type _ _ (sym c.in_ok-entry.ensures.ok ∙ same_found c.args.found _ _ c.in-Some.is is) in (
       known,
       record {
         queue = known.entry;
@@ -62,8 +62,7 @@ returns-in_default-higher-clause-told c s filed (known, last, walked) told =
     let is = next_told c.args.caller c.args.arguments.now c.args.queue s filed known c.args.lower c.args.next c.args.found
     walked told in
     let entry = same_type _ _ (sym c.in_ok-entry.ensures.ok ∙ same_found c.args.found _ _ c.in-Some.is is) in
-    let none = sym (ap (λ (x : TypeEntry). x.higher) entry) ∙ c.in_default-higher.is in
-    (
+    let none = sym (ap (λ (x : TypeEntry). x.higher) entry) ∙ c.in_default-higher.is in (
       known,
       record {
         queue = known.entry;
@@ -104,8 +103,7 @@ returns-clause-told c s filed (known, last, walked) told =
     let fits = higher_fits c.args.caller c.args.arguments.now c.args.queue s filed known c.args.lower c.args.next
     c.in-Some-higher.higher walked some in
     let further = walk_goes_on c.args.caller c.args.arguments.now c.args.queue s filed known c.args.lower c.args.next
-    c.in-Some-higher.higher walked less some in
-    (
+    c.in-Some-higher.higher walked less some in (
       known,
       last,
       subst (λ n. IsWalked c.args.arguments.now.mtype (Some c.in_ok-entry.entry) n known.queue)

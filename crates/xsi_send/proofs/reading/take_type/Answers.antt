@@ -30,8 +30,7 @@ returns-clause-told c s filed (known, last) told =
     (rw c.in-Some.is at told) in
     let entry = same_type _ _ (sym c.in_ok-entry.ensures.ok ∙ is) in
     let its = is_serial c.args.queue.last c.in_ok-entry.entry.last (sym c.ne.ensures ∙ c.if-ne.false)
-    ∙ ap (λ e. Some e.last) entry in
-    (
+    ∙ ap (λ e. Some e.last) entry in (
       known,
       record {
         queue = known.entry;

@@ -3,7 +3,7 @@ use Rattle.std.proofs.lemmas.Int.{to_z-of_z}
 use Rattle.xsi_inquiry.specs.Telling.{IsTold}
 use Rattle.xsi_send.specs.declared.stage.Stage.TheVariants.{AtNeighbour}
 use Rattle.xsi_send.specs.Knowing.{KnowsAt, key_wanted}
-use Rattle.xsi_send.proofs.Told.{next_there, type_fits}
+use Rattle.xsi_send.proofs.Walked.{next_there, type_fits}
 use Rattle.xsi_send.proofs.stage.Stage.take.Goals as goal
 
 -- the type that is read next is handed on
