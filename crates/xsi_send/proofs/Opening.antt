@@ -54,7 +54,8 @@ opens c a e s valid is access room =
       typed = typed;
       short = short;
       room = fits;
-      outcome = ap (λ b. cond b (refuse EINVAL s) (on_queue a.id s (send_to c a s))) valid ∙ is.goes_on (send_to c a s) ∙ acts;
+      outcome = ap (λ b. cond b (refuse EINVAL s) (on_queue a.id s (send_to c a s))) valid ∙ is.goes_on (send_to c a
+          s) ∙ acts;
     }
 
 -- ---- what an answer with a serial tells

@@ -102,7 +102,8 @@ module _ (old new : Records) where
     where
       by : (b : Bool) → is_same key (key_of r) ≡ b → with_at (key_of r) (Some r) cur key ≡ Some x
       by true same =
-          let clash : ◌≡◌ {A = Option Record} None (Some x) = sym none ∙ sym (ap cur (same_keys key (key_of r) same)) ∙ at in
+          let clash : ◌≡◌ {A = Option Record} None (Some x) = sym none ∙ sym (ap cur (same_keys key (key_of r) same))
+          ∙ at in
           absurd cc
       by false other = rw other at
 
@@ -119,7 +120,8 @@ module _ (old new : Records) where
   -- the plan leads from the old records to the new ones
   pub leads_by : (p : Plan) → AreAbsent (trials_of p.trials) old → All IsNew (trials_of p.trials) → All Fills p.writes →
       ((r : Record) → IsNew r → IsInRange r) →
-      ((key : RecordKey) → All (MissesRecord key) (trials_of p.trials) → All (Misses key) p.writes → old key ≡ new key) →
+      ((key : RecordKey) → All (MissesRecord key) (trials_of p.trials) → All (Misses key) p.writes → old key ≡ new
+      key) →
       Leads p old new
   leads_by p absent trials writes ranges else = record {
     absent = absent;

@@ -62,30 +62,31 @@ use Rattle.xsi_send.proofs.TypeLinks.{entry_above, entry_below, entry_higher, en
 use Rattle.xsi_send.proofs.SentBetween.{leads_between}
 use Rattle.xsi_send.proofs.SentStanding.{leads_standing}
 
-module _ (c : Caller) (a : SendArguments) (e : QueueEntry) (s : State) (filed : IsFiled s) (known : IsOpen c a e s) where
-  abbrev q : Queue
-  q = known.queue
+module _ (c : Caller) (a : SendArguments) (e : QueueEntry) (s : State) (filed : IsFiled s) (known : IsOpen c a e s)
+  where
+    abbrev q : Queue
+    q = known.queue
 
-  abbrev new : Queue
-  new = with_message c.pid a known.queue
+    abbrev new : Queue
+    new = with_message c.pid a known.queue
 
-  abbrev t : State
-  t = with_queue a.id (with_message c.pid a known.queue) s
+    abbrev t : State
+    t = with_queue a.id (with_message c.pid a known.queue) s
 
-  pub leads_sent : (reads : SendReads) → AreOf a.mtype reads known.queue →
-      Leads (sent_plan c.pid a reads) (record_of s) (record_of (with_queue a.id (with_message c.pid a known.queue) s))
-  leads_sent reads of =
-      let whole : record { queue = queue_entry q; last = last_message_of q; place = reads.place } ≡ reads =
-      λ i. record { queue = sym of.queue i; last = sym of.last i; place = reads.place } in
-      subst (λ (r : SendReads). Leads (sent_plan c.pid a r) (record_of s) (record_of t)) whole (by reads.place of.place)
-    where
-      by : (place : TypePlace) → IsPlaceOf a.mtype place q →
-          Leads (sent_plan c.pid a (record { queue = queue_entry q; last = last_message_of q; place = place }))
-          (record_of s) (record_of t)
-      by (Standing entry held) is =
-          subst (λ (x : TypeEntry). Leads (sent_plan c.pid a (record {
-            queue = queue_entry q;
-            last = last_message_of q;
-            place = Standing x held;
-          })) (record_of s) (record_of t)) (sym is.entry) (leads_standing c a e s filed known held is.stands is.last)
-      by (Between low high) is = leads_between c a e s filed known low high is
+    pub leads_sent : (reads : SendReads) → AreOf a.mtype reads known.queue →
+        Leads (sent_plan c.pid a reads) (record_of s) (record_of (with_queue a.id (with_message c.pid a known.queue) s))
+    leads_sent reads of =
+        let whole : record { queue = queue_entry q; last = last_message_of q; place = reads.place } ≡ reads =
+        λ i. record { queue = sym of.queue i; last = sym of.last i; place = reads.place } in
+        subst (λ (r : SendReads). Leads (sent_plan c.pid a r) (record_of s) (record_of t)) whole (by reads.place of.place)
+      where
+        by : (place : TypePlace) → IsPlaceOf a.mtype place q →
+            Leads (sent_plan c.pid a (record { queue = queue_entry q; last = last_message_of q; place = place }))
+            (record_of s) (record_of t)
+        by (Standing entry held) is =
+            subst (λ (x : TypeEntry). Leads (sent_plan c.pid a (record {
+              queue = queue_entry q;
+              last = last_message_of q;
+              place = Standing x held;
+            })) (record_of s) (record_of t)) (sym is.entry) (leads_standing c a e s filed known held is.stands is.last)
+        by (Between low high) is = leads_between c a e s filed known low high is

@@ -61,7 +61,8 @@ use Rattle.xsi_send.proofs.Told.{has_first, message_stands, of_filter, queue_sta
 use Rattle.xsi_send.proofs.TypeLinks.{entry_above, entry_below, entry_higher, entry_lower, entry_new, other_entry, same_types, standing_entry, types_after}
 use Rattle.xsi_send.proofs.SentParts.{all_replaced, empty_filter, fills, find_nothing, find_over, its_stands, kept, last_hit, last_stands, lawful_q, lawful_t, linked_fills, made_same, message_new, messages_same, misses_key, new_in_range, new_stands, no_message, of_type_stands, queue_fills, queue_missed, relinked_fills, relinked_hit, type_fills, types_of_q, types_same}
 
-module _ (c : Caller) (a : SendArguments) (e : QueueEntry) (s : State) (filed : IsFiled s) (known : IsOpen c a e s) where
+module _ (c : Caller) (a : SendArguments) (e : QueueEntry) (s : State) (filed : IsFiled s) (known : IsOpen c a e s)
+    where
   abbrev q : Queue
   q = known.queue
 
@@ -112,16 +113,19 @@ module _ (c : Caller) (a : SendArguments) (e : QueueEntry) (s : State) (filed : 
     highers = replaced (option_map higher_of high)
 
     in_below : (u : ℤ) → Contains between.below u → Contains (types q.messages) u
-    in_below u has = subst (λ ts. Contains ts u) (sym between.split) (Contains-append_left between.below between.above u has)
+    in_below u has = subst (λ ts. Contains ts u) (sym between.split) (Contains-append_left between.below between.above
+    u has)
 
     in_above : (u : ℤ) → Contains between.above u → Contains (types q.messages) u
-    in_above u has = subst (λ ts. Contains ts u) (sym between.split) (Contains-append_right between.below between.above u has)
+    in_above u has = subst (λ ts. Contains ts u) (sym between.split) (Contains-append_right between.below
+    between.above u has)
 
     -- no type of the queue is the message's
     apart : (u : ℤ) → Contains (types q.messages) u → u ≡ a.mtype → ⊥
     apart u has same = elim (Contains-append_cases between.below between.above u
         (subst (λ ts. Contains ts u) between.split has)) [
-          | inl first ↦ less_apart u a.mtype (All-contains (λ (v : ℤ). v <ℤ a.mtype) between.below u between.less first) same
+          | inl first ↦ less_apart u a.mtype (All-contains (λ (v : ℤ). v <ℤ a.mtype) between.below u between.less
+              first) same
           | inr later ↦ less_apart a.mtype u (All-contains (λ (v : ℤ). a.mtype <ℤ v) between.above u between.more later)
               (sym same)
         ]
@@ -144,13 +148,15 @@ module _ (c : Caller) (a : SendArguments) (e : QueueEntry) (s : State) (filed : 
 
     type_new : IsNew old_records new_records (records.Type entry)
     type_new = subst (λ x. new_records (key_of (records.Type x)) ≡ Some (records.Type x))
-        (entry_new c.pid a q low high between no_serials) (type_stands t (lawful_t c a e s filed known) new (new_stands c a e s filed known) a.mtype new_there)
+        (entry_new c.pid a q low high between no_serials) (type_stands t (lawful_t c a e s filed known) new
+        (new_stands c a e s filed known) a.mtype new_there)
 
     other_number : (u : ℤ) → Contains (types q.messages) u → has_number (type_number a.mtype) u ≡ false
     other_number u has = by (has_number (type_number a.mtype) u) refl
       where
         by : (b : Bool) → has_number (type_number a.mtype) u ≡ b → b ≡ false
-        by true passes = absurd (apart u has (same_number u a.mtype ((types_of_q c a e s filed known) u has) (typed c a e s filed known)
+        by true passes = absurd (apart u has (same_number u a.mtype ((types_of_q c a e s filed known) u has) (typed c
+        a e s filed known)
             (eqb-true (type_number u) (type_number a.mtype) passes)))
         by false passes = refl
 
@@ -167,7 +173,8 @@ module _ (c : Caller) (a : SendArguments) (e : QueueEntry) (s : State) (filed : 
         let (u, last, same) = mapped (type_entry q) (last_of between.below) x (sym between.lower ∙ is) in
         let has = in_below u (in_last between.below u last) in
         subst (λ z. Fills old_records new_records (Replace (lower_of z))) same
-        ((type_fills c a e s filed known) u (record (type_entry q u) { higher = Some a.mtype }) (entry_lower c.pid a q low high between u last) has
+        ((type_fills c a e s filed known) u (record (type_entry q u) { higher = Some a.mtype }) (entry_lower c.pid a q
+        low high between u last) has
         (still_there u has) refl refl)
 
     higher_fills : (x : TypeEntry) → high ≡ Some x → Fills old_records new_records (Replace (higher_of x))
@@ -175,7 +182,8 @@ module _ (c : Caller) (a : SendArguments) (e : QueueEntry) (s : State) (filed : 
         let (u, first, same) = mapped (type_entry q) (first_of between.above) x (sym between.higher ∙ is) in
         let has = in_above u (in_first between.above u first) in
         subst (λ z. Fills old_records new_records (Replace (higher_of z))) same
-        ((type_fills c a e s filed known) u (record (type_entry q u) { lower = Some a.mtype }) (entry_higher c.pid a q low high between u first) has
+        ((type_fills c a e s filed known) u (record (type_entry q u) { lower = Some a.mtype }) (entry_higher c.pid a q
+        low high between u first) has
         (still_there u has) refl refl)
 
     every_fill : All (Fills old_records new_records) (sent_writes c.pid a around around.place)
@@ -183,7 +191,8 @@ module _ (c : Caller) (a : SendArguments) (e : QueueEntry) (s : State) (filed : 
         All-append (Fills old_records new_records) (lead ++ links ++ lowers) highers
         (All-append (Fills old_records new_records) (lead ++ links) lowers
         (All-append (Fills old_records new_records) lead links
-        (All-cons (Fills old_records new_records) _ [] (queue_fills c a e s filed known) (All-nil (Fills old_records new_records)))
+        (All-cons (Fills old_records new_records) _ [] (queue_fills c a e s filed known) (All-nil (Fills old_records
+        new_records)))
         ((relinked_fills c a e s filed known) (last_message_of q) (last_stands c a e s filed known)))
         (all_replaced (Fills old_records new_records) lower_of low lower_fills))
         (all_replaced (Fills old_records new_records) higher_of high higher_fills)
@@ -205,10 +214,12 @@ module _ (c : Caller) (a : SendArguments) (e : QueueEntry) (s : State) (filed : 
         All (Misses key) (sent_writes c.pid a around around.place) → record_of s key ≡ record_of t key
     nothing_else key trials writes =
         agree_but a.id s q new known.found refl refl key
-        ((queue_missed c a e s filed known) key (in_writes queue_write (Contains-append_left (lead ++ links ++ lowers) highers queue_write
+        ((queue_missed c a e s filed known) key (in_writes queue_write (Contains-append_left (lead ++ links ++ lowers)
+        highers queue_write
         (Contains-append_left (lead ++ links) lowers queue_write
         (Contains-append_left lead links queue_write (contains_at [] [] queue_write))))))
-        (λ kind queue. (types_same c a e s filed known) key (between.below ++ a.mtype ∷ between.above) (types_after c.pid a q low high between)
+        (λ kind queue. (types_same c a e s filed known) key (between.below ++ a.mtype ∷ between.above) (types_after
+        c.pid a q low high between)
         (find_over (has_number key.number) between.below between.above a.mtype (over kind queue)
         ∙ ap (find (has_number key.number)) (sym between.split))
         (λ u has number. sym (stays u kind queue number
@@ -246,14 +257,17 @@ module _ (c : Caller) (a : SendArguments) (e : QueueEntry) (s : State) (filed : 
         stays : (u : ℤ) → key.kind ≡ TYPE → key.queue ≡ a.id → type_number u ≡ key.number →
             Contains between.below u ⊎ Contains between.above u → type_entry new u ≡ type_entry q u
         stays u kind queue number (inl has) = entry_below c.pid a q low high between u has
-            (λ last. type_hit key lower_of low u in_lowers (between.lower ∙ ap (option_map (type_entry q)) last) refl kind
+            (λ last. type_hit key lower_of low u in_lowers (between.lower ∙ ap (option_map (type_entry q)) last) refl
+            kind
             queue number)
         stays u kind queue number (inr has) = entry_above c.pid a q low high between u has
-            (λ first. type_hit key higher_of high u in_highers (between.higher ∙ ap (option_map (type_entry q)) first) refl
+            (λ first. type_hit key higher_of high u in_highers (between.higher ∙ ap (option_map (type_entry q)) first)
+            refl
             kind queue number)
 
     pub leads_between : Leads (sent_plan c.pid a around) (record_of s) (record_of t)
-    leads_between = leads_by old_records new_records (sent_plan c.pid a around) ((no_message c a e s filed known), (no_type, tt))
+    leads_between = leads_by old_records new_records (sent_plan c.pid a around) ((no_message c a e s filed known),
+    (no_type, tt))
         (All-cons (IsNew old_records new_records) (records.Message (last_message c.pid a (queue_entry q)))
         (records.Type entry ∷ []) (message_new c a e s filed known)
         (All-cons (IsNew old_records new_records) (records.Type entry) [] type_new

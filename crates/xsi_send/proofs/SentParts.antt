@@ -80,7 +80,8 @@ misses_key key k misses kind queue number =
 
 -- ---- searches
 
-pub find_over : {X : Type 0} (p : X → Bool) (xs ys : List X) (y : X) → p y ≡ false → find p (xs ++ y ∷ ys) ≡ find p (xs ++ ys)
+pub find_over : {X : Type 0} (p : X → Bool) (xs ys : List X) (y : X) → p y ≡ false → find p (xs ++ y ∷ ys) ≡ find p
+    (xs ++ ys)
 find_over p [] ys y over = rw over refl
 find_over {X} p (x ∷ xs) ys y over = ap (λ (rest : Option X). cond (p x) (Some x) rest) (find_over p xs ys y over)
 
@@ -106,181 +107,186 @@ empty_filter {X} p (x ∷ xs) never =
     by true passes rest = absurd (never x (contains_at [] xs x) passes)
     by false over rest = rest
 
-module _ (c : Caller) (a : SendArguments) (e : QueueEntry) (s : State) (filed : IsFiled s) (known : IsOpen c a e s) where
-  abbrev q : Queue
-  q = known.queue
+module _ (c : Caller) (a : SendArguments) (e : QueueEntry) (s : State) (filed : IsFiled s) (known : IsOpen c a e s)
+  where
+    abbrev q : Queue
+    q = known.queue
 
-  abbrev m : Message
-  m = message_of c.pid a known.queue
+    abbrev m : Message
+    m = message_of c.pid a known.queue
 
-  abbrev new : Queue
-  new = with_message c.pid a known.queue
+    abbrev new : Queue
+    new = with_message c.pid a known.queue
 
-  abbrev t : State
-  t = with_queue a.id (with_message c.pid a known.queue) s
+    abbrev t : State
+    t = with_queue a.id (with_message c.pid a known.queue) s
 
-  abbrev old_records : RecordKey → Option Record
-  old_records = record_of s
+    abbrev old_records : RecordKey → Option Record
+    old_records = record_of s
 
-  abbrev new_records : RecordKey → Option Record
-  new_records = record_of t
+    abbrev new_records : RecordKey → Option Record
+    new_records = record_of t
 
-  pub its_stands : Contains s.queues q
-  its_stands = stands s filed.lawful a.id q known.found known.its_id
+    pub its_stands : Contains s.queues q
+    its_stands = stands s filed.lawful a.id q known.found known.its_id
 
-  pub lawful_q : IsLawfulQueue q
-  lawful_q = lawful_queue s filed.lawful q its_stands
+    pub lawful_q : IsLawfulQueue q
+    lawful_q = lawful_queue s filed.lawful q its_stands
 
-  pub lawful_t : IsLawful t
-  lawful_t = IsLawful-Effect c (Send a) (Sent q.next_serial) s t
-      (Effect-outcome c (Send a) (Sent q.next_serial) s t known.outcome) filed.lawful
+    pub lawful_t : IsLawful t
+    lawful_t = IsLawful-Effect c (Send a) (Sent q.next_serial) s t
+        (Effect-outcome c (Send a) (Sent q.next_serial) s t known.outcome) filed.lawful
 
-  pub new_stands : Contains t.queues new
-  new_stands = (find-Some (has_id a.id) t.queues new (found_new a.id s q new known.found refl refl)).1
+    pub new_stands : Contains t.queues new
+    new_stands = (find-Some (has_id a.id) t.queues new (found_new a.id s q new known.found refl refl)).1
 
-  -- each message that stood stands, and the new one does
-  pub kept : (x : Message) → Contains q.messages x → Contains new.messages x
-  kept x there = Contains-append_left q.messages (m ∷ []) x there
+    -- each message that stood stands, and the new one does
+    pub kept : (x : Message) → Contains q.messages x → Contains new.messages x
+    kept x there = Contains-append_left q.messages (m ∷ []) x there
 
-  -- ---- records that are written are new ones
+    -- ---- records that are written are new ones
 
-  pub new_in_range : (r : Record) → IsNew old_records new_records r → IsInRange r
-  new_in_range r is = in_range t (key_of r) r lawful_t is
+    pub new_in_range : (r : Record) → IsNew old_records new_records r → IsInRange r
+    new_in_range r is = in_range t (key_of r) r lawful_t is
 
-  -- a replacement by a record of the new queue that is as long as the one that it replaces
-  pub fills : (r x y : Record) → y ≡ r → new_records (key_of y) ≡ Some y → old_records (key_of r) ≡ Some x →
-      value_length x ≡ value_length r → Fills old_records new_records (Replace r)
-  fills r x y same is was long = (
-    subst (λ z. new_records (key_of z) ≡ Some z) same is,
-    ap (option_map value_length) was ∙ ap Some long,
-  )
+    -- a replacement by a record of the new queue that is as long as the one that it replaces
+    pub fills : (r x y : Record) → y ≡ r → new_records (key_of y) ≡ Some y → old_records (key_of r) ≡ Some x →
+        value_length x ≡ value_length r → Fills old_records new_records (Replace r)
+    fills r x y same is was long = (
+      subst (λ z. new_records (key_of z) ≡ Some z) same is,
+      ap (option_map value_length) was ∙ ap Some long,
+    )
 
-  abbrev message_trial : Record
-  message_trial = records.Message (last_message c.pid a (queue_entry q))
+    abbrev message_trial : Record
+    message_trial = records.Message (last_message c.pid a (queue_entry q))
 
-  abbrev queue_write : Write
-  queue_write = Replace (records.Queue (with_one_more c.pid a (queue_entry q)))
+    abbrev queue_write : Write
+    queue_write = Replace (records.Queue (with_one_more c.pid a (queue_entry q)))
 
-  pub queue_fills : Fills old_records new_records (Replace (records.Queue (with_one_more c.pid a (queue_entry q))))
-  queue_fills =
-      fills (records.Queue (with_one_more c.pid a (queue_entry q))) (records.Queue (queue_entry q))
-      (records.Queue (queue_entry new)) (ap records.Queue (made_of_the_queue c.pid a q lawful_q).queue)
-      (queue_stands t lawful_t new new_stands) (queue_stands s filed.lawful q its_stands)
-      (queue_length (queue_entry q) ∙ sym (queue_length (with_one_more c.pid a (queue_entry q))))
+    pub queue_fills : Fills old_records new_records (Replace (records.Queue (with_one_more c.pid a (queue_entry q))))
+    queue_fills =
+        fills (records.Queue (with_one_more c.pid a (queue_entry q))) (records.Queue (queue_entry q))
+        (records.Queue (queue_entry new)) (ap records.Queue (made_of_the_queue c.pid a q lawful_q).queue)
+        (queue_stands t lawful_t new new_stands) (queue_stands s filed.lawful q its_stands)
+        (queue_length (queue_entry q) ∙ sym (queue_length (with_one_more c.pid a (queue_entry q))))
 
-  pub message_new : IsNew old_records new_records (records.Message (last_message c.pid a (queue_entry q)))
-  message_new = subst (λ x. new_records (key_of (records.Message x)) ≡ Some (records.Message x))
-      (made_of_the_queue c.pid a q lawful_q).message
-      (message_stands t lawful_t new new_stands m (contains_at q.messages [] m))
+    pub message_new : IsNew old_records new_records (records.Message (last_message c.pid a (queue_entry q)))
+    message_new = subst (λ x. new_records (key_of (records.Message x)) ≡ Some (records.Message x))
+        (made_of_the_queue c.pid a q lawful_q).message
+        (message_stands t lawful_t new new_stands m (contains_at q.messages [] m))
 
-  pub linked_fills : (x : Message) → Contains q.messages x →
-      Fills old_records new_records (Replace (records.Message (linked a.mtype q.next_serial (message_entry q x))))
-  linked_fills x there =
-      fills (records.Message (linked a.mtype q.next_serial (message_entry q x))) (records.Message (message_entry q x))
-      (records.Message (message_entry new x)) (ap records.Message (is_linked c.pid a q lawful_q x there))
-      (message_stands t lawful_t new new_stands x (kept x there)) (message_stands s filed.lawful q its_stands x there)
-      (message_length (message_entry q x) ∙ sym (message_length (linked a.mtype q.next_serial (message_entry q x))))
+    pub linked_fills : (x : Message) → Contains q.messages x →
+        Fills old_records new_records (Replace (records.Message (linked a.mtype q.next_serial (message_entry q x))))
+    linked_fills x there =
+        fills (records.Message (linked a.mtype q.next_serial (message_entry q x))) (records.Message (message_entry q x))
+        (records.Message (message_entry new x)) (ap records.Message (is_linked c.pid a q lawful_q x there))
+        (message_stands t lawful_t new new_stands x (kept x there)) (message_stands s filed.lawful q its_stands x there)
+        (message_length (message_entry q x) ∙ sym (message_length (linked a.mtype q.next_serial (message_entry q x))))
 
-  pub type_fills : (u : ℤ) (r : TypeEntry) → type_entry new u ≡ r → Contains (types q.messages) u →
-      Contains (types new.messages) u → r.id ≡ q.id → r.mtype ≡ u → Fills old_records new_records (Replace (records.Type r))
-  type_fills u r same there still id mtype =
-      fills (records.Type r) (records.Type (type_entry q u)) (records.Type (type_entry new u)) (ap records.Type same)
-      (type_stands t lawful_t new new_stands u still)
-      (ap (λ (k : RecordKey). old_records k) (keyed id mtype) ∙ type_stands s filed.lawful q its_stands u there)
-      (type_length (type_entry q u) ∙ sym (type_length r))
-    where
-      keyed : r.id ≡ q.id → r.mtype ≡ u → key_of (records.Type r) ≡ key_of (records.Type (type_entry q u))
-      keyed id mtype = λ i. record { kind = TYPE; queue = id i; number = type_number (mtype i) }
+    pub type_fills : (u : ℤ) (r : TypeEntry) → type_entry new u ≡ r → Contains (types q.messages) u →
+        Contains (types new.messages) u → r.id ≡ q.id → r.mtype ≡ u → Fills old_records new_records (Replace
+        (records.Type r))
+    type_fills u r same there still id mtype =
+        fills (records.Type r) (records.Type (type_entry q u)) (records.Type (type_entry new u)) (ap records.Type same)
+        (type_stands t lawful_t new new_stands u still)
+        (ap (λ (k : RecordKey). old_records k) (keyed id mtype) ∙ type_stands s filed.lawful q its_stands u there)
+        (type_length (type_entry q u) ∙ sym (type_length r))
+      where
+        keyed : r.id ≡ q.id → r.mtype ≡ u → key_of (records.Type r) ≡ key_of (records.Type (type_entry q u))
+        keyed id mtype = λ i. record { kind = TYPE; queue = id i; number = type_number (mtype i) }
 
-  -- a Message that is relinked
-  pub relinked_fills : (o : Option MessageEntry) →
-      ((x : MessageEntry) → o ≡ Some x → (y : Message) × Contains q.messages y × (x ≡ message_entry q y)) →
-      All (Fills old_records new_records) (relinked a (queue_entry q) o)
-  relinked_fills o each = all_replaced (Fills old_records new_records)
-      (λ (m : MessageEntry). records.Message (linked a.mtype q.next_serial m)) o
-      (λ x is. let (y, there, same) = each x is in
-      subst (λ z. Fills old_records new_records (Replace (records.Message (linked a.mtype q.next_serial z)))) (sym same)
-      (linked_fills y there))
+    -- a Message that is relinked
+    pub relinked_fills : (o : Option MessageEntry) →
+        ((x : MessageEntry) → o ≡ Some x → (y : Message) × Contains q.messages y × (x ≡ message_entry q y)) →
+        All (Fills old_records new_records) (relinked a (queue_entry q) o)
+    relinked_fills o each = all_replaced (Fills old_records new_records)
+        (λ (m : MessageEntry). records.Message (linked a.mtype q.next_serial m)) o
+        (λ x is. let (y, there, same) = each x is in
+        subst (λ z. Fills old_records new_records (Replace (records.Message (linked a.mtype q.next_serial z)))) (sym same)
+        (linked_fills y there))
 
-  pub last_stands : (x : MessageEntry) → last_message_of q ≡ Some x →
-      (y : Message) × Contains q.messages y × (x ≡ message_entry q y)
-  last_stands x is =
-      let (y, last, same) = mapped (message_entry q) (last_of q.messages) x is in
-      (y, in_last q.messages y last, sym same)
+    pub last_stands : (x : MessageEntry) → last_message_of q ≡ Some x →
+        (y : Message) × Contains q.messages y × (x ≡ message_entry q y)
+    last_stands x is =
+        let (y, last, same) = mapped (message_entry q) (last_of q.messages) x is in
+        (y, in_last q.messages y last, sym same)
 
-  -- ---- keys at which nothing stands yet
+    -- ---- keys at which nothing stands yet
 
-  pub no_message : old_records (key_of (records.Message (last_message c.pid a (queue_entry q)))) ≡ None
-  no_message =
-      ap (λ n. old_records (record { kind = MESSAGE; queue = n; number = q.next_serial })) known.its_id
-      ∙ ap (option_and_then (message_record q.next_serial)) known.found
-      ∙ ap (option_map (λ (m : Message). records.Message (message_entry q m)))
-      (find_nothing (has_serial q.next_serial) q.messages
-      (All-weaker (IsLawfulMessage q.next_serial) (λ (m : Message). has_serial q.next_serial m ≡ false)
-      (λ m l. let g = l.serial_given in grind (arith, nat_tests, g)) q.messages lawful_q.messages_lawful))
+    pub no_message : old_records (key_of (records.Message (last_message c.pid a (queue_entry q)))) ≡ None
+    no_message =
+        ap (λ n. old_records (record { kind = MESSAGE; queue = n; number = q.next_serial })) known.its_id
+        ∙ ap (option_and_then (message_record q.next_serial)) known.found
+        ∙ ap (option_map (λ (m : Message). records.Message (message_entry q m)))
+        (find_nothing (has_serial q.next_serial) q.messages
+        (All-weaker (IsLawfulMessage q.next_serial) (λ (m : Message). has_serial q.next_serial m ≡ false)
+        (λ m l. let g = l.serial_given in grind (arith, nat_tests, g)) q.messages lawful_q.messages_lawful))
 
-  -- ---- keys that no write meets
+    -- ---- keys that no write meets
 
-  pub queue_missed : (key : RecordKey) → is_same key (key_of (records.Queue (with_one_more c.pid a (queue_entry q)))) ≡ false →
-      key.kind ≡ QUEUE → key.queue ≡ a.id → key.number ≡ 0 → ⊥
-  queue_missed key misses kind queue number =
-      misses_key key (key_of (records.Queue (with_one_more c.pid a (queue_entry q)))) misses kind
-      (queue ∙ sym known.its_id) number
+    pub queue_missed : (key : RecordKey) → is_same key (key_of (records.Queue (with_one_more c.pid a (queue_entry q))))
+        ≡ false →
+        key.kind ≡ QUEUE → key.queue ≡ a.id → key.number ≡ 0 → ⊥
+    queue_missed key misses kind queue number =
+        misses_key key (key_of (records.Queue (with_one_more c.pid a (queue_entry q)))) misses kind
+        (queue ∙ sym known.its_id) number
 
-  -- Messages stay where neither link ends
-  pub messages_same : (key : RecordKey) → key.kind ≡ MESSAGE → key.queue ≡ a.id →
-      is_same key (key_of (records.Message (last_message c.pid a (queue_entry q)))) ≡ false →
-      ((x : Message) → Contains q.messages x → x.serial ≡ key.number → last_of q.messages ≡ Some x → ⊥) →
-      ((x : Message) → Contains q.messages x → x.serial ≡ key.number → x.mtype ≡ a.mtype →
-      last_of (filter (is_of_type a.mtype) q.messages) ≡ Some x → ⊥) →
-      message_record key.number q ≡ message_record key.number new
-  messages_same key kind queue misses no_last no_last_typed =
-      made_same (has_serial key.number) q.messages (λ (x : Message). records.Message (message_entry q x))
-      (λ (x : Message). records.Message (message_entry new x))
-      (λ x there passes. let number = eqb-true x.serial key.number passes in
-      ap records.Message (stays_linked c.pid a q lawful_q x there (no_last x there number) (no_last_typed x there number)))
-      ∙ ap (option_map (λ (x : Message). records.Message (message_entry new x)))
-      (ap (find (has_serial key.number)) (sym (append-nil q.messages))
-      ∙ sym (find_over (has_serial key.number) q.messages [] m (over (q.next_serial == key.number) refl)))
-    where
-      over : (b : Bool) → (q.next_serial == key.number) ≡ b → (q.next_serial == key.number) ≡ false
-      over true e = absurd (misses_key key (key_of (records.Message (last_message c.pid a (queue_entry q)))) misses kind
-          (queue ∙ sym known.its_id) (sym (eqb-true q.next_serial key.number e)))
-      over false e = e
+    -- Messages stay where neither link ends
+    pub messages_same : (key : RecordKey) → key.kind ≡ MESSAGE → key.queue ≡ a.id →
+        is_same key (key_of (records.Message (last_message c.pid a (queue_entry q)))) ≡ false →
+        ((x : Message) → Contains q.messages x → x.serial ≡ key.number → last_of q.messages ≡ Some x → ⊥) →
+        ((x : Message) → Contains q.messages x → x.serial ≡ key.number → x.mtype ≡ a.mtype →
+        last_of (filter (is_of_type a.mtype) q.messages) ≡ Some x → ⊥) →
+        message_record key.number q ≡ message_record key.number new
+    messages_same key kind queue misses no_last no_last_typed =
+        made_same (has_serial key.number) q.messages (λ (x : Message). records.Message (message_entry q x))
+        (λ (x : Message). records.Message (message_entry new x))
+        (λ x there passes. let number = eqb-true x.serial key.number passes in
+        ap records.Message (stays_linked c.pid a q lawful_q x there (no_last x there number) (no_last_typed x there
+        number)))
+        ∙ ap (option_map (λ (x : Message). records.Message (message_entry new x)))
+        (ap (find (has_serial key.number)) (sym (append-nil q.messages))
+        ∙ sym (find_over (has_serial key.number) q.messages [] m (over (q.next_serial == key.number) refl)))
+      where
+        over : (b : Bool) → (q.next_serial == key.number) ≡ b → (q.next_serial == key.number) ≡ false
+        over true e = absurd (misses_key key (key_of (records.Message (last_message c.pid a (queue_entry q)))) misses kind
+            (queue ∙ sym known.its_id) (sym (eqb-true q.next_serial key.number e)))
+        over false e = e
 
-  -- Types stay but where they are the message's own or next to it
-  pub types_same : (key : RecordKey) (ts : List ℤ) → types new.messages ≡ ts →
-      find (has_number key.number) ts ≡ find (has_number key.number) (types q.messages) →
-      ((u : ℤ) → Contains (types q.messages) u → type_number u ≡ key.number → type_entry q u ≡ type_entry new u) →
-      type_record key.number q ≡ type_record key.number new
-  types_same key ts is found same =
-      made_same (has_number key.number) (types q.messages) (λ (u : ℤ). records.Type (type_entry q u))
-      (λ (u : ℤ). records.Type (type_entry new u))
-      (λ u there passes. ap records.Type (same u there (eqb-true (type_number u) key.number passes)))
-      ∙ ap (option_map (λ (u : ℤ). records.Type (type_entry new u)))
-      (sym found ∙ ap (find (has_number key.number)) (sym is))
+    -- Types stay but where they are the message's own or next to it
+    pub types_same : (key : RecordKey) (ts : List ℤ) → types new.messages ≡ ts →
+        find (has_number key.number) ts ≡ find (has_number key.number) (types q.messages) →
+        ((u : ℤ) → Contains (types q.messages) u → type_number u ≡ key.number → type_entry q u ≡ type_entry new u) →
+        type_record key.number q ≡ type_record key.number new
+    types_same key ts is found same =
+        made_same (has_number key.number) (types q.messages) (λ (u : ℤ). records.Type (type_entry q u))
+        (λ (u : ℤ). records.Type (type_entry new u))
+        (λ u there passes. ap records.Type (same u there (eqb-true (type_number u) key.number passes)))
+        ∙ ap (option_map (λ (u : ℤ). records.Type (type_entry new u)))
+        (sym found ∙ ap (find (has_number key.number)) (sym is))
 
-  -- a write among others
-  abbrev MissesAll : RecordKey → List Write → Type 0
-  MissesAll key ws = (w : Write) → Contains ws w → Misses key w
+    -- a write among others
+    abbrev MissesAll : RecordKey → List Write → Type 0
+    MissesAll key ws = (w : Write) → Contains ws w → Misses key w
 
-  -- the Message of a message that is relinked is missed by no write
-  pub relinked_hit : (key : RecordKey) (o : Option MessageEntry) (x : Message) → MissesAll key (relinked a (queue_entry q) o) →
-      o ≡ Some (message_entry q x) → key.kind ≡ MESSAGE → key.queue ≡ a.id → x.serial ≡ key.number → ⊥
-  relinked_hit key o x misses is kind queue number =
-      let w = Replace (records.Message (linked a.mtype q.next_serial (message_entry q x))) in
-      let there : Contains (relinked a (queue_entry q) o) w =
-      subst (λ (p : Option MessageEntry). Contains (relinked a (queue_entry q) p) w) (sym is) (contains_at [] [] w) in
-      misses_key key (key_of (records.Message (linked a.mtype q.next_serial (message_entry q x)))) (misses w there) kind
-      (queue ∙ sym known.its_id) (sym number)
+    -- the Message of a message that is relinked is missed by no write
+    pub relinked_hit : (key : RecordKey) (o : Option MessageEntry) (x : Message) → MissesAll key (relinked a
+        (queue_entry q) o) →
+        o ≡ Some (message_entry q x) → key.kind ≡ MESSAGE → key.queue ≡ a.id → x.serial ≡ key.number → ⊥
+    relinked_hit key o x misses is kind queue number =
+        let w = Replace (records.Message (linked a.mtype q.next_serial (message_entry q x))) in
+        let there : Contains (relinked a (queue_entry q) o) w =
+        subst (λ (p : Option MessageEntry). Contains (relinked a (queue_entry q) p) w) (sym is) (contains_at [] [] w) in
+        misses_key key (key_of (records.Message (linked a.mtype q.next_serial (message_entry q x)))) (misses w there) kind
+        (queue ∙ sym known.its_id) (sym number)
 
-  pub last_hit : (key : RecordKey) (x : Message) → MissesAll key (relinked a (queue_entry q) (last_message_of q)) →
-      last_of q.messages ≡ Some x → key.kind ≡ MESSAGE → key.queue ≡ a.id → x.serial ≡ key.number → ⊥
-  last_hit key x misses is kind queue number =
-      relinked_hit key (last_message_of q) x misses (ap (option_map (message_entry q)) is) kind queue number
+    pub last_hit : (key : RecordKey) (x : Message) → MissesAll key (relinked a (queue_entry q) (last_message_of q)) →
+        last_of q.messages ≡ Some x → key.kind ≡ MESSAGE → key.queue ≡ a.id → x.serial ≡ key.number → ⊥
+    last_hit key x misses is kind queue number =
+        relinked_hit key (last_message_of q) x misses (ap (option_map (message_entry q)) is) kind queue number
 
-  pub types_of_q : (u : ℤ) → Contains (types q.messages) u → pos 1 ≤ℤ u
-  types_of_q u there = All-contains IsType (types q.messages) u (all_types s filed.lawful q its_stands) there
+    pub types_of_q : (u : ℤ) → Contains (types q.messages) u → pos 1 ≤ℤ u
+    types_of_q u there = All-contains IsType (types q.messages) u (all_types s filed.lawful q its_stands) there
 
-  pub of_type_stands : (x : Message) → Contains q.messages x → Contains (types q.messages) x.mtype
-  of_type_stands x there = ((are_types_of q.messages).stand x.mtype).1 (x, there, refl)
+    pub of_type_stands : (x : Message) → Contains q.messages x → Contains (types q.messages) x.mtype
+    of_type_stands x there = ((are_types_of q.messages).stand x.mtype).1 (x, there, refl)

@@ -61,7 +61,8 @@ use Rattle.xsi_send.proofs.Told.{has_first, message_stands, of_filter, queue_sta
 use Rattle.xsi_send.proofs.TypeLinks.{entry_above, entry_below, entry_higher, entry_lower, entry_new, other_entry, same_types, standing_entry, types_after}
 use Rattle.xsi_send.proofs.SentParts.{all_replaced, empty_filter, fills, find_nothing, find_over, its_stands, kept, last_hit, last_stands, lawful_q, lawful_t, linked_fills, made_same, message_new, messages_same, misses_key, new_in_range, new_stands, no_message, of_type_stands, queue_fills, queue_missed, relinked_fills, relinked_hit, type_fills, types_of_q, types_same}
 
-module _ (c : Caller) (a : SendArguments) (e : QueueEntry) (s : State) (filed : IsFiled s) (known : IsOpen c a e s) where
+module _ (c : Caller) (a : SendArguments) (e : QueueEntry) (s : State) (filed : IsFiled s) (known : IsOpen c a e s)
+    where
   abbrev q : Queue
   q = known.queue
 
@@ -116,7 +117,8 @@ module _ (c : Caller) (a : SendArguments) (e : QueueEntry) (s : State) (filed : 
     held_stands None last x is = absurd cc
     held_stands (Some z) last x is =
         let same : z ≡ x = cc in
-        let (y, found, made) = mapped (message_entry q) (last_of (filter (is_of_type a.mtype) q.messages)) z (sym last) in (
+        let (y, found, made) = mapped (message_entry q) (last_of (filter (is_of_type a.mtype) q.messages)) z (sym
+        last) in (
           y,
           of_filter (is_of_type a.mtype) q.messages y (in_last (filter (is_of_type a.mtype) q.messages) y found),
           sym same ∙ sym made,
@@ -130,7 +132,8 @@ module _ (c : Caller) (a : SendArguments) (e : QueueEntry) (s : State) (filed : 
         All-append (Fills old_records new_records) (front ++ first ++ second) behind
         (All-append (Fills old_records new_records) (front ++ first) second
         (All-append (Fills old_records new_records) front first
-        (All-cons (Fills old_records new_records) _ [] (queue_fills c a e s filed known) (All-nil (Fills old_records new_records)))
+        (All-cons (Fills old_records new_records) _ [] (queue_fills c a e s filed known) (All-nil (Fills old_records
+        new_records)))
         ((relinked_fills c a e s filed known) held (held_stands held last_typed)))
         ((relinked_fills c a e s filed known) (last_message_of q) (last_stands c a e s filed known)))
         (All-cons (Fills old_records new_records) _ []
@@ -142,7 +145,8 @@ module _ (c : Caller) (a : SendArguments) (e : QueueEntry) (s : State) (filed : 
         All (Misses key) (sent_writes c.pid a standing standing.place) → record_of s key ≡ record_of t key
     no_other key trials writes =
         agree_but a.id s q new known.found refl refl key
-        ((queue_missed c a e s filed known) key (in_writes queue_write (Contains-append_left (front ++ first ++ second) behind queue_write
+        ((queue_missed c a e s filed known) key (in_writes queue_write (Contains-append_left (front ++ first ++
+        second) behind queue_write
         (Contains-append_left (front ++ first) second queue_write
         (Contains-append_left front first queue_write (contains_at [] [] queue_write))))))
         (λ kind queue. (types_same c a e s filed known) key (types q.messages) (same_types c.pid a q there) refl
@@ -175,9 +179,12 @@ module _ (c : Caller) (a : SendArguments) (e : QueueEntry) (s : State) (filed : 
         typed_hit key x None is misses others last kind queue number =
             (last_hit c a e s filed known) key x others (sym is ∙ last) kind queue number
         typed_hit key x (Some z) is misses others last kind queue number =
-            (relinked_hit c a e s filed known) key (Some z) x misses (is ∙ ap (option_map (message_entry q)) last) kind queue number
+            (relinked_hit c a e s filed known) key (Some z) x misses (is ∙ ap (option_map (message_entry q)) last)
+            kind queue number
 
     pub leads_standing : Leads (sent_plan c.pid a standing) (record_of s) (record_of t)
-    leads_standing = leads_by old_records new_records (sent_plan c.pid a standing) ((no_message c a e s filed known), tt)
+    leads_standing = leads_by old_records new_records (sent_plan c.pid a standing) ((no_message c a e s filed known),
+    tt)
         (All-cons (IsNew old_records new_records) (records.Message (last_message c.pid a (queue_entry q))) []
-        (message_new c a e s filed known) (All-nil (IsNew old_records new_records))) all_fill (new_in_range c a e s filed known) no_other
+        (message_new c a e s filed known) (All-nil (IsNew old_records new_records))) all_fill (new_in_range c a e s
+        filed known) no_other

@@ -60,7 +60,8 @@ same_number (pos m) (pos k) first second same = let e : m ≡ k = same in ap pos
 module _ (s : State) (lawful : IsLawful s) (q : Queue) (stands : Contains s.queues q) where
   pub queue_stands : record_of s (key_of (records.Queue (queue_entry q))) ≡ Some (records.Queue (queue_entry q))
   queue_stands = queue_has s lawful q stands (records.Queue (queue_entry q)) (Contains-append_right (key_records q) _
-      (records.Queue (queue_entry q)) (contains_head (records.Queue (queue_entry q)) (type_records q ++ message_records q)))
+      (records.Queue (queue_entry q)) (contains_head (records.Queue (queue_entry q)) (type_records q ++
+      message_records q)))
 
   behind_queue : (r : Record) → Contains (type_records q ++ message_records q) r → Contains (queue_records q) r
   behind_queue r has = Contains-append_right (key_records q) _ r
@@ -69,7 +70,8 @@ module _ (s : State) (lawful : IsLawful s) (q : Queue) (stands : Contains s.queu
   pub message_stands : (m : Message) → Contains q.messages m →
       record_of s (key_of (records.Message (message_entry q m))) ≡ Some (records.Message (message_entry q m))
   message_stands m there =
-      queue_has s lawful q stands (records.Message (message_entry q m)) (behind_queue (records.Message (message_entry q m))
+      queue_has s lawful q stands (records.Message (message_entry q m)) (behind_queue (records.Message (message_entry
+      q m))
       (Contains-append_right (type_records q) (message_records q) (records.Message (message_entry q m))
       (in_map (λ (m : Message). records.Message (message_entry q m)) q.messages m there)))
 
@@ -197,82 +199,84 @@ last_none c a e s known none =
 
 -- ---- what each record that is asked for tells
 
-module _ (c : Caller) (a : SendArguments) (e : QueueEntry) (s : State) (filed : IsFiled s) (known : IsOpen c a e s) where
-  abbrev q : Queue
-  q = known.queue
+module _ (c : Caller) (a : SendArguments) (e : QueueEntry) (s : State) (filed : IsFiled s) (known : IsOpen c a e s)
+  where
+    abbrev q : Queue
+    q = known.queue
 
-  pub typed : pos 1 ≤ℤ a.mtype
-  typed = let t = known.typed in grind (arith, ints, t)
+    pub typed : pos 1 ≤ℤ a.mtype
+    typed = let t = known.typed in grind (arith, ints, t)
 
-  message_of : (found : Option Record) (m : Message) → Contains known.queue.messages m →
-      IsTold s (Some (message_key_of a.id m.serial)) found →
-      found ≡ Some (records.Message (message_entry known.queue m))
-  message_of found m there told = told (message_key_of a.id m.serial) refl
-      ∙ message_there s filed.lawful a.id q known.found known.its_id m there
+    message_of : (found : Option Record) (m : Message) → Contains known.queue.messages m →
+        IsTold s (Some (message_key_of a.id m.serial)) found →
+        found ≡ Some (records.Message (message_entry known.queue m))
+    message_of found m there told = told (message_key_of a.id m.serial) refl
+        ∙ message_there s filed.lawful a.id q known.found known.its_id m there
 
-  -- the queue's last message
-  pub last_there : (serial : ℕ) → e.last ≡ Some serial →
-      (m : Message) × (last_of known.queue.messages ≡ Some m) × (m.serial ≡ serial)
-  last_there serial last = last_with q.messages serial (sym (ap (λ (x : QueueEntry). x.last) known.entry) ∙ last)
+    -- the queue's last message
+    pub last_there : (serial : ℕ) → e.last ≡ Some serial →
+        (m : Message) × (last_of known.queue.messages ≡ Some m) × (m.serial ≡ serial)
+    last_there serial last = last_with q.messages serial (sym (ap (λ (x : QueueEntry). x.last) known.entry) ∙ last)
 
-  pub last_told : (serial : ℕ) (found : Option Record) → e.last ≡ Some serial →
-      IsTold s (Some (message_key_of a.id serial)) found →
-      (m : Message) × (found ≡ Some (records.Message (message_entry known.queue m)))
-      × (Some (message_entry known.queue m) ≡ last_message_of known.queue)
-      × (length (message_entry known.queue m).body ≤ MAX_BODY)
-  last_told serial found last told =
-      let (m, is, has) = last_there serial last in
-      let there = in_last q.messages m is in (
-        m,
-        message_of found m there (subst (λ n. IsTold s (Some (message_key_of a.id n)) found) (sym has) told),
-        sym (ap (option_map (message_entry q)) is),
-        short_body s filed.lawful a.id q known.found known.its_id m there,
-      )
+    pub last_told : (serial : ℕ) (found : Option Record) → e.last ≡ Some serial →
+        IsTold s (Some (message_key_of a.id serial)) found →
+        (m : Message) × (found ≡ Some (records.Message (message_entry known.queue m)))
+        × (Some (message_entry known.queue m) ≡ last_message_of known.queue)
+        × (length (message_entry known.queue m).body ≤ MAX_BODY)
+    last_told serial found last told =
+        let (m, is, has) = last_there serial last in
+        let there = in_last q.messages m is in (
+          m,
+          message_of found m there (subst (λ n. IsTold s (Some (message_key_of a.id n)) found) (sym has) told),
+          sym (ap (option_map (message_entry q)) is),
+          short_body s filed.lawful a.id q known.found known.its_id m there,
+        )
 
-  -- the Type of the message's type
-  pub type_told : (r : Record) → IsTold s (Some (type_key_of a.id a.mtype)) (Some r) →
-      Contains (types known.queue.messages) a.mtype × (r ≡ records.Type (type_entry known.queue a.mtype))
-  type_told r told = type_found s filed.lawful a.id q known.found known.its_id a.mtype r typed
-      (sym (told (type_key_of a.id a.mtype) refl))
+    -- the Type of the message's type
+    pub type_told : (r : Record) → IsTold s (Some (type_key_of a.id a.mtype)) (Some r) →
+        Contains (types known.queue.messages) a.mtype × (r ≡ records.Type (type_entry known.queue a.mtype))
+    type_told r told = type_found s filed.lawful a.id q known.found known.its_id a.mtype r typed
+        (sym (told (type_key_of a.id a.mtype) refl))
 
-  -- a type's first message
-  pub has_first : Contains (types known.queue.messages) a.mtype →
-      1 ≤ length (serials_of_type a.mtype known.queue.messages)
-  has_first there = All-contains (λ (t : ℤ). 1 ≤ length (serials_of_type t q.messages)) (types q.messages) a.mtype
-      (types_stand s filed.lawful q (stands s filed.lawful a.id q known.found known.its_id)) there
+    -- a type's first message
+    pub has_first : Contains (types known.queue.messages) a.mtype →
+        1 ≤ length (serials_of_type a.mtype known.queue.messages)
+    has_first there = All-contains (λ (t : ℤ). 1 ≤ length (serials_of_type t q.messages)) (types q.messages) a.mtype
+        (types_stand s filed.lawful q (stands s filed.lawful a.id q known.found known.its_id)) there
 
-  last_in_is : (ns : List ℕ) → 1 ≤ length ns → last_of ns ≡ Some (slice_index ns (length ns - 1))
-  last_in_is ns some = slice_get-get_or ns (length ns - 1) 0 (omega (arith, some))
+    last_in_is : (ns : List ℕ) → 1 ≤ length ns → last_of ns ≡ Some (slice_index ns (length ns - 1))
+    last_in_is ns some = slice_get-get_or ns (length ns - 1) 0 (omega (arith, some))
 
-  -- the last message of the type
-  pub last_typed_there : Contains (types known.queue.messages) a.mtype →
-      (m : Message) × (last_of (filter (is_of_type a.mtype) known.queue.messages) ≡ Some m)
-      × (m.serial ≡ (type_entry known.queue a.mtype).last)
-  last_typed_there there = last_with (filter (is_of_type a.mtype) q.messages) (type_entry q a.mtype).last
-      (last_in_is (serials_of_type a.mtype q.messages) (has_first there))
+    -- the last message of the type
+    pub last_typed_there : Contains (types known.queue.messages) a.mtype →
+        (m : Message) × (last_of (filter (is_of_type a.mtype) known.queue.messages) ≡ Some m)
+        × (m.serial ≡ (type_entry known.queue a.mtype).last)
+    last_typed_there there = last_with (filter (is_of_type a.mtype) q.messages) (type_entry q a.mtype).last
+        (last_in_is (serials_of_type a.mtype q.messages) (has_first there))
 
-  pub last_typed_told : (found : Option Record) → Contains (types known.queue.messages) a.mtype →
-      IsTold s (Some (message_key_of a.id (type_entry known.queue a.mtype).last)) found →
-      (m : Message) × (found ≡ Some (records.Message (message_entry known.queue m)))
-      × IsLastOfType a.mtype (Some (message_entry known.queue m)) known.queue
-      × (length (message_entry known.queue m).body ≤ MAX_BODY)
-  last_typed_told found standing told =
-      let (m, is, has) = last_typed_there standing in
-      let there = of_filter (is_of_type a.mtype) q.messages m (in_last (filter (is_of_type a.mtype) q.messages) m is) in (
-        m,
-        message_of found m there (subst (λ n. IsTold s (Some (message_key_of a.id n)) found) (sym has) told),
-        sym (ap (option_map (message_entry q)) is),
-        short_body s filed.lawful a.id q known.found known.its_id m there,
-      )
+    pub last_typed_told : (found : Option Record) → Contains (types known.queue.messages) a.mtype →
+        IsTold s (Some (message_key_of a.id (type_entry known.queue a.mtype).last)) found →
+        (m : Message) × (found ≡ Some (records.Message (message_entry known.queue m)))
+        × IsLastOfType a.mtype (Some (message_entry known.queue m)) known.queue
+        × (length (message_entry known.queue m).body ≤ MAX_BODY)
+    last_typed_told found standing told =
+        let (m, is, has) = last_typed_there standing in
+        let there = of_filter (is_of_type a.mtype) q.messages m (in_last (filter (is_of_type a.mtype) q.messages) m is)
+        in (
+          m,
+          message_of found m there (subst (λ n. IsTold s (Some (message_key_of a.id n)) found) (sym has) told),
+          sym (ap (option_map (message_entry q)) is),
+          short_body s filed.lawful a.id q known.found known.its_id m there,
+        )
 
-  -- where the type's last serial is the queue's, so is its last message
-  pub last_is_queues : (there : Contains (types known.queue.messages) a.mtype) →
-      e.last ≡ Some (type_entry known.queue a.mtype).last → IsLastOfType a.mtype None known.queue
-  last_is_queues standing same =
-      let (m, is, has) = last_typed_there standing in
-      let (n, last, its) = last_there (type_entry q a.mtype).last same in
-      let first = of_filter (is_of_type a.mtype) q.messages m (in_last (filter (is_of_type a.mtype) q.messages) m is) in
-      let second = in_last q.messages n last in
-      let one = serial_tells (lawful_queue s filed.lawful q (stands s filed.lawful a.id q known.found known.its_id))
-      m n first second (has ∙ sym its) in
-      is ∙ ap Some one ∙ sym last
+    -- where the type's last serial is the queue's, so is its last message
+    pub last_is_queues : (there : Contains (types known.queue.messages) a.mtype) →
+        e.last ≡ Some (type_entry known.queue a.mtype).last → IsLastOfType a.mtype None known.queue
+    last_is_queues standing same =
+        let (m, is, has) = last_typed_there standing in
+        let (n, last, its) = last_there (type_entry q a.mtype).last same in
+        let first = of_filter (is_of_type a.mtype) q.messages m (in_last (filter (is_of_type a.mtype) q.messages) m is) in
+        let second = in_last q.messages n last in
+        let one = serial_tells (lawful_queue s filed.lawful q (stands s filed.lawful a.id q known.found known.its_id))
+        m n first second (has ∙ sym its) in
+        is ∙ ap Some one ∙ sym last

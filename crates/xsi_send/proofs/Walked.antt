@@ -50,7 +50,8 @@ use Rattle.xsi_send.proofs.Sorted.{pairs_back}
 use Rattle.xsi_send.proofs.TypeLinks.{higher_is}
 use Rattle.xsi_send.proofs.Told.{stands, type_absent, type_there}
 
-module _ (c : Caller) (a : SendArguments) (e : QueueEntry) (s : State) (filed : IsFiled s) (known : IsOpen c a e s) where
+module _ (c : Caller) (a : SendArguments) (e : QueueEntry) (s : State) (filed : IsFiled s) (known : IsOpen c a e s)
+    where
   abbrev q : Queue
   q = known.queue
 
@@ -59,7 +60,8 @@ module _ (c : Caller) (a : SendArguments) (e : QueueEntry) (s : State) (filed : 
   -- the type that is read next stands
   pub next_there : (low : Option TypeEntry) (next : ℤ) (walked : IsWalked a.mtype low next known.queue) →
       Contains (types known.queue.messages) next
-  next_there low next walked = subst (λ ts. Contains ts next) (sym walked.split) (contains_at walked.walked walked.rest next)
+  next_there low next walked = subst (λ ts. Contains ts next) (sym walked.split) (contains_at walked.walked
+  walked.rest next)
 
   pub next_told : (low : Option TypeEntry) (next : ℤ) (found : Option Record) →
       IsWalked a.mtype low next known.queue → IsTold s (Some (type_key_of a.id next)) found →
@@ -85,7 +87,8 @@ module _ (c : Caller) (a : SendArguments) (e : QueueEntry) (s : State) (filed : 
   pub walk_begins : (lowest : ℤ) → e.lowest ≡ Some lowest → record_of s (type_key_of a.id a.mtype) ≡ None →
       IsWalked a.mtype None lowest known.queue
   walk_begins lowest is none =
-      let (rest, whole) = split_first (types q.messages) lowest (sym (ap (λ (x : QueueEntry). x.lowest) known.entry) ∙ is) in
+      let (rest, whole) = split_first (types q.messages) lowest (sym (ap (λ (x : QueueEntry). x.lowest) known.entry) ∙
+      is) in
       record {
         walked = [];
         rest = rest;
@@ -117,7 +120,8 @@ module _ (c : Caller) (a : SendArguments) (e : QueueEntry) (s : State) (filed : 
       }
 
   -- the walk goes on
-  pub walk_goes_on : (low : Option TypeEntry) (next higher : ℤ) → IsWalked a.mtype low next known.queue → next <ℤ a.mtype →
+  pub walk_goes_on : (low : Option TypeEntry) (next higher : ℤ) → IsWalked a.mtype low next known.queue → next <ℤ
+      a.mtype →
       (type_entry known.queue next).higher ≡ Some higher →
       IsWalked a.mtype (Some (type_entry known.queue next)) higher known.queue
   walk_goes_on low next higher walked less is =
@@ -178,7 +182,8 @@ module _ (c : Caller) (a : SendArguments) (e : QueueEntry) (s : State) (filed : 
       let fitting = All-contains HasFittingQueue s.queues q filed.fits
       (stands s filed.lawful a.id q known.found known.its_id) in
       All-contains (FitsSigned w64) (types q.messages) u (All-types (FitsSigned w64) [] q.messages
-      (All-nil (FitsSigned w64)) (All-weaker HasFittingMessage (λ (m : Message). FitsSigned w64 m.mtype) (λ m f. f.mtype)
+      (All-nil (FitsSigned w64)) (All-weaker HasFittingMessage (λ (m : Message). FitsSigned w64 m.mtype) (λ m f.
+      f.mtype)
       q.messages fitting.messages)) there
 
   pub lowest_fits : (lowest : ℤ) → e.lowest ≡ Some lowest → FitsSigned w64 lowest
@@ -196,7 +201,8 @@ module _ (c : Caller) (a : SendArguments) (e : QueueEntry) (s : State) (filed : 
   numbers_fit = subst (λ (x : QueueEntry). (x.cbytes + length a.body < 2 ^ 32) × (x.qnum + 1 < 2 ^ 32)
       × (x.next_serial + 1 < 2 ^ 64)) (sym known.entry) of_queue
     where
-      of_queue : (total_bytes known.queue.messages + length a.body < 2 ^ 32) × (length known.queue.messages + 1 < 2 ^ 32)
+      of_queue : (total_bytes known.queue.messages + length a.body < 2 ^ 32) × (length known.queue.messages + 1 < 2 ^
+          32)
           × (known.queue.next_serial + 1 < 2 ^ 64)
       of_queue =
           let lawful = lawful_queue s filed.lawful q (stands s filed.lawful a.id q known.found known.its_id) in

@@ -7,7 +7,7 @@ use queue_records::{
 use std::alloc::Global;
 use std::process::Abort;
 use std::test::Fail;
-use xsi_inquiry::{Decision, Inquiry, NotASystem, Plan, Trials, Verdict, Write, Writes};
+use xsi_inquiry::{Decision, Inquiry, NotASystem, Plan, Trials, Verdict, Write};
 
 const CALLER: Caller = Caller {
     pid: 1,
@@ -116,8 +116,12 @@ fn asks(
     inquiry.take(found)
 }
 
-fn are(planned: &Writes<'_>, writes: &[Write<'_>]) -> bool {
-    planned.as_slice() == writes
+fn writes(rt: &impl Abort, plan: &Plan<'_>, wants: &[Write<'_>]) {
+    let writes = plan.writes.as_slice();
+    assert!(rt; writes.len() == wants.len());
+    for (write, want) in writes.iter().zip(wants.iter()) {
+        assert!(rt; write == want);
+    }
 }
 
 /// The inquiry has what it wants, and decides to put the message on the queue with this plan.
@@ -127,7 +131,7 @@ fn sends(
     serial: u64,
     message: MessageEntry<'_>,
     new_type: Option<TypeEntry>,
-    writes: &[Write<'_>],
+    wants: &[Write<'_>],
 ) -> Result<(), NotASystem> {
     let None = inquiry.wants() else {
         return Err(NotASystem);
@@ -136,12 +140,8 @@ fn sends(
         return Err(NotASystem);
     };
     assert!(rt; matches!(&verdict, Verdict::Sent(sent) if *sent == serial));
-    let Plan {
-        trials,
-        writes: planned,
-    } = plan;
-    assert!(rt; are(&planned, writes));
-    match trials {
+    writes(rt, &plan, wants);
+    match plan.trials {
         Trials::None => assert!(rt; false),
         Trials::One(first) => {
             assert!(rt; first == Record::Message(message));
@@ -169,7 +169,7 @@ fn refuses(
         return Err(NotASystem);
     };
     assert!(rt; matches!(&verdict, Verdict::Refused(refused) if *refused == errno));
-    assert!(rt; plan.writes.as_slice().is_empty());
+    writes(rt, &plan, &[]);
     Ok(())
 }
 
@@ -177,34 +177,47 @@ fn refuses(
 /// higher 5; type 5 first and last 1 and lower 3.
 #[test]
 fn four_sends_link_messages_and_types(rt: HostRuntime) -> Result<(), Fail> {
-    let first = arguments(rt.alloc(), 5, b"a", 10)?;
+    let alloc = rt.alloc();
+    first_send(&rt, alloc)?;
+    second_send(&rt, alloc)?;
+    third_send(&rt, alloc)?;
+    fourth_send(&rt, alloc)
+}
+
+/// Type 5, to an empty queue.
+fn first_send(rt: &impl Abort, alloc: Global) -> Result<(), Fail> {
+    let first = arguments(alloc, 5, b"a", 10)?;
     let mut inquiry = SendInquiry::new(CALLER, &first);
-    asks(&rt, &mut inquiry, (QUEUE, 0), Some(Record::Queue(EMPTY)))?;
-    asks(&rt, &mut inquiry, (TYPE, 5), None)?;
+    asks(rt, &mut inquiry, (QUEUE, 0), Some(Record::Queue(EMPTY)))?;
+    asks(rt, &mut inquiry, (TYPE, 5), None)?;
     sends(
-        &rt,
+        rt,
         &inquiry,
         1,
         message(1, 5, None, None, b"a"),
         Some(mtype(5, (1, 1), None, None)),
         &[Write::Replace(Record::Queue(queue(1, 10, 5)))],
     )?;
+    Ok(())
+}
 
-    let second = arguments(rt.alloc(), 2, b"b", 11)?;
+/// Type 2, below the lowest.
+fn second_send(rt: &impl Abort, alloc: Global) -> Result<(), Fail> {
+    let second = arguments(alloc, 2, b"b", 11)?;
     let mut inquiry = SendInquiry::new(CALLER, &second);
     let last = message(1, 5, None, None, b"a");
     let five = mtype(5, (1, 1), None, None);
     asks(
-        &rt,
+        rt,
         &mut inquiry,
         (QUEUE, 0),
         Some(Record::Queue(queue(1, 10, 5))),
     )?;
-    asks(&rt, &mut inquiry, (MESSAGE, 1), Some(Record::Message(last)))?;
-    asks(&rt, &mut inquiry, (TYPE, 2), None)?;
-    asks(&rt, &mut inquiry, (TYPE, 5), Some(Record::Type(five)))?;
+    asks(rt, &mut inquiry, (MESSAGE, 1), Some(Record::Message(last)))?;
+    asks(rt, &mut inquiry, (TYPE, 2), None)?;
+    asks(rt, &mut inquiry, (TYPE, 5), Some(Record::Type(five)))?;
     sends(
-        &rt,
+        rt,
         &inquiry,
         2,
         message(2, 2, None, None, b"b"),
@@ -215,24 +228,28 @@ fn four_sends_link_messages_and_types(rt: HostRuntime) -> Result<(), Fail> {
             Write::Replace(Record::Type(mtype(5, (1, 1), Some(2), None))),
         ],
     )?;
+    Ok(())
+}
 
-    let third = arguments(rt.alloc(), 3, b"c", 12)?;
+/// Type 3, between both.
+fn third_send(rt: &impl Abort, alloc: Global) -> Result<(), Fail> {
+    let third = arguments(alloc, 3, b"c", 12)?;
     let mut inquiry = SendInquiry::new(CALLER, &third);
     let last = message(2, 2, None, None, b"b");
     let two = mtype(2, (2, 2), None, Some(5));
     let five = mtype(5, (1, 1), Some(2), None);
     asks(
-        &rt,
+        rt,
         &mut inquiry,
         (QUEUE, 0),
         Some(Record::Queue(queue(2, 11, 2))),
     )?;
-    asks(&rt, &mut inquiry, (MESSAGE, 2), Some(Record::Message(last)))?;
-    asks(&rt, &mut inquiry, (TYPE, 3), None)?;
-    asks(&rt, &mut inquiry, (TYPE, 2), Some(Record::Type(two)))?;
-    asks(&rt, &mut inquiry, (TYPE, 5), Some(Record::Type(five)))?;
+    asks(rt, &mut inquiry, (MESSAGE, 2), Some(Record::Message(last)))?;
+    asks(rt, &mut inquiry, (TYPE, 3), None)?;
+    asks(rt, &mut inquiry, (TYPE, 2), Some(Record::Type(two)))?;
+    asks(rt, &mut inquiry, (TYPE, 5), Some(Record::Type(five)))?;
     sends(
-        &rt,
+        rt,
         &inquiry,
         3,
         message(3, 3, None, None, b"c"),
@@ -244,28 +261,32 @@ fn four_sends_link_messages_and_types(rt: HostRuntime) -> Result<(), Fail> {
             Write::Replace(Record::Type(mtype(5, (1, 1), Some(3), None))),
         ],
     )?;
+    Ok(())
+}
 
-    let fourth = arguments(rt.alloc(), 2, b"d", 13)?;
+/// Type 2 once more, of which the last message is not the queue's last.
+fn fourth_send(rt: &impl Abort, alloc: Global) -> Result<(), Fail> {
+    let fourth = arguments(alloc, 2, b"d", 13)?;
     let mut inquiry = SendInquiry::new(CALLER, &fourth);
     let last = message(3, 3, None, None, b"c");
     let two = mtype(2, (2, 2), None, Some(3));
     let last_of_two = message(2, 2, Some(3), None, b"b");
     asks(
-        &rt,
+        rt,
         &mut inquiry,
         (QUEUE, 0),
         Some(Record::Queue(queue(3, 12, 2))),
     )?;
-    asks(&rt, &mut inquiry, (MESSAGE, 3), Some(Record::Message(last)))?;
-    asks(&rt, &mut inquiry, (TYPE, 2), Some(Record::Type(two)))?;
+    asks(rt, &mut inquiry, (MESSAGE, 3), Some(Record::Message(last)))?;
+    asks(rt, &mut inquiry, (TYPE, 2), Some(Record::Type(two)))?;
     asks(
-        &rt,
+        rt,
         &mut inquiry,
         (MESSAGE, 2),
         Some(Record::Message(last_of_two)),
     )?;
     sends(
-        &rt,
+        rt,
         &inquiry,
         4,
         message(4, 2, None, None, b"d"),

@@ -12,13 +12,15 @@ use Rattle.xsi_send.proofs.reading.take_neighbour.Goals as goal
 -- the next type stands
 pub returns-in_default-clause-told : goal.returns-in_default-clause-told
 returns-in_default-clause-told c s filed (known, last, walked) told =
-    let is = next_told c.args.caller c.args.arguments.now c.args.queue s filed known c.args.lower c.args.next c.args.found
+    let is = next_told c.args.caller c.args.arguments.now c.args.queue s filed known c.args.lower c.args.next
+    c.args.found
     walked told in
     absurd (never_none c.args.found _ is c.in_default.is)
 
 pub returns-in_err-entry-clause-told : goal.returns-in_err-entry-clause-told
 returns-in_err-entry-clause-told c s filed (known, last, walked) told =
-    let is = next_told c.args.caller c.args.arguments.now c.args.queue s filed known c.args.lower c.args.next c.args.found
+    let is = next_told c.args.caller c.args.arguments.now c.args.queue s filed known c.args.lower c.args.next
+    c.args.found
     walked told in
     let one = same_found c.args.found _ _ c.in-Some.is is in
     absurd (clash _ _ (c.type_in.ensures.only _ one) _ c.in_err-entry.was)
@@ -28,7 +30,8 @@ pub returns-then-next-mtype-clause-told : goal.returns-then-next-mtype-clause-to
 returns-then-next-mtype-clause-told c s filed (known, last, walked) told =
     let its : SFits w64 c.args.arguments.now.mtype = search rules in
     let next : SFits w64 c.args.next = search rules in
-    let apart = next_apart c.args.caller c.args.arguments.now c.args.queue s filed known c.args.lower c.args.next walked in
+    let apart = next_apart c.args.caller c.args.arguments.now c.args.queue s filed known c.args.lower c.args.next
+    walked in
     absurd (apart (same_of_z c.args.next c.args.arguments.now.mtype next its c.if-next-mtype.true))
 
 -- a greater one
@@ -38,15 +41,18 @@ returns-then-next-mtype-2-clause-told c s filed (known, last, walked) told =
     let next : SFits w64 c.args.next = search rules in
     let less = less_of_z c.args.arguments.now.mtype c.args.next true its next c.if-next-mtype-2.true in
     let more : c.args.arguments.now.mtype <ℤ c.args.next = grind (arith, ints, less) in
-    let is = next_told c.args.caller c.args.arguments.now c.args.queue s filed known c.args.lower c.args.next c.args.found
+    let is = next_told c.args.caller c.args.arguments.now c.args.queue s filed known c.args.lower c.args.next
+    c.args.found
     walked told in
     let entry = same_type _ _ (sym c.in_ok-entry.ensures.ok ∙ same_found c.args.found _ _ c.in-Some.is is) in (
       known,
       record {
         queue = known.entry;
         last = last;
-        place = subst (λ (x : TypeEntry). IsBetween c.args.arguments.now.mtype c.args.lower (Some x) known.queue) (sym entry)
-            (walk_ends_above c.args.caller c.args.arguments.now c.args.queue s filed known c.args.lower c.args.next walked
+        place = subst (λ (x : TypeEntry). IsBetween c.args.arguments.now.mtype c.args.lower (Some x) known.queue) (sym
+            entry)
+            (walk_ends_above c.args.caller c.args.arguments.now c.args.queue s filed known c.args.lower c.args.next
+            walked
             more);
       },
     )
@@ -57,9 +63,11 @@ returns-in_default-higher-clause-told c s filed (known, last, walked) told =
     let its : SFits w64 c.args.arguments.now.mtype = search rules in
     let next : SFits w64 c.args.next = search rules in
     let no_more = less_of_z c.args.arguments.now.mtype c.args.next false its next c.if-next-mtype-2.false in
-    let apart = next_apart c.args.caller c.args.arguments.now c.args.queue s filed known c.args.lower c.args.next walked in
+    let apart = next_apart c.args.caller c.args.arguments.now c.args.queue s filed known c.args.lower c.args.next
+    walked in
     let less : c.args.next <ℤ c.args.arguments.now.mtype = grind (arith, ints, no_more, apart) in
-    let is = next_told c.args.caller c.args.arguments.now c.args.queue s filed known c.args.lower c.args.next c.args.found
+    let is = next_told c.args.caller c.args.arguments.now c.args.queue s filed known c.args.lower c.args.next
+    c.args.found
     walked told in
     let entry = same_type _ _ (sym c.in_ok-entry.ensures.ok ∙ same_found c.args.found _ _ c.in-Some.is is) in
     let none = sym (ap (λ (x : TypeEntry). x.higher) entry) ∙ c.in_default-higher.is in (
@@ -68,7 +76,8 @@ returns-in_default-higher-clause-told c s filed (known, last, walked) told =
         queue = known.entry;
         last = last;
         place = subst (λ (x : TypeEntry). IsBetween c.args.arguments.now.mtype (Some x) None known.queue) (sym entry)
-            (walk_ends_behind c.args.caller c.args.arguments.now c.args.queue s filed known c.args.lower c.args.next walked
+            (walk_ends_behind c.args.caller c.args.arguments.now c.args.queue s filed known c.args.lower c.args.next
+            walked
             less none);
       },
     )
@@ -77,7 +86,8 @@ returns-in_default-higher-clause-told c s filed (known, last, walked) told =
 pub returns-then-higher-next-clause-told : goal.returns-then-higher-next-clause-told
 returns-then-higher-next-clause-told c s filed (known, last, walked) told =
     let next : SFits w64 c.args.next = search rules in
-    let is = next_told c.args.caller c.args.arguments.now c.args.queue s filed known c.args.lower c.args.next c.args.found
+    let is = next_told c.args.caller c.args.arguments.now c.args.queue s filed known c.args.lower c.args.next
+    c.args.found
     walked told in
     let entry = same_type _ _ (sym c.in_ok-entry.ensures.ok ∙ same_found c.args.found _ _ c.in-Some.is is) in
     let some = sym (ap (λ (x : TypeEntry). x.higher) entry) ∙ c.in-Some-higher.is in
@@ -94,9 +104,11 @@ returns-clause-told c s filed (known, last, walked) told =
     let its : SFits w64 c.args.arguments.now.mtype = search rules in
     let next : SFits w64 c.args.next = search rules in
     let no_more = less_of_z c.args.arguments.now.mtype c.args.next false its next c.if-next-mtype-2.false in
-    let apart = next_apart c.args.caller c.args.arguments.now c.args.queue s filed known c.args.lower c.args.next walked in
+    let apart = next_apart c.args.caller c.args.arguments.now c.args.queue s filed known c.args.lower c.args.next
+    walked in
     let less : c.args.next <ℤ c.args.arguments.now.mtype = grind (arith, ints, no_more, apart) in
-    let is = next_told c.args.caller c.args.arguments.now c.args.queue s filed known c.args.lower c.args.next c.args.found
+    let is = next_told c.args.caller c.args.arguments.now c.args.queue s filed known c.args.lower c.args.next
+    c.args.found
     walked told in
     let entry = same_type _ _ (sym c.in_ok-entry.ensures.ok ∙ same_found c.args.found _ _ c.in-Some.is is) in
     let some = sym (ap (λ (x : TypeEntry). x.higher) entry) ∙ c.in-Some-higher.is in

@@ -7,8 +7,10 @@ use Rattle.xsi_send.proofs.reading.walk.Goals as goal
 -- types are from 1 on
 pub returns-then-lowest-lt1-clause-told : goal.returns-then-lowest-lt1-clause-told
 returns-then-lowest-lt1-clause-told c s filed (known, last) none =
-    let begun = lowest_typed c.args.caller c.args.arguments.now c.args.queue s filed known c.in-Some.lowest c.in-Some.is in
-    let fits = lowest_fits c.args.caller c.args.arguments.now c.args.queue s filed known c.in-Some.lowest c.in-Some.is in
+    let begun = lowest_typed c.args.caller c.args.arguments.now c.args.queue s filed known c.in-Some.lowest
+    c.in-Some.is in
+    let fits = lowest_fits c.args.caller c.args.arguments.now c.args.queue s filed known c.in-Some.lowest c.in-Some.is
+    in
     let less = simp to_z-of_z at c.if-lowest-lt1.true in
     absurd (grind (arith, ints, begun, less))
 
@@ -24,10 +26,12 @@ returns-in-None-clause-told c s filed (known, last) none = (
 
 pub returns-else-lowest-lt1-clause-told : goal.returns-else-lowest-lt1-clause-told
 returns-else-lowest-lt1-clause-told c s filed (known, last) none =
-    let fits = lowest_fits c.args.caller c.args.arguments.now c.args.queue s filed known c.in-Some.lowest c.in-Some.is in
+    let fits = lowest_fits c.args.caller c.args.arguments.now c.args.queue s filed known c.in-Some.lowest c.in-Some.is
+    in
     let begins = walk_begins c.args.caller c.args.arguments.now c.args.queue s filed known c.in-Some.lowest c.in-Some.is
     none in (
       known,
       last,
-      subst (λ n. IsWalked c.args.arguments.now.mtype None n known.queue) (sym (to_z-of_z w64 c.in-Some.lowest fits)) begins,
+      subst (λ n. IsWalked c.args.arguments.now.mtype None n known.queue) (sym (to_z-of_z w64 c.in-Some.lowest fits))
+          begins,
     )

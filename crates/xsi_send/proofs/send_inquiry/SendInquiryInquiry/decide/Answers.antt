@@ -9,7 +9,8 @@ pub returns-in_ok-plan_send-in-Done : goal.returns-in_ok-plan_send-in-Done
 returns-in_ok-plan_send-in-Done c s filed knows stopped =
     let i = c.self.inside in
     let a = i.arguments.now in
-    let inside = subst (λ (self : Asking). KnowsAt self.caller self.arguments self.stage s) (sym c.self.view_is) knows in
+    let inside = subst (λ (self : Asking). KnowsAt self.caller self.arguments self.stage s) (sym c.self.view_is) knows
+    in
     let (known, of) = subst (λ stage. KnowsAt i.caller a stage s) c.in-Done.is inside in
     let leads = c.in_ok-plan_send-in-Done.ensures.leads s
     (with_queue a.id (with_message i.caller.pid a known.queue) s) known.queue.next_serial filed

@@ -18,4 +18,5 @@ returns-in-AtNeighbour-clause-told c s filed knows told =
     let same = sym (to_z-of_z w64 i.next fits) in
     c.take_neighbour.ensures.told s filed
     (subst (λ n. KnowsAt c.args.caller c.args.arguments.now (AtNeighbour i.queue i.last i.lower n) s) same knows_it)
-    (subst (λ n. IsTold s (key_wanted c.args.arguments.now (AtNeighbour i.queue i.last i.lower n)) c.args.found) same told_it)
+    (subst (λ n. IsTold s (key_wanted c.args.arguments.now (AtNeighbour i.queue i.last i.lower n)) c.args.found) same
+    told_it)
