@@ -1,0 +1,12 @@
+//! The rules of steps: which step of a seat changes what, and what the other seats may rely on.
+
+#![tactic(auto)]
+
+mod kind;
+mod progress;
+
+pub use kind::Kind;
+pub use progress::Progress;
+
+#[cfg(test)]
+mod tests;
