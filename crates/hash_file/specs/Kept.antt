@@ -1,0 +1,33 @@
+-- What a change of the file keeps.
+use Rattle.std.specs.Prelude.{ℕ, ◌≡◌, ◌≢◌, ◌≤◌, ◌+◌, Option, List, if◌then◌else◌}
+use Rattle.bucket_page.specs.declared.record_key.RecordKey.{RecordKey}
+use Rattle.bucket_page.specs.Keys.{is_same}
+use Rattle.hash_file.specs.Store.{Store}
+use Rattle.hash_file.specs.Chain.{contents}
+use Rattle.hash_file.specs.Change.{Change}
+use Rattle.hash_file.specs.Search.{Leads, distance}
+use Rattle.hash_file.specs.Sound.{IsSound}
+use Rattle.hash_file.specs.Changes.{Write, key_of, value_after}
+
+-- the file holds what it held
+abbrev pub KeepsContents : Store → Store → Type 0
+KeepsContents old new = (key : RecordKey) → contents new key ≡ contents old key
+
+-- one record of what the file holds has changed
+abbrev pub ChangesRecord : Write → Store → Store → Type 0
+ChangesRecord w old new = (key : RecordKey) →
+    contents new key ≡ (if is_same (key_of w) key then value_after w else contents old key)
+
+-- each page leads where it led
+abbrev pub KeepsLeading : Store → Change → Store → Change → Type 0
+KeepsLeading old c new d = (n k : ℕ) → Leads old c n k → Leads new d n k
+
+-- a change that keeps all of this, in going on from phase c to phase d
+pub record Keeps (hash : RecordKey → ℕ) (old : Store) (c : Change) (new : Store) (d : Change) : Type 0 where
+  pub sound : IsSound hash new d
+  pub contents : KeepsContents old new
+  pub leads : KeepsLeading old c new d
+
+-- one that makes no way longer, but by so many hops
+pub record KeepsWays (old : Store) (c : Change) (new : Store) (longer : ℕ) : Type 0 where
+  pub ways : (n k : ℕ) → Leads old c n k → distance new n k ≤ distance old n k + longer

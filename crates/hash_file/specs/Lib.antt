@@ -1,0 +1,11 @@
+pub mod Store
+pub mod Chain
+pub mod Change
+pub mod Search
+pub mod Phases
+pub mod Sound
+pub mod Changes
+pub mod Kept
+pub mod Laws
+pub mod Words
+pub mod Looks
