@@ -1,1 +1,10 @@
 pub mod Kinds
+pub mod World
+pub mod Sound
+pub mod Structure
+pub mod Known
+pub mod Leaves
+pub mod LockSteps
+pub mod PageSteps
+pub mod Does
+pub mod Laws

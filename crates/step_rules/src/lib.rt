@@ -3,9 +3,11 @@
 #![tactic(auto)]
 
 mod kind;
+mod laws;
 mod progress;
 
 pub use kind::Kind;
+pub use laws::others_keep_what_they_know;
 pub use progress::Progress;
 
 #[cfg(test)]

@@ -1,0 +1,2 @@
+pub mod StructureLemmas
+pub mod KnownLemmas
