@@ -1,1 +1,4 @@
-
+pub mod Lists
+pub mod Chains
+pub mod Lookups
+pub mod Searches
