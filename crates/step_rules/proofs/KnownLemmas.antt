@@ -42,7 +42,7 @@ module _ (hash : RecordKey → ℕ) (i j : ℕ) (old new : World) (apart : i ≢
 
   -- beside the one that may write the directory the other may not
   other_structure : IsWriter old.locks i Directory → IsWriter old.locks j Directory → ⊥
-  other_structure mine theirs = apart (one_writer old.locks Directory sound.pairs i j mine theirs)
+  other_structure mine theirs = apart (one_writer old.locks Directory sound.lawful.pairs i j mine theirs)
 
   pub Holds-kept : (fact : Known) → Holds i old fact → Holds i new fact
   Holds-kept (Deep depth) h = (IsHeld-kept Directory h.0, omega (arith, h.1, leaves.depth i apart h.0))
@@ -52,7 +52,7 @@ module _ (hash : RecordKey → ℕ) (i j : ℕ) (old new : World) (apart : i ≢
   Holds-kept (Built fact) h =
       (IsWriter-kept Directory h.0, IsSo-kept old new (leaves.structure (other_structure h.0)) fact h.1)
   Holds-kept (Told key value) h =
-      (IsHeld-kept (guard_of key) h.0, leaves.records key (not_exclusive old i j (guard_of key) sound.pairs apart h.0) ∙ h.1)
+      (IsHeld-kept (guard_of key) h.0, leaves.records key (not_exclusive old i j (guard_of key) sound.lawful.pairs apart h.0) ∙ h.1)
 
   pub AllHold-kept : (facts : List Known) → AllHold i old facts → AllHold i new facts
   AllHold-kept [] h = tt

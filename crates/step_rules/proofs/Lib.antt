@@ -1,2 +1,4 @@
 pub mod StructureLemmas
 pub mod KnownLemmas
+pub mod LockLemmas
+pub mod LockStepLemmas

@@ -1,11 +1,12 @@
 -- The kinds of step that change locks alone, or nothing. docs/STEPS.md, "The kinds of step".
-use Rattle.std.specs.Prelude.{ℕ, ◌≡◌, ◌⊎◌, Some, None}
+use Rattle.std.specs.Prelude.{ℕ, ◌≡◌, ◌<◌, ◌⊎◌, length, Some, None}
 use Rattle.std.specs.List.{Contains}
 use Rattle.page_locks.specs.declared.lock.LockKind.{LockKind}
 use Rattle.page_locks.specs.declared.lock.LockKind.TheVariants.{Selective, Exclusive}
 use Rattle.page_locks.specs.declared.lock.LockName.{LockName}
 use Rattle.page_locks.specs.declared.lock.LockName.TheVariants.{Directory, Page}
-use Rattle.page_locks.specs.Table.{Table, IsSeat, IsFree, held, with_lock, without_lock, with_kind}
+use Rattle.page_locks.specs.declared.row.TheConstants.{MAX_LOCKS}
+use Rattle.page_locks.specs.Table.{Table, IsSeat, IsFree, row_of, held, with_lock, without_lock, with_kind}
 use Rattle.page_locks.specs.Writers.{IsWriter}
 use Rattle.hash_file.specs.Store.{next_at}
 use Rattle.hash_file.specs.Change.{Quiet, busy}
@@ -16,6 +17,7 @@ use Rattle.step_rules.specs.World.{World, with_locks, IsHeld, IsReached}
 -- a lock is granted; a page that is locked leads somewhere
 pub record Grants (seat : ℕ) (old new : World) : Type 0 where
   pub seated : IsSeat old.locks seat
+  pub room : length (row_of old.locks seat) < MAX_LOCKS
   pub name : LockName
   pub kind : LockKind
   pub fresh : held old.locks seat name ≡ None
@@ -51,9 +53,9 @@ pub record LooksAt (seat : ℕ) (old new : World) : Type 0 where
 -- the seat is granted the page that its page names, in the same kind, and gives its page back
 pub record GoesOn (page : ℕ) (kind : LockKind) (seat : ℕ) (old new : World) : Type 0 where
   pub seated : IsSeat old.locks seat
+  pub room : length (row_of old.locks seat) < MAX_LOCKS
   pub fresh : held old.locks seat (Page (next_at old.store page)) ≡ None
   pub free : IsFree old.locks seat (Page (next_at old.store page)) kind
-  pub aimed : IsReached old (next_at old.store page)
   pub idle : IsWriter old.locks seat Directory → Contains (busy old.change) page → ⊥
   pub is : new ≡ with_locks
       (without_lock (with_lock old.locks seat (Page (next_at old.store page)) kind) seat (Page page)) old

@@ -3,7 +3,7 @@ use Rattle.std.specs.Prelude.{ℕ, ◌≡◌, ◌⊎◌}
 use Rattle.std.specs.List.{Contains}
 use Rattle.bucket_page.specs.declared.record_key.RecordKey.{RecordKey}
 use Rattle.page_locks.specs.declared.lock.LockName.TheVariants.{Directory, Page}
-use Rattle.page_locks.specs.Table.{Table, IsPairwiseCompatible}
+use Rattle.page_locks.specs.Table.{Table, IsLawful}
 use Rattle.page_locks.specs.Writers.{IsWriter, HasNoWriter}
 use Rattle.hash_file.specs.Chain.{chain}
 use Rattle.hash_file.specs.Change.{Quiet, busy}
@@ -18,8 +18,8 @@ pub record IsWrittenBy (t : Table) (seat page : ℕ) : Type 0 where
 pub record IsSoundWorld (hash : RecordKey → ℕ) (w : World) : Type 0 where
   -- the file is sound in the phase of the change under way
   pub file : IsSound hash w.store w.change
-  -- what two seats hold of one name goes together
-  pub pairs : IsPairwiseCompatible w.locks
+  -- what seats hold goes together
+  pub lawful : IsLawful w.locks
   -- a change is under way only while a seat may write the directory
   pub led : HasNoWriter w.locks Directory → w.change ≡ Quiet
   -- a live page whose records the phase speaks of is locked by that seat

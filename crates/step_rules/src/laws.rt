@@ -1,8 +1,30 @@
 //! The laws of steps. Each stands on the contract of a function that does nothing.
 
-ghost use Rattle.step_rules.specs.Laws.{OthersKnow};
+ghost use Rattle.step_rules.specs.declared.kind.Kind.TheVariants.{Grant, Release, ReadDepth, ReadEntry, Look, Hop, Decide, Convert};
+ghost use Rattle.step_rules.specs.Laws.{OthersKnow, KindKeeps};
 
 /// What a seat knows is still so after a step of another seat.
 pub fn others_keep_what_they_know()
     ensures { OthersKnow }
+{}
+
+/// Taking a lock, giving one back and making the directory's exclusive keep the world sound, and leave the others
+/// what they know.
+pub fn locks_leave_the_file()
+    ensures grant { KindKeeps Grant }
+    ensures release { KindKeeps Release }
+    ensures convert { KindKeeps Convert }
+{}
+
+/// So does reading under a lock, and so does deciding a call.
+pub fn readings_leave_the_world()
+    ensures depth { KindKeeps ReadDepth }
+    ensures entry { KindKeeps ReadEntry }
+    ensures look { KindKeeps Look }
+    ensures decide { KindKeeps Decide }
+{}
+
+/// So does a hop, whose next page leads where its page led.
+pub fn a_hop_leaves_the_file()
+    ensures { KindKeeps Hop }
 {}

@@ -7,7 +7,10 @@ mod laws;
 mod progress;
 
 pub use kind::Kind;
-pub use laws::others_keep_what_they_know;
+pub use laws::{
+    a_hop_leaves_the_file, locks_leave_the_file, others_keep_what_they_know,
+    readings_leave_the_world,
+};
 pub use progress::Progress;
 
 #[cfg(test)]
