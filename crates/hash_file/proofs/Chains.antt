@@ -46,21 +46,3 @@ pub bucket_unique : (s : Store) (ns : List ℕ) (k m n : ℕ) → IsChain s ns �
 bucket_unique s ns k m n h b d =
     tiles_unique (range_at s) ns 0 POSITIONS (position_of k) m n h.tiled b.0 d.0 (has_position s ns k m h b)
     (has_position s ns k n h d)
-
--- a file that agrees with another on these pages, and is no less deep
-pub record AgreesOn (s t : Store) (ns : List ℕ) : Type 0 where
-  pub layout : t.layout ≡ s.layout
-  pub pages : (n : ℕ) → Contains ns n → page_at t n ≡ page_at s n
-
-pub chain_agrees : (s t : Store) (ns : List ℕ) → AgreesOn s t ns → s.header.depth ≤ t.header.depth → IsChain s ns →
-    IsChain t ns
-chain_agrees s t ns same deeper h = record {
-  linked =
-      let linked = links_same (next_at s) (next_at t) ns s.layout.root 0
-      (λ n c. ap (λ (p : PageKind). (bucket_of p).next) (same.pages n c)) h.linked in
-      rw (same.layout) linked;
-  tiled = tiles_same (range_at s) (range_at t) ns 0 POSITIONS
-      (λ n c. ap (λ (p : PageKind). range_of (bucket_of p)) (same.pages n c)) h.tiled;
-  buckets = λ n c. ap is_bucket (same.pages n c) ∙ h.buckets n c;
-  shallow = λ n c. rw (same.pages n c) (omega (arith, h.shallow n c, deeper));
-}

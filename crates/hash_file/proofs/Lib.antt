@@ -2,3 +2,8 @@ pub mod Lists
 pub mod Chains
 pub mod Lookups
 pub mod Searches
+pub mod Roles
+pub mod Ties
+pub mod Writes
+pub mod Frames
+pub mod WriteRecord

@@ -1,5 +1,5 @@
 -- Lists: how many items pass a test, and what is looked up in records that stand behind others.
-use Rattle.std.proofs.Common.{ℕ, suc, ◌≡◌, ◌≢◌, ◌+◌, ◌==◌, Bool, true, false, cond, Option, Some, None, List, [], ◌∷◌, ◌++◌, arith, refl, sym, ap, ◌∙◌, inl, inr}
+use Rattle.std.proofs.Common.{ℕ, suc, ◌≡◌, ◌≢◌, ◌+◌, ◌==◌, Bool, true, false, cond, Option, Some, None, List, [], ◌∷◌, ◌++◌, arith, refl, sym, ap, subst, ◌∙◌, inl, inr}
 use Rattle.std.specs.List.{All, Contains}
 use Rattle.std.proofs.lemmas.Bool.{cases_eq, ne_eqb, eq-eqb}
 use Rattle.std.proofs.lemmas.List.Elements.{All-head, All-tail}
@@ -9,6 +9,10 @@ use Rattle.bucket_page.specs.Keys.{is_same}
 use Rattle.bucket_page.specs.Records.{Pair, lookup}
 use Rattle.bucket_page.proofs.KeyLaws.{same_is}
 use Rattle.hash_file.specs.Chain.{how_many, times}
+
+-- a list begins with its first item
+pub contains_is : {X : Type 0} {x y : X} (xs : List X) → x ≡ y → Contains (x ∷ xs) y
+contains_is {x = x} xs same = subst (Contains (x ∷ xs)) same (contains_head x xs)
 
 -- ---- how many
 

@@ -1,7 +1,35 @@
-//! Laws of the file: what a search may rely on, and what each change keeps. Each stands on the contract of a function
-//! that does nothing.
+//! Laws of the file: its words, what a search may rely on, and what each change keeps. Each stands on the contract of
+//! a function that does nothing.
 
+ghost use Rattle.hash_file.specs.Laws.{WriteRecordIsOneRecord};
 ghost use Rattle.hash_file.specs.Looks.{EntriesLead, HopsLeadOn, LooksAnswer, StaleDepthsLead};
+ghost use Rattle.hash_file.specs.Words.{ChainIsMet, ChainIsWellFormed, LeadingIsStandingBefore, QuietIsExact, RolesAreOne};
+
+/// Pages that follow one another from the root as a chain are all that next links lead to from there.
+pub fn the_chain_is_what_is_met()
+    ensures { ChainIsMet }
+{}
+
+/// The live buckets end, ascend in bit-reversed order, and have each pseudokey in the range of exactly one, just where
+/// their ranges lie side by side.
+pub fn a_chain_is_well_formed()
+    ensures { ChainIsWellFormed }
+{}
+
+/// Each page from the root on is live, or on the free list, or owned by the change: one of these, and once.
+pub fn each_page_has_one_role()
+    ensures { RolesAreOne }
+{}
+
+/// While no change is under way each entry is the bucket of its index, and each count the number of buckets of its depth.
+pub fn a_quiet_directory_is_exact()
+    ensures { QuietIsExact }
+{}
+
+/// A live bucket leads to a pseudokey just where the pseudokey's bucket is it, or stands behind it on the chain.
+pub fn leading_is_standing_at_or_before()
+    ensures { LeadingIsStandingBefore }
+{}
 
 /// A page that leads to a pseudokey and does not answer for it names one that leads there too, and is one hop nearer.
 /// So a search that stands on a page, be it the one that a merge took off the chain, goes on by next links and
@@ -24,4 +52,9 @@ pub fn a_stale_depth_still_leads()
 /// Each entry of the directory leads to its index, in one hop at most, in each phase of a structure change.
 pub fn an_entry_leads_to_its_bucket()
     ensures { EntriesLead }
+{}
+
+/// A record that is put, replaced or removed in the bucket of its key is all that changes of what the file holds.
+pub fn writing_a_record_changes_one_record()
+    ensures { WriteRecordIsOneRecord }
 {}

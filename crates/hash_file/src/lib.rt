@@ -5,6 +5,8 @@
 mod laws;
 
 pub use laws::{
-    a_hop_leads_on_and_comes_nearer, a_look_answers_what_the_file_holds, a_stale_depth_still_leads,
-    an_entry_leads_to_its_bucket,
+    a_chain_is_well_formed, a_hop_leads_on_and_comes_nearer, a_look_answers_what_the_file_holds,
+    a_quiet_directory_is_exact, a_stale_depth_still_leads, an_entry_leads_to_its_bucket,
+    each_page_has_one_role, leading_is_standing_at_or_before, the_chain_is_what_is_met,
+    writing_a_record_changes_one_record,
 };
