@@ -2,3 +2,5 @@ pub mod StructureLemmas
 pub mod KnownLemmas
 pub mod LockLemmas
 pub mod LockStepLemmas
+pub mod ChangeLemmas
+pub mod RecordStepLemmas

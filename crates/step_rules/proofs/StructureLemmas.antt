@@ -1,10 +1,11 @@
 -- Facts of the structure are told by all of the file but its records.
-use Rattle.std.proofs.Common.{◌≡◌, ℕ, ◌<◌, ◌+◌, ◌-◌, ◌^◌, List, [], ◌∷◌, Bool, true, if◌then◌else◌, nat_le, refl, sym, ap, ◌∙◌, subst, inl, inr}
+use Rattle.std.proofs.Common.{◌≡◌, ℕ, zero, suc, ◌<◌, ◌+◌, ◌-◌, ◌^◌, List, [], ◌∷◌, Bool, true, if◌then◌else◌, nat_le, refl, sym, ap, ◌∙◌, subst, inl, inr}
 use Rattle.std.specs.List.{Contains}
 use Rattle.positions.specs.declared.range.Range.{Range}
 use Rattle.positions.specs.Positions.{position_of}
 use Rattle.positions.specs.Ranges.{start_of, Covers}
 use Rattle.positions.specs.Tiles.{begun}
+use Rattle.positions.specs.Links.{met_from}
 use Rattle.bucket_page.specs.declared.page.PageKind.{PageKind}
 use Rattle.bucket_page.specs.declared.page.PageKind.TheVariants as kinds
 use Rattle.hash_file.specs.Store.{Store, is_bucket, bucket_of, range_of, page_at, entry_at, has_bucket, range_at, next_at}
@@ -39,6 +40,26 @@ begun-same f g [] p same = refl
 begun-same f g (n ∷ ns) p same =
     ap (λ (r : Range). (if nat_le (start_of r) p then 1 else 0) + begun f ns p) (same n)
     ∙ ap (λ (rest : ℕ). (if nat_le (start_of (g n)) p then 1 else 0) + rest) (begun-same f g ns p same)
+
+-- what is met by next links alone
+met_from-same : (live live' : ℕ → Bool) (next next' : ℕ → ℕ) (fuel n : ℕ) → ((m : ℕ) → live' m ≡ live m) →
+    ((m : ℕ) → next' m ≡ next m) → met_from live' next' fuel n ≡ met_from live next fuel n
+met_from-same live live' next next' zero n lives nexts = refl
+met_from-same live live' next next' (suc fuel) n lives nexts =
+    ap (λ (b : Bool). if b then n ∷ met_from live' next' fuel (next' n) else []) (lives n)
+    ∙ ap (λ (rest : List ℕ). if live n then n ∷ rest else [])
+        (ap (met_from live' next' fuel) (nexts n) ∙ met_from-same live live' next next' fuel (next n) lives nexts)
+
+-- pages that differ in records alone have one chain
+pub chain-same : (s : Store) (pages : List PageKind) →
+    ((n : ℕ) → bare (page_at (record s { pages = pages }) n) ≡ bare (page_at s n)) →
+    chain (record s { pages = pages }) ≡ chain s
+unfolding chain
+chain-same s pages same =
+    let t : Store = record s { pages = pages } in
+    met_from-same (has_bucket s) (has_bucket t) (next_at s) (next_at t) (2 ^ s.layout.greatest) s.layout.root
+    (λ n. sym (is_bucket-bare (page_at t n)) ∙ ap is_bucket (same n) ∙ is_bucket-bare (page_at s n))
+    (λ n. sym (next-bare (page_at t n)) ∙ ap (λ (p : PageKind). (bucket_of p).next) (same n) ∙ next-bare (page_at s n))
 
 abbrev distance_by : ℕ → ℕ → Bool → ℕ
 distance_by there here b = there - here + (if b then 0 else 1)

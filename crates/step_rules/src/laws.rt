@@ -1,6 +1,6 @@
 //! The laws of steps. Each stands on the contract of a function that does nothing.
 
-ghost use Rattle.step_rules.specs.declared.kind.Kind.TheVariants.{Grant, Release, ReadDepth, ReadEntry, Look, Hop, Decide, Convert};
+ghost use Rattle.step_rules.specs.declared.kind.Kind.TheVariants.{Grant, Release, ReadDepth, ReadEntry, Look, Hop, WriteRecord, Decide, Convert};
 ghost use Rattle.step_rules.specs.Laws.{OthersKnow, KindKeeps};
 
 /// What a seat knows is still so after a step of another seat.
@@ -27,4 +27,10 @@ pub fn readings_leave_the_world()
 /// So does a hop, whose next page leads where its page led.
 pub fn a_hop_leaves_the_file()
     ensures { KindKeeps Hop }
+{}
+
+/// A record that is written leaves every other record, the structure of the file, and each page that another seat
+/// may write.
+pub fn a_written_record_leaves_all_else()
+    ensures { KindKeeps WriteRecord }
 {}

@@ -8,7 +8,7 @@ mod progress;
 
 pub use kind::Kind;
 pub use laws::{
-    a_hop_leaves_the_file, locks_leave_the_file, others_keep_what_they_know,
+    a_hop_leaves_the_file, a_written_record_leaves_all_else, locks_leave_the_file, others_keep_what_they_know,
     readings_leave_the_world,
 };
 pub use progress::Progress;
