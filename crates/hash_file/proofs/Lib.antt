@@ -7,3 +7,7 @@ pub mod Ties
 pub mod Writes
 pub mod Frames
 pub mod WriteRecord
+pub mod Headed
+pub mod TakePage
+pub mod Doubling
+pub mod Retargeting

@@ -1,7 +1,7 @@
 //! Laws of the file: its words, what a search may rely on, and what each change keeps. Each stands on the contract of
 //! a function that does nothing.
 
-ghost use Rattle.hash_file.specs.Laws.{WriteRecordIsOneRecord};
+ghost use Rattle.hash_file.specs.Laws.{CopyDirectoryKeeps, LinkFreeKeeps, LowerDepthKeeps, RaiseDepthKeeps, RetargetKeepsMerge, RetargetKeepsSplit, SetCountsKeepsMerge, SetCountsKeepsSplit, TakePageKeeps, WriteRecordIsOneRecord};
 ghost use Rattle.hash_file.specs.Looks.{EntriesLead, HopsLeadOn, LooksAnswer, StaleDepthsLead};
 ghost use Rattle.hash_file.specs.Words.{ChainIsMet, ChainIsWellFormed, LeadingIsStandingBefore, QuietIsExact, RolesAreOne};
 
@@ -57,4 +57,50 @@ pub fn an_entry_leads_to_its_bucket()
 /// A record that is put, replaced or removed in the bucket of its key is all that changes of what the file holds.
 pub fn writing_a_record_changes_one_record()
     ensures { WriteRecordIsOneRecord }
+{}
+
+/// TakePage: the first free page is owned by a split that begins. The file stays sound, holds what it held, and each page
+/// leads where it led; so with each change below, but where it says more.
+pub fn taking_a_page_keeps_the_file()
+    ensures { TakePageKeeps }
+{}
+
+/// CopyDirectory: one page of the directory gets its part of the upper half.
+pub fn copying_the_directory_keeps_the_file()
+    ensures { CopyDirectoryKeeps }
+{}
+
+/// RaiseDepth: once the upper half is the lower half again the directory is twice as long.
+pub fn raising_the_depth_keeps_the_file()
+    ensures { RaiseDepthKeeps }
+{}
+
+/// Retarget, in a split: on one page of the directory the entries of the upper half come to name the new bucket.
+pub fn retargeting_keeps_a_split()
+    ensures { RetargetKeepsSplit }
+{}
+
+/// SetCounts, in a split: once all entries of the upper half name the new bucket, the change is at its end.
+pub fn setting_the_counts_ends_a_split()
+    ensures { SetCountsKeepsSplit }
+{}
+
+/// Retarget, in a merge: on one page of the directory the entries of the upper half come to name the left bucket.
+pub fn retargeting_keeps_a_merge()
+    ensures { RetargetKeepsMerge }
+{}
+
+/// SetCounts, in a merge: once all entries of the upper half name the left bucket, no entry names the tombstone.
+pub fn setting_the_counts_drains_a_merge()
+    ensures { SetCountsKeepsMerge }
+{}
+
+/// LinkFree: the freed page is the first on the free list, and the change is at its end.
+pub fn linking_the_freed_page_ends_a_merge()
+    ensures { LinkFreeKeeps }
+{}
+
+/// LowerDepth: where no bucket is as deep as the directory, it is half as long.
+pub fn lowering_the_depth_keeps_the_file()
+    ensures { LowerDepthKeeps }
 {}

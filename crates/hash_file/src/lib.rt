@@ -7,6 +7,9 @@ mod laws;
 pub use laws::{
     a_chain_is_well_formed, a_hop_leads_on_and_comes_nearer, a_look_answers_what_the_file_holds,
     a_quiet_directory_is_exact, a_stale_depth_still_leads, an_entry_leads_to_its_bucket,
-    each_page_has_one_role, leading_is_standing_at_or_before, the_chain_is_what_is_met,
-    writing_a_record_changes_one_record,
+    copying_the_directory_keeps_the_file, each_page_has_one_role, leading_is_standing_at_or_before,
+    linking_the_freed_page_ends_a_merge, lowering_the_depth_keeps_the_file,
+    raising_the_depth_keeps_the_file, retargeting_keeps_a_merge, retargeting_keeps_a_split,
+    setting_the_counts_drains_a_merge, setting_the_counts_ends_a_split,
+    taking_a_page_keeps_the_file, the_chain_is_what_is_met, writing_a_record_changes_one_record,
 };
