@@ -15,13 +15,15 @@ use Rattle.page_locks.specs.Table.{held}
 use Rattle.page_locks.proofs.WriterLemmas.{one_writer}
 use Rattle.hash_file.specs.Store.{Store, page_at, has_bucket, range_at, next_at}
 use Rattle.hash_file.specs.Chain.{chain}
-use Rattle.hash_file.specs.Change.{Change, Quiet, aside, busy}
+use Rattle.hash_file.specs.Change.{Change, Quiet, aside, busy, owned}
 use Rattle.hash_file.specs.Search.{reach, Leads}
 use Rattle.hash_file.specs.Sound.{IsSound}
-use Rattle.hash_file.specs.Kept.{KeepsContents}
+use Rattle.hash_file.specs.Kept.{KeepsContents, Keeps}
+use Rattle.hash_file.proofs.Roles.{live_not_owned}
 use Rattle.step_rules.specs.World.{World, gone_on, IsHeld, MayAim, IsReached}
 use Rattle.step_rules.specs.Sound.{IsSoundWorld, IsWrittenBy}
 use Rattle.step_rules.specs.Leaves.{Leaves}
+use Rattle.step_rules.specs.PageSteps.{Changes}
 use Rattle.step_rules.specs.Does.{KeepsOthers}
 use Rattle.step_rules.proofs.LockLemmas.{IsHeld-writer}
 
@@ -112,3 +114,36 @@ module _ (hash : RecordKey → ℕ) (seat : ℕ) (old : World) (sound : IsSoundW
       records = λ key free. fits.contents key;
     };
   }
+
+-- ---- a step by the rules of one kind
+module _ (hash : RecordKey → ℕ) (seat : ℕ) (old new : World) (sound : IsSoundWorld hash old) (c : Change) (t : Store) (d : Change)
+    (changes : Changes seat c t d old new) where
+  -- the file is sound in the phase that the kind asks for
+  pub file : IsSound hash old.store c
+  file = subst (IsSound hash old.store) changes.phase sound.file
+
+  pub close : Fits hash seat old t d → KeepsOthers hash seat old new
+  close fits = subst (KeepsOthers hash seat old) (sym changes.is)
+      (KeepsOthers-change hash seat old sound changes.leader t d fits)
+
+  -- where the change keeps all leading, it is left to say what it does to pages
+  pub close_kept : Keeps hash old.store c t d →
+      ((i n : ℕ) → i ≢ seat → IsWriter old.locks i (Page n) → page_at t n ≡ page_at old.store n) →
+      ((i n : ℕ) → i ≢ seat → IsWriter old.locks i (Page n) → Contains (chain old.store) n → Contains (aside d) n → ⊥) →
+      ((i : ℕ) → i ≢ seat → IsHeld old.locks i Directory → old.store.header.depth ≤ t.header.depth) →
+      ((page : ℕ) → Contains (busy d) page → Contains (chain t) page → IsWriter old.locks seat (Page page)) →
+      KeepsOthers hash seat old new
+  close_kept keeps pages aside_free depth guarded = close (record {
+    file = keeps.sound;
+    contents = keeps.contents;
+    leads = λ i n k apart aim leads.
+        keeps.leads n k (subst (λ (e : Change). Leads old.store e n k) changes.phase leads);
+    pages = pages;
+    aside = aside_free;
+    depth = depth;
+    guarded = guarded;
+  })
+
+  -- a page that the change owned before it is not live
+  pub not_live : (n m : ℕ) → Contains (owned c) m → Contains (chain old.store) n → n ≢ m
+  not_live n m own on = live_not_owned hash old.store c (chain old.store) file n m on own

@@ -4,3 +4,4 @@ pub mod LockLemmas
 pub mod LockStepLemmas
 pub mod ChangeLemmas
 pub mod RecordStepLemmas
+pub mod SplitStepLemmas
