@@ -5,3 +5,4 @@ pub mod LockStepLemmas
 pub mod ChangeLemmas
 pub mod RecordStepLemmas
 pub mod SplitStepLemmas
+pub mod MergeStepLemmas
