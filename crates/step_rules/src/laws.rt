@@ -1,6 +1,6 @@
 //! The laws of steps. Each stands on the contract of a function that does nothing.
 
-ghost use Rattle.step_rules.specs.declared.kind.Kind.TheVariants.{Grant, Release, ReadDepth, ReadEntry, Look, Hop, WriteRecord, Decide, Convert};
+ghost use Rattle.step_rules.specs.declared.kind.Kind.TheVariants.{Grant, Release, ReadDepth, ReadEntry, Look, Hop, WriteRecord, Decide, TakePage, CopyDirectory, RaiseDepth, Retarget, SetCounts, Convert, LinkFree, LowerDepth};
 ghost use Rattle.step_rules.specs.Laws.{OthersKnow, KindKeeps};
 
 /// What a seat knows is still so after a step of another seat.
@@ -33,4 +33,23 @@ pub fn a_hop_leaves_the_file()
 /// may write.
 pub fn a_written_record_leaves_all_else()
     ensures { KindKeeps WriteRecord }
+{}
+
+/// The steps of a doubling, and the first of a split, leave what the others know: their pages lead where they led.
+pub fn a_doubling_leaves_what_others_know()
+    ensures take { KindKeeps TakePage }
+    ensures copy { KindKeeps CopyDirectory }
+    ensures raise { KindKeeps RaiseDepth }
+{}
+
+/// So do the last steps of a split, and those of a merge that bring the directory up to date.
+pub fn a_directory_is_brought_up_to_date_beside_others()
+    ensures retarget { KindKeeps Retarget }
+    ensures counts { KindKeeps SetCounts }
+{}
+
+/// So do the last steps of a merge and a halving. The depth falls while no other seat is in the directory.
+pub fn a_halving_leaves_what_others_know()
+    ensures link { KindKeeps LinkFree }
+    ensures lower { KindKeeps LowerDepth }
 {}

@@ -8,8 +8,9 @@ mod progress;
 
 pub use kind::Kind;
 pub use laws::{
-    a_hop_leaves_the_file, a_written_record_leaves_all_else, locks_leave_the_file, others_keep_what_they_know,
-    readings_leave_the_world,
+    a_directory_is_brought_up_to_date_beside_others, a_doubling_leaves_what_others_know,
+    a_halving_leaves_what_others_know, a_hop_leaves_the_file, a_written_record_leaves_all_else,
+    locks_leave_the_file, others_keep_what_they_know, readings_leave_the_world,
 };
 pub use progress::Progress;
 
