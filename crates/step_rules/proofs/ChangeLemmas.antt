@@ -1,6 +1,6 @@
 -- A change of the file by the seat that may write the directory keeps the world sound, and leaves the others what
 -- they know, where the file stays sound and the change does to pages what it may.
-use Rattle.std.proofs.Common.{◌≡◌, ◌≢◌, ◌≤◌, ◌⊎◌, ℕ, List, Bool, true, false, if◌then◌else◌, Some, refl, sym, ap, ◌∙◌, subst, inl, inr, arith}
+use Rattle.std.proofs.Common.{◌≡◌, ◌≢◌, ◌≤◌, ◌⊎◌, ℕ, List, Bool, true, false, if◌then◌else◌, Option, Some, refl, sym, ap, ◌∙◌, subst, inl, inr, arith}
 use Rattle.std.proofs.lemmas.Bool.{cases_eq, true≢false}
 use Rattle.std.specs.List.{Contains}
 use Rattle.positions.specs.declared.range.Range.{Range}
@@ -22,6 +22,8 @@ use Rattle.hash_file.specs.Kept.{KeepsContents, Keeps}
 use Rattle.hash_file.proofs.Roles.{live_not_owned}
 use Rattle.step_rules.specs.World.{World, gone_on, IsHeld, MayAim, IsReached}
 use Rattle.step_rules.specs.Sound.{IsSoundWorld, IsWrittenBy}
+use Rattle.queue_records.specs.Spelling.{counter_key}
+use Rattle.step_rules.specs.Ids.{next_in, queue_record, HasKeyIn, KeepsIds}
 use Rattle.step_rules.specs.Leaves.{Leaves}
 use Rattle.step_rules.specs.PageSteps.{Changes}
 use Rattle.step_rules.specs.Does.{KeepsOthers}
@@ -58,6 +60,14 @@ pub other_page : (hash : RecordKey → ℕ) (w : World) (i j m n : ℕ) → IsSo
 other_page hash w i j m n sound apart mine theirs same =
     other_writer hash w i j (Page m) sound apart mine (subst (λ (x : ℕ). IsWriter w.locks j (Page x)) (sym same) theirs)
 
+-- where the file holds what it held, ids and keys of queues stay
+pub KeepsIds-kept : (seat : ℕ) (old new : World) → KeepsContents old.store new.store → KeepsIds seat old new
+KeepsIds-kept seat old new same = record {
+  next = inl (ap next_in (same counter_key));
+  keys = λ id key below has.
+      subst (λ (value : Option (List ℕ)). HasKeyIn value id key) (sym (same (queue_record id))) has;
+}
+
 -- what such a change has to keep
 pub record Fits (hash : RecordKey → ℕ) (seat : ℕ) (old : World) (t : Store) (d : Change) : Type 0 where
   pub file : IsSound hash t d
@@ -89,7 +99,7 @@ module _ (hash : RecordKey → ℕ) (seat : ℕ) (old : World) (sound : IsSoundW
   live : (i n : ℕ) → i ≢ seat → IsWriter old.locks i (Page n) → Contains (chain old.store) n → Contains (chain t) n
   live i n apart w on =
       elim (stands_led old.store t old.change d n
-          (λ k. fits.leads i n k apart (inr (IsHeld-writer old.locks i (Page n) w))) (inl on)) [
+      (λ k. fits.leads i n k apart (inr (IsHeld-writer old.locks i (Page n) w))) (inl on)) [
         | inl still ↦ still
         | inr off ↦ absurd (fits.aside i n apart w on off)
       ]
@@ -112,6 +122,7 @@ module _ (hash : RecordKey → ℕ) (seat : ℕ) (old : World) (sound : IsSoundW
       leads = fits.leads;
       depth = fits.depth;
       records = λ key free. fits.contents key;
+      ids = KeepsIds-kept seat old changed fits.contents;
     };
   }
 

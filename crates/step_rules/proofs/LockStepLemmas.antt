@@ -47,6 +47,7 @@ Leaves-locks seat w t seats rows = record {
   leads = λ i n k apart aim leads. leads;
   depth = λ i apart there. omega arith;
   records = λ key free. refl;
+  ids = record { next = inl refl; keys = λ id key below has. has };
 }
 
 pub KeepsOthers-same : (hash : RecordKey → ℕ) (seat : ℕ) (old new : World) → IsSoundWorld hash old → new ≡ old →
@@ -89,11 +90,13 @@ module _ (hash : RecordKey → ℕ) (seat : ℕ) (old : World) (sound : IsSoundW
       lawful = IsLawful-grant old.locks seat sound.lawful g.seated g.name g.kind g.room g.fresh g.free;
       led = λ none. sound.led (HasNoWriter-before_grant old.locks seat g.seated g.name g.kind Directory g.fresh none);
       guarded = λ page there on.
-          let by = sound.guarded page there on in
-          (by.0, record {
-            directory = writer_stays g.seated g.name g.kind g.fresh by.0 Directory by.1.directory;
-            page_too = writer_stays g.seated g.name g.kind g.fresh by.0 (Page page) by.1.page_too;
-          });
+          let by = sound.guarded page there on in (
+            by.0,
+            record {
+              directory = writer_stays g.seated g.name g.kind g.fresh by.0 Directory by.1.directory;
+              page_too = writer_stays g.seated g.name g.kind g.fresh by.0 (Page page) by.1.page_too;
+            },
+          );
       standing = stands g.seated g.name g.kind g.fresh g.aimed;
     };
     leaves = Leaves-locks seat old (with_lock old.locks seat g.name g.kind)
@@ -145,21 +148,23 @@ module _ (hash : RecordKey → ℕ) (seat : ℕ) (old : World) (sound : IsSoundW
           (i : ℕ) × IsWrittenBy left i page
       guarded page there on =
           let by = sound.guarded page there on in
-          let own = λ (e : by.0 ≡ seat). subst (λ (x : ℕ). IsWriter old.locks x Directory) e by.1.directory in
-          (by.0, record {
-            directory = stays by.0 Directory
-                (λ e same. none_busy old.change page (r.done same (own e)).quiet there) by.1.directory;
-            page_too = stays by.0 (Page page) (λ e same. r.idle page same (own e) there) by.1.page_too;
-          })
+          let own = λ (e : by.0 ≡ seat). subst (λ (x : ℕ). IsWriter old.locks x Directory) e by.1.directory in (
+            by.0,
+            record {
+              directory = stays by.0 Directory
+                  (λ e same. none_busy old.change page (r.done same (own e)).quiet there) by.1.directory;
+              page_too = stays by.0 (Page page) (λ e same. r.idle page same (own e) there) by.1.page_too;
+            },
+          )
 
       -- who may no longer write the directory holds no page
       bare : (i page : ℕ) → IsHeld left i (Page page) → IsWriter old.locks i Directory → IsWriter left i Directory
       bare i page there w = stays i Directory
           (λ e same.
-            let own : IsWriter old.locks seat Directory = subst (λ (x : ℕ). IsWriter old.locks x Directory) e w in
-            let mine : IsHeld left seat (Page page) = subst (λ (x : ℕ). IsHeld left x (Page page)) e there in
-            let kept = held-unreleased old.locks seat r.seated r.name seat (Page page) mine in
-            none_is_not_some (kept ∙ (r.done same own).bare page) mine) w
+          let own : IsWriter old.locks seat Directory = subst (λ (x : ℕ). IsWriter old.locks x Directory) e w in
+          let mine : IsHeld left seat (Page page) = subst (λ (x : ℕ). IsHeld left x (Page page)) e there in
+          let kept = held-unreleased old.locks seat r.seated r.name seat (Page page) mine in
+          none_is_not_some (kept ∙ (r.done same own).bare page) mine) w
 
       standing : (i page : ℕ) → IsHeld left i (Page page) → IsReached old page ⊎ IsWriter left i Directory
       standing i page there =
@@ -229,7 +234,7 @@ module _ (hash : RecordKey → ℕ) (seat : ℕ) (old new : World) (sound : IsSo
   was_writer : IsWriter both.locks seat Directory → IsWriter old.locks seat Directory
   was_writer w =
       ap may_write (sym (held-kept seat further old.locks both.locks
-          (ChangesOnly-grant old.locks seat g.seated further kind) seat Directory (λ e. absurd cc))) ∙ w
+      (ChangesOnly-grant old.locks seat g.seated further kind) seat Directory (λ e. absurd cc))) ∙ w
 
   releases : Releases seat both new
   releases = record {

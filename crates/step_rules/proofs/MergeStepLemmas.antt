@@ -69,7 +69,7 @@ module _ (hash : RecordKey → ℕ) (seat : ℕ) (old new : World) (sound : IsSo
       let c : Change = Linked lower upper whole in
       close_kept hash seat old new sound c t Quiet does.changes
       (set_counts_keeps_split hash old.store lower upper whole
-          (file hash seat old new sound c t Quiet does.changes) does.retargeted)
+      (file hash seat old new sound c t Quiet does.changes) does.retargeted)
       (λ i n apart w. refl)
       (λ i n apart w on off. contains_none n off)
       (λ i apart there. omega arith)
@@ -82,7 +82,7 @@ module _ (hash : RecordKey → ℕ) (seat : ℕ) (old new : World) (sound : IsSo
       let d : Change = Drained lower upper in
       close_kept hash seat old new sound c t d does.changes
       (set_counts_keeps_merge hash old.store lower upper whole
-          (file hash seat old new sound c t d does.changes) does.retargeted)
+      (file hash seat old new sound c t d does.changes) does.retargeted)
       (λ i n apart w. refl)
       (λ i n apart w on off. not_live hash seat old new sound c t d does.changes n n off on refl)
       (λ i apart there. omega arith)
@@ -109,10 +109,10 @@ module _ (hash : RecordKey → ℕ) (seat : ℕ) (old new : World) (sound : IsSo
       let d : Change = Absorbed does.left does.right does.whole in
       close_kept hash seat old new sound Quiet t d does.changes
       (law hash old.store does.left does.right does.whole (file hash seat old new sound Quiet t d does.changes)
-          does.left_on does.right_on does.halves)
+      does.left_on does.right_on does.halves)
       (λ i n apart w. page_other old.store does.left n
-          (kinds.Bucket (joined (bucket_at old.store does.left) (bucket_at old.store does.right)))
-          (other_page hash old i seat n does.left sound apart w does.left_owned))
+      (kinds.Bucket (joined (bucket_at old.store does.left) (bucket_at old.store does.right)))
+      (other_page hash old i seat n does.left sound apart w does.left_owned))
       (λ i n apart w on off. not_aside does.right i n does.right_owned apart w off)
       (λ i apart there. omega arith)
       (λ n there on. elim (contains_cases does.left n (does.right ∷ []) there) [
@@ -131,7 +131,7 @@ module _ (hash : RecordKey → ℕ) (seat : ℕ) (old new : World) (sound : IsSo
       close_kept hash seat old new sound c t d does.changes
       (law hash old.store does.left does.right does.whole (file hash seat old new sound c t d does.changes))
       (λ i n apart w. page_other old.store does.right n (kinds.Tombstone does.left)
-          (other_page hash old i seat n does.right sound apart w does.owned))
+      (other_page hash old i seat n does.right sound apart w does.owned))
       (λ i n apart w on off. not_aside does.right i n does.owned apart w off)
       (λ i apart there. omega arith)
       (λ n there on. absurd (contains_none n there))
@@ -155,7 +155,7 @@ module _ (hash : RecordKey → ℕ) (seat : ℕ) (old new : World) (sound : IsSo
     pub KeepsOthers-write_free : KeepsOthers hash seat old new
     KeepsOthers-write_free =
         let frees = law hash old.store does.left does.right
-            (file hash seat old new sound was freed (Freed does.right) does.changes) in
+        (file hash seat old new sound was freed (Freed does.right) does.changes) in
         close hash seat old new sound was freed (Freed does.right) does.changes (record {
           file = frees.sound;
           contents = frees.contents;

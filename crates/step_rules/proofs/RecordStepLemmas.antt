@@ -26,6 +26,7 @@ use Rattle.hash_file.proofs.WriteRecord.{writes_record}
 use Rattle.step_rules.specs.World.{World, with_store, IsHeld, MayAim, IsReached, guard_of}
 use Rattle.step_rules.specs.Sound.{IsSoundWorld, IsWrittenBy}
 use Rattle.step_rules.specs.Structure.{bare, KeepsStructure}
+use Rattle.step_rules.specs.Ids.{KeepsIds}
 use Rattle.step_rules.specs.Leaves.{Leaves}
 use Rattle.step_rules.specs.PageSteps.{WritesRecord}
 use Rattle.step_rules.specs.Does.{KeepsOthers}
@@ -72,7 +73,7 @@ module _ (hash : RecordKey → ℕ) (seat : ℕ) (old : World) (sound : IsSoundW
         ap (λ (m : ℕ). bare (page_at t m)) here
         ∙ ap bare (page_same s does.page (kinds.Bucket written_here) within)
         ∙ bare-records (page_at s does.page) (written does.write (records_at s does.page))
-            (sound.file.chained.buckets does.page does.home.0)
+        (sound.file.chained.buckets does.page does.home.0)
         ∙ ap (λ (m : ℕ). bare (page_at s m)) (sym here)
   ]
     where
@@ -122,5 +123,6 @@ module _ (hash : RecordKey → ℕ) (seat : ℕ) (old : World) (sound : IsSoundW
       leads = λ i n k apart aim leads. law.leads n k leads;
       depth = λ i apart there. omega arith;
       records = others;
+      ids = subst (KeepsIds seat old) does.is does.ids;
     };
   })

@@ -77,10 +77,10 @@ module _ (hash : RecordKey → ℕ) (seat : ℕ) (old new : World) (sound : IsSo
       let c : Change = Taken does.taken in
       let d : Change = Filled does.split does.taken in
       let keeps = law hash old.store does.split does.taken (file hash seat old new sound c t d does.changes)
-          does.on_chain does.shallow in
+      does.on_chain does.shallow in
       close_kept hash seat old new sound c t d does.changes keeps
       (λ i n apart w. page_other old.store does.taken n (kinds.Bucket (upper_half hash (bucket_at old.store does.split)))
-          (untaken does.taken i n does.changes.phase does.changes.leader apart w))
+      (untaken does.taken i n does.changes.phase does.changes.leader apart w))
       (λ i n apart w on off. contains_none n off)
       (λ i apart there. omega arith)
       (λ page there on. elim (contains_cases does.split page (does.taken ∷ []) there) [
@@ -96,8 +96,8 @@ module _ (hash : RecordKey → ℕ) (seat : ℕ) (old new : World) (sound : IsSo
       close_kept hash seat old new sound c t d does.changes
       (law hash old.store does.split does.filled (file hash seat old new sound c t d does.changes))
       (λ i n apart w. page_other old.store does.split n
-          (kinds.Bucket (lower_half hash does.filled (bucket_at old.store does.split)))
-          (other_page hash old i seat n does.split sound apart w does.owned))
+      (kinds.Bucket (lower_half hash does.filled (bucket_at old.store does.split)))
+      (other_page hash old i seat n does.split sound apart w does.owned))
       (λ i n apart w on off. contains_none n off)
       (λ i apart there. omega arith)
       (λ page there on. absurd (contains_none page there))

@@ -48,7 +48,7 @@ met_from-same live live' next next' zero n lives nexts = refl
 met_from-same live live' next next' (suc fuel) n lives nexts =
     ap (λ (b : Bool). if b then n ∷ met_from live' next' fuel (next' n) else []) (lives n)
     ∙ ap (λ (rest : List ℕ). if live n then n ∷ rest else [])
-        (ap (met_from live' next' fuel) (nexts n) ∙ met_from-same live live' next next' fuel (next n) lives nexts)
+    (ap (met_from live' next' fuel) (nexts n) ∙ met_from-same live live' next next' fuel (next n) lives nexts)
 
 -- pages that differ in records alone have one chain
 pub chain-same : (s : Store) (pages : List PageKind) →
@@ -85,7 +85,7 @@ module _ (old new : World) (keeps : KeepsStructure old new) where
       ap (λ (b : Bool). if b then start_of (range_at new.store n) else start_of further) (has_bucket-kept n)
       ∙ ap (λ (r : Range). if has_bucket old.store n then start_of r else start_of further) (range_at-kept n)
       ∙ ap (λ (r : Range). if has_bucket old.store n then start_of (range_at old.store n) else start_of r)
-          (ap (range_at new.store) (next_at-kept n) ∙ range_at-kept (next_at old.store n))
+      (ap (range_at new.store) (next_at-kept n) ∙ range_at-kept (next_at old.store n))
 
   begun-kept : (ns : List ℕ) (p : ℕ) → begun (range_at new.store) ns p ≡ begun (range_at old.store) ns p
   begun-kept ns p = begun-same (range_at new.store) (range_at old.store) ns p range_at-kept
@@ -105,11 +105,11 @@ module _ (old new : World) (keeps : KeepsStructure old new) where
       let there : ℕ = begun (range_at old.store) (chain old.store) (position_of k) in
       ap (λ (ns : List ℕ). distance_on new.store ns n k) keeps.chain
       ∙ ap (λ (m : ℕ). m - begun (range_at new.store) (chain old.store) (reach new.store n) + last)
-          (begun-kept (chain old.store) (position_of k))
+      (begun-kept (chain old.store) (position_of k))
       ∙ ap (λ (p : ℕ). there - begun (range_at new.store) (chain old.store) p + last) (reach-kept n)
       ∙ ap (λ (m : ℕ). there - m + last) (begun-kept (chain old.store) (reach old.store n))
       ∙ ap (λ (b : Bool). distance_by there (begun (range_at old.store) (chain old.store) (reach old.store n)) b)
-          (has_bucket-kept n)
+      (has_bucket-kept n)
 
   depth-kept : new.store.header.depth ≡ old.store.header.depth
   depth-kept = ap (λ h. h.depth) keeps.header

@@ -3,7 +3,10 @@
 use Rattle.std.specs.Prelude.{ℕ, ◌≡◌, Bool, true, false, List}
 use Rattle.bucket_page.specs.declared.record_key.RecordKey.{RecordKey}
 use Rattle.page_locks.specs.declared.lock.Lock.{Lock}
+use Rattle.page_locks.specs.declared.lock.LockKind.{LockKind}
+use Rattle.page_locks.specs.declared.lock.LockName.{LockName}
 use Rattle.page_locks.specs.declared.lock.LockName.TheVariants.{Directory}
+use Rattle.page_locks.specs.Table.{Opposes}
 use Rattle.step_rules.specs.declared.kind.Kind.{Kind}
 use Rattle.step_rules.specs.declared.kind.Kind.TheVariants.{Grant, Release, ReadDepth, ReadEntry, Look, Hop, WriteRecord, Decide, TakePage, CopyDirectory, RaiseDepth, WriteNew, WriteOld, Retarget, SetCounts, WriteLeft, Tombstone, Convert, WriteFree, LinkFree, LowerDepth}
 use Rattle.step_rules.specs.declared.progress.Progress.{Progress}
@@ -38,10 +41,17 @@ Does hash WriteFree seat old new = WritesFree seat old new
 Does hash LinkFree seat old new = LinksFree seat old new
 Does hash LowerDepth seat old new = LowersDepth seat old new
 
+-- nothing is done, since another seat holds a name in a kind that does not go with the one asked for
+pub record IsBlocked (seat other : ℕ) (old new : World) : Type 0 where
+  pub name : LockName
+  pub kind : LockKind
+  pub opposes : Opposes old.locks seat name kind other
+  pub is : new ≡ old
+
 -- what is done at each answer; after a fault nothing is said of the file
 abbrev pub DoesAt : {F : Type 0} → (RecordKey → ℕ) → Progress F → ℕ → World → World → Type 0
 DoesAt hash (Moved kind) seat old new = Does hash kind seat old new
-DoesAt hash (Blocked other) seat old new = new ≡ old
+DoesAt hash (Blocked other) seat old new = IsBlocked seat other old new
 DoesAt hash (Fault fault) seat old new = Unit {0}
 DoesAt hash Ended seat old new = new ≡ old
 
@@ -63,3 +73,10 @@ pub record Steps {F : Type 0} (hash : RecordKey → ℕ) (seat : ℕ) (did : Pro
   pub keeps : KeepsOthers hash seat old new
   pub knows : Knows seat locks facts new
   pub does : DoesAt hash did seat old new
+
+-- what a machine promises of its step from a place with these locks and facts to one with those
+abbrev pub Keeps : {F : Type 0} → (RecordKey → ℕ) → ℕ → Progress F → List Lock → List Lock → List Known → List Known →
+    World → World → Type 0
+Keeps hash seat did locks locks' facts facts' old new =
+    is_fault did ≡ false → IsSoundWorld hash old → Knows seat locks facts old →
+    Steps hash seat did locks' facts' old new

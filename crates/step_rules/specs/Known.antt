@@ -1,17 +1,18 @@
 -- What a seat may know: one constructor for each shape of fact. Each fact stands beside its anchor, the lock under
 -- which it lives. docs/STEPS.md, "What a seat may know".
-use Rattle.std.specs.Prelude.{ℕ, ◌≡◌, ◌≤◌, List, [], ◌∷◌, Option}
+use Rattle.std.specs.Prelude.{ℕ, ◌≡◌, ◌<◌, ◌≤◌, nat_lt, Bool, List, [], ◌∷◌, Option}
 use Rattle.std.specs.List.{Contains}
 use Rattle.bucket_page.specs.declared.page.PageKind.{PageKind}
 use Rattle.bucket_page.specs.declared.record_key.RecordKey.{RecordKey}
 use Rattle.page_locks.specs.declared.lock.Lock.{Lock}
-use Rattle.page_locks.specs.declared.lock.LockName.TheVariants.{Directory, Page}
-use Rattle.page_locks.specs.Table.{IsSeat, row_of}
+use Rattle.page_locks.specs.declared.lock.LockName.TheVariants.{Queue, Directory, Page}
+use Rattle.page_locks.specs.Table.{Table, IsSeat, row_of}
 use Rattle.page_locks.specs.Writers.{IsWriter}
 use Rattle.hash_file.specs.Store.{page_at}
 use Rattle.hash_file.specs.Chain.{chain, contents}
 use Rattle.hash_file.specs.Search.{Leads}
 use Rattle.step_rules.specs.World.{World, IsHeld, MayAim, guard_of}
+use Rattle.step_rules.specs.Ids.{next_id, HasKey}
 use Rattle.step_rules.specs.Structure.{Structural, IsSo}
 
 pub data Known : Type 0 where
@@ -27,15 +28,35 @@ pub data Known : Type 0 where
   Built : (fact : Structural) → Known
   -- what the file holds at a key
   Told : (key : RecordKey) (value : Option (List ℕ)) → Known
+  -- whether the id was given out
+  Given : (id : ℕ) (given : Bool) → Known
+  -- the id was given out, and its queue, if it is still there, has this key
+  Keyed : (id : ℕ) (key : Option ℕ) → Known
 
--- the seat holds the anchor, and it is so
+-- the lock or the aim under which a fact lives; what was given out stays so
+abbrev pub HasAnchor : Table → ℕ → Known → Type 0
+HasAnchor t seat (Deep depth) = IsHeld t seat Directory
+HasAnchor t seat (LeadsTo page pseudokey) = MayAim t seat page
+HasAnchor t seat (Shows page kind) = IsWriter t seat (Page page)
+HasAnchor t seat (Live page) = IsWriter t seat (Page page)
+HasAnchor t seat (Built fact) = IsWriter t seat Directory
+HasAnchor t seat (Told key value) = IsHeld t seat (guard_of key)
+HasAnchor t seat (Given id given) = IsHeld t seat (Queue id)
+HasAnchor t seat (Keyed id key) = Unit {0}
+
+abbrev pub IsTrueIn : World → Known → Type 0
+IsTrueIn w (Deep depth) = depth ≤ w.store.header.depth
+IsTrueIn w (LeadsTo page pseudokey) = Leads w.store w.change page pseudokey
+IsTrueIn w (Shows page kind) = page_at w.store page ≡ kind
+IsTrueIn w (Live page) = Contains (chain w.store) page
+IsTrueIn w (Built fact) = IsSo w fact
+IsTrueIn w (Told key value) = contents w.store key ≡ value
+IsTrueIn w (Given id given) = nat_lt id (next_id w.store) ≡ given
+IsTrueIn w (Keyed id key) = (id < next_id w.store) × HasKey w.store id key
+
+-- the seat has the anchor, and it is so
 abbrev pub Holds : ℕ → World → Known → Type 0
-Holds seat w (Deep depth) = IsHeld w.locks seat Directory × (depth ≤ w.store.header.depth)
-Holds seat w (LeadsTo page pseudokey) = MayAim w.locks seat page × Leads w.store w.change page pseudokey
-Holds seat w (Shows page kind) = IsWriter w.locks seat (Page page) × (page_at w.store page ≡ kind)
-Holds seat w (Live page) = IsWriter w.locks seat (Page page) × Contains (chain w.store) page
-Holds seat w (Built fact) = IsWriter w.locks seat Directory × IsSo w fact
-Holds seat w (Told key value) = IsHeld w.locks seat (guard_of key) × (contents w.store key ≡ value)
+Holds seat w fact = HasAnchor w.locks seat fact × IsTrueIn w fact
 
 abbrev pub AllHold : ℕ → World → List Known → Type 0
 AllHold seat w [] = Unit {0}

@@ -10,6 +10,7 @@ use Rattle.hash_file.specs.Store.{page_at}
 use Rattle.hash_file.specs.Chain.{chain, contents}
 use Rattle.hash_file.specs.Search.{Leads}
 use Rattle.step_rules.specs.World.{World, IsHeld, MayAim, guard_of}
+use Rattle.step_rules.specs.Ids.{KeepsIds}
 use Rattle.step_rules.specs.Structure.{KeepsStructure}
 
 pub record Leaves (seat : ℕ) (old new : World) : Type 0 where
@@ -34,3 +35,5 @@ pub record Leaves (seat : ℕ) (old new : World) : Type 0 where
   -- a record of which the seat does not hold the name exclusively is as it was
   pub records : (key : RecordKey) → held old.locks seat (guard_of key) ≢ Some Exclusive →
       contents new.store key ≡ contents old.store key
+  -- ids that were given out stay so, and so do the keys of queues
+  pub ids : KeepsIds seat old new

@@ -2,6 +2,7 @@ pub mod Kinds
 pub mod World
 pub mod Sound
 pub mod Structure
+pub mod Ids
 pub mod Known
 pub mod Leaves
 pub mod LockSteps

@@ -14,6 +14,7 @@ use Rattle.hash_file.specs.Change.{Change, Quiet, Taken, Filled, Linked, Absorbe
 use Rattle.hash_file.specs.Changes.{Write, MayWrite, key_of, write_record, take_page, copy_directory, raise_depth, write_new, write_old, retarget, set_counts, split_counts, merge_counts, write_left, write_tombstone, write_free, link_free, lower_depth}
 use Rattle.hash_file.specs.Laws.{IsCopied, IsRetargeted}
 use Rattle.step_rules.specs.World.{World, with_store, gone_on, guard_of}
+use Rattle.step_rules.specs.Ids.{KeepsIds}
 
 -- one record is written in the bucket of its key, under the page's lock and the record's own; who may write the
 -- directory does so only between its changes
@@ -25,6 +26,7 @@ pub record WritesRecord (hash : RecordKey → ℕ) (seat : ℕ) (old new : World
   pub between : IsWriter old.locks seat Directory → old.change ≡ Quiet
   pub home : IsBucketOf old.store (hash (key_of write)) page
   pub may : MayWrite write (records_at old.store page)
+  pub ids : KeepsIds seat old new
   pub is : new ≡ with_store (write_record page write old.store) old
 
 -- the seat that may write the directory makes the file another, and takes the change under way on to phase d
@@ -74,9 +76,9 @@ pub record Retargets (seat : ℕ) (old new : World) : Type 0 where
   pub page : ℕ
   pub whole : Range
   pub changes : Changes seat (Linked lower upper whole)
-          (retarget page (upper_half_of whole) upper old.store) (Linked lower upper whole) old new
+      (retarget page (upper_half_of whole) upper old.store) (Linked lower upper whole) old new
       ⊎ Changes seat (Buried lower upper whole)
-          (retarget page (upper_half_of whole) lower old.store) (Buried lower upper whole) old new
+      (retarget page (upper_half_of whole) lower old.store) (Buried lower upper whole) old new
 
 pub record CountsSplit (lower upper : ℕ) (whole : Range) (seat : ℕ) (old new : World) : Type 0 where
   pub retargeted : IsRetargeted (upper_half_of whole) upper old.store
@@ -125,6 +127,7 @@ pub record WritesFree (seat : ℕ) (old new : World) : Type 0 where
 
 pub record LinksFree (seat : ℕ) (old new : World) : Type 0 where
   pub right : ℕ
+  pub alone : held old.locks seat Directory ≡ Some Exclusive
   pub changes : Changes seat (Freed right) (link_free right old.store) Quiet old new
 
 pub record LowersDepth (seat : ℕ) (old new : World) : Type 0 where
