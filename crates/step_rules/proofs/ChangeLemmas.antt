@@ -74,10 +74,11 @@ pub record Fits (hash : RecordKey → ℕ) (seat : ℕ) (old : World) (t : Store
   pub contents : KeepsContents old.store t
   pub leads : (i n k : ℕ) → i ≢ seat → MayAim old.locks i n → Leads old.store old.change n k → Leads t d n k
   pub pages : (i n : ℕ) → i ≢ seat → IsWriter old.locks i (Page n) → page_at t n ≡ page_at old.store n
-  pub aside : (i n : ℕ) → i ≢ seat → IsWriter old.locks i (Page n) → Contains (chain old.store) n →
+  pub not_aside : (i n : ℕ) → i ≢ seat → IsWriter old.locks i (Page n) → Contains (chain old.store) n →
       Contains (aside d) n → ⊥
   pub depth : (i : ℕ) → i ≢ seat → IsHeld old.locks i Directory → old.store.header.depth ≤ t.header.depth
-  pub guarded : (page : ℕ) → Contains (busy d) page → Contains (chain t) page → IsWriter old.locks seat (Page page)
+  pub guarded : (page : ℕ) → Contains (busy d) page → Contains (chain t) page ⊎ Contains (aside d) page →
+      IsWriter old.locks seat (Page page)
 
 module _ (hash : RecordKey → ℕ) (seat : ℕ) (old : World) (sound : IsSoundWorld hash old)
     (leader : IsWriter old.locks seat Directory) (t : Store) (d : Change) (fits : Fits hash seat old t d) where
@@ -101,7 +102,7 @@ module _ (hash : RecordKey → ℕ) (seat : ℕ) (old : World) (sound : IsSoundW
       elim (stands_led old.store t old.change d n
       (λ k. fits.leads i n k apart (inr (IsHeld-writer old.locks i (Page n) w))) (inl on)) [
         | inl still ↦ still
-        | inr off ↦ absurd (fits.aside i n apart w on off)
+        | inr off ↦ absurd (fits.not_aside i n apart w on off)
       ]
 
   pub KeepsOthers-change : KeepsOthers hash seat old changed
@@ -142,7 +143,8 @@ module _ (hash : RecordKey → ℕ) (seat : ℕ) (old new : World) (sound : IsSo
       ((i n : ℕ) → i ≢ seat → IsWriter old.locks i (Page n) → page_at t n ≡ page_at old.store n) →
       ((i n : ℕ) → i ≢ seat → IsWriter old.locks i (Page n) → Contains (chain old.store) n → Contains (aside d) n → ⊥) →
       ((i : ℕ) → i ≢ seat → IsHeld old.locks i Directory → old.store.header.depth ≤ t.header.depth) →
-      ((page : ℕ) → Contains (busy d) page → Contains (chain t) page → IsWriter old.locks seat (Page page)) →
+      ((page : ℕ) → Contains (busy d) page → Contains (chain t) page ⊎ Contains (aside d) page →
+      IsWriter old.locks seat (Page page)) →
       KeepsOthers hash seat old new
   close_kept keeps pages aside_free depth guarded = close (record {
     file = keeps.sound;
@@ -150,7 +152,7 @@ module _ (hash : RecordKey → ℕ) (seat : ℕ) (old new : World) (sound : IsSo
     leads = λ i n k apart aim leads.
         keeps.leads n k (subst (λ (e : Change). Leads old.store e n k) changes.phase leads);
     pages = pages;
-    aside = aside_free;
+    not_aside = aside_free;
     depth = depth;
     guarded = guarded;
   })

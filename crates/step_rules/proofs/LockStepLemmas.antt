@@ -144,7 +144,7 @@ module _ (hash : RecordKey → ℕ) (seat : ℕ) (old : World) (sound : IsSoundW
             (ChangesOnly-release old.locks seat r.seated r.name) Directory other none)
       ]
 
-      guarded : (page : ℕ) → Contains (busy old.change) page → Contains (chain old.store) page →
+      guarded : (page : ℕ) → Contains (busy old.change) page → IsReached old page →
           (i : ℕ) × IsWrittenBy left i page
       guarded page there on =
           let by = sound.guarded page there on in

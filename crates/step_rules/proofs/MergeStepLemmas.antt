@@ -163,7 +163,7 @@ module _ (hash : RecordKey → ℕ) (seat : ℕ) (old new : World) (sound : IsSo
               (subst (λ (e : Change). Leads old.store e n k) does.changes.phase leads);
           pages = λ i n apart w. page_other old.store does.right n (kinds.Free old.store.header.first_free)
               (other_page hash old i seat n does.right sound apart w (IsWriter-exclusive old.locks seat (Page does.right) does.drained));
-          aside = λ i n apart w on off. contains_none n off;
+          not_aside = λ i n apart w on off. contains_none n off;
           depth = λ i apart there. omega arith;
           guarded = λ page there on. absurd (contains_none page there);
         })

@@ -53,7 +53,7 @@ module _ (hash : RecordKey → ℕ) (seat : ℕ) (old : World) (sound : IsSoundW
   -- the phase does not speak of the page: who makes the change is another, and could not both write it
   idle : Contains (busy old.change) does.page → ⊥
   idle there =
-      let by = sound.guarded does.page there does.home.0 in
+      let by = sound.guarded does.page there (inl does.home.0) in
       elim (cases_eq by.0 seat) [
         | inl own ↦ none_busy old.change does.page
             (does.between (subst (λ (x : ℕ). IsWriter old.locks x Directory) own by.1.directory)) there
@@ -100,7 +100,8 @@ module _ (hash : RecordKey → ℕ) (seat : ℕ) (old : World) (sound : IsSoundW
       file = law.sound;
       lawful = sound.lawful;
       led = sound.led;
-      guarded = λ page there on. sound.guarded page there (subst (λ (ns : List ℕ). Contains ns page) same_chain on);
+      guarded = λ page there on. sound.guarded page there
+          (subst (λ (ns : List ℕ). Contains ns page ⊎ Contains (aside old.change) page) same_chain on);
       standing = λ i page there. elim (sound.standing i page there) [
         | inl reached ↦ inl (stands_led s t old.change old.change page (law.leads page) reached)
         | inr w ↦ inr w

@@ -85,7 +85,10 @@ module _ (hash : RecordKey → ℕ) (seat : ℕ) (old new : World) (sound : IsSo
       (λ i apart there. omega arith)
       (λ page there on. elim (contains_cases does.split page (does.taken ∷ []) there) [
         | inl is ↦ subst (λ (n : ℕ). IsWriter old.locks seat (Page n)) is does.owned
-        | inr own ↦ absurd (live_not_owned hash t d (chain t) keeps.sound page page on own refl)
+        | inr own ↦ elim on [
+          | inl live ↦ absurd (live_not_owned hash t d (chain t) keeps.sound page page live own refl)
+          | inr off ↦ absurd (contains_none page off)
+        ]
       ])
 
   pub KeepsOthers-write_old : WriteOldKeeps → WritesOld hash seat old new → KeepsOthers hash seat old new

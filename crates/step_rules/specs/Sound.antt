@@ -5,7 +5,6 @@ use Rattle.bucket_page.specs.declared.record_key.RecordKey.{RecordKey}
 use Rattle.page_locks.specs.declared.lock.LockName.TheVariants.{Directory, Page}
 use Rattle.page_locks.specs.Table.{Table, IsLawful}
 use Rattle.page_locks.specs.Writers.{IsWriter, HasNoWriter}
-use Rattle.hash_file.specs.Chain.{chain}
 use Rattle.hash_file.specs.Change.{Quiet, busy}
 use Rattle.hash_file.specs.Sound.{IsSound}
 use Rattle.step_rules.specs.World.{World, IsHeld, IsReached}
@@ -22,8 +21,8 @@ pub record IsSoundWorld (hash : RecordKey → ℕ) (w : World) : Type 0 where
   pub lawful : IsLawful w.locks
   -- a change is under way only while a seat may write the directory
   pub led : HasNoWriter w.locks Directory → w.change ≡ Quiet
-  -- a live page whose records the phase speaks of is locked by that seat
-  pub guarded : (page : ℕ) → Contains (busy w.change) page → Contains (chain w.store) page →
+  -- a page whose records the phase speaks of is locked by that seat, where a search may come to it
+  pub guarded : (page : ℕ) → Contains (busy w.change) page → IsReached w page →
       (seat : ℕ) × IsWrittenBy w.locks seat page
   -- a page that a seat holds leads somewhere, but for what the seat has freed that may write the directory
   pub standing : (seat page : ℕ) → IsHeld w.locks seat (Page page) →
