@@ -6,3 +6,4 @@ pub mod ChangeLemmas
 pub mod RecordStepLemmas
 pub mod SplitStepLemmas
 pub mod MergeStepLemmas
+pub mod OwnLemmas

@@ -9,3 +9,4 @@ pub mod LockSteps
 pub mod PageSteps
 pub mod Does
 pub mod Laws
+pub mod Learns
