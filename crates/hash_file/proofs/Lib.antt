@@ -11,3 +11,9 @@ pub mod Headed
 pub mod TakePage
 pub mod Doubling
 pub mod Retargeting
+pub mod OffChain
+pub mod Halves
+pub mod Splitting
+pub mod Merging
+pub mod Contents
+pub mod WaysIn

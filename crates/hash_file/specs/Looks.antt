@@ -1,11 +1,12 @@
 -- What a search may rely on: each hop leads on, each look answers, and what was read before leads still.
-use Rattle.std.specs.Prelude.{ℕ, ◌≡◌, ◌<◌, ◌≤◌, ◌%◌, ◌^◌, true}
+use Rattle.std.specs.Prelude.{ℕ, ◌≡◌, ◌≢◌, ◌<◌, ◌≤◌, ◌%◌, ◌^◌, true}
+use Rattle.std.specs.List.{Contains}
 use Rattle.bucket_page.specs.declared.record_key.RecordKey.{RecordKey}
 use Rattle.bucket_page.specs.Records.{lookup}
 use Rattle.positions.specs.Ranges.{Covers}
-use Rattle.hash_file.specs.Store.{Store, entry_at, has_bucket, range_at, records_at}
+use Rattle.hash_file.specs.Store.{Store, entry_at, has_bucket, range_at, records_at, next_at}
 use Rattle.hash_file.specs.Chain.{chain, contents}
-use Rattle.hash_file.specs.Change.{Change, Quiet}
+use Rattle.hash_file.specs.Change.{Change, Drained}
 use Rattle.hash_file.specs.Search.{Leads, distance, IsNearer}
 use Rattle.hash_file.specs.Sound.{IsSound}
 
@@ -35,3 +36,12 @@ pub record EntryLeads (s : Store) (c : Change) (i : ℕ) : Type 0 where
 abbrev pub EntriesLead : Type 0
 EntriesLead = (hash : RecordKey → ℕ) (s : Store) (c : Change) (i : ℕ) → IsSound hash s c →
     i < 2 ^ s.header.depth → EntryLeads s c i
+
+-- no entry of the directory names page n, and no next link of a live bucket
+pub record HasNoWayIn (s : Store) (n : ℕ) : Type 0 where
+  pub entries : (i : ℕ) → i < 2 ^ s.header.depth → entry_at s i ≢ n
+  pub links : (m : ℕ) → Contains (chain s) m → next_at s m ≢ n
+
+abbrev pub DrainedHasNoWayIn : Type 0
+DrainedHasNoWayIn = (hash : RecordKey → ℕ) (s : Store) (left right : ℕ) → IsSound hash s (Drained left right) →
+    HasNoWayIn s right

@@ -1,9 +1,9 @@
 //! Laws of the file: its words, what a search may rely on, and what each change keeps. Each stands on the contract of
 //! a function that does nothing.
 
-ghost use Rattle.hash_file.specs.Laws.{CopyDirectoryKeeps, LinkFreeKeeps, LowerDepthKeeps, RaiseDepthKeeps, RetargetKeepsMerge, RetargetKeepsSplit, SetCountsKeepsMerge, SetCountsKeepsSplit, TakePageKeeps, WriteRecordIsOneRecord};
-ghost use Rattle.hash_file.specs.Looks.{EntriesLead, HopsLeadOn, LooksAnswer, StaleDepthsLead};
-ghost use Rattle.hash_file.specs.Words.{ChainIsMet, ChainIsWellFormed, LeadingIsStandingBefore, QuietIsExact, RolesAreOne};
+ghost use Rattle.hash_file.specs.Laws.{CopyDirectoryKeeps, LinkFreeKeeps, LowerDepthKeeps, RaiseDepthKeeps, RetargetKeepsMerge, RetargetKeepsSplit, SetCountsKeepsMerge, SetCountsKeepsSplit, TakePageKeeps, WriteFreeKeeps, WriteLeftKeeps, WriteNewKeeps, WriteOldKeeps, WriteRecordIsOneRecord, WriteTombstoneKeeps};
+ghost use Rattle.hash_file.specs.Looks.{DrainedHasNoWayIn, EntriesLead, HopsLeadOn, LooksAnswer, StaleDepthsLead};
+ghost use Rattle.hash_file.specs.Words.{ChainIsMet, ChainIsWellFormed, ContentsArePairs, LeadingIsStandingBefore, QuietIsExact, RolesAreOne};
 
 /// Pages that follow one another from the root as a chain are all that next links lead to from there.
 pub fn the_chain_is_what_is_met()
@@ -103,4 +103,40 @@ pub fn linking_the_freed_page_ends_a_merge()
 /// LowerDepth: where no bucket is as deep as the directory, it is half as long.
 pub fn lowering_the_depth_keeps_the_file()
     ensures { LowerDepthKeeps }
+{}
+
+/// WriteNew: the page that was taken gets the upper half of the old bucket; no link leads to it.
+pub fn writing_the_new_bucket_keeps_the_file()
+    ensures { WriteNewKeeps }
+{}
+
+/// Tombstone: the right page names the left one, and leads wherever that does.
+pub fn burying_the_right_page_keeps_the_file()
+    ensures { WriteTombstoneKeeps }
+{}
+
+/// WriteFree: the right page is free, and alone leads nowhere any more.
+pub fn freeing_the_right_page_keeps_the_file()
+    ensures { WriteFreeKeeps }
+{}
+
+/// WriteOld: the old bucket keeps its lower half, and the new one joins the chain behind it.
+pub fn writing_the_old_bucket_keeps_the_file()
+    ensures { WriteOldKeeps }
+{}
+
+/// WriteLeft: the left of two buddies takes the range and the records of both, and the right one is taken off the chain.
+/// It still answers for its own half, and leads on as the left one does.
+pub fn writing_the_left_bucket_keeps_the_file()
+    ensures { WriteLeftKeeps }
+{}
+
+/// No two records of a sound file have one key, and the value at a key is that of its record.
+pub fn what_a_file_holds_is_its_pairs()
+    ensures { ContentsArePairs }
+{}
+
+/// Once a merge is drained no entry and no next link names the right page: whoever does not stand on it comes there no more.
+pub fn nothing_leads_to_a_drained_page()
+    ensures { DrainedHasNoWayIn }
 {}
