@@ -7,3 +7,4 @@ pub mod RecordStepLemmas
 pub mod SplitStepLemmas
 pub mod MergeStepLemmas
 pub mod OwnLemmas
+pub mod KindLemmas

@@ -16,9 +16,10 @@ use Rattle.hash_file.specs.Chain.{chain}
 use Rattle.hash_file.specs.Change.{Change, Quiet, Linked, Absorbed, Buried, Drained, Freed}
 use Rattle.hash_file.specs.Changes.{retarget, set_counts, split_counts, merge_counts, write_left, write_tombstone, write_free, link_free, lower_depth}
 use Rattle.hash_file.specs.Search.{Leads}
-use Rattle.hash_file.specs.Laws.{WriteLeftKeeps, WriteTombstoneKeeps, WriteFreeKeeps}
 use Rattle.hash_file.proofs.Frames.{page_other}
 use Rattle.hash_file.proofs.TakePage.{link_free_keeps}
+use Rattle.hash_file.proofs.Merging.{write_left_keeps}
+use Rattle.hash_file.proofs.OffChain.{write_tombstone_keeps, write_free_keeps}
 use Rattle.hash_file.proofs.Doubling.{lower_depth_keeps}
 use Rattle.hash_file.proofs.Retargeting.{retarget_keeps_split, retarget_keeps_merge, set_counts_keeps_split, set_counts_keeps_merge}
 use Rattle.step_rules.specs.World.{World, IsHeld, MayAim}
@@ -103,12 +104,12 @@ module _ (hash : RecordKey → ℕ) (seat : ℕ) (old new : World) (sound : IsSo
     | inr none ↦ contains_none n none
   ]
 
-  pub KeepsOthers-write_left : WriteLeftKeeps → WritesLeft seat old new → KeepsOthers hash seat old new
-  KeepsOthers-write_left law does =
+  pub KeepsOthers-write_left : WritesLeft seat old new → KeepsOthers hash seat old new
+  KeepsOthers-write_left does =
       let t : Store = write_left does.left does.right old.store in
       let d : Change = Absorbed does.left does.right does.whole in
       close_kept hash seat old new sound Quiet t d does.changes
-      (law hash old.store does.left does.right does.whole (file hash seat old new sound Quiet t d does.changes)
+      (write_left_keeps hash old.store does.left does.right does.whole (file hash seat old new sound Quiet t d does.changes)
       does.left_on does.right_on does.halves)
       (λ i n apart w. page_other old.store does.left n
       (kinds.Bucket (joined (bucket_at old.store does.left) (bucket_at old.store does.right)))
@@ -123,13 +124,13 @@ module _ (hash : RecordKey → ℕ) (seat : ℕ) (old new : World) (sound : IsSo
         ]
       ])
 
-  pub KeepsOthers-tombstone : WriteTombstoneKeeps → WritesTombstone seat old new → KeepsOthers hash seat old new
-  KeepsOthers-tombstone law does =
+  pub KeepsOthers-tombstone : WritesTombstone seat old new → KeepsOthers hash seat old new
+  KeepsOthers-tombstone does =
       let t : Store = write_tombstone does.left does.right old.store in
       let c : Change = Absorbed does.left does.right does.whole in
       let d : Change = Buried does.left does.right does.whole in
       close_kept hash seat old new sound c t d does.changes
-      (law hash old.store does.left does.right does.whole (file hash seat old new sound c t d does.changes))
+      (write_tombstone_keeps hash old.store does.left does.right does.whole (file hash seat old new sound c t d does.changes))
       (λ i n apart w. page_other old.store does.right n (kinds.Tombstone does.left)
       (other_page hash old i seat n does.right sound apart w does.owned))
       (λ i n apart w on off. not_aside does.right i n does.owned apart w off)
@@ -137,7 +138,7 @@ module _ (hash : RecordKey → ℕ) (seat : ℕ) (old new : World) (sound : IsSo
       (λ n there on. absurd (contains_none n there))
 
   -- ---- a merge that frees its page
-  module _ (law : WriteFreeKeeps) (does : WritesFree seat old new) where
+  module _ (does : WritesFree seat old new) where
     abbrev freed : Store
     freed = write_free does.right old.store
 
@@ -154,7 +155,7 @@ module _ (hash : RecordKey → ℕ) (seat : ℕ) (old new : World) (sound : IsSo
 
     pub KeepsOthers-write_free : KeepsOthers hash seat old new
     KeepsOthers-write_free =
-        let frees = law hash old.store does.left does.right
+        let frees = write_free_keeps hash old.store does.left does.right
         (file hash seat old new sound was freed (Freed does.right) does.changes) in
         close hash seat old new sound was freed (Freed does.right) does.changes (record {
           file = frees.sound;

@@ -19,6 +19,7 @@ use Rattle.hash_file.specs.Chain.{chain, contents}
 use Rattle.hash_file.specs.Change.{Change, Quiet, busy, owned, aside}
 use Rattle.hash_file.specs.Changes.{Write, key_of, value_after, written, write_record}
 use Rattle.hash_file.specs.Search.{Leads}
+use Rattle.hash_file.specs.Kept.{ChangesRecord}
 use Rattle.hash_file.specs.Laws as laws
 use Rattle.hash_file.proofs.Frames.{page_other, page_same}
 use Rattle.hash_file.proofs.Roles.{numbered, live_not_owned}
@@ -127,3 +128,6 @@ module _ (hash : RecordKey → ℕ) (seat : ℕ) (old : World) (sound : IsSoundW
       ids = subst (KeepsIds seat old) does.is does.ids;
     };
   })
+
+  pub changes_record : ChangesRecord does.write old.store new.store
+  changes_record = subst (λ (w : World). ChangesRecord does.write old.store w.store) (sym does.is) law.contents

@@ -13,9 +13,10 @@ use Rattle.hash_file.specs.Chain.{chain}
 use Rattle.hash_file.specs.Change.{Change, Quiet, Taken, Filled, Linked, aside, busy, owned}
 use Rattle.hash_file.specs.Changes.{take_page, copy_directory, raise_depth, write_new, write_old, retarget, set_counts, split_counts}
 use Rattle.hash_file.specs.Sound.{IsSound}
-use Rattle.hash_file.specs.Laws.{WriteNewKeeps, WriteOldKeeps}
 use Rattle.hash_file.proofs.Frames.{page_other}
 use Rattle.hash_file.proofs.TakePage.{take_page_keeps}
+use Rattle.hash_file.proofs.OffChain.{write_new_keeps}
+use Rattle.hash_file.proofs.Splitting.{write_old_keeps}
 use Rattle.hash_file.proofs.Doubling.{copy_directory_keeps, raise_depth_keeps}
 use Rattle.hash_file.proofs.Retargeting.{retarget_keeps_split, set_counts_keeps_split}
 use Rattle.hash_file.proofs.Roles.{live_not_owned}
@@ -71,12 +72,12 @@ module _ (hash : RecordKey → ℕ) (seat : ℕ) (old new : World) (sound : IsSo
     | inl (inr off) ↦ contains_none n (subst (λ (c : Change). Contains (aside c) n) phase off)
   ]
 
-  pub KeepsOthers-write_new : WriteNewKeeps → WritesNew hash seat old new → KeepsOthers hash seat old new
-  KeepsOthers-write_new law does =
+  pub KeepsOthers-write_new : WritesNew hash seat old new → KeepsOthers hash seat old new
+  KeepsOthers-write_new does =
       let t : Store = write_new hash does.split does.taken old.store in
       let c : Change = Taken does.taken in
       let d : Change = Filled does.split does.taken in
-      let keeps = law hash old.store does.split does.taken (file hash seat old new sound c t d does.changes)
+      let keeps = write_new_keeps hash old.store does.split does.taken (file hash seat old new sound c t d does.changes)
       does.on_chain does.shallow in
       close_kept hash seat old new sound c t d does.changes keeps
       (λ i n apart w. page_other old.store does.taken n (kinds.Bucket (upper_half hash (bucket_at old.store does.split)))
@@ -91,13 +92,13 @@ module _ (hash : RecordKey → ℕ) (seat : ℕ) (old new : World) (sound : IsSo
         ]
       ])
 
-  pub KeepsOthers-write_old : WriteOldKeeps → WritesOld hash seat old new → KeepsOthers hash seat old new
-  KeepsOthers-write_old law does =
+  pub KeepsOthers-write_old : WritesOld hash seat old new → KeepsOthers hash seat old new
+  KeepsOthers-write_old does =
       let t : Store = write_old hash does.split does.filled old.store in
       let c : Change = Filled does.split does.filled in
       let d : Change = Linked does.split does.filled (range_at old.store does.split) in
       close_kept hash seat old new sound c t d does.changes
-      (law hash old.store does.split does.filled (file hash seat old new sound c t d does.changes))
+      (write_old_keeps hash old.store does.split does.filled (file hash seat old new sound c t d does.changes))
       (λ i n apart w. page_other old.store does.split n
       (kinds.Bucket (lower_half hash does.filled (bucket_at old.store does.split)))
       (other_page hash old i seat n does.split sound apart w does.owned))

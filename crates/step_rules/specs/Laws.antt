@@ -1,14 +1,17 @@
 -- The laws of steps, each on the contract of a function of src/laws.rt.
-use Rattle.std.specs.Prelude.{ℕ, ◌≢◌}
+use Rattle.std.specs.Prelude.{ℕ, ◌≡◌, ◌≢◌, List, [], ◌∷◌}
 use Rattle.bucket_page.specs.declared.record_key.RecordKey.{RecordKey}
+use Rattle.hash_file.specs.Kept.{KeepsContents, ChangesRecord}
 use Rattle.step_rules.specs.declared.kind.Kind.{Kind}
+use Rattle.step_rules.specs.declared.kind.Kind.TheVariants.{WriteRecord}
 use Rattle.step_rules.specs.World.{World}
 use Rattle.step_rules.specs.Sound.{IsSoundWorld}
 use Rattle.step_rules.specs.Known.{Known, Holds}
 use Rattle.step_rules.specs.Leaves.{Leaves}
+use Rattle.step_rules.specs.PageSteps.{WritesRecord}
 use Rattle.step_rules.specs.Does.{Does, KeepsOthers}
 
--- what seat i knows, through a step of seat j
+-- what seat i knows, through what a step of seat j leaves
 abbrev pub OthersKnow : Type 0
 OthersKnow = (hash : RecordKey → ℕ) (i j : ℕ) (old new : World) (fact : Known) → i ≢ j → IsSoundWorld hash old →
     Leaves j old new → Holds i old fact → Holds i new fact
@@ -17,3 +20,39 @@ OthersKnow = (hash : RecordKey → ℕ) (i j : ℕ) (old new : World) (fact : Kn
 abbrev pub KindKeeps : Kind → Type 0
 KindKeeps kind = (hash : RecordKey → ℕ) (seat : ℕ) (old new : World) → IsSoundWorld hash old →
     Does hash kind seat old new → KeepsOthers hash seat old new
+
+-- only a WriteRecord changes what the file holds
+abbrev pub KindKeepsContents : Kind → Type 0
+KindKeepsContents kind = (hash : RecordKey → ℕ) (seat : ℕ) (old new : World) → IsSoundWorld hash old →
+    kind ≢ WriteRecord → Does hash kind seat old new → KeepsContents old.store new.store
+
+-- and that one record of it
+abbrev pub WriteChangesOneRecord : Type 0
+WriteChangesOneRecord = (hash : RecordKey → ℕ) (seat : ℕ) (old new : World) (does : WritesRecord hash seat old new) →
+    IsSoundWorld hash old → ChangesRecord does.write old.store new.store
+
+-- one seat's step of a kind
+pub record Move : Type 0 where
+  pub seat : ℕ
+  pub kind : Kind
+
+-- the moves lead from one world to another, each from where the one before it led
+abbrev pub LeadAlong : (RecordKey → ℕ) → List Move → World → World → Type 0
+LeadAlong hash [] old new = new ≡ old
+LeadAlong hash (move ∷ moves) old new =
+    (next : World) × Does hash move.kind move.seat old next × LeadAlong hash moves next new
+
+-- none of the moves is of this seat
+abbrev pub StandsStill : ℕ → List Move → Type 0
+StandsStill i [] = Unit {0}
+StandsStill i (move ∷ moves) = (i ≢ move.seat) × StandsStill i moves
+
+-- in every schedule the world stays sound
+abbrev pub SchedulesKeepSound : Type 0
+SchedulesKeepSound = (hash : RecordKey → ℕ) (moves : List Move) (old new : World) → IsSoundWorld hash old →
+    LeadAlong hash moves old new → IsSoundWorld hash new
+
+-- and a seat that stands still knows what it knew
+abbrev pub SchedulesKeepKnowledge : Type 0
+SchedulesKeepKnowledge = (hash : RecordKey → ℕ) (moves : List Move) (old new : World) (i : ℕ) (fact : Known) →
+    IsSoundWorld hash old → LeadAlong hash moves old new → StandsStill i moves → Holds i old fact → Holds i new fact

@@ -9,9 +9,8 @@ mod progress;
 
 pub use kind::Kind;
 pub use laws::{
-    a_directory_is_brought_up_to_date_beside_others, a_doubling_leaves_what_others_know,
-    a_halving_leaves_what_others_know, a_hop_leaves_the_file, a_written_record_leaves_all_else,
-    locks_leave_the_file, others_keep_what_they_know, readings_leave_the_world,
+    each_kind_leaves_what_others_know, every_schedule_keeps_what_is_known,
+    only_a_written_record_changes_what_the_file_holds, others_keep_what_they_know,
 };
 pub use learns::{
     a_freed_page_is_nobodys, a_hop_is_led_on, a_look_tells_what_the_file_holds,
