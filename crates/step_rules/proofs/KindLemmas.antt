@@ -75,12 +75,12 @@ module _ (hash : RecordKey → ℕ) (seat : ℕ) (old new : World) (sound : IsSo
         let c : Change = Linked does.lower does.upper does.whole in
         let t : Store = retarget does.page (upper_half_of does.whole) does.upper old.store in
         changed c t c split (retarget_keeps_split hash old.store does.lower does.upper does.whole does.page
-            (file hash seat old new sound c t c split)).contents
+        (file hash seat old new sound c t c split)).contents
     | inr merge ↦
         let c : Change = Buried does.lower does.upper does.whole in
         let t : Store = retarget does.page (upper_half_of does.whole) does.lower old.store in
         changed c t c merge (retarget_keeps_merge hash old.store does.lower does.upper does.whole does.page
-            (file hash seat old new sound c t c merge)).contents
+        (file hash seat old new sound c t c merge)).contents
   ]
 
   counts : SetsCounts seat old new → KeepsContents old.store new.store
@@ -89,13 +89,13 @@ module _ (hash : RecordKey → ℕ) (seat : ℕ) (old new : World) (sound : IsSo
         let c : Change = Linked does.lower does.upper does.whole in
         let t : Store = set_counts (split_counts does.whole.depth old.store.header.counts) old.store in
         changed c t Quiet split.changes (set_counts_keeps_split hash old.store does.lower does.upper does.whole
-            (file hash seat old new sound c t Quiet split.changes) split.retargeted).contents
+        (file hash seat old new sound c t Quiet split.changes) split.retargeted).contents
     | inr merge ↦
         let c : Change = Buried does.lower does.upper does.whole in
         let d : Change = Drained does.lower does.upper in
         let t : Store = set_counts (merge_counts does.whole.depth old.store.header.counts) old.store in
         changed c t d merge.changes (set_counts_keeps_merge hash old.store does.lower does.upper does.whole
-            (file hash seat old new sound c t d merge.changes) merge.retargeted).contents
+        (file hash seat old new sound c t d merge.changes) merge.retargeted).contents
   ]
 
 pub kind_keeps_contents : (kind : Kind) → KindKeepsContents kind
@@ -132,7 +132,7 @@ kind_keeps_contents WriteNew hash seat old new sound other does =
     let d : Change = Filled does.split does.taken in
     changed hash seat old new sound c t d does.changes
     (write_new_keeps hash old.store does.split does.taken (file hash seat old new sound c t d does.changes)
-        does.on_chain does.shallow).contents
+    does.on_chain does.shallow).contents
 kind_keeps_contents WriteOld hash seat old new sound other does =
     let t : Store = write_old hash does.split does.filled old.store in
     let c : Change = Filled does.split does.filled in
@@ -146,7 +146,7 @@ kind_keeps_contents WriteLeft hash seat old new sound other does =
     let d : Change = Absorbed does.left does.right does.whole in
     changed hash seat old new sound Quiet t d does.changes
     (write_left_keeps hash old.store does.left does.right does.whole (file hash seat old new sound Quiet t d does.changes)
-        does.left_on does.right_on does.halves).contents
+    does.left_on does.right_on does.halves).contents
 kind_keeps_contents Tombstone hash seat old new sound other does =
     let t : Store = write_tombstone does.left does.right old.store in
     let c : Change = Absorbed does.left does.right does.whole in

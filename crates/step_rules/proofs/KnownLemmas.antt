@@ -72,8 +72,8 @@ module _ (hash : RecordKey → ℕ) (i j : ℕ) (old new : World) (apart : i ≢
       still_given (inr gives) =
           ap (nat_lt id) gives.next
           ∙ below_next id (next_id old.store)
-              (λ e. not_exclusive old i j (Queue id) sound.lawful.pairs apart h.0
-              (ap (λ (n : ℕ). held old.locks j (Queue n)) e ∙ gives.owned))
+          (λ e. not_exclusive old i j (Queue id) sound.lawful.pairs apart h.0
+          (ap (λ (n : ℕ). held old.locks j (Queue n)) e ∙ gives.owned))
           ∙ h.1
   Holds-kept (Keyed id key) h = (tt, (still_below leaves.ids.next, leaves.ids.keys id key h.1.0 h.1.1))
     where

@@ -8,3 +8,4 @@ pub mod SplitStepLemmas
 pub mod MergeStepLemmas
 pub mod OwnLemmas
 pub mod KindLemmas
+pub mod RestLemmas

@@ -51,7 +51,7 @@ pub entry_read_leads : (hash : RecordKey → ℕ) (seat : ℕ) (w : World) (d k 
 entry_read_leads hash seat w d k sound deep =
     let i : ℕ = k % 2 ^ d in
     let entry = entries_lead hash w.store w.change (chain w.store) (entry_at w.store i) i sound.file
-        (sound.file.entries i (low_bits_below k d w.store.header.depth deep.1)) in
+    (sound.file.entries i (low_bits_below k d w.store.header.depth deep.1)) in
     (inl deep.0, stale_depths_lead w.store w.change (entry_at w.store i) k d entry.leads)
 
 pub look_tells : (hash : RecordKey → ℕ) (seat : ℕ) (w : World) (page : ℕ) (key : RecordKey) → IsSoundWorld hash w →
@@ -95,14 +95,14 @@ module _ (hash : RecordKey → ℕ) (seat : ℕ) (w : World) (page k : ℕ) (sou
       (subst (λ (c : Change). Contains (aside c) page) (sym is) off)
   not_off (Buried left right whole) is answers off =
       let p : IsBuried w.store (chain w.store) left right whole =
-          subst (HasPhase hash w.store (chain w.store)) is sound.file.phase in
+      subst (HasPhase hash w.store (chain w.store)) is sound.file.phase in
       elim (contains_cases right page [] off) [
         | inl same ↦ dead w.store left page k (ap (page_at w.store) (sym same) ∙ p.tombstone) answers
         | inr none ↦ contains_none page none
       ]
   not_off (Drained left right) is answers off =
       let p : IsDrained w.store (chain w.store) left right =
-          subst (HasPhase hash w.store (chain w.store)) is sound.file.phase in
+      subst (HasPhase hash w.store (chain w.store)) is sound.file.phase in
       elim (contains_cases right page [] off) [
         | inl same ↦ dead w.store left page k (ap (page_at w.store) (sym same) ∙ p.tombstone) answers
         | inr none ↦ contains_none page none
@@ -110,10 +110,13 @@ module _ (hash : RecordKey → ℕ) (seat : ℕ) (w : World) (page k : ℕ) (sou
   not_off (Freed right) is answers off = contains_none page off
 
   pub owned_answer_is_live : Holds seat w (LeadsTo page k) → Answers w.store page k → Holds seat w (Live page)
-  owned_answer_is_live leads answers = (owned, elim leads.1.stands [
-    | inl on ↦ on
-    | inr off ↦ absurd (not_off w.change refl answers off)
-  ])
+  owned_answer_is_live leads answers = (
+    owned,
+    elim leads.1.stands [
+      | inl on ↦ on
+      | inr off ↦ absurd (not_off w.change refl answers off)
+    ],
+  )
 
 -- ---- the directory of a seat that may write it
 
@@ -122,10 +125,10 @@ pub directory_is_quiet : (hash : RecordKey → ℕ) (seat : ℕ) (old new : Worl
     Holds seat new (Built (InPhase Quiet))
 directory_is_quiet hash seat old new g sound name may =
     let now : held (with_lock old.locks seat g.name g.kind) seat g.name ≡ Some g.kind =
-        held-grant old.locks seat g.seated g.name g.kind g.fresh in
+    held-grant old.locks seat g.seated g.name g.kind g.fresh in
     let owned : IsWriter (with_lock old.locks seat g.name g.kind) seat Directory =
-        ap (λ (n : LockName). may_write (held (with_lock old.locks seat g.name g.kind) seat n)) (sym name)
-        ∙ ap may_write now ∙ may in
+    ap (λ (n : LockName). may_write (held (with_lock old.locks seat g.name g.kind) seat n)) (sym name)
+    ∙ ap may_write now ∙ may in
     let none = HasNoWriter-free old.locks seat g.name g.kind may (ap may_write g.fresh) g.free in
     subst (λ (w : World). Holds seat w (Built (InPhase Quiet))) (sym g.is)
     (owned, sound.led (subst (HasNoWriter old.locks) name none))
@@ -139,7 +142,7 @@ entry_is_bucket hash seat w d k sound quiet deep =
     let file : IsSound hash w.store Quiet = subst (IsSound hash w.store) quiet.1 sound.file in
     let named : IsBucketOf w.store i (entry_at w.store i) = (quiet_exact hash w.store file).entries i within in
     let shallow : (range_at w.store (entry_at w.store i)).depth ≤ d =
-        omega (arith, file.chained.shallow (entry_at w.store i) named.0, deep.1) in
+    omega (arith, file.chained.shallow (entry_at w.store i) named.0, deep.1) in
     (quiet.0, (named.0, (covers_truncated (range_at w.store (entry_at w.store i)) d k shallow).0 named.1))
 
 -- ---- its own locks
@@ -150,13 +153,16 @@ own_locks_keep seat w t (Deep depth) h anchor = (anchor, h.1)
 own_locks_keep seat w t (LeadsTo page k) h anchor = (anchor, h.1)
 own_locks_keep seat w t (Shows page kind) h anchor = (anchor, h.1)
 own_locks_keep seat w t (Live page) h anchor = (anchor, h.1)
-own_locks_keep seat w t (Built fact) h anchor = (anchor, IsSo-kept w (with_locks t w) (record {
-  change = refl;
-  header = refl;
-  entries = refl;
-  chain = refl;
-  pages = λ n. refl;
-}) fact h.1)
+own_locks_keep seat w t (Built fact) h anchor = (
+  anchor,
+  IsSo-kept w (with_locks t w) (record {
+    change = refl;
+    header = refl;
+    entries = refl;
+    chain = refl;
+    pages = λ n. refl;
+  }) fact h.1,
+)
 own_locks_keep seat w t (Told key value) h anchor = (anchor, h.1)
 own_locks_keep seat w t (Given id given) h anchor = (anchor, h.1)
 own_locks_keep seat w t (Keyed id key) h anchor = (anchor, h.1)

@@ -1,6 +1,10 @@
 -- The laws of steps, each on the contract of a function of src/laws.rt.
 use Rattle.std.specs.Prelude.{ℕ, ◌≡◌, ◌≢◌, List, [], ◌∷◌}
 use Rattle.bucket_page.specs.declared.record_key.RecordKey.{RecordKey}
+use Rattle.page_locks.specs.Table.{Table, row_of, IsLawful}
+use Rattle.hash_file.specs.Store.{Store}
+use Rattle.hash_file.specs.Change.{Quiet}
+use Rattle.hash_file.specs.Sound.{IsSound}
 use Rattle.hash_file.specs.Kept.{KeepsContents, ChangesRecord}
 use Rattle.step_rules.specs.declared.kind.Kind.{Kind}
 use Rattle.step_rules.specs.declared.kind.Kind.TheVariants.{WriteRecord}
@@ -56,3 +60,16 @@ SchedulesKeepSound = (hash : RecordKey → ℕ) (moves : List Move) (old new : W
 abbrev pub SchedulesKeepKnowledge : Type 0
 SchedulesKeepKnowledge = (hash : RecordKey → ℕ) (moves : List Move) (old new : World) (i : ℕ) (fact : Known) →
     IsSoundWorld hash old → LeadAlong hash moves old new → StandsStill i moves → Holds i old fact → Holds i new fact
+
+-- no seat holds a lock
+abbrev pub IsAtRest : Table → Type 0
+IsAtRest t = (seat : ℕ) → row_of t seat ≡ []
+
+-- a sound file with no change under way is where schedules may begin
+abbrev pub RestIsSound : Type 0
+RestIsSound = (hash : RecordKey → ℕ) (s : Store) (t : Table) → IsSound hash s Quiet → IsLawful t → IsAtRest t →
+    IsSoundWorld hash (record { store = s; locks = t; change = Quiet })
+
+-- and such a file is left where they end with no seat holding a lock
+abbrev pub RestIsQuiet : Type 0
+RestIsQuiet = (hash : RecordKey → ℕ) (w : World) → IsSoundWorld hash w → IsAtRest w.locks → IsSound hash w.store Quiet

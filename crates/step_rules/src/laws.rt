@@ -1,7 +1,7 @@
 //! The laws of steps. Each stands on the contract of a function that does nothing.
 
 ghost use Rattle.step_rules.specs.declared.kind.Kind.{Kind};
-ghost use Rattle.step_rules.specs.Laws.{OthersKnow, KindKeeps, KindKeepsContents, WriteChangesOneRecord, SchedulesKeepSound, SchedulesKeepKnowledge};
+ghost use Rattle.step_rules.specs.Laws.{OthersKnow, KindKeeps, KindKeepsContents, WriteChangesOneRecord, SchedulesKeepSound, SchedulesKeepKnowledge, RestIsSound, RestIsQuiet};
 
 /// What a seat knows is still so after a step of another seat, by what that step leaves.
 pub fn others_keep_what_they_know()
@@ -24,4 +24,11 @@ pub fn only_a_written_record_changes_what_the_file_holds()
 pub fn every_schedule_keeps_what_is_known()
     ensures sound { SchedulesKeepSound }
     ensures known { SchedulesKeepKnowledge }
+{}
+
+/// Where no seat holds a lock the world is sound exactly where the file is, with no change under way. So schedules may
+/// begin at a sound file, and leave one where every seat has given its locks back.
+pub fn a_world_at_rest_is_a_quiet_file()
+    ensures sound { RestIsSound }
+    ensures quiet { RestIsQuiet }
 {}
