@@ -128,7 +128,8 @@ module _ (hash : RecordKey → ℕ) (seat : ℕ) (old : World) (sound : IsSoundW
   }
 
 -- ---- a step by the rules of one kind
-module _ (hash : RecordKey → ℕ) (seat : ℕ) (old new : World) (sound : IsSoundWorld hash old) (c : Change) (t : Store) (d : Change)
+module _ (hash : RecordKey → ℕ) (seat : ℕ) (old new : World) (sound : IsSoundWorld hash old) (c : Change)
+    (t : Store) (d : Change)
     (changes : Changes seat c t d old new) where
   -- the file is sound in the phase that the kind asks for
   pub file : IsSound hash old.store c

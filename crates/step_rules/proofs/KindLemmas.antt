@@ -120,12 +120,14 @@ kind_keeps_contents CopyDirectory hash seat old new sound other does =
     let t : Store = copy_directory does.page old.store in
     let c : Change = Taken does.taken in
     changed hash seat old new sound c t c does.changes
-    (copy_directory_keeps hash old.store does.taken does.page (file hash seat old new sound c t c does.changes)).contents
+    (copy_directory_keeps hash old.store does.taken does.page
+    (file hash seat old new sound c t c does.changes)).contents
 kind_keeps_contents RaiseDepth hash seat old new sound other does =
     let t : Store = raise_depth old.store in
     let c : Change = Taken does.taken in
     changed hash seat old new sound c t c does.changes
-    (raise_depth_keeps hash old.store does.taken (file hash seat old new sound c t c does.changes) does.room does.copied).contents
+    (raise_depth_keeps hash old.store does.taken
+    (file hash seat old new sound c t c does.changes) does.room does.copied).contents
 kind_keeps_contents WriteNew hash seat old new sound other does =
     let t : Store = write_new hash does.split does.taken old.store in
     let c : Change = Taken does.taken in
@@ -145,14 +147,16 @@ kind_keeps_contents WriteLeft hash seat old new sound other does =
     let t : Store = write_left does.left does.right old.store in
     let d : Change = Absorbed does.left does.right does.whole in
     changed hash seat old new sound Quiet t d does.changes
-    (write_left_keeps hash old.store does.left does.right does.whole (file hash seat old new sound Quiet t d does.changes)
+    (write_left_keeps hash old.store does.left does.right does.whole
+    (file hash seat old new sound Quiet t d does.changes)
     does.left_on does.right_on does.halves).contents
 kind_keeps_contents Tombstone hash seat old new sound other does =
     let t : Store = write_tombstone does.left does.right old.store in
     let c : Change = Absorbed does.left does.right does.whole in
     let d : Change = Buried does.left does.right does.whole in
     changed hash seat old new sound c t d does.changes
-    (write_tombstone_keeps hash old.store does.left does.right does.whole (file hash seat old new sound c t d does.changes)).contents
+    (write_tombstone_keeps hash old.store does.left does.right does.whole
+    (file hash seat old new sound c t d does.changes)).contents
 kind_keeps_contents WriteFree hash seat old new sound other does =
     let t : Store = write_free does.right old.store in
     let c : Change = Drained does.left does.right in
@@ -167,7 +171,8 @@ kind_keeps_contents LinkFree hash seat old new sound other does =
 kind_keeps_contents LowerDepth hash seat old new sound other does =
     let t : Store = lower_depth old.store in
     changed hash seat old new sound Quiet t Quiet does.changes
-    (lower_depth_keeps hash old.store (file hash seat old new sound Quiet t Quiet does.changes) does.deep does.unused).contents
+    (lower_depth_keeps hash old.store
+    (file hash seat old new sound Quiet t Quiet does.changes) does.deep does.unused).contents
 
 -- ---- schedules
 

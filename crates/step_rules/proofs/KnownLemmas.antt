@@ -19,8 +19,8 @@ use Rattle.step_rules.specs.Leaves.{Leaves}
 use Rattle.step_rules.proofs.StructureLemmas.{IsSo-kept}
 
 -- beside a seat that holds a name no other holds it exclusively
-pub not_exclusive : (w : World) (i j : ℕ) (name : LockName) → IsPairwiseCompatible w.locks → i ≢ j → IsHeld w.locks i name →
-    held w.locks j name ≢ Some Exclusive
+pub not_exclusive : (w : World) (i j : ℕ) (name : LockName) → IsPairwiseCompatible w.locks →
+    i ≢ j → IsHeld w.locks i name → held w.locks j name ≢ Some Exclusive
 not_exclusive w i j name pairs apart mine theirs =
     true≢false (sym (subst IsSome (exclusive_alone w.locks pairs j i name apart theirs) mine))
 
@@ -33,7 +33,8 @@ below_next m n other = elim (cases_lt m n) [
       le-ltb m (suc n) further ∙ sym (le-ltb m n above)
 ]
 
-module _ (hash : RecordKey → ℕ) (i j : ℕ) (old new : World) (apart : i ≢ j) (sound : IsSoundWorld hash old) (leaves : Leaves j old new) where
+module _ (hash : RecordKey → ℕ) (i j : ℕ) (old new : World) (apart : i ≢ j) (sound : IsSoundWorld hash old)
+    (leaves : Leaves j old new) where
   -- a seat holds what it held
   held-kept : (name : LockName) → held new.locks i name ≡ held old.locks i name
   held-kept name = ap (λ (row : List Lock). kind_of row name) (leaves.rows i apart)
@@ -61,8 +62,10 @@ module _ (hash : RecordKey → ℕ) (i j : ℕ) (old new : World) (apart : i ≢
   Holds-kept (Live page) h = (IsWriter-kept (Page page) h.0, leaves.live i page apart h.0 h.1)
   Holds-kept (Built fact) h =
       (IsWriter-kept Directory h.0, IsSo-kept old new (leaves.structure (other_structure h.0)) fact h.1)
-  Holds-kept (Told key value) h =
-      (IsHeld-kept (guard_of key) h.0, leaves.records key (not_exclusive old i j (guard_of key) sound.lawful.pairs apart h.0) ∙ h.1)
+  Holds-kept (Told key value) h = (
+    IsHeld-kept (guard_of key) h.0,
+    leaves.records key (not_exclusive old i j (guard_of key) sound.lawful.pairs apart h.0) ∙ h.1,
+  )
   Holds-kept (Given id given) h =
       (IsHeld-kept (Queue id) h.0, still_given leaves.ids.next)
     where

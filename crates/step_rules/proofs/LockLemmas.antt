@@ -32,17 +32,21 @@ held_of_writer (Some k) w = refl
 pub IsHeld-writer : (t : Table) (seat : ℕ) (name : LockName) → IsWriter t seat name → IsHeld t seat name
 IsHeld-writer t seat name w = held_of_writer (held t seat name) w
 
-pub IsHeld-some : (t : Table) (seat : ℕ) (name : LockName) (kind : LockKind) → held t seat name ≡ Some kind → IsHeld t seat name
+pub IsHeld-some : (t : Table) (seat : ℕ) (name : LockName) (kind : LockKind) → held t seat name ≡ Some kind →
+    IsHeld t seat name
 IsHeld-some t seat name kind is = subst IsSome (sym is) refl
 
-pub IsWriter-exclusive : (t : Table) (seat : ℕ) (name : LockName) → held t seat name ≡ Some Exclusive → IsWriter t seat name
+pub IsWriter-exclusive : (t : Table) (seat : ℕ) (name : LockName) → held t seat name ≡ Some Exclusive →
+    IsWriter t seat name
 IsWriter-exclusive t seat name is = ap may_write is
 
 -- what is held of a name alike
-pub IsHeld-same : (s t : Table) (i : ℕ) (name : LockName) → held t i name ≡ held s i name → IsHeld s i name → IsHeld t i name
+pub IsHeld-same : (s t : Table) (i : ℕ) (name : LockName) → held t i name ≡ held s i name → IsHeld s i name →
+    IsHeld t i name
 IsHeld-same s t i name same there = subst IsSome (sym same) there
 
-pub IsWriter-same : (s t : Table) (i : ℕ) (name : LockName) → held t i name ≡ held s i name → IsWriter s i name → IsWriter t i name
+pub IsWriter-same : (s t : Table) (i : ℕ) (name : LockName) → held t i name ≡ held s i name → IsWriter s i name →
+    IsWriter t i name
 IsWriter-same s t i name same there = ap may_write same ∙ there
 
 module _ (t : Table) (seat : ℕ) (is : IsSeat t seat) (name : LockName) where

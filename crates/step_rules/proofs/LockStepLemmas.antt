@@ -63,20 +63,23 @@ none_busy c page quiet there = contains_none page (subst (λ (d : Change). Conta
 
 module _ (hash : RecordKey → ℕ) (seat : ℕ) (old : World) (sound : IsSoundWorld hash old) where
   -- ---- a grant
-  module _ (is : IsSeat old.locks seat) (name : LockName) (kind : LockKind) (fresh : held old.locks seat name ≡ None) where
+  module _ (is : IsSeat old.locks seat) (name : LockName) (kind : LockKind)
+      (fresh : held old.locks seat name ≡ None) where
     abbrev granted : Table
     granted = with_lock old.locks seat name kind
 
     writer_stays : (i : ℕ) (n : LockName) → IsWriter old.locks i n → IsWriter granted i n
     writer_stays i n w =
-        IsWriter-same old.locks granted i n (held-granted old.locks seat is name kind i n fresh (IsHeld-writer old.locks i n w)) w
+        IsWriter-same old.locks granted i n (held-granted old.locks seat is name kind i n fresh
+        (IsHeld-writer old.locks i n w)) w
 
     stands : ((page : ℕ) → name ≡ Page page → IsReached old page) → (i page : ℕ) → IsHeld granted i (Page page) →
         IsReached old page ⊎ IsWriter granted i Directory
     stands aimed i page there = elim (names_eq name (Page page)) [
       | inl same ↦ inl (aimed page same)
       | inr other ↦
-          let kept = held-kept seat name old.locks granted (ChangesOnly-grant old.locks seat is name kind) i (Page page) other in
+          let changes = ChangesOnly-grant old.locks seat is name kind in
+          let kept = held-kept seat name old.locks granted changes i (Page page) other in
           elim (sound.standing i page (IsHeld-same granted old.locks i (Page page) (sym kept) there)) [
             | inl reached ↦ inl reached
             | inr w ↦ inr (writer_stays i Directory w)
@@ -180,17 +183,24 @@ module _ (hash : RecordKey → ℕ) (seat : ℕ) (old : World) (sound : IsSoundW
     sound = record {
       file = sound.file;
       lawful = IsLawful-convert old.locks seat sound.lawful c.seated Directory Exclusive c.free;
-      led = λ none. sound.led (HasNoWriter-before_convert old.locks seat c.seated Directory Exclusive Selective Directory refl c.had none);
+      led = λ none. sound.led
+          (HasNoWriter-before_convert old.locks seat c.seated Directory Exclusive Selective Directory refl c.had none);
       guarded = λ page there on.
-          let by = sound.guarded page there on in
-          (by.0, record { directory = stays by.0 Directory by.1.directory; page_too = stays by.0 (Page page) by.1.page_too });
+          let by = sound.guarded page there on in (
+            by.0,
+            record {
+              directory = stays by.0 Directory by.1.directory;
+              page_too = stays by.0 (Page page) by.1.page_too;
+            },
+          );
       standing = λ i page there.
           elim (sound.standing i page (IsHeld-same turned old.locks i (Page page) (sym (kept i page)) there)) [
             | inl reached ↦ inl reached
             | inr w ↦ inr (stays i Directory w)
           ];
     };
-    leaves = Leaves-locks seat old turned (length-with_row old.locks seat (converted (row_of old.locks seat) Directory Exclusive))
+    leaves = Leaves-locks seat old turned (length-with_row old.locks seat
+        (converted (row_of old.locks seat) Directory Exclusive))
         (ChangesOnly-convert old.locks seat c.seated Directory Exclusive).rows;
   })
     where
@@ -205,7 +215,8 @@ module _ (hash : RecordKey → ℕ) (seat : ℕ) (old : World) (sound : IsSoundW
           (ChangesOnly-convert old.locks seat c.seated Directory Exclusive) i (Page page) (λ e. absurd cc)
 
 -- ---- a hop: one page granted, and the other given back
-module _ (hash : RecordKey → ℕ) (seat : ℕ) (old new : World) (sound : IsSoundWorld hash old) (page k : ℕ) (kind : LockKind)
+module _ (hash : RecordKey → ℕ) (seat : ℕ) (old new : World) (sound : IsSoundWorld hash old) (page k : ℕ)
+    (kind : LockKind)
     (had : held old.locks seat (Page page) ≡ Some kind) (leads : Leads old.store old.change page k)
     (other : Answers old.store page k → ⊥) (g : GoesOn page kind seat old new) where
   abbrev further : LockName
@@ -217,7 +228,8 @@ module _ (hash : RecordKey → ℕ) (seat : ℕ) (old new : World) (sound : IsSo
   reached : (n : ℕ) → further ≡ Page n → IsReached old n
   reached n same =
       let is : next_at old.store page ≡ n = cc in
-      subst (IsReached old) is (hops_lead_on hash old.store old.change (chain old.store) page k sound.file leads other).leads.stands
+      subst (IsReached old) is (hops_lead_on hash old.store old.change
+      (chain old.store) page k sound.file leads other).leads.stands
 
   grants : Grants seat old both
   grants = record {
@@ -261,7 +273,8 @@ module _ (hash : RecordKey → ℕ) (seat : ℕ) (old new : World) (sound : IsSo
         sound = two.sound;
         leaves = subst (Leaves seat old) (sym same) (Leaves-locks seat old t
             (ap (λ (w : World). length w.locks) (sym same) ∙ two.leaves.seats ∙ one.leaves.seats)
-            (λ i apart. ap (λ (w : World). row_of w.locks i) (sym same) ∙ two.leaves.rows i apart ∙ one.leaves.rows i apart));
+            (λ i apart. ap (λ (w : World). row_of w.locks i) (sym same) ∙ two.leaves.rows i apart
+            ∙ one.leaves.rows i apart));
       }
 
 pub KeepsOthers-hop : (hash : RecordKey → ℕ) (seat : ℕ) (old new : World) → IsSoundWorld hash old → Hops seat old new →

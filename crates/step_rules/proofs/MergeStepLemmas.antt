@@ -33,7 +33,8 @@ use Rattle.step_rules.proofs.ChangeLemmas.{other_page, close, close_kept, not_li
 module _ (hash : RecordKey → ℕ) (seat : ℕ) (old new : World) (sound : IsSoundWorld hash old) where
   -- ---- a split or a merge
   retarget_split : (lower upper page : ℕ) (whole : Range) →
-      Changes seat (Linked lower upper whole) (retarget page (upper_half_of whole) upper old.store) (Linked lower upper whole) old new →
+      Changes seat (Linked lower upper whole) (retarget page (upper_half_of whole) upper old.store)
+      (Linked lower upper whole) old new →
       KeepsOthers hash seat old new
   retarget_split lower upper page whole changes =
       let t : Store = retarget page (upper_half_of whole) upper old.store in
@@ -46,7 +47,8 @@ module _ (hash : RecordKey → ℕ) (seat : ℕ) (old new : World) (sound : IsSo
       (λ n there on. absurd (contains_none n there))
 
   retarget_merge : (lower upper page : ℕ) (whole : Range) →
-      Changes seat (Buried lower upper whole) (retarget page (upper_half_of whole) lower old.store) (Buried lower upper whole) old new →
+      Changes seat (Buried lower upper whole) (retarget page (upper_half_of whole) lower old.store)
+      (Buried lower upper whole) old new →
       KeepsOthers hash seat old new
   retarget_merge lower upper page whole changes =
       let t : Store = retarget page (upper_half_of whole) lower old.store in
@@ -64,7 +66,8 @@ module _ (hash : RecordKey → ℕ) (seat : ℕ) (old new : World) (sound : IsSo
     | inr merge ↦ retarget_merge does.lower does.upper does.page does.whole merge
   ]
 
-  counts_split : (lower upper : ℕ) (whole : Range) → CountsSplit lower upper whole seat old new → KeepsOthers hash seat old new
+  counts_split : (lower upper : ℕ) (whole : Range) → CountsSplit lower upper whole seat old new →
+      KeepsOthers hash seat old new
   counts_split lower upper whole does =
       let t : Store = set_counts (split_counts whole.depth old.store.header.counts) old.store in
       let c : Change = Linked lower upper whole in
@@ -76,7 +79,8 @@ module _ (hash : RecordKey → ℕ) (seat : ℕ) (old new : World) (sound : IsSo
       (λ i apart there. omega arith)
       (λ n there on. absurd (contains_none n there))
 
-  counts_merge : (lower upper : ℕ) (whole : Range) → CountsMerge lower upper whole seat old new → KeepsOthers hash seat old new
+  counts_merge : (lower upper : ℕ) (whole : Range) → CountsMerge lower upper whole seat old new →
+      KeepsOthers hash seat old new
   counts_merge lower upper whole does =
       let t : Store = set_counts (merge_counts whole.depth old.store.header.counts) old.store in
       let c : Change = Buried lower upper whole in
@@ -109,7 +113,8 @@ module _ (hash : RecordKey → ℕ) (seat : ℕ) (old new : World) (sound : IsSo
       let t : Store = write_left does.left does.right old.store in
       let d : Change = Absorbed does.left does.right does.whole in
       close_kept hash seat old new sound Quiet t d does.changes
-      (write_left_keeps hash old.store does.left does.right does.whole (file hash seat old new sound Quiet t d does.changes)
+      (write_left_keeps hash old.store does.left does.right does.whole
+      (file hash seat old new sound Quiet t d does.changes)
       does.left_on does.right_on does.halves)
       (λ i n apart w. page_other old.store does.left n
       (kinds.Bucket (joined (bucket_at old.store does.left) (bucket_at old.store does.right)))
@@ -130,7 +135,8 @@ module _ (hash : RecordKey → ℕ) (seat : ℕ) (old new : World) (sound : IsSo
       let c : Change = Absorbed does.left does.right does.whole in
       let d : Change = Buried does.left does.right does.whole in
       close_kept hash seat old new sound c t d does.changes
-      (write_tombstone_keeps hash old.store does.left does.right does.whole (file hash seat old new sound c t d does.changes))
+      (write_tombstone_keeps hash old.store does.left does.right does.whole
+      (file hash seat old new sound c t d does.changes))
       (λ i n apart w. page_other old.store does.right n (kinds.Tombstone does.left)
       (other_page hash old i seat n does.right sound apart w does.owned))
       (λ i n apart w on off. not_aside does.right i n does.owned apart w off)
@@ -163,7 +169,8 @@ module _ (hash : RecordKey → ℕ) (seat : ℕ) (old new : World) (sound : IsSo
           leads = λ i n k apart aim leads. frees.leads n k (nobody i n apart aim)
               (subst (λ (e : Change). Leads old.store e n k) does.changes.phase leads);
           pages = λ i n apart w. page_other old.store does.right n (kinds.Free old.store.header.first_free)
-              (other_page hash old i seat n does.right sound apart w (IsWriter-exclusive old.locks seat (Page does.right) does.drained));
+              (other_page hash old i seat n does.right sound apart w
+              (IsWriter-exclusive old.locks seat (Page does.right) does.drained));
           not_aside = λ i n apart w on off. contains_none n off;
           depth = λ i apart there. omega arith;
           guarded = λ page there on. absurd (contains_none page there);

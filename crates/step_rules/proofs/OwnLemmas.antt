@@ -196,7 +196,8 @@ module _ (seat : ℕ) (old : World) (new : World) (g : Grants seat old new) wher
 
 -- ---- a page that is freed
 
-module _ (hash : RecordKey → ℕ) (seat other : ℕ) (old new : World) (sound : IsSoundWorld hash old) (apart : other ≢ seat) where
+module _ (hash : RecordKey → ℕ) (seat other : ℕ) (old new : World) (sound : IsSoundWorld hash old)
+    (apart : other ≢ seat) where
   pub frees_nobodys : (does : WritesFree seat old new) → MayAim old.locks other does.right → ⊥
   frees_nobodys does aim = elim aim [
     | inl there ↦ not_exclusive old other seat Directory sound.lawful.pairs apart there does.alone

@@ -29,6 +29,7 @@ rest_is_sound hash s t sound lawful rest = record {
   standing = λ seat page there. absurd (none_is_not_some (none_held t seat (Page page) rest) there);
 }
 
-pub rest_is_quiet : (hash : RecordKey → ℕ) (w : World) → IsSoundWorld hash w → IsAtRest w.locks → IsSound hash w.store Quiet
+pub rest_is_quiet : (hash : RecordKey → ℕ) (w : World) → IsSoundWorld hash w → IsAtRest w.locks →
+    IsSound hash w.store Quiet
 rest_is_quiet hash w sound rest =
     subst (IsSound hash w.store) (sound.led (HasNoWriter-at_rest w.locks Directory rest)) sound.file

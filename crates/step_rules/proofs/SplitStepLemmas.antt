@@ -55,7 +55,8 @@ module _ (hash : RecordKey → ℕ) (seat : ℕ) (old new : World) (sound : IsSo
       let t : Store = raise_depth old.store in
       let c : Change = Taken does.taken in
       close_kept hash seat old new sound c t c does.changes
-      (raise_depth_keeps hash old.store does.taken (file hash seat old new sound c t c does.changes) does.room does.copied)
+      (raise_depth_keeps hash old.store does.taken
+      (file hash seat old new sound c t c does.changes) does.room does.copied)
       (λ i n apart w. refl)
       (λ i n apart w on off. contains_none n off)
       (λ i apart there. omega arith)
@@ -80,7 +81,8 @@ module _ (hash : RecordKey → ℕ) (seat : ℕ) (old new : World) (sound : IsSo
       let keeps = write_new_keeps hash old.store does.split does.taken (file hash seat old new sound c t d does.changes)
       does.on_chain does.shallow in
       close_kept hash seat old new sound c t d does.changes keeps
-      (λ i n apart w. page_other old.store does.taken n (kinds.Bucket (upper_half hash (bucket_at old.store does.split)))
+      (λ i n apart w. page_other old.store does.taken n
+      (kinds.Bucket (upper_half hash (bucket_at old.store does.split)))
       (untaken does.taken i n does.changes.phase does.changes.leader apart w))
       (λ i n apart w on off. contains_none n off)
       (λ i apart there. omega arith)

@@ -68,8 +68,8 @@ pub record KeepsOthers (hash : RecordKey → ℕ) (seat : ℕ) (old new : World)
 
 -- after a step: the world is sound, the seat knows what its new place says, the others keep what they know, and no
 -- more was done than the kind says
-pub record Steps {F : Type 0} (hash : RecordKey → ℕ) (seat : ℕ) (did : Progress F) (locks : List Lock) (facts : List Known)
-    (old new : World) : Type 0 where
+pub record Steps {F : Type 0} (hash : RecordKey → ℕ) (seat : ℕ) (did : Progress F) (locks : List Lock)
+    (facts : List Known) (old new : World) : Type 0 where
   pub keeps : KeepsOthers hash seat old new
   pub knows : Knows seat locks facts new
   pub does : DoesAt hash did seat old new

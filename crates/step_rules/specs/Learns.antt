@@ -31,9 +31,9 @@ LookTells = (hash : RecordKey → ℕ) (seat : ℕ) (w : World) (page : ℕ) (ke
 
 -- a page that does not answer names one that leads to the pseudokey, when it is granted
 abbrev pub HopLeadsOn : Type 0
-HopLeadsOn = (hash : RecordKey → ℕ) (seat : ℕ) (old new : World) (page k : ℕ) (kind : LockKind) → IsSoundWorld hash old →
-    Leads old.store old.change page k → (Answers old.store page k → ⊥) → GoesOn page kind seat old new →
-    Leads new.store new.change (next_at old.store page) k
+HopLeadsOn = (hash : RecordKey → ℕ) (seat : ℕ) (old new : World) (page k : ℕ) (kind : LockKind) →
+    IsSoundWorld hash old → Leads old.store old.change page k → (Answers old.store page k → ⊥) →
+    GoesOn page kind seat old new → Leads new.store new.change (next_at old.store page) k
 
 -- who may write a page that leads to a pseudokey and answers for it, between changes of its own, holds the live bucket
 abbrev pub OwnedAnswerIsLive : Type 0
@@ -43,8 +43,8 @@ OwnedAnswerIsLive = (hash : RecordKey → ℕ) (seat : ℕ) (w : World) (page k 
 
 -- who is granted the directory so that it may write it finds no change under way
 abbrev pub DirectoryIsQuiet : Type 0
-DirectoryIsQuiet = (hash : RecordKey → ℕ) (seat : ℕ) (old new : World) (g : Grants seat old new) → IsSoundWorld hash old →
-    g.name ≡ Directory → may_write (Some g.kind) ≡ true → Holds seat new (Built (InPhase Quiet))
+DirectoryIsQuiet = (hash : RecordKey → ℕ) (seat : ℕ) (old new : World) (g : Grants seat old new) →
+    IsSoundWorld hash old → g.name ≡ Directory → may_write (Some g.kind) ≡ true → Holds seat new (Built (InPhase Quiet))
 
 -- and by the depth then read, each entry is the bucket of the pseudokey
 abbrev pub EntryIsBucket : Type 0
