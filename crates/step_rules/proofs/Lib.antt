@@ -9,3 +9,4 @@ pub mod MergeStepLemmas
 pub mod OwnLemmas
 pub mod KindLemmas
 pub mod RestLemmas
+pub mod MachineLemmas
