@@ -10,3 +10,4 @@ pub mod OwnLemmas
 pub mod KindLemmas
 pub mod RestLemmas
 pub mod MachineLemmas
+pub mod OnePageLemmas

@@ -8,5 +8,6 @@ pub mod Leaves
 pub mod LockSteps
 pub mod PageSteps
 pub mod Does
+pub mod OnePage
 pub mod Laws
 pub mod Learns

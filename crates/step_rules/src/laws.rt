@@ -1,6 +1,7 @@
 //! The laws of steps. Each stands on the contract of a function that does nothing.
 
 ghost use Rattle.step_rules.specs.declared.kind.Kind.{Kind};
+ghost use Rattle.step_rules.specs.OnePage.{KindChangesLittle};
 ghost use Rattle.step_rules.specs.Laws.{OthersKnow, KindKeeps, KindKeepsContents, WriteChangesOneRecord, SchedulesKeepSound, SchedulesKeepKnowledge, RestIsSound, RestIsQuiet};
 
 /// What a seat knows is still so after a step of another seat, by what that step leaves.
@@ -31,4 +32,10 @@ pub fn every_schedule_keeps_what_is_known()
 pub fn a_world_at_rest_is_a_quiet_file()
     ensures sound { RestIsSound }
     ensures quiet { RestIsQuiet }
+{}
+
+/// A step changes the one page that its kind names, or none, and no other; and it changes what its seat holds of one
+/// name at most, or for a hop exchanges one page for the next.
+pub fn a_step_changes_one_page_and_one_lock_at_most()
+    ensures { (kind : Kind) → KindChangesLittle kind }
 {}
