@@ -17,3 +17,6 @@ pub mod Splitting
 pub mod Merging
 pub mod Contents
 pub mod WaysIn
+pub mod Examples
+pub mod WrongChanges
+pub mod SoundExamples

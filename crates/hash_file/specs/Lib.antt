@@ -9,3 +9,5 @@ pub mod Kept
 pub mod Laws
 pub mod Words
 pub mod Looks
+pub mod Examples
+pub mod WrongChanges

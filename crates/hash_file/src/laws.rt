@@ -1,9 +1,11 @@
 //! Laws of the file: its words, what a search may rely on, and what each change keeps. Each stands on the contract of
 //! a function that does nothing.
 
+ghost use Rattle.hash_file.specs.Examples.{AreSound, FreedPageTakenAgain, MergeAndHalving, TwoSplits};
 ghost use Rattle.hash_file.specs.Laws.{CopyDirectoryKeeps, LinkFreeKeeps, LowerDepthKeeps, RaiseDepthKeeps, RetargetKeepsMerge, RetargetKeepsSplit, SetCountsKeepsMerge, SetCountsKeepsSplit, TakePageKeeps, WriteFreeKeeps, WriteLeftKeeps, WriteNewKeeps, WriteOldKeeps, WriteRecordIsOneRecord, WriteTombstoneKeeps};
 ghost use Rattle.hash_file.specs.Looks.{DrainedHasNoWayIn, EntriesLead, HopsLeadOn, LooksAnswer, StaleDepthsLead};
 ghost use Rattle.hash_file.specs.Words.{ChainIsMet, ChainIsWellFormed, ContentsArePairs, LeadingIsStandingBefore, QuietIsExact, RolesAreOne};
+ghost use Rattle.hash_file.specs.WrongChanges.{WrongChanges};
 
 /// Pages that follow one another from the root as a chain are all that next links lead to from there.
 pub fn the_chain_is_what_is_met()
@@ -139,4 +141,30 @@ pub fn what_a_file_holds_is_its_pairs()
 /// Once a merge is drained no entry and no next link names the right page: whoever does not stand on it comes there no more.
 pub fn nothing_leads_to_a_drained_page()
     ensures { DrainedHasNoWayIn }
+{}
+
+/// Two splits, of which each doubles the directory: the chain, the records of each bucket, the entries and the counts.
+pub fn two_splits_come_out_as_worked_by_hand()
+    ensures { TwoSplits }
+{}
+
+/// A merge, its tombstone, the freed page and the halved directory.
+pub fn a_merge_comes_out_as_worked_by_hand()
+    ensures { MergeAndHalving }
+{}
+
+/// The next split takes the page that the merge freed.
+pub fn a_freed_page_is_taken_again()
+    ensures { FreedPageTakenAgain }
+{}
+
+/// Each of these files is sound in its phase: so no phase asks for what can't be.
+pub fn files_made_by_hand_are_sound()
+    ensures { AreSound }
+{}
+
+/// For each change one that is wrong, as a split that writes the old bucket first, or a merge that frees a page which an
+/// entry still names: none leaves the file sound, or holding what it held.
+pub fn wrong_changes_are_refuted()
+    ensures { WrongChanges }
 {}
