@@ -11,3 +11,4 @@ pub mod KindLemmas
 pub mod RestLemmas
 pub mod MachineLemmas
 pub mod OnePageLemmas
+pub mod BuddyLemmas

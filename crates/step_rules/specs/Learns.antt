@@ -1,13 +1,16 @@
 -- What a seat learns by a step of its own, each on the contract of a function of src/learns.rt.
 -- docs/STEPS.md, "Search", "Merge" and "What a seat may know".
-use Rattle.std.specs.Prelude.{ℕ, ◌≡◌, ◌≢◌, ◌%◌, ◌^◌, true, Some}
+use Rattle.std.specs.Prelude.{ℕ, ◌≡◌, ◌≢◌, ◌≤◌, ◌%◌, ◌^◌, true, false, Some}
+use Rattle.std.specs.List.{Contains}
+use Rattle.positions.specs.Ranges.{AreHalvesOf, is_lower, parent_of, buddy_of}
 use Rattle.bucket_page.specs.declared.record_key.RecordKey.{RecordKey}
 use Rattle.bucket_page.specs.Records.{lookup}
 use Rattle.page_locks.specs.declared.lock.LockKind.{LockKind}
 use Rattle.page_locks.specs.declared.lock.LockName.TheVariants.{Directory, Page}
 use Rattle.page_locks.specs.Table.{Table}
 use Rattle.page_locks.specs.Writers.{may_write, IsWriter}
-use Rattle.hash_file.specs.Store.{entry_at, next_at, records_at}
+use Rattle.hash_file.specs.Store.{Store, entry_at, next_at, records_at, range_at}
+use Rattle.hash_file.specs.Chain.{chain, IsBucketOf}
 use Rattle.hash_file.specs.Change.{Quiet}
 use Rattle.hash_file.specs.Search.{Leads}
 use Rattle.hash_file.specs.Looks.{Answers}
@@ -71,3 +74,23 @@ FreesNobodysPage = (hash : RecordKey → ℕ) (seat other : ℕ) (old new : Worl
 abbrev pub LinksNobodysPage : Type 0
 LinksNobodysPage = (hash : RecordKey → ℕ) (seat other : ℕ) (old new : World) (does : LinksFree seat old new) →
     IsSoundWorld hash old → other ≢ seat → MayAim old.locks other does.right → ⊥
+
+-- a page that leads to a pseudokey and does not answer for it names another page than itself
+abbrev pub HopGoesElsewhere : Type 0
+HopGoesElsewhere = (hash : RecordKey → ℕ) (w : World) (page k : ℕ) → IsSoundWorld hash w →
+    Leads w.store w.change page k → (Answers w.store page k → ⊥) → next_at w.store page ≢ page
+
+-- the bucket that has the turned pattern of page x is another page, and no less deep; where it is as deep, it is the
+-- other half of what both were
+pub record IsFoundAsBuddy (s : Store) (x y : ℕ) : Type 0 where
+  pub apart : y ≢ x
+  pub deep : (range_at s x).depth ≤ (range_at s y).depth
+  pub lower : (range_at s y).depth ≡ (range_at s x).depth → is_lower (range_at s x) ≡ true →
+      AreHalvesOf (parent_of (range_at s x)) (range_at s x) (range_at s y)
+  pub upper : (range_at s y).depth ≡ (range_at s x).depth → is_lower (range_at s x) ≡ false →
+      AreHalvesOf (parent_of (range_at s x)) (range_at s y) (range_at s x)
+
+abbrev pub BuddyIsOtherHalf : Type 0
+BuddyIsOtherHalf = (hash : RecordKey → ℕ) (w : World) (x y : ℕ) → IsSoundWorld hash w →
+    Contains (chain w.store) x → 1 ≤ (range_at w.store x).depth →
+    IsBucketOf w.store (buddy_of (range_at w.store x)).pattern y → IsFoundAsBuddy w.store x y

@@ -1,6 +1,6 @@
 //! What a seat learns by a step of its own. Each law stands on the contract of a function that does nothing.
 
-ghost use Rattle.step_rules.specs.Learns.{EntryReadLeads, LookTells, HopLeadsOn, OwnedAnswerIsLive, DirectoryIsQuiet, EntryIsBucket, OwnLocksKeep, OwnGrantKeeps, FreesNobodysPage, LinksNobodysPage};
+ghost use Rattle.step_rules.specs.Learns.{EntryReadLeads, LookTells, HopLeadsOn, HopGoesElsewhere, OwnedAnswerIsLive, DirectoryIsQuiet, EntryIsBucket, BuddyIsOtherHalf, OwnLocksKeep, OwnGrantKeeps, FreesNobodysPage, LinksNobodysPage};
 
 /// A search that reads an entry by a depth that has grown since still has a page that leads to its pseudokey.
 pub fn an_entry_that_was_read_leads()
@@ -12,9 +12,10 @@ pub fn a_look_tells_what_the_file_holds()
     ensures { LookTells }
 {}
 
-/// The page that a hop is granted leads to the pseudokey.
+/// The page that a hop is granted leads to the pseudokey, and is another than the one that it gives back.
 pub fn a_hop_is_led_on()
-    ensures { HopLeadsOn }
+    ensures leads { HopLeadsOn }
+    ensures elsewhere { HopGoesElsewhere }
 {}
 
 /// A page that a seat may write, and that leads to a pseudokey and answers for it, is the live bucket: a merge takes
@@ -27,6 +28,12 @@ pub fn an_owned_page_that_answers_is_live()
 pub fn an_owned_directory_is_exact()
     ensures quiet { DirectoryIsQuiet }
     ensures entry { EntryIsBucket }
+{}
+
+/// The bucket that has a bucket's pattern with its last bit turned is its buddy, if it is as deep: together they are
+/// the range of one bit less (Fagin et al. 1979).
+pub fn a_buddy_is_the_other_half()
+    ensures { BuddyIsOtherHalf }
 {}
 
 /// A seat keeps through its own change of locks what it knows under a lock that it still has; through a grant, all.
