@@ -1,14 +1,14 @@
 -- The page that a hop goes to, and the buddy that an entry names.
-use Rattle.std.proofs.Common.{◌≡◌, ◌≢◌, ◌≤◌, ◌<◌, ◌+◌, ◌-◌, ◌^◌, ℕ, suc, Bool, true, false, refl, sym, ap, ◌∙◌, subst, arith}
+use Rattle.std.proofs.Common.{◌≡◌, ◌≢◌, ◌≤◌, ◌+◌, ◌-◌, ◌^◌, ℕ, Bool, true, false, refl, sym, ap, ◌∙◌, subst, arith}
 use Rattle.std.proofs.lemmas.Bool.{ltb-false}
 use Rattle.std.proofs.lemmas.Nat.{pow_pos}
 use Rattle.std.specs.List.{Contains}
 use Rattle.positions.specs.declared.range.Range.{Range}
 use Rattle.positions.specs.declared.pseudokey.TheConstants.{POSITIONS}
-use Rattle.positions.specs.Ranges.{IsRange, Covers, AreHalvesOf, is_lower, parent_of, buddy_of}
+use Rattle.positions.specs.Ranges.{IsRange, AreHalvesOf, is_lower, parent_of, buddy_of}
 use Rattle.positions.proofs.BuddyLaws.{lower_buddies, upper_buddies, buddy_depth, buddy_is}
 use Rattle.bucket_page.specs.declared.record_key.RecordKey.{RecordKey}
-use Rattle.hash_file.specs.Store.{Store, range_at, next_at}
+use Rattle.hash_file.specs.Store.{range_at, next_at}
 use Rattle.hash_file.specs.Chain.{chain, IsBucketOf}
 use Rattle.hash_file.specs.Search.{Leads, distance}
 use Rattle.hash_file.specs.Looks.{Answers}
@@ -28,11 +28,11 @@ hop_goes_elsewhere hash w page k sound leads other same =
 not_own_buddy : (r : Range) (low : Bool) → 1 ≤ r.depth → is_lower r ≡ low → r ≢ buddy_of r
 not_own_buddy r true deep low same =
     let turned : r.pattern ≡ r.pattern + 2 ^ (r.depth - 1) =
-        ap (λ (x : Range). x.pattern) same ∙ rw low refl in
+    ap (λ (x : Range). x.pattern) same ∙ rw low refl in
     omega (arith, turned, pow_pos (r.depth - 1))
 not_own_buddy r false deep high same =
     let turned : r.pattern ≡ r.pattern - 2 ^ (r.depth - 1) =
-        ap (λ (x : Range). x.pattern) same ∙ rw high refl in
+    ap (λ (x : Range). x.pattern) same ∙ rw high refl in
     let least : 2 ^ (r.depth - 1) ≤ r.pattern = ltb-false r.pattern (2 ^ (r.depth - 1)) high in
     omega (arith, turned, least, pow_pos (r.depth - 1))
 
@@ -52,7 +52,8 @@ module _ (hash : RecordKey → ℕ) (w : World) (x y : ℕ) (sound : IsSoundWorl
   buddy_is_other_half = record {
     apart = λ same. not_own_buddy r (is_lower r) deep refl
         (ap (range_at w.store) (sym same) ∙ is_buddy (ap (λ (n : ℕ). (range_at w.store n).depth) same));
-    deep = buddy_depth (range_at w.store) (chain w.store) 0 POSITIONS x y sound.file.chained.tiled on found.0 deep found.1;
+    deep = buddy_depth (range_at w.store) (chain w.store) 0 POSITIONS x y sound.file.chained.tiled on found.0 deep
+        found.1;
     lower = λ same low. subst (λ (b : Range). AreHalvesOf (parent_of r) r b) (sym (is_buddy same))
         (lower_buddies r deep low);
     upper = λ same high. subst (λ (b : Range). AreHalvesOf (parent_of r) b r) (sym (is_buddy same))

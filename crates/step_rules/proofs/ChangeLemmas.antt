@@ -1,30 +1,25 @@
 -- A change of the file by the seat that may write the directory keeps the world sound, and leaves the others what
 -- they know, where the file stays sound and the change does to pages what it may.
-use Rattle.std.proofs.Common.{◌≡◌, ◌≢◌, ◌≤◌, ◌⊎◌, ℕ, List, Bool, true, false, if◌then◌else◌, Option, Some, refl, sym, ap, ◌∙◌, subst, inl, inr, arith}
+use Rattle.std.proofs.Common.{◌≡◌, ◌≢◌, ◌≤◌, ◌⊎◌, ℕ, List, Bool, true, false, if◌then◌else◌, Option, refl, sym, ap, ◌∙◌, subst, inl, inr, arith}
 use Rattle.std.proofs.lemmas.Bool.{cases_eq, true≢false}
 use Rattle.std.specs.List.{Contains}
-use Rattle.positions.specs.declared.range.Range.{Range}
 use Rattle.positions.specs.Positions.{position_of}
 use Rattle.bucket_page.specs.declared.record_key.RecordKey.{RecordKey}
-use Rattle.bucket_page.specs.declared.page.PageKind.{PageKind}
-use Rattle.page_locks.specs.declared.lock.LockKind.TheVariants.{Exclusive}
 use Rattle.page_locks.specs.declared.lock.LockName.{LockName}
 use Rattle.page_locks.specs.declared.lock.LockName.TheVariants.{Directory, Page}
-use Rattle.page_locks.specs.Writers.{IsWriter, HasNoWriter}
-use Rattle.page_locks.specs.Table.{held}
+use Rattle.page_locks.specs.Writers.{IsWriter}
 use Rattle.page_locks.proofs.WriterLemmas.{one_writer}
 use Rattle.hash_file.specs.Store.{Store, page_at, has_bucket, range_at, next_at}
 use Rattle.hash_file.specs.Chain.{chain}
-use Rattle.hash_file.specs.Change.{Change, Quiet, aside, busy, owned}
+use Rattle.hash_file.specs.Change.{Change, aside, busy, owned}
 use Rattle.hash_file.specs.Search.{reach, Leads}
 use Rattle.hash_file.specs.Sound.{IsSound}
 use Rattle.hash_file.specs.Kept.{KeepsContents, Keeps}
 use Rattle.hash_file.proofs.Roles.{live_not_owned}
 use Rattle.step_rules.specs.World.{World, gone_on, IsHeld, MayAim, IsReached}
-use Rattle.step_rules.specs.Sound.{IsSoundWorld, IsWrittenBy}
+use Rattle.step_rules.specs.Sound.{IsSoundWorld}
 use Rattle.queue_records.specs.Spelling.{counter_key}
 use Rattle.step_rules.specs.Ids.{next_in, queue_record, HasKeyIn, KeepsIds}
-use Rattle.step_rules.specs.Leaves.{Leaves}
 use Rattle.step_rules.specs.PageSteps.{Changes}
 use Rattle.step_rules.specs.Does.{KeepsOthers}
 use Rattle.step_rules.proofs.LockLemmas.{IsHeld-writer}

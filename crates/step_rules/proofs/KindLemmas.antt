@@ -1,11 +1,11 @@
 -- Each kind of step, and schedules of steps.
-use Rattle.std.proofs.Common.{◌≡◌, ◌≢◌, ℕ, [], ◌∷◌, List, refl, sym, subst, inl, inr}
+use Rattle.std.proofs.Common.{◌≡◌, ℕ, [], ◌∷◌, List, refl, sym, subst, inl, inr}
 use Rattle.positions.specs.Ranges.{upper_half_of}
 use Rattle.bucket_page.specs.declared.record_key.RecordKey.{RecordKey}
 use Rattle.hash_file.specs.Store.{Store, range_at}
 use Rattle.hash_file.specs.Change.{Change, Quiet, Taken, Filled, Linked, Absorbed, Buried, Drained, Freed}
 use Rattle.hash_file.specs.Changes.{take_page, copy_directory, raise_depth, write_new, write_old, retarget, set_counts, split_counts, merge_counts, write_left, write_tombstone, write_free, link_free, lower_depth}
-use Rattle.hash_file.specs.Kept.{KeepsContents, ChangesRecord}
+use Rattle.hash_file.specs.Kept.{KeepsContents}
 use Rattle.hash_file.proofs.TakePage.{take_page_keeps, link_free_keeps}
 use Rattle.hash_file.proofs.Doubling.{copy_directory_keeps, raise_depth_keeps, lower_depth_keeps}
 use Rattle.hash_file.proofs.OffChain.{write_new_keeps, write_tombstone_keeps, write_free_keeps}
@@ -18,13 +18,13 @@ use Rattle.step_rules.specs.World.{World}
 use Rattle.step_rules.specs.Sound.{IsSoundWorld}
 use Rattle.step_rules.specs.Known.{Known, Holds}
 use Rattle.step_rules.specs.LockSteps.{Hops}
-use Rattle.step_rules.specs.PageSteps.{Changes, WritesRecord, Retargets, SetsCounts}
-use Rattle.step_rules.specs.Does.{Does, KeepsOthers}
+use Rattle.step_rules.specs.PageSteps.{Changes, Retargets, SetsCounts}
 use Rattle.step_rules.specs.Laws.{KindKeeps, KindKeepsContents, Move, LeadAlong, StandsStill}
 use Rattle.step_rules.proofs.KnownLemmas.{Holds-kept}
-use Rattle.step_rules.proofs.LockStepLemmas.{KeepsOthers-same, KeepsOthers-grant, KeepsOthers-release, KeepsOthers-convert, KeepsOthers-hop}
+use Rattle.step_rules.proofs.LockStepLemmas.{KeepsOthers-same, KeepsOthers-grant, KeepsOthers-release, KeepsOthers-convert}
+use Rattle.step_rules.proofs.HopStepLemmas.{KeepsOthers-hop}
 use Rattle.step_rules.proofs.ChangeLemmas.{file}
-use Rattle.step_rules.proofs.RecordStepLemmas.{KeepsOthers-record, changes_record}
+use Rattle.step_rules.proofs.RecordStepLemmas.{KeepsOthers-record}
 use Rattle.step_rules.proofs.SplitStepLemmas.{KeepsOthers-take_page, KeepsOthers-copy_directory, KeepsOthers-raise_depth, KeepsOthers-write_new, KeepsOthers-write_old}
 use Rattle.step_rules.proofs.MergeStepLemmas.{KeepsOthers-retarget, KeepsOthers-set_counts, KeepsOthers-write_left, KeepsOthers-tombstone, KeepsOthers-write_free, KeepsOthers-link_free, KeepsOthers-lower_depth}
 

@@ -2,6 +2,7 @@ pub mod StructureLemmas
 pub mod KnownLemmas
 pub mod LockLemmas
 pub mod LockStepLemmas
+pub mod HopStepLemmas
 pub mod ChangeLemmas
 pub mod RecordStepLemmas
 pub mod SplitStepLemmas

@@ -1,11 +1,10 @@
 -- What seats hold through a change of one name, in the words of steps.
-use Rattle.std.proofs.Common.{◌≡◌, ◌≢◌, ◌⊎◌, ℕ, Option, Some, None, IsSome, List, true, false, refl, sym, ap, ◌∙◌, subst, inl, inr}
+use Rattle.std.proofs.Common.{◌≡◌, ◌≢◌, ◌⊎◌, ℕ, Option, Some, None, IsSome, List, true, refl, sym, ap, ◌∙◌, subst, inl, inr}
 use Rattle.std.proofs.lemmas.Bool.{cases_eq, cases_Bool, true≢false}
 use Rattle.page_locks.specs.declared.lock.Lock.{Lock}
 use Rattle.page_locks.specs.declared.lock.LockKind.{LockKind}
-use Rattle.page_locks.specs.declared.lock.LockKind.TheVariants.{Read, Selective, Exclusive}
+use Rattle.page_locks.specs.declared.lock.LockKind.TheVariants.{Selective, Exclusive}
 use Rattle.page_locks.specs.declared.lock.LockName.{LockName}
-use Rattle.page_locks.specs.declared.lock.LockName.TheVariants.{Directory, Page}
 use Rattle.page_locks.specs.Locks.{is_same, kind_of}
 use Rattle.page_locks.specs.Table.{Table, IsSeat, held, with_lock, without_lock, with_kind}
 use Rattle.page_locks.specs.Writers.{may_write, IsWriter, ChangesOnly}

@@ -1,6 +1,6 @@
 -- Steps that change locks alone keep the world sound, and leave the others what they know.
-use Rattle.std.proofs.Common.{◌≡◌, ◌≢◌, ◌≤◌, ◌⊎◌, ℕ, List, [], ◌∷◌, ◌++◌, length, Some, None, true, false, refl, sym, ap, ◌∙◌, subst, inl, inr, arith}
-use Rattle.std.proofs.lemmas.Bool.{cases_eq, cases_Bool, true≢false}
+use Rattle.std.proofs.Common.{◌≡◌, ◌≢◌, ◌⊎◌, ℕ, List, [], ◌∷◌, ◌++◌, length, None, refl, sym, ap, ◌∙◌, subst, inl, inr, arith}
+use Rattle.std.proofs.lemmas.Bool.{cases_eq, cases_Bool}
 use Rattle.std.specs.List.{Contains}
 use Rattle.positions.proofs.MemberLaws.{contains_none}
 use Rattle.bucket_page.specs.declared.record_key.RecordKey.{RecordKey}
@@ -10,24 +10,18 @@ use Rattle.page_locks.specs.declared.lock.LockKind.TheVariants.{Selective, Exclu
 use Rattle.page_locks.specs.declared.lock.LockName.{LockName}
 use Rattle.page_locks.specs.declared.lock.LockName.TheVariants.{Directory, Page}
 use Rattle.page_locks.specs.Locks.{kind_of, lock_of, without, converted}
-use Rattle.page_locks.specs.Table.{Table, IsSeat, row_of, held, with_row, with_lock, without_lock, with_kind, IsLawful}
+use Rattle.page_locks.specs.Table.{Table, IsSeat, row_of, held, with_lock, without_lock, with_kind}
 use Rattle.page_locks.specs.Writers.{may_write, IsWriter, HasNoWriter}
 use Rattle.page_locks.proofs.TableLemmas.{IsLawful-grant, IsLawful-release, IsLawful-convert}
-use Rattle.page_locks.proofs.ChangeLemmas.{length-with_row, IsSeat-with_row, held-grant, ChangesOnly-grant, ChangesOnly-release, ChangesOnly-convert}
+use Rattle.page_locks.proofs.ChangeLemmas.{length-with_row, ChangesOnly-grant, ChangesOnly-release, ChangesOnly-convert}
 use Rattle.page_locks.proofs.WriterLemmas.{held-kept, HasNoWriter-before, HasNoWriter-before_grant, HasNoWriter-before_convert}
-use Rattle.hash_file.specs.Chain.{chain}
 use Rattle.hash_file.specs.Change.{Change, Quiet, busy}
-use Rattle.hash_file.specs.Store.{next_at}
-use Rattle.hash_file.specs.Search.{Leads}
-use Rattle.hash_file.specs.Looks.{Answers}
-use Rattle.hash_file.proofs.Searches.{hops_lead_on}
 use Rattle.step_rules.specs.World.{World, with_locks, IsHeld, IsReached}
 use Rattle.step_rules.specs.Sound.{IsSoundWorld, IsWrittenBy}
-use Rattle.step_rules.specs.Structure.{KeepsStructure}
 use Rattle.step_rules.specs.Leaves.{Leaves}
-use Rattle.step_rules.specs.LockSteps.{Grants, IsDone, Releases, Reads, LooksAt, GoesOn, Hops, Converts}
+use Rattle.step_rules.specs.LockSteps.{Grants, Releases, Converts}
 use Rattle.step_rules.specs.Does.{KeepsOthers}
-use Rattle.step_rules.proofs.LockLemmas.{names_eq, none_is_not_some, IsHeld-writer, IsHeld-some, IsHeld-same, IsWriter-same, held-granted, held-unreleased, held-released, IsWriter-converted}
+use Rattle.step_rules.proofs.LockLemmas.{names_eq, none_is_not_some, IsHeld-writer, IsHeld-same, IsWriter-same, held-granted, held-unreleased, held-released, IsWriter-converted}
 
 -- a step that changes its seat's row alone leaves all else
 pub Leaves-locks : (seat : ℕ) (w : World) (t : Table) → length t ≡ length w.locks →
@@ -213,73 +207,3 @@ module _ (hash : RecordKey → ℕ) (seat : ℕ) (old : World) (sound : IsSoundW
       kept : (i page : ℕ) → held turned i (Page page) ≡ held old.locks i (Page page)
       kept i page = held-kept seat Directory old.locks turned
           (ChangesOnly-convert old.locks seat c.seated Directory Exclusive) i (Page page) (λ e. absurd cc)
-
--- ---- a hop: one page granted, and the other given back
-module _ (hash : RecordKey → ℕ) (seat : ℕ) (old new : World) (sound : IsSoundWorld hash old) (page k : ℕ)
-    (kind : LockKind)
-    (had : held old.locks seat (Page page) ≡ Some kind) (leads : Leads old.store old.change page k)
-    (other : Answers old.store page k → ⊥) (g : GoesOn page kind seat old new) where
-  abbrev further : LockName
-  further = Page (next_at old.store page)
-
-  abbrev both : World
-  both = with_locks (with_lock old.locks seat further kind) old
-
-  reached : (n : ℕ) → further ≡ Page n → IsReached old n
-  reached n same =
-      let is : next_at old.store page ≡ n = cc in
-      subst (IsReached old) is (hops_lead_on hash old.store old.change
-      (chain old.store) page k sound.file leads other).leads.stands
-
-  grants : Grants seat old both
-  grants = record {
-    seated = g.seated;
-    room = g.room;
-    name = further;
-    kind = kind;
-    fresh = g.fresh;
-    free = g.free;
-    aimed = reached;
-    is = refl;
-  }
-
-  was_writer : IsWriter both.locks seat Directory → IsWriter old.locks seat Directory
-  was_writer w =
-      ap may_write (sym (held-kept seat further old.locks both.locks
-      (ChangesOnly-grant old.locks seat g.seated further kind) seat Directory (λ e. absurd cc))) ∙ w
-
-  releases : Releases seat both new
-  releases = record {
-    seated = IsSeat-with_row old.locks seat seat (row_of old.locks seat ++ lock_of further kind ∷ []) g.seated;
-    name = Page page;
-    had = IsHeld-same old.locks both.locks seat (Page page)
-        (held-granted old.locks seat g.seated further kind seat (Page page) g.fresh
-        (IsHeld-some old.locks seat (Page page) kind had))
-        (IsHeld-some old.locks seat (Page page) kind had);
-    idle = λ n same w there.
-        let is : n ≡ page = cc in
-        g.idle (was_writer w) (subst (λ (m : ℕ). Contains (busy old.change) m) is there);
-    done = λ same w. absurd cc;
-    is = g.is;
-  }
-
-  KeepsOthers-goes_on : KeepsOthers hash seat old new
-  KeepsOthers-goes_on =
-      let one : KeepsOthers hash seat old both = KeepsOthers-grant hash seat old sound both grants in
-      let two : KeepsOthers hash seat both new = KeepsOthers-release hash seat both one.sound new releases in
-      let t : Table = without_lock both.locks seat (Page page) in
-      let same : new ≡ with_locks t old = g.is in
-      record {
-        sound = two.sound;
-        leaves = subst (Leaves seat old) (sym same) (Leaves-locks seat old t
-            (ap (λ (w : World). length w.locks) (sym same) ∙ two.leaves.seats ∙ one.leaves.seats)
-            (λ i apart. ap (λ (w : World). row_of w.locks i) (sym same) ∙ two.leaves.rows i apart
-            ∙ one.leaves.rows i apart));
-      }
-
-pub KeepsOthers-hop : (hash : RecordKey → ℕ) (seat : ℕ) (old new : World) → IsSoundWorld hash old → Hops seat old new →
-    KeepsOthers hash seat old new
-KeepsOthers-hop hash seat old new sound h = elim h.hops [
-  | inl back ↦ KeepsOthers-same hash seat old new sound back.1
-  | inr on ↦ KeepsOthers-goes_on hash seat old new sound h.page h.pseudokey h.kind h.had h.leads on.0 on.1
-]

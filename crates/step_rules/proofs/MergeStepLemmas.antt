@@ -1,6 +1,6 @@
 -- The steps of a merge and of a halving keep the world sound, and leave the others what they know; so do those that a
 -- split and a merge share.
-use Rattle.std.proofs.Common.{◌≡◌, ◌≢◌, ◌≤◌, ◌⊎◌, ℕ, [], ◌∷◌, List, refl, sym, ap, ◌∙◌, subst, inl, inr, arith}
+use Rattle.std.proofs.Common.{◌≢◌, ℕ, [], ◌∷◌, refl, sym, ap, ◌∙◌, subst, inl, inr, arith}
 use Rattle.std.specs.List.{Contains}
 use Rattle.positions.specs.declared.range.Range.{Range}
 use Rattle.positions.specs.Ranges.{upper_half_of}
@@ -11,8 +11,7 @@ use Rattle.bucket_page.specs.Dividing.{joined}
 use Rattle.page_locks.specs.declared.lock.LockName.TheVariants.{Directory, Page}
 use Rattle.page_locks.specs.Table.{held}
 use Rattle.page_locks.specs.Writers.{IsWriter}
-use Rattle.hash_file.specs.Store.{Store, page_at, bucket_at}
-use Rattle.hash_file.specs.Chain.{chain}
+use Rattle.hash_file.specs.Store.{Store, bucket_at}
 use Rattle.hash_file.specs.Change.{Change, Quiet, Linked, Absorbed, Buried, Drained, Freed}
 use Rattle.hash_file.specs.Changes.{retarget, set_counts, split_counts, merge_counts, write_left, write_tombstone, write_free, link_free, lower_depth}
 use Rattle.hash_file.specs.Search.{Leads}
@@ -22,7 +21,7 @@ use Rattle.hash_file.proofs.Merging.{write_left_keeps}
 use Rattle.hash_file.proofs.OffChain.{write_tombstone_keeps, write_free_keeps}
 use Rattle.hash_file.proofs.Doubling.{lower_depth_keeps}
 use Rattle.hash_file.proofs.Retargeting.{retarget_keeps_split, retarget_keeps_merge, set_counts_keeps_split, set_counts_keeps_merge}
-use Rattle.step_rules.specs.World.{World, IsHeld, MayAim}
+use Rattle.step_rules.specs.World.{World, MayAim}
 use Rattle.step_rules.specs.Sound.{IsSoundWorld}
 use Rattle.step_rules.specs.PageSteps.{Changes, Retargets, CountsSplit, CountsMerge, SetsCounts, WritesLeft, WritesTombstone, WritesFree, LinksFree, LowersDepth}
 use Rattle.step_rules.specs.Does.{KeepsOthers}

@@ -1,17 +1,14 @@
 -- Each kind of step changes one page at most, and one lock.
-use Rattle.std.proofs.Common.{◌≡◌, ◌≢◌, ◌⊎◌, ◌≤◌, ℕ, ◌<◌, ◌==◌, slice_index_or, Bool, true, false, ◌&&◌, ◌-◌, ◌^◌, if◌then◌else◌, List, length, Some, refl, sym, ap, ◌∙◌, subst, inl, inr, ne_eqb}
+use Rattle.std.proofs.Common.{◌≡◌, ◌≢◌, ◌≤◌, ℕ, ◌==◌, slice_index_or, Bool, ◌&&◌, ◌-◌, ◌^◌, if◌then◌else◌, List, length, refl, sym, ap, ◌∙◌, subst, inl, inr, ne_eqb}
 use Rattle.std.proofs.lemmas.Bool.{cases_lt}
 use Rattle.std.proofs.lemmas.List.{get_or_past}
 use Rattle.positions.specs.Ranges.{upper_half_of}
-use Rattle.bucket_page.specs.declared.record_key.RecordKey.{RecordKey}
 use Rattle.bucket_page.specs.declared.page.PageKind.TheVariants as kinds
 use Rattle.bucket_page.specs.Bucket.{Bucket}
 use Rattle.bucket_page.specs.Dividing.{lower_half, upper_half, joined}
 use Rattle.directory.specs.Entries.{page_of, is_upper, is_in_range}
-use Rattle.page_locks.specs.declared.lock.LockKind.{LockKind}
 use Rattle.page_locks.specs.declared.lock.LockKind.TheVariants.{Exclusive}
-use Rattle.page_locks.specs.declared.lock.LockName.{LockName}
-use Rattle.page_locks.specs.declared.lock.LockName.TheVariants.{Directory, Page}
+use Rattle.page_locks.specs.declared.lock.LockName.TheVariants.{Directory}
 use Rattle.page_locks.specs.Table.{with_lock, without_lock, with_kind}
 use Rattle.page_locks.specs.Writers.{ChangesOnly}
 use Rattle.page_locks.proofs.ChangeLemmas.{ChangesOnly-grant, ChangesOnly-release, ChangesOnly-convert}
@@ -24,7 +21,7 @@ use Rattle.step_rules.specs.declared.kind.Kind.TheVariants.{Grant, Release, Read
 use Rattle.step_rules.specs.World.{World, with_locks, with_store, gone_on}
 use Rattle.step_rules.specs.LockSteps.{Hops}
 use Rattle.step_rules.specs.PageSteps.{Changes, Retargets, SetsCounts}
-use Rattle.step_rules.specs.OnePage.{WritesHeader, WritesEntries, WritesPage, ChangesPage, ChangesLocks, KindChangesLittle}
+use Rattle.step_rules.specs.OnePage.{WritesHeader, WritesEntries, WritesPage, ChangesLocks, KindChangesLittle}
 
 -- an entry stays where the page is another's, whatever else is asked of it
 entry_elsewhere : (page i : ℕ) (ask : ℕ → Bool) (become : ℕ → ℕ) (es : List ℕ) → page_of i ≢ page →
@@ -60,12 +57,14 @@ module _ (seat : ℕ) (old new : World) where
   -- a step of one who may write the directory leaves the locks
   by_change : (P : Store → Type 0) (c : Change) (t : Store) (d : Change) → Changes seat c t d old new → P t →
       P new.store × (new.locks ≡ old.locks)
-  by_change P c t d changes p = told (λ (w : World). P w.store × (w.locks ≡ old.locks)) new (gone_on t d old) changes.is (p, refl)
+  by_change P c t d changes p =
+      told (λ (w : World). P w.store × (w.locks ≡ old.locks)) new (gone_on t d old) changes.is (p, refl)
 
   retargets : Retargets seat old new → WritesEntries old.store new.store × (new.locks ≡ old.locks)
   retargets does =
       let r = upper_half_of does.whole in
-      let asks : ℕ → Bool = is_in_range old.store.header.depth (record { local_depth = r.depth; pattern = r.pattern }) in
+      let asks : ℕ → Bool =
+      is_in_range old.store.header.depth (record { local_depth = r.depth; pattern = r.pattern }) in
       elim does.changes [
         | inl split ↦ by_change (WritesEntries old.store) (Linked does.lower does.upper does.whole)
             (retarget does.page r does.upper old.store) (Linked does.lower does.upper does.whole) split
@@ -130,7 +129,8 @@ kind_changes_little Look hash seat old new does =
 kind_changes_little Decide hash seat old new does = (ap (λ (w : World). w.store) does, ap (λ (w : World). w.locks) does)
 kind_changes_little Hop hash seat old new does = hops seat old new does
 kind_changes_little WriteRecord hash seat old new does =
-    let b : Bucket = record (bucket_at old.store does.page) { records = written does.write (records_at old.store does.page) } in
+    let b : Bucket =
+    record (bucket_at old.store does.page) { records = written does.write (records_at old.store does.page) } in
     told (λ (w : World). WritesPage old.store w.store × (w.locks ≡ old.locks)) new
     (with_store (write_record does.page does.write old.store) old) does.is
     ((does.page, kinds.Bucket b, refl), refl)

@@ -1,24 +1,22 @@
 -- What a seat learns by a step of its own.
-use Rattle.std.proofs.Common.{◌≡◌, ◌≢◌, ◌≤◌, ◌<◌, ◌%◌, ◌^◌, ◌⊎◌, ℕ, [], ◌∷◌, List, Bool, true, false, Some, IsSome, refl, sym, ap, ◌∙◌, subst, inl, inr, arith}
-use Rattle.std.proofs.lemmas.Bool.{cases_eq, cases_Bool, true≢false}
+use Rattle.std.proofs.Common.{◌≡◌, ◌≢◌, ◌≤◌, ◌<◌, ◌%◌, ◌^◌, ℕ, [], ◌∷◌, true, Some, refl, sym, ap, ◌∙◌, subst, inl, inr, arith}
+use Rattle.std.proofs.lemmas.Bool.{cases_eq, true≢false}
 use Rattle.std.proofs.lemmas.Nat.{mod_below, pow_pos}
 use Rattle.std.proofs.Math.Pow.{pow_mono}
 use Rattle.std.specs.List.{Contains}
 use Rattle.positions.proofs.MemberLaws.{contains_cases, contains_head, contains_none, contains_tail}
 use Rattle.positions.proofs.RangeLaws.{covers_truncated}
 use Rattle.bucket_page.specs.declared.record_key.RecordKey.{RecordKey}
-use Rattle.bucket_page.specs.declared.page.PageKind.{PageKind}
 use Rattle.bucket_page.specs.declared.page.PageKind.TheVariants as kinds
 use Rattle.bucket_page.specs.Records.{lookup}
 use Rattle.page_locks.specs.declared.lock.LockKind.{LockKind}
-use Rattle.page_locks.specs.declared.lock.LockKind.TheVariants.{Exclusive}
 use Rattle.page_locks.specs.declared.lock.LockName.{LockName}
 use Rattle.page_locks.specs.declared.lock.LockName.TheVariants.{Queue, Directory, Page}
 use Rattle.page_locks.specs.Table.{Table, held, with_lock}
 use Rattle.page_locks.specs.Writers.{may_write, IsWriter, HasNoWriter}
 use Rattle.page_locks.proofs.ChangeLemmas.{held-grant}
 use Rattle.page_locks.proofs.WriterLemmas.{HasNoWriter-free}
-use Rattle.hash_file.specs.Store.{Store, is_bucket, page_at, entry_at, next_at, records_at, range_at, has_bucket}
+use Rattle.hash_file.specs.Store.{Store, is_bucket, page_at, entry_at, next_at, records_at, range_at}
 use Rattle.hash_file.specs.Chain.{chain, IsBucketOf}
 use Rattle.hash_file.specs.Change.{Change, Quiet, Taken, Filled, Linked, Absorbed, Buried, Drained, Freed, aside, busy}
 use Rattle.hash_file.specs.Search.{Leads}

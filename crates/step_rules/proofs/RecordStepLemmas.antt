@@ -1,7 +1,6 @@
 -- A record that is written keeps the world sound, and leaves the others what they know.
-use Rattle.std.proofs.Common.{◌≡◌, ◌≢◌, ◌≤◌, ◌⊎◌, ◌<◌, ℕ, List, [], Bool, true, false, if◌then◌else◌, Option, Some, length, refl, sym, ap, ◌∙◌, subst, inl, inr, arith}
-use Rattle.std.proofs.lemmas.Bool.{cases_eq, cases_Bool, cases_lt, true≢false}
-use Rattle.std.proofs.lemmas.List.{get_or_past}
+use Rattle.std.proofs.Common.{◌≡◌, ◌≢◌, ◌⊎◌, ◌<◌, ℕ, List, Bool, true, if◌then◌else◌, Some, length, refl, sym, ap, ◌∙◌, subst, inl, inr, arith}
+use Rattle.std.proofs.lemmas.Bool.{cases_eq, cases_Bool, true≢false}
 use Rattle.std.specs.List.{Contains}
 use Rattle.bucket_page.specs.declared.record_key.RecordKey.{RecordKey}
 use Rattle.bucket_page.specs.declared.page.PageKind.{PageKind}
@@ -14,21 +13,19 @@ use Rattle.page_locks.specs.declared.lock.LockKind.TheVariants.{Exclusive}
 use Rattle.page_locks.specs.declared.lock.LockName.TheVariants.{Directory, Page}
 use Rattle.page_locks.specs.Table.{held}
 use Rattle.page_locks.specs.Writers.{IsWriter}
-use Rattle.hash_file.specs.Store.{Store, is_bucket, bucket_of, page_at, has_bucket, bucket_at, records_at}
+use Rattle.hash_file.specs.Store.{Store, is_bucket, bucket_of, page_at, bucket_at, records_at}
 use Rattle.hash_file.specs.Chain.{chain, contents}
-use Rattle.hash_file.specs.Change.{Change, Quiet, busy, owned, aside}
-use Rattle.hash_file.specs.Changes.{Write, key_of, value_after, written, write_record}
-use Rattle.hash_file.specs.Search.{Leads}
+use Rattle.hash_file.specs.Change.{busy, aside}
+use Rattle.hash_file.specs.Changes.{key_of, value_after, written, write_record}
 use Rattle.hash_file.specs.Kept.{ChangesRecord}
 use Rattle.hash_file.specs.Laws as laws
 use Rattle.hash_file.proofs.Frames.{page_other, page_same}
-use Rattle.hash_file.proofs.Roles.{numbered, live_not_owned}
+use Rattle.hash_file.proofs.Roles.{numbered}
 use Rattle.hash_file.proofs.WriteRecord.{writes_record}
-use Rattle.step_rules.specs.World.{World, with_store, IsHeld, MayAim, IsReached, guard_of}
-use Rattle.step_rules.specs.Sound.{IsSoundWorld, IsWrittenBy}
-use Rattle.step_rules.specs.Structure.{bare, KeepsStructure}
+use Rattle.step_rules.specs.World.{World, guard_of}
+use Rattle.step_rules.specs.Sound.{IsSoundWorld}
+use Rattle.step_rules.specs.Structure.{bare}
 use Rattle.step_rules.specs.Ids.{KeepsIds}
-use Rattle.step_rules.specs.Leaves.{Leaves}
 use Rattle.step_rules.specs.PageSteps.{WritesRecord}
 use Rattle.step_rules.specs.Does.{KeepsOthers}
 use Rattle.step_rules.proofs.StructureLemmas.{chain-same}

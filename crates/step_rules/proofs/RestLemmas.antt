@@ -1,5 +1,5 @@
 -- Worlds in which no seat holds a lock.
-use Rattle.std.proofs.Common.{◌≡◌, ℕ, List, [], None, refl, ap, subst}
+use Rattle.std.proofs.Common.{◌≡◌, ℕ, List, None, refl, ap, subst}
 use Rattle.bucket_page.specs.declared.record_key.RecordKey.{RecordKey}
 use Rattle.page_locks.specs.declared.lock.Lock.{Lock}
 use Rattle.page_locks.specs.declared.lock.LockName.{LockName}
@@ -9,7 +9,7 @@ use Rattle.page_locks.specs.Table.{Table, held, IsLawful}
 use Rattle.page_locks.proofs.WriterLemmas.{HasNoWriter-at_rest}
 use Rattle.positions.proofs.MemberLaws.{contains_none}
 use Rattle.hash_file.specs.Store.{Store}
-use Rattle.hash_file.specs.Change.{Change, Quiet}
+use Rattle.hash_file.specs.Change.{Quiet}
 use Rattle.hash_file.specs.Sound.{IsSound}
 use Rattle.step_rules.specs.World.{World}
 use Rattle.step_rules.specs.Sound.{IsSoundWorld}

@@ -1,31 +1,29 @@
 -- The steps of a split and of a doubling keep the world sound, and leave the others what they know.
-use Rattle.std.proofs.Common.{◌≡◌, ◌≢◌, ◌≤◌, ◌⊎◌, ℕ, [], ◌∷◌, List, refl, sym, ap, ◌∙◌, subst, inl, inr, arith}
+use Rattle.std.proofs.Common.{◌≡◌, ◌≢◌, ℕ, [], ◌∷◌, refl, subst, inl, inr, arith}
 use Rattle.std.specs.List.{Contains}
-use Rattle.positions.specs.Ranges.{upper_half_of}
 use Rattle.positions.proofs.MemberLaws.{contains_cases, contains_head, contains_none}
 use Rattle.bucket_page.specs.declared.record_key.RecordKey.{RecordKey}
 use Rattle.bucket_page.specs.declared.page.PageKind.TheVariants as kinds
 use Rattle.bucket_page.specs.Dividing.{lower_half, upper_half}
 use Rattle.page_locks.specs.declared.lock.LockName.TheVariants.{Directory, Page}
 use Rattle.page_locks.specs.Writers.{IsWriter}
-use Rattle.hash_file.specs.Store.{Store, page_at, bucket_at, range_at}
+use Rattle.hash_file.specs.Store.{Store, bucket_at, range_at}
 use Rattle.hash_file.specs.Chain.{chain}
-use Rattle.hash_file.specs.Change.{Change, Quiet, Taken, Filled, Linked, aside, busy, owned}
-use Rattle.hash_file.specs.Changes.{take_page, copy_directory, raise_depth, write_new, write_old, retarget, set_counts, split_counts}
+use Rattle.hash_file.specs.Change.{Change, Quiet, Taken, Filled, Linked, aside}
+use Rattle.hash_file.specs.Changes.{take_page, copy_directory, raise_depth, write_new, write_old}
 use Rattle.hash_file.specs.Sound.{IsSound}
 use Rattle.hash_file.proofs.Frames.{page_other}
 use Rattle.hash_file.proofs.TakePage.{take_page_keeps}
 use Rattle.hash_file.proofs.OffChain.{write_new_keeps}
 use Rattle.hash_file.proofs.Splitting.{write_old_keeps}
 use Rattle.hash_file.proofs.Doubling.{copy_directory_keeps, raise_depth_keeps}
-use Rattle.hash_file.proofs.Retargeting.{retarget_keeps_split, set_counts_keeps_split}
 use Rattle.hash_file.proofs.Roles.{live_not_owned}
-use Rattle.step_rules.specs.World.{World, IsHeld}
+use Rattle.step_rules.specs.World.{World}
 use Rattle.step_rules.specs.Sound.{IsSoundWorld}
-use Rattle.step_rules.specs.PageSteps.{Changes, TakesPage, CopiesDirectory, RaisesDepth, WritesNew, WritesOld, CountsSplit}
+use Rattle.step_rules.specs.PageSteps.{TakesPage, CopiesDirectory, RaisesDepth, WritesNew, WritesOld}
 use Rattle.step_rules.specs.Does.{KeepsOthers}
 use Rattle.step_rules.proofs.LockLemmas.{IsHeld-writer}
-use Rattle.step_rules.proofs.ChangeLemmas.{other_writer, other_page, close_kept, not_live, file}
+use Rattle.step_rules.proofs.ChangeLemmas.{other_writer, other_page, close_kept, file}
 
 module _ (hash : RecordKey → ℕ) (seat : ℕ) (old new : World) (sound : IsSoundWorld hash old) where
   pub KeepsOthers-take_page : TakesPage seat old new → KeepsOthers hash seat old new

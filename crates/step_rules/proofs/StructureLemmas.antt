@@ -1,5 +1,5 @@
 -- Facts of the structure are told by all of the file but its records.
-use Rattle.std.proofs.Common.{◌≡◌, ℕ, zero, suc, ◌<◌, ◌+◌, ◌-◌, ◌^◌, List, [], ◌∷◌, Bool, true, if◌then◌else◌, nat_le, refl, sym, ap, ◌∙◌, subst, inl, inr}
+use Rattle.std.proofs.Common.{◌≡◌, ℕ, zero, suc, ◌+◌, ◌-◌, ◌^◌, List, [], ◌∷◌, Bool, if◌then◌else◌, nat_le, refl, sym, ap, ◌∙◌, subst, inl, inr}
 use Rattle.std.specs.List.{Contains}
 use Rattle.positions.specs.declared.range.Range.{Range}
 use Rattle.positions.specs.Positions.{position_of}
@@ -9,11 +9,11 @@ use Rattle.positions.specs.Links.{met_from}
 use Rattle.bucket_page.specs.declared.page.PageKind.{PageKind}
 use Rattle.bucket_page.specs.declared.page.PageKind.TheVariants as kinds
 use Rattle.hash_file.specs.Store.{Store, is_bucket, bucket_of, range_of, page_at, entry_at, has_bucket, range_at, next_at}
-use Rattle.hash_file.specs.Chain.{chain, IsBucketOf}
+use Rattle.hash_file.specs.Chain.{chain}
 use Rattle.hash_file.specs.Change.{Change, aside}
-use Rattle.hash_file.specs.Search.{reach, LeadsOn, Leads, distance_on, distance}
+use Rattle.hash_file.specs.Search.{reach, Leads, distance_on, distance}
 use Rattle.step_rules.specs.World.{World}
-use Rattle.step_rules.specs.Structure.{bare, KeepsStructure, HasShape, IsNear, IsCopiedBefore, IsRetargetedBefore, Structural, InPhase, HasDepth, HasFirstFree, HasCount, Names, Copied, Retargeted, Shaped, OnChain, BucketOf, Near, IsSo}
+use Rattle.step_rules.specs.Structure.{bare, KeepsStructure, Structural, InPhase, HasDepth, HasFirstFree, HasCount, Names, Copied, Retargeted, Shaped, OnChain, BucketOf, Near, IsSo}
 
 -- a page says of the structure what it says without its records
 is_bucket-bare : (p : PageKind) → is_bucket (bare p) ≡ is_bucket p

@@ -6,7 +6,7 @@ use Rattle.page_locks.specs.declared.lock.LockKind.TheVariants.{Selective, Exclu
 use Rattle.page_locks.specs.declared.lock.LockName.{LockName}
 use Rattle.page_locks.specs.declared.lock.LockName.TheVariants.{Directory, Page}
 use Rattle.page_locks.specs.declared.row.TheConstants.{MAX_LOCKS}
-use Rattle.page_locks.specs.Table.{Table, IsSeat, IsFree, row_of, held, with_lock, without_lock, with_kind}
+use Rattle.page_locks.specs.Table.{IsSeat, IsFree, row_of, held, with_lock, without_lock, with_kind}
 use Rattle.page_locks.specs.Writers.{IsWriter}
 use Rattle.hash_file.specs.Store.{next_at}
 use Rattle.hash_file.specs.Change.{Quiet, busy}

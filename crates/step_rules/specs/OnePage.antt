@@ -1,10 +1,10 @@
 -- A step in plain words: it changes one page at most, and one lock at most, or for a Hop one lock for another.
 -- docs/STEPS.md, "The kinds of step".
-use Rattle.std.specs.Prelude.{ℕ, ◌≡◌, ◌≢◌, ◌⊎◌, Some, None, length}
+use Rattle.std.specs.Prelude.{ℕ, ◌≡◌, ◌≢◌, ◌⊎◌, Some, length}
 use Rattle.page_locks.specs.declared.lock.LockKind.{LockKind}
 use Rattle.page_locks.specs.declared.lock.LockName.{LockName}
 use Rattle.page_locks.specs.declared.lock.LockName.TheVariants.{Directory, Page}
-use Rattle.page_locks.specs.Table.{Table, row_of, held, with_lock, without_lock}
+use Rattle.page_locks.specs.Table.{held, with_lock, without_lock}
 use Rattle.page_locks.specs.Writers.{ChangesOnly}
 use Rattle.bucket_page.specs.declared.page.PageKind.{PageKind}
 use Rattle.bucket_page.specs.declared.record_key.RecordKey.{RecordKey}

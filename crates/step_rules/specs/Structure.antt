@@ -1,6 +1,6 @@
 -- The structure of the file: all of it but the records. Facts of it, for the seat that may change it.
 -- docs/STEPS.md, "Words".
-use Rattle.std.specs.Prelude.{ℕ, ◌≡◌, ◌<◌, ◌≤◌, ◌+◌, ◌^◌, true, List, []}
+use Rattle.std.specs.Prelude.{ℕ, ◌≡◌, ◌<◌, ◌≤◌, ◌+◌, ◌^◌, true, []}
 use Rattle.std.specs.List.{Contains}
 use Rattle.positions.specs.declared.range.Range.{Range}
 use Rattle.positions.specs.Ranges.{Covers}

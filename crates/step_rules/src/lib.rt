@@ -14,9 +14,9 @@ pub use laws::{
     only_a_written_record_changes_what_the_file_holds, others_keep_what_they_know,
 };
 pub use learns::{
-    a_buddy_is_the_other_half, a_freed_page_is_nobodys, a_hop_is_led_on, a_look_tells_what_the_file_holds,
-    an_entry_that_was_read_leads, an_owned_directory_is_exact, an_owned_page_that_answers_is_live,
-    own_locks_keep_what_is_known,
+    a_buddy_is_the_other_half, a_freed_page_is_nobodys, a_hop_is_led_on,
+    a_look_tells_what_the_file_holds, an_entry_that_was_read_leads, an_owned_directory_is_exact,
+    an_owned_page_that_answers_is_live, own_locks_keep_what_is_known,
 };
 pub use progress::Progress;
 
