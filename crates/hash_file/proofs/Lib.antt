@@ -20,3 +20,4 @@ pub mod WaysIn
 pub mod Examples
 pub mod WrongChanges
 pub mod SoundExamples
+pub mod Checking

@@ -52,8 +52,8 @@ either_right : (key : RecordKey) (ps qs : List Pair) → lookup key ps ≡ None 
 either_right key ps qs none = rw none refl
 
 module _ (hash : RecordKey → ℕ) (s : Store) (left right : ℕ) (whole : Range) (h : IsSound hash s Quiet)
-  (halves : AreHalvesOf whole (range_at s left) (range_at s right)) (front back : List ℕ)
-  (is : chain s ≡ front ++ left ∷ right ∷ back) where
+    (halves : AreHalvesOf whole (range_at s left) (range_at s right)) (front back : List ℕ)
+    (is : chain s ≡ front ++ left ∷ right ∷ back) where
   abbrev d : Change
   d = Absorbed left right whole
 
@@ -189,10 +189,17 @@ module _ (hash : RecordKey → ℕ) (s : Store) (left right : ℕ) (whole : Rang
     buckets = λ m on. by_page {P = λ n. has_bucket t n ≡ true} m on (ap is_bucket here)
         (λ n was far. ap is_bucket (other n far) ∙ sound.chained.buckets n was);
     shallow = λ m on. by_page {P = λ n. (bucket_at t n).depth ≤ s.header.depth} m on
-        (omega (arith, ap (λ (r : Range). r.depth) left_range, ap (λ (r : Range). r.depth) halves.lower,
-        sound.chained.shallow left left_on))
-        (λ n was far. omega (arith, ap (λ (p : PageKind). (bucket_of p).depth) (other n far),
-        sound.chained.shallow n was));
+        (omega (
+          arith,
+          ap (λ (r : Range). r.depth) left_range,
+          ap (λ (r : Range). r.depth) halves.lower,
+          sound.chained.shallow left left_on,
+        ))
+        (λ n was far. omega (
+          arith,
+          ap (λ (p : PageKind). (bucket_of p).depth) (other n far),
+          sound.chained.shallow n was,
+        ));
   }
 
   placed : (m : ℕ) → Contains ms m → IsPlaced hash (bucket_at t m)
@@ -223,16 +230,21 @@ module _ (hash : RecordKey → ℕ) (s : Store) (left right : ℕ) (whole : Rang
   entry i (inr off) = absurd off
   entry i (inl (on, covers)) = elim (contains_grown_cases front left right back (entry_at s i) on) [
     | inr same ↦ inr (
-        sym same,
-        of_right i (subst (λ n. Covers (range_at s n) i) (sym same) covers))
+      sym same,
+      of_right i (subst (λ n. Covers (range_at s n) i) (sym same) covers),
+    )
     | inl stays ↦ elim (cases_eq (entry_at s i) left) [
       | inl same ↦ (
           let low = of_left i (subst (λ n. Covers (range_at s n) i) same covers) in
-          inl (stays, subst (λ n. Covers (range_at t n) i) (sym same) (subst (λ (r : Range). Covers r i) (sym left_range)
-          (half_in_range whole i valid shallow (inl low)))))
+          inl (
+            stays,
+            subst (λ n. Covers (range_at t n) i) (sym same) (subst (λ (r : Range). Covers r i) (sym left_range)
+                (half_in_range whole i valid shallow (inl low))),
+          ))
       | inr far ↦ inl (
-          stays,
-          subst (λ (p : PageKind). Covers (range_of (bucket_of p)) i) (sym (other (entry_at s i) far)) covers)
+        stays,
+        subst (λ (p : PageKind). Covers (range_of (bucket_of p)) i) (sym (other (entry_at s i) far)) covers,
+      )
     ]
   ]
 
@@ -332,8 +344,9 @@ module _ (hash : RecordKey → ℕ) (s : Store) (left right : ℕ) (whole : Rang
           in_left (half_in_range whole (hash key) valid shallow (inl low)) ∙ look_left key low
           ∙ sym (look_at hash s key ns left sound.chained sound.placed at_left))
       | inr far ↦ look_at hash t key ms m chained placed (
-            stays,
-            subst (λ (p : PageKind). Covers (range_of (bucket_of p)) (hash key)) (sym (other m far)) at_m.1)
+        stays,
+        subst (λ (p : PageKind). Covers (range_of (bucket_of p)) (hash key)) (sym (other m far)) at_m.1,
+      )
           ∙ ap (λ (p : PageKind). lookup key (bucket_of p).records) (other m far)
           ∙ sym (look_at hash s key ns m sound.chained sound.placed at_m)
     ]
@@ -366,12 +379,12 @@ module _ (hash : RecordKey → ℕ) (s : Store) (left right : ℕ) (whole : Rang
       on_chain : (n k : ℕ) → LeadsOn s Quiet ns n k → LeadsOn t d ms n k
       on_chain n k l = elim l.stands [
         | inl on ↦ record {
-            stands = elim (contains_grown_cases front left right back n on) [
-              | inl stays ↦ inl stays
-              | inr same ↦ inr (contains_is [] same)
-            ];
-            reaches = omega (arith, l.reaches, live_reach n on);
-          }
+          stands = elim (contains_grown_cases front left right back n on) [
+            | inl stays ↦ inl stays
+            | inr same ↦ inr (contains_is [] same)
+          ];
+          reaches = omega (arith, l.reaches, live_reach n on);
+        }
         | inr off ↦ absurd (contains_none n off)
       ]
 

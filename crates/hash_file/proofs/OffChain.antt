@@ -37,7 +37,7 @@ pairs_same s t (n ∷ ns) same =
     ∙ ap (λ (ps : List Pair). records_at s n ++ ps) (pairs_same s t ns (λ m c. same m (contains_tail n m ns c)))
 
 module _ (hash : RecordKey → ℕ) (s : Store) (c : Change) (n : ℕ) (page : PageKind) (h : IsSound hash s c)
-  (own : Contains (owned c) n) where
+    (own : Contains (owned c) n) where
   abbrev ns : List ℕ
   ns = chain s
 
@@ -180,9 +180,9 @@ write_free_keeps hash s left right h =
       contents = λ key. ap (λ (ms : List ℕ). lookup key (pairs_on t ms)) is ∙ contents_off hash s c right page h own key;
       leads = λ n k other l. subst (λ (ms : List ℕ). LeadsOn t (Freed right) ms n k) (sym is) (elim l.stands [
         | inl live ↦ record {
-            stands = inl live;
-            reaches = omega (arith, l.reaches, live_reach hash s c right page h own n live);
-          }
+          stands = inl live;
+          reaches = omega (arith, l.reaches, live_reach hash s c right page h own n live);
+        }
         | inr off ↦ absurd (other (sym (one right n off)))
       ]);
     }

@@ -37,7 +37,7 @@ use Rattle.hash_file.proofs.Frames.{HasShapeOf, shape_of_page, reach_same, page_
 use Rattle.hash_file.proofs.Halves.{bit_set, bit_clear, range_lower, range_upper, placed_lower, placed_upper, look_lower, look_upper}
 
 module _ (hash : RecordKey → ℕ) (s : Store) (old new : ℕ) (h : IsSound hash s (Filled old new)) (front back : List ℕ)
-  (is : chain s ≡ front ++ old ∷ back) where
+    (is : chain s ≡ front ++ old ∷ back) where
   abbrev c : Change
   c = Filled old new
 
@@ -121,8 +121,11 @@ module _ (hash : RecordKey → ℕ) (s : Store) (old new : ℕ) (h : IsSound has
     shallow = λ m on. by_page {P = λ n. (bucket_at t n).depth ≤ s.header.depth} m on
         (omega (arith, ap (λ (r : Range). r.depth) lower_range, sound.phase.shallow))
         (omega (arith, ap (λ (r : Range). r.depth) upper_range, sound.phase.shallow))
-        (λ n was far. omega (arith, ap (λ (p : PageKind). (bucket_of p).depth) (other n far),
-        sound.chained.shallow n was));
+        (λ n was far. omega (
+          arith,
+          ap (λ (p : PageKind). (bucket_of p).depth) (other n far),
+          sound.chained.shallow n was,
+        ));
   }
 
   placed : (m : ℕ) → Contains ms m → IsPlaced hash (bucket_at t m)
@@ -154,13 +157,15 @@ module _ (hash : RecordKey → ℕ) (s : Store) (old new : ℕ) (h : IsSound has
         let whole : Covers (range_at s old) i = subst (λ n. Covers (range_at s n) i) same covers in
         elim (range_in_half (range_at s old) i valid shallow whole) [
           | inl low ↦ inl (
-              contains_grown front old new back (entry_at s i) on,
-              subst (λ n. Covers (range_at t n) i) (sym same) (subst (λ (r : Range). Covers r i) (sym lower_range) low))
+            contains_grown front old new back (entry_at s i) on,
+            subst (λ n. Covers (range_at t n) i) (sym same) (subst (λ (r : Range). Covers r i) (sym lower_range) low),
+          )
           | inr high ↦ inr (same, high)
         ])
     | inr far ↦ inl (
-        contains_grown front old new back (entry_at s i) on,
-        subst (λ (p : PageKind). Covers (range_of (bucket_of p)) i) (sym (other (entry_at s i) far)) covers)
+      contains_grown front old new back (entry_at s i) on,
+      subst (λ (p : PageKind). Covers (range_of (bucket_of p)) i) (sym (other (entry_at s i) far)) covers,
+    )
   ]
 
   -- how many buckets of a depth there are beside the old one and its halves
@@ -237,8 +242,9 @@ module _ (hash : RecordKey → ℕ) (s : Store) (old new : ℕ) (h : IsSound has
         let at_old : IsBucketOn s ns (hash key) old = subst (IsBucketOn s ns (hash key)) same at_m in
         in_half at_old (has_bit b.depth (hash key)) refl ∙ sym (look_at hash s key ns old sound.chained sound.placed at_old))
     | inr far ↦ look_at hash t key ms m chained placed (
-          contains_grown front old new back m at_m.0,
-          subst (λ (p : PageKind). Covers (range_of (bucket_of p)) (hash key)) (sym (other m far)) at_m.1)
+      contains_grown front old new back m at_m.0,
+      subst (λ (p : PageKind). Covers (range_of (bucket_of p)) (hash key)) (sym (other m far)) at_m.1,
+    )
         ∙ ap (λ (p : PageKind). lookup key (bucket_of p).records) (other m far)
         ∙ sym (look_at hash s key ns m sound.chained sound.placed at_m)
   ]
@@ -246,12 +252,16 @@ module _ (hash : RecordKey → ℕ) (s : Store) (old new : ℕ) (h : IsSound has
       in_half : IsBucketOn s ns (hash key) old → (x : Bool) → has_bit b.depth (hash key) ≡ x →
           lookup key (pairs_on t ms) ≡ lookup key b.records
       in_half at_old true bit =
-          look_at hash t key ms new chained placed (contains_new front old new back,
-          subst (λ (r : Range). Covers r (hash key)) (sym upper_range) (bit_set (range_at s old) (hash key) at_old.1 bit))
+          look_at hash t key ms new chained placed (
+            contains_new front old new back,
+            subst (λ (r : Range). Covers r (hash key)) (sym upper_range) (bit_set (range_at s old) (hash key) at_old.1 bit),
+          )
           ∙ ap (λ (p : PageKind). lookup key (bucket_of p).records) there ∙ look_upper hash b key bit
       in_half at_old false bit =
-          look_at hash t key ms old chained placed (contains_grown front old new back old old_on,
-          subst (λ (r : Range). Covers r (hash key)) (sym lower_range) (bit_clear (range_at s old) (hash key) at_old.1 bit))
+          look_at hash t key ms old chained placed (
+            contains_grown front old new back old old_on,
+            subst (λ (r : Range). Covers r (hash key)) (sym lower_range) (bit_clear (range_at s old) (hash key) at_old.1 bit),
+          )
           ∙ ap (λ (p : PageKind). lookup key (bucket_of p).records) here ∙ look_lower hash b new key bit
 
   -- each page begins where it began
@@ -274,9 +284,9 @@ module _ (hash : RecordKey → ℕ) (s : Store) (old new : ℕ) (h : IsSound has
       on_chain : (n k : ℕ) → LeadsOn s c ns n k → LeadsOn t d ms n k
       on_chain n k l = elim l.stands [
         | inl on ↦ record {
-            stands = inl (contains_grown front old new back n on);
-            reaches = omega (arith, l.reaches, live_reach n on);
-          }
+          stands = inl (contains_grown front old new back n on);
+          reaches = omega (arith, l.reaches, live_reach n on);
+        }
         | inr off ↦ absurd (contains_none n off)
       ]
 

@@ -80,7 +80,7 @@ phase_written hash s t (Freed right) ns n head others shape idle own p =
     ∙ sym (ap (λ (x : Header). kinds.Free x.first_free) head)
 
 module _ (hash : RecordKey → ℕ) (s : Store) (c : Change) (n : ℕ) (w : Write) (h : IsSound hash s c)
-  (b : IsBucketOf s (hash (key_of w)) n) (idle : Contains (busy c) n → ⊥) (may : MayWrite w (records_at s n)) where
+    (b : IsBucketOf s (hash (key_of w)) n) (idle : Contains (busy c) n → ⊥) (may : MayWrite w (records_at s n)) where
   abbrev ns : List ℕ
   ns = chain s
 
@@ -99,10 +99,10 @@ module _ (hash : RecordKey → ℕ) (s : Store) (c : Change) (n : ℕ) (w : Writ
   shape : (m : ℕ) → HasShapeOf s t m
   shape m = elim (cases_eq m n) [
     | inl same ↦ subst (λ k. HasShapeOf s t k) (sym same) (record {
-        live = ap is_bucket here ∙ sym (h.chained.buckets n b.0);
-        range = ap (λ (p : PageKind). range_of (bucket_of p)) here;
-        next = ap (λ (p : PageKind). (bucket_of p).next) here;
-      })
+      live = ap is_bucket here ∙ sym (h.chained.buckets n b.0);
+      range = ap (λ (p : PageKind). range_of (bucket_of p)) here;
+      next = ap (λ (p : PageKind). (bucket_of p).next) here;
+    })
     | inr apart ↦ shape_of_page s t m (other m apart)
   ]
 
