@@ -21,3 +21,4 @@ pub mod Examples
 pub mod WrongChanges
 pub mod SoundExamples
 pub mod Checking
+pub mod Hops

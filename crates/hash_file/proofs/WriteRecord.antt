@@ -20,6 +20,7 @@ use Rattle.hash_file.specs.Search.{Leads, LeadsOn}
 use Rattle.hash_file.specs.Phases.{HasPhase, IsFilled, IsLinked, IsAbsorbed, IsBuried, IsDrained}
 use Rattle.hash_file.specs.Sound.{IsSoundOn, IsSound}
 use Rattle.hash_file.specs.Changes.{Write, MayWrite, key_of, value_after, written, with_page, write_record}
+use Rattle.hash_file.specs.Kept.{LengthensWays}
 use Rattle.hash_file.specs.Laws.{WritesRecord}
 use Rattle.directory.specs.declared.header.Header.{Header}
 use Rattle.bucket_page.specs.Dividing.{upper_half}
@@ -27,7 +28,7 @@ use Rattle.hash_file.proofs.Lists.{contains_is}
 use Rattle.hash_file.proofs.Chains.{chain_is, bucket_found, bucket_unique}
 use Rattle.hash_file.proofs.Lookups.{look_at}
 use Rattle.hash_file.proofs.Roles.{numbered, numbered_positive, live_not_spare, live_not_owned}
-use Rattle.hash_file.proofs.Frames.{HasShapeOf, shape_of_page, reach_same, page_other, page_same, covers_shaped, chain_shaped, entry_shaped, number_shaped, spared_same, numbered_same, layout_same, sound_by}
+use Rattle.hash_file.proofs.Frames.{HasShapeOf, shape_of_page, reach_same, page_other, page_same, covers_shaped, chain_shaped, entry_shaped, number_shaped, spared_same, numbered_same, layout_same, sound_by, ways_by, distance_shaped}
 use Rattle.hash_file.proofs.Writes.{all_written, ascend_written, lookup_written}
 
 -- a phase that does not speak of the records of page n goes on where those alone change
@@ -184,3 +185,10 @@ module _ (hash : RecordKey → ℕ) (s : Store) (c : Change) (n : ℕ) (w : Writ
       reaches = omega (arith, l.reaches, reach_same s t m (shape m) (λ dead. shape (next_at s m)));
     });
   }
+
+  pub record_ways : LengthensWays 0 s c t
+  record_ways = ways_by 0 s c t ns sound_on.layout sound_on.chained (λ m k l. omega (
+    arith,
+    distance_shaped s t.pages ns m k (λ x on. shape x) (reach_same s t m (shape m) (λ dead. shape (next_at s m)))
+    (shape m).live,
+  ))

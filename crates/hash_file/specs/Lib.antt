@@ -12,3 +12,4 @@ pub mod Looks
 pub mod Examples
 pub mod WrongChanges
 pub mod Skeletons
+pub mod Hops
