@@ -4,7 +4,9 @@ use Rattle.std.specs.List.{Contains}
 use Rattle.std.proofs.lemmas.List.{get_or-set_same, get_or-set_other, length-set}
 use Rattle.positions.specs.declared.range.Range.{Range}
 use Rattle.positions.specs.Positions.{position_of}
-use Rattle.positions.specs.Ranges.{Covers}
+use Rattle.positions.specs.Ranges.{Covers, start_of}
+use Rattle.positions.specs.Tiles.{begun}
+use Rattle.positions.proofs.CountLaws.{begun_same}
 use Rattle.positions.proofs.TileLaws.{tiles_same}
 use Rattle.positions.proofs.WalkLaws.{links_same}
 use Rattle.positions.specs.declared.pseudokey.TheConstants.{POSITIONS}
@@ -15,10 +17,10 @@ use Rattle.bucket_page.specs.Records.{lookup}
 use Rattle.hash_file.specs.Store.{Store, page_at, is_bucket, bucket_of, bucket_at, range_of, has_bucket, range_at, next_at, entry_at}
 use Rattle.hash_file.specs.Chain.{chain, contents, pairs_on, IsChain, IsBucketOn, how_many, number_on}
 use Rattle.hash_file.specs.Change.{Change}
-use Rattle.hash_file.specs.Search.{reach, Leads, LeadsOn}
+use Rattle.hash_file.specs.Search.{reach, Leads, LeadsOn, distance, distance_on}
 use Rattle.hash_file.specs.Sound.{IsSoundOn, IsSound, HasLayout, HasEntry, IsFreeList, is_numbered}
 use Rattle.hash_file.specs.Changes.{with_page}
-use Rattle.hash_file.specs.Kept.{Keeps}
+use Rattle.hash_file.specs.Kept.{Keeps, LengthensWays}
 use Rattle.hash_file.proofs.Chains.{chain_is}
 use Rattle.hash_file.proofs.Lists.{how_many_same}
 
@@ -39,6 +41,12 @@ keeps_by hash s c t d ms h same leads =
       contents = λ key. ap (λ (ns : List ℕ). lookup key (pairs_on t ns)) is ∙ same key;
       leads = λ n k l. subst (λ (ns : List ℕ). LeadsOn t d ns n k) (sym is) (leads n k l);
     }
+
+-- likewise of ways
+pub ways_by : (hops : ℕ) (s : Store) (c : Change) (t : Store) (ms : List ℕ) → HasLayout t → IsChain t ms →
+    ((n k : ℕ) → Leads s c n k → distance_on t ms n k ≤ distance s n k + hops) → LengthensWays hops s c t
+ways_by hops s c t ms layout h near n k l =
+    subst (λ (ns : List ℕ). distance_on t ns n k ≤ distance s n k + hops) (sym (chain_is t ms layout h)) (near n k l)
 
 -- ---- pages
 
@@ -128,3 +136,14 @@ module _ (s : Store) (pages : List PageKind) where
     pages = same ∙ l.pages;
     header = header ∙ l.header;
   }
+
+  -- where pages of the chain have their shapes, as many begin on the way
+  pub begun_shaped : (ns : List ℕ) (p : ℕ) → ((n : ℕ) → Contains ns n → HasShapeOf s t n) →
+      begun (range_at t) ns p ≡ begun (range_at s) ns p
+  begun_shaped ns p same = begun_same (range_at s) (range_at t) ns p (λ n c. ap start_of (same n c).range)
+
+  -- and a page that reaches what it reached is as far off
+  pub distance_shaped : (ns : List ℕ) (n k : ℕ) → ((m : ℕ) → Contains ns m → HasShapeOf s t m) →
+      reach t n ≡ reach s n → has_bucket t n ≡ has_bucket s n → distance_on t ns n k ≡ distance_on s ns n k
+  distance_shaped ns n k same reaches live =
+      rw (reaches, live, begun_shaped ns (position_of k) same, begun_shaped ns (reach s n) same) refl

@@ -20,3 +20,5 @@ pub mod WaysIn
 pub mod Examples
 pub mod WrongChanges
 pub mod SoundExamples
+pub mod Checking
+pub mod Hops

@@ -7,13 +7,14 @@ use Rattle.std.proofs.lemmas.List.Elements.{Contains-append_right}
 use Rattle.positions.specs.declared.pseudokey.TheConstants.{PSEUDOKEY_BITS, POSITIONS}
 use Rattle.positions.specs.declared.range.Range.{Range}
 use Rattle.positions.specs.Positions.{position_of}
-use Rattle.positions.specs.Ranges.{IsRange, Covers, AreHalvesOf, lower_half_of, upper_half_of}
-use Rattle.positions.specs.Tiles.{AreNeighbours}
+use Rattle.positions.specs.Ranges.{IsRange, Covers, AreHalvesOf, lower_half_of, upper_half_of, start_of}
+use Rattle.positions.specs.Tiles.{AreNeighbours, begun}
 use Rattle.positions.proofs.BuddyLaws.{same_range}
 use Rattle.positions.proofs.MemberLaws.{contains_head, contains_tail, contains_cases, contains_none, contains_grown, contains_new, contains_grown_cases}
 use Rattle.positions.proofs.RangeLaws.{halved_valid, half_in_range, halves_apart}
 use Rattle.positions.proofs.TileLaws.{tiles_not_before, tiles_not_behind}
 use Rattle.positions.proofs.ChangeLaws.{join_tiles, joins_in_place, halves_neighbours}
+use Rattle.positions.proofs.CountLaws.{begun_insert, begun_same, begun_rises}
 use Rattle.positions.proofs.WalkLaws.{links_remove, links_neighbours}
 use Rattle.bucket_page.specs.declared.record_key.RecordKey.{RecordKey}
 use Rattle.bucket_page.specs.declared.page.PageKind.{PageKind}
@@ -26,16 +27,16 @@ use Rattle.bucket_page.proofs.LookupLaws.{lookup_merged}
 use Rattle.hash_file.specs.Store.{Store, page_at, is_bucket, bucket_of, bucket_at, range_of, range_at, records_at, next_at, has_bucket, entry_at, count_at}
 use Rattle.hash_file.specs.Chain.{chain, contents, pairs_on, IsChain, IsPlaced, IsBucketOn, how_many, number_on, times}
 use Rattle.hash_file.specs.Change.{Change, Quiet, Absorbed, owned, gained, lost}
-use Rattle.hash_file.specs.Search.{reach, Leads, LeadsOn}
+use Rattle.hash_file.specs.Search.{reach, Leads, LeadsOn, distance_on}
 use Rattle.hash_file.specs.Phases.{IsAbsorbed}
 use Rattle.hash_file.specs.Sound.{IsSoundOn, IsSound, HasEntry}
 use Rattle.hash_file.specs.Changes.{write_left}
-use Rattle.hash_file.specs.Kept.{Keeps}
+use Rattle.hash_file.specs.Kept.{Keeps, LengthensWays}
 use Rattle.hash_file.proofs.Chains.{chain_valid, bucket_found}
 use Rattle.hash_file.proofs.Lists.{how_many_append, how_many_same, times_append, contains_is}
 use Rattle.hash_file.proofs.Lookups.{absent_elsewhere, look_at}
 use Rattle.hash_file.proofs.Roles.{thrice, numbered, numbered_positive, live_not_spare}
-use Rattle.hash_file.proofs.Frames.{shape_of_page, reach_same, page_other, page_same, spared_same, numbered_same, layout_same, keeps_by}
+use Rattle.hash_file.proofs.Frames.{shape_of_page, reach_same, page_other, page_same, spared_same, numbered_same, layout_same, keeps_by, ways_by}
 use Rattle.hash_file.proofs.Halves.{share_none, all_merged, ascend_merged}
 
 -- what stands in one list alone is found in both together
@@ -52,8 +53,8 @@ either_right : (key : RecordKey) (ps qs : List Pair) → lookup key ps ≡ None 
 either_right key ps qs none = rw none refl
 
 module _ (hash : RecordKey → ℕ) (s : Store) (left right : ℕ) (whole : Range) (h : IsSound hash s Quiet)
-  (halves : AreHalvesOf whole (range_at s left) (range_at s right)) (front back : List ℕ)
-  (is : chain s ≡ front ++ left ∷ right ∷ back) where
+    (halves : AreHalvesOf whole (range_at s left) (range_at s right)) (front back : List ℕ)
+    (is : chain s ≡ front ++ left ∷ right ∷ back) where
   abbrev d : Change
   d = Absorbed left right whole
 
@@ -189,10 +190,17 @@ module _ (hash : RecordKey → ℕ) (s : Store) (left right : ℕ) (whole : Rang
     buckets = λ m on. by_page {P = λ n. has_bucket t n ≡ true} m on (ap is_bucket here)
         (λ n was far. ap is_bucket (other n far) ∙ sound.chained.buckets n was);
     shallow = λ m on. by_page {P = λ n. (bucket_at t n).depth ≤ s.header.depth} m on
-        (omega (arith, ap (λ (r : Range). r.depth) left_range, ap (λ (r : Range). r.depth) halves.lower,
-        sound.chained.shallow left left_on))
-        (λ n was far. omega (arith, ap (λ (p : PageKind). (bucket_of p).depth) (other n far),
-        sound.chained.shallow n was));
+        (omega (
+          arith,
+          ap (λ (r : Range). r.depth) left_range,
+          ap (λ (r : Range). r.depth) halves.lower,
+          sound.chained.shallow left left_on,
+        ))
+        (λ n was far. omega (
+          arith,
+          ap (λ (p : PageKind). (bucket_of p).depth) (other n far),
+          sound.chained.shallow n was,
+        ));
   }
 
   placed : (m : ℕ) → Contains ms m → IsPlaced hash (bucket_at t m)
@@ -223,16 +231,21 @@ module _ (hash : RecordKey → ℕ) (s : Store) (left right : ℕ) (whole : Rang
   entry i (inr off) = absurd off
   entry i (inl (on, covers)) = elim (contains_grown_cases front left right back (entry_at s i) on) [
     | inr same ↦ inr (
-        sym same,
-        of_right i (subst (λ n. Covers (range_at s n) i) (sym same) covers))
+      sym same,
+      of_right i (subst (λ n. Covers (range_at s n) i) (sym same) covers),
+    )
     | inl stays ↦ elim (cases_eq (entry_at s i) left) [
       | inl same ↦ (
           let low = of_left i (subst (λ n. Covers (range_at s n) i) same covers) in
-          inl (stays, subst (λ n. Covers (range_at t n) i) (sym same) (subst (λ (r : Range). Covers r i) (sym left_range)
-          (half_in_range whole i valid shallow (inl low)))))
+          inl (
+            stays,
+            subst (λ n. Covers (range_at t n) i) (sym same) (subst (λ (r : Range). Covers r i) (sym left_range)
+                (half_in_range whole i valid shallow (inl low))),
+          ))
       | inr far ↦ inl (
-          stays,
-          subst (λ (p : PageKind). Covers (range_of (bucket_of p)) i) (sym (other (entry_at s i) far)) covers)
+        stays,
+        subst (λ (p : PageKind). Covers (range_of (bucket_of p)) i) (sym (other (entry_at s i) far)) covers,
+      )
     ]
   ]
 
@@ -332,8 +345,9 @@ module _ (hash : RecordKey → ℕ) (s : Store) (left right : ℕ) (whole : Rang
           in_left (half_in_range whole (hash key) valid shallow (inl low)) ∙ look_left key low
           ∙ sym (look_at hash s key ns left sound.chained sound.placed at_left))
       | inr far ↦ look_at hash t key ms m chained placed (
-            stays,
-            subst (λ (p : PageKind). Covers (range_of (bucket_of p)) (hash key)) (sym (other m far)) at_m.1)
+        stays,
+        subst (λ (p : PageKind). Covers (range_of (bucket_of p)) (hash key)) (sym (other m far)) at_m.1,
+      )
           ∙ ap (λ (p : PageKind). lookup key (bucket_of p).records) (other m far)
           ∙ sym (look_at hash s key ns m sound.chained sound.placed at_m)
     ]
@@ -366,12 +380,49 @@ module _ (hash : RecordKey → ℕ) (s : Store) (left right : ℕ) (whole : Rang
       on_chain : (n k : ℕ) → LeadsOn s Quiet ns n k → LeadsOn t d ms n k
       on_chain n k l = elim l.stands [
         | inl on ↦ record {
-            stands = elim (contains_grown_cases front left right back n on) [
-              | inl stays ↦ inl stays
-              | inr same ↦ inr (contains_is [] same)
-            ];
-            reaches = omega (arith, l.reaches, live_reach n on);
-          }
+          stands = elim (contains_grown_cases front left right back n on) [
+            | inl stays ↦ inl stays
+            | inr same ↦ inr (contains_is [] same)
+          ];
+          reaches = omega (arith, l.reaches, live_reach n on);
+        }
+        | inr off ↦ absurd (contains_none n off)
+      ]
+
+  -- fewer pages begin on the way by the right one
+  begun_merge : (p : ℕ) → begun (range_at s) ns p ≡ begun (range_at t) ms p + begun (range_at s) (right ∷ []) p
+  begun_merge p =
+      begun_insert (range_at s) front left right back p
+      ∙ ap (λ n. n + begun (range_at s) (right ∷ []) p) (sym (begun_same (range_at s) (range_at t) ms p starts))
+    where
+      starts : (m : ℕ) → Contains ms m → start_of (range_at t m) ≡ start_of (range_at s m)
+      starts m on = by_page {P = λ n. start_of (range_at t n) ≡ start_of (range_at s n)} m on
+          (ap start_of left_range ∙ sym (ap start_of halves.lower))
+          (λ n was far. ap (λ (p : PageKind). start_of (range_of (bucket_of p))) (other n far))
+
+  merge_ways : LengthensWays 0 s Quiet t
+  merge_ways = ways_by 0 s Quiet t ms sound_on.layout chained
+      (λ n k l. subst (λ (xs : List ℕ). distance_on t ms n k ≤ distance_on s xs n k + 0) (sym is)
+      (on_chain n k (subst (λ (xs : List ℕ). LeadsOn s Quiet xs n k) is l)))
+    where
+      live : (n : ℕ) → Contains ns n → has_bucket t n ≡ true
+      live n on = elim (cases_eq n left) [
+        | inl same ↦ subst (λ m. has_bucket t m ≡ true) (sym same) (ap is_bucket here)
+        | inr far ↦ ap is_bucket (other n far) ∙ sound.chained.buckets n on
+      ]
+
+      on_chain : (n k : ℕ) → LeadsOn s Quiet ns n k → distance_on t ms n k ≤ distance_on s ns n k + 0
+      on_chain n k l = elim l.stands [
+        | inl on ↦ (
+            let now : distance_on t ms n k
+            ≡ begun (range_at t) ms (position_of k) - begun (range_at t) ms (reach s n) + 0 =
+            rw (live_reach n on, live n on) refl in
+            let was : distance_on s ns n k
+            ≡ begun (range_at s) ns (position_of k) - begun (range_at s) ns (reach s n) + 0 = ap (λ (b : Bool).
+            begun (range_at s) ns (position_of k) - begun (range_at s) ns (reach s n) + cond b 0 1)
+            (sound.chained.buckets n on) in
+            let rises = begun_rises (range_at s) (right ∷ []) (reach s n) (position_of k) l.reaches in
+            omega (arith, now, was, begun_merge (position_of k), begun_merge (reach s n), rises))
         | inr off ↦ absurd (contains_none n off)
       ]
 
@@ -383,3 +434,12 @@ write_left_keeps hash s left right whole h on_left on_right halves =
   where
     beside : AreNeighbours (chain s) left right → Keeps hash s Quiet (write_left left right s) (Absorbed left right whole)
     beside (front, back, is) = merge_keeps hash s left right whole h halves front back is
+
+pub write_left_ways : (hash : RecordKey → ℕ) (s : Store) (left right : ℕ) (whole : Range) → IsSound hash s Quiet →
+    Contains (chain s) left → Contains (chain s) right → AreHalvesOf whole (range_at s left) (range_at s right) →
+    LengthensWays 0 s Quiet (write_left left right s)
+write_left_ways hash s left right whole h on_left on_right halves =
+    beside (halves_neighbours (range_at s) (chain s) 0 POSITIONS whole left right h.chained.tiled on_left on_right halves)
+  where
+    beside : AreNeighbours (chain s) left right → LengthensWays 0 s Quiet (write_left left right s)
+    beside (front, back, is) = merge_ways hash s left right whole h halves front back is

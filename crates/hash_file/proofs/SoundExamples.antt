@@ -42,12 +42,12 @@ HasRole n = times n (257 ∷ 258 ∷ 259 ∷ 260 ∷ []) ≡ (if is_numbered fir
 first_roles : (n : ℕ) → HasRole n
 first_roles n = elim (cases_lt n 257) [
   | inl low ↦ rw (
-      ne_eqb 257 n (omega (arith, low)),
-      ne_eqb 258 n (omega (arith, low)),
-      ne_eqb 259 n (omega (arith, low)),
-      ne_eqb 260 n (omega (arith, low)),
-      lt-leb 257 n low,
-    ) refl
+    ne_eqb 257 n (omega (arith, low)),
+    ne_eqb 258 n (omega (arith, low)),
+    ne_eqb 259 n (omega (arith, low)),
+    ne_eqb 260 n (omega (arith, low)),
+    lt-leb 257 n low,
+  ) refl
   | inr high ↦ elim (cases_eq 257 n) [
     | inl same ↦ subst HasRole same refl
     | inr a ↦ elim (cases_eq 258 n) [
@@ -57,13 +57,13 @@ first_roles n = elim (cases_lt n 257) [
         | inr c ↦ elim (cases_eq 260 n) [
           | inl same ↦ subst HasRole same refl
           | inr d ↦ rw (
-              ne_eqb 257 n a,
-              ne_eqb 258 n b,
-              ne_eqb 259 n c,
-              ne_eqb 260 n d,
-              le-leb 257 n high,
-              le-ltb n 261 (omega (arith, high, a, b, c, d)),
-            ) refl
+            ne_eqb 257 n a,
+            ne_eqb 258 n b,
+            ne_eqb 259 n c,
+            ne_eqb 260 n d,
+            le-leb 257 n high,
+            le-ltb n 261 (omega (arith, high, a, b, c, d)),
+          ) refl
         ]
       ]
     ]
@@ -134,8 +134,10 @@ are_sound =
     let h6 = (retarget_keeps_split number_of linked 257 258 whole_range 1 h5).sound in
     let h7 = (set_counts_keeps_split number_of retargeted 257 258 whole_range h6 (λ i low covers.
     subst (λ j. entry_at retargeted j ≡ 258) (sym (upper_index i low covers)) refl)).sound in
-    let h8 = (writes_record number_of split Quiet 258 (Put (one 3)) h7 (contains_tail 257 258 (258 ∷ []) (contains_head 258 []),
-    refl) (contains_none 258) refl).sound in
+    let h8 = (writes_record number_of split Quiet 258 (Put (one 3)) h7 (
+      contains_tail 257 258 (258 ∷ []) (contains_head 258 []),
+      refl,
+    ) (contains_none 258) refl).sound in
     let m1 = (write_left_keeps number_of with_3 257 258 whole_range h8 (on 257 258)
     (contains_tail 257 258 (258 ∷ []) (contains_head 258 [])) (record { lower = refl; upper = refl })).sound in
     let m2 = (write_tombstone_keeps number_of absorbed 257 258 whole_range m1).sound in

@@ -1,5 +1,5 @@
 -- The old bucket keeps its lower half, and the new one joins the chain behind it.
-use Rattle.std.proofs.Common.{ℕ, suc, ◌≡◌, ◌≢◌, ◌+◌, ◌<◌, ◌≤◌, ◌==◌, List, [], ◌∷◌, ◌++◌, Bool, true, false, cond, length, add-one, arith, refl, sym, ap, subst, ◌∙◌, ◌⊎◌, inl, inr, if◌then◌else◌}
+use Rattle.std.proofs.Common.{ℕ, suc, ◌≡◌, ◌≢◌, ◌+◌, ◌-◌, ◌<◌, ◌≤◌, ◌==◌, List, [], ◌∷◌, ◌++◌, Bool, true, false, cond, length, add-one, arith, refl, sym, ap, subst, ◌∙◌, ◌⊎◌, inl, inr, if◌then◌else◌}
 use Rattle.std.specs.List.{Contains}
 use Rattle.std.proofs.lemmas.Bool.{cases_eq, both_ways}
 use Rattle.std.proofs.lemmas.List.{length-set}
@@ -7,13 +7,14 @@ use Rattle.std.proofs.lemmas.List.Elements.{Contains-append_left, Contains-appen
 use Rattle.positions.specs.declared.pseudokey.TheConstants.{PSEUDOKEY_BITS, POSITIONS}
 use Rattle.positions.specs.declared.range.Range.{Range}
 use Rattle.positions.specs.Positions.{position_of}
-use Rattle.positions.specs.Ranges.{IsRange, Covers, AreHalvesOf, lower_half_of, upper_half_of}
+use Rattle.positions.specs.Ranges.{IsRange, Covers, AreHalvesOf, lower_half_of, upper_half_of, start_of}
 use Rattle.positions.specs.Links.{Links}
-use Rattle.positions.specs.Tiles.{Tiles, Splits}
+use Rattle.positions.specs.Tiles.{Tiles, Splits, begun}
 use Rattle.positions.proofs.MemberLaws.{contains_head, contains_tail, contains_none, contains_between, contains_grown, contains_new, contains_grown_cases}
 use Rattle.positions.proofs.RangeLaws.{range_in_half}
 use Rattle.positions.proofs.TileLaws.{tiles_not_before, tiles_not_behind}
 use Rattle.positions.proofs.ChangeLaws.{split_tiles, splits_in_place}
+use Rattle.positions.proofs.CountLaws.{begun_insert, begun_same, begun_one}
 use Rattle.positions.proofs.WalkLaws.{links_insert}
 use Rattle.bucket_page.specs.declared.record_key.RecordKey.{RecordKey}
 use Rattle.bucket_page.specs.declared.page.PageKind.{PageKind}
@@ -24,20 +25,20 @@ use Rattle.bucket_page.specs.Dividing.{has_bit, lower_half, upper_half}
 use Rattle.hash_file.specs.Store.{Store, page_at, is_bucket, bucket_of, bucket_at, range_of, range_at, records_at, next_at, has_bucket, entry_at, count_at}
 use Rattle.hash_file.specs.Chain.{chain, contents, pairs_on, IsChain, IsPlaced, IsBucketOn, how_many, number_on, times}
 use Rattle.hash_file.specs.Change.{Change, Filled, Linked, owned, gained, lost}
-use Rattle.hash_file.specs.Search.{reach, Leads, LeadsOn}
+use Rattle.hash_file.specs.Search.{reach, Leads, LeadsOn, distance_on}
 use Rattle.hash_file.specs.Phases.{IsFilled, IsLinked}
 use Rattle.hash_file.specs.Sound.{IsSoundOn, IsSound, HasEntry, is_numbered}
 use Rattle.hash_file.specs.Changes.{with_page, write_old}
-use Rattle.hash_file.specs.Kept.{Keeps}
+use Rattle.hash_file.specs.Kept.{Keeps, LengthensWays}
 use Rattle.hash_file.proofs.Chains.{chain_valid, bucket_found}
 use Rattle.hash_file.proofs.Lists.{how_many_append, how_many_same, times_append}
 use Rattle.hash_file.proofs.Lookups.{look_at}
 use Rattle.hash_file.proofs.Roles.{thrice, numbered, numbered_positive, live_not_spare, live_not_owned}
-use Rattle.hash_file.proofs.Frames.{HasShapeOf, shape_of_page, reach_same, page_other, page_same, spared_same, numbered_same, layout_same, keeps_by}
+use Rattle.hash_file.proofs.Frames.{HasShapeOf, shape_of_page, reach_same, page_other, page_same, spared_same, numbered_same, layout_same, keeps_by, ways_by}
 use Rattle.hash_file.proofs.Halves.{bit_set, bit_clear, range_lower, range_upper, placed_lower, placed_upper, look_lower, look_upper}
 
 module _ (hash : RecordKey → ℕ) (s : Store) (old new : ℕ) (h : IsSound hash s (Filled old new)) (front back : List ℕ)
-  (is : chain s ≡ front ++ old ∷ back) where
+    (is : chain s ≡ front ++ old ∷ back) where
   abbrev c : Change
   c = Filled old new
 
@@ -121,8 +122,11 @@ module _ (hash : RecordKey → ℕ) (s : Store) (old new : ℕ) (h : IsSound has
     shallow = λ m on. by_page {P = λ n. (bucket_at t n).depth ≤ s.header.depth} m on
         (omega (arith, ap (λ (r : Range). r.depth) lower_range, sound.phase.shallow))
         (omega (arith, ap (λ (r : Range). r.depth) upper_range, sound.phase.shallow))
-        (λ n was far. omega (arith, ap (λ (p : PageKind). (bucket_of p).depth) (other n far),
-        sound.chained.shallow n was));
+        (λ n was far. omega (
+          arith,
+          ap (λ (p : PageKind). (bucket_of p).depth) (other n far),
+          sound.chained.shallow n was,
+        ));
   }
 
   placed : (m : ℕ) → Contains ms m → IsPlaced hash (bucket_at t m)
@@ -154,13 +158,15 @@ module _ (hash : RecordKey → ℕ) (s : Store) (old new : ℕ) (h : IsSound has
         let whole : Covers (range_at s old) i = subst (λ n. Covers (range_at s n) i) same covers in
         elim (range_in_half (range_at s old) i valid shallow whole) [
           | inl low ↦ inl (
-              contains_grown front old new back (entry_at s i) on,
-              subst (λ n. Covers (range_at t n) i) (sym same) (subst (λ (r : Range). Covers r i) (sym lower_range) low))
+            contains_grown front old new back (entry_at s i) on,
+            subst (λ n. Covers (range_at t n) i) (sym same) (subst (λ (r : Range). Covers r i) (sym lower_range) low),
+          )
           | inr high ↦ inr (same, high)
         ])
     | inr far ↦ inl (
-        contains_grown front old new back (entry_at s i) on,
-        subst (λ (p : PageKind). Covers (range_of (bucket_of p)) i) (sym (other (entry_at s i) far)) covers)
+      contains_grown front old new back (entry_at s i) on,
+      subst (λ (p : PageKind). Covers (range_of (bucket_of p)) i) (sym (other (entry_at s i) far)) covers,
+    )
   ]
 
   -- how many buckets of a depth there are beside the old one and its halves
@@ -237,8 +243,9 @@ module _ (hash : RecordKey → ℕ) (s : Store) (old new : ℕ) (h : IsSound has
         let at_old : IsBucketOn s ns (hash key) old = subst (IsBucketOn s ns (hash key)) same at_m in
         in_half at_old (has_bit b.depth (hash key)) refl ∙ sym (look_at hash s key ns old sound.chained sound.placed at_old))
     | inr far ↦ look_at hash t key ms m chained placed (
-          contains_grown front old new back m at_m.0,
-          subst (λ (p : PageKind). Covers (range_of (bucket_of p)) (hash key)) (sym (other m far)) at_m.1)
+      contains_grown front old new back m at_m.0,
+      subst (λ (p : PageKind). Covers (range_of (bucket_of p)) (hash key)) (sym (other m far)) at_m.1,
+    )
         ∙ ap (λ (p : PageKind). lookup key (bucket_of p).records) (other m far)
         ∙ sym (look_at hash s key ns m sound.chained sound.placed at_m)
   ]
@@ -246,12 +253,16 @@ module _ (hash : RecordKey → ℕ) (s : Store) (old new : ℕ) (h : IsSound has
       in_half : IsBucketOn s ns (hash key) old → (x : Bool) → has_bit b.depth (hash key) ≡ x →
           lookup key (pairs_on t ms) ≡ lookup key b.records
       in_half at_old true bit =
-          look_at hash t key ms new chained placed (contains_new front old new back,
-          subst (λ (r : Range). Covers r (hash key)) (sym upper_range) (bit_set (range_at s old) (hash key) at_old.1 bit))
+          look_at hash t key ms new chained placed (
+            contains_new front old new back,
+            subst (λ (r : Range). Covers r (hash key)) (sym upper_range) (bit_set (range_at s old) (hash key) at_old.1 bit),
+          )
           ∙ ap (λ (p : PageKind). lookup key (bucket_of p).records) there ∙ look_upper hash b key bit
       in_half at_old false bit =
-          look_at hash t key ms old chained placed (contains_grown front old new back old old_on,
-          subst (λ (r : Range). Covers r (hash key)) (sym lower_range) (bit_clear (range_at s old) (hash key) at_old.1 bit))
+          look_at hash t key ms old chained placed (
+            contains_grown front old new back old old_on,
+            subst (λ (r : Range). Covers r (hash key)) (sym lower_range) (bit_clear (range_at s old) (hash key) at_old.1 bit),
+          )
           ∙ ap (λ (p : PageKind). lookup key (bucket_of p).records) here ∙ look_lower hash b new key bit
 
   -- each page begins where it began
@@ -274,9 +285,41 @@ module _ (hash : RecordKey → ℕ) (s : Store) (old new : ℕ) (h : IsSound has
       on_chain : (n k : ℕ) → LeadsOn s c ns n k → LeadsOn t d ms n k
       on_chain n k l = elim l.stands [
         | inl on ↦ record {
-            stands = inl (contains_grown front old new back n on);
-            reaches = omega (arith, l.reaches, live_reach n on);
-          }
+          stands = inl (contains_grown front old new back n on);
+          reaches = omega (arith, l.reaches, live_reach n on);
+        }
+        | inr off ↦ absurd (contains_none n off)
+      ]
+
+  -- as many pages begin on the way, and the new one
+  begun_split : (p : ℕ) → begun (range_at t) ms p ≡ begun (range_at s) ns p + begun (range_at t) (new ∷ []) p
+  begun_split p =
+      begun_insert (range_at t) front old new back p
+      ∙ ap (λ x. x + begun (range_at t) (new ∷ []) p) (begun_same (range_at s) (range_at t) ns p starts)
+    where
+      starts : (m : ℕ) → Contains ns m → start_of (range_at t m) ≡ start_of (range_at s m)
+      starts m on = elim (cases_eq m old) [
+        | inl same ↦ subst (λ x. start_of (range_at t x) ≡ start_of (range_at s x)) (sym same) (ap start_of lower_range)
+        | inr far ↦ ap (λ (p : PageKind). start_of (range_of (bucket_of p))) (other m far)
+      ]
+
+  split_ways : LengthensWays 1 s c t
+  split_ways = ways_by 1 s c t ms sound_on.layout chained
+      (λ n k l. subst (λ (xs : List ℕ). distance_on t ms n k ≤ distance_on s xs n k + 1) (sym is)
+      (on_chain n k (subst (λ (xs : List ℕ). LeadsOn s c xs n k) is l)))
+    where
+      on_chain : (n k : ℕ) → LeadsOn s c ns n k → distance_on t ms n k ≤ distance_on s ns n k + 1
+      on_chain n k l = elim l.stands [
+        | inl on ↦ (
+            let was = sound.chained.buckets n on in
+            let now = chained.buckets n (contains_grown front old new back n on) in
+            let far : distance_on t ms n k ≡ (begun (range_at s) ns (position_of k) + begun (range_at t) (new ∷ [])
+            (position_of k)) - (begun (range_at s) ns (reach s n) + begun (range_at t) (new ∷ []) (reach s n)) + 0 =
+            rw (live_reach n on, now, begun_split (position_of k), begun_split (reach s n)) refl in
+            let before : distance_on s ns n k
+            ≡ begun (range_at s) ns (position_of k) - begun (range_at s) ns (reach s n) + 0 = ap (λ (x : Bool).
+            begun (range_at s) ns (position_of k) - begun (range_at s) ns (reach s n) + cond x 0 1) was in
+            omega (arith, far, before, begun_one (range_at t) new (position_of k)))
         | inr off ↦ absurd (contains_none n off)
       ]
 
@@ -287,3 +330,11 @@ write_old_keeps hash s old new h = at_old (contains_between (chain s) old h.phas
     at_old : (front : List ℕ) × (back : List ℕ) × (chain s ≡ front ++ old ∷ back) →
         Keeps hash s (Filled old new) (write_old hash old new s) (Linked old new (range_at s old))
     at_old (front, back, is) = split_keeps hash s old new h front back is
+
+pub write_old_ways : (hash : RecordKey → ℕ) (s : Store) (old new : ℕ) → IsSound hash s (Filled old new) →
+    LengthensWays 1 s (Filled old new) (write_old hash old new s)
+write_old_ways hash s old new h = at_old (contains_between (chain s) old h.phase.old_on)
+  where
+    at_old : (front : List ℕ) × (back : List ℕ) × (chain s ≡ front ++ old ∷ back) →
+        LengthensWays 1 s (Filled old new) (write_old hash old new s)
+    at_old (front, back, is) = split_ways hash s old new h front back is

@@ -122,13 +122,17 @@ one_of n xs ys zs zero (suc b) (suc c) is_a is_b is_c sum = absurd (omega (arith
 
 pub roles_are_one : (hash : RecordKey → ℕ) (s : Store) (c : Change) → IsSound hash s c →
     (spares : List ℕ) × IsFreeList s spares × HasOneRole s c spares
-roles_are_one hash s c h = (h.spares, h.spared, record {
-  each = λ n low high.
-      let sum = thrice n (chain s) h.spares (owned c) in
-      let is = rw (le-leb s.layout.root n low, lt-ltb n (length s.pages) high) at (h.roles n) in
-      one_of n (chain s) h.spares (owned c) (times n (chain s)) (times n h.spares) (times n (owned c)) refl refl refl
-      (omega (arith, sum, is));
-  only = numbered hash s c (chain s) h;
-  chain_once = once (chain s) (λ n. omega (arith, few hash s c (chain s) h n));
-  spares_once = once h.spares (λ n. omega (arith, few hash s c (chain s) h n));
-})
+roles_are_one hash s c h = (
+  h.spares,
+  h.spared,
+  record {
+    each = λ n low high.
+        let sum = thrice n (chain s) h.spares (owned c) in
+        let is = rw (le-leb s.layout.root n low, lt-ltb n (length s.pages) high) at (h.roles n) in
+        one_of n (chain s) h.spares (owned c) (times n (chain s)) (times n h.spares) (times n (owned c)) refl refl refl
+        (omega (arith, sum, is));
+    only = numbered hash s c (chain s) h;
+    chain_once = once (chain s) (λ n. omega (arith, few hash s c (chain s) h n));
+    spares_once = once h.spares (λ n. omega (arith, few hash s c (chain s) h n));
+  },
+)

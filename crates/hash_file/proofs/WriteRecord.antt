@@ -20,6 +20,7 @@ use Rattle.hash_file.specs.Search.{Leads, LeadsOn}
 use Rattle.hash_file.specs.Phases.{HasPhase, IsFilled, IsLinked, IsAbsorbed, IsBuried, IsDrained}
 use Rattle.hash_file.specs.Sound.{IsSoundOn, IsSound}
 use Rattle.hash_file.specs.Changes.{Write, MayWrite, key_of, value_after, written, with_page, write_record}
+use Rattle.hash_file.specs.Kept.{LengthensWays}
 use Rattle.hash_file.specs.Laws.{WritesRecord}
 use Rattle.directory.specs.declared.header.Header.{Header}
 use Rattle.bucket_page.specs.Dividing.{upper_half}
@@ -27,7 +28,7 @@ use Rattle.hash_file.proofs.Lists.{contains_is}
 use Rattle.hash_file.proofs.Chains.{chain_is, bucket_found, bucket_unique}
 use Rattle.hash_file.proofs.Lookups.{look_at}
 use Rattle.hash_file.proofs.Roles.{numbered, numbered_positive, live_not_spare, live_not_owned}
-use Rattle.hash_file.proofs.Frames.{HasShapeOf, shape_of_page, reach_same, page_other, page_same, covers_shaped, chain_shaped, entry_shaped, number_shaped, spared_same, numbered_same, layout_same, sound_by}
+use Rattle.hash_file.proofs.Frames.{HasShapeOf, shape_of_page, reach_same, page_other, page_same, covers_shaped, chain_shaped, entry_shaped, number_shaped, spared_same, numbered_same, layout_same, sound_by, ways_by, distance_shaped}
 use Rattle.hash_file.proofs.Writes.{all_written, ascend_written, lookup_written}
 
 -- a phase that does not speak of the records of page n goes on where those alone change
@@ -80,7 +81,7 @@ phase_written hash s t (Freed right) ns n head others shape idle own p =
     ∙ sym (ap (λ (x : Header). kinds.Free x.first_free) head)
 
 module _ (hash : RecordKey → ℕ) (s : Store) (c : Change) (n : ℕ) (w : Write) (h : IsSound hash s c)
-  (b : IsBucketOf s (hash (key_of w)) n) (idle : Contains (busy c) n → ⊥) (may : MayWrite w (records_at s n)) where
+    (b : IsBucketOf s (hash (key_of w)) n) (idle : Contains (busy c) n → ⊥) (may : MayWrite w (records_at s n)) where
   abbrev ns : List ℕ
   ns = chain s
 
@@ -99,10 +100,10 @@ module _ (hash : RecordKey → ℕ) (s : Store) (c : Change) (n : ℕ) (w : Writ
   shape : (m : ℕ) → HasShapeOf s t m
   shape m = elim (cases_eq m n) [
     | inl same ↦ subst (λ k. HasShapeOf s t k) (sym same) (record {
-        live = ap is_bucket here ∙ sym (h.chained.buckets n b.0);
-        range = ap (λ (p : PageKind). range_of (bucket_of p)) here;
-        next = ap (λ (p : PageKind). (bucket_of p).next) here;
-      })
+      live = ap is_bucket here ∙ sym (h.chained.buckets n b.0);
+      range = ap (λ (p : PageKind). range_of (bucket_of p)) here;
+      next = ap (λ (p : PageKind). (bucket_of p).next) here;
+    })
     | inr apart ↦ shape_of_page s t m (other m apart)
   ]
 
@@ -184,3 +185,10 @@ module _ (hash : RecordKey → ℕ) (s : Store) (c : Change) (n : ℕ) (w : Writ
       reaches = omega (arith, l.reaches, reach_same s t m (shape m) (λ dead. shape (next_at s m)));
     });
   }
+
+  pub record_ways : LengthensWays 0 s c t
+  record_ways = ways_by 0 s c t ns sound_on.layout sound_on.chained (λ m k l. omega (
+    arith,
+    distance_shaped s t.pages ns m k (λ x on. shape x) (reach_same s t m (shape m) (λ dead. shape (next_at s m)))
+    (shape m).live,
+  ))

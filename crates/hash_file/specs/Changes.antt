@@ -67,7 +67,7 @@ mapped_from i change (e ∷ es) = change i e ∷ mapped_from (suc i) change es
 abbrev pub copy_directory : ℕ → Store → Store
 copy_directory page s = record s {
   entries = mapped_from 0 (λ (i e : ℕ). if page_of i == page && is_upper s.header.depth i
-    then entry_at s (i - 2 ^ s.header.depth) else e) s.entries;
+      then entry_at s (i - 2 ^ s.header.depth) else e) s.entries;
 }
 
 abbrev pub raise_depth : Store → Store
@@ -83,8 +83,8 @@ write_old hash old new s = with_bucket old (lower_half hash new (bucket_at s old
 abbrev pub retarget : ℕ → Range → ℕ → Store → Store
 retarget page r n s = record s {
   entries = mapped_from 0 (λ (i e : ℕ). if page_of i == page
-    && is_in_range s.header.depth (record { local_depth = r.depth; pattern = r.pattern }) i
-    then n else e) s.entries;
+      && is_in_range s.header.depth (record { local_depth = r.depth; pattern = r.pattern }) i
+      then n else e) s.entries;
 }
 
 abbrev pub set_counts : List ℕ → Store → Store

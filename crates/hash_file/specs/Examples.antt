@@ -36,8 +36,8 @@ first = record {
   header = record { depth = 0; pages = 261; first_free = 258; counts = 1 ∷ 0 ∷ 0 ∷ 0 ∷ [] };
   entries = 257 ∷ replicate 7 0;
   pages = replicate 257 (kinds.Free 0)
-    ++ kinds.Bucket (bucket 0 0 0 (one 0 ∷ one 1 ∷ one 2 ∷ []))
-    ∷ kinds.Free 259 ∷ kinds.Free 260 ∷ kinds.Free 0 ∷ [];
+      ++ kinds.Bucket (bucket 0 0 0 (one 0 ∷ one 1 ∷ one 2 ∷ []))
+      ∷ kinds.Free 259 ∷ kinds.Free 260 ∷ kinds.Free 0 ∷ [];
 }
 
 -- ---- two splits: the record of 3 does not fit, then that of 6

@@ -28,6 +28,10 @@ pub record Keeps (hash : RecordKey → ℕ) (old : Store) (c : Change) (new : St
   pub contents : KeepsContents old new
   pub leads : KeepsLeading old c new d
 
--- one that makes no way longer, but by so many hops
-pub record KeepsWays (old : Store) (c : Change) (new : Store) (longer : ℕ) : Type 0 where
-  pub ways : (n k : ℕ) → Leads old c n k → distance new n k ≤ distance old n k + longer
+-- no way to the bucket of a pseudokey grows by more than so many hops
+abbrev pub LengthensWays : ℕ → Store → Change → Store → Type 0
+LengthensWays hops old c new = (n k : ℕ) → Leads old c n k → distance new n k ≤ distance old n k + hops
+
+-- nor at all, where the page is another than this
+abbrev pub KeepsWaysBut : ℕ → Store → Change → Store → Type 0
+KeepsWaysBut right old c new = (n k : ℕ) → n ≢ right → Leads old c n k → distance new n k ≤ distance old n k

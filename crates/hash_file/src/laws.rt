@@ -2,6 +2,7 @@
 //! a function that does nothing.
 
 ghost use Rattle.hash_file.specs.Examples.{AreSound, FreedPageTakenAgain, MergeAndHalving, TwoSplits};
+ghost use Rattle.hash_file.specs.Hops.{NoHopMore, OneHopAtMost};
 ghost use Rattle.hash_file.specs.Laws.{CopyDirectoryKeeps, LinkFreeKeeps, LowerDepthKeeps, RaiseDepthKeeps, RetargetKeepsMerge, RetargetKeepsSplit, SetCountsKeepsMerge, SetCountsKeepsSplit, TakePageKeeps, WriteFreeKeeps, WriteLeftKeeps, WriteNewKeeps, WriteOldKeeps, WriteRecordIsOneRecord, WriteTombstoneKeeps};
 ghost use Rattle.hash_file.specs.Looks.{DrainedHasNoWayIn, EntriesLead, HopsLeadOn, LooksAnswer, StaleDepthsLead};
 ghost use Rattle.hash_file.specs.Words.{ChainIsMet, ChainIsWellFormed, ContentsArePairs, LeadingIsStandingBefore, QuietIsExact, RolesAreOne};
@@ -167,4 +168,15 @@ pub fn files_made_by_hand_are_sound()
 /// entry still names: none leaves the file sound, or holding what it held.
 pub fn wrong_changes_are_refuted()
     ensures { WrongChanges }
+{}
+
+/// A way to the bucket of a pseudokey grows by one hop at most where a bucket joins the chain, or a page becomes a
+/// tombstone.
+pub fn two_changes_lengthen_a_way_by_a_hop()
+    ensures { OneHopAtMost }
+{}
+
+/// By every other change it does not grow; where a page is freed, from each other page.
+pub fn no_other_change_lengthens_a_way()
+    ensures { NoHopMore }
 {}
