@@ -13,3 +13,4 @@ pub mod RestLemmas
 pub mod MachineLemmas
 pub mod OnePageLemmas
 pub mod BuddyLemmas
+pub mod WayLemmas

@@ -49,7 +49,7 @@ module _ (hash : RecordKey → ℕ) (seat : ℕ) (old : World) (sound : IsSoundW
   t = write_record does.page does.write s
 
   -- the phase does not speak of the page: who makes the change is another, and could not both write it
-  idle : Contains (busy old.change) does.page → ⊥
+  pub idle : Contains (busy old.change) does.page → ⊥
   idle there =
       let by = sound.guarded does.page there (inl does.home.0) in
       elim (cases_eq by.0 seat) [

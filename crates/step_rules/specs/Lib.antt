@@ -11,3 +11,4 @@ pub mod Does
 pub mod OnePage
 pub mod Laws
 pub mod Learns
+pub mod Ways

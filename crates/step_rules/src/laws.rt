@@ -2,6 +2,7 @@
 
 ghost use Rattle.step_rules.specs.declared.kind.Kind.{Kind};
 ghost use Rattle.step_rules.specs.OnePage.{KindChangesLittle};
+ghost use Rattle.step_rules.specs.Ways.{KindLengthens, SchedulesLengthen};
 ghost use Rattle.step_rules.specs.Laws.{OthersKnow, KindKeeps, KindKeepsContents, WriteChangesOneRecord, SchedulesKeepSound, SchedulesKeepKnowledge, RestIsSound, RestIsQuiet};
 
 /// What a seat knows is still so after a step of another seat, by what that step leaves.
@@ -25,6 +26,13 @@ pub fn only_a_written_record_changes_what_the_file_holds()
 pub fn every_schedule_keeps_what_is_known()
     ensures sound { SchedulesKeepSound }
     ensures known { SchedulesKeepKnowledge }
+{}
+
+/// Another seat's way to a bucket grows by a hop at most at a WriteOld and a Tombstone, and by none at any other step.
+/// So in every schedule a seat that stands on a page has as many hops more to make, at most, as there were such steps.
+pub fn two_kinds_lengthen_a_way_by_a_hop()
+    ensures step { (kind : Kind) → KindLengthens kind }
+    ensures schedule { SchedulesLengthen }
 {}
 
 /// Where no seat holds a lock the world is sound exactly where the file is, with no change under way. So schedules may
