@@ -1,5 +1,5 @@
 -- Each kind of step lengthens another seat's way by a hop at most, and most not at all.
-use Rattle.std.proofs.Common.{◌≡◌, ◌≢◌, ◌≤◌, ◌⊎◌, ◌+◌, ℕ, [], ◌∷◌, List, refl, sym, ap, ◌∙◌, subst, inl, inr, arith}
+use Rattle.std.proofs.Common.{◌≡◌, ◌≢◌, ◌≤◌, ◌+◌, ℕ, [], ◌∷◌, List, sym, subst, inl, inr, arith}
 use Rattle.positions.specs.Ranges.{upper_half_of}
 use Rattle.bucket_page.specs.declared.record_key.RecordKey.{RecordKey}
 use Rattle.hash_file.specs.Store.{Store, range_at}
@@ -13,10 +13,9 @@ use Rattle.step_rules.specs.World.{World, MayAim}
 use Rattle.step_rules.specs.Sound.{IsSoundWorld}
 use Rattle.step_rules.specs.Known.{LeadsTo, Holds}
 use Rattle.step_rules.specs.LockSteps.{Hops}
-use Rattle.step_rules.specs.PageSteps.{Changes, WritesRecord, Retargets, SetsCounts}
-use Rattle.step_rules.specs.Does.{Does}
+use Rattle.step_rules.specs.PageSteps.{Changes, Retargets, SetsCounts}
 use Rattle.step_rules.specs.Laws.{Move, LeadAlong, StandsStill}
-use Rattle.step_rules.specs.Ways.{hops_added, KindLengthens, all_hops_added}
+use Rattle.step_rules.specs.Ways.{KindLengthens, all_hops_added}
 use Rattle.step_rules.proofs.ChangeLemmas.{file}
 use Rattle.step_rules.proofs.KnownLemmas.{Holds-kept}
 use Rattle.step_rules.proofs.KindLemmas.{kind_keeps}
@@ -37,7 +36,8 @@ module _ (hash : RecordKey → ℕ) (seat i : ℕ) (old new : World) (page k : �
   hop : Hops seat old new → distance new.store page k ≤ distance old.store page k + 0
   hop does = elim does.hops [
     | inl back ↦ by_world old 0 back.1 (omega arith)
-    | inr on ↦ subst (λ (w : World). distance w.store page k ≤ distance old.store page k + 0) (sym on.1.is) (omega arith)
+    | inr on ↦ subst (λ (w : World). distance w.store page k ≤ distance old.store page k + 0) (sym on.1.is)
+        (omega arith)
   ]
 
   by_change : (c : Change) (t : Store) (d : Change) (h : ℕ) → Changes seat c t d old new →
@@ -92,7 +92,7 @@ kind_lengthens Hop hash seat i old new page k sound does apart aim leads =
 kind_lengthens WriteRecord hash seat i old new page k sound does apart aim leads =
     subst (λ (w : World). distance w.store page k ≤ distance old.store page k + 0) (sym does.is)
     (no_hop_more.write_record hash old.store old.change does.page does.write sound.file does.home
-        (idle hash seat old sound new does) does.may page k leads)
+    (idle hash seat old sound new does) does.may page k leads)
 kind_lengthens TakePage hash seat i old new page k sound does apart aim leads =
     let t : Store = take_page old.store in
     by_change hash seat i old new page k sound apart aim leads Quiet t (Taken old.store.header.first_free) 0
@@ -111,14 +111,14 @@ kind_lengthens WriteNew hash seat i old new page k sound does apart aim leads =
     let d : Change = Filled does.split does.taken in
     by_change hash seat i old new page k sound apart aim leads c t d 0 does.changes
     (no_hop_more.write_new hash old.store does.split does.taken (file hash seat old new sound c t d does.changes)
-        does.on_chain does.shallow page k (led hash seat i old new page k sound apart aim leads c t d does.changes))
+    does.on_chain does.shallow page k (led hash seat i old new page k sound apart aim leads c t d does.changes))
 kind_lengthens WriteOld hash seat i old new page k sound does apart aim leads =
     let t : Store = write_old hash does.split does.filled old.store in
     let c : Change = Filled does.split does.filled in
     let d : Change = Linked does.split does.filled (range_at old.store does.split) in
     by_change hash seat i old new page k sound apart aim leads c t d 1 does.changes
     (one_hop_at_most.write_old hash old.store does.split does.filled (file hash seat old new sound c t d does.changes)
-        page k (led hash seat i old new page k sound apart aim leads c t d does.changes))
+    page k (led hash seat i old new page k sound apart aim leads c t d does.changes))
 kind_lengthens Retarget hash seat i old new page k sound does apart aim leads =
     retargets hash seat i old new page k sound apart aim leads does
 kind_lengthens SetCounts hash seat i old new page k sound does apart aim leads =
@@ -128,26 +128,29 @@ kind_lengthens WriteLeft hash seat i old new page k sound does apart aim leads =
     let d : Change = Absorbed does.left does.right does.whole in
     by_change hash seat i old new page k sound apart aim leads Quiet t d 0 does.changes
     (no_hop_more.write_left hash old.store does.left does.right does.whole
-        (file hash seat old new sound Quiet t d does.changes) does.left_on does.right_on does.halves
-        page k (led hash seat i old new page k sound apart aim leads Quiet t d does.changes))
+    (file hash seat old new sound Quiet t d does.changes) does.left_on does.right_on does.halves
+    page k (led hash seat i old new page k sound apart aim leads Quiet t d does.changes))
 kind_lengthens Tombstone hash seat i old new page k sound does apart aim leads =
     let t : Store = write_tombstone does.left does.right old.store in
     let c : Change = Absorbed does.left does.right does.whole in
     let d : Change = Buried does.left does.right does.whole in
     by_change hash seat i old new page k sound apart aim leads c t d 1 does.changes
     (one_hop_at_most.write_tombstone hash old.store does.left does.right does.whole
-        (file hash seat old new sound c t d does.changes)
-        page k (led hash seat i old new page k sound apart aim leads c t d does.changes))
+    (file hash seat old new sound c t d does.changes)
+    page k (led hash seat i old new page k sound apart aim leads c t d does.changes))
 kind_lengthens WriteFree hash seat i old new page k sound does apart aim leads =
     let t : Store = write_free does.right old.store in
     let c : Change = Drained does.left does.right in
     let d : Change = Freed does.right in
     let another : page ≢ does.right = λ same.
-        frees_nobodys hash seat i old new sound apart does (subst (MayAim old.locks i) same aim) in
+    frees_nobodys hash seat i old new sound apart does (subst (MayAim old.locks i) same aim) in
     by_change hash seat i old new page k sound apart aim leads c t d 0 does.changes
-    (omega (arith, no_hop_more.write_free hash old.store does.left does.right
-        (file hash seat old new sound c t d does.changes)
-        page k another (led hash seat i old new page k sound apart aim leads c t d does.changes)))
+    (omega (
+      arith,
+      no_hop_more.write_free hash old.store does.left does.right
+          (file hash seat old new sound c t d does.changes)
+          page k another (led hash seat i old new page k sound apart aim leads c t d does.changes),
+    ))
 kind_lengthens LinkFree hash seat i old new page k sound does apart aim leads =
     let t : Store = link_free does.right old.store in
     by_change hash seat i old new page k sound apart aim leads (Freed does.right) t Quiet 0

@@ -1,4 +1,4 @@
--- The kinds of step: their names in schedules, and which belong to a structure change.
+-- The kinds of step: their names in schedules, and which may lengthen a search.
 -- docs/STEPS.md, "The kinds of step".
 use Rattle.std.specs.Prelude.{ℕ, Bool, true, false, List, codes}
 use Rattle.step_rules.specs.declared.kind.Kind.{Kind}
@@ -27,30 +27,6 @@ name_of Convert = codes "Convert"
 name_of WriteFree = codes "WriteFree"
 name_of LinkFree = codes "LinkFree"
 name_of LowerDepth = codes "LowerDepth"
-
--- a step of a split, a doubling, a merge or a halving
-abbrev pub changes_structure : Kind → Bool
-changes_structure Grant = false
-changes_structure Release = false
-changes_structure ReadDepth = false
-changes_structure ReadEntry = false
-changes_structure Look = false
-changes_structure Hop = false
-changes_structure WriteRecord = false
-changes_structure Decide = false
-changes_structure TakePage = true
-changes_structure CopyDirectory = true
-changes_structure RaiseDepth = true
-changes_structure WriteNew = true
-changes_structure WriteOld = true
-changes_structure Retarget = true
-changes_structure SetCounts = true
-changes_structure WriteLeft = true
-changes_structure Tombstone = true
-changes_structure Convert = false
-changes_structure WriteFree = true
-changes_structure LinkFree = true
-changes_structure LowerDepth = true
 
 -- the kinds after which a search of another seat may have one hop more to make
 abbrev pub may_lengthen : Kind → Bool

@@ -1,7 +1,7 @@
 //! The kinds of step.
 
 ghost use Rattle.std.specs.Prelude.{◌≡◌};
-ghost use Rattle.step_rules.specs.Kinds.{name_of, changes_structure, may_lengthen};
+ghost use Rattle.step_rules.specs.Kinds.{name_of, may_lengthen};
 
 /// What one step does (docs/STEPS.md, "The kinds of step"). The first eight leave the structure of the file, the next
 /// seven are those of a split and a doubling, the last six those of a merge and a halving.
@@ -79,24 +79,6 @@ impl Kind {
             Kind::LinkFree => "LinkFree",
             Kind::LowerDepth => "LowerDepth",
         }
-    }
-
-    /// Whether a step of this kind is part of a structure change, and so is made under the directory's lock alone.
-    pub fn changes_structure(self) -> bool
-        ensures { result ≡ changes_structure self }
-    {
-        !matches!(
-            self,
-            Kind::Grant
-                | Kind::Release
-                | Kind::ReadDepth
-                | Kind::ReadEntry
-                | Kind::Look
-                | Kind::Hop
-                | Kind::WriteRecord
-                | Kind::Decide
-                | Kind::Convert
-        )
     }
 
     /// Whether a step of this kind may make another seat's search longer by a hop.

@@ -31,9 +31,7 @@ fn kinds_have_the_names_of_schedules(rt: HostRuntime) {
 }
 
 #[test]
-fn a_split_and_a_merge_change_the_structure(rt: HostRuntime) {
-    assert!(rt; Kind::TakePage.changes_structure() && Kind::LowerDepth.changes_structure());
-    assert!(rt; !Kind::WriteRecord.changes_structure() && !Kind::Convert.changes_structure());
+fn a_new_bucket_and_a_tombstone_lengthen_a_search(rt: HostRuntime) {
     assert!(rt; Kind::WriteOld.may_lengthen() && Kind::Tombstone.may_lengthen());
     assert!(rt; !Kind::WriteNew.may_lengthen() && !Kind::WriteLeft.may_lengthen());
 }
