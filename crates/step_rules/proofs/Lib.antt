@@ -14,3 +14,4 @@ pub mod MachineLemmas
 pub mod OnePageLemmas
 pub mod BuddyLemmas
 pub mod WayLemmas
+pub mod BoundLemmas

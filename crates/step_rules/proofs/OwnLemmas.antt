@@ -41,7 +41,7 @@ use Rattle.step_rules.proofs.StructureLemmas.{IsSo-kept}
 -- ---- searches
 
 -- an index by fewer bits is one of the directory
-low_bits_below : (k d depth : ℕ) → d ≤ depth → k % 2 ^ d < 2 ^ depth
+pub low_bits_below : (k d depth : ℕ) → d ≤ depth → k % 2 ^ d < 2 ^ depth
 low_bits_below k d depth shallow = omega (arith, mod_below k (2 ^ d) (pow_pos d), pow_mono {i = d} {j = depth} shallow)
 
 pub entry_read_leads : (hash : RecordKey → ℕ) (seat : ℕ) (w : World) (d k : ℕ) → IsSoundWorld hash w →

@@ -6,6 +6,7 @@ use Rattle.positions.specs.Positions.{position_of}
 use Rattle.positions.specs.Ranges.{start_of, Covers}
 use Rattle.positions.specs.Tiles.{begun}
 use Rattle.positions.specs.Links.{met_from}
+use Rattle.positions.proofs.CountLaws.{begun_same}
 use Rattle.bucket_page.specs.declared.page.PageKind.{PageKind}
 use Rattle.bucket_page.specs.declared.page.PageKind.TheVariants as kinds
 use Rattle.hash_file.specs.Store.{Store, is_bucket, bucket_of, range_of, page_at, entry_at, has_bucket, range_at, next_at}
@@ -33,13 +34,6 @@ next-bare (kinds.Bucket b) = refl
 next-bare (kinds.Directory es) = refl
 next-bare (kinds.Tombstone link) = refl
 next-bare (kinds.Free link) = refl
-
--- what is told by the ranges of pages alone
-begun-same : (f g : ℕ → Range) (ns : List ℕ) (p : ℕ) → ((n : ℕ) → f n ≡ g n) → begun f ns p ≡ begun g ns p
-begun-same f g [] p same = refl
-begun-same f g (n ∷ ns) p same =
-    ap (λ (r : Range). (if nat_le (start_of r) p then 1 else 0) + begun f ns p) (same n)
-    ∙ ap (λ (rest : ℕ). (if nat_le (start_of (g n)) p then 1 else 0) + rest) (begun-same f g ns p same)
 
 -- what is met by next links alone
 met_from-same : (live live' : ℕ → Bool) (next next' : ℕ → ℕ) (fuel n : ℕ) → ((m : ℕ) → live' m ≡ live m) →
@@ -88,7 +82,7 @@ module _ (old new : World) (keeps : KeepsStructure old new) where
       (ap (range_at new.store) (next_at-kept n) ∙ range_at-kept (next_at old.store n))
 
   begun-kept : (ns : List ℕ) (p : ℕ) → begun (range_at new.store) ns p ≡ begun (range_at old.store) ns p
-  begun-kept ns p = begun-same (range_at new.store) (range_at old.store) ns p range_at-kept
+  begun-kept ns p = begun_same (range_at old.store) (range_at new.store) ns p (λ n on. ap start_of (range_at-kept n))
 
   pub Leads-kept : (n k : ℕ) → Leads old.store old.change n k → Leads new.store new.change n k
   Leads-kept n k leads = record {

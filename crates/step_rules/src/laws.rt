@@ -2,7 +2,7 @@
 
 ghost use Rattle.step_rules.specs.declared.kind.Kind.{Kind};
 ghost use Rattle.step_rules.specs.OnePage.{KindChangesLittle};
-ghost use Rattle.step_rules.specs.Ways.{KindLengthens, SchedulesLengthen};
+ghost use Rattle.step_rules.specs.Ways.{KindLengthens, SchedulesLengthen, DepthIsExact, KindParts, EntryIsNear, HopIsNearer};
 ghost use Rattle.step_rules.specs.Laws.{OthersKnow, KindKeeps, KindKeepsContents, WriteChangesOneRecord, SchedulesKeepSound, SchedulesKeepKnowledge, RestIsSound, RestIsQuiet};
 
 /// What a seat knows is still so after a step of another seat, by what that step leaves.
@@ -33,6 +33,16 @@ pub fn every_schedule_keeps_what_is_known()
 pub fn two_kinds_lengthen_a_way_by_a_hop()
     ensures step { (kind : Kind) → KindLengthens kind }
     ensures schedule { SchedulesLengthen }
+{}
+
+/// By how many hops a search is from its bucket: none by the depth that it has just read, but for one at the entry; one
+/// more at most for each WriteOld and Tombstone of another seat; one fewer after each hop. So it hops at most once more
+/// than there were such steps since it was granted the directory.
+pub fn a_search_hops_once_more_than_others_lengthen_its_way()
+    ensures depth { DepthIsExact }
+    ensures parts { (kind : Kind) → KindParts kind }
+    ensures entry { EntryIsNear }
+    ensures hop { HopIsNearer }
 {}
 
 /// Where no seat holds a lock the world is sound exactly where the file is, with no change under way. So schedules may

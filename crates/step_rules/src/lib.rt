@@ -9,6 +9,7 @@ mod progress;
 
 pub use kind::Kind;
 pub use laws::{
+    a_search_hops_once_more_than_others_lengthen_its_way,
     a_step_changes_one_page_and_one_lock_at_most, a_world_at_rest_is_a_quiet_file,
     each_kind_leaves_what_others_know, every_schedule_keeps_what_is_known,
     only_a_written_record_changes_what_the_file_holds, others_keep_what_they_know,
