@@ -49,8 +49,11 @@ depth_is_exact hash w k sound = at_bucket (bucket_found s (chain s) i sound.file
         hops_between w.store w.store.header.depth k ≡ 0
     at_bucket (n, b) =
         let covers = (covers_truncated (range_at w.store n) w.store.header.depth k (sound.file.chained.shallow n b.0)).0 b.1 in
-        omega (arith, begun_in w.store n (k % 2 ^ w.store.header.depth) sound.file.chained b,
-            begun_in w.store n k sound.file.chained (b.0, covers))
+        omega (
+          arith,
+          begun_in w.store n (k % 2 ^ w.store.header.depth) sound.file.chained b,
+          begun_in w.store n k sound.file.chained (b.0, covers),
+        )
 
 -- the way from the bucket of the low bits
 way_from : (s : Store) (n i k : ℕ) → IsChain s (chain s) → IsBucketOn s (chain s) i n →
@@ -59,7 +62,7 @@ way_from s n i k chained b =
     let live = chained.buckets n b.0 in
     let from : ℕ = begun_at s (position_of k) in
     ap (λ (x : Bool). from - begun_at s (if x then start_of (range_at s n) else start_of (range_at s (next_at s n)))
-        + (if x then 0 else 1)) live
+    + (if x then 0 else 1)) live
     ∙ rw (begun_in s n i chained b) (omega arith)
 
 -- a page that leads to the low bits is no nearer
@@ -69,7 +72,7 @@ way_over s n i k reaches =
     let rises = begun_rises (range_at s) (chain s) (reach s n) (position_of i) reaches in
     let last : ℕ = if has_bucket s n then 0 else 1 in
     let short : begun_at s (position_of k) - begun_at s (position_of i)
-        ≤ begun_at s (position_of k) - begun_at s (reach s n) + last = omega (arith, rises) in
+    ≤ begun_at s (position_of k) - begun_at s (reach s n) + last = omega (arith, rises) in
     short
 
 pub kind_parts : (kind : Kind) → KindParts kind
@@ -83,8 +86,12 @@ kind_parts kind hash seat other old new d k sound does apart there =
         let leads = stale_depths_lead old.store old.change n k d low in
         let longer = kind_lengthens kind hash seat other old new n k sound does apart (inl there) leads in
         let still = (kind_keeps kind hash seat old new sound does).leaves.leads other n (k % 2 ^ d) apart (inl there) low in
-        omega (arith, longer, way_from old.store n (k % 2 ^ d) k sound.file.chained b,
-            way_over new.store n (k % 2 ^ d) k still.reaches)
+        omega (
+          arith,
+          longer,
+          way_from old.store n (k % 2 ^ d) k sound.file.chained b,
+          way_over new.store n (k % 2 ^ d) k still.reaches,
+        )
 
 pub entry_is_near : (hash : RecordKey → ℕ) (seat : ℕ) (w : World) (d k : ℕ) → IsSoundWorld hash w →
     Holds seat w (Deep d) → distance w.store (entry_at w.store (k % 2 ^ d)) k ≤ hops_between w.store d k + 1
@@ -92,13 +99,13 @@ entry_is_near hash seat w d k sound deep =
     let i : ℕ = k % 2 ^ d in
     let e : ℕ = entry_at w.store i in
     let entry = entries_lead hash w.store w.change (chain w.store) e i sound.file
-        (sound.file.entries i (low_bits_below k d w.store.header.depth deep.1)) in
+    (sound.file.entries i (low_bits_below k d w.store.header.depth deep.1)) in
     let last : ℕ = if has_bucket w.store e then 0 else 1 in
     let near : begun_at w.store (position_of i) - begun_at w.store (reach w.store e) + last ≤ 1 = entry.near in
     let first = begun_rises (range_at w.store) (chain w.store) (reach w.store e) (position_of i) entry.leads.reaches in
     let further = begun_rises (range_at w.store) (chain w.store) (position_of i) (position_of k) (position_truncated d k) in
     let whole : begun_at w.store (position_of k) - begun_at w.store (reach w.store e) + last
-        ≤ begun_at w.store (position_of k) - begun_at w.store (position_of i) + 1 = omega (arith, near, first, further) in
+    ≤ begun_at w.store (position_of k) - begun_at w.store (position_of i) + 1 = omega (arith, near, first, further) in
     whole
 
 pub hop_is_nearer : (hash : RecordKey → ℕ) (w : World) (page k : ℕ) → IsSoundWorld hash w →

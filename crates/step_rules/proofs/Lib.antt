@@ -15,3 +15,4 @@ pub mod OnePageLemmas
 pub mod BuddyLemmas
 pub mod WayLemmas
 pub mod BoundLemmas
+pub mod WalkLemmas

@@ -12,3 +12,4 @@ pub mod OnePage
 pub mod Laws
 pub mod Learns
 pub mod Ways
+pub mod Walks

@@ -2,6 +2,7 @@
 
 ghost use Rattle.step_rules.specs.declared.kind.Kind.{Kind};
 ghost use Rattle.step_rules.specs.OnePage.{KindChangesLittle};
+ghost use Rattle.step_rules.specs.Walks.{SearchHopsLittle};
 ghost use Rattle.step_rules.specs.Ways.{KindLengthens, SchedulesLengthen, DepthIsExact, KindParts, EntryIsNear, HopIsNearer};
 ghost use Rattle.step_rules.specs.Laws.{OthersKnow, KindKeeps, KindKeepsContents, WriteChangesOneRecord, SchedulesKeepSound, SchedulesKeepKnowledge, RestIsSound, RestIsQuiet};
 
@@ -35,10 +36,11 @@ pub fn two_kinds_lengthen_a_way_by_a_hop()
     ensures schedule { SchedulesLengthen }
 {}
 
-/// By how many hops a search is from its bucket: none by the depth that it has just read, but for one at the entry; one
-/// more at most for each WriteOld and Tombstone of another seat; one fewer after each hop. So it hops at most once more
-/// than there were such steps since it was granted the directory.
-pub fn a_search_hops_once_more_than_others_lengthen_its_way()
+/// In every schedule a search makes one hop more, at most, than there were WriteOld and Tombstone steps of other seats
+/// since it read the depth. For by that depth it is no hop away, or one at the entry; each such step adds one at most;
+/// and each hop comes one nearer.
+pub fn a_search_hops_once_more_at_most()
+    ensures search { SearchHopsLittle }
     ensures depth { DepthIsExact }
     ensures parts { (kind : Kind) → KindParts kind }
     ensures entry { EntryIsNear }

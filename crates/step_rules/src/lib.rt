@@ -9,11 +9,10 @@ mod progress;
 
 pub use kind::Kind;
 pub use laws::{
-    a_search_hops_once_more_than_others_lengthen_its_way,
-    a_step_changes_one_page_and_one_lock_at_most, a_world_at_rest_is_a_quiet_file,
-    each_kind_leaves_what_others_know, every_schedule_keeps_what_is_known,
-    only_a_written_record_changes_what_the_file_holds, others_keep_what_they_know,
-    two_kinds_lengthen_a_way_by_a_hop,
+    a_search_hops_once_more_at_most, a_step_changes_one_page_and_one_lock_at_most,
+    a_world_at_rest_is_a_quiet_file, each_kind_leaves_what_others_know,
+    every_schedule_keeps_what_is_known, only_a_written_record_changes_what_the_file_holds,
+    others_keep_what_they_know, two_kinds_lengthen_a_way_by_a_hop,
 };
 pub use learns::{
     a_buddy_is_the_other_half, a_freed_page_is_nobodys, a_hop_is_led_on,

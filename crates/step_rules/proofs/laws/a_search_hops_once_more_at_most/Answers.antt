@@ -1,8 +1,10 @@
 use Rattle.step_rules.proofs.BoundLemmas.{depth_is_exact, kind_parts, entry_is_near, hop_is_nearer}
-use Rattle.step_rules.proofs.laws.a_search_hops_once_more_than_others_lengthen_its_way.Goals as goal
+use Rattle.step_rules.proofs.WalkLemmas.{search_hops_little}
+use Rattle.step_rules.proofs.laws.a_search_hops_once_more_at_most.Goals as goal
 
 pub returns : goal.returns
 returns c = record {
+  search = λ hash seat k w page hops added come. search_hops_little hash seat k w page hops added come;
   depth = λ hash w k sound. depth_is_exact hash w k sound;
   parts = λ kind hash seat i old new depth k sound does apart there.
       kind_parts kind hash seat i old new depth k sound does apart there;
