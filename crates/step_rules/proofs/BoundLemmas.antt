@@ -1,5 +1,5 @@
 -- How far an entry is from the bucket of a pseudokey, that was found by a depth read before.
-use Rattle.std.proofs.Common.{◌≡◌, ◌≢◌, ◌≤◌, ◌<◌, ◌+◌, ◌-◌, ◌%◌, ◌^◌, ℕ, suc, Bool, true, List, if◌then◌else◌, refl, sym, ap, ◌∙◌, subst, inl, inr, arith}
+use Rattle.std.proofs.Common.{◌≡◌, ◌≤◌, ◌+◌, ◌-◌, ◌%◌, ◌^◌, ℕ, suc, Bool, if◌then◌else◌, ap, ◌∙◌, inl, arith}
 use Rattle.positions.specs.declared.pseudokey.TheConstants.{POSITIONS}
 use Rattle.positions.specs.Positions.{position_of}
 use Rattle.positions.specs.Ranges.{start_of}
@@ -8,7 +8,6 @@ use Rattle.positions.proofs.CountLaws.{begun_rises, begun_inside}
 use Rattle.positions.proofs.PositionLaws.{position_truncated}
 use Rattle.positions.proofs.RangeLaws.{covers_truncated}
 use Rattle.bucket_page.specs.declared.record_key.RecordKey.{RecordKey}
-use Rattle.page_locks.specs.declared.lock.LockName.TheVariants.{Directory}
 use Rattle.hash_file.specs.Store.{Store, entry_at, has_bucket, range_at, next_at}
 use Rattle.hash_file.specs.Chain.{chain, IsChain, IsBucketOn}
 use Rattle.hash_file.specs.Search.{reach, Leads, distance}
@@ -16,10 +15,9 @@ use Rattle.hash_file.specs.Looks.{Answers}
 use Rattle.hash_file.proofs.Chains.{bucket_found, has_position}
 use Rattle.hash_file.proofs.Searches.{bucket_leads, entries_lead, stale_depths_lead, hops_lead_on}
 use Rattle.step_rules.specs.declared.kind.Kind.{Kind}
-use Rattle.step_rules.specs.World.{World, IsHeld}
+use Rattle.step_rules.specs.World.{World}
 use Rattle.step_rules.specs.Sound.{IsSoundWorld}
 use Rattle.step_rules.specs.Known.{Deep, Holds}
-use Rattle.step_rules.specs.Does.{Does}
 use Rattle.step_rules.specs.Ways.{hops_added, hops_between, KindParts}
 use Rattle.step_rules.proofs.KindLemmas.{kind_keeps}
 use Rattle.step_rules.proofs.OwnLemmas.{low_bits_below}
@@ -48,7 +46,8 @@ depth_is_exact hash w k sound = at_bucket (bucket_found s (chain s) i sound.file
     at_bucket : (n : ℕ) × IsBucketOn w.store (chain w.store) (k % 2 ^ w.store.header.depth) n →
         hops_between w.store w.store.header.depth k ≡ 0
     at_bucket (n, b) =
-        let covers = (covers_truncated (range_at w.store n) w.store.header.depth k (sound.file.chained.shallow n b.0)).0 b.1 in
+        let covers =
+        (covers_truncated (range_at w.store n) w.store.header.depth k (sound.file.chained.shallow n b.0)).0 b.1 in
         omega (
           arith,
           begun_in w.store n (k % 2 ^ w.store.header.depth) sound.file.chained b,
@@ -85,7 +84,8 @@ kind_parts kind hash seat other old new d k sound does apart there =
         let low = (bucket_leads old.store old.change (chain old.store) n (k % 2 ^ d) sound.file.chained b).0 in
         let leads = stale_depths_lead old.store old.change n k d low in
         let longer = kind_lengthens kind hash seat other old new n k sound does apart (inl there) leads in
-        let still = (kind_keeps kind hash seat old new sound does).leaves.leads other n (k % 2 ^ d) apart (inl there) low in
+        let still =
+        (kind_keeps kind hash seat old new sound does).leaves.leads other n (k % 2 ^ d) apart (inl there) low in
         omega (
           arith,
           longer,
@@ -103,7 +103,8 @@ entry_is_near hash seat w d k sound deep =
     let last : ℕ = if has_bucket w.store e then 0 else 1 in
     let near : begun_at w.store (position_of i) - begun_at w.store (reach w.store e) + last ≤ 1 = entry.near in
     let first = begun_rises (range_at w.store) (chain w.store) (reach w.store e) (position_of i) entry.leads.reaches in
-    let further = begun_rises (range_at w.store) (chain w.store) (position_of i) (position_of k) (position_truncated d k) in
+    let further =
+    begun_rises (range_at w.store) (chain w.store) (position_of i) (position_of k) (position_truncated d k) in
     let whole : begun_at w.store (position_of k) - begun_at w.store (reach w.store e) + last
     ≤ begun_at w.store (position_of k) - begun_at w.store (position_of i) + 1 = omega (arith, near, first, further) in
     whole

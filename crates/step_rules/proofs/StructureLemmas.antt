@@ -1,5 +1,5 @@
 -- Facts of the structure are told by all of the file but its records.
-use Rattle.std.proofs.Common.{◌≡◌, ℕ, zero, suc, ◌+◌, ◌-◌, ◌^◌, List, [], ◌∷◌, Bool, if◌then◌else◌, nat_le, refl, sym, ap, ◌∙◌, subst, inl, inr}
+use Rattle.std.proofs.Common.{◌≡◌, ℕ, zero, suc, ◌+◌, ◌-◌, ◌^◌, List, [], ◌∷◌, Bool, if◌then◌else◌, refl, sym, ap, ◌∙◌, subst, inl, inr}
 use Rattle.std.specs.List.{Contains}
 use Rattle.positions.specs.declared.range.Range.{Range}
 use Rattle.positions.specs.Positions.{position_of}

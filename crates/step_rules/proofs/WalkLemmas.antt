@@ -1,23 +1,21 @@
 -- A search makes one hop more, at most, than the steps of others may have added.
-use Rattle.std.proofs.Common.{◌≡◌, ◌≢◌, ◌≤◌, ◌+◌, ◌%◌, ◌^◌, [], ◌∷◌, ◌++◌, ℕ, suc, Some, refl, sym, ap, ◌∙◌, subst, inl, inr, arith}
+use Rattle.std.proofs.Common.{◌≡◌, ◌≢◌, ◌≤◌, ◌+◌, [], ◌∷◌, ◌++◌, ℕ, suc, sym, ◌∙◌, subst, inr, arith}
 use Rattle.bucket_page.specs.declared.record_key.RecordKey.{RecordKey}
 use Rattle.page_locks.specs.declared.lock.LockKind.{LockKind}
 use Rattle.page_locks.specs.declared.lock.LockName.{LockName}
-use Rattle.page_locks.specs.declared.lock.LockName.TheVariants.{Directory, Page}
+use Rattle.page_locks.specs.declared.lock.LockName.TheVariants.{Page}
 use Rattle.page_locks.specs.Table.{Table, held, with_lock, without_lock}
 use Rattle.page_locks.specs.Locks.{lock_of}
 use Rattle.page_locks.specs.Table.{row_of}
 use Rattle.page_locks.proofs.ChangeLemmas.{held-grant, IsSeat-with_row}
-use Rattle.hash_file.specs.Store.{entry_at, next_at}
+use Rattle.hash_file.specs.Store.{next_at}
 use Rattle.hash_file.specs.Search.{Leads, distance}
-use Rattle.hash_file.specs.Looks.{Answers}
-use Rattle.step_rules.specs.declared.kind.Kind.{Kind}
 use Rattle.step_rules.specs.declared.kind.Kind.TheVariants.{Grant, Release, Hop}
-use Rattle.step_rules.specs.World.{World, IsHeld, MayAim}
+use Rattle.step_rules.specs.World.{World, IsHeld}
 use Rattle.step_rules.specs.Sound.{IsSoundWorld}
 use Rattle.step_rules.specs.Known.{Deep, LeadsTo, Holds}
-use Rattle.step_rules.specs.LockSteps.{Grants, Releases, GoesOn, Hops}
-use Rattle.step_rules.specs.Ways.{hops_added, hops_between}
+use Rattle.step_rules.specs.LockSteps.{GoesOn, Hops}
+use Rattle.step_rules.specs.Ways.{hops_between}
 use Rattle.step_rules.specs.Walks.{HasRead, Now, Beside, HasCome, Entered, Waited, Took, Gave, Hopped}
 use Rattle.step_rules.proofs.LockLemmas.{IsHeld-some, held-released}
 use Rattle.step_rules.proofs.KnownLemmas.{Holds-kept}
@@ -63,7 +61,8 @@ hop_holds seat page old new kind other g =
     let t : Table = with_lock old.locks seat further kind in
     let seated = IsSeat-with_row old.locks seat seat (row_of old.locks seat ++ lock_of further kind ∷ []) g.seated in
     let kept : held (without_lock t seat (Page page)) seat further ≡ held t seat further =
-    held-released t seat seated (Page page) seat further (λ own same. other (let e : page ≡ next_at old.store page = cc in sym e)) in
+    held-released t seat seated (Page page) seat further
+    (λ own same. other (let e : page ≡ next_at old.store page = cc in sym e)) in
     subst (λ (w : World). IsHeld w.locks seat further) (sym g.is)
     (IsHeld-some (without_lock t seat (Page page)) seat further kind
     (kept ∙ held-grant old.locks seat g.seated further kind g.fresh))

@@ -8,7 +8,6 @@ use Rattle.page_locks.specs.Table.{held}
 use Rattle.hash_file.specs.Store.{entry_at, next_at}
 use Rattle.hash_file.specs.Looks.{Answers}
 use Rattle.step_rules.specs.declared.kind.Kind.{Kind}
-use Rattle.step_rules.specs.declared.kind.Kind.TheVariants.{Grant, Release}
 use Rattle.step_rules.specs.World.{World, IsHeld, MayAim}
 use Rattle.step_rules.specs.Sound.{IsSoundWorld}
 use Rattle.step_rules.specs.LockSteps.{Grants, Releases, GoesOn}
