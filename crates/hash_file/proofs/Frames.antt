@@ -1,7 +1,7 @@
 -- What a change of pages leaves as it was, and how the law of a change is closed.
-use Rattle.std.proofs.Common.{ℕ, ◌≡◌, ◌≢◌, ◌+◌, ◌==◌, ◌<◌, ◌≤◌, List, Bool, true, false, cond, length, arith, refl, sym, ap, subst, ◌∙◌, ◌⊎◌, inl, inr}
+use Rattle.std.proofs.Common.{ℕ, ◌≡◌, ◌≢◌, ◌+◌, ◌==◌, ◌<◌, ◌≤◌, List, Bool, true, false, length, arith, refl, sym, ap, subst, ◌∙◌, inl, inr}
 use Rattle.std.specs.List.{Contains}
-use Rattle.std.proofs.lemmas.List.{get_or-set_same, get_or-set_other, length-set}
+use Rattle.std.proofs.lemmas.List.{get_or-set_same, get_or-set_other}
 use Rattle.positions.specs.declared.range.Range.{Range}
 use Rattle.positions.specs.Positions.{position_of}
 use Rattle.positions.specs.Ranges.{Covers, start_of}
@@ -15,7 +15,7 @@ use Rattle.bucket_page.specs.declared.page.PageKind.{PageKind}
 use Rattle.bucket_page.specs.declared.page.PageKind.TheVariants as kinds
 use Rattle.bucket_page.specs.Records.{lookup}
 use Rattle.hash_file.specs.Store.{Store, page_at, is_bucket, bucket_of, bucket_at, range_of, has_bucket, range_at, next_at, entry_at}
-use Rattle.hash_file.specs.Chain.{chain, contents, pairs_on, IsChain, IsBucketOn, how_many, number_on}
+use Rattle.hash_file.specs.Chain.{contents, pairs_on, IsChain, IsBucketOn, number_on}
 use Rattle.hash_file.specs.Change.{Change}
 use Rattle.hash_file.specs.Search.{reach, Leads, LeadsOn, distance, distance_on}
 use Rattle.hash_file.specs.Sound.{IsSoundOn, IsSound, HasLayout, HasEntry, IsFreeList, is_numbered}
