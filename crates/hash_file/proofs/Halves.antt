@@ -3,7 +3,7 @@ use Rattle.std.proofs.Common.{ℕ, suc, ◌≡◌, ◌+◌, ◌*◌, ◌/◌, �
 use Rattle.std.specs.List.{All, filter}
 use Rattle.std.proofs.lemmas.Bool.{cases_eq, eqb-true, eq-eqb, not-true, both_ways}
 use Rattle.std.proofs.lemmas.Nat.{mod-pow-add, mod_below}
-use Rattle.std.proofs.lemmas.List.Elements.{All-head, All-tail, All-filter, filter_passes}
+use Rattle.std.proofs.lemmas.List.Elements.{All-filter, filter_passes}
 use Rattle.positions.specs.declared.pseudokey.TheConstants.{PSEUDOKEY_BITS}
 use Rattle.positions.specs.declared.range.Range.{Range}
 use Rattle.positions.specs.Ranges.{IsRange, Covers, lower_half_of, upper_half_of}
@@ -11,16 +11,13 @@ use Rattle.positions.proofs.BuddyLaws.{same_range}
 use Rattle.positions.proofs.RangeLaws.{halves_apart, half_in_range}
 use Rattle.bucket_page.specs.declared.record_key.RecordKey.{RecordKey}
 use Rattle.bucket_page.specs.Bucket.{Bucket}
-use Rattle.bucket_page.specs.Records.{Pair, is_above, ascend_from, ascend, lookup}
-use Rattle.bucket_page.specs.Dividing.{has_bit, lower_half, upper_half, merged, ShareNoKey}
-use Rattle.bucket_page.specs.Changes.{inserted}
+use Rattle.bucket_page.specs.Records.{Pair, is_above, ascend_from, lookup}
+use Rattle.bucket_page.specs.Dividing.{has_bit, lower_half, upper_half}
 use Rattle.bucket_page.proofs.Zeros.{both_true}
-use Rattle.bucket_page.proofs.OrderLaws.{ascends_with, ascend_lower, ascend_rest}
-use Rattle.bucket_page.proofs.LookupLaws.{lookup_half, all_above, apart_on}
+use Rattle.bucket_page.proofs.OrderLaws.{ascend_lower}
+use Rattle.bucket_page.proofs.LookupLaws.{lookup_half}
 use Rattle.hash_file.specs.Store.{range_of}
 use Rattle.hash_file.specs.Chain.{IsPlaced}
-use Rattle.hash_file.proofs.Lookups.{absent_elsewhere}
-use Rattle.hash_file.proofs.Writes.{all_inserted}
 
 -- ---- the bit that parts a range
 

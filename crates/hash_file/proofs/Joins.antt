@@ -1,5 +1,5 @@
 -- Two buckets joined: where their records stand, and what is looked up in them.
-use Rattle.std.proofs.Common.{ℕ, suc, ◌≡◌, ◌+◌, ◌-◌, ◌<◌, Option, Some, None, List, [], ◌∷◌, true, slice_index_or, arith, refl, sym, ap, subst, ◌∙◌, inl, inr}
+use Rattle.std.proofs.Common.{ℕ, suc, ◌≡◌, ◌<◌, Option, Some, None, List, [], ◌∷◌, true, slice_index_or, arith, refl, sym, ap, subst, ◌∙◌, inl, inr}
 use Rattle.std.specs.List.{All}
 use Rattle.std.proofs.lemmas.List.Elements.{All-head, All-tail}
 use Rattle.positions.specs.declared.pseudokey.TheConstants.{PSEUDOKEY_BITS}

@@ -1,6 +1,6 @@
 -- The left bucket takes the range and the records of the right one, which is taken off the chain.
-use Rattle.std.proofs.Common.{ℕ, suc, ◌≡◌, ◌≢◌, ◌+◌, ◌-◌, ◌<◌, ◌≤◌, ◌==◌, List, [], ◌∷◌, ◌++◌, Bool, true, false, cond, Option, Some, None, length, slice_index_or, arith, refl, sym, ap, subst, ◌∙◌, inl, inr, if◌then◌else◌}
-use Rattle.std.specs.List.{Contains, All}
+use Rattle.std.proofs.Common.{ℕ, suc, ◌≡◌, ◌≢◌, ◌+◌, ◌-◌, ◌<◌, ◌≤◌, ◌==◌, List, [], ◌∷◌, ◌++◌, Bool, true, false, cond, length, arith, refl, sym, ap, subst, ◌∙◌, inl, inr, if◌then◌else◌}
+use Rattle.std.specs.List.{Contains}
 use Rattle.std.proofs.lemmas.Bool.{cases_eq, both_ways}
 use Rattle.std.proofs.lemmas.List.{length-set}
 use Rattle.std.proofs.lemmas.List.Elements.{Contains-append_right}
@@ -9,9 +9,8 @@ use Rattle.positions.specs.declared.range.Range.{Range}
 use Rattle.positions.specs.Positions.{position_of}
 use Rattle.positions.specs.Ranges.{IsRange, Covers, AreHalvesOf, lower_half_of, upper_half_of, start_of}
 use Rattle.positions.specs.Tiles.{AreNeighbours, begun}
-use Rattle.positions.proofs.BuddyLaws.{same_range}
 use Rattle.positions.proofs.MemberLaws.{contains_head, contains_tail, contains_none, contains_grown, contains_new, contains_grown_cases}
-use Rattle.positions.proofs.RangeLaws.{halved_valid, half_in_range, halves_apart}
+use Rattle.positions.proofs.RangeLaws.{halved_valid, half_in_range}
 use Rattle.positions.proofs.TileLaws.{tiles_not_before, tiles_not_behind}
 use Rattle.positions.proofs.ChangeLaws.{join_tiles, joins_in_place, halves_neighbours}
 use Rattle.positions.proofs.CountLaws.{begun_insert, begun_same, begun_rises}
@@ -20,10 +19,8 @@ use Rattle.bucket_page.specs.declared.record_key.RecordKey.{RecordKey}
 use Rattle.bucket_page.specs.declared.page.PageKind.{PageKind}
 use Rattle.bucket_page.specs.declared.page.PageKind.TheVariants as kinds
 use Rattle.bucket_page.specs.Bucket.{Bucket}
-use Rattle.bucket_page.specs.Records.{Pair, lookup}
-use Rattle.bucket_page.specs.Dividing.{ShareNoKey, joined}
-use Rattle.bucket_page.specs.Laws.{either}
-use Rattle.bucket_page.proofs.LookupLaws.{lookup_merged}
+use Rattle.bucket_page.specs.Records.{lookup}
+use Rattle.bucket_page.specs.Dividing.{joined}
 use Rattle.hash_file.specs.Store.{Store, page_at, is_bucket, bucket_of, bucket_at, range_of, range_at, next_at, has_bucket, entry_at, count_at}
 use Rattle.hash_file.specs.Chain.{chain, pairs_on, IsChain, IsPlaced, IsBucketOn, number_on, times}
 use Rattle.hash_file.specs.Change.{Change, Quiet, Absorbed, gained, lost}
@@ -33,8 +30,8 @@ use Rattle.hash_file.specs.Sound.{IsSoundOn, IsSound, HasEntry}
 use Rattle.hash_file.specs.Changes.{write_left}
 use Rattle.hash_file.specs.Kept.{Keeps, LengthensWays}
 use Rattle.hash_file.proofs.Chains.{chain_valid, bucket_found}
-use Rattle.hash_file.proofs.Lists.{how_many_append, how_many_same, times_append, contains_is}
-use Rattle.hash_file.proofs.Lookups.{absent_elsewhere, look_at}
+use Rattle.hash_file.proofs.Lists.{how_many_append, how_many_same, twice, times_append, contains_is}
+use Rattle.hash_file.proofs.Lookups.{look_at}
 use Rattle.hash_file.proofs.Roles.{thrice, numbered, numbered_positive, live_not_spare}
 use Rattle.hash_file.proofs.Frames.{shape_of_page, reach_same, page_other, page_same, spared_same, numbered_same, layout_same, keeps_by, ways_by}
 use Rattle.hash_file.proofs.Joins.{range_joined, joined_left, joined_right, placed_joined}
@@ -242,23 +239,16 @@ module _ (hash : RecordKey → ℕ) (s : Store) (left right : ℕ) (whole : Rang
       rw (← ap (λ (r : Range). r.depth) halves.upper) (omega arith) in
       let one : number_on t (left ∷ []) depth ≡ (if whole.depth == depth then 1 else 0) =
       rw (← ap (λ (r : Range). r.depth) left_range) (omega arith) in
-      by_test (suc whole.depth == depth) refl low high one (omega (arith, was, number_old depth))
-    where
-      by_test : (b : Bool) → (suc whole.depth == depth) ≡ b →
-          number_on s (left ∷ []) depth ≡ (if suc whole.depth == depth then 1 else 0) →
-          number_on s (right ∷ []) depth ≡ (if suc whole.depth == depth then 1 else 0) →
-          number_on t (left ∷ []) depth ≡ (if whole.depth == depth then 1 else 0) →
-          count_at s depth ≡ number_on s front depth
-          + (number_on s (left ∷ []) depth + (number_on s (right ∷ []) depth + number_on s back depth)) →
-          count_at s depth + gained d depth ≡ lost d depth + number_on t ms depth
-      by_test true test low high one all =
-          let low' = rw test at low in
-          let high' = rw test at high in
-          rw test (omega (arith, low', high', one, all, number_new depth))
-      by_test false test low high one all =
-          let low' = rw test at low in
-          let high' = rw test at high in
-          rw test (omega (arith, low', high', one, all, number_new depth))
+      omega (
+        arith,
+        was,
+        low,
+        high,
+        one,
+        twice (suc whole.depth == depth),
+        number_old depth,
+        number_new depth,
+      )
 
   phase : IsAbsorbed hash t ms left right whole
   phase = record {

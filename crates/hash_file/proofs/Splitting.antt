@@ -29,7 +29,7 @@ use Rattle.hash_file.specs.Sound.{IsSoundOn, IsSound, HasEntry}
 use Rattle.hash_file.specs.Changes.{write_old}
 use Rattle.hash_file.specs.Kept.{Keeps, LengthensWays}
 use Rattle.hash_file.proofs.Chains.{chain_valid, bucket_found}
-use Rattle.hash_file.proofs.Lists.{how_many_append, how_many_same, times_append}
+use Rattle.hash_file.proofs.Lists.{how_many_append, how_many_same, twice, times_append}
 use Rattle.hash_file.proofs.Lookups.{look_at}
 use Rattle.hash_file.proofs.Roles.{thrice, numbered, numbered_positive, live_not_spare, live_not_owned}
 use Rattle.hash_file.proofs.Frames.{shape_of_page, reach_same, page_other, page_same, spared_same, numbered_same, layout_same, keeps_by, ways_by}
@@ -196,22 +196,16 @@ module _ (hash : RecordKey → ℕ) (s : Store) (old new : ℕ) (h : IsSound has
       rw (← ap (λ (r : Range). r.depth) lower_range) (omega arith) in
       let high : number_on t (new ∷ []) depth ≡ (if suc (range_at s old).depth == depth then 1 else 0) =
       rw (← ap (λ (r : Range). r.depth) upper_range) (omega arith) in
-      by_test (suc (range_at s old).depth == depth) refl low high (omega (arith, was, one, number_old depth))
-    where
-      by_test : (x : Bool) → (suc (range_at s old).depth == depth) ≡ x →
-          number_on t (old ∷ []) depth ≡ (if suc (range_at s old).depth == depth then 1 else 0) →
-          number_on t (new ∷ []) depth ≡ (if suc (range_at s old).depth == depth then 1 else 0) →
-          count_at s depth ≡ number_on s front depth
-          + ((if (range_at s old).depth == depth then 1 else 0) + number_on s back depth) →
-          count_at s depth + gained d depth ≡ lost d depth + number_on t ms depth
-      by_test true test low high all =
-          let low' = rw test at low in
-          let high' = rw test at high in
-          rw test (omega (arith, low', high', all, number_new depth))
-      by_test false test low high all =
-          let low' = rw test at low in
-          let high' = rw test at high in
-          rw test (omega (arith, low', high', all, number_new depth))
+      omega (
+        arith,
+        was,
+        one,
+        low,
+        high,
+        twice (suc (range_at s old).depth == depth),
+        number_old depth,
+        number_new depth,
+      )
 
   sound_on : IsSoundOn hash t d ms
   sound_on = record {
