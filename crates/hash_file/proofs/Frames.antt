@@ -20,7 +20,7 @@ use Rattle.hash_file.specs.Change.{Change}
 use Rattle.hash_file.specs.Search.{reach, Leads, LeadsOn, distance, distance_on}
 use Rattle.hash_file.specs.Sound.{IsSoundOn, IsSound, HasLayout, HasEntry, IsFreeList, is_numbered}
 use Rattle.hash_file.specs.Changes.{with_page}
-use Rattle.hash_file.specs.Kept.{Keeps, LengthensWays}
+use Rattle.hash_file.specs.Kept.{HasShapeOf, Keeps, LengthensWays}
 use Rattle.hash_file.proofs.Chains.{chain_is}
 use Rattle.hash_file.proofs.Lists.{how_many_same}
 
@@ -56,12 +56,6 @@ page_other s n m page other = get_or-set_other s.pages n m page (kinds.Free 0) o
 
 pub page_same : (s : Store) (n : ℕ) (page : PageKind) → n < length s.pages → page_at (with_page n page s) n ≡ page
 page_same s n page within = get_or-set_same s.pages n page (kinds.Free 0) within
-
--- a page has the shape that it had: all that a chain sees of it
-pub record HasShapeOf (s t : Store) (n : ℕ) : Type 0 where
-  pub live : has_bucket t n ≡ has_bucket s n
-  pub range : range_at t n ≡ range_at s n
-  pub next : next_at t n ≡ next_at s n
 
 pub shape_of_page : (s t : Store) (n : ℕ) → page_at t n ≡ page_at s n → HasShapeOf s t n
 shape_of_page s t n same = record {

@@ -23,11 +23,11 @@ use Rattle.hash_file.specs.Search.{reach, LeadsOn, distance, distance_on}
 use Rattle.hash_file.specs.Phases.{HasPhase}
 use Rattle.hash_file.specs.Sound.{IsSoundOn, IsSound, HasEntry}
 use Rattle.hash_file.specs.Changes.{with_page, write_new, write_tombstone, write_free}
-use Rattle.hash_file.specs.Kept.{Keeps, LengthensWays, KeepsWaysBut}
+use Rattle.hash_file.specs.Kept.{HasShapeOf, Keeps, LengthensWays, KeepsWaysBut}
 use Rattle.hash_file.specs.Laws.{FreesPage}
 use Rattle.hash_file.proofs.Chains.{chain_is, chain_valid}
 use Rattle.hash_file.proofs.Roles.{numbered, numbered_positive, live_not_owned, spare_not_owned}
-use Rattle.hash_file.proofs.Frames.{HasShapeOf, shape_of_page, reach_same, page_other, page_same, chain_shaped, entry_shaped, number_shaped, spared_same, numbered_same, layout_same, sound_by, keeps_by, ways_by, begun_shaped, distance_shaped}
+use Rattle.hash_file.proofs.Frames.{shape_of_page, reach_same, page_other, page_same, chain_shaped, entry_shaped, number_shaped, spared_same, numbered_same, layout_same, sound_by, keeps_by, ways_by, begun_shaped, distance_shaped}
 
 -- pages with the records that they had
 pub pairs_same : (s t : Store) (ns : List ℕ) → ((n : ℕ) → Contains ns n → records_at t n ≡ records_at s n) →

@@ -19,7 +19,7 @@ use Rattle.hash_file.specs.Search.{LeadsOn}
 use Rattle.hash_file.specs.Phases.{HasPhase}
 use Rattle.hash_file.specs.Sound.{IsSoundOn, IsSound}
 use Rattle.hash_file.specs.Changes.{Write, MayWrite, key_of, value_after, written, write_record}
-use Rattle.hash_file.specs.Kept.{LengthensWays}
+use Rattle.hash_file.specs.Kept.{HasShapeOf, LengthensWays}
 use Rattle.hash_file.specs.Laws.{WritesRecord}
 use Rattle.directory.specs.declared.header.Header.{Header}
 use Rattle.bucket_page.specs.Dividing.{upper_half}
@@ -27,7 +27,7 @@ use Rattle.hash_file.proofs.Lists.{contains_is}
 use Rattle.hash_file.proofs.Chains.{chain_is, bucket_found, bucket_unique}
 use Rattle.hash_file.proofs.Lookups.{look_at}
 use Rattle.hash_file.proofs.Roles.{numbered, live_not_spare, live_not_owned}
-use Rattle.hash_file.proofs.Frames.{HasShapeOf, shape_of_page, reach_same, page_other, page_same, covers_shaped, chain_shaped, entry_shaped, number_shaped, spared_same, numbered_same, layout_same, sound_by, ways_by, distance_shaped}
+use Rattle.hash_file.proofs.Frames.{shape_of_page, reach_same, page_other, page_same, covers_shaped, chain_shaped, entry_shaped, number_shaped, spared_same, numbered_same, layout_same, sound_by, ways_by, distance_shaped}
 use Rattle.hash_file.proofs.Writes.{all_written, ascend_written, lookup_written}
 
 -- a phase that does not speak of the records of page n goes on where those alone change
@@ -182,6 +182,8 @@ module _ (hash : RecordKey → ℕ) (s : Store) (c : Change) (n : ℕ) (w : Writ
   pub writes_record : WritesRecord hash s c t w
   writes_record = record {
     sound = sound_by hash t c ns sound_on;
+    shapes = shape;
+    chain = is;
     contents = λ key. ap (λ (ms : List ℕ). lookup key (pairs_on t ms)) is
         ∙ looked_up key (bucket_found s ns (hash key) h.chained);
     leads = λ m k l. subst (λ (ms : List ℕ). LeadsOn t c ms m k) (sym is) (record {
