@@ -23,3 +23,4 @@ pub mod SoundExamples
 pub mod Checking
 pub mod Hops
 pub mod Joins
+pub mod New

@@ -5,6 +5,7 @@ ghost use Rattle.hash_file.specs.Examples.{AreSound, FreedPageTakenAgain, MergeA
 ghost use Rattle.hash_file.specs.Hops.{NoHopMore, OneHopAtMost};
 ghost use Rattle.hash_file.specs.Laws.{CopyDirectoryKeeps, LinkFreeKeeps, LowerDepthKeeps, RaiseDepthKeeps, RetargetKeepsMerge, RetargetKeepsSplit, SetCountsKeepsMerge, SetCountsKeepsSplit, TakePageKeeps, WriteFreeKeeps, WriteLeftKeeps, WriteNewKeeps, WriteOldKeeps, WriteRecordIsOneRecord, WriteTombstoneKeeps};
 ghost use Rattle.hash_file.specs.Looks.{DrainedHasNoWayIn, EntriesLead, HopsLeadOn, LooksAnswer, StaleDepthsLead};
+ghost use Rattle.hash_file.specs.New.{NewFilesAreSound};
 ghost use Rattle.hash_file.specs.Words.{ChainIsMet, ChainIsWellFormed, ContentsArePairs, LeadingIsStandingBefore, QuietIsExact, RolesAreOne};
 ghost use Rattle.hash_file.specs.WrongChanges.{WrongChanges};
 
@@ -181,4 +182,9 @@ pub fn two_changes_lengthen_a_way_by_a_hop()
 /// By every other change it does not grow; where a page is freed, from each other page.
 pub fn no_other_change_lengthens_a_way()
     ensures { NoHopMore }
+{}
+
+/// A file with one bucket, and all other pages free in ascending order, is sound, and holds the records of its bucket.
+pub fn a_new_file_is_sound()
+    ensures { NewFilesAreSound }
 {}
