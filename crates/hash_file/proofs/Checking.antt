@@ -1,22 +1,21 @@
 -- What the check of a chain has seen of it so far.
-use Rattle.std.proofs.Common.{ℕ, suc, ◌≡◌, ◌≢◌, ◌+◌, ◌<◌, ◌≤◌, ◌↔◌, List, [], ◌∷◌, ◌++◌, true, length, take, drop, slice_index_or, add-one, arith, refl, sym, ap, subst, ◌∙◌, inl, inr}
+use Rattle.std.proofs.Common.{ℕ, suc, ◌≡◌, ◌+◌, ◌<◌, ◌≤◌, ◌↔◌, List, [], ◌∷◌, ◌++◌, true, length, take, drop, slice_index_or, add-one, refl, sym, ap, subst, ◌∙◌, inl, inr}
 use Rattle.std.specs.List.{Contains}
 use Rattle.std.proofs.lemmas.List.Elements.{All-contains_itself, Contains-append_cases}
 use Rattle.std.proofs.lemmas.List.{take-append-drop}
 use Rattle.std.proofs.Math.ListN.{get_or-map}
 use Rattle.std.proofs.Math.Seq.{take-suc, drop-cons}
 use Rattle.positions.specs.declared.pseudokey.TheConstants.{POSITIONS}
-use Rattle.positions.specs.declared.range.Range.{Range}
 use Rattle.positions.specs.Ranges.{stop_of, start_of}
 use Rattle.positions.specs.Links.{Links}
-use Rattle.positions.specs.Tiles.{IsTileAt, Tiles}
-use Rattle.positions.proofs.MemberLaws.{contains_head, contains_cases, contains_none}
+use Rattle.positions.specs.Tiles.{Tiles}
+use Rattle.positions.proofs.MemberLaws.{contains_cases, contains_none}
 use Rattle.positions.proofs.TileLaws.{tiles_push, tiles_cut, tiles_end}
 use Rattle.positions.proofs.WalkLaws.{links_join, links_cut}
 use Rattle.bucket_page.specs.declared.page.PageKind.{PageKind}
 use Rattle.hash_file.specs.declared.page.Page.{Page}
 use Rattle.hash_file.specs.declared.page.Page.TheVariants as pages
-use Rattle.hash_file.specs.Store.{Store, page_at, is_bucket, bucket_of, range_of, has_bucket, bucket_at, range_at, next_at}
+use Rattle.hash_file.specs.Store.{Store, page_at, bucket_of, range_of, has_bucket, bucket_at, range_at, next_at}
 use Rattle.hash_file.specs.Chain.{IsChain}
 use Rattle.hash_file.specs.Skeletons.{shown, shape_of, skeleton, GoesOn}
 

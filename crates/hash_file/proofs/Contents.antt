@@ -1,16 +1,15 @@
 -- What a file holds, as pairs: no two have one key, and the value at a key is that of its pair.
-use Rattle.std.proofs.Common.{ℕ, zero, suc, ◌≡◌, ◌≢◌, ◌<◌, ◌≤◌, ◌↔◌, Bool, true, false, Option, Some, None, List, [], ◌∷◌, ◌++◌, arith, refl, sym, ap, subst, ◌∙◌, inl, inr}
+use Rattle.std.proofs.Common.{ℕ, zero, suc, ◌≡◌, ◌≢◌, ◌≤◌, Bool, true, false, Option, Some, List, [], ◌∷◌, ◌++◌, arith, refl, sym, ap, subst, ◌∙◌, inl, inr}
 use Rattle.std.specs.List.{All, AllPairs, AllByRecursion, Contains}
-use Rattle.std.proofs.lemmas.List.Elements.{All-head, All-tail, All-nil, All-cons, All-append, All-contains, All-contains_itself, Contains-append_cases}
+use Rattle.std.proofs.lemmas.List.Elements.{All-head, All-tail, All-nil, All-cons, All-append}
 use Rattle.std.proofs.lemmas.Bool.{both_ways, eq-eqb}
 use Rattle.std.proofs.lemmas.List.Kept.{AllPairs-cons}
 use Rattle.positions.specs.declared.pseudokey.TheConstants.{POSITIONS}
 use Rattle.positions.specs.Positions.{position_of}
-use Rattle.positions.specs.Ranges.{Covers, start_of, stop_of}
+use Rattle.positions.specs.Ranges.{stop_of}
 use Rattle.positions.specs.Tiles.{Tiles}
 use Rattle.positions.proofs.MemberLaws.{contains_head, contains_tail, contains_cases, contains_none}
 use Rattle.positions.proofs.RangeLaws.{range_has}
-use Rattle.positions.proofs.TileLaws.{tiles_within}
 use Rattle.bucket_page.specs.declared.record_key.RecordKey.{RecordKey}
 use Rattle.bucket_page.specs.Keys.{is_same, is_below}
 use Rattle.bucket_page.specs.Records.{Pair, pair, ascend, lookup}
@@ -18,7 +17,7 @@ use Rattle.bucket_page.proofs.KeyLaws.{same_is, below_other}
 use Rattle.bucket_page.proofs.LookupLaws.{all_above}
 use Rattle.bucket_page.proofs.OrderLaws.{ascend_rest}
 use Rattle.hash_file.specs.Store.{Store, bucket_at, range_at, records_at}
-use Rattle.hash_file.specs.Chain.{chain, contents, pairs, pairs_on, IsPlaced}
+use Rattle.hash_file.specs.Chain.{chain, pairs, pairs_on, IsPlaced}
 use Rattle.hash_file.specs.Change.{Change}
 use Rattle.hash_file.specs.Sound.{IsSound}
 use Rattle.hash_file.specs.Words.{HasContents}
@@ -28,7 +27,8 @@ Differ p q = p.key ≢ q.key
 
 -- a key is the same as itself
 same_self : (key : RecordKey) → is_same key key ≡ true
-same_self key = rw (eq-eqb key.kind key.kind refl, eq-eqb key.queue key.queue refl, eq-eqb key.number key.number refl) refl
+same_self key =
+    rw (eq-eqb key.kind key.kind refl, eq-eqb key.queue key.queue refl, eq-eqb key.number key.number refl) refl
 
 -- ascending keys differ
 ascending_differ : (ps : List Pair) → ascend ps ≡ true → AllPairs Differ ps
@@ -44,7 +44,8 @@ ascending_differ (p ∷ ps) h =
         (above qs h.1)
 
 -- of two lists whose pairs differ, and differ from one another's, all differ
-differ_append : (ps qs : List Pair) → AllPairs Differ ps → AllPairs Differ qs → All (λ (p : Pair). All (Differ p) qs) ps →
+differ_append : (ps qs : List Pair) → AllPairs Differ ps → AllPairs Differ qs →
+    All (λ (p : Pair). All (Differ p) qs) ps →
     AllPairs Differ (ps ++ qs)
 differ_append [] qs h k cross = k
 differ_append (p ∷ ps) qs h k cross =
@@ -81,7 +82,8 @@ module _ (hash : RecordKey → ℕ) (s : Store) where
       ((n : ℕ) → Contains ns n → IsPlaced hash (bucket_at s n)) → AllPairs Differ (pairs_on s ns)
   pairs_differ [] a b t placed = λ i j d before within. absurd (omega arith)
   pairs_differ (n ∷ ns) a b t placed =
-      differ_append (records_at s n) (pairs_on s ns) (ascending_differ (records_at s n) (placed n (contains_head n ns)).ascends)
+      differ_append (records_at s n) (pairs_on s ns)
+      (ascending_differ (records_at s n) (placed n (contains_head n ns)).ascends)
       (pairs_differ ns (stop_of (range_at s n)) b t.1 (λ m c. placed m (contains_tail n m ns c)))
       (λ i d within j e inside same.
       let has = range_has (range_at s n) _ t.0.valid ((placed n (contains_head n ns)).within i d within) in

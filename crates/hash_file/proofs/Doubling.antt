@@ -1,22 +1,20 @@
 -- The directory doubles, and halves.
-use Rattle.std.proofs.Common.{ℕ, zero, suc, ◌≡◌, ◌≢◌, ◌+◌, ◌-◌, ◌*◌, ◌<◌, ◌≤◌, ◌^◌, ◌==◌, ◌&&◌, List, [], ◌∷◌, length, Bool, true, false, cond, slice_index_or, add-one, arith, refl, sym, ap, subst, ◌∙◌, ◌⊎◌, inl, inr, if◌then◌else◌}
+use Rattle.std.proofs.Common.{ℕ, suc, ◌≡◌, ◌+◌, ◌-◌, ◌<◌, ◌≤◌, ◌^◌, ◌==◌, ◌&&◌, List, [], ◌∷◌, length, Bool, true, false, cond, add-one, arith, refl, sym, ap, subst, ◌∙◌, ◌⊎◌, inl, inr, if◌then◌else◌}
 use Rattle.std.specs.List.{Contains}
 use Rattle.std.proofs.lemmas.Bool.{cases_lt, cases_eq, lt-leb, eq-eqb, both_ways}
 use Rattle.std.proofs.Math.Nat.{two-pow-succ, pow-le-pow_right}
-use Rattle.positions.specs.Ranges.{Covers}
-use Rattle.positions.proofs.MemberLaws.{contains_head, contains_tail, contains_cases, contains_none}
+use Rattle.positions.proofs.MemberLaws.{contains_cases, contains_none}
 use Rattle.positions.proofs.RangeLaws.{covers_above}
 use Rattle.bucket_page.specs.declared.record_key.RecordKey.{RecordKey}
-use Rattle.bucket_page.proofs.Zeros.{both_true}
 use Rattle.directory.specs.Entries.{page_of, is_upper}
 use Rattle.hash_file.specs.Store.{Store, entry_at, bucket_at, range_at, count_at}
 use Rattle.hash_file.specs.Chain.{chain, IsBucketOn, how_many, number_on}
 use Rattle.hash_file.specs.Change.{Change, Quiet, Taken}
 use Rattle.hash_file.specs.Sound.{IsSoundOn, IsSound, HasEntry}
-use Rattle.hash_file.specs.Changes.{mapped_from, copy_directory, raise_depth, lower_depth}
+use Rattle.hash_file.specs.Changes.{copy_directory, raise_depth, lower_depth}
 use Rattle.hash_file.specs.Kept.{Keeps}
 use Rattle.hash_file.specs.Laws.{IsCopied}
-use Rattle.hash_file.proofs.Headed.{HasRoomOf, layout_headed, chain_headed, spared_headed, keeps_headed, length-mapped, mapped_first}
+use Rattle.hash_file.proofs.Headed.{layout_headed, chain_headed, spared_headed, keeps_headed, length-mapped, mapped_first}
 
 -- an index of the directory has its entry
 pub within_entries : (hash : RecordKey → ℕ) (s : Store) (c : Change) (ns : List ℕ) (i : ℕ) → IsSoundOn hash s c ns →

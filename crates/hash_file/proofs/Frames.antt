@@ -1,7 +1,7 @@
 -- What a change of pages leaves as it was, and how the law of a change is closed.
-use Rattle.std.proofs.Common.{ℕ, ◌≡◌, ◌≢◌, ◌+◌, ◌==◌, ◌<◌, ◌≤◌, List, Bool, true, false, cond, length, arith, refl, sym, ap, subst, ◌∙◌, ◌⊎◌, inl, inr}
+use Rattle.std.proofs.Common.{ℕ, ◌≡◌, ◌≢◌, ◌+◌, ◌==◌, ◌<◌, ◌≤◌, List, Bool, true, false, length, arith, refl, sym, ap, subst, ◌∙◌, inl, inr}
 use Rattle.std.specs.List.{Contains}
-use Rattle.std.proofs.lemmas.List.{get_or-set_same, get_or-set_other, length-set}
+use Rattle.std.proofs.lemmas.List.{get_or-set_same, get_or-set_other}
 use Rattle.positions.specs.declared.range.Range.{Range}
 use Rattle.positions.specs.Positions.{position_of}
 use Rattle.positions.specs.Ranges.{Covers, start_of}
@@ -15,12 +15,12 @@ use Rattle.bucket_page.specs.declared.page.PageKind.{PageKind}
 use Rattle.bucket_page.specs.declared.page.PageKind.TheVariants as kinds
 use Rattle.bucket_page.specs.Records.{lookup}
 use Rattle.hash_file.specs.Store.{Store, page_at, is_bucket, bucket_of, bucket_at, range_of, has_bucket, range_at, next_at, entry_at}
-use Rattle.hash_file.specs.Chain.{chain, contents, pairs_on, IsChain, IsBucketOn, how_many, number_on}
+use Rattle.hash_file.specs.Chain.{contents, pairs_on, IsChain, IsBucketOn, number_on}
 use Rattle.hash_file.specs.Change.{Change}
 use Rattle.hash_file.specs.Search.{reach, Leads, LeadsOn, distance, distance_on}
 use Rattle.hash_file.specs.Sound.{IsSoundOn, IsSound, HasLayout, HasEntry, IsFreeList, is_numbered}
 use Rattle.hash_file.specs.Changes.{with_page}
-use Rattle.hash_file.specs.Kept.{Keeps, LengthensWays}
+use Rattle.hash_file.specs.Kept.{HasShapeOf, Keeps, LengthensWays}
 use Rattle.hash_file.proofs.Chains.{chain_is}
 use Rattle.hash_file.proofs.Lists.{how_many_same}
 
@@ -56,12 +56,6 @@ page_other s n m page other = get_or-set_other s.pages n m page (kinds.Free 0) o
 
 pub page_same : (s : Store) (n : ℕ) (page : PageKind) → n < length s.pages → page_at (with_page n page s) n ≡ page
 page_same s n page within = get_or-set_same s.pages n page (kinds.Free 0) within
-
--- a page has the shape that it had: all that a chain sees of it
-pub record HasShapeOf (s t : Store) (n : ℕ) : Type 0 where
-  pub live : has_bucket t n ≡ has_bucket s n
-  pub range : range_at t n ≡ range_at s n
-  pub next : next_at t n ≡ next_at s n
 
 pub shape_of_page : (s t : Store) (n : ℕ) → page_at t n ≡ page_at s n → HasShapeOf s t n
 shape_of_page s t n same = record {

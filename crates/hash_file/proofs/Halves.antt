@@ -1,9 +1,9 @@
 -- The halves of a bucket, and two buckets joined: where their records stand, and what is looked up in them.
-use Rattle.std.proofs.Common.{ℕ, zero, suc, ◌≡◌, ◌+◌, ◌-◌, ◌*◌, ◌/◌, ◌%◌, ◌^◌, ◌<◌, ◌≤◌, ◌==◌, Bool, true, false, not, cond, Option, Some, None, List, [], ◌∷◌, add-one, arith, refl, sym, ap, subst, ◌∙◌, inl, inr}
-use Rattle.std.specs.List.{All, AllByRecursion, filter}
-use Rattle.std.proofs.lemmas.Bool.{cases_eq, eqb-true, eq-eqb, ne_eqb, not-true, both_ways}
+use Rattle.std.proofs.Common.{ℕ, suc, ◌≡◌, ◌+◌, ◌*◌, ◌/◌, ◌%◌, ◌^◌, ◌<◌, Bool, true, false, not, cond, Option, Some, None, List, [], ◌∷◌, add-one, arith, refl, sym, subst, ◌∙◌, inl, inr}
+use Rattle.std.specs.List.{All, filter}
+use Rattle.std.proofs.lemmas.Bool.{cases_eq, eqb-true, eq-eqb, not-true, both_ways}
 use Rattle.std.proofs.lemmas.Nat.{mod-pow-add, mod_below}
-use Rattle.std.proofs.lemmas.List.Elements.{All-head, All-tail, All-filter, filter_passes}
+use Rattle.std.proofs.lemmas.List.Elements.{All-filter, filter_passes}
 use Rattle.positions.specs.declared.pseudokey.TheConstants.{PSEUDOKEY_BITS}
 use Rattle.positions.specs.declared.range.Range.{Range}
 use Rattle.positions.specs.Ranges.{IsRange, Covers, lower_half_of, upper_half_of}
@@ -11,17 +11,13 @@ use Rattle.positions.proofs.BuddyLaws.{same_range}
 use Rattle.positions.proofs.RangeLaws.{halves_apart, half_in_range}
 use Rattle.bucket_page.specs.declared.record_key.RecordKey.{RecordKey}
 use Rattle.bucket_page.specs.Bucket.{Bucket}
-use Rattle.bucket_page.specs.Records.{Pair, is_above, ascend_from, ascend, lookup}
-use Rattle.bucket_page.specs.Dividing.{has_bit, has_bit_as, with_bit, lower_half, upper_half, merged, joined, ShareNoKey}
-use Rattle.bucket_page.specs.Changes.{inserted}
-use Rattle.bucket_page.specs.Laws.{either}
+use Rattle.bucket_page.specs.Records.{Pair, is_above, ascend_from, lookup}
+use Rattle.bucket_page.specs.Dividing.{has_bit, lower_half, upper_half}
 use Rattle.bucket_page.proofs.Zeros.{both_true}
-use Rattle.bucket_page.proofs.OrderLaws.{ascends_with, ascend_lower, ascend_rest}
-use Rattle.bucket_page.proofs.LookupLaws.{lookup_half, lookup_merged, all_above, apart_on}
+use Rattle.bucket_page.proofs.OrderLaws.{ascend_lower}
+use Rattle.bucket_page.proofs.LookupLaws.{lookup_half}
 use Rattle.hash_file.specs.Store.{range_of}
 use Rattle.hash_file.specs.Chain.{IsPlaced}
-use Rattle.hash_file.proofs.Lookups.{absent_elsewhere}
-use Rattle.hash_file.proofs.Writes.{all_inserted}
 
 -- ---- the bit that parts a range
 
@@ -128,26 +124,3 @@ look_lower hash b page key is = lookup_half false b.depth hash key b.records ∙
 pub look_upper : (hash : RecordKey → ℕ) (b : Bucket) (key : RecordKey) → has_bit b.depth (hash key) ≡ true →
     lookup key (upper_half hash b).records ≡ lookup key b.records
 look_upper hash b key is = lookup_half true b.depth hash key b.records ∙ rw is refl
-
--- ---- two buckets joined
-
--- records of keys that lie elsewhere share no key
-pub share_none : (hash : RecordKey → ℕ) (b : Bucket) (qs : List Pair) → IsPlaced hash b →
-    All (λ (q : Pair). Covers (range_of b) (hash q.key) → ⊥) qs → ShareNoKey b.records qs
-share_none hash b [] placed out = tt
-share_none hash b (q ∷ qs) placed out = (
-  absent_elsewhere hash b q.key placed (All-head (λ (q : Pair). Covers (range_of b) (hash q.key) → ⊥) q qs out),
-  share_none hash b qs placed (All-tail (λ (q : Pair). Covers (range_of b) (hash q.key) → ⊥) q qs out),
-)
-
-pub all_merged : (P : Pair → Type 0) (ps qs : List Pair) → All P ps → All P qs → All P (merged ps qs)
-all_merged P ps [] h k = h
-all_merged P ps (q ∷ qs) h k =
-    all_merged P (inserted q ps) qs (all_inserted P q ps (All-head P q qs k) h) (All-tail P q qs k)
-
-pub ascend_merged : (ps qs : List Pair) → ShareNoKey ps qs → ascend ps ≡ true → ascend qs ≡ true →
-    ascend (merged ps qs) ≡ true
-ascend_merged ps [] apart h k = h
-ascend_merged ps (q ∷ qs) apart h k =
-    ascend_merged (inserted q ps) qs (apart_on q ps qs (all_above q.key qs k) apart.1)
-    (ascends_with None q ps refl h apart.0) (ascend_rest (Some q.key) qs k)

@@ -1,14 +1,12 @@
 -- A file whose header and directory alone have changed: its chain and its records are what they were.
-use Rattle.std.proofs.Common.{ℕ, zero, suc, ◌≡◌, ◌≢◌, ◌+◌, ◌-◌, ◌<◌, ◌≤◌, ◌^◌, List, [], ◌∷◌, length, slice_index_or, add-one, arith, refl, sym, ap, ◌∙◌, inl, inr}
+use Rattle.std.proofs.Common.{ℕ, zero, suc, ◌≡◌, ◌+◌, ◌<◌, ◌≤◌, List, [], ◌∷◌, length, slice_index_or, arith, refl, sym, ap, ◌∙◌, inl, inr}
 use Rattle.std.specs.List.{Contains}
 use Rattle.bucket_page.specs.declared.record_key.RecordKey.{RecordKey}
-use Rattle.bucket_page.specs.Records.{lookup}
 use Rattle.directory.specs.declared.header.Header.{Header}
 use Rattle.hash_file.specs.Store.{Store, bucket_at}
-use Rattle.hash_file.specs.Chain.{chain, contents, pairs_on, IsChain}
+use Rattle.hash_file.specs.Chain.{chain, IsChain}
 use Rattle.hash_file.specs.Change.{Change, aside}
-use Rattle.hash_file.specs.Search.{Leads, LeadsOn}
-use Rattle.hash_file.specs.Sound.{IsSoundOn, IsSound, HasLayout, IsFreeList}
+use Rattle.hash_file.specs.Sound.{IsSoundOn, HasLayout, IsFreeList}
 use Rattle.hash_file.specs.Changes.{mapped_from}
 use Rattle.hash_file.specs.Kept.{Keeps}
 use Rattle.hash_file.proofs.Frames.{keeps_by}
@@ -48,7 +46,10 @@ module _ (s : Store) (head : Header) (entries : List ℕ) where
   pub keeps_headed : (hash : RecordKey → ℕ) (c d : Change) → IsSoundOn hash (headed s head entries) d (chain s) →
       ((n : ℕ) → Contains (aside c) n → Contains (aside d) n) → Keeps hash s c (headed s head entries) d
   keeps_headed hash c d h beside = keeps_by hash s c (headed s head entries) d (chain s) h (λ key. refl)
-      (λ n k l. record { stands = elim l.stands [ inl on ↦ inl on | inr off ↦ inr (beside n off) ]; reaches = l.reaches })
+      (λ n k l. record {
+        stands = elim l.stands [ inl on ↦ inl on | inr off ↦ inr (beside n off) ];
+        reaches = l.reaches;
+      })
 
 -- ---- entries
 

@@ -22,3 +22,5 @@ pub mod WrongChanges
 pub mod SoundExamples
 pub mod Checking
 pub mod Hops
+pub mod Joins
+pub mod New

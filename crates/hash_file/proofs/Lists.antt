@@ -1,5 +1,5 @@
 -- Lists: how many items pass a test, and what is looked up in records that stand behind others.
-use Rattle.std.proofs.Common.{ℕ, suc, ◌≡◌, ◌≢◌, ◌+◌, ◌==◌, Bool, true, false, cond, Option, Some, None, List, [], ◌∷◌, ◌++◌, arith, refl, sym, ap, subst, ◌∙◌, inl, inr}
+use Rattle.std.proofs.Common.{ℕ, suc, ◌≡◌, ◌≢◌, ◌+◌, ◌==◌, Bool, true, false, cond, if◌then◌else◌, None, List, [], ◌∷◌, ◌++◌, arith, refl, subst, inl, inr}
 use Rattle.std.specs.List.{All, Contains}
 use Rattle.std.proofs.lemmas.Bool.{cases_eq, ne_eqb, eq-eqb}
 use Rattle.std.proofs.lemmas.List.Elements.{All-head, All-tail}
@@ -27,6 +27,11 @@ module _ {X : Type 0} (test : X → Bool) where
   how_many_same new [] same = refl
   how_many_same new (x ∷ xs) same =
       rw (same x (contains_head x xs), how_many_same new xs (λ y c. same y (contains_tail x y xs c))) refl
+
+-- two that pass one test count twice
+pub twice : (b : Bool) → (if b then 2 else 0) ≡ (if b then 1 else 0) + (if b then 1 else 0)
+twice true = refl
+twice false = refl
 
 -- one item counts where it is the one
 pub times_one : (n : ℕ) → times n (n ∷ []) ≡ 1

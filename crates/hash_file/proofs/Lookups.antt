@@ -1,9 +1,9 @@
 -- What is looked up in the records of a chain.
-use Rattle.std.proofs.Common.{ℕ, ◌≡◌, ◌≢◌, ◌<◌, ◌≤◌, None, List, [], ◌∷◌, ◌++◌, arith, refl, sym, ◌∙◌, inl, inr}
+use Rattle.std.proofs.Common.{ℕ, ◌≡◌, ◌≢◌, None, List, [], ◌∷◌, arith, refl, ◌∙◌, inl, inr}
 use Rattle.std.specs.List.{Contains, All}
 use Rattle.positions.specs.declared.pseudokey.TheConstants.{POSITIONS}
 use Rattle.positions.specs.Positions.{position_of}
-use Rattle.positions.specs.Ranges.{Covers, HasPosition, start_of, stop_of}
+use Rattle.positions.specs.Ranges.{Covers, HasPosition, stop_of}
 use Rattle.positions.specs.Tiles.{Tiles}
 use Rattle.positions.proofs.MemberLaws.{contains_head, contains_tail, contains_cases, contains_none}
 use Rattle.positions.proofs.RangeLaws.{range_has}

@@ -1,6 +1,6 @@
 -- The left bucket takes the range and the records of the right one, which is taken off the chain.
-use Rattle.std.proofs.Common.{ℕ, suc, ◌≡◌, ◌≢◌, ◌+◌, ◌-◌, ◌<◌, ◌≤◌, ◌==◌, List, [], ◌∷◌, ◌++◌, Bool, true, false, cond, Option, Some, None, length, slice_index_or, arith, refl, sym, ap, subst, ◌∙◌, ◌⊎◌, inl, inr, if◌then◌else◌}
-use Rattle.std.specs.List.{Contains, All}
+use Rattle.std.proofs.Common.{ℕ, suc, ◌≡◌, ◌≢◌, ◌+◌, ◌-◌, ◌<◌, ◌≤◌, ◌==◌, List, [], ◌∷◌, ◌++◌, Bool, true, false, cond, length, arith, refl, sym, ap, subst, ◌∙◌, inl, inr, if◌then◌else◌}
+use Rattle.std.specs.List.{Contains}
 use Rattle.std.proofs.lemmas.Bool.{cases_eq, both_ways}
 use Rattle.std.proofs.lemmas.List.{length-set}
 use Rattle.std.proofs.lemmas.List.Elements.{Contains-append_right}
@@ -9,9 +9,8 @@ use Rattle.positions.specs.declared.range.Range.{Range}
 use Rattle.positions.specs.Positions.{position_of}
 use Rattle.positions.specs.Ranges.{IsRange, Covers, AreHalvesOf, lower_half_of, upper_half_of, start_of}
 use Rattle.positions.specs.Tiles.{AreNeighbours, begun}
-use Rattle.positions.proofs.BuddyLaws.{same_range}
-use Rattle.positions.proofs.MemberLaws.{contains_head, contains_tail, contains_cases, contains_none, contains_grown, contains_new, contains_grown_cases}
-use Rattle.positions.proofs.RangeLaws.{halved_valid, half_in_range, halves_apart}
+use Rattle.positions.proofs.MemberLaws.{contains_head, contains_tail, contains_none, contains_grown, contains_new, contains_grown_cases}
+use Rattle.positions.proofs.RangeLaws.{halved_valid, half_in_range}
 use Rattle.positions.proofs.TileLaws.{tiles_not_before, tiles_not_behind}
 use Rattle.positions.proofs.ChangeLaws.{join_tiles, joins_in_place, halves_neighbours}
 use Rattle.positions.proofs.CountLaws.{begun_insert, begun_same, begun_rises}
@@ -20,37 +19,22 @@ use Rattle.bucket_page.specs.declared.record_key.RecordKey.{RecordKey}
 use Rattle.bucket_page.specs.declared.page.PageKind.{PageKind}
 use Rattle.bucket_page.specs.declared.page.PageKind.TheVariants as kinds
 use Rattle.bucket_page.specs.Bucket.{Bucket}
-use Rattle.bucket_page.specs.Records.{Pair, lookup}
-use Rattle.bucket_page.specs.Dividing.{ShareNoKey, joined, merged}
-use Rattle.bucket_page.specs.Laws.{either}
-use Rattle.bucket_page.proofs.LookupLaws.{lookup_merged}
-use Rattle.hash_file.specs.Store.{Store, page_at, is_bucket, bucket_of, bucket_at, range_of, range_at, records_at, next_at, has_bucket, entry_at, count_at}
-use Rattle.hash_file.specs.Chain.{chain, contents, pairs_on, IsChain, IsPlaced, IsBucketOn, how_many, number_on, times}
-use Rattle.hash_file.specs.Change.{Change, Quiet, Absorbed, owned, gained, lost}
-use Rattle.hash_file.specs.Search.{reach, Leads, LeadsOn, distance_on}
+use Rattle.bucket_page.specs.Records.{lookup}
+use Rattle.bucket_page.specs.Dividing.{joined}
+use Rattle.hash_file.specs.Store.{Store, page_at, is_bucket, bucket_of, bucket_at, range_of, range_at, next_at, has_bucket, entry_at, count_at}
+use Rattle.hash_file.specs.Chain.{chain, pairs_on, IsChain, IsPlaced, IsBucketOn, number_on, times}
+use Rattle.hash_file.specs.Change.{Change, Quiet, Absorbed, gained, lost}
+use Rattle.hash_file.specs.Search.{reach, LeadsOn, distance_on}
 use Rattle.hash_file.specs.Phases.{IsAbsorbed}
 use Rattle.hash_file.specs.Sound.{IsSoundOn, IsSound, HasEntry}
 use Rattle.hash_file.specs.Changes.{write_left}
 use Rattle.hash_file.specs.Kept.{Keeps, LengthensWays}
 use Rattle.hash_file.proofs.Chains.{chain_valid, bucket_found}
-use Rattle.hash_file.proofs.Lists.{how_many_append, how_many_same, times_append, contains_is}
-use Rattle.hash_file.proofs.Lookups.{absent_elsewhere, look_at}
+use Rattle.hash_file.proofs.Lists.{how_many_append, how_many_same, twice, times_append, contains_is}
+use Rattle.hash_file.proofs.Lookups.{look_at}
 use Rattle.hash_file.proofs.Roles.{thrice, numbered, numbered_positive, live_not_spare}
 use Rattle.hash_file.proofs.Frames.{shape_of_page, reach_same, page_other, page_same, spared_same, numbered_same, layout_same, keeps_by, ways_by}
-use Rattle.hash_file.proofs.Halves.{share_none, all_merged, ascend_merged}
-
--- what stands in one list alone is found in both together
-either_left : (key : RecordKey) (ps qs : List Pair) → lookup key qs ≡ None →
-    either (lookup key ps) (lookup key qs) ≡ lookup key ps
-either_left key ps qs none = rw none (by_value (lookup key ps))
-  where
-    by_value : (o : Option (List ℕ)) → either o None ≡ o
-    by_value None = refl
-    by_value (Some x) = refl
-
-either_right : (key : RecordKey) (ps qs : List Pair) → lookup key ps ≡ None →
-    either (lookup key ps) (lookup key qs) ≡ lookup key qs
-either_right key ps qs none = rw none refl
+use Rattle.hash_file.proofs.Joins.{range_joined, joined_left, joined_right, placed_joined}
 
 module _ (hash : RecordKey → ℕ) (s : Store) (left right : ℕ) (whole : Range) (h : IsSound hash s Quiet)
     (halves : AreHalvesOf whole (range_at s left) (range_at s right)) (front back : List ℕ)
@@ -103,10 +87,7 @@ module _ (hash : RecordKey → ℕ) (s : Store) (left right : ℕ) (whole : Rang
   other m far = page_other s left m (kinds.Bucket (joined x y)) far
 
   left_range : range_at t left ≡ whole
-  left_range = ap (λ (p : PageKind). range_of (bucket_of p)) here
-      ∙ same_range (range_of (joined x y)) whole
-      (let deep = ap (λ (r : Range). r.depth) halves.lower in omega (arith, deep))
-      (ap (λ (r : Range). r.pattern) halves.lower)
+  left_range = ap (λ (p : PageKind). range_of (bucket_of p)) here ∙ range_joined x y whole halves
 
   right_range : range_at t right ≡ upper_half_of whole
   right_range = ap (λ (p : PageKind). range_of (bucket_of p)) (other right apart) ∙ halves.upper
@@ -131,48 +112,24 @@ module _ (hash : RecordKey → ℕ) (s : Store) (left right : ℕ) (whole : Rang
 
   -- ---- the records of both
 
+  look_left : (key : RecordKey) → Covers (lower_half_of whole) (hash key) →
+      lookup key (joined x y).records ≡ lookup key x.records
+  look_left = joined_left hash x y whole halves (sound.placed left left_on) (sound.placed right right_on) valid shallow
+
+  look_right : (key : RecordKey) → Covers (upper_half_of whole) (hash key) →
+      lookup key (joined x y).records ≡ lookup key y.records
+  look_right =
+      joined_right hash x y whole halves (sound.placed left left_on) (sound.placed right right_on) valid shallow
+
+  placed_here : IsPlaced hash (joined x y)
+  placed_here =
+      placed_joined hash x y whole halves (sound.placed left left_on) (sound.placed right right_on) valid shallow
+
   of_left : (k : ℕ) → Covers (range_at s left) k → Covers (lower_half_of whole) k
   of_left k c = subst (λ (r : Range). Covers r k) halves.lower c
 
   of_right : (k : ℕ) → Covers (range_at s right) k → Covers (upper_half_of whole) k
   of_right k c = subst (λ (r : Range). Covers r k) halves.upper c
-
-  out_of_left : (key : RecordKey) → Covers (upper_half_of whole) (hash key) → lookup key x.records ≡ None
-  out_of_left key high = absent_elsewhere hash x key (sound.placed left left_on) (λ low. halves_apart whole (hash key)
-      valid shallow (of_left (hash key) low) high)
-
-  out_of_right : (key : RecordKey) → Covers (lower_half_of whole) (hash key) → lookup key y.records ≡ None
-  out_of_right key low = absent_elsewhere hash y key (sound.placed right right_on) (λ high. halves_apart whole (hash key)
-      valid shallow low (of_right (hash key) high))
-
-  no_key : ShareNoKey x.records y.records
-  no_key = share_none hash x y.records (sound.placed left left_on) (λ i e within low.
-      let high = (sound.placed right right_on).within i e within in
-      halves_apart whole (hash (slice_index_or y.records i e).key) valid shallow (of_left _ low) (of_right _ high))
-
-  both : (key : RecordKey) → lookup key (joined x y).records ≡ either (lookup key x.records) (lookup key y.records)
-  both key = lookup_merged key x.records y.records no_key (sound.placed right right_on).ascends
-
-  look_left : (key : RecordKey) → Covers (lower_half_of whole) (hash key) →
-      lookup key (joined x y).records ≡ lookup key x.records
-  look_left key low = both key ∙ either_left key x.records y.records (out_of_right key low)
-
-  look_right : (key : RecordKey) → Covers (upper_half_of whole) (hash key) →
-      lookup key (joined x y).records ≡ lookup key y.records
-  look_right key high = both key ∙ either_right key x.records y.records (out_of_left key high)
-
-  placed_here : IsPlaced hash (joined x y)
-  placed_here = record {
-    within = subst (λ (r : Range). All (λ (p : Pair). Covers r (hash p.key)) (joined x y).records)
-        (sym left_range ∙ ap (λ (p : PageKind). range_of (bucket_of p)) here)
-        (all_merged (λ (p : Pair). Covers whole (hash p.key)) x.records y.records
-        (λ i e within. half_in_range whole _ valid shallow (inl
-        (of_left _ ((sound.placed left left_on).within i e within))))
-        (λ i e within. half_in_range whole _ valid shallow (inr
-        (of_right _ ((sound.placed right right_on).within i e within)))));
-    ascends = ascend_merged x.records y.records no_key (sound.placed left left_on).ascends
-        (sound.placed right right_on).ascends;
-  }
 
   -- ---- the chain
 
@@ -282,23 +239,16 @@ module _ (hash : RecordKey → ℕ) (s : Store) (left right : ℕ) (whole : Rang
       rw (← ap (λ (r : Range). r.depth) halves.upper) (omega arith) in
       let one : number_on t (left ∷ []) depth ≡ (if whole.depth == depth then 1 else 0) =
       rw (← ap (λ (r : Range). r.depth) left_range) (omega arith) in
-      by_test (suc whole.depth == depth) refl low high one (omega (arith, was, number_old depth))
-    where
-      by_test : (b : Bool) → (suc whole.depth == depth) ≡ b →
-          number_on s (left ∷ []) depth ≡ (if suc whole.depth == depth then 1 else 0) →
-          number_on s (right ∷ []) depth ≡ (if suc whole.depth == depth then 1 else 0) →
-          number_on t (left ∷ []) depth ≡ (if whole.depth == depth then 1 else 0) →
-          count_at s depth ≡ number_on s front depth
-          + (number_on s (left ∷ []) depth + (number_on s (right ∷ []) depth + number_on s back depth)) →
-          count_at s depth + gained d depth ≡ lost d depth + number_on t ms depth
-      by_test true test low high one all =
-          let low' = rw test at low in
-          let high' = rw test at high in
-          rw test (omega (arith, low', high', one, all, number_new depth))
-      by_test false test low high one all =
-          let low' = rw test at low in
-          let high' = rw test at high in
-          rw test (omega (arith, low', high', one, all, number_new depth))
+      omega (
+        arith,
+        was,
+        low,
+        high,
+        one,
+        twice (suc whole.depth == depth),
+        number_old depth,
+        number_new depth,
+      )
 
   phase : IsAbsorbed hash t ms left right whole
   phase = record {
@@ -430,16 +380,19 @@ pub write_left_keeps : (hash : RecordKey → ℕ) (s : Store) (left right : ℕ)
     Contains (chain s) left → Contains (chain s) right → AreHalvesOf whole (range_at s left) (range_at s right) →
     Keeps hash s Quiet (write_left left right s) (Absorbed left right whole)
 write_left_keeps hash s left right whole h on_left on_right halves =
-    beside (halves_neighbours (range_at s) (chain s) 0 POSITIONS whole left right h.chained.tiled on_left on_right halves)
+    beside
+    (halves_neighbours (range_at s) (chain s) 0 POSITIONS whole left right h.chained.tiled on_left on_right halves)
   where
-    beside : AreNeighbours (chain s) left right → Keeps hash s Quiet (write_left left right s) (Absorbed left right whole)
+    beside : AreNeighbours (chain s) left right →
+        Keeps hash s Quiet (write_left left right s) (Absorbed left right whole)
     beside (front, back, is) = merge_keeps hash s left right whole h halves front back is
 
 pub write_left_ways : (hash : RecordKey → ℕ) (s : Store) (left right : ℕ) (whole : Range) → IsSound hash s Quiet →
     Contains (chain s) left → Contains (chain s) right → AreHalvesOf whole (range_at s left) (range_at s right) →
     LengthensWays 0 s Quiet (write_left left right s)
 write_left_ways hash s left right whole h on_left on_right halves =
-    beside (halves_neighbours (range_at s) (chain s) 0 POSITIONS whole left right h.chained.tiled on_left on_right halves)
+    beside
+    (halves_neighbours (range_at s) (chain s) 0 POSITIONS whole left right h.chained.tiled on_left on_right halves)
   where
     beside : AreNeighbours (chain s) left right → LengthensWays 0 s Quiet (write_left left right s)
     beside (front, back, is) = merge_ways hash s left right whole h halves front back is

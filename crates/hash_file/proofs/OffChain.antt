@@ -1,5 +1,5 @@
 -- A page that the change owns is written: the chain and its records stay.
-use Rattle.std.proofs.Common.{ℕ, ◌≡◌, ◌≢◌, ◌+◌, ◌-◌, ◌<◌, ◌≤◌, List, [], ◌∷◌, ◌++◌, Bool, true, false, cond, length, arith, refl, sym, ap, subst, ◌∙◌, ◌⊎◌, inl, inr, if◌then◌else◌}
+use Rattle.std.proofs.Common.{ℕ, ◌≡◌, ◌+◌, ◌-◌, ◌<◌, ◌≤◌, List, [], ◌∷◌, ◌++◌, Bool, false, cond, length, arith, refl, sym, ap, subst, ◌∙◌, inl, inr, if◌then◌else◌}
 use Rattle.std.specs.List.{Contains}
 use Rattle.std.proofs.lemmas.Bool.{both_ways}
 use Rattle.std.proofs.lemmas.List.{length-set}
@@ -14,21 +14,20 @@ use Rattle.positions.proofs.RangeLaws.{range_has_start, upper_half_start, upper_
 use Rattle.bucket_page.specs.declared.record_key.RecordKey.{RecordKey}
 use Rattle.bucket_page.specs.declared.page.PageKind.{PageKind}
 use Rattle.bucket_page.specs.declared.page.PageKind.TheVariants as kinds
-use Rattle.bucket_page.specs.Bucket.{Bucket}
 use Rattle.bucket_page.specs.Records.{Pair, lookup}
 use Rattle.bucket_page.specs.Dividing.{upper_half}
 use Rattle.hash_file.specs.Store.{Store, page_at, is_bucket, bucket_of, bucket_at, range_of, range_at, entry_at, records_at, next_at, has_bucket}
-use Rattle.hash_file.specs.Chain.{chain, contents, pairs_on, IsChain, IsPlaced, number_on, times}
-use Rattle.hash_file.specs.Change.{Change, Quiet, Taken, Filled, Absorbed, Buried, Drained, Freed, owned, aside, TakesDetour, gained, lost}
-use Rattle.hash_file.specs.Search.{reach, Leads, LeadsOn, distance, distance_on}
-use Rattle.hash_file.specs.Phases.{HasPhase, IsFilled, IsBuried}
-use Rattle.hash_file.specs.Sound.{IsSoundOn, IsSound, HasLayout, HasEntry, IsFreeList, is_numbered}
+use Rattle.hash_file.specs.Chain.{chain, contents, pairs_on, IsChain, IsPlaced, times}
+use Rattle.hash_file.specs.Change.{Change, Taken, Filled, Absorbed, Buried, Drained, Freed, owned, TakesDetour, gained, lost}
+use Rattle.hash_file.specs.Search.{reach, LeadsOn, distance, distance_on}
+use Rattle.hash_file.specs.Phases.{HasPhase}
+use Rattle.hash_file.specs.Sound.{IsSoundOn, IsSound, HasEntry}
 use Rattle.hash_file.specs.Changes.{with_page, write_new, write_tombstone, write_free}
-use Rattle.hash_file.specs.Kept.{Keeps, LengthensWays, KeepsWaysBut}
+use Rattle.hash_file.specs.Kept.{HasShapeOf, Keeps, LengthensWays, KeepsWaysBut}
 use Rattle.hash_file.specs.Laws.{FreesPage}
 use Rattle.hash_file.proofs.Chains.{chain_is, chain_valid}
 use Rattle.hash_file.proofs.Roles.{numbered, numbered_positive, live_not_owned, spare_not_owned}
-use Rattle.hash_file.proofs.Frames.{HasShapeOf, shape_of_page, reach_same, page_other, page_same, chain_shaped, entry_shaped, number_shaped, spared_same, numbered_same, layout_same, sound_by, keeps_by, ways_by, begun_shaped, distance_shaped}
+use Rattle.hash_file.proofs.Frames.{shape_of_page, reach_same, page_other, page_same, chain_shaped, entry_shaped, number_shaped, spared_same, numbered_same, layout_same, sound_by, keeps_by, ways_by, begun_shaped, distance_shaped}
 
 -- pages with the records that they had
 pub pairs_same : (s t : Store) (ns : List ℕ) → ((n : ℕ) → Contains ns n → records_at t n ≡ records_at s n) →
@@ -88,11 +87,13 @@ module _ (hash : RecordKey → ℕ) (s : Store) (c : Change) (n : ℕ) (page : P
       entry i (inr detour) = inr (detours i (entry_at s i) detour)
 
   pub contents_off : (key : RecordKey) → lookup key (pairs_on t ns) ≡ contents s key
-  contents_off key = ap (lookup key) (pairs_same s t ns (λ m on. ap (λ (p : PageKind). (bucket_of p).records) (live_same m on)))
+  contents_off key =
+      ap (lookup key) (pairs_same s t ns (λ m on. ap (λ (p : PageKind). (bucket_of p).records) (live_same m on)))
 
   -- a live page reaches what it reached
   pub live_reach : (m : ℕ) → Contains ns m → reach t m ≡ reach s m
-  live_reach m on = reach_same s t m (shape m on) (λ dead. absurd (both_ways (has_bucket s m) dead (h.chained.buckets m on)))
+  live_reach m on =
+      reach_same s t m (shape m on) (λ dead. absurd (both_ways (has_bucket s m) dead (h.chained.buckets m on)))
 
   pub chained_off : IsChain t ns
   chained_off = chain_shaped s t.pages ns shape h.chained
@@ -116,7 +117,8 @@ write_new_keeps hash s old new h on shallow =
     let t = write_new hash old new s in
     let own = contains_head new [] in
     let same = live_same hash s (Taken new) new page h own old on in
-    keeps_by hash s (Taken new) t (Filled old new) (chain s) (sound_off hash s (Taken new) new page h own (Filled old new)
+    keeps_by hash s (Taken new) t (Filled old new) (chain s)
+    (sound_off hash s (Taken new) new page h own (Filled old new)
     refl (λ i m detour. detour) (λ depth. (refl, refl)) (record {
       old_on = on;
       shallow = omega (arith, shallow, ap (λ (p : PageKind). (bucket_of p).depth) same);
@@ -170,7 +172,8 @@ write_tombstone_keeps hash s left right whole h =
         let low'' = rw (p.stands) at low' in
         let starts : start_of (range_at (write_tombstone left right s) left) ≡ start_of whole =
         ap (λ (q : PageKind). start_of (range_of (bucket_of q))) same ∙ ap start_of p.joined in
-        let reaches : reach (write_tombstone left right s) right ≡ start_of (range_at (write_tombstone left right s) left) =
+        let reaches : reach (write_tombstone left right s) right
+        ≡ start_of (range_at (write_tombstone left right s) left) =
         ap (λ (q : PageKind). if is_bucket q then start_of (range_of (bucket_of q))
         else start_of (range_at (write_tombstone left right s) (bucket_of q).next)) now in
         let here' : reach (write_tombstone left right s) right ≤ position_of k =
@@ -189,7 +192,8 @@ write_free_keeps hash s left right h =
     let is = chain_is t (chain s) sound.layout sound.chained in
     record {
       sound = sound_by hash t (Freed right) (chain s) sound;
-      contents = λ key. ap (λ (ms : List ℕ). lookup key (pairs_on t ms)) is ∙ contents_off hash s c right page h own key;
+      contents = λ key. ap (λ (ms : List ℕ). lookup key (pairs_on t ms)) is
+          ∙ contents_off hash s c right page h own key;
       leads = λ n k other l. subst (λ (ms : List ℕ). LeadsOn t (Freed right) ms n k) (sym is) (elim l.stands [
         | inl live ↦ record {
           stands = inl live;
@@ -258,7 +262,8 @@ write_tombstone_ways hash s left right whole h =
         let upper : start_of (range_at s right) ≡ start_of (upper_half_of whole) = ap start_of p.upper in
         let lower : start_of (range_at s left) ≡ start_of whole = ap start_of p.joined in
         let stops : stop_of (range_at s left) ≡ stop_of whole = ap stop_of p.joined in
-        let same = begun_inside (range_at s) (chain s) 0 POSITIONS left (start_of (range_at s right)) h.chained.tiled p.left_on
+        let same = begun_inside (range_at s) (chain s) 0 POSITIONS left (start_of (range_at s right)) h.chained.tiled
+        p.left_on
         (omega (arith, upper, lower, starts), omega (arith, upper, inside.1, ends, stops)) in
         let dead : has_bucket t right ≡ false = ap is_bucket now in
         let link : next_at t right ≡ left = ap (λ (q : PageKind). (bucket_of q).next) now in

@@ -1,6 +1,5 @@
 -- The entries of a range come to name their bucket, and the counts catch up.
-use Rattle.std.proofs.Common.{ℕ, zero, suc, ◌≡◌, ◌≢◌, ◌+◌, ◌-◌, ◌<◌, ◌≤◌, ◌^◌, ◌==◌, ◌%◌, ◌&&◌, List, [], ◌∷◌, length, Bool, true, false, cond, slice_index_or, slice_set, arith, refl, sym, ap, subst, ◌∙◌, ◌⊎◌, inl, inr, if◌then◌else◌}
-use Rattle.std.specs.List.{Contains}
+use Rattle.std.proofs.Common.{ℕ, suc, ◌≡◌, ◌≢◌, ◌+◌, ◌-◌, ◌<◌, ◌^◌, ◌==◌, ◌%◌, ◌&&◌, List, length, Bool, true, false, cond, slice_index_or, slice_set, arith, refl, sym, ap, subst, ◌∙◌, ◌⊎◌, inl, inr, if◌then◌else◌}
 use Rattle.std.proofs.lemmas.Bool.{cases_eq, eq-eqb, ne_eqb, eqb-true}
 use Rattle.std.proofs.lemmas.List.{get_or-set_same, get_or-set_other, length-set}
 use Rattle.positions.specs.declared.pseudokey.TheConstants.{PSEUDOKEY_BITS}
@@ -10,21 +9,21 @@ use Rattle.positions.proofs.RangeLaws.{half_in_range}
 use Rattle.bucket_page.specs.declared.record_key.RecordKey.{RecordKey}
 use Rattle.bucket_page.proofs.Zeros.{both_true}
 use Rattle.directory.specs.Entries.{page_of, is_in_range}
-use Rattle.hash_file.specs.Store.{Store, entry_at, bucket_at, range_at, count_at}
+use Rattle.hash_file.specs.Store.{Store, entry_at, count_at}
 use Rattle.hash_file.specs.Chain.{chain, IsBucketOn, number_on}
 use Rattle.hash_file.specs.Change.{Change, Quiet, Linked, Buried, Drained, TakesDetour, gained, lost}
-use Rattle.hash_file.specs.Phases.{IsLinked, IsBuried, IsDrained}
 use Rattle.hash_file.specs.Sound.{IsSoundOn, IsSound, HasEntry}
-use Rattle.hash_file.specs.Changes.{mapped_from, retarget, set_counts, split_counts, merge_counts}
+use Rattle.hash_file.specs.Changes.{retarget, set_counts, split_counts, merge_counts}
 use Rattle.hash_file.specs.Kept.{Keeps}
 use Rattle.hash_file.specs.Laws.{IsRetargeted}
 use Rattle.hash_file.proofs.Chains.{chain_valid}
-use Rattle.hash_file.proofs.Headed.{HasRoomOf, layout_headed, chain_headed, spared_headed, keeps_headed, length-mapped, mapped_first}
+use Rattle.hash_file.proofs.Headed.{layout_headed, chain_headed, spared_headed, keeps_headed, length-mapped, mapped_first}
 use Rattle.hash_file.proofs.Doubling.{within_entries}
 
 -- the test that names the entries of a range on a page
 abbrev is_of : Store → ℕ → Range → ℕ → Bool
-is_of s page r i = page_of i == page && is_in_range s.header.depth (record { local_depth = r.depth; pattern = r.pattern }) i
+is_of s page r i =
+    page_of i == page && is_in_range s.header.depth (record { local_depth = r.depth; pattern = r.pattern }) i
 
 -- an entry that passes it is covered by the range
 of_range : (s : Store) (page : ℕ) (r : Range) (i : ℕ) → is_of s page r i ≡ true → Covers r i
@@ -171,7 +170,8 @@ set_counts_keeps_split hash s old new whole h all =
         HasEntry s Quiet (chain s) i
     exact i low (inl b) = inl b
     exact i low (inr (is, covers)) =
-        inl (subst (λ m. IsBucketOn s (chain s) i m) (sym (all i low covers)) (in_new hash s (chain s) old new whole i h covers))
+        inl (subst (λ m. IsBucketOn s (chain s) i m) (sym (all i low covers))
+        (in_new hash s (chain s) old new whole i h covers))
 
     as_many : length (split_counts whole.depth s.header.counts) ≡ length s.header.counts
     as_many = length-set (slice_set s.header.counts whole.depth (count_at s whole.depth - 1)) (suc whole.depth)

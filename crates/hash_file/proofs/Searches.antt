@@ -1,10 +1,10 @@
 -- Hops lead on, looks answer, and a stale depth leads still.
-use Rattle.std.proofs.Common.{ℕ, suc, ◌≡◌, ◌+◌, ◌-◌, ◌<◌, ◌≤◌, ◌%◌, ◌^◌, List, [], ◌∷◌, true, false, arith, refl, sym, ap, ◌∙◌, ◌⊎◌, inl, inr}
+use Rattle.std.proofs.Common.{ℕ, ◌≡◌, ◌<◌, ◌≤◌, ◌%◌, ◌^◌, List, [], ◌∷◌, true, false, arith, refl, sym, ap, ◌∙◌, ◌⊎◌, inl, inr}
 use Rattle.std.specs.List.{Contains}
 use Rattle.positions.specs.declared.pseudokey.TheConstants.{PSEUDOKEY_BITS, POSITIONS}
 use Rattle.positions.specs.declared.range.Range.{Range}
 use Rattle.positions.specs.Positions.{position_of}
-use Rattle.positions.specs.Ranges.{IsRange, Covers, HasPosition, start_of, stop_of, lower_half_of, upper_half_of}
+use Rattle.positions.specs.Ranges.{IsRange, Covers, HasPosition, start_of, stop_of, upper_half_of}
 use Rattle.positions.proofs.MemberLaws.{contains_head, contains_cases, contains_none}
 use Rattle.positions.proofs.PositionLaws.{position_below, position_truncated}
 use Rattle.positions.proofs.RangeLaws.{range_has, range_has_start, range_passed, upper_half_valid, upper_half_start, upper_half_stop, half_in_range, halved_valid, halves_apart}
@@ -14,12 +14,12 @@ use Rattle.bucket_page.specs.declared.record_key.RecordKey.{RecordKey}
 use Rattle.bucket_page.specs.declared.page.PageKind.{PageKind}
 use Rattle.bucket_page.specs.Records.{lookup}
 use Rattle.hash_file.specs.Store.{Store, page_at, has_bucket, is_bucket, bucket_of, range_at, records_at, next_at}
-use Rattle.hash_file.specs.Chain.{chain, IsChain, IsBucketOn, pairs_on, contents}
+use Rattle.hash_file.specs.Chain.{IsChain, IsBucketOn, pairs_on}
 use Rattle.hash_file.specs.Change.{Change, Quiet, Taken, Filled, Linked, Absorbed, Buried, Drained, Freed, aside, TakesDetour}
 use Rattle.hash_file.specs.Search.{reach, LeadsOn, Leads, distance_on, IsNearer}
-use Rattle.hash_file.specs.Phases.{IsLinked, IsAbsorbed, IsBuried, IsDrained, HasPhase}
-use Rattle.hash_file.specs.Sound.{IsSoundOn, IsSound}
-use Rattle.hash_file.specs.Looks.{Answers, HopsLeadOn, LooksAnswer, StaleDepthsLead}
+use Rattle.hash_file.specs.Phases.{IsLinked, IsAbsorbed, IsBuried, IsDrained}
+use Rattle.hash_file.specs.Sound.{IsSoundOn}
+use Rattle.hash_file.specs.Looks.{Answers}
 use Rattle.hash_file.proofs.Chains.{chain_valid, has_position}
 use Rattle.hash_file.proofs.Lookups.{look_at}
 use Rattle.std.proofs.lemmas.Bool.{both_ways}
@@ -206,13 +206,15 @@ entries_lead hash s c ns n i h (inr detour) = on_detour c refl detour
     on_detour (Freed right) is off = absurd off
     on_detour (Linked old new whole) is (same, covers) =
         let p : IsLinked s ns old new whole = rw is at h.phase in
-        let new_valid : IsRange (upper_half_of whole) = rw (p.halves.upper) at (chain_valid s ns new h.chained p.new_on) in
+        let new_valid : IsRange (upper_half_of whole) =
+        rw (p.halves.upper) at (chain_valid s ns new h.chained p.new_on) in
         let valid = halved_valid whole new_valid in
         let has = upper_has whole i valid.0 valid.1 covers in
         let live = h.chained.buckets old p.old_on in
         let low : start_of (range_at s old) ≤ position_of i =
         omega (arith, ap start_of p.halves.lower, has.1, has.0.0) in
-        let in_new : IsBucketOn s ns i new = (p.new_on, subst (λ (r : Range). Covers r i) (sym p.halves.upper) covers) in
+        let in_new : IsBucketOn s ns i new =
+        (p.new_on, subst (λ (r : Range). Covers r i) (sym p.halves.upper) covers) in
         let leads : LeadsOn s c ns old i = record { stands = inl p.old_on; reaches = rw live low } in
         let near = hops_lead_on hash s c ns old i h leads (λ answers. halves_apart whole i valid.0 valid.1
         (subst (λ (r : Range). Covers r i) p.halves.lower answers.1) covers) in
@@ -229,7 +231,8 @@ entries_lead hash s c ns n i h (inr detour) = on_detour c refl detour
         let left_stops : stop_of (range_at s left) ≡ stop_of whole = ap stop_of p.joined in
         let here = begun_inside (range_at s) ns 0 POSITIONS left (position_of i) h.chained.tiled p.left_on
         (omega (arith, has.0.0, has.1, left_starts), omega (arith, has.0.1, ends, left_stops)) in
-        let there = begun_inside (range_at s) ns 0 POSITIONS left (start_of (range_at s right)) h.chained.tiled p.left_on
+        let there = begun_inside (range_at s) ns 0 POSITIONS left (start_of (range_at s right)) h.chained.tiled
+        p.left_on
         (omega (arith, starts, has.1, left_starts), omega (arith, starts, inside.1, ends, left_stops)) in
         rw same (record {
           leads = record {
@@ -247,8 +250,10 @@ entries_lead hash s c ns n i h (inr detour) = on_detour c refl detour
         let link : next_at s right ≡ left = ap (λ (q : PageKind). (bucket_of q).next) p.tombstone in
         let low : reach s right ≤ position_of i =
         rw (dead, link) (omega (arith, ap start_of p.joined, has.1, has.0.0)) in
-        let in_left : IsBucketOn s ns i left =
-        (p.left_on, subst (λ (r : Range). Covers r i) (sym p.joined) (half_in_range whole i valid shallow (inr covers))) in
+        let in_left : IsBucketOn s ns i left = (
+          p.left_on,
+          subst (λ (r : Range). Covers r i) (sym p.joined) (half_in_range whole i valid shallow (inr covers)),
+        ) in
         let near = falls s c ns left right i h.chained p.left_on dead link low in
         rw same (record {
           leads = record { stands = inr (rw is (contains_head right [])); reaches = low };

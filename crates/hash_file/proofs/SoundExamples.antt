@@ -1,19 +1,17 @@
 -- The small files made by hand are sound: the first by itself, each other by the law of the change that made it.
-use Rattle.std.proofs.Common.{ℕ, zero, suc, ◌≡◌, ◌≢◌, ◌+◌, ◌<◌, ◌≤◌, ◌^◌, List, [], ◌∷◌, ◌++◌, true, false, cond, length, arith, refl, sym, ap, subst, ◌∙◌, ◌⊎◌, inl, inr, if◌then◌else◌}
-use Rattle.std.specs.List.{Contains, All}
-use Rattle.std.proofs.lemmas.Bool.{cases_eq, cases_lt, eq-eqb, ne_eqb, le-leb, lt-leb, lt-ltb, le-ltb}
-use Rattle.std.proofs.lemmas.List.Elements.{All-nil, All-cons}
+use Rattle.std.proofs.Common.{ℕ, zero, suc, ◌≡◌, ◌+◌, ◌<◌, ◌≤◌, [], ◌∷◌, true, arith, refl, sym, subst, inl, inr, if◌then◌else◌}
+use Rattle.std.specs.List.{Contains}
+use Rattle.std.proofs.lemmas.Bool.{cases_eq, cases_lt, ne_eqb, le-leb, lt-leb, le-ltb}
 use Rattle.positions.specs.Ranges.{Covers, whole_range, upper_half_of}
 use Rattle.positions.proofs.MemberLaws.{contains_head, contains_tail, contains_cases, contains_none}
 use Rattle.positions.proofs.TileLaws.{tiles_whole}
 use Rattle.bucket_page.specs.Keys.{is_below}
-use Rattle.bucket_page.specs.Records.{Pair}
-use Rattle.hash_file.specs.Store.{has_bucket, bucket_at, range_at, entry_at, count_at, IsFreePage}
+use Rattle.hash_file.specs.Store.{Store, has_bucket, bucket_at, range_at, entry_at, count_at, IsFreePage}
 use Rattle.hash_file.specs.Chain.{chain, times, number_on, IsPlaced}
 use Rattle.hash_file.specs.Change.{Quiet}
-use Rattle.hash_file.specs.Sound.{IsSoundOn, IsSound, HasEntry, is_numbered}
+use Rattle.hash_file.specs.Sound.{IsSoundOn, HasEntry, is_numbered}
 use Rattle.hash_file.specs.Changes.{Put, take_page, copy_directory, retarget}
-use Rattle.hash_file.specs.Examples.{AreSound, number_of, key, one, first, doubled, filled, linked, retargeted, split, with_3, absorbed, buried, drained, freed, merged_whole}
+use Rattle.hash_file.specs.Examples.{AreSound, number_of, one, first, doubled, filled, linked, retargeted, split, with_3, absorbed, buried, drained, freed, merged_whole}
 use Rattle.hash_file.proofs.Frames.{sound_by}
 use Rattle.hash_file.proofs.WriteRecord.{writes_record}
 use Rattle.hash_file.proofs.TakePage.{take_page_keeps, link_free_keeps}
@@ -117,7 +115,13 @@ upper_index zero low covers = absurd (let is : 0 ≡ 1 = covers in omega (arith,
 upper_index (suc zero) low covers = refl
 upper_index (suc (suc i)) low covers = absurd (omega (arith, low))
 
-doubled_copy : (i : ℕ) → i < 1 → entry_at (copy_directory 1 (take_page first)) (i + 1) ≡ entry_at (copy_directory 1 (take_page first)) i
+abbrev copied : Store
+copied = copy_directory 1 (take_page first)
+
+abbrev named : Store
+named = retarget 1 (upper_half_of whole_range) 257 buried
+
+doubled_copy : (i : ℕ) → i < 1 → entry_at copied (i + 1) ≡ entry_at copied i
 doubled_copy zero low = refl
 doubled_copy (suc i) low = absurd (omega (arith, low))
 
@@ -128,7 +132,7 @@ are_sound =
     let h0 = sound_by number_of first Quiet (257 ∷ []) first_on in
     let h1 = (take_page_keeps number_of first h0 (omega arith)).sound in
     let h2 = (copy_directory_keeps number_of (take_page first) 258 1 h1).sound in
-    let h3 = (raise_depth_keeps number_of (copy_directory 1 (take_page first)) 258 h2 (omega arith) doubled_copy).sound in
+    let h3 = (raise_depth_keeps number_of copied 258 h2 (omega arith) doubled_copy).sound in
     let h4 = (write_new_keeps number_of doubled 257 258 h3 (contains_head 257 []) (omega arith)).sound in
     let h5 = (write_old_keeps number_of filled 257 258 h4).sound in
     let h6 = (retarget_keeps_split number_of linked 257 258 whole_range 1 h5).sound in
@@ -142,8 +146,8 @@ are_sound =
     (contains_tail 257 258 (258 ∷ []) (contains_head 258 [])) (record { lower = refl; upper = refl })).sound in
     let m2 = (write_tombstone_keeps number_of absorbed 257 258 whole_range m1).sound in
     let m3 = (retarget_keeps_merge number_of buried 257 258 whole_range 1 m2).sound in
-    let m4 = (set_counts_keeps_merge number_of (retarget 1 (upper_half_of whole_range) 257 buried) 257 258 whole_range m3
-    (λ i low covers. subst (λ j. entry_at (retarget 1 (upper_half_of whole_range) 257 buried) j ≡ 257)
+    let m4 = (set_counts_keeps_merge number_of named 257 258 whole_range m3
+    (λ i low covers. subst (λ j. entry_at named j ≡ 257)
     (sym (upper_index i low covers)) refl)).sound in
     let m5 = (write_free_keeps number_of drained 257 258 m4).sound in
     let m6 = (link_free_keeps number_of freed 258 m5).sound in

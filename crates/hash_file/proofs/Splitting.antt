@@ -1,16 +1,15 @@
 -- The old bucket keeps its lower half, and the new one joins the chain behind it.
-use Rattle.std.proofs.Common.{ℕ, suc, ◌≡◌, ◌≢◌, ◌+◌, ◌-◌, ◌<◌, ◌≤◌, ◌==◌, List, [], ◌∷◌, ◌++◌, Bool, true, false, cond, length, add-one, arith, refl, sym, ap, subst, ◌∙◌, ◌⊎◌, inl, inr, if◌then◌else◌}
+use Rattle.std.proofs.Common.{ℕ, suc, ◌≡◌, ◌≢◌, ◌+◌, ◌-◌, ◌<◌, ◌≤◌, ◌==◌, List, [], ◌∷◌, ◌++◌, Bool, true, false, cond, length, arith, refl, sym, ap, subst, ◌∙◌, inl, inr, if◌then◌else◌}
 use Rattle.std.specs.List.{Contains}
 use Rattle.std.proofs.lemmas.Bool.{cases_eq, both_ways}
 use Rattle.std.proofs.lemmas.List.{length-set}
-use Rattle.std.proofs.lemmas.List.Elements.{Contains-append_left, Contains-append_right}
+use Rattle.std.proofs.lemmas.List.Elements.{Contains-append_right}
 use Rattle.positions.specs.declared.pseudokey.TheConstants.{PSEUDOKEY_BITS, POSITIONS}
 use Rattle.positions.specs.declared.range.Range.{Range}
 use Rattle.positions.specs.Positions.{position_of}
 use Rattle.positions.specs.Ranges.{IsRange, Covers, AreHalvesOf, lower_half_of, upper_half_of, start_of}
-use Rattle.positions.specs.Links.{Links}
-use Rattle.positions.specs.Tiles.{Tiles, Splits, begun}
-use Rattle.positions.proofs.MemberLaws.{contains_head, contains_tail, contains_none, contains_between, contains_grown, contains_new, contains_grown_cases}
+use Rattle.positions.specs.Tiles.{begun}
+use Rattle.positions.proofs.MemberLaws.{contains_head, contains_none, contains_between, contains_grown, contains_new, contains_grown_cases}
 use Rattle.positions.proofs.RangeLaws.{range_in_half}
 use Rattle.positions.proofs.TileLaws.{tiles_not_before, tiles_not_behind}
 use Rattle.positions.proofs.ChangeLaws.{split_tiles, splits_in_place}
@@ -22,19 +21,18 @@ use Rattle.bucket_page.specs.declared.page.PageKind.TheVariants as kinds
 use Rattle.bucket_page.specs.Bucket.{Bucket}
 use Rattle.bucket_page.specs.Records.{lookup}
 use Rattle.bucket_page.specs.Dividing.{has_bit, lower_half, upper_half}
-use Rattle.hash_file.specs.Store.{Store, page_at, is_bucket, bucket_of, bucket_at, range_of, range_at, records_at, next_at, has_bucket, entry_at, count_at}
-use Rattle.hash_file.specs.Chain.{chain, contents, pairs_on, IsChain, IsPlaced, IsBucketOn, how_many, number_on, times}
+use Rattle.hash_file.specs.Store.{Store, page_at, is_bucket, bucket_of, bucket_at, range_of, range_at, next_at, has_bucket, entry_at, count_at}
+use Rattle.hash_file.specs.Chain.{chain, pairs_on, IsChain, IsPlaced, IsBucketOn, number_on, times}
 use Rattle.hash_file.specs.Change.{Change, Filled, Linked, owned, gained, lost}
-use Rattle.hash_file.specs.Search.{reach, Leads, LeadsOn, distance_on}
-use Rattle.hash_file.specs.Phases.{IsFilled, IsLinked}
-use Rattle.hash_file.specs.Sound.{IsSoundOn, IsSound, HasEntry, is_numbered}
-use Rattle.hash_file.specs.Changes.{with_page, write_old}
+use Rattle.hash_file.specs.Search.{reach, LeadsOn, distance_on}
+use Rattle.hash_file.specs.Sound.{IsSoundOn, IsSound, HasEntry}
+use Rattle.hash_file.specs.Changes.{write_old}
 use Rattle.hash_file.specs.Kept.{Keeps, LengthensWays}
 use Rattle.hash_file.proofs.Chains.{chain_valid, bucket_found}
-use Rattle.hash_file.proofs.Lists.{how_many_append, how_many_same, times_append}
+use Rattle.hash_file.proofs.Lists.{how_many_append, how_many_same, twice, times_append}
 use Rattle.hash_file.proofs.Lookups.{look_at}
 use Rattle.hash_file.proofs.Roles.{thrice, numbered, numbered_positive, live_not_spare, live_not_owned}
-use Rattle.hash_file.proofs.Frames.{HasShapeOf, shape_of_page, reach_same, page_other, page_same, spared_same, numbered_same, layout_same, keeps_by, ways_by}
+use Rattle.hash_file.proofs.Frames.{shape_of_page, reach_same, page_other, page_same, spared_same, numbered_same, layout_same, keeps_by, ways_by}
 use Rattle.hash_file.proofs.Halves.{bit_set, bit_clear, range_lower, range_upper, placed_lower, placed_upper, look_lower, look_upper}
 
 module _ (hash : RecordKey → ℕ) (s : Store) (old new : ℕ) (h : IsSound hash s (Filled old new)) (front back : List ℕ)
@@ -198,22 +196,16 @@ module _ (hash : RecordKey → ℕ) (s : Store) (old new : ℕ) (h : IsSound has
       rw (← ap (λ (r : Range). r.depth) lower_range) (omega arith) in
       let high : number_on t (new ∷ []) depth ≡ (if suc (range_at s old).depth == depth then 1 else 0) =
       rw (← ap (λ (r : Range). r.depth) upper_range) (omega arith) in
-      by_test (suc (range_at s old).depth == depth) refl low high (omega (arith, was, one, number_old depth))
-    where
-      by_test : (x : Bool) → (suc (range_at s old).depth == depth) ≡ x →
-          number_on t (old ∷ []) depth ≡ (if suc (range_at s old).depth == depth then 1 else 0) →
-          number_on t (new ∷ []) depth ≡ (if suc (range_at s old).depth == depth then 1 else 0) →
-          count_at s depth ≡ number_on s front depth
-          + ((if (range_at s old).depth == depth then 1 else 0) + number_on s back depth) →
-          count_at s depth + gained d depth ≡ lost d depth + number_on t ms depth
-      by_test true test low high all =
-          let low' = rw test at low in
-          let high' = rw test at high in
-          rw test (omega (arith, low', high', all, number_new depth))
-      by_test false test low high all =
-          let low' = rw test at low in
-          let high' = rw test at high in
-          rw test (omega (arith, low', high', all, number_new depth))
+      omega (
+        arith,
+        was,
+        one,
+        low,
+        high,
+        twice (suc (range_at s old).depth == depth),
+        number_old depth,
+        number_new depth,
+      )
 
   sound_on : IsSoundOn hash t d ms
   sound_on = record {
@@ -241,7 +233,8 @@ module _ (hash : RecordKey → ℕ) (s : Store) (old new : ℕ) (h : IsSound has
   looked_up key (m, at_m) = elim (cases_eq m old) [
     | inl same ↦ (
         let at_old : IsBucketOn s ns (hash key) old = subst (IsBucketOn s ns (hash key)) same at_m in
-        in_half at_old (has_bit b.depth (hash key)) refl ∙ sym (look_at hash s key ns old sound.chained sound.placed at_old))
+        in_half at_old (has_bit b.depth (hash key)) refl
+        ∙ sym (look_at hash s key ns old sound.chained sound.placed at_old))
     | inr far ↦ look_at hash t key ms m chained placed (
       contains_grown front old new back m at_m.0,
       subst (λ (p : PageKind). Covers (range_of (bucket_of p)) (hash key)) (sym (other m far)) at_m.1,
@@ -255,13 +248,15 @@ module _ (hash : RecordKey → ℕ) (s : Store) (old new : ℕ) (h : IsSound has
       in_half at_old true bit =
           look_at hash t key ms new chained placed (
             contains_new front old new back,
-            subst (λ (r : Range). Covers r (hash key)) (sym upper_range) (bit_set (range_at s old) (hash key) at_old.1 bit),
+            subst (λ (r : Range). Covers r (hash key)) (sym upper_range)
+                (bit_set (range_at s old) (hash key) at_old.1 bit),
           )
           ∙ ap (λ (p : PageKind). lookup key (bucket_of p).records) there ∙ look_upper hash b key bit
       in_half at_old false bit =
           look_at hash t key ms old chained placed (
             contains_grown front old new back old old_on,
-            subst (λ (r : Range). Covers r (hash key)) (sym lower_range) (bit_clear (range_at s old) (hash key) at_old.1 bit),
+            subst (λ (r : Range). Covers r (hash key)) (sym lower_range)
+                (bit_clear (range_at s old) (hash key) at_old.1 bit),
           )
           ∙ ap (λ (p : PageKind). lookup key (bucket_of p).records) here ∙ look_lower hash b new key bit
 

@@ -1,19 +1,18 @@
 -- The first free page is taken off the free list, and a page is put on it.
-use Rattle.std.proofs.Common.{ℕ, suc, ◌≡◌, ◌≢◌, ◌+◌, List, [], ◌∷◌, ◌++◌, if◌then◌else◌, arith, refl, sym, ap, subst, ◌∙◌, inl, inr}
+use Rattle.std.proofs.Common.{ℕ, ◌≡◌, ◌≢◌, List, [], ◌∷◌, ◌++◌, if◌then◌else◌, arith, refl, sym, ap, subst, ◌∙◌, inl, inr}
 use Rattle.std.specs.List.{Contains}
 use Rattle.positions.specs.Links.{Links}
 use Rattle.positions.proofs.MemberLaws.{contains_head, contains_tail, contains_cases}
 use Rattle.bucket_page.specs.declared.record_key.RecordKey.{RecordKey}
 use Rattle.bucket_page.specs.declared.page.PageKind.{PageKind}
 use Rattle.bucket_page.specs.declared.page.PageKind.TheVariants as kinds
-use Rattle.directory.specs.declared.header.Header.{Header}
-use Rattle.hash_file.specs.Store.{Store, page_at, bucket_of, next_at, IsFreePage}
+use Rattle.hash_file.specs.Store.{Store, bucket_of, next_at, IsFreePage}
 use Rattle.hash_file.specs.Chain.{chain, times}
-use Rattle.hash_file.specs.Change.{Change, Quiet, Taken, Freed, owned}
-use Rattle.hash_file.specs.Sound.{IsSoundOn, IsSound, IsFreeList, is_numbered}
+use Rattle.hash_file.specs.Change.{Quiet, Taken, Freed}
+use Rattle.hash_file.specs.Sound.{IsSound, is_numbered}
 use Rattle.hash_file.specs.Changes.{take_page, link_free}
 use Rattle.hash_file.specs.Kept.{Keeps}
-use Rattle.hash_file.proofs.Headed.{HasRoomOf, layout_headed, chain_headed, keeps_headed}
+use Rattle.hash_file.proofs.Headed.{layout_headed, chain_headed, keeps_headed}
 use Rattle.hash_file.proofs.Roles.{thrice}
 use Rattle.hash_file.proofs.Lists.{times_append}
 

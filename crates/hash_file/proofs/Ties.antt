@@ -1,24 +1,23 @@
 -- The words of a reader and the working forms are the same.
-use Rattle.std.proofs.Common.{ℕ, zero, suc, ◌≡◌, ◌≢◌, ◌+◌, ◌<◌, ◌≤◌, ◌↔◌, List, [], ◌∷◌, ◌++◌, length, Bool, true, false, cond, leb, ltb, ◌&&◌, arith, refl, sym, ap, subst, ◌∙◌, ◌⊎◌, inl, inr}
+use Rattle.std.proofs.Common.{ℕ, zero, suc, ◌≡◌, ◌≢◌, ◌+◌, ◌≤◌, ◌↔◌, List, [], ◌∷◌, ◌++◌, length, arith, refl, inl, inr}
 use Rattle.std.specs.List.{Contains, All, AllPairs}
-use Rattle.std.proofs.lemmas.Bool.{cases_lt, le-leb, lt-ltb, eq-eqb, leb-true, ltb-true}
-use Rattle.std.proofs.lemmas.List.Elements.{All-contains_itself, Contains-append_left, Contains-append_right, Contains-append_cases}
+use Rattle.std.proofs.lemmas.Bool.{le-leb, lt-ltb, eq-eqb}
+use Rattle.std.proofs.lemmas.List.Elements.{All-contains_itself, Contains-append_cases}
 use Rattle.std.proofs.lemmas.List.Kept.{AllPairs-cons}
 use Rattle.positions.specs.declared.pseudokey.TheConstants.{POSITIONS}
 use Rattle.positions.specs.Positions.{position_of}
 use Rattle.positions.specs.Ranges.{start_of, stop_of}
 use Rattle.positions.specs.Tiles.{Tiles}
-use Rattle.positions.proofs.MemberLaws.{contains_head, contains_tail, contains_cases, contains_none, contains_between}
+use Rattle.positions.proofs.MemberLaws.{contains_cases, contains_between}
 use Rattle.positions.proofs.PartitionLaws.{partition_tiles, tiles_partition}
 use Rattle.positions.proofs.RangeLaws.{range_has_start}
 use Rattle.positions.proofs.TileLaws.{tiles_within, tiles_cut}
-use Rattle.bucket_page.proofs.Zeros.{both_true}
 use Rattle.bucket_page.specs.declared.record_key.RecordKey.{RecordKey}
-use Rattle.hash_file.specs.Store.{Store, has_bucket, range_at, entry_at}
-use Rattle.hash_file.specs.Chain.{chain, IsChain, IsBucketOn, IsBucketOf, times}
+use Rattle.hash_file.specs.Store.{Store, range_at, entry_at}
+use Rattle.hash_file.specs.Chain.{chain, IsChain, IsBucketOf, times}
 use Rattle.hash_file.specs.Change.{Change, Quiet, owned}
 use Rattle.hash_file.specs.Search.{Leads}
-use Rattle.hash_file.specs.Sound.{IsSound, IsExact, HasEntry, IsFreeList, is_numbered}
+use Rattle.hash_file.specs.Sound.{IsSound, IsExact, HasEntry, IsFreeList}
 use Rattle.hash_file.specs.Words.{IsWellFormed, HasOneRole, IsOneOf, First, Second, Third, StandsAtOrBefore}
 use Rattle.hash_file.proofs.Chains.{has_position, bucket_found}
 use Rattle.hash_file.proofs.Lists.{times_member, times_stands}

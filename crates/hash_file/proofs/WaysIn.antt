@@ -1,5 +1,5 @@
 -- No entry and no next link names a page that is drained.
-use Rattle.std.proofs.Common.{ℕ, ◌≡◌, ◌≢◌, ◌<◌, ◌^◌, List, [], ◌∷◌, arith, refl, sym, subst, ◌∙◌, ◌⊎◌, inl, inr}
+use Rattle.std.proofs.Common.{ℕ, ◌≡◌, ◌≢◌, List, [], ◌∷◌, sym, subst, ◌∙◌, ◌⊎◌, inl, inr}
 use Rattle.std.specs.List.{Contains}
 use Rattle.positions.specs.Links.{Links}
 use Rattle.positions.proofs.MemberLaws.{contains_head, contains_tail, contains_cases, contains_none}
@@ -17,7 +17,10 @@ links_on : (next : ℕ → ℕ) (xs : List ℕ) (x e y : ℕ) → Links next x x
 links_on next [] x e y l c = absurd (contains_none y c)
 links_on next (z ∷ zs) x e y l c = elim (contains_cases z y zs c) [
   | inl same ↦ subst (λ w. Contains (z ∷ zs) (next w) ⊎ (next w ≡ e)) same (at_head zs l.1)
-  | inr d ↦ elim (links_on next zs (next z) e y l.1 d) [ inl on ↦ inl (contains_tail z (next y) zs on) | inr ends ↦ inr ends ]
+  | inr d ↦ elim (links_on next zs (next z) e y l.1 d) [
+    | inl on ↦ inl (contains_tail z (next y) zs on)
+    | inr ends ↦ inr ends
+  ]
 ]
   where
     at_head : (ys : List ℕ) → Links next (next z) ys e → Contains (z ∷ ys) (next z) ⊎ (next z ≡ e)

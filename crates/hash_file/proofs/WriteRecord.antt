@@ -1,11 +1,10 @@
 -- One record of a live bucket is written.
-use Rattle.std.proofs.Common.{ℕ, ◌≡◌, ◌≢◌, ◌+◌, ◌<◌, ◌≤◌, List, [], ◌∷◌, Bool, true, false, cond, length, arith, refl, sym, ap, subst, ◌∙◌, ◌⊎◌, inl, inr, Option}
+use Rattle.std.proofs.Common.{ℕ, ◌≡◌, ◌≢◌, ◌+◌, List, [], ◌∷◌, Bool, true, false, cond, arith, refl, sym, ap, subst, ◌∙◌, inl, inr, Option}
 use Rattle.std.specs.List.{Contains}
 use Rattle.std.proofs.lemmas.Bool.{cases_eq}
 use Rattle.std.proofs.lemmas.List.{length-set}
 use Rattle.positions.specs.declared.range.Range.{Range}
 use Rattle.positions.specs.Ranges.{Covers}
-use Rattle.positions.proofs.MemberLaws.{contains_head, contains_tail}
 use Rattle.bucket_page.specs.declared.record_key.RecordKey.{RecordKey}
 use Rattle.bucket_page.specs.declared.page.PageKind.{PageKind}
 use Rattle.bucket_page.specs.declared.page.PageKind.TheVariants as kinds
@@ -13,22 +12,22 @@ use Rattle.bucket_page.specs.Bucket.{Bucket}
 use Rattle.bucket_page.specs.Keys.{is_same}
 use Rattle.bucket_page.specs.Records.{Pair, lookup}
 use Rattle.bucket_page.proofs.KeyLaws.{same_is}
-use Rattle.hash_file.specs.Store.{Store, page_at, is_bucket, bucket_of, bucket_at, range_of, range_at, records_at, next_at, has_bucket}
+use Rattle.hash_file.specs.Store.{Store, page_at, is_bucket, bucket_of, bucket_at, range_of, range_at, records_at, next_at}
 use Rattle.hash_file.specs.Chain.{chain, contents, pairs_on, IsBucketOf, IsBucketOn, IsPlaced}
 use Rattle.hash_file.specs.Change.{Change, Quiet, Taken, Filled, Linked, Absorbed, Buried, Drained, Freed, owned, busy, lost}
-use Rattle.hash_file.specs.Search.{Leads, LeadsOn}
-use Rattle.hash_file.specs.Phases.{HasPhase, IsFilled, IsLinked, IsAbsorbed, IsBuried, IsDrained}
+use Rattle.hash_file.specs.Search.{LeadsOn}
+use Rattle.hash_file.specs.Phases.{HasPhase}
 use Rattle.hash_file.specs.Sound.{IsSoundOn, IsSound}
-use Rattle.hash_file.specs.Changes.{Write, MayWrite, key_of, value_after, written, with_page, write_record}
-use Rattle.hash_file.specs.Kept.{LengthensWays}
+use Rattle.hash_file.specs.Changes.{Write, MayWrite, key_of, value_after, written, write_record}
+use Rattle.hash_file.specs.Kept.{HasShapeOf, LengthensWays}
 use Rattle.hash_file.specs.Laws.{WritesRecord}
 use Rattle.directory.specs.declared.header.Header.{Header}
 use Rattle.bucket_page.specs.Dividing.{upper_half}
 use Rattle.hash_file.proofs.Lists.{contains_is}
 use Rattle.hash_file.proofs.Chains.{chain_is, bucket_found, bucket_unique}
 use Rattle.hash_file.proofs.Lookups.{look_at}
-use Rattle.hash_file.proofs.Roles.{numbered, numbered_positive, live_not_spare, live_not_owned}
-use Rattle.hash_file.proofs.Frames.{HasShapeOf, shape_of_page, reach_same, page_other, page_same, covers_shaped, chain_shaped, entry_shaped, number_shaped, spared_same, numbered_same, layout_same, sound_by, ways_by, distance_shaped}
+use Rattle.hash_file.proofs.Roles.{numbered, live_not_spare, live_not_owned}
+use Rattle.hash_file.proofs.Frames.{shape_of_page, reach_same, page_other, page_same, covers_shaped, chain_shaped, entry_shaped, number_shaped, spared_same, numbered_same, layout_same, sound_by, ways_by, distance_shaped}
 use Rattle.hash_file.proofs.Writes.{all_written, ascend_written, lookup_written}
 
 -- a phase that does not speak of the records of page n goes on where those alone change
@@ -44,7 +43,12 @@ phase_written hash s t (Filled old new) ns n head others shape idle own p =
     let new_same = others new (λ is. own (contains_is [] is)) in
     record {
       old_on = p.old_on;
-      shallow = omega (arith, p.shallow, ap (λ (r : Range). r.depth) (shape old).range, ap (λ (x : Header). x.depth) head);
+      shallow = omega (
+        arith,
+        p.shallow,
+        ap (λ (r : Range). r.depth) (shape old).range,
+        ap (λ (x : Header). x.depth) head,
+      );
       upper = new_same ∙ p.upper ∙ sym (ap (λ (q : PageKind). kinds.Bucket (upper_half hash (bucket_of q))) old_same);
     }
 phase_written hash s t (Linked old new whole) ns n head others shape idle own p = record {
@@ -178,6 +182,8 @@ module _ (hash : RecordKey → ℕ) (s : Store) (c : Change) (n : ℕ) (w : Writ
   pub writes_record : WritesRecord hash s c t w
   writes_record = record {
     sound = sound_by hash t c ns sound_on;
+    shapes = shape;
+    chain = is;
     contents = λ key. ap (λ (ms : List ℕ). lookup key (pairs_on t ms)) is
         ∙ looked_up key (bucket_found s ns (hash key) h.chained);
     leads = λ m k l. subst (λ (ms : List ℕ). LeadsOn t c ms m k) (sym is) (record {
@@ -190,5 +196,5 @@ module _ (hash : RecordKey → ℕ) (s : Store) (c : Change) (n : ℕ) (w : Writ
   record_ways = ways_by 0 s c t ns sound_on.layout sound_on.chained (λ m k l. omega (
     arith,
     distance_shaped s t.pages ns m k (λ x on. shape x) (reach_same s t m (shape m) (λ dead. shape (next_at s m)))
-    (shape m).live,
+        (shape m).live,
   ))

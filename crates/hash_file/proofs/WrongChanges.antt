@@ -1,18 +1,17 @@
 -- Each wrong change is refuted by the field of soundness that it breaks.
-use Rattle.std.proofs.Common.{ℕ, zero, suc, ◌≡◌, ◌≢◌, ◌+◌, ◌<◌, ◌≤◌, List, [], ◌∷◌, Some, None, true, false, arith, refl, sym, ap, subst, ◌∙◌, ◌⊎◌, inl, inr}
+use Rattle.std.proofs.Common.{ℕ, ◌≡◌, ◌≢◌, ◌+◌, ◌≤◌, List, [], ◌∷◌, Some, None, arith, refl, sym, ap, subst, inl, inr}
 use Rattle.std.specs.List.{Contains}
 use Rattle.positions.specs.Positions.{position_of, bits_reversed, width_of}
 use Rattle.positions.specs.Links.{Links}
-use Rattle.positions.proofs.MemberLaws.{contains_head, contains_tail, contains_cases, contains_none}
+use Rattle.positions.proofs.MemberLaws.{contains_head, contains_cases, contains_none}
 use Rattle.bucket_page.specs.Keys.{is_below}
 use Rattle.bucket_page.specs.declared.page.PageKind.{PageKind}
 use Rattle.bucket_page.specs.declared.page.PageKind.TheVariants as kinds
-use Rattle.hash_file.specs.Store.{Store, page_at, bucket_of, next_at, IsFreePage}
+use Rattle.hash_file.specs.Store.{Store, bucket_of, next_at}
 use Rattle.hash_file.specs.Chain.{chain}
-use Rattle.hash_file.specs.Change.{Taken, Quiet}
-use Rattle.hash_file.specs.Sound.{IsSound}
-use Rattle.hash_file.specs.Changes.{link_free, write_free}
-use Rattle.hash_file.specs.Examples.{number_of, key, one, first, drained, buried}
+use Rattle.hash_file.specs.Change.{Taken}
+use Rattle.hash_file.specs.Changes.{link_free}
+use Rattle.hash_file.specs.Examples.{number_of, key, one, first, drained}
 use Rattle.hash_file.specs.WrongChanges.{WrongChanges}
 use Rattle.hash_file.proofs.Roles.{spare_not_owned}
 

@@ -24,65 +24,43 @@ pub data Change : Type 0 where
 
 -- the page that the change owns: it is neither live nor on the free list
 abbrev pub owned : Change → List ℕ
-owned Quiet = []
 owned (Taken new) = new ∷ []
 owned (Filled old new) = new ∷ []
-owned (Linked old new whole) = []
 owned (Absorbed left right whole) = right ∷ []
 owned (Buried left right whole) = right ∷ []
 owned (Drained left right) = right ∷ []
 owned (Freed right) = right ∷ []
+owned c = []
 
 -- the page that a merge took off the chain, while a search may still stand on it
 abbrev pub aside : Change → List ℕ
-aside Quiet = []
-aside (Taken new) = []
-aside (Filled old new) = []
-aside (Linked old new whole) = []
 aside (Absorbed left right whole) = right ∷ []
 aside (Buried left right whole) = right ∷ []
 aside (Drained left right) = right ∷ []
-aside (Freed right) = []
+aside c = []
 
 -- the pages whose records the phase speaks of: nobody but the one who makes the change writes them
 abbrev pub busy : Change → List ℕ
-busy Quiet = []
-busy (Taken new) = []
 busy (Filled old new) = old ∷ new ∷ []
-busy (Linked old new whole) = []
 busy (Absorbed left right whole) = left ∷ right ∷ []
-busy (Buried left right whole) = []
-busy (Drained left right) = []
-busy (Freed right) = []
+busy c = []
 
 -- an entry of the upper half may still name the page that led to its bucket's
 abbrev pub TakesDetour : Change → ℕ → ℕ → Type 0
-TakesDetour Quiet i n = ⊥
-TakesDetour (Taken new) i n = ⊥
-TakesDetour (Filled old new) i n = ⊥
 TakesDetour (Linked old new whole) i n = (n ≡ old) × Covers (upper_half_of whole) i
 TakesDetour (Absorbed left right whole) i n = (n ≡ right) × Covers (upper_half_of whole) i
 TakesDetour (Buried left right whole) i n = (n ≡ right) × Covers (upper_half_of whole) i
-TakesDetour (Drained left right) i n = ⊥
-TakesDetour (Freed right) i n = ⊥
+TakesDetour c i n = ⊥
 
 -- the header's counts are those from before the change. Here is what it makes more of, and what it makes less of
 abbrev pub gained : Change → ℕ → ℕ
-gained Quiet depth = 0
-gained (Taken new) depth = 0
-gained (Filled old new) depth = 0
 gained (Linked old new whole) depth = if suc whole.depth == depth then 2 else 0
 gained (Absorbed left right whole) depth = if whole.depth == depth then 1 else 0
 gained (Buried left right whole) depth = if whole.depth == depth then 1 else 0
-gained (Drained left right) depth = 0
-gained (Freed right) depth = 0
+gained c depth = 0
 
 abbrev pub lost : Change → ℕ → ℕ
-lost Quiet depth = 0
-lost (Taken new) depth = 0
-lost (Filled old new) depth = 0
 lost (Linked old new whole) depth = if whole.depth == depth then 1 else 0
 lost (Absorbed left right whole) depth = if suc whole.depth == depth then 2 else 0
 lost (Buried left right whole) depth = if suc whole.depth == depth then 2 else 0
-lost (Drained left right) depth = 0
-lost (Freed right) depth = 0
+lost c depth = 0

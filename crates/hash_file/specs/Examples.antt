@@ -1,7 +1,6 @@
--- Small files by hand, in which the definitions compute: a bucket split twice, two merged, a freed page taken again. Keys
--- are numbers, and a key's pseudokey is its number. Behind each change is what it makes of the file before it.
+-- Small files by hand, in which the definitions compute: a bucket split twice, two merged, a freed page taken again.
+-- Keys are numbers, and a key's pseudokey is its number. Each file is made by a change of one above it.
 use Rattle.std.specs.Prelude.{ℕ, ◌≡◌, List, [], ◌∷◌, ◌++◌, map, replicate, take}
-use Rattle.positions.specs.declared.range.Range.{Range}
 use Rattle.positions.specs.Ranges.{whole_range, lower_half_of, upper_half_of}
 use Rattle.bucket_page.specs.declared.record_key.RecordKey.{RecordKey}
 use Rattle.bucket_page.specs.declared.page.PageKind.TheVariants as kinds
@@ -129,7 +128,9 @@ pub record MergeAndHalving : Type 0 where
 
 -- the next split takes the freed page again
 abbrev pub taken_again : Store
-taken_again = write_old number_of 257 258 (write_new number_of 257 258 (raise_depth (copy_directory 1 (take_page halved))))
+taken_again =
+    write_old number_of 257 258
+    (write_new number_of 257 258 (raise_depth (copy_directory 1 (take_page halved))))
 
 pub record FreedPageTakenAgain : Type 0 where
   pub chain : chain taken_again ≡ 257 ∷ 258 ∷ []

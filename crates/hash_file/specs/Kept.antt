@@ -1,8 +1,8 @@
 -- What a change of the file keeps.
-use Rattle.std.specs.Prelude.{ℕ, ◌≡◌, ◌≢◌, ◌≤◌, ◌+◌, Option, List, if◌then◌else◌}
+use Rattle.std.specs.Prelude.{ℕ, ◌≡◌, ◌≢◌, ◌≤◌, ◌+◌, if◌then◌else◌}
 use Rattle.bucket_page.specs.declared.record_key.RecordKey.{RecordKey}
 use Rattle.bucket_page.specs.Keys.{is_same}
-use Rattle.hash_file.specs.Store.{Store}
+use Rattle.hash_file.specs.Store.{Store, has_bucket, range_at, next_at}
 use Rattle.hash_file.specs.Chain.{contents}
 use Rattle.hash_file.specs.Change.{Change}
 use Rattle.hash_file.specs.Search.{Leads, distance}
@@ -21,6 +21,12 @@ ChangesRecord w old new = (key : RecordKey) →
 -- each page leads where it led
 abbrev pub KeepsLeading : Store → Change → Store → Change → Type 0
 KeepsLeading old c new d = (n k : ℕ) → Leads old c n k → Leads new d n k
+
+-- page n has the shape that it had: all that a chain sees of it
+pub record HasShapeOf (old new : Store) (n : ℕ) : Type 0 where
+  pub live : has_bucket new n ≡ has_bucket old n
+  pub range : range_at new n ≡ range_at old n
+  pub next : next_at new n ≡ next_at old n
 
 -- a change that keeps all of this, in going on from phase c to phase d
 pub record Keeps (hash : RecordKey → ℕ) (old : Store) (c : Change) (new : Store) (d : Change) : Type 0 where

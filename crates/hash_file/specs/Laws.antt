@@ -1,6 +1,6 @@
 -- What each change keeps, and where it leads the structure change under way. Each is the contract of a function of
 -- src/laws.rt, or is listed in the README as owed.
-use Rattle.std.specs.Prelude.{ℕ, suc, ◌≡◌, ◌≢◌, ◌<◌, ◌≤◌, ◌+◌, ◌*◌, ◌-◌, ◌^◌, List}
+use Rattle.std.specs.Prelude.{ℕ, ◌≡◌, ◌≢◌, ◌<◌, ◌+◌, ◌^◌}
 use Rattle.std.specs.List.{Contains}
 use Rattle.positions.specs.declared.range.Range.{Range}
 use Rattle.positions.specs.Ranges.{Covers, AreHalvesOf, upper_half_of}
@@ -11,7 +11,7 @@ use Rattle.hash_file.specs.Change.{Change, Quiet, Taken, Filled, Linked, Absorbe
 use Rattle.hash_file.specs.Search.{Leads}
 use Rattle.hash_file.specs.Sound.{IsSound}
 use Rattle.hash_file.specs.Changes.{Write, MayWrite, key_of, write_record, take_page, copy_directory, raise_depth, write_new, write_old, retarget, set_counts, split_counts, merge_counts, write_left, write_tombstone, write_free, link_free, lower_depth}
-use Rattle.hash_file.specs.Kept.{KeepsContents, KeepsLeading, ChangesRecord, Keeps}
+use Rattle.hash_file.specs.Kept.{KeepsContents, KeepsLeading, ChangesRecord, HasShapeOf, Keeps}
 
 -- ---- a record
 
@@ -19,6 +19,9 @@ pub record WritesRecord (hash : RecordKey → ℕ) (old : Store) (c : Change) (n
   pub sound : IsSound hash new c
   pub contents : ChangesRecord w old new
   pub leads : KeepsLeading old c new c
+  -- and all that changes of any page is its records
+  pub shapes : (n : ℕ) → HasShapeOf old new n
+  pub chain : chain new ≡ chain old
 
 -- a record is written in the bucket of its key, of which no phase speaks
 abbrev pub WriteRecordIsOneRecord : Type 0

@@ -13,3 +13,4 @@ pub mod Examples
 pub mod WrongChanges
 pub mod Skeletons
 pub mod Hops
+pub mod New

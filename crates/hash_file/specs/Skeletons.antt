@@ -2,7 +2,6 @@
 use Rattle.std.specs.Prelude.{ℕ, ◌≡◌, ◌<◌, ◌≤◌, ◌^◌, true, List, [], map, length}
 use Rattle.positions.specs.Ranges.{whole_range}
 use Rattle.positions.specs.Tiles.{IsTileAt}
-use Rattle.positions.specs.declared.range.Range.{Range}
 use Rattle.bucket_page.specs.declared.page.PageKind.{PageKind}
 use Rattle.bucket_page.specs.declared.page.PageKind.TheVariants as kinds
 use Rattle.bucket_page.specs.Bucket.{bucket}

@@ -32,9 +32,7 @@ count_at s depth = slice_index_or s.header.counts depth 0
 
 abbrev pub is_bucket : PageKind → Bool
 is_bucket (kinds.Bucket b) = true
-is_bucket (kinds.Directory es) = false
-is_bucket (kinds.Tombstone link) = false
-is_bucket (kinds.Free link) = false
+is_bucket page = false
 
 -- the bucket on a page; of a tombstone or a free page one that is empty, and followed by its link
 abbrev pub bucket_of : PageKind → Bucket

@@ -5,10 +5,10 @@ use Rattle.positions.specs.Links.{Links}
 use Rattle.positions.specs.Partition.{IsPartition}
 use Rattle.bucket_page.specs.declared.record_key.RecordKey.{RecordKey}
 use Rattle.bucket_page.specs.Records.{Pair, pair}
-use Rattle.hash_file.specs.Store.{Store, has_bucket, bucket_at, range_at, next_at, entry_at}
+use Rattle.hash_file.specs.Store.{Store, has_bucket, bucket_at, range_at, next_at}
 use Rattle.hash_file.specs.Chain.{chain, contents, pairs, IsChain, IsBucketOf}
-use Rattle.hash_file.specs.Change.{Change, Quiet, owned, aside}
-use Rattle.hash_file.specs.Search.{Leads, distance, IsNearer}
+use Rattle.hash_file.specs.Change.{Change, Quiet, owned}
+use Rattle.hash_file.specs.Search.{Leads}
 use Rattle.hash_file.specs.Sound.{HasLayout, IsFreeList, IsSound, IsExact}
 
 -- the live buckets, from the root on, end; patterns ascend in bit-reversed order, and each pseudokey is in the range

@@ -1,7 +1,7 @@
--- For each change one that is wrong, in the small files made by hand: none leaves the file sound, or holding what it held.
+-- For each change one that is wrong, in the small files made by hand: none leaves the file sound, or holding what it
+-- held.
 use Rattle.std.specs.Prelude.{true, false, List}
-use Rattle.positions.specs.Ranges.{whole_range, lower_half_of, upper_half_of}
-use Rattle.bucket_page.specs.declared.record_key.RecordKey.{RecordKey}
+use Rattle.positions.specs.Ranges.{whole_range, lower_half_of}
 use Rattle.bucket_page.specs.Records.{Pair}
 use Rattle.bucket_page.specs.Dividing.{with_bit, joined, upper_half}
 use Rattle.hash_file.specs.Store.{Store, bucket_at, records_at}
@@ -46,8 +46,9 @@ pub record WrongChanges : Type 0 where
   pub counts_not_set : IsUnsound retargeted Quiet
   -- WriteLeft, of the left bucket's records alone
   pub keeps_only_the_left : LosesContents with_3
-      (with_bucket 257 (record (joined (bucket_at with_3 257) (bucket_at with_3 258)) { records = records_at with_3 257 })
-      with_3)
+      (with_bucket 257 (record (joined (bucket_at with_3 257) (bucket_at with_3 258)) {
+        records = records_at with_3 257;
+      }) with_3)
   -- Tombstone, that names the page behind the right one
   pub tombstone_to_the_next_page : IsUnsound (write_tombstone 258 259 (write_left 257 259 with_6))
       (Buried 257 259 (lower_half_of whole_range))

@@ -5,6 +5,7 @@ ghost use Rattle.hash_file.specs.Examples.{AreSound, FreedPageTakenAgain, MergeA
 ghost use Rattle.hash_file.specs.Hops.{NoHopMore, OneHopAtMost};
 ghost use Rattle.hash_file.specs.Laws.{CopyDirectoryKeeps, LinkFreeKeeps, LowerDepthKeeps, RaiseDepthKeeps, RetargetKeepsMerge, RetargetKeepsSplit, SetCountsKeepsMerge, SetCountsKeepsSplit, TakePageKeeps, WriteFreeKeeps, WriteLeftKeeps, WriteNewKeeps, WriteOldKeeps, WriteRecordIsOneRecord, WriteTombstoneKeeps};
 ghost use Rattle.hash_file.specs.Looks.{DrainedHasNoWayIn, EntriesLead, HopsLeadOn, LooksAnswer, StaleDepthsLead};
+ghost use Rattle.hash_file.specs.New.{NewFilesAreSound};
 ghost use Rattle.hash_file.specs.Words.{ChainIsMet, ChainIsWellFormed, ContentsArePairs, LeadingIsStandingBefore, QuietIsExact, RolesAreOne};
 ghost use Rattle.hash_file.specs.WrongChanges.{WrongChanges};
 
@@ -24,7 +25,8 @@ pub fn each_page_has_one_role()
     ensures { RolesAreOne }
 {}
 
-/// While no change is under way each entry is the bucket of its index, and each count the number of buckets of its depth.
+/// While no change is under way each entry is the bucket of its index, and each count the number of buckets of its
+/// depth.
 pub fn a_quiet_directory_is_exact()
     ensures { QuietIsExact }
 {}
@@ -62,8 +64,8 @@ pub fn writing_a_record_changes_one_record()
     ensures { WriteRecordIsOneRecord }
 {}
 
-/// TakePage: the first free page is owned by a split that begins. The file stays sound, holds what it held, and each page
-/// leads where it led; so with each change below, but where it says more.
+/// TakePage: the first free page is owned by a split that begins. The file stays sound, holds what it held, and each
+/// page leads where it led; so with each change below, but where it says more.
 pub fn taking_a_page_keeps_the_file()
     ensures { TakePageKeeps }
 {}
@@ -128,8 +130,8 @@ pub fn writing_the_old_bucket_keeps_the_file()
     ensures { WriteOldKeeps }
 {}
 
-/// WriteLeft: the left of two buddies takes the range and the records of both, and the right one is taken off the chain.
-/// It still answers for its own half, and leads on as the left one does.
+/// WriteLeft: the left of two buddies takes the range and the records of both, and the right one is taken off the
+/// chain. It still answers for its own half, and leads on as the left one does.
 pub fn writing_the_left_bucket_keeps_the_file()
     ensures { WriteLeftKeeps }
 {}
@@ -139,7 +141,8 @@ pub fn what_a_file_holds_is_its_pairs()
     ensures { ContentsArePairs }
 {}
 
-/// Once a merge is drained no entry and no next link names the right page: whoever does not stand on it comes there no more.
+/// Once a merge is drained no entry and no next link names the right page: whoever does not stand on it comes there no
+/// more.
 pub fn nothing_leads_to_a_drained_page()
     ensures { DrainedHasNoWayIn }
 {}
@@ -164,8 +167,8 @@ pub fn files_made_by_hand_are_sound()
     ensures { AreSound }
 {}
 
-/// For each change one that is wrong, as a split that writes the old bucket first, or a merge that frees a page which an
-/// entry still names: none leaves the file sound, or holding what it held.
+/// For each change one that is wrong, as a split that writes the old bucket first, or a merge that frees a page which
+/// an entry still names: none leaves the file sound, or holding what it held.
 pub fn wrong_changes_are_refuted()
     ensures { WrongChanges }
 {}
@@ -179,4 +182,9 @@ pub fn two_changes_lengthen_a_way_by_a_hop()
 /// By every other change it does not grow; where a page is freed, from each other page.
 pub fn no_other_change_lengthens_a_way()
     ensures { NoHopMore }
+{}
+
+/// A file with one bucket, and all other pages free in ascending order, is sound, and holds the records of its bucket.
+pub fn a_new_file_is_sound()
+    ensures { NewFilesAreSound }
 {}

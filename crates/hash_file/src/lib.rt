@@ -9,7 +9,7 @@ mod page;
 pub use check::{is_chain, names_buckets};
 pub use laws::{
     a_chain_is_well_formed, a_freed_page_is_taken_again, a_hop_leads_on_and_comes_nearer,
-    a_look_answers_what_the_file_holds, a_merge_comes_out_as_worked_by_hand,
+    a_look_answers_what_the_file_holds, a_merge_comes_out_as_worked_by_hand, a_new_file_is_sound,
     a_quiet_directory_is_exact, a_stale_depth_still_leads, an_entry_leads_to_its_bucket,
     burying_the_right_page_keeps_the_file, copying_the_directory_keeps_the_file,
     each_page_has_one_role, files_made_by_hand_are_sound, freeing_the_right_page_keeps_the_file,

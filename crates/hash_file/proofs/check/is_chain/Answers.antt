@@ -1,12 +1,9 @@
 use Rattle.std.proofs.Common.{ℕ, ◌≡◌, ◌+◌, [], List, take, slice_index_or, refl, sym, ap, subst, ◌∙◌}
 use Rattle.std.proofs.lemmas.Bool.{eqb-true, eq-eqb}
 use Rattle.std.proofs.lemmas.List.{take_all}
-use Rattle.positions.specs.declared.pseudokey.TheConstants.{POSITIONS}
 use Rattle.positions.specs.Ranges.{stop_of}
-use Rattle.hash_file.specs.declared.page.Page.{Page}
 use Rattle.hash_file.specs.declared.page.Page.TheVariants as pages
 use Rattle.hash_file.specs.declared.page.Shape.{Shape}
-use Rattle.hash_file.specs.Chain.{IsChain}
 use Rattle.hash_file.specs.Skeletons.{shape_of, skeleton}
 use Rattle.hash_file.specs.Store.{Store, range_at, next_at}
 use Rattle.hash_file.proofs.Checking.{IsChainTo, chain_grown, chain_continues, chain_ends, range_is, next_is, with_root, without_root}
