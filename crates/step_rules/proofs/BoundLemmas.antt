@@ -1,5 +1,5 @@
 -- How far an entry is from the bucket of a pseudokey, that was found by a depth read before.
-use Rattle.std.proofs.Common.{◌≡◌, ◌≤◌, ◌+◌, ◌-◌, ◌%◌, ◌^◌, ℕ, suc, Bool, if◌then◌else◌, ap, ◌∙◌, inl, arith}
+use Rattle.std.proofs.Common.{subst, ◌≡◌, ◌≤◌, ◌+◌, ◌-◌, ◌%◌, ◌^◌, ℕ, suc, Bool, if◌then◌else◌, ap, ◌∙◌, inl, arith}
 use Rattle.positions.specs.declared.pseudokey.TheConstants.{POSITIONS}
 use Rattle.positions.specs.Positions.{position_of}
 use Rattle.positions.specs.Ranges.{start_of}
@@ -11,8 +11,11 @@ use Rattle.bucket_page.specs.declared.record_key.RecordKey.{RecordKey}
 use Rattle.hash_file.specs.Store.{Store, entry_at, has_bucket, range_at, next_at}
 use Rattle.hash_file.specs.Chain.{chain, IsChain, IsBucketOn}
 use Rattle.hash_file.specs.Search.{reach, Leads, distance}
+use Rattle.hash_file.specs.Change.{Quiet}
+use Rattle.hash_file.specs.Sound.{IsSound}
 use Rattle.hash_file.specs.Looks.{Answers}
 use Rattle.hash_file.proofs.Chains.{bucket_found, has_position}
+use Rattle.hash_file.proofs.Ties.{quiet_exact}
 use Rattle.hash_file.proofs.Searches.{bucket_leads, entries_lead, stale_depths_lead, hops_lead_on}
 use Rattle.step_rules.specs.declared.kind.Kind.{Kind}
 use Rattle.step_rules.specs.World.{World}
@@ -108,6 +111,16 @@ entry_is_near hash seat w d k sound deep =
     let whole : begun_at w.store (position_of k) - begun_at w.store (reach w.store e) + last
     ≤ begun_at w.store (position_of k) - begun_at w.store (position_of i) + 1 = omega (arith, near, first, further) in
     whole
+
+-- while no change is under way the entry is the bucket of the low bits
+pub entry_is_there : (hash : RecordKey → ℕ) (seat : ℕ) (w : World) (d k : ℕ) → IsSoundWorld hash w →
+    Holds seat w (Deep d) → w.change ≡ Quiet →
+    distance w.store (entry_at w.store (k % 2 ^ d)) k ≤ hops_between w.store d k
+entry_is_there hash seat w d k sound deep quiet =
+    let i : ℕ = k % 2 ^ d in
+    let exact = quiet_exact hash w.store (subst (IsSound hash w.store) quiet sound.file) in
+    let named = exact.entries i (low_bits_below k d w.store.header.depth deep.1) in
+    omega (arith, way_from w.store (entry_at w.store i) i k sound.file.chained named)
 
 pub hop_is_nearer : (hash : RecordKey → ℕ) (w : World) (page k : ℕ) → IsSoundWorld hash w →
     Leads w.store w.change page k → (Answers w.store page k → ⊥) →

@@ -1,5 +1,5 @@
--- A search makes one hop more, at most, than the steps of others may have added.
-use Rattle.std.proofs.Common.{◌≡◌, ◌≢◌, ◌≤◌, ◌+◌, [], ◌∷◌, ◌++◌, ℕ, suc, sym, ◌∙◌, subst, inr, arith}
+-- A search makes no more hops than the steps of others may have added, but for one at a late entry.
+use Rattle.std.proofs.Common.{inl, ◌≡◌, ◌≢◌, ◌≤◌, ◌+◌, [], ◌∷◌, ◌++◌, ℕ, suc, sym, ◌∙◌, subst, inr, arith}
 use Rattle.bucket_page.specs.declared.record_key.RecordKey.{RecordKey}
 use Rattle.page_locks.specs.declared.lock.LockKind.{LockKind}
 use Rattle.page_locks.specs.declared.lock.LockName.{LockName}
@@ -23,7 +23,7 @@ use Rattle.step_rules.proofs.KindLemmas.{kind_keeps}
 use Rattle.step_rules.proofs.OwnLemmas.{entry_read_leads, hop_is_led_on, own_grant_keeps}
 use Rattle.step_rules.proofs.BuddyLemmas.{hop_goes_elsewhere}
 use Rattle.step_rules.proofs.WayLemmas.{kind_lengthens}
-use Rattle.step_rules.proofs.BoundLemmas.{depth_is_exact, kind_parts, entry_is_near, hop_is_nearer}
+use Rattle.step_rules.proofs.BoundLemmas.{depth_is_exact, kind_parts, entry_is_near, entry_is_there, hop_is_nearer}
 
 -- what a seat that has read the depth may count on
 record HasNear (hash : RecordKey → ℕ) (seat k depth : ℕ) (w : World) (added : ℕ) : Type 0 where
@@ -48,10 +48,10 @@ has_near hash seat k depth _ _ (Beside old new added other kind before apart doe
     }
 
 -- and one that has come to a page
-record IsOnItsWay (hash : RecordKey → ℕ) (seat k : ℕ) (w : World) (page hops added : ℕ) : Type 0 where
+record IsOnItsWay (hash : RecordKey → ℕ) (seat k late : ℕ) (w : World) (page hops added : ℕ) : Type 0 where
   pub sound : IsSoundWorld hash w
   pub leads : Holds seat w (LeadsTo page k)
-  pub near : hops + distance w.store page k ≤ added + 1
+  pub near : hops + distance w.store page k ≤ added + late
 
 -- it holds the page that it hopped to
 hop_holds : (seat page : ℕ) (old new : World) (kind : LockKind) → next_at old.store page ≢ page →
@@ -67,17 +67,20 @@ hop_holds seat page old new kind other g =
     (IsHeld-some (without_lock t seat (Page page)) seat further kind
     (kept ∙ held-grant old.locks seat g.seated further kind g.fresh))
 
-on_its_way : (hash : RecordKey → ℕ) (seat k : ℕ) (w : World) (page hops added : ℕ) →
-    HasCome hash seat k w page hops added → IsOnItsWay hash seat k w page hops added
-on_its_way hash seat k _ _ _ _ (Entered w depth added read) =
+on_its_way : (hash : RecordKey → ℕ) (seat k late : ℕ) (w : World) (page hops added : ℕ) →
+    HasCome hash seat k late w page hops added → IsOnItsWay hash seat k late w page hops added
+on_its_way hash seat k late _ _ _ _ (Entered w depth added read entered) =
     let was = has_near hash seat k depth w added read in
     record {
       sound = was.sound;
       leads = entry_read_leads hash seat w depth k was.sound was.deep;
-      near = omega (arith, was.near, entry_is_near hash seat w depth k was.sound was.deep);
+      near = elim entered [
+        | inl is ↦ omega (arith, is, was.near, entry_is_near hash seat w depth k was.sound was.deep)
+        | inr quiet ↦ omega (arith, was.near, entry_is_there hash seat w depth k was.sound was.deep quiet)
+      ];
     }
-on_its_way hash seat k _ _ _ _ (Waited old new page hops added other kind before apart does) =
-    let was = on_its_way hash seat k old page hops added before in
+on_its_way hash seat k late _ _ _ _ (Waited old new page hops added other kind before apart does) =
+    let was = on_its_way hash seat k late old page hops added before in
     let keeps = kind_keeps kind hash other old new was.sound does in
     record {
       sound = keeps.sound;
@@ -88,22 +91,22 @@ on_its_way hash seat k _ _ _ _ (Waited old new page hops added other kind before
         kind_lengthens kind hash other seat old new page k was.sound does apart was.leads.0 was.leads.1,
       );
     }
-on_its_way hash seat k _ _ _ _ (Took old new page hops added before g) =
-    let was = on_its_way hash seat k old page hops added before in
+on_its_way hash seat k late _ _ _ _ (Took old new page hops added before g) =
+    let was = on_its_way hash seat k late old page hops added before in
     record {
       sound = (kind_keeps Grant hash seat old new was.sound g).sound;
       leads = own_grant_keeps seat old new g (LeadsTo page k) was.leads;
-      near = subst (λ (w : World). hops + distance w.store page k ≤ added + 1) (sym g.is) was.near;
+      near = subst (λ (w : World). hops + distance w.store page k ≤ added + late) (sym g.is) was.near;
     }
-on_its_way hash seat k _ _ _ _ (Gave old new page hops added before r aim) =
-    let was = on_its_way hash seat k old page hops added before in
+on_its_way hash seat k late _ _ _ _ (Gave old new page hops added before r aim) =
+    let was = on_its_way hash seat k late old page hops added before in
     record {
       sound = (kind_keeps Release hash seat old new was.sound r).sound;
       leads = (aim, subst (λ (w : World). Leads w.store w.change page k) (sym r.is) was.leads.1);
-      near = subst (λ (w : World). hops + distance w.store page k ≤ added + 1) (sym r.is) was.near;
+      near = subst (λ (w : World). hops + distance w.store page k ≤ added + late) (sym r.is) was.near;
     }
-on_its_way hash seat k _ _ _ _ (Hopped old new page hops added kind before had other g) =
-    let was = on_its_way hash seat k old page hops added before in
+on_its_way hash seat k late _ _ _ _ (Hopped old new page hops added kind before had other g) =
+    let was = on_its_way hash seat k late old page hops added before in
     let elsewhere = hop_goes_elsewhere hash old page k was.sound was.leads.1 other in
     let does : Hops seat old new = record {
       page = page;
@@ -115,17 +118,17 @@ on_its_way hash seat k _ _ _ _ (Hopped old new page hops added kind before had o
     } in
     let nearer = hop_is_nearer hash old page k was.sound was.leads.1 other in
     let further : ℕ = next_at old.store page in
-    let short : suc hops + distance old.store further k ≤ added + 1 = omega (arith, was.near, nearer) in
+    let short : suc hops + distance old.store further k ≤ added + late = omega (arith, was.near, nearer) in
     record {
       sound = (kind_keeps Hop hash seat old new was.sound does).sound;
       leads = (
         inr (hop_holds seat page old new kind elsewhere g),
         hop_is_led_on hash seat old new page k kind was.sound was.leads.1 other g,
       );
-      near = subst (λ (w : World). suc hops + distance w.store further k ≤ added + 1) (sym g.is) short;
+      near = subst (λ (w : World). suc hops + distance w.store further k ≤ added + late) (sym g.is) short;
     }
 
-pub search_hops_little : (hash : RecordKey → ℕ) (seat k : ℕ) (w : World) (page hops added : ℕ) →
-    HasCome hash seat k w page hops added → hops ≤ added + 1
-search_hops_little hash seat k w page hops added come =
-    omega (arith, (on_its_way hash seat k w page hops added come).near)
+pub search_hops_little : (hash : RecordKey → ℕ) (seat k late : ℕ) (w : World) (page hops added : ℕ) →
+    HasCome hash seat k late w page hops added → hops ≤ added + late
+search_hops_little hash seat k late w page hops added come =
+    omega (arith, (on_its_way hash seat k late w page hops added come).near)

@@ -4,7 +4,7 @@ use Rattle.step_rules.proofs.laws.a_search_hops_once_more_at_most.Goals as goal
 
 pub returns : goal.returns
 returns c = record {
-  search = λ hash seat k w page hops added come. search_hops_little hash seat k w page hops added come;
+  search = λ hash seat k late w page hops added come. search_hops_little hash seat k late w page hops added come;
   depth = λ hash w k sound. depth_is_exact hash w k sound;
   parts = λ kind hash seat i old new depth k sound does apart there.
       kind_parts kind hash seat i old new depth k sound does apart there;
