@@ -1,0 +1,5 @@
+use Rattle.hash_file.proofs.OffChain.{write_free_keeps}
+use Rattle.hash_file.proofs.laws.freeing_the_right_page_keeps_the_file.Goals as goal
+
+pub returns : goal.returns
+returns c = write_free_keeps

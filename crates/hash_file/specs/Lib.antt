@@ -1,0 +1,16 @@
+pub mod Store
+pub mod Chain
+pub mod Change
+pub mod Search
+pub mod Phases
+pub mod Sound
+pub mod Changes
+pub mod Kept
+pub mod Laws
+pub mod Words
+pub mod Looks
+pub mod Examples
+pub mod WrongChanges
+pub mod Skeletons
+pub mod Hops
+pub mod New

@@ -1,0 +1,68 @@
+-- A sound file in plain words, beside the working forms.
+use Rattle.std.specs.Prelude.{ℕ, ◌≡◌, ◌≢◌, ◌<◌, ◌≤◌, ◌⊎◌, ◌↔◌, true, Some, List, ◌∷◌, ◌++◌, length}
+use Rattle.std.specs.List.{AllPairs, Contains}
+use Rattle.positions.specs.Links.{Links}
+use Rattle.positions.specs.Partition.{IsPartition}
+use Rattle.bucket_page.specs.declared.record_key.RecordKey.{RecordKey}
+use Rattle.bucket_page.specs.Records.{Pair, pair}
+use Rattle.hash_file.specs.Store.{Store, has_bucket, bucket_at, range_at, next_at}
+use Rattle.hash_file.specs.Chain.{chain, contents, pairs, IsChain, IsBucketOf}
+use Rattle.hash_file.specs.Change.{Change, Quiet, owned}
+use Rattle.hash_file.specs.Search.{Leads}
+use Rattle.hash_file.specs.Sound.{HasLayout, IsFreeList, IsSound, IsExact}
+
+-- the live buckets, from the root on, end; patterns ascend in bit-reversed order, and each pseudokey is in the range
+-- of exactly one; none is deeper than the directory
+pub record IsWellFormed (s : Store) : Type 0 where
+  pub ends : Links (next_at s) s.layout.root (chain s) 0
+  pub buckets : (n : ℕ) → Contains (chain s) n → has_bucket s n ≡ true
+  pub partition : IsPartition (range_at s) (chain s)
+  pub shallow : (n : ℕ) → Contains (chain s) n → (bucket_at s n).depth ≤ s.header.depth
+
+abbrev pub ChainIsWellFormed : Type 0
+ChainIsWellFormed = (s : Store) → IsChain s (chain s) ↔ IsWellFormed s
+
+-- pages that a chain is made of are all that is met from the root on
+abbrev pub ChainIsMet : Type 0
+ChainIsMet = (s : Store) (ns : List ℕ) → HasLayout s → IsChain s ns → chain s ≡ ns
+
+-- exactly one of three
+pub data IsOneOf (A B C : Type 0) : Type 0 where
+  First : A → (B → ⊥) → (C → ⊥) → IsOneOf A B C
+  Second : B → (A → ⊥) → (C → ⊥) → IsOneOf A B C
+  Third : C → (A → ⊥) → (B → ⊥) → IsOneOf A B C
+
+-- each page from the root on is live, free or owned by the change, and just one of these; and only such are
+pub record HasOneRole (s : Store) (c : Change) (spares : List ℕ) : Type 0 where
+  pub each : (n : ℕ) → s.layout.root ≤ n → n < length s.pages →
+      IsOneOf (Contains (chain s) n) (Contains spares n) (Contains (owned c) n)
+  pub only : (n : ℕ) → Contains (chain s) n ⊎ (Contains spares n ⊎ Contains (owned c) n) →
+      (s.layout.root ≤ n) × (n < length s.pages)
+  -- neither the chain nor the free list meets a page twice
+  pub chain_once : AllPairs (λ (m n : ℕ). m ≢ n) (chain s)
+  pub spares_once : AllPairs (λ (m n : ℕ). m ≢ n) spares
+
+abbrev pub RolesAreOne : Type 0
+RolesAreOne = (hash : RecordKey → ℕ) (s : Store) (c : Change) → IsSound hash s c →
+    (spares : List ℕ) × IsFreeList s spares × HasOneRole s c spares
+
+abbrev pub QuietIsExact : Type 0
+QuietIsExact = (hash : RecordKey → ℕ) (s : Store) → IsSound hash s Quiet → IsExact s
+
+-- no two records of the file have one key, and the value at a key is that of its record
+pub record HasContents (s : Store) : Type 0 where
+  pub distinct : AllPairs (λ (p q : Pair). p.key ≢ q.key) (pairs s)
+  pub pairs : (key : RecordKey) (value : List ℕ) →
+      (contents s key ≡ Some value) ↔ Contains (pairs s) (pair key value)
+
+abbrev pub ContentsArePairs : Type 0
+ContentsArePairs = (hash : RecordKey → ℕ) (s : Store) (c : Change) → IsSound hash s c → HasContents s
+
+-- the bucket of a pseudokey is page n of the chain, or stands behind it
+abbrev pub StandsAtOrBefore : Store → ℕ → ℕ → Type 0
+StandsAtOrBefore s n k = (front : List ℕ) × (back : List ℕ) × (m : ℕ) ×
+    (chain s ≡ front ++ n ∷ back) × Contains (n ∷ back) m × IsBucketOf s k m
+
+abbrev pub LeadingIsStandingBefore : Type 0
+LeadingIsStandingBefore = (hash : RecordKey → ℕ) (s : Store) (c : Change) (n k : ℕ) → IsSound hash s c →
+    Contains (chain s) n → Leads s c n k ↔ StandsAtOrBefore s n k

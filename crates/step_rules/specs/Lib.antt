@@ -1,0 +1,15 @@
+pub mod Kinds
+pub mod World
+pub mod Sound
+pub mod Structure
+pub mod Ids
+pub mod Known
+pub mod Leaves
+pub mod LockSteps
+pub mod PageSteps
+pub mod Does
+pub mod OnePage
+pub mod Laws
+pub mod Learns
+pub mod Ways
+pub mod Walks

@@ -1,0 +1,61 @@
+//! The laws of steps. Each stands on the contract of a function that does nothing.
+
+ghost use Rattle.step_rules.specs.declared.kind.Kind.{Kind};
+ghost use Rattle.step_rules.specs.OnePage.{KindChangesLittle};
+ghost use Rattle.step_rules.specs.Walks.{SearchHopsLittle};
+ghost use Rattle.step_rules.specs.Ways.{KindLengthens, SchedulesLengthen, DepthIsExact, KindParts, EntryIsNear, HopIsNearer};
+ghost use Rattle.step_rules.specs.Laws.{OthersKnow, KindKeeps, KindKeepsContents, WriteChangesOneRecord, SchedulesKeepSound, SchedulesKeepKnowledge, RestIsSound, RestIsQuiet};
+
+/// What a seat knows is still so after a step of another seat, by what that step leaves.
+pub fn others_keep_what_they_know()
+    ensures { OthersKnow }
+{}
+
+/// A step of any kind keeps the world sound, and leaves the others what they know.
+pub fn each_kind_leaves_what_others_know()
+    ensures { (kind : Kind) → KindKeeps kind }
+{}
+
+/// A step changes what the file holds only where it writes a record, and then that one record.
+pub fn only_a_written_record_changes_what_the_file_holds()
+    ensures others { (kind : Kind) → KindKeepsContents kind }
+    ensures written { WriteChangesOneRecord }
+{}
+
+/// However the steps of seats fall between one another, the world stays sound, and a seat that stands still knows what
+/// it knew.
+pub fn every_schedule_keeps_what_is_known()
+    ensures sound { SchedulesKeepSound }
+    ensures known { SchedulesKeepKnowledge }
+{}
+
+/// Another seat's way to a bucket grows by a hop at most at a WriteOld and a Tombstone, and by none at any other step.
+/// So in every schedule a seat that stands on a page has as many hops more to make, at most, as there were such steps.
+pub fn two_kinds_lengthen_a_way_by_a_hop()
+    ensures step { (kind : Kind) → KindLengthens kind }
+    ensures schedule { SchedulesLengthen }
+{}
+
+/// In every schedule a search makes no more hops than there were WriteOld and Tombstone steps of other seats since it read
+/// the depth, and one besides where a change was under way as it read its entry. For by that depth no bucket is on the
+/// way, the entry is late by one at most, each such step adds one at most, and each hop comes one nearer.
+pub fn a_search_hops_once_more_at_most()
+    ensures search { SearchHopsLittle }
+    ensures depth { DepthIsExact }
+    ensures parts { (kind : Kind) → KindParts kind }
+    ensures entry { EntryIsNear }
+    ensures hop { HopIsNearer }
+{}
+
+/// Where no seat holds a lock the world is sound exactly where the file is, with no change under way. So schedules may
+/// begin at a sound file, and leave one where every seat has given its locks back.
+pub fn a_world_at_rest_is_a_quiet_file()
+    ensures sound { RestIsSound }
+    ensures quiet { RestIsQuiet }
+{}
+
+/// A step changes the one page that its kind names, or none, and no other; and it changes what its seat holds of one
+/// name at most, or for a hop exchanges one page for the next.
+pub fn a_step_changes_one_page_and_one_lock_at_most()
+    ensures { (kind : Kind) → KindChangesLittle kind }
+{}
