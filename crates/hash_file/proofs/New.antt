@@ -1,17 +1,17 @@
 -- A new file is sound.
-use Rattle.std.proofs.Common.{ℕ, zero, suc, ◌≡◌, ◌≢◌, ◌+◌, ◌-◌, ◌<◌, ◌≤◌, ◌^◌, ◌==◌, List, [], ◌∷◌, ◌++◌, true, false, length, ltb, arith, refl, sym, ap, subst, ◌∙◌, inl, inr, if◌then◌else◌}
+use Rattle.std.proofs.Common.{ℕ, zero, suc, ◌≡◌, ◌+◌, ◌-◌, ◌<◌, ◌≤◌, ◌^◌, ◌==◌, List, [], ◌∷◌, ◌++◌, true, length, ltb, arith, refl, sym, ap, subst, ◌∙◌, inl, inr, if◌then◌else◌}
 use Rattle.std.specs.List.{Contains}
 use Rattle.std.proofs.lemmas.Bool.{cases_lt, cases_eq, eq-eqb, ne_eqb, le-leb, lt-leb, lt-ltb, le-ltb}
 use Rattle.positions.specs.declared.range.Range.{Range}
 use Rattle.positions.specs.Ranges.{Covers, whole_range}
 use Rattle.positions.specs.Links.{Links}
-use Rattle.positions.proofs.MemberLaws.{contains_head, contains_tail, contains_cases, contains_none}
+use Rattle.positions.proofs.MemberLaws.{contains_head, contains_cases, contains_none}
 use Rattle.positions.proofs.TileLaws.{tiles_whole}
 use Rattle.bucket_page.specs.declared.record_key.RecordKey.{RecordKey}
 use Rattle.bucket_page.specs.declared.page.PageKind.{PageKind}
 use Rattle.bucket_page.specs.declared.page.PageKind.TheVariants as kinds
-use Rattle.bucket_page.specs.Records.{Pair, lookup}
-use Rattle.hash_file.specs.Store.{Store, page_at, is_bucket, bucket_of, range_of, entry_at, has_bucket, bucket_at, range_at, records_at, next_at, IsFreePage}
+use Rattle.bucket_page.specs.Records.{lookup}
+use Rattle.hash_file.specs.Store.{Store, page_at, is_bucket, bucket_of, range_of, has_bucket, bucket_at, range_at, records_at, next_at}
 use Rattle.hash_file.specs.Chain.{IsChain, IsPlaced, times, number_on, pairs_on}
 use Rattle.hash_file.specs.Change.{Quiet}
 use Rattle.hash_file.specs.Sound.{IsSoundOn, HasEntry, is_numbered}
