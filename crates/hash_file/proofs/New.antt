@@ -37,7 +37,8 @@ bounds a (suc n) m c = elim (contains_cases a m (numbers (suc a) n) c) [
 times_low : (a n m : ℕ) → m < a → times m (numbers a n) ≡ 0
 unfolding numbers
 times_low a zero m low = refl
-times_low a (suc n) m low = rw (ne_eqb a m (omega (arith, low))) (omega (arith, times_low (suc a) n m (omega (arith, low))))
+times_low a (suc n) m low =
+    rw (ne_eqb a m (omega (arith, low))) (omega (arith, times_low (suc a) n m (omega (arith, low))))
 
 times_high : (a n m : ℕ) → a + n ≤ m → times m (numbers a n) ≡ 0
 unfolding numbers
@@ -113,7 +114,8 @@ module _ (hash : RecordKey → ℕ) (s : Store) (new : IsNew hash s) where
                 let alone : times n (s.layout.root ∷ []) ≡ 1 = rw (eq-eqb s.layout.root n same) refl in
                 rw (le-leb s.layout.root n from, lt-ltb n (length s.pages) within) (omega (arith, sum, off, alone)))
             | inr other ↦ (
-                let on = times_in (suc s.layout.root) (length s.pages - suc s.layout.root) n (omega (arith, from, other))
+                let on = times_in (suc s.layout.root) (length s.pages - suc s.layout.root) n
+                (omega (arith, from, other))
                 (omega (arith, within, new.within)) in
                 let alone : times n (s.layout.root ∷ []) ≡ 0 = rw (ne_eqb s.layout.root n other) refl in
                 rw (le-leb s.layout.root n from, lt-ltb n (length s.pages) within) (omega (arith, sum, on, alone)))
