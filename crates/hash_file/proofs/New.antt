@@ -1,17 +1,17 @@
 -- A new file is sound.
-use Rattle.std.proofs.Common.{ℕ, zero, suc, ◌≡◌, ◌≢◌, ◌+◌, ◌-◌, ◌<◌, ◌≤◌, ◌^◌, ◌==◌, List, [], ◌∷◌, ◌++◌, true, false, length, ltb, arith, refl, sym, ap, subst, ◌∙◌, inl, inr, if◌then◌else◌}
+use Rattle.std.proofs.Common.{ℕ, zero, suc, ◌≡◌, ◌+◌, ◌-◌, ◌<◌, ◌≤◌, ◌^◌, ◌==◌, List, [], ◌∷◌, ◌++◌, true, length, ltb, arith, refl, sym, ap, subst, ◌∙◌, inl, inr, if◌then◌else◌}
 use Rattle.std.specs.List.{Contains}
 use Rattle.std.proofs.lemmas.Bool.{cases_lt, cases_eq, eq-eqb, ne_eqb, le-leb, lt-leb, lt-ltb, le-ltb}
 use Rattle.positions.specs.declared.range.Range.{Range}
 use Rattle.positions.specs.Ranges.{Covers, whole_range}
 use Rattle.positions.specs.Links.{Links}
-use Rattle.positions.proofs.MemberLaws.{contains_head, contains_tail, contains_cases, contains_none}
+use Rattle.positions.proofs.MemberLaws.{contains_head, contains_cases, contains_none}
 use Rattle.positions.proofs.TileLaws.{tiles_whole}
 use Rattle.bucket_page.specs.declared.record_key.RecordKey.{RecordKey}
 use Rattle.bucket_page.specs.declared.page.PageKind.{PageKind}
 use Rattle.bucket_page.specs.declared.page.PageKind.TheVariants as kinds
-use Rattle.bucket_page.specs.Records.{Pair, lookup}
-use Rattle.hash_file.specs.Store.{Store, page_at, is_bucket, bucket_of, range_of, entry_at, has_bucket, bucket_at, range_at, records_at, next_at, IsFreePage}
+use Rattle.bucket_page.specs.Records.{lookup}
+use Rattle.hash_file.specs.Store.{Store, page_at, is_bucket, bucket_of, range_of, has_bucket, bucket_at, range_at, records_at, next_at}
 use Rattle.hash_file.specs.Chain.{IsChain, IsPlaced, times, number_on, pairs_on}
 use Rattle.hash_file.specs.Change.{Quiet}
 use Rattle.hash_file.specs.Sound.{IsSoundOn, HasEntry, is_numbered}
@@ -37,7 +37,8 @@ bounds a (suc n) m c = elim (contains_cases a m (numbers (suc a) n) c) [
 times_low : (a n m : ℕ) → m < a → times m (numbers a n) ≡ 0
 unfolding numbers
 times_low a zero m low = refl
-times_low a (suc n) m low = rw (ne_eqb a m (omega (arith, low))) (omega (arith, times_low (suc a) n m (omega (arith, low))))
+times_low a (suc n) m low =
+    rw (ne_eqb a m (omega (arith, low))) (omega (arith, times_low (suc a) n m (omega (arith, low))))
 
 times_high : (a n m : ℕ) → a + n ≤ m → times m (numbers a n) ≡ 0
 unfolding numbers
@@ -113,7 +114,8 @@ module _ (hash : RecordKey → ℕ) (s : Store) (new : IsNew hash s) where
                 let alone : times n (s.layout.root ∷ []) ≡ 1 = rw (eq-eqb s.layout.root n same) refl in
                 rw (le-leb s.layout.root n from, lt-ltb n (length s.pages) within) (omega (arith, sum, off, alone)))
             | inr other ↦ (
-                let on = times_in (suc s.layout.root) (length s.pages - suc s.layout.root) n (omega (arith, from, other))
+                let on = times_in (suc s.layout.root) (length s.pages - suc s.layout.root) n
+                (omega (arith, from, other))
                 (omega (arith, within, new.within)) in
                 let alone : times n (s.layout.root ∷ []) ≡ 0 = rw (ne_eqb s.layout.root n other) refl in
                 rw (le-leb s.layout.root n from, lt-ltb n (length s.pages) within) (omega (arith, sum, on, alone)))

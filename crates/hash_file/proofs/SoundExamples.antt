@@ -1,18 +1,18 @@
 -- The small files made by hand are sound: the first by itself, each other by the law of the change that made it.
-use Rattle.std.proofs.Common.{ℕ, zero, suc, ◌≡◌, ◌+◌, ◌<◌, ◌≤◌, [], ◌∷◌, true, arith, refl, sym, subst, inl, inr, if◌then◌else◌}
+use Rattle.std.proofs.Common.{ℕ, zero, suc, ◌≡◌, ◌+◌, ◌<◌, ◌≤◌, ◌==◌, [], ◌∷◌, arith, refl, sym, subst, inl, inr, if◌then◌else◌}
 use Rattle.std.specs.List.{Contains}
-use Rattle.std.proofs.lemmas.Bool.{cases_eq, cases_lt, ne_eqb, le-leb, lt-leb, le-ltb}
+use Rattle.std.proofs.lemmas.Bool.{cases_eq}
 use Rattle.positions.specs.Ranges.{Covers, whole_range, upper_half_of}
-use Rattle.positions.proofs.MemberLaws.{contains_head, contains_tail, contains_cases, contains_none}
-use Rattle.positions.proofs.TileLaws.{tiles_whole}
+use Rattle.positions.proofs.MemberLaws.{contains_head, contains_tail, contains_none}
 use Rattle.bucket_page.specs.Keys.{is_below}
-use Rattle.hash_file.specs.Store.{Store, has_bucket, bucket_at, range_at, entry_at, count_at, IsFreePage}
-use Rattle.hash_file.specs.Chain.{chain, times, number_on, IsPlaced}
+use Rattle.hash_file.specs.Store.{Store, page_at, entry_at, count_at}
+use Rattle.hash_file.specs.Chain.{chain}
 use Rattle.hash_file.specs.Change.{Quiet}
-use Rattle.hash_file.specs.Sound.{IsSoundOn, HasEntry, is_numbered}
 use Rattle.hash_file.specs.Changes.{Put, take_page, copy_directory, retarget}
 use Rattle.hash_file.specs.Examples.{AreSound, number_of, one, first, doubled, filled, linked, retargeted, split, with_3, absorbed, buried, drained, freed, merged_whole}
-use Rattle.hash_file.proofs.Frames.{sound_by}
+use Rattle.hash_file.specs.New.{IsNew, follower}
+use Rattle.bucket_page.specs.declared.page.PageKind.TheVariants as kinds
+use Rattle.hash_file.proofs.New.{new_sound}
 use Rattle.hash_file.proofs.WriteRecord.{writes_record}
 use Rattle.hash_file.proofs.TakePage.{take_page_keeps, link_free_keeps}
 use Rattle.hash_file.proofs.Doubling.{copy_directory_keeps, raise_depth_keeps, lower_depth_keeps}
@@ -21,67 +21,32 @@ use Rattle.hash_file.proofs.OffChain.{write_new_keeps, write_tombstone_keeps, wr
 use Rattle.hash_file.proofs.Splitting.{write_old_keeps}
 use Rattle.hash_file.proofs.Merging.{write_left_keeps}
 
--- what holds of the one member of a list holds of its members
-at_one : (P : ℕ → Type 0) (m n : ℕ) → P m → Contains (m ∷ []) n → P n
-at_one P m n p c = elim (contains_cases m n [] c) [ inl same ↦ subst P same p | inr d ↦ absurd (contains_none n d) ]
+-- its pages behind the root are free, in ascending order
+abbrev IsNext : ℕ → Type 0
+IsNext n = page_at first n ≡ kinds.Free (follower first n)
 
-first_free : (n : ℕ) → Contains (258 ∷ 259 ∷ 260 ∷ []) n → IsFreePage first n
-first_free n c = elim (contains_cases 258 n (259 ∷ 260 ∷ []) c) [
-  | inl same ↦ subst (IsFreePage first) same refl
-  | inr d ↦ elim (contains_cases 259 n (260 ∷ []) d) [
-    | inl same ↦ subst (IsFreePage first) same refl
-    | inr e ↦ at_one (IsFreePage first) 260 n refl e
-  ]
-]
-
-abbrev HasRole : ℕ → Type 0
-HasRole n = times n (257 ∷ 258 ∷ 259 ∷ 260 ∷ []) ≡ (if is_numbered first n then 1 else 0)
-
-first_roles : (n : ℕ) → HasRole n
-first_roles n = elim (cases_lt n 257) [
-  | inl low ↦ rw (
-    ne_eqb 257 n (omega (arith, low)),
-    ne_eqb 258 n (omega (arith, low)),
-    ne_eqb 259 n (omega (arith, low)),
-    ne_eqb 260 n (omega (arith, low)),
-    lt-leb 257 n low,
-  ) refl
-  | inr high ↦ elim (cases_eq 257 n) [
-    | inl same ↦ subst HasRole same refl
-    | inr a ↦ elim (cases_eq 258 n) [
-      | inl same ↦ subst HasRole same refl
-      | inr b ↦ elim (cases_eq 259 n) [
-        | inl same ↦ subst HasRole same refl
-        | inr c ↦ elim (cases_eq 260 n) [
-          | inl same ↦ subst HasRole same refl
-          | inr d ↦ rw (
-            ne_eqb 257 n a,
-            ne_eqb 258 n b,
-            ne_eqb 259 n c,
-            ne_eqb 260 n d,
-            le-leb 257 n high,
-            le-ltb n 261 (omega (arith, high, a, b, c, d)),
-          ) refl
-        ]
-      ]
+first_free : (n : ℕ) → 257 < n → n < 261 → IsNext n
+first_free n low high = elim (cases_eq 258 n) [
+  | inl same ↦ subst IsNext same refl
+  | inr a ↦ elim (cases_eq 259 n) [
+    | inl same ↦ subst IsNext same refl
+    | inr b ↦ elim (cases_eq 260 n) [
+      | inl same ↦ subst IsNext same refl
+      | inr c ↦ absurd (omega (arith, low, high, a, b, c))
     ]
   ]
 ]
 
-first_entry : (i : ℕ) → i < 1 → HasEntry first Quiet (257 ∷ []) i
-first_entry zero low = inl (contains_head 257 [], refl)
-first_entry (suc i) low = absurd (omega (arith, low))
-
-first_count : (depth : ℕ) → depth ≤ 3 → count_at first depth + 0 ≡ 0 + number_on first (257 ∷ []) depth
+first_count : (depth : ℕ) → depth ≤ 3 → count_at first depth ≡ (if 0 == depth then 1 else 0)
 first_count zero within = refl
 first_count (suc zero) within = refl
 first_count (suc (suc zero)) within = refl
 first_count (suc (suc (suc zero))) within = refl
 first_count (suc (suc (suc (suc depth)))) within = absurd (omega (arith, within))
 
-first_on : IsSoundOn number_of first Quiet (257 ∷ [])
+first_new : IsNew number_of first
 unfolding is_below
-first_on = record {
+first_new = record {
   layout = record {
     root = omega arith;
     greatest = omega arith;
@@ -91,22 +56,14 @@ first_on = record {
     pages = refl;
     header = refl;
   };
-  chained = record {
-    linked = (refl, refl);
-    tiled = tiles_whole (range_at first) 257 refl;
-    buckets = λ n c. at_one (λ m. has_bucket first m ≡ true) 257 n refl c;
-    shallow = λ n c. at_one (λ m. (bucket_at first m).depth ≤ 0) 257 n (omega arith) c;
-  };
-  placed = λ n c. at_one (λ m. IsPlaced number_of (bucket_at first m)) 257 n (record {
-    within = λ k e lt. omega arith;
-    ascends = refl;
-  }) c;
-  spares = 258 ∷ 259 ∷ 260 ∷ [];
-  spared = record { linked = (refl, (refl, (refl, refl))); free = first_free };
-  roles = first_roles;
-  entries = first_entry;
+  within = omega arith;
+  root = refl;
+  placed = record { within = λ k e lt. omega arith; ascends = refl };
+  depth = refl;
+  entry = refl;
+  first_free = refl;
+  free = first_free;
   counts = first_count;
-  phase = tt;
 }
 
 -- an index of a directory of two that the upper half covers is 1
@@ -129,7 +86,7 @@ pub are_sound : AreSound
 unfolding chain is_below
 are_sound =
     let on : (x y : ℕ) → Contains (x ∷ y ∷ []) x = λ x y. contains_head x (y ∷ []) in
-    let h0 = sound_by number_of first Quiet (257 ∷ []) first_on in
+    let h0 = (new_sound number_of first first_new).sound in
     let h1 = (take_page_keeps number_of first h0 (omega arith)).sound in
     let h2 = (copy_directory_keeps number_of (take_page first) 258 1 h1).sound in
     let h3 = (raise_depth_keeps number_of copied 258 h2 (omega arith) doubled_copy).sound in

@@ -1,12 +1,13 @@
 -- No entry and no next link names a page that is drained.
-use Rattle.std.proofs.Common.{ℕ, ◌≡◌, ◌≢◌, List, [], ◌∷◌, sym, subst, ◌∙◌, ◌⊎◌, inl, inr}
+use Rattle.std.proofs.Common.{ℕ, ◌≡◌, ◌≢◌, List, [], ◌∷◌, sym, subst, ◌∙◌, ◌⊎◌, inl, inr, refl}
 use Rattle.std.specs.List.{Contains}
 use Rattle.positions.specs.Links.{Links}
 use Rattle.positions.proofs.MemberLaws.{contains_head, contains_tail, contains_cases, contains_none}
 use Rattle.bucket_page.specs.declared.record_key.RecordKey.{RecordKey}
 use Rattle.hash_file.specs.Store.{Store, entry_at, next_at}
 use Rattle.hash_file.specs.Chain.{chain}
-use Rattle.hash_file.specs.Change.{Drained}
+use Rattle.hash_file.specs.Change.{Change, Drained, owned, aside}
+use Rattle.hash_file.specs.Search.{Leads}
 use Rattle.hash_file.specs.Sound.{IsSound, HasEntry}
 use Rattle.hash_file.specs.Looks.{HasNoWayIn}
 use Rattle.hash_file.proofs.Roles.{live_not_owned, numbered_positive}
@@ -44,3 +45,10 @@ no_way_in hash s left right h = record {
     named : (i : ℕ) → HasEntry s (Drained left right) (chain s) i → entry_at s i ≢ right
     named i (inl b) = live (entry_at s i) b.0
     named i (inr off) = absurd off
+
+pub owned_leads_nowhere : (hash : RecordKey → ℕ) (s : Store) (c : Change) (n k : ℕ) → IsSound hash s c →
+    Contains (owned c) n → (Contains (aside c) n → ⊥) → Leads s c n k → ⊥
+owned_leads_nowhere hash s c n k h own out l = elim l.stands [
+  | inl on ↦ live_not_owned hash s c (chain s) h n n on own refl
+  | inr off ↦ out off
+]

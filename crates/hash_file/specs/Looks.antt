@@ -6,7 +6,7 @@ use Rattle.bucket_page.specs.Records.{lookup}
 use Rattle.positions.specs.Ranges.{Covers}
 use Rattle.hash_file.specs.Store.{Store, entry_at, has_bucket, range_at, records_at, next_at}
 use Rattle.hash_file.specs.Chain.{chain, contents}
-use Rattle.hash_file.specs.Change.{Change, Drained}
+use Rattle.hash_file.specs.Change.{Change, Drained, owned, aside}
 use Rattle.hash_file.specs.Search.{Leads, distance, IsNearer}
 use Rattle.hash_file.specs.Sound.{IsSound}
 
@@ -45,3 +45,8 @@ pub record HasNoWayIn (s : Store) (n : ℕ) : Type 0 where
 abbrev pub DrainedHasNoWayIn : Type 0
 DrainedHasNoWayIn = (hash : RecordKey → ℕ) (s : Store) (left right : ℕ) → IsSound hash s (Drained left right) →
     HasNoWayIn s right
+
+-- the page that a change owns leads nowhere, but for the one that a merge took aside
+abbrev pub OwnedLeadsNowhere : Type 0
+OwnedLeadsNowhere = (hash : RecordKey → ℕ) (s : Store) (c : Change) (n k : ℕ) → IsSound hash s c →
+    Contains (owned c) n → (Contains (aside c) n → ⊥) → Leads s c n k → ⊥

@@ -4,7 +4,7 @@
 ghost use Rattle.hash_file.specs.Examples.{AreSound, FreedPageTakenAgain, MergeAndHalving, TwoSplits};
 ghost use Rattle.hash_file.specs.Hops.{NoHopMore, OneHopAtMost};
 ghost use Rattle.hash_file.specs.Laws.{CopyDirectoryKeeps, LinkFreeKeeps, LowerDepthKeeps, RaiseDepthKeeps, RetargetKeepsMerge, RetargetKeepsSplit, SetCountsKeepsMerge, SetCountsKeepsSplit, TakePageKeeps, WriteFreeKeeps, WriteLeftKeeps, WriteNewKeeps, WriteOldKeeps, WriteRecordIsOneRecord, WriteTombstoneKeeps};
-ghost use Rattle.hash_file.specs.Looks.{DrainedHasNoWayIn, EntriesLead, HopsLeadOn, LooksAnswer, StaleDepthsLead};
+ghost use Rattle.hash_file.specs.Looks.{DrainedHasNoWayIn, EntriesLead, HopsLeadOn, LooksAnswer, OwnedLeadsNowhere, StaleDepthsLead};
 ghost use Rattle.hash_file.specs.New.{NewFilesAreSound};
 ghost use Rattle.hash_file.specs.Words.{ChainIsMet, ChainIsWellFormed, ContentsArePairs, LeadingIsStandingBefore, QuietIsExact, RolesAreOne};
 ghost use Rattle.hash_file.specs.WrongChanges.{WrongChanges};
@@ -187,4 +187,10 @@ pub fn no_other_change_lengthens_a_way()
 /// A file with one bucket, and all other pages free in ascending order, is sound, and holds the records of its bucket.
 pub fn a_new_file_is_sound()
     ensures { NewFilesAreSound }
+{}
+
+/// The page that a change owns leads nowhere, but for the one that a merge took aside: so no search stands on it, and
+/// none comes there.
+pub fn an_owned_page_leads_nowhere()
+    ensures { OwnedLeadsNowhere }
 {}
