@@ -33,14 +33,16 @@ pub data HasCome (hash : RecordKey → ℕ) (seat k late : ℕ) : World → ℕ 
   -- it locked the page, or gave the directory back
   Took : (old new : World) (page hops added : ℕ) → HasCome hash seat k late old page hops added → Grants seat old new →
       HasCome hash seat k late new page hops added
-  Gave : (old new : World) (page hops added : ℕ) → HasCome hash seat k late old page hops added → Releases seat old new →
+  Gave : (old new : World) (page hops added : ℕ) → HasCome hash seat k late old page hops added →
+      Releases seat old new →
       MayAim new.locks seat page → HasCome hash seat k late new page hops added
   -- it hopped
   Hopped : (old new : World) (page hops added : ℕ) (kind : LockKind) → HasCome hash seat k late old page hops added →
       held old.locks seat (Page page) ≡ Some kind → (Answers old.store page k → ⊥) → GoesOn page kind seat old new →
       HasCome hash seat k late new (next_at old.store page) (suc hops) added
 
--- a search makes no more hops than the others may have added since it read the depth, but for one where its entry was late
+-- a search makes no more hops than the others may have added since it read the depth, but for one where its entry was
+-- late
 abbrev pub SearchHopsLittle : Type 0
 SearchHopsLittle = (hash : RecordKey → ℕ) (seat k late : ℕ) (w : World) (page hops added : ℕ) →
     HasCome hash seat k late w page hops added → hops ≤ added + late

@@ -36,8 +36,8 @@ pub fn two_kinds_lengthen_a_way_by_a_hop()
     ensures schedule { SchedulesLengthen }
 {}
 
-/// In every schedule a search makes no more hops than there were WriteOld and Tombstone steps of other seats since it read
-/// the depth, and one besides where a change was under way as it read its entry. For by that depth no bucket is on the
+/// In every schedule a search makes no more hops than there were WriteOld and Tombstone steps of other seats since it
+/// read the depth, and one besides where a change was under way as it read its entry. For by that depth no bucket is on the
 /// way, the entry is late by one at most, each such step adds one at most, and each hop comes one nearer.
 pub fn a_search_hops_once_more_at_most()
     ensures search { SearchHopsLittle }
