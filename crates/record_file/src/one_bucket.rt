@@ -46,11 +46,7 @@ impl<D: PageDevice> Model for OneBucket<D> {
 impl<D: PageDevice> OneBucket<D> {
     /// Opens the file on a device, with so many frames for its pages. Page 0 is tested first; each
     /// refusal gives the device back.
-    pub fn open(
-        alloc: Global,
-        device: D,
-        frames: usize,
-    ) -> Result<OneBucket<D>, (D, OpenFault)>
+    pub fn open(alloc: Global, device: D, frames: usize) -> Result<OneBucket<D>, (D, OpenFault)>
         ensures ok { IsTrue (D.is_honest device) → IfOk result (Shows (D.content device)) }
         ensures honest { IfOk result (λ file. file.honest ≡ D.is_honest device) }
         ensures few { IsErrAnd result (λ refusal. refusal.1 ≡ OpenFault.TooFewFrames) ↔

@@ -12,7 +12,7 @@ returns c = subst (λ es. SpellsDirectory es c.write_directory.new.payload) entr
     entries : c.if-page-eq-FIRST_DIRECTORY_PAGE.entries ≡ entries_on c.args.page
     entries =
         elim c.if-page-eq-FIRST_DIRECTORY_PAGE.branch [
-          then-page-eq-FIRST_DIRECTORY_PAGE w ↦
+          | then-page-eq-FIRST_DIRECTORY_PAGE w ↦
               w.entries-is ∙ sym (first_entries c.args.page w.if-page-eq-FIRST_DIRECTORY_PAGE.true)
           | else-page-eq-FIRST_DIRECTORY_PAGE w ↦
               w.entries-is ∙ sym (other_entries c.args.page w.if-page-eq-FIRST_DIRECTORY_PAGE.false)

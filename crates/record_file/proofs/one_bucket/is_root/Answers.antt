@@ -13,7 +13,7 @@ returns-in_default-2 c = (λ no. absurd (false_not_true no), λ root. absurd (no
 pub returns-then-pattern-eq0 : goal.returns-then-pattern-eq0
 returns-then-pattern-eq0 c =
     elim c.if-depth-eq0.branch [
-      then-depth-eq0 w ↦
+      | then-depth-eq0 w ↦
           let zero = eqb-true w.pattern.result 0 (sym w.value-is ∙ c.if-pattern-eq0.true) in
           root_test c.args.payload.now c.in-Ok-Bucket.bucket
           (subst (λ (page : PageKind). Spells page c.args.payload.now) c.in-Ok-Bucket.field-0-is c.in-Ok-Bucket.ensures.ok)

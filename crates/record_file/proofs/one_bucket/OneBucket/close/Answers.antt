@@ -9,7 +9,7 @@ use Rattle.record_file.proofs.one_bucket.OneBucket.close.Goals as goal
 pub returns-in-Ok-clause-ok : goal.returns-in-Ok-clause-ok
 returns-in-Ok-clause-ok g c = λ is.
     let honest = subst IsTrue (ap (λ (s : OneBucketState). s.honest) (sym c.self.view_is)
-        ∙ ap (λ (s : PoolState). s.honest) (sym c.unpin.ensures)) is in
+    ∙ ap (λ (s : PoolState). s.honest) (sym c.unpin.ensures)) is in
     subst (Leaves c.args.self) (sym c.into_device-device.ensures.content)
     (leaves c.self.inside.pool c.self.inside.root c.in-Some.root c.args.self c.flush-flushed.new.self.stored
     c.self.view_is c.in-Some.is c.self.invariant
