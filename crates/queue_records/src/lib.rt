@@ -19,6 +19,7 @@ mod value;
 pub use bad_record::BadRecord;
 pub use body::Body;
 pub use counter::Counter;
+pub use field::{eight_fits, four_fits, type_fits};
 pub use key_entry::KeyEntry;
 pub use laws::a_spelling_is_of_one_record;
 pub use layout::{COUNTER, KEY, MAX_VALUE_BYTES, MESSAGE, QUEUE, TYPE};

@@ -13,3 +13,4 @@ pub mod Read
 pub mod Spelled
 pub mod OneQueue
 pub mod Sends
+pub mod Fitting

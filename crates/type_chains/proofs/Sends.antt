@@ -1,8 +1,8 @@
 -- What a message that is sent makes of the Queue's record, and its own.
-use Rattle.std.proofs.Common.{◌≡◌, ℕ, zero, suc, ◌+◌, ◌-◌, ◌<◌, ◌≤◌, ℤ, Bool, true, false, cond, List, [], ◌∷◌, ◌++◌, length, map, Option, Some, None, refl, sym, ap, ◌∙◌, get_or, arith}
-use Rattle.std.specs.Prelude.{◌==◌, int_lt, slice_get, unwrap_or}
+use Rattle.std.proofs.Common.{◌≡◌, ℕ, zero, suc, ◌+◌, ◌-◌, ◌<◌, ℤ, Bool, true, false, cond, List, [], ◌∷◌, ◌++◌, length, Some, None, refl, sym, ap, ◌∙◌, get_or, arith}
+use Rattle.std.specs.Prelude.{int_lt, slice_get, unwrap_or}
 use Rattle.std.specs.Int.{int_min}
-use Rattle.std.specs.List.{All, filter, fold, position_or_len}
+use Rattle.std.specs.List.{All, filter, position_or_len}
 use Rattle.std.specs.Ordering.{int_eq}
 use Rattle.std.proofs.lemmas.Bool.Decides.{Decides-eqb, Decides-int_eq, nat_tests}
 use Rattle.std.proofs.lemmas.Int.{ints}

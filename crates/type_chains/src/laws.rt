@@ -6,6 +6,7 @@ ghost use Rattle.queue_model.specs.declared.message.Message.{Message};
 ghost use Rattle.queue_model.specs.declared.queue.Queue.{Queue};
 ghost use Rattle.queue_model.specs.Lawful.{IsLawfulQueue};
 ghost use Rattle.queue_model.specs.State.{State};
+ghost use Rattle.type_chains.specs.Fits.{KeepsFittingNumbers};
 ghost use Rattle.type_chains.specs.Laws.{AgreesWithImage, AreSpelled, HasDistinctKeys, KeepsLimits, StandsAtItsKey, TellsQueue};
 ghost use Rattle.type_chains.specs.Lists.{AreTypesOf, types};
 ghost use Rattle.type_chains.specs.Others.{ChangesOneQueue, IsLocal};
@@ -67,5 +68,11 @@ pub fn a_call_changes_one_queue()
 
 /// After a Send the Queue's record and the new Message's are made of the Queue's record before and the call alone.
 pub fn a_send_is_made_of_the_queues_record()
-    ensures { (pid : ℕ) (a : SendArguments) (q : Queue) → IsLawfulQueue q → IsMadeOfTheQueue pid a q }
+    ensures { (pid : ℕ) (a : SendArguments) (q : Queue) →
+        IsLawfulQueue q → IsMadeOfTheQueue pid a q }
+{}
+
+/// An answered call of which the numbers fit leaves a system of which the numbers fit.
+pub fn calls_keep_numbers_that_fit()
+    ensures { KeepsFittingNumbers }
 {}

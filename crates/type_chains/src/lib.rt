@@ -2,11 +2,13 @@
 
 #![tactic(auto)]
 
+mod fits;
 mod laws;
 
+pub use fits::{a_callers_numbers_fit, a_calls_numbers_fit};
 pub use laws::{
     a_call_changes_one_queue, a_key_tells_its_queue, a_queue_is_read_off_its_record,
-    a_record_stands_at_its_key, a_send_is_made_of_the_queues_record,
+    a_record_stands_at_its_key, a_send_is_made_of_the_queues_record, calls_keep_numbers_that_fit,
     other_queues_keep_their_records, records_are_spelled, records_keep_their_limits,
     records_of_the_image_have_distinct_keys, the_image_is_the_records_at_their_keys,
     the_types_are_those_of_the_messages,
