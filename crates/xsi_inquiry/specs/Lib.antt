@@ -1,0 +1,5 @@
+pub mod Deciding
+pub mod Seeking
+pub mod Sweeping
+pub mod Telling
+pub mod Writing

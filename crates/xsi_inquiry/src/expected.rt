@@ -1,0 +1,76 @@
+//! The record that a key's kind lets expect.
+
+ghost use Rattle.std.specs.Prelude.{◌≡◌, ◌≤◌, IfOk, Ok, length};
+ghost use Rattle.queue_records.specs.declared.message_entry.MessageEntry.{MessageEntry};
+ghost use Rattle.queue_records.specs.declared.record.Record.TheVariants as records;
+
+use crate::held_message::HeldMessage;
+use crate::inquiry::NotASystem;
+use queue_records::{Counter, KeyEntry, MAX_BODY, QueueEntry, Record, TypeEntry};
+
+/// The Counter.
+pub fn counter_in(found: Record<'_>) -> Result<Counter, NotASystem>
+    ensures ok { IfOk result (λ counter. found.entry ≡ records.Counter counter) }
+    ensures only { (counter : Counter) → found.entry ≡ records.Counter counter → result ≡ Ok counter }
+{
+    match found {
+        Record::Counter(counter) => Ok(counter),
+        Record::Key(_) | Record::Queue(_) | Record::Type(_) | Record::Message(_) => Err(NotASystem),
+    }
+}
+
+/// A Key.
+pub fn key_in(found: Record<'_>) -> Result<KeyEntry, NotASystem>
+    ensures ok { IfOk result (λ key. found.entry ≡ records.Key key) }
+    ensures only { (key : KeyEntry) → found.entry ≡ records.Key key → result ≡ Ok key }
+{
+    match found {
+        Record::Key(key) => Ok(key),
+        Record::Counter(_) | Record::Queue(_) | Record::Type(_) | Record::Message(_) => {
+            Err(NotASystem)
+        }
+    }
+}
+
+/// A Queue.
+pub fn queue_in(found: Record<'_>) -> Result<QueueEntry, NotASystem>
+    ensures ok { IfOk result (λ queue. found.entry ≡ records.Queue queue) }
+    ensures only { (queue : QueueEntry) → found.entry ≡ records.Queue queue → result ≡ Ok queue }
+{
+    match found {
+        Record::Queue(queue) => Ok(queue),
+        Record::Counter(_) | Record::Key(_) | Record::Type(_) | Record::Message(_) => {
+            Err(NotASystem)
+        }
+    }
+}
+
+/// A Type.
+pub fn type_in(found: Record<'_>) -> Result<TypeEntry, NotASystem>
+    ensures ok { IfOk result (λ entry. found.entry ≡ records.Type entry) }
+    ensures only { (entry : TypeEntry) → found.entry ≡ records.Type entry → result ≡ Ok entry }
+{
+    match found {
+        Record::Type(entry) => Ok(entry),
+        Record::Counter(_) | Record::Key(_) | Record::Queue(_) | Record::Message(_) => {
+            Err(NotASystem)
+        }
+    }
+}
+
+/// A Message with a body within the limit.
+pub fn message_in(found: Record<'_>) -> Result<HeldMessage, NotASystem>
+    ensures ok { IfOk result (λ message. found.entry ≡ records.Message message) }
+    ensures only { (message : MessageEntry) → found.entry ≡ records.Message message →
+        length message.body ≤ MAX_BODY → result ≡ Ok message }
+{
+    match found {
+        Record::Message(message) => {
+            if message.body.len() > MAX_BODY {
+                return Err(NotASystem);
+            }
+            Ok(HeldMessage::new(&message))
+        }
+        Record::Counter(_) | Record::Key(_) | Record::Queue(_) | Record::Type(_) => Err(NotASystem),
+    }
+}
