@@ -1,0 +1,5 @@
+pub mod Carrying
+pub mod Fault
+pub mod Filing
+pub mod Laws
+pub mod Serving

@@ -1,0 +1,48 @@
+//! What a call is told.
+
+ghost use Rattle.std.specs.Prelude.{◌≡◌, None, OnOk};
+ghost use Rattle.queue_model.specs.State.{State};
+ghost use Rattle.type_chains.specs.RecordOf.{record_of};
+ghost use Rattle.xsi_calls.specs.Filing.{HasValues};
+ghost use Rattle.xsi_inquiry.specs.Telling.{Gives, IsFiled};
+
+use bucket_page::RecordKey;
+use page_device::PageDevice;
+use queue_records::Record;
+use record_file::OneBucket;
+use xsi_inquiry::{Inquiry, NotASystem};
+
+/// Tells a call all that it asks for.
+pub fn ask<D: PageDevice, I: Inquiry>(
+    file: &OneBucket<D>,
+    inquiry: &mut I,
+) -> Result<(), NotASystem>
+    ensures told { (s : State) → IsFiled s → HasValues (record_of s) file.now.records →
+        I.Knows inquiry.old s → Gives result (λ _. I.Knows inquiry.new s) }
+    ensures ready { OnOk result (I.wanted inquiry.new ≡ None) }
+    ensures caller { I.caller inquiry.new ≡ I.caller inquiry.old }
+    ensures call { I.call inquiry.new ≡ I.call inquiry.old }
+{
+    while let Some(key) = inquiry.wants() {
+        let found = record_at(file, &key)?;
+        inquiry.take(found)?;
+    }
+    Ok(())
+}
+
+/// The record at a key, lent by the page, or none.
+pub fn record_at<'f, D: PageDevice>(
+    file: &'f OneBucket<D>,
+    key: &RecordKey,
+) -> Result<Option<Record<'f>>, NotASystem>
+    ensures { (s : State) → IsFiled s → HasValues (record_of s) file.now.records →
+        Gives result (λ found. found ≡ record_of s key.now) }
+{
+    let Some(value) = file.find(key) else {
+        return Ok(None);
+    };
+    match Record::decode(key, value) {
+        Ok(entry) => Ok(Some(entry)),
+        Err(_) => Err(NotASystem),
+    }
+}
