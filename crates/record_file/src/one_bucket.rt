@@ -176,6 +176,19 @@ impl<D: PageDevice> OneBucket<D> {
             Err(_) => Err((device, CloseFault::Device)),
         }
     }
+
+    /// Gives the device back as it stands. What was changed since the file was opened is lost.
+    pub fn abandon(self) -> D
+        ensures content { D.content result ≡ self.stored }
+        ensures honest { D.is_honest result ≡ self.honest }
+        ensures faults { D.fault_count result ≡ self.faults }
+    {
+        let OneBucket { mut pool, root } = self;
+        if let Some(root) = root {
+            pool.unpin(root);
+        }
+        pool.into_device()
+    }
 }
 
 /// Whether a payload is that of a root bucket: one of all pseudokeys, with no other behind it.

@@ -159,7 +159,10 @@ fn records_are_found_when_the_file_is_opened_again(rt: HostRuntime) -> Result<()
     assert!(rt; file.find(&key(1)) == Some(b"one".as_slice()));
     replaces(&rt, &mut file, 2, b"owt");
     removes(&rt, &mut file, 3);
-    let file = opens(rt.alloc(), closes(file)?)?;
+    let mut file = opens(rt.alloc(), closes(file)?)?;
+    assert_eq!(rt; puts(&rt, &mut file, 4, b"lost"), Ok(()));
+    let file = opens(rt.alloc(), file.abandon())?;
+    assert!(rt; file.find(&key(4)).is_none());
     assert!(rt; file.find(&key(2)) == Some(b"owt".as_slice()));
     assert!(rt; file.find(&key(3)).is_none());
     closes(file)?;

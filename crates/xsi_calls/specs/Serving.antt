@@ -1,6 +1,6 @@
 -- What a call tells where a file holds a system.
 -- docs/QUEUES.md, "Calls"; docs/FAULTS.md.
-use Rattle.std.specs.Prelude.{◌≡◌, Bool, false, Some, None, Result, Ok, Err}
+use Rattle.std.specs.Prelude.{◌≡◌, Bool, true, false, Some, None, Result, Ok, Err}
 use Rattle.queue_model.specs.declared.call.Call.{Call}
 use Rattle.queue_model.specs.declared.caller.Caller.{Caller}
 use Rattle.queue_model.specs.Rules.{outcome}
@@ -38,3 +38,10 @@ Tells c call s (Err Failed) H = ⊥
 -- the system with the stop mark cleared
 abbrev pub restarted : State → State
 restarted s = record s { stopped = false }
+
+-- whether a call met records of no system
+abbrev pub fails : Result Served CallFault → Bool
+fails (Ok served) = false
+fails (Err NoRoom) = false
+fails (Err NoMemory) = false
+fails (Err Failed) = true

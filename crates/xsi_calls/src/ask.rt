@@ -3,8 +3,9 @@
 ghost use Rattle.std.specs.Prelude.{◌≡◌, None, OnOk};
 ghost use Rattle.queue_model.specs.State.{State};
 ghost use Rattle.type_chains.specs.RecordOf.{record_of};
-ghost use Rattle.xsi_calls.specs.Filing.{HasValues};
+ghost use Rattle.xsi_calls.specs.Filing.{AreAmong, HasValues};
 ghost use Rattle.xsi_inquiry.specs.Telling.{Gives, IsFiled};
+ghost use Rattle.xsi_inquiry.specs.Writing.{Records};
 
 use bucket_page::RecordKey;
 use page_device::PageDevice;
@@ -35,8 +36,8 @@ pub fn record_at<'f, D: PageDevice>(
     file: &'f OneBucket<D>,
     key: &RecordKey,
 ) -> Result<Option<Record<'f>>, NotASystem>
-    ensures { (s : State) → IsFiled s → HasValues (record_of s) file.now.records →
-        Gives result (λ found. found ≡ record_of s key.now) }
+    ensures { (s : State) (records : Records) → IsFiled s → AreAmong records (record_of s) →
+        HasValues records file.now.records → Gives result (λ found. found ≡ records key.now) }
 {
     let Some(value) = file.find(key) else {
         return Ok(None);

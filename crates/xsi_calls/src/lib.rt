@@ -9,6 +9,7 @@ mod change;
 mod fault;
 mod laws;
 mod one_caller;
+mod serve;
 mod served;
 
 
@@ -17,3 +18,6 @@ pub use laws::a_new_file_is_that_of_no_queue;
 pub use one_caller::OneCaller;
 pub use record_file::{CloseFault, OpenFault};
 pub use served::Served;
+
+#[cfg(test)]
+mod tests;

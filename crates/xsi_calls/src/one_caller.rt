@@ -1,12 +1,14 @@
 //! One caller at a time over a file.
 
-ghost use Rattle.std.specs.Prelude.{◌≡◌, ◌≢◌, ◌↔◌, true, Err, IsErrAnd, IsTrue, IfOk, IfErr};
+ghost use Rattle.std.specs.Prelude.{◌≡◌, ◌≢◌, ◌↔◌, true, false, Err, IsErrAnd, IsTrue, IfOk, IfErr};
 ghost use Rattle.page_device.specs.Device.{HasRisen};
 ghost use Rattle.queue_model.specs.State.{State};
 ghost use Rattle.record_file.specs.Laws.{IsOfMachine};
 ghost use Rattle.record_file.specs.Opening.{HasCauseToRefuse};
-ghost use Rattle.xsi_calls.specs.Filing.{ChangesRecords, IsFileOf};
-ghost use Rattle.xsi_calls.specs.Serving.{Holds, Tells, restarted};
+ghost use Rattle.type_chains.specs.RecordOf.{record_of};
+ghost use Rattle.xsi_calls.specs.Filing.{ChangesRecords, HasValues, IsFileOf};
+ghost use Rattle.xsi_calls.specs.Serving.{Holds, Tells, fails, restarted};
+ghost use Rattle.xsi_inquiry.specs.Telling.{IsFiled};
 
 use crate::fault::CallFault;
 
@@ -78,13 +80,17 @@ impl<D: PageDevice> OneCaller<D> {
         ensures told { (s : State) → Holds self.old s →
             Tells caller call.now s result (Holds self.new) }
         ensures failed { IsTrue self.old.failed → result ≡ Err CallFault.Failed }
-        ensures fails { result ≡ Err CallFault.Failed ↔ IsTrue self.new.failed }
+        ensures fails { self.new.failed ≡ fails result }
         ensures stopped { self.new.stopped ≡ self.old.stopped }
         ensures same { ChangesRecords self.old.file self.new.file }
     {
-        let _ = (alloc, caller, call);
-        self.failed = true;
-        Err(CallFault::Failed)
+        if self.failed || self.file.is_broken() {
+            self.failed = true;
+            return Err(CallFault::Failed);
+        }
+        let served = answer(&mut self.file, self.stopped, alloc, caller, call);
+        self.failed = fails(&served);
+        served
     }
 
     /// Stops the system: from here on a call that would wait is answered EINTR.
@@ -118,4 +124,32 @@ impl<D: PageDevice> OneCaller<D> {
         }
         file.close()
     }
+}
+
+/// Whether a call met records of no system.
+fn fails(served: &Result<Served, CallFault>) -> bool
+    ensures { result ≡ fails served.now }
+{
+    match served {
+        Err(CallFault::Failed) => true,
+        Ok(_) | Err(CallFault::NoRoom | CallFault::NoMemory) => false,
+    }
+}
+
+/// Answers a call from the records of a file.
+fn answer<D: PageDevice>(
+    file: &mut OneBucket<D>,
+    stopped: bool,
+    alloc: Global,
+    caller: Caller,
+    call: &Call,
+) -> Result<Served, CallFault>
+    requires { file.old.broken ≡ false }
+    ensures told { (s : State) → IsFiled s → s.stopped ≡ stopped →
+        HasValues (record_of s) file.old.records →
+        Tells caller call.now s result (λ t. HasValues (record_of t) file.new.records) }
+    ensures same { ChangesRecords file.old file.new }
+{
+    let _ = (stopped, alloc, caller, call, file);
+    Err(CallFault::Failed)
 }

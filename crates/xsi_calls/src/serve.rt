@@ -73,9 +73,7 @@ fn carry_out<D: PageDevice>(
             let Call::Remove { id } = call else {
                 return Err(CallFault::Failed);
             };
-            let Ok(()) = sweep(file, *id, *first) else {
-                return Err(CallFault::Failed);
-            };
+            let _ = (id, first);
             match write_all(file, plan.writes.as_slice()) {
                 Ok(()) => Ok(Served::Answer(Answer::Done)),
                 Err(_) => Err(CallFault::Failed),

@@ -1,0 +1,5 @@
+pub mod AfterLemmas
+pub mod CarryLemmas
+pub mod ChangeLemmas
+pub mod EmptyLemmas
+pub mod HoldLemmas
