@@ -11,13 +11,14 @@ use Rattle.bucket_page.proofs.KeyLaws.{same_is}
 use Rattle.bucket_page.proofs.LookupLaws.{lookup_inserted, lookup_removed, lookup_replaced}
 use Rattle.queue_records.specs.declared.record.Record.{Record}
 use Rattle.queue_records.specs.Spelling.{key_of, value_of}
+use Rattle.record_file.specs.OneBucket.{OneBucketState}
 use Rattle.xsi_calls.specs.Filing.{HasValues}
 use Rattle.xsi_inquiry.specs.Writing.{CanBe, Records, value_length, with_at}
 use Rattle.xsi_inquiry.specs.declared.write.Write.TheVariants.{Replace, Delete}
 
 -- ---- keys
 
-same_self : (a : RecordKey) → is_same a a ≡ true
+pub same_self : (a : RecordKey) → is_same a a ≡ true
 same_self a = rw (eq-eqb a.kind a.kind refl, eq-eqb a.queue a.queue refl, eq-eqb a.number a.number refl) refl
 
 pub same_either : (a b : RecordKey) → is_same a b ≡ is_same b a
@@ -64,3 +65,35 @@ pub has_removed : (records : Records) (ps : List Pair) (key : RecordKey) → asc
     → HasValues (with_at key None records) (removed key ps)
 has_removed records ps key order has =
     has_with records ps (removed key ps) key None None refl has (λ k. lookup_removed k key None ps order)
+
+-- ---- an open file whose bucket changed
+
+pub put_has : (records : Records) (old new : OneBucketState) (key : RecordKey) (value : List ℕ) (r : Record)
+    → key ≡ key_of r → value ≡ value_of r
+    → new ≡ record old { records = inserted (pair key value) old.records } → HasValues records old.records
+    → HasValues (with_at (key_of r) (Some r) records) new.records
+put_has records old new key value r key-is value-is made has =
+    subst (HasValues (with_at (key_of r) (Some r) records))
+    (sym (ap (λ (file : OneBucketState). file.records) made
+    ∙ (λ i. inserted (pair (key-is i) (value-is i)) old.records)))
+    (has_inserted records old.records r has)
+
+pub replaced_has : (records : Records) (old new : OneBucketState) (key : RecordKey) (before value : List ℕ) (r : Record)
+    → key ≡ key_of r → value ≡ value_of r → lookup key old.records ≡ Some before
+    → new ≡ record old { records = replaced (pair key value) old.records } → HasValues records old.records
+    → HasValues (with_at (key_of r) (Some r) records) new.records
+replaced_has records old new key before value r key-is value-is there made has =
+    subst (HasValues (with_at (key_of r) (Some r) records))
+    (sym (ap (λ (file : OneBucketState). file.records) made
+    ∙ (λ i. replaced (pair (key-is i) (value-is i)) old.records)))
+    (has_replaced records old.records r (some_is (sym (ap (λ k. lookup k old.records) key-is) ∙ there)) has)
+  where
+    some_is : {o : Option (List ℕ)} → o ≡ Some before → IsSome o
+    some_is {o} is = subst IsSome (sym is) tt
+
+pub removed_has : (records : Records) (old new : OneBucketState) (key : RecordKey) → ascend old.records ≡ true
+    → new ≡ record old { records = removed key old.records } → HasValues records old.records
+    → HasValues (with_at key None records) new.records
+removed_has records old new key order made has =
+    subst (HasValues (with_at key None records)) (sym (ap (λ (file : OneBucketState). file.records) made))
+    (has_removed records old.records key order has)

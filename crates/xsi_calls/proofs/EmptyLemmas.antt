@@ -1,5 +1,5 @@
 -- The records of a system without queues.
-use Rattle.std.proofs.Common.{◌≡◌, refl, ◌∙◌, sym, ap, ℕ, Bool, true, false, cond, List, Option, Some, None, arith}
+use Rattle.std.proofs.Common.{◌≡◌, refl, ◌∙◌, sym, ap, ℕ, ◌<◌, ◌≤◌, Bool, true, false, cond, List, Option, Some, None, arith}
 use Rattle.std.specs.Prelude.{◌==◌, ◌&&◌}
 use Rattle.std.specs.Option.{option_map}
 use Rattle.std.proofs.lemmas.List.Elements.{All-nil}
@@ -21,7 +21,7 @@ use Rattle.xsi_calls.specs.Laws.{NewIsEmpty, no_queues}
 use Rattle.xsi_calls.proofs.ChangeLemmas.{same_either}
 use Rattle.xsi_inquiry.specs.Telling.{IsFiled}
 
-no_record : Option Record
+abbrev no_record : Option Record
 no_record = None
 
 -- none either way
@@ -29,18 +29,18 @@ none_either : (b : Bool) → cond b no_record no_record ≡ no_record
 none_either true = refl
 none_either false = refl
 
-counter_at : Option Record
+abbrev counter_at : Option Record
 counter_at = Some (records.Counter new_counter)
 
 -- what the kinds of keys make of a system without queues
 module _ (queue number key_kind queue_kind type_kind message_kind : Bool) where
-  others : Option Record
+  abbrev others : Option Record
   others = cond key_kind (cond queue no_record no_record)
       (cond queue_kind (cond number no_record no_record)
       (cond type_kind no_record (cond message_kind no_record no_record)))
 
   no_others : others ≡ no_record
-  unfolding others
+
   no_others =
       rw (none_either queue, none_either number, none_either message_kind, none_either type_kind,
       none_either queue_kind, none_either key_kind) refl
@@ -67,8 +67,8 @@ filed = record {
     id_begun = omega arith;
     ids_end = omega arith;
     queues_lawful = All-nil IsLawfulQueue;
-    ids_given = All-nil _;
-    ids_ascend = pairs_nil _;
+    ids_given = All-nil (λ (id : ℕ). (1 ≤ id) × (id < 1));
+    ids_ascend = pairs_nil (λ (a b : ℕ). a < b);
     keys_apart = pairs_nil AreKeysApart;
   };
   fits = All-nil HasFittingQueue;

@@ -1,5 +1,5 @@
 -- A caller holds a system: when it is opened, behind a call, and when it is closed.
-use Rattle.std.proofs.Common.{◌≡◌, refl, ◌∙◌, sym, ap, subst, ℕ, Bool, true, false, List, [], ◌∷◌, Option, Some, None, Result, Ok, Err, IsTrue, cond}
+use Rattle.std.proofs.Common.{◌≡◌, refl, ◌∙◌, sym, ap, subst, ℕ, Bool, true, false, List, [], ◌∷◌, Option, Some, None, Result, Ok, Err, IfOk, IsTrue}
 use Rattle.bucket_page.specs.declared.record_key.RecordKey.{RecordKey}
 use Rattle.bucket_page.specs.Records.{Pair, lookup}
 use Rattle.queue_model.specs.declared.call.Call.{Call}
@@ -8,7 +8,8 @@ use Rattle.queue_model.specs.Lawful.{IsLawful}
 use Rattle.queue_model.specs.State.{State}
 use Rattle.record_file.specs.Files.{IsFile}
 use Rattle.record_file.specs.Laws.{IsOpenFile}
-use Rattle.record_file.specs.OneBucket.{Leaves, OneBucketState, Shows}
+use Rattle.record_file.specs.OneBucket.{Leaves, OneBucketState, Shows, device_in}
+use Rattle.record_file.specs.declared.fault.CloseFault.{CloseFault}
 use Rattle.record_file.proofs.FileLaws.{closes, opens}
 use Rattle.type_chains.specs.Fits.{HasFittingCall, HasFittingCaller}
 use Rattle.type_chains.specs.RecordOf.{record_of}
@@ -126,3 +127,14 @@ module _ (c : Caller) (call : Call) (old new : CallerState) (s : State) (caller 
   held_after (Err NoRoom) sound told = left sound told
   held_after (Err NoMemory) sound told = left sound told
   held_after (Err Failed) sound told = told
+
+-- ---- closed
+
+pub closed_held : {D : Type 0} (content : D → List (List ℕ)) (is_honest : D → Bool) (r : Result D (D × CloseFault))
+    (c : CallerState) (s : State) → Holds c s → (IsTrue c.file.honest → IfOk r (λ d. Leaves c.file (content d)))
+    → is_honest (device_in r) ≡ c.file.honest
+    → IfOk r (λ d. IsTrue (is_honest d) → IsFileOf s (content d))
+closed_held content is_honest (Ok d) c s held left same = λ is.
+    let honest = subst IsTrue same is in
+    held_closed c s (content d) held honest (left honest)
+closed_held content is_honest (Err refusal) c s held left same = tt

@@ -3,3 +3,4 @@ pub mod CarryLemmas
 pub mod ChangeLemmas
 pub mod EmptyLemmas
 pub mod HoldLemmas
+pub mod ReadLemmas
