@@ -1,0 +1,12 @@
+pub mod FindLemmas
+pub mod KindLemmas
+pub mod LengthLemmas
+pub mod SettingLemmas
+pub mod CreatingLemmas
+pub mod SweptLemmas
+pub mod RemovingLemmas
+pub mod TakingLemmas
+pub mod DecidingLemmas
+pub mod LastLemmas
+pub mod TurnLemmas
+pub mod SweepLemmas

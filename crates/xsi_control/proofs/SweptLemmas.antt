@@ -1,0 +1,48 @@
+-- What is left of a queue while its messages are swept, key by key.
+use Rattle.std.proofs.Common.{◌≡◌, ℕ, true, false, Option, Some, None, refl, ap, ◌∙◌, arith}
+use Rattle.std.specs.Prelude.{◌==◌, ◌≢◌, ◌&&◌, IsSome, option_and_then}
+use Rattle.std.specs.List.{find}
+use Rattle.std.proofs.lemmas.Bool.Decides.{nat_tests}
+use Rattle.bucket_page.specs.declared.record_key.RecordKey.{RecordKey}
+use Rattle.queue_model.specs.declared.queue.Queue.{Queue}
+use Rattle.queue_model.specs.Rules.{has_id}
+use Rattle.queue_model.specs.State.{State}
+use Rattle.queue_records.specs.declared.layout.TheConstants.{TYPE, MESSAGE}
+use Rattle.type_chains.specs.RecordOf.{record_of}
+use Rattle.xsi_inquiry.specs.Sweeping.{swept, type_left, message_left}
+
+pub some_is : {X : Type 0} (o : Option X) (x : X) → o ≡ Some x → IsSome o
+some_is None x is = absurd cc
+some_is (Some y) x is = refl
+
+-- records of other kinds stand as they did
+pub swept_otherwise : (id count : ℕ) (s : State) (key : RecordKey) → key.kind ≢ TYPE → key.kind ≢ MESSAGE →
+    swept id count s key ≡ record_of s key
+swept_otherwise id count s key no_type no_message =
+    let first : (key.queue == id && key.kind == TYPE) ≡ false = grind (arith, nat_tests, no_type) in
+    let second : (key.queue == id && key.kind == MESSAGE) ≡ false = grind (arith, nat_tests, no_message) in
+    rw (first, second) refl
+
+-- and those of other queues
+pub swept_elsewhere : (id count : ℕ) (s : State) (key : RecordKey) → key.queue ≢ id →
+    swept id count s key ≡ record_of s key
+swept_elsewhere id count s key apart =
+    let first : (key.queue == id && key.kind == TYPE) ≡ false = grind (arith, nat_tests, apart) in
+    let second : (key.queue == id && key.kind == MESSAGE) ≡ false = grind (arith, nat_tests, apart) in
+    rw (first, second) refl
+
+module _ (id count : ℕ) (s : State) (q : Queue) (found : find (has_id id) s.queues ≡ Some q) where
+  pub swept_type : (key : RecordKey) → key.queue ≡ id → key.kind ≡ TYPE →
+      swept id count s key ≡ type_left count key.number q
+  swept_type key its kind =
+      let first : (key.queue == id && key.kind == TYPE) ≡ true = grind (arith, nat_tests, its, kind) in
+      rw first (ap (λ (n : ℕ). option_and_then (type_left count key.number) (find (has_id n) s.queues)) its
+      ∙ ap (option_and_then (type_left count key.number)) found)
+
+  pub swept_message : (key : RecordKey) → key.queue ≡ id → key.kind ≡ MESSAGE →
+      swept id count s key ≡ message_left count key.number q
+  swept_message key its kind =
+      let first : (key.queue == id && key.kind == TYPE) ≡ false = grind (arith, nat_tests, kind) in
+      let second : (key.queue == id && key.kind == MESSAGE) ≡ true = grind (arith, nat_tests, its, kind) in
+      rw (first, second) (ap (λ (n : ℕ). option_and_then (message_left count key.number) (find (has_id n) s.queues)) its
+      ∙ ap (option_and_then (message_left count key.number)) found)

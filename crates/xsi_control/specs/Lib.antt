@@ -1,0 +1,4 @@
+pub mod Getting
+pub mod Removing
+pub mod Setting
+pub mod Turns
