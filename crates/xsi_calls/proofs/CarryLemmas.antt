@@ -51,9 +51,9 @@ pub record Remains (ws : List Write) (target : Records) (ps : List Pair) : Type 
   pub in_range : All HasRange ws
   pub leads : (key : RecordKey) → written ws now key ≡ target key
 
-pub gives_from : {E P : Type 0} (r : Result (Unit {0}) E) → IsOk r → OnOk r P → Gives r (λ _. P)
-gives_from (Ok done) ok p = p
-gives_from (Err e) ok p = absurd cc
+pub gives_from : {E : Type 0} (P : Type 0) (r : Result (Unit {0}) E) → IsOk r → OnOk r P → Gives r (λ _. P)
+gives_from P (Ok done) ok p = p
+gives_from P (Err e) ok p = absurd cc
 
 -- a write replaces
 pub replaces : {E : Type 0} (w : Write) (e : Record) (r : Result (Unit {0}) E) (ps qs : List Pair) → w ≡ Replace e
@@ -63,7 +63,7 @@ pub replaces : {E : Type 0} (w : Write) (e : Record) (r : Result (Unit {0}) E) (
     → Gives r (λ _. HasValues (written_by w records) qs)
 replaces w e r ps qs is ok can_be records has =
     subst (λ (v : Write). CanBe v records → HasRange v → Gives r (λ _. HasValues (written_by v records) qs)) (sym is)
-    (λ can range. gives_from r (can_be records has can range) (ok records has))
+    (λ can range. gives_from _ r (can_be records has can range) (ok records has))
 
 -- a write deletes
 pub deletes : {E : Type 0} (w : Write) (key : RecordKey) (r : Result (Unit {0}) E) (ps qs : List Pair) → w ≡ Delete key
@@ -73,7 +73,7 @@ pub deletes : {E : Type 0} (w : Write) (key : RecordKey) (r : Result (Unit {0}) 
     → Gives r (λ _. HasValues (written_by w records) qs)
 deletes w key r ps qs is ok can_be records has =
     subst (λ (v : Write). CanBe v records → HasRange v → Gives r (λ _. HasValues (written_by v records) qs)) (sym is)
-    (λ can range. gives_from r (can_be records has can) (ok records has))
+    (λ can range. gives_from _ r (can_be records has can) (ok records has))
 
 -- one more is written
 pub remains_less : (w : Write) (ws rest : List Write) (target : Records) (ps qs : List Pair) → ws ≡ w ∷ rest
@@ -148,7 +148,7 @@ pub first_stands : (fault : CallFault) (a : Record) (records new : Records) (fil
     → ((found : Records) → HasValues found file.records → CanBe (Delete (key_of a)) found → ⊥) → ⊥
 first_stands NoRoom a records new file carried refused =
     refused (with_at (key_of a) (Some a) records) carried
-    (subst (λ (b : Bool). IsSome (cond b (Some a) (records (key_of a)))) (sym (same_self (key_of a))) tt)
+    (subst (λ (b : Bool). IsSome (cond b (Some a) (records (key_of a)))) (sym (same_self (key_of a))) refl)
 first_stands NoMemory a records new file carried refused = carried
 first_stands Failed a records new file carried refused = carried
 

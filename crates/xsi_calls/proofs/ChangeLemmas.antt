@@ -89,7 +89,7 @@ replaced_has records old new key before value r key-is value-is there made has =
     (has_replaced records old.records r (some_is (sym (ap (λ k. lookup k old.records) key-is) ∙ there)) has)
   where
     some_is : {o : Option (List ℕ)} → o ≡ Some before → IsSome o
-    some_is {o} is = subst IsSome (sym is) tt
+    some_is {o} is = subst IsSome (sym is) refl
 
 pub removed_has : (records : Records) (old new : OneBucketState) (key : RecordKey) → ascend old.records ≡ true
     → new ≡ record old { records = removed key old.records } → HasValues records old.records

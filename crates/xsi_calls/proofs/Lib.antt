@@ -4,3 +4,4 @@ pub mod ChangeLemmas
 pub mod EmptyLemmas
 pub mod HoldLemmas
 pub mod ReadLemmas
+pub mod SweepLemmas

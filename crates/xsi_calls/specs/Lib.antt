@@ -3,3 +3,4 @@ pub mod Fault
 pub mod Filing
 pub mod Laws
 pub mod Serving
+pub mod Sweeping

@@ -11,6 +11,7 @@ mod laws;
 mod one_caller;
 mod serve;
 mod served;
+mod sweep;
 
 
 pub use fault::CallFault;

@@ -11,6 +11,7 @@ ghost use Rattle.xsi_calls.specs.Serving.{Holds, Tells, fails, restarted};
 ghost use Rattle.xsi_inquiry.specs.Telling.{IsFiled};
 
 use crate::fault::CallFault;
+use crate::serve::serve;
 
 use crate::served::Served;
 use page_device::PageDevice;
@@ -18,6 +19,7 @@ use queue_model::{Call, Caller};
 use record_file::{CloseFault, OneBucket, OpenFault};
 use std::alloc::Global;
 use std::marker::Model;
+use xsi_control::{GetInquiry, RemoveInquiry, SetInquiry, StatInquiry};
 
 /// Serves calls one at a time over a file of which all records stand in the root bucket. It reads records and never
 /// keeps a system. It is to be closed.
@@ -150,6 +152,17 @@ fn answer<D: PageDevice>(
         Tells caller call.now s result (λ t. HasValues (record_of t) file.new.records) }
     ensures same { ChangesRecords file.old file.new }
 {
-    let _ = (stopped, alloc, caller, call, file);
-    Err(CallFault::Failed)
+    match call {
+        Call::Get(arguments) => {
+            let inquiry = GetInquiry::new(caller, *arguments);
+            serve(file, stopped, alloc, call, inquiry)
+        }
+        Call::Stat { id } => serve(file, stopped, alloc, call, StatInquiry::new(caller, *id)),
+        Call::Set(arguments) => {
+            let inquiry = SetInquiry::new(caller, *arguments);
+            serve(file, stopped, alloc, call, inquiry)
+        }
+        Call::Remove { id } => serve(file, stopped, alloc, call, RemoveInquiry::new(caller, *id)),
+        Call::Send(_) | Call::Receive(_) => Err(CallFault::Failed),
+    }
 }

@@ -13,6 +13,7 @@ use crate::ask::ask;
 use crate::carry::{carry, write_all};
 use crate::fault::CallFault;
 use crate::served::Served;
+use crate::sweep::sweep;
 use page_device::PageDevice;
 use queue_model::{Answer, Call};
 use record_file::OneBucket;
@@ -73,7 +74,9 @@ fn carry_out<D: PageDevice>(
             let Call::Remove { id } = call else {
                 return Err(CallFault::Failed);
             };
-            let _ = (id, first);
+            let Ok(()) = sweep(file, *id, *first) else {
+                return Err(CallFault::Failed);
+            };
             match write_all(file, plan.writes.as_slice()) {
                 Ok(()) => Ok(Served::Answer(Answer::Done)),
                 Err(_) => Err(CallFault::Failed),
