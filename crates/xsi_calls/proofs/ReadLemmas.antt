@@ -1,5 +1,5 @@
 -- A record is read from its value.
-use Rattle.std.proofs.Common.{◌≡◌, refl, ◌∙◌, sym, subst, ℕ, List, Option, Some, None, Result, Ok, Err}
+use Rattle.std.proofs.Common.{◌≡◌, refl, ◌∙◌, sym, ap, subst, ℕ, List, Option, Some, None, Result, Ok, Err}
 use Rattle.std.specs.Option.{option_map}
 use Rattle.bucket_page.specs.declared.record_key.RecordKey.{RecordKey}
 use Rattle.bucket_page.specs.Records.{Pair}
@@ -13,7 +13,7 @@ use Rattle.queue_records.specs.Spelling.{value_of}
 use Rattle.type_chains.specs.RecordOf.{record_of}
 use Rattle.type_chains.proofs.Spelled.{spelled}
 use Rattle.xsi_calls.specs.Filing.{AreAmong, HasValues}
-use Rattle.xsi_inquiry.specs.Telling.{IsFiled}
+use Rattle.xsi_inquiry.specs.Telling.{IsFiled, IsTold}
 use Rattle.xsi_inquiry.specs.Writing.{Records}
 
 -- the record at a key, which the value spells
@@ -63,3 +63,10 @@ pub record IsAsked {I : Type 0} (caller : I → Caller) (call : I → Call) (Kno
   pub caller_is : caller now ≡ caller first
   pub call_is : call now ≡ call first
   pub knows : (s : State) → IsFiled s → HasValues (record_of s) ps → Knows first s → Knows now s
+
+pub told_at : (s : State) (wanted asked : Option RecordKey) (key : RecordKey) (found : Option Record) → asked ≡ wanted
+    → asked ≡ Some key → found ≡ record_of s key → IsTold s wanted found
+told_at s wanted asked key found is some here other at =
+    let same : ◌≡◌ {A = Option RecordKey} (Some key) (Some other) = sym some ∙ is ∙ at in
+    let same_key : key ≡ other = cc in
+    here ∙ ap (record_of s) same_key

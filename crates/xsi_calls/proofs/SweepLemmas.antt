@@ -4,20 +4,28 @@ use Rattle.std.proofs.lemmas.Bool.Decides.{nat_tests}
 use Rattle.std.specs.List.{All, find, list_any}
 use Rattle.std.specs.Prelude.{◌==◌, ◌&&◌, option_and_then}
 use Rattle.bucket_page.specs.declared.record_key.RecordKey.{RecordKey}
+use Rattle.std.proofs.lemmas.List.{length-map}
+use Rattle.std.proofs.lemmas.Option.{slice_get_within}
 use Rattle.bucket_page.specs.Records.{Pair}
+use Rattle.queue_model.specs.declared.message.Message.{Message}
 use Rattle.queue_model.specs.declared.queue.Queue.{Queue}
 use Rattle.queue_model.specs.Rules.{has_id}
 use Rattle.queue_model.specs.State.{State}
 use Rattle.queue_records.specs.declared.layout.TheConstants.{TYPE, MESSAGE}
 use Rattle.queue_records.specs.declared.record.Record.{Record}
+use Rattle.record_file.specs.OneBucket.{OneBucketState}
+use Rattle.type_chains.specs.Lists.{serials}
+use Rattle.type_chains.specs.Neighbours.{first_of}
 use Rattle.type_chains.specs.RecordOf.{record_of, at_queue_of, has_serial, message_record, type_record}
-use Rattle.xsi_calls.specs.Filing.{AreAmong, HasValues}
+use Rattle.xsi_calls.specs.Filing.{AreAmong, ChangesRecords, HasValues}
+use Rattle.xsi_calls.specs.Sweeping.{IsSweptTo}
 use Rattle.xsi_calls.proofs.CarryLemmas.{same_values}
+use Rattle.xsi_control.proofs.SweepLemmas.{begins_whole, ends_behind}
 use Rattle.xsi_inquiry.specs.declared.decision.Plan.{Plan}
 use Rattle.xsi_inquiry.specs.declared.decision.Trials.{Trials}
 use Rattle.xsi_inquiry.specs.declared.decision.Trials.TheVariants as trials
 use Rattle.xsi_inquiry.specs.Sweeping.{swept, unswept, has_type_number, type_left, message_left}
-use Rattle.xsi_inquiry.specs.Telling.{Gives}
+use Rattle.xsi_inquiry.specs.Telling.{Gives, IsFiled}
 use Rattle.xsi_inquiry.specs.Writing.{CanAllBe, HasRange, Leads, Records, inserted, trials_of, written}
 
 -- a plan without trials is carried out by its writes
@@ -73,11 +81,33 @@ swept_among id count s key r is =
         (λ q. left_of (list_any (has_serial key.number) (unswept count q)) (message_record key.number q) r) left
     by_type false false type-test message-test left = left
 
--- ---- what is read at a turn
+-- ---- the loop over the turns
 
-clash : {X E : Type 0} (r : Result X E) (e : E) {P : X → Type 0} → r ≡ Err e → Gives r P → ⊥
-clash (Ok x) e at gives = absurd cc
-clash (Err f) e at gives = gives
+-- so many messages were swept
+pub record IsSweeping (id count : ℕ) (first next : Option ℕ) (old now : OneBucketState) : Type 0 where
+  pub same : ChangesRecords old now
+  pub swept_to : (s : State) (q : Queue) → IsFiled s → find (has_id id) s.queues ≡ Some q →
+      first ≡ first_of (serials q.messages) → HasValues (record_of s) old.records → IsSweptTo id count s q now.records next
 
-given : {X E : Type 0} (r : Result X E) (x : X) {P : X → Type 0} → r ≡ Ok x → Gives r P → P x
-given r x {P} at gives = subst (λ s. Gives s P) at gives
+pub begins : (id : ℕ) (first : Option ℕ) (old : OneBucketState) → IsSweeping id 0 first first old old
+begins id first old = record {
+  same = refl;
+  swept_to = λ s q filed alive is has. record {
+    within = omega arith;
+    next_is = is;
+    values = same_values (record_of s) (swept id 0 s) old.records (λ key. sym (begins_whole id s key)) has;
+  };
+}
+
+-- the last was swept
+pub ends : (id count : ℕ) (s : State) (q : Queue) (ps : List Pair) → IsSweptTo id count s q ps None
+    → HasValues (swept id (length q.messages) s) ps
+ends id count s q ps it =
+    subst (λ n. HasValues (swept id n s) ps) ((ends_behind count q.messages it.within).0 (sym it.next_is)) it.values
+
+-- one more was swept
+pub turn_within : (ms : List Message) (place serial : ℕ) → slice_get (serials ms) place ≡ Some serial
+    → place + 1 ≤ length ms
+turn_within ms place serial at =
+    let inside = slice_get_within (serials ms) place serial at in
+    let many = length-map ms (λ (m : Message). m.serial) in omega arith

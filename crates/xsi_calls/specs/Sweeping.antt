@@ -1,6 +1,6 @@
 -- The turns in which the messages of a queue are swept.
 -- docs/STEPS.md, "Remove".
-use Rattle.std.specs.Prelude.{◌≡◌, ℕ, ◌+◌, List, Option, slice_get}
+use Rattle.std.specs.Prelude.{◌≡◌, ℕ, ◌+◌, ◌≤◌, List, length, Option, slice_get}
 use Rattle.bucket_page.specs.Records.{Pair}
 use Rattle.queue_model.specs.declared.queue.Queue.{Queue}
 use Rattle.queue_model.specs.State.{State}
@@ -13,6 +13,7 @@ use Rattle.xsi_inquiry.specs.Writing.{Leads}
 
 -- the messages before a place were swept, and this is the serial of the one that stands there
 pub record IsSweptTo (id place : ℕ) (s : State) (q : Queue) (ps : List Pair) (next : Option ℕ) : Type 0 where
+  pub within : place ≤ length q.messages
   pub next_is : next ≡ slice_get (serials q.messages) place
   pub values : HasValues (swept id place s) ps
 

@@ -25,8 +25,14 @@ pub fn ask<D: PageDevice, I: Inquiry>(
     ensures call { I.call inquiry.new ≡ I.call inquiry.old }
 {
     while let Some(key) = inquiry.wants() {
-        let found = record_at(file, &key)?;
-        inquiry.take(found)?;
+        let found = match record_at(file, &key) {
+            Ok(found) => found,
+            Err(fault) => return Err(fault),
+        };
+        match inquiry.take(found) {
+            Ok(()) => {}
+            Err(fault) => return Err(fault),
+        }
     }
     Ok(())
 }

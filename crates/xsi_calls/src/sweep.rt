@@ -5,6 +5,9 @@ ghost use Rattle.std.specs.List.{find};
 ghost use Rattle.queue_model.specs.Rules.{has_id};
 ghost use Rattle.queue_model.specs.State.{State};
 ghost use Rattle.queue_model.specs.declared.queue.Queue.{Queue};
+ghost use Rattle.queue_records.specs.declared.message_entry.MessageEntry.{MessageEntry};
+ghost use Rattle.queue_records.specs.declared.record.Record.TheVariants as records;
+ghost use Rattle.queue_records.specs.declared.type_entry.TypeEntry.{TypeEntry};
 ghost use Rattle.type_chains.specs.Lists.{serials};
 ghost use Rattle.type_chains.specs.Neighbours.{first_of};
 ghost use Rattle.type_chains.specs.RecordOf.{record_of};
@@ -17,12 +20,13 @@ use crate::ask::record_at;
 use crate::carry::write_all;
 use bucket_page::RecordKey;
 use page_device::PageDevice;
-use queue_records::{MAX_MESSAGES, MESSAGE, Record, TYPE};
+use queue_records::{MAX_MESSAGES, MESSAGE, MessageEntry, Record, TYPE, TypeEntry};
 use record_file::OneBucket;
 use xsi_control::plan_remove_turn;
 use xsi_inquiry::{NotASystem, Plan};
 
 /// What is done in a turn, and the serial of the next one.
+#[derive(Debug, Drop)]
 pub struct Turn<'a> {
     pub plan: Plan<'a>,
     pub behind: Option<u64>,
@@ -40,9 +44,9 @@ pub fn sweep<D: PageDevice>(
     ensures same { ChangesRecords file.old file.new }
 {
     let mut next = first;
-    for _turn in 0..MAX_MESSAGES {
+    for _place in 0..MAX_MESSAGES {
         let Some(serial) = next else { return Ok(()) };
-        match turn(file, id, serial) {
+        match sweep_one(file, id, serial) {
             Ok(behind) => next = behind,
             Err(fault) => return Err(fault),
         }
@@ -54,7 +58,7 @@ pub fn sweep<D: PageDevice>(
 }
 
 /// Sweeps the message of a serial, which is the first that is left, and tells the one behind it.
-fn turn<D: PageDevice>(
+fn sweep_one<D: PageDevice>(
     file: &mut OneBucket<D>,
     id: u32,
     serial: u64,
@@ -65,8 +69,9 @@ fn turn<D: PageDevice>(
         Gives result (IsSweptTo id (place + 1) s q file.new.records) }
     ensures same { ChangesRecords file.old file.new }
 {
-    let Ok(turn) = plan_turn(file, id, serial) else {
-        return Err(NotASystem);
+    let turn = match plan_turn(file, id, serial) {
+        Ok(turn) => turn,
+        Err(fault) => return Err(fault),
     };
     match write_all(file, turn.plan.writes.as_slice()) {
         Ok(()) => Ok(turn.behind),
@@ -90,19 +95,49 @@ fn plan_turn<'a, D: PageDevice>(
         queue: id,
         number: serial,
     };
-    let Ok(Some(Record::Message(message))) = record_at(file, &key) else {
+    let found = match record_at(file, &key) {
+        Ok(found) => found,
+        Err(fault) => return Err(fault),
+    };
+    let Some(message) = message_in(found) else {
         return Err(NotASystem);
     };
-    let key = RecordKey {
+    let key_of_type = RecordKey {
         kind: TYPE,
         queue: id,
         number: message.mtype.cast_unsigned(),
     };
-    let Ok(Some(Record::Type(of_type))) = record_at(file, &key) else {
+    let of_type = match record_at(file, &key_of_type) {
+        Ok(found) => found,
+        Err(fault) => return Err(fault),
+    };
+    let Some(of_type) = type_in(of_type) else {
         return Err(NotASystem);
     };
     Ok(Turn {
         plan: plan_remove_turn(&message, &of_type),
         behind: message.next,
     })
+}
+
+/// The Message that was found.
+fn message_in(found: Option<Record<'_>>) -> Option<MessageEntry<'_>>
+    ensures { (message : MessageEntry) →
+        found.entry ≡ Some (records.Message message) → result ≡ Some message }
+{
+    match found {
+        Some(Record::Message(message)) => Some(message),
+        _ => None,
+    }
+}
+
+/// The Type that was found.
+fn type_in(found: Option<Record<'_>>) -> Option<TypeEntry>
+    ensures { (of_type : TypeEntry) →
+        found.entry ≡ Some (records.Type of_type) → result ≡ Some of_type }
+{
+    match found {
+        Some(Record::Type(of_type)) => Some(of_type),
+        _ => None,
+    }
 }
