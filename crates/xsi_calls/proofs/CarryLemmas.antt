@@ -159,3 +159,6 @@ pub record IsWritten (all rest : List Write) (old now : OneBucketState) : Type 0
   pub same : ChangesRecords old now
   pub remains : (records : Records) → HasValues records old.records → CanAllBe all records → All HasRange all →
       Remains rest (written all records) now.records
+
+pub no_error : {T E : Type 0} {e : E} → IsOk {T = T} (Err e) → ⊥
+no_error ok = cc

@@ -12,14 +12,18 @@ use Rattle.queue_model.specs.declared.queue.Queue.{Queue}
 use Rattle.queue_model.specs.Rules.{has_id}
 use Rattle.queue_model.specs.State.{State}
 use Rattle.queue_records.specs.declared.layout.TheConstants.{TYPE, MESSAGE}
+use Rattle.queue_records.specs.declared.message_entry.MessageEntry.{MessageEntry}
 use Rattle.queue_records.specs.declared.record.Record.{Record}
+use Rattle.queue_records.specs.declared.record.Record.TheVariants as records
+use Rattle.queue_records.specs.declared.type_entry.TypeEntry.{TypeEntry}
 use Rattle.record_file.specs.OneBucket.{OneBucketState}
 use Rattle.type_chains.specs.Lists.{serials}
 use Rattle.type_chains.specs.Neighbours.{first_of}
 use Rattle.type_chains.specs.RecordOf.{record_of, at_queue_of, has_serial, message_record, type_record}
 use Rattle.xsi_calls.specs.Filing.{AreAmong, ChangesRecords, HasValues}
-use Rattle.xsi_calls.specs.Sweeping.{IsSweptTo}
+use Rattle.xsi_calls.specs.Sweeping.{IsSweptTo, LeadsOn}
 use Rattle.xsi_calls.proofs.CarryLemmas.{same_values}
+use Rattle.xsi_control.specs.Turns.{DeletesOf, IsRead, IsTurnOf, key_of_message, key_of_type}
 use Rattle.xsi_control.proofs.SweepLemmas.{begins_whole, ends_behind}
 use Rattle.xsi_inquiry.specs.declared.decision.Plan.{Plan}
 use Rattle.xsi_inquiry.specs.declared.decision.Trials.{Trials}
@@ -111,3 +115,38 @@ pub turn_within : (ms : List Message) (place serial : ℕ) → slice_get (serial
 turn_within ms place serial at =
     let inside = slice_get_within (serials ms) place serial at in
     let many = length-map ms (λ (m : Message). m.serial) in omega arith
+
+-- ---- what a turn reads
+
+-- its Message is found
+pub message_found : (id place : ℕ) (s : State) (q : Queue) (serial : ℕ) (found : Option Record) (m : Option MessageEntry)
+    (it : IsRead id place s q serial) → found ≡ swept id place s (key_of_message id serial)
+    → ((e : MessageEntry) → found ≡ Some (records.Message e) → m ≡ Some e) → m ≡ Some it.message
+message_found id place s q serial found m it here only = only it.message (here ∙ it.message_stands)
+
+-- and the Type of its type
+pub type_found : (id place : ℕ) (s : State) (q : Queue) (serial : ℕ) (key : RecordKey) (found : Option Record)
+    (t : Option TypeEntry) (it : IsRead id place s q serial) → key ≡ key_of_type id it.message.mtype
+    → found ≡ swept id place s key
+    → ((e : TypeEntry) → found ≡ Some (records.Type e) → t ≡ Some e) → t ≡ Some it.of_type
+type_found id place s q serial key found t it key-is here only =
+    only it.of_type (here ∙ ap (swept id place s) key-is ∙ it.type_stands)
+
+pub some_same : {X : Type 0} {o : Option X} (x y : X) → o ≡ Some x → o ≡ Some y → x ≡ y
+some_same {X} x y one other =
+    let same : ◌≡◌ {A = Option X} (Some x) (Some y) = sym one ∙ other in
+    cc
+
+-- a turn leads on
+pub leads_on : (id place : ℕ) (s : State) (q : Queue) (serial : ℕ) (e : MessageEntry) (t : TypeEntry) (p : Plan)
+    (it : IsRead id place s q serial) → e ≡ it.message → t ≡ it.of_type
+    → (IsTurnOf id place s e t → Leads p (swept id place s) (swept id (place + 1) s))
+    → (e.id ≡ id → t.id ≡ id → DeletesOf id p)
+    → LeadsOn id place s q (record { plan = p; behind = e.next })
+leads_on id place s q serial e t p it e-is t-is leads own = record {
+  behind = ap (λ (x : MessageEntry). x.next) e-is ∙ it.next;
+  no_trials = (own (ap (λ (x : MessageEntry). x.id) e-is ∙ it.message_own)
+      (ap (λ (x : TypeEntry). x.id) t-is ∙ it.type_own)).no_trials;
+  leads = leads (subst (λ x. IsTurnOf id place s x t) (sym e-is) (subst (λ y. IsTurnOf id place s it.message y) (sym t-is)
+      it.turn));
+}

@@ -1,0 +1,14 @@
+pub mod Beside
+pub mod Lengths
+pub mod Links
+pub mod OneQueueChanged
+pub mod Opening
+pub mod Puts
+pub mod Sent
+pub mod SentBetween
+pub mod SentParts
+pub mod SentStanding
+pub mod Sorted
+pub mod Told
+pub mod TypeLinks
+pub mod Walked

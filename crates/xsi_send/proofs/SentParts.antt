@@ -1,0 +1,286 @@
+-- The records that a Send writes to its queue, and those that it leaves.
+use Rattle.std.proofs.Common.{◌≡◌, ℕ, ◌+◌, ◌<◌, ℤ, pos, ◌≤ℤ◌, ◌<ℤ◌, Bool, true, false, cond, List, [], ◌∷◌, ◌++◌, length, map, Option, Some, None, ◌⊎◌, inl, inr, refl, sym, ap, ◌∙◌, subst, arith}
+use Rattle.std.specs.Prelude.{◌==◌, ◌≢◌, option_map, option_and_then}
+use Rattle.std.specs.List.{All, Contains, filter, find}
+use Rattle.std.proofs.lemmas.Bool.{eqb-true}
+use Rattle.std.proofs.lemmas.Bool.Decides.{Decides-eqb, Decides-int_eq, nat_tests}
+use Rattle.std.proofs.lemmas.Int.{ints}
+use Rattle.std.proofs.lemmas.List.{append-nil}
+use Rattle.std.proofs.lemmas.List.Elements.{All-append, All-cons, All-contains, All-nil, All-weaker, Contains-append_cases, Contains-append_left, Contains-append_right}
+use Rattle.bucket_page.specs.declared.record_key.RecordKey.{RecordKey}
+use Rattle.bucket_page.specs.Keys.{is_same}
+use Rattle.queue_model.specs.declared.answer.Answer.TheVariants.{Sent}
+use Rattle.queue_model.specs.declared.call.Call.TheVariants.{Send}
+use Rattle.queue_model.specs.declared.call.SendArguments.{SendArguments}
+use Rattle.queue_model.specs.declared.caller.Caller.{Caller}
+use Rattle.queue_model.specs.declared.message.Message.{Message}
+use Rattle.queue_model.specs.declared.queue.Queue.{Queue}
+use Rattle.queue_model.specs.Lawful.{IsLawful, IsLawfulQueue, IsLawfulMessage}
+use Rattle.queue_model.specs.Rules.{has_id, with_message, with_queue}
+use Rattle.queue_model.specs.State.{State}
+use Rattle.queue_model.proofs.EffectLemmas.{Effect-outcome}
+use Rattle.queue_model.proofs.LawfulLemmas.{IsLawful-Effect}
+use Rattle.queue_model.proofs.ListLemmas.{find-None, find-Some, position_None}
+use Rattle.queue_records.specs.declared.layout.TheConstants.{QUEUE, TYPE, MESSAGE}
+use Rattle.queue_records.specs.declared.message_entry.MessageEntry.{MessageEntry}
+use Rattle.queue_records.specs.declared.queue_entry.QueueEntry.{QueueEntry}
+use Rattle.queue_records.specs.declared.record.Record.{Record}
+use Rattle.queue_records.specs.declared.record.Record.TheVariants as records
+use Rattle.queue_records.specs.declared.type_entry.TypeEntry.{TypeEntry}
+use Rattle.queue_records.specs.Fields.{type_number}
+use Rattle.queue_records.specs.Range.{IsInRange, IsType}
+use Rattle.queue_records.specs.Spelling.{key_of}
+use Rattle.type_chains.specs.Entries.{queue_entry, type_entry, message_entry}
+use Rattle.type_chains.specs.Lists.{serials, serials_of_type, types, is_of_type}
+use Rattle.type_chains.specs.Neighbours.{first_of, last_of}
+use Rattle.type_chains.specs.RecordOf.{has_number, has_serial, type_record, message_record, record_of}
+use Rattle.type_chains.specs.Sending.{message_of, with_one_more, last_message}
+use Rattle.type_chains.proofs.Limits.{all_types, in_range, lawful_queue}
+use Rattle.type_chains.proofs.Members.{contains_tail}
+use Rattle.type_chains.proofs.Pairs.{all_of}
+use Rattle.type_chains.proofs.Sends.{made_of_the_queue}
+use Rattle.type_chains.proofs.Tests.{mapped}
+use Rattle.type_chains.proofs.TypesStand.{are_types_of}
+use Rattle.xsi_inquiry.specs.declared.write.Write.{Write}
+use Rattle.xsi_inquiry.specs.declared.write.Write.TheVariants.{Replace}
+use Rattle.xsi_inquiry.specs.Telling.{IsFiled}
+use Rattle.xsi_inquiry.specs.Writing.{AreAbsent, Leads, trials_of, value_length}
+use Rattle.xsi_send.specs.declared.reads.SendReads.{SendReads}
+use Rattle.xsi_send.specs.declared.reads.TypePlace.{TypePlace}
+use Rattle.xsi_send.specs.declared.reads.TypePlace.TheVariants.{Standing, Between}
+use Rattle.xsi_send.specs.Knowing.{IsOpen}
+use Rattle.xsi_send.specs.Planning.{linked, new_type, relinked, replaced, sent_plan, sent_writes}
+use Rattle.xsi_send.specs.ReadOf.{AreOf, IsBetween, IsLastOfType, IsPlaceOf, last_message_of}
+use Rattle.xsi_send.proofs.Beside.{contains_at, in_first, in_last}
+use Rattle.xsi_send.proofs.Lengths.{queue_length, type_length, message_length}
+use Rattle.xsi_send.proofs.Links.{is_linked, stays_linked}
+use Rattle.xsi_send.proofs.OneQueueChanged.{agree_but, found_new}
+use Rattle.xsi_send.proofs.Puts.{IsNew, Fills, Misses, MissesRecord, leads_by}
+use Rattle.xsi_send.proofs.Sorted.{less_apart}
+use Rattle.xsi_send.proofs.Told.{has_first, message_stands, of_filter, queue_stands, same_number, stands, type_stands, typed}
+use Rattle.xsi_send.proofs.TypeLinks.{entry_above, entry_below, entry_higher, entry_lower, entry_new, other_entry, same_types, standing_entry, types_after}
+
+-- ---- what is replaced where there is something
+
+pub all_replaced : {X : Type 0} (P : Write → Type 0) (f : X → Record) (o : Option X) →
+    ((x : X) → o ≡ Some x → P (Replace (f x))) → All P (replaced (option_map f o))
+all_replaced P f None each = All-nil P
+all_replaced P f (Some x) each = All-cons P (Replace (f x)) [] (each x refl) (All-nil P)
+
+-- a record that a write misses is another
+pub misses_key : (key k : RecordKey) → is_same key k ≡ false → key.kind ≡ k.kind → key.queue ≡ k.queue →
+    key.number ≡ k.number → ⊥
+misses_key key k misses kind queue number =
+    let a = (Decides-eqb key.kind k.kind).1 kind in
+    let b = (Decides-eqb key.queue k.queue).1 queue in
+    let c = (Decides-eqb key.number k.number).1 number in
+    let hits : is_same key k ≡ true = rw (a, b, c) refl in
+    let clash : ◌≡◌ {A = Bool} false true = sym misses ∙ hits in
+    absurd cc
+
+-- ---- searches
+
+pub find_over : {X : Type 0} (p : X → Bool) (xs ys : List X) (y : X) → p y ≡ false → find p (xs ++ y ∷ ys) ≡ find p (xs ++ ys)
+find_over p [] ys y over = rw over refl
+find_over {X} p (x ∷ xs) ys y over = ap (λ (rest : Option X). cond (p x) (Some x) rest) (find_over p xs ys y over)
+
+pub find_nothing : {X : Type 0} (p : X → Bool) (xs : List X) → All (λ (x : X). p x ≡ false) xs → find p xs ≡ None
+find_nothing p xs none = find-None p xs (position_None p xs none)
+
+-- what is made of what is found is the same where it is the same of that
+pub made_same : {X Y : Type 0} (p : X → Bool) (xs : List X) (f g : X → Y) →
+    ((x : X) → Contains xs x → p x ≡ true → f x ≡ g x) → option_map f (find p xs) ≡ option_map g (find p xs)
+made_same {X} p xs f g same = by (find p xs) refl
+  where
+    by : (o : Option X) → find p xs ≡ o → option_map f o ≡ option_map g o
+    by None found = refl
+    by (Some x) found = let both = find-Some p xs x found in ap Some (same x both.1 both.0)
+
+pub empty_filter : {X : Type 0} (p : X → Bool) (xs : List X) → ((x : X) → Contains xs x → p x ≡ true → ⊥) →
+    filter p xs ≡ []
+empty_filter p [] never = refl
+empty_filter {X} p (x ∷ xs) never =
+    by (p x) refl (empty_filter p xs (λ y has passes. never y (contains_tail x y xs has) passes))
+  where
+    by : (b : Bool) → p x ≡ b → filter p xs ≡ [] → cond b (x ∷ filter p xs) (filter p xs) ≡ []
+    by true passes rest = absurd (never x (contains_at [] xs x) passes)
+    by false over rest = rest
+
+module _ (c : Caller) (a : SendArguments) (e : QueueEntry) (s : State) (filed : IsFiled s) (known : IsOpen c a e s) where
+  abbrev q : Queue
+  q = known.queue
+
+  abbrev m : Message
+  m = message_of c.pid a known.queue
+
+  abbrev new : Queue
+  new = with_message c.pid a known.queue
+
+  abbrev t : State
+  t = with_queue a.id (with_message c.pid a known.queue) s
+
+  abbrev old_records : RecordKey → Option Record
+  old_records = record_of s
+
+  abbrev new_records : RecordKey → Option Record
+  new_records = record_of t
+
+  pub its_stands : Contains s.queues q
+  its_stands = stands s filed.lawful a.id q known.found known.its_id
+
+  pub lawful_q : IsLawfulQueue q
+  lawful_q = lawful_queue s filed.lawful q its_stands
+
+  pub lawful_t : IsLawful t
+  lawful_t = IsLawful-Effect c (Send a) (Sent q.next_serial) s t
+      (Effect-outcome c (Send a) (Sent q.next_serial) s t known.outcome) filed.lawful
+
+  pub new_stands : Contains t.queues new
+  new_stands = (find-Some (has_id a.id) t.queues new (found_new a.id s q new known.found refl refl)).1
+
+  -- each message that stood stands, and the new one does
+  pub kept : (x : Message) → Contains q.messages x → Contains new.messages x
+  kept x there = Contains-append_left q.messages (m ∷ []) x there
+
+  -- ---- records that are written are new ones
+
+  pub new_in_range : (r : Record) → IsNew old_records new_records r → IsInRange r
+  new_in_range r is = in_range t (key_of r) r lawful_t is
+
+  -- a replacement by a record of the new queue that is as long as the one that it replaces
+  pub fills : (r x y : Record) → y ≡ r → new_records (key_of y) ≡ Some y → old_records (key_of r) ≡ Some x →
+      value_length x ≡ value_length r → Fills old_records new_records (Replace r)
+  fills r x y same is was long = (
+    subst (λ z. new_records (key_of z) ≡ Some z) same is,
+    ap (option_map value_length) was ∙ ap Some long,
+  )
+
+  abbrev message_trial : Record
+  message_trial = records.Message (last_message c.pid a (queue_entry q))
+
+  abbrev queue_write : Write
+  queue_write = Replace (records.Queue (with_one_more c.pid a (queue_entry q)))
+
+  pub queue_fills : Fills old_records new_records (Replace (records.Queue (with_one_more c.pid a (queue_entry q))))
+  queue_fills =
+      fills (records.Queue (with_one_more c.pid a (queue_entry q))) (records.Queue (queue_entry q))
+      (records.Queue (queue_entry new)) (ap records.Queue (made_of_the_queue c.pid a q lawful_q).queue)
+      (queue_stands t lawful_t new new_stands) (queue_stands s filed.lawful q its_stands)
+      (queue_length (queue_entry q) ∙ sym (queue_length (with_one_more c.pid a (queue_entry q))))
+
+  pub message_new : IsNew old_records new_records (records.Message (last_message c.pid a (queue_entry q)))
+  message_new = subst (λ x. new_records (key_of (records.Message x)) ≡ Some (records.Message x))
+      (made_of_the_queue c.pid a q lawful_q).message
+      (message_stands t lawful_t new new_stands m (contains_at q.messages [] m))
+
+  pub linked_fills : (x : Message) → Contains q.messages x →
+      Fills old_records new_records (Replace (records.Message (linked a.mtype q.next_serial (message_entry q x))))
+  linked_fills x there =
+      fills (records.Message (linked a.mtype q.next_serial (message_entry q x))) (records.Message (message_entry q x))
+      (records.Message (message_entry new x)) (ap records.Message (is_linked c.pid a q lawful_q x there))
+      (message_stands t lawful_t new new_stands x (kept x there)) (message_stands s filed.lawful q its_stands x there)
+      (message_length (message_entry q x) ∙ sym (message_length (linked a.mtype q.next_serial (message_entry q x))))
+
+  pub type_fills : (u : ℤ) (r : TypeEntry) → type_entry new u ≡ r → Contains (types q.messages) u →
+      Contains (types new.messages) u → r.id ≡ q.id → r.mtype ≡ u → Fills old_records new_records (Replace (records.Type r))
+  type_fills u r same there still id mtype =
+      fills (records.Type r) (records.Type (type_entry q u)) (records.Type (type_entry new u)) (ap records.Type same)
+      (type_stands t lawful_t new new_stands u still)
+      (ap (λ (k : RecordKey). old_records k) (keyed id mtype) ∙ type_stands s filed.lawful q its_stands u there)
+      (type_length (type_entry q u) ∙ sym (type_length r))
+    where
+      keyed : r.id ≡ q.id → r.mtype ≡ u → key_of (records.Type r) ≡ key_of (records.Type (type_entry q u))
+      keyed id mtype = λ i. record { kind = TYPE; queue = id i; number = type_number (mtype i) }
+
+  -- a Message that is relinked
+  pub relinked_fills : (o : Option MessageEntry) →
+      ((x : MessageEntry) → o ≡ Some x → (y : Message) × Contains q.messages y × (x ≡ message_entry q y)) →
+      All (Fills old_records new_records) (relinked a (queue_entry q) o)
+  relinked_fills o each = all_replaced (Fills old_records new_records)
+      (λ (m : MessageEntry). records.Message (linked a.mtype q.next_serial m)) o
+      (λ x is. let (y, there, same) = each x is in
+      subst (λ z. Fills old_records new_records (Replace (records.Message (linked a.mtype q.next_serial z)))) (sym same)
+      (linked_fills y there))
+
+  pub last_stands : (x : MessageEntry) → last_message_of q ≡ Some x →
+      (y : Message) × Contains q.messages y × (x ≡ message_entry q y)
+  last_stands x is =
+      let (y, last, same) = mapped (message_entry q) (last_of q.messages) x is in
+      (y, in_last q.messages y last, sym same)
+
+  -- ---- keys at which nothing stands yet
+
+  pub no_message : old_records (key_of (records.Message (last_message c.pid a (queue_entry q)))) ≡ None
+  no_message =
+      ap (λ n. old_records (record { kind = MESSAGE; queue = n; number = q.next_serial })) known.its_id
+      ∙ ap (option_and_then (message_record q.next_serial)) known.found
+      ∙ ap (option_map (λ (m : Message). records.Message (message_entry q m)))
+      (find_nothing (has_serial q.next_serial) q.messages
+      (All-weaker (IsLawfulMessage q.next_serial) (λ (m : Message). has_serial q.next_serial m ≡ false)
+      (λ m l. let g = l.serial_given in grind (arith, nat_tests, g)) q.messages lawful_q.messages_lawful))
+
+  -- ---- keys that no write meets
+
+  pub queue_missed : (key : RecordKey) → is_same key (key_of (records.Queue (with_one_more c.pid a (queue_entry q)))) ≡ false →
+      key.kind ≡ QUEUE → key.queue ≡ a.id → key.number ≡ 0 → ⊥
+  queue_missed key misses kind queue number =
+      misses_key key (key_of (records.Queue (with_one_more c.pid a (queue_entry q)))) misses kind
+      (queue ∙ sym known.its_id) number
+
+  -- Messages stay where neither link ends
+  pub messages_same : (key : RecordKey) → key.kind ≡ MESSAGE → key.queue ≡ a.id →
+      is_same key (key_of (records.Message (last_message c.pid a (queue_entry q)))) ≡ false →
+      ((x : Message) → Contains q.messages x → x.serial ≡ key.number → last_of q.messages ≡ Some x → ⊥) →
+      ((x : Message) → Contains q.messages x → x.serial ≡ key.number → x.mtype ≡ a.mtype →
+      last_of (filter (is_of_type a.mtype) q.messages) ≡ Some x → ⊥) →
+      message_record key.number q ≡ message_record key.number new
+  messages_same key kind queue misses no_last no_last_typed =
+      made_same (has_serial key.number) q.messages (λ (x : Message). records.Message (message_entry q x))
+      (λ (x : Message). records.Message (message_entry new x))
+      (λ x there passes. let number = eqb-true x.serial key.number passes in
+      ap records.Message (stays_linked c.pid a q lawful_q x there (no_last x there number) (no_last_typed x there number)))
+      ∙ ap (option_map (λ (x : Message). records.Message (message_entry new x)))
+      (ap (find (has_serial key.number)) (sym (append-nil q.messages))
+      ∙ sym (find_over (has_serial key.number) q.messages [] m (over (q.next_serial == key.number) refl)))
+    where
+      over : (b : Bool) → (q.next_serial == key.number) ≡ b → (q.next_serial == key.number) ≡ false
+      over true e = absurd (misses_key key (key_of (records.Message (last_message c.pid a (queue_entry q)))) misses kind
+          (queue ∙ sym known.its_id) (sym (eqb-true q.next_serial key.number e)))
+      over false e = e
+
+  -- Types stay but where they are the message's own or next to it
+  pub types_same : (key : RecordKey) (ts : List ℤ) → types new.messages ≡ ts →
+      find (has_number key.number) ts ≡ find (has_number key.number) (types q.messages) →
+      ((u : ℤ) → Contains (types q.messages) u → type_number u ≡ key.number → type_entry q u ≡ type_entry new u) →
+      type_record key.number q ≡ type_record key.number new
+  types_same key ts is found same =
+      made_same (has_number key.number) (types q.messages) (λ (u : ℤ). records.Type (type_entry q u))
+      (λ (u : ℤ). records.Type (type_entry new u))
+      (λ u there passes. ap records.Type (same u there (eqb-true (type_number u) key.number passes)))
+      ∙ ap (option_map (λ (u : ℤ). records.Type (type_entry new u)))
+      (sym found ∙ ap (find (has_number key.number)) (sym is))
+
+  -- a write among others
+  abbrev MissesAll : RecordKey → List Write → Type 0
+  MissesAll key ws = (w : Write) → Contains ws w → Misses key w
+
+  -- the Message of a message that is relinked is missed by no write
+  pub relinked_hit : (key : RecordKey) (o : Option MessageEntry) (x : Message) → MissesAll key (relinked a (queue_entry q) o) →
+      o ≡ Some (message_entry q x) → key.kind ≡ MESSAGE → key.queue ≡ a.id → x.serial ≡ key.number → ⊥
+  relinked_hit key o x misses is kind queue number =
+      let w = Replace (records.Message (linked a.mtype q.next_serial (message_entry q x))) in
+      let there : Contains (relinked a (queue_entry q) o) w =
+      subst (λ (p : Option MessageEntry). Contains (relinked a (queue_entry q) p) w) (sym is) (contains_at [] [] w) in
+      misses_key key (key_of (records.Message (linked a.mtype q.next_serial (message_entry q x)))) (misses w there) kind
+      (queue ∙ sym known.its_id) (sym number)
+
+  pub last_hit : (key : RecordKey) (x : Message) → MissesAll key (relinked a (queue_entry q) (last_message_of q)) →
+      last_of q.messages ≡ Some x → key.kind ≡ MESSAGE → key.queue ≡ a.id → x.serial ≡ key.number → ⊥
+  last_hit key x misses is kind queue number =
+      relinked_hit key (last_message_of q) x misses (ap (option_map (message_entry q)) is) kind queue number
+
+  pub types_of_q : (u : ℤ) → Contains (types q.messages) u → pos 1 ≤ℤ u
+  types_of_q u there = All-contains IsType (types q.messages) u (all_types s filed.lawful q its_stands) there
+
+  pub of_type_stands : (x : Message) → Contains q.messages x → Contains (types q.messages) x.mtype
+  of_type_stands x there = ((are_types_of q.messages).stand x.mtype).1 (x, there, refl)
