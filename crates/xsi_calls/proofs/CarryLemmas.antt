@@ -17,6 +17,7 @@ use Rattle.xsi_calls.specs.declared.fault.CallFault.TheVariants.{NoRoom, NoMemor
 use Rattle.xsi_calls.specs.Carrying.{Carries}
 use Rattle.xsi_calls.specs.Filing.{ChangesRecords, HasValues}
 use Rattle.xsi_calls.proofs.ChangeLemmas.{same_self}
+use Rattle.xsi_inquiry.specs.declared.inquiry.NotASystem.{NotASystem}
 use Rattle.xsi_inquiry.specs.declared.decision.Trials.{Trials}
 use Rattle.xsi_inquiry.specs.declared.decision.Trials.TheVariants as trials
 use Rattle.xsi_inquiry.specs.declared.write.Write.{Write}
@@ -131,16 +132,20 @@ pub both_inserted : (t : Trials) (a b : Record) (records : Records) (ps : List P
     → HasValues (inserted (trials_of t) records) ps
 both_inserted t a b records ps is has = subst (λ (u : Trials). HasValues (inserted (trials_of u) records) ps) (sym is) has
 
+-- both of two
+abbrev pub both_in : Record → Record → Records → Records
+both_in a b records = with_at (key_of b) (Some b) (with_at (key_of a) (Some a) records)
+
 -- the second did not fit, and the first was deleted again
-pub both_back : (fault : CallFault) (a : Record) (records after new : Records) (ps qs : List Pair)
+pub both_back : (fault : CallFault) (a : Record) (records after new : Records)
     (file last : OneBucketState) → records (key_of a) ≡ None
     → Carries (with_at (key_of a) (Some a) records) new (Err fault) file
     → ((found : Records) → HasValues found file.records → HasValues (with_at (key_of a) None found) last.records)
     → Carries records after (Err fault) last
-both_back NoRoom a records after new ps qs file last none carried deleted =
+both_back NoRoom a records after new file last none carried deleted =
     taken_back records last.records (key_of a) (Some a) none (deleted (with_at (key_of a) (Some a) records) carried)
-both_back NoMemory a records after new ps qs file last none carried deleted = carried
-both_back Failed a records after new ps qs file last none carried deleted = carried
+both_back NoMemory a records after new file last none carried deleted = carried
+both_back Failed a records after new file last none carried deleted = carried
 
 -- the first is there to be deleted
 pub first_stands : (fault : CallFault) (a : Record) (records new : Records) (file : OneBucketState)
@@ -160,5 +165,5 @@ pub record IsWritten (all rest : List Write) (old now : OneBucketState) : Type 0
   pub remains : (records : Records) → HasValues records old.records → CanAllBe all records → All HasRange all →
       Remains rest (written all records) now.records
 
-pub no_error : {T E : Type 0} {e : E} → IsOk {T = T} (Err e) → ⊥
-no_error ok = cc
+pub no_error : (e : NotASystem) → IsOk {T = Unit {0}} (Err e) → ⊥
+no_error e ok = cc

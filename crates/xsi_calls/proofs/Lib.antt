@@ -4,4 +4,5 @@ pub mod ChangeLemmas
 pub mod EmptyLemmas
 pub mod HoldLemmas
 pub mod ReadLemmas
+pub mod ServeLemmas
 pub mod SweepLemmas

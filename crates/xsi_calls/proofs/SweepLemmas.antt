@@ -1,9 +1,13 @@
 -- Messages are swept turn by turn.
-use Rattle.std.proofs.Common.{◌≡◌, refl, ◌∙◌, sym, ap, subst, ℕ, ◌+◌, ◌≤◌, ◌<◌, Bool, true, false, cond, List, length, Option, Some, None, slice_get, Result, Ok, Err, arith}
+use Rattle.std.proofs.Common.{of_z, to_z, ◌≡◌, refl, ◌∙◌, sym, ap, subst, ℕ, ◌+◌, ◌≤◌, ◌<◌, Bool, true, false, cond, List, length, Option, Some, None, slice_get, Result, Ok, Err, arith}
 use Rattle.std.proofs.lemmas.Bool.Decides.{nat_tests}
 use Rattle.std.specs.List.{All, find, list_any}
 use Rattle.std.specs.Prelude.{◌==◌, ◌&&◌, option_and_then}
 use Rattle.bucket_page.specs.declared.record_key.RecordKey.{RecordKey}
+use Rattle.std.specs.Prelude.{FitsSigned}
+use Rattle.std.specs.Int.{w64}
+use Rattle.std.proofs.lemmas.Int.{to_z-of_z}
+use Rattle.std.proofs.lemmas.List.Elements.{All-contains}
 use Rattle.std.proofs.lemmas.List.{length-map}
 use Rattle.std.proofs.lemmas.Option.{slice_get_within}
 use Rattle.bucket_page.specs.Records.{Pair}
@@ -17,6 +21,9 @@ use Rattle.queue_records.specs.declared.record.Record.{Record}
 use Rattle.queue_records.specs.declared.record.Record.TheVariants as records
 use Rattle.queue_records.specs.declared.type_entry.TypeEntry.{TypeEntry}
 use Rattle.record_file.specs.OneBucket.{OneBucketState}
+use Rattle.queue_model.proofs.ListLemmas.{find-Some}
+use Rattle.queue_records.specs.Fields.{type_number}
+use Rattle.type_chains.specs.Fits.{HasFittingMessage, HasFittingQueue}
 use Rattle.type_chains.specs.Lists.{serials}
 use Rattle.type_chains.specs.Neighbours.{first_of}
 use Rattle.type_chains.specs.RecordOf.{record_of, at_queue_of, has_serial, message_record, type_record}
@@ -24,6 +31,7 @@ use Rattle.xsi_calls.specs.Filing.{AreAmong, ChangesRecords, HasValues}
 use Rattle.xsi_calls.specs.Sweeping.{IsSweptTo, LeadsOn}
 use Rattle.xsi_calls.proofs.CarryLemmas.{same_values}
 use Rattle.xsi_control.specs.Turns.{DeletesOf, IsRead, IsTurnOf, key_of_message, key_of_type}
+use Rattle.xsi_control.proofs.LastLemmas.{at_place}
 use Rattle.xsi_control.proofs.SweepLemmas.{begins_whole, ends_behind}
 use Rattle.xsi_inquiry.specs.declared.decision.Plan.{Plan}
 use Rattle.xsi_inquiry.specs.declared.decision.Trials.{Trials}
@@ -150,3 +158,23 @@ leads_on id place s q serial e t p it e-is t-is leads own = record {
   leads = leads (subst (λ x. IsTurnOf id place s x t) (sym e-is) (subst (λ y. IsTurnOf id place s it.message y) (sym t-is)
       it.turn));
 }
+
+-- the type of what is read has eight bytes
+type_fits : (id place : ℕ) (s : State) (q : Queue) (serial : ℕ) (it : IsRead id place s q serial) → IsFiled s
+    → FitsSigned w64 it.message.mtype
+type_fits id place s q serial it filed =
+    let turn = it.turn in
+    let queue = All-contains HasFittingQueue s.queues turn.queue filed.fits
+        (find-Some (has_id id) s.queues turn.queue turn.alive).1 in
+    let message = All-contains HasFittingMessage turn.queue.messages turn.message queue.messages
+        (at_place turn.queue.messages place turn.message turn.stands) in
+    subst (FitsSigned w64) (sym (ap (λ (e : MessageEntry). e.mtype) turn.its_entry)) message.mtype
+
+pub type_key_is : (id place : ℕ) (s : State) (q : Queue) (serial : ℕ) (it : IsRead id place s q serial) (e : MessageEntry)
+    (number : ℕ) → IsFiled s → e ≡ it.message → number ≡ type_number (to_z w64 (of_z w64 e.mtype))
+    → ◌≡◌ {A = RecordKey} (record { kind = TYPE; queue = id; number = number }) (key_of_type id it.message.mtype)
+type_key_is id place s q serial it e number filed same is =
+    let fits = subst (FitsSigned w64) (sym (ap (λ (x : MessageEntry). x.mtype) same)) (type_fits id place s q serial it filed)
+    in
+    ap (λ (n : ℕ). record { kind = TYPE; queue = id; number = n })
+    (is ∙ ap type_number (to_z-of_z w64 e.mtype fits) ∙ ap (λ (x : MessageEntry). type_number x.mtype) same)

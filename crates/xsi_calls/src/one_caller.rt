@@ -19,7 +19,9 @@ use queue_model::{Call, Caller};
 use record_file::{CloseFault, OneBucket, OpenFault};
 use std::alloc::Global;
 use std::marker::Model;
+use type_chains::{a_callers_numbers_fit, a_calls_numbers_fit};
 use xsi_control::{GetInquiry, RemoveInquiry, SetInquiry, StatInquiry};
+use xsi_send::SendInquiry;
 
 /// Serves calls one at a time over a file of which all records stand in the root bucket. It reads records and never
 /// keeps a system. It is to be closed.
@@ -90,6 +92,8 @@ impl<D: PageDevice> OneCaller<D> {
             self.failed = true;
             return Err(CallFault::Failed);
         }
+        a_callers_numbers_fit(&caller);
+        a_calls_numbers_fit(call);
         let served = answer(&mut self.file, self.stopped, alloc, caller, call);
         self.failed = fails(&served);
         served
@@ -163,6 +167,10 @@ fn answer<D: PageDevice>(
             serve(file, stopped, alloc, call, inquiry)
         }
         Call::Remove { id } => serve(file, stopped, alloc, call, RemoveInquiry::new(caller, *id)),
-        Call::Send(_) | Call::Receive(_) => Err(CallFault::Failed),
+        Call::Send(arguments) => {
+            let inquiry = SendInquiry::new(caller, arguments);
+            serve(file, stopped, alloc, call, inquiry)
+        }
+        Call::Receive(_) => Err(CallFault::Failed),
     }
 }
