@@ -1,0 +1,4 @@
+pub mod FirstOfTypeLemmas
+pub mod ListLemmas
+pub mod TypesLemmas
+pub mod WriteLemmas
