@@ -2,6 +2,8 @@ pub mod FirstOfTypeLemmas
 pub mod ListLemmas
 pub mod MessageLemmas
 pub mod QueueLemmas
+pub mod RecordLemmas
+pub mod SelectingLemmas
 pub mod TypeLemmas
 pub mod TypesLemmas
 pub mod WriteLemmas
