@@ -1,9 +1,13 @@
+pub mod EndLemmas
 pub mod FirstOfTypeLemmas
+pub mod LengthLemmas
 pub mod ListLemmas
 pub mod MessageLemmas
+pub mod PlanLemmas
 pub mod QueueLemmas
 pub mod RecordLemmas
 pub mod SelectingLemmas
+pub mod StandLemmas
 pub mod TypeLemmas
 pub mod TypesLemmas
 pub mod WriteLemmas

@@ -79,7 +79,7 @@ module _ (q : Queue) (lawful : IsLawfulQueue q) (pid moment i : ℕ) (m : Messag
               let clash : true ≡ false = sym ((Decides-int_eq m.mtype n.mtype).1 same) ∙ e in absurd cc in
           ap (behind (is_number n.serial)) (serials_of_other_type q.messages i m taken n.mtype apart_types)
 
-  serials_other : (k : ℕ) (n : Message) → slice_get q.messages k ≡ Some n → k ≢ i → n.serial ≢ m.serial
+  pub serials_other : (k : ℕ) (n : Message) → slice_get q.messages k ≡ Some n → k ≢ i → n.serial ≢ m.serial
   serials_other k n at other same =
       let inside = slice_get_within q.messages k n at in
       let its = slice_get_within q.messages i m taken.at in
