@@ -124,7 +124,9 @@ module _ (s : State) (filed : IsFiled s) (id : ℕ) (q : Queue) (found : find (h
 
     pub kept_end : IsEnd s after id m.serial kept_ends
     kept_end = record {
-      right = All-cons Right _ _ own_right (All-cons Right _ [] gone_right (All-nil Right));
+      right = All-cons Right (Replace (records.Type (record entry { first = f })))
+          (Delete (message_key (message_entry q m)) ∷ []) own_right
+          (All-cons Right (Delete (message_key (message_entry q m))) [] gone_right (All-nil Right));
       last = (All-nil (λ (w : Write). is_same (key_written w) (message_key (message_entry q m)) ≡ false), tt);
       gone = inr (inl message_keyed);
       at_types = λ n. kept_at n (find (has_number n) (types q.messages)) refl;
@@ -289,9 +291,11 @@ module _ (s : State) (filed : IsFiled s) (id : ℕ) (q : Queue) (found : find (h
       right = All-append Right lowers (highers ++ deletions)
           (lowers_right j (before_place (types q.messages) j) refl refl)
           (All-append Right highers deletions (highers_right (slice_get (types q.messages) (suc j)) refl)
-          (All-cons Right _ _ gone_right (All-cons Right _ [] type_gone (All-nil Right))));
-      last = last_replaced _ (highers ++ deletions) (last_replaced _ deletions (
-        All-cons (λ (w : Write). is_same (key_written w) (message_key (message_entry q m)) ≡ false) _ [] refl
+          (All-cons Right (Delete (message_key (message_entry q m))) (Delete (type_key entry) ∷ []) gone_right
+          (All-cons Right (Delete (type_key entry)) [] type_gone (All-nil Right))));
+      last = last_replaced (lower_write (before_place (types q.messages) j)) (highers ++ deletions)
+          (last_replaced (higher_write (slice_get (types q.messages) (suc j))) deletions (
+        All-cons (λ (w : Write). is_same (key_written w) (message_key (message_entry q m)) ≡ false) (Delete (type_key entry)) [] refl
             (All-nil (λ (w : Write). is_same (key_written w) (message_key (message_entry q m)) ≡ false)),
         (All-nil (λ (w : Write). is_same (key_written w) (type_key entry) ≡ false), tt),
       ));
