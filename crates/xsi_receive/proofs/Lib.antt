@@ -6,6 +6,7 @@ pub mod ListLemmas
 pub mod MessageLemmas
 pub mod PlanLemmas
 pub mod QueueLemmas
+pub mod ReceiveLemmas
 pub mod RecordLemmas
 pub mod SelectingLemmas
 pub mod StandLemmas
