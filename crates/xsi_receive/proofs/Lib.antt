@@ -1,5 +1,6 @@
 pub mod EndLemmas
 pub mod FirstOfTypeLemmas
+pub mod KnowingLemmas
 pub mod LeadLemmas
 pub mod LengthLemmas
 pub mod ListLemmas

@@ -1,6 +1,6 @@
 -- What a Receive asks for next, and what the records that it was told say of the system.
 -- docs/STEPS.md, "Receive".
-use Rattle.std.specs.Prelude.{◌≡◌, ℕ, ◌+◌, nat_lt, ℤ, pos, negsuc, ◌<ℤ◌, Bool, false, not, ◌&&◌, length, Option, Some, None}
+use Rattle.std.specs.Prelude.{◌≡◌, ℕ, ◌+◌, nat_lt, ℤ, pos, ◌≤ℤ◌, Bool, false, not, ◌&&◌, length, Option, Some, None}
 use Rattle.std.specs.List.{Contains, find}
 use Rattle.bucket_page.specs.declared.record_key.RecordKey.{RecordKey}
 use Rattle.queue_model.specs.Access.{lacks_access}
@@ -67,8 +67,9 @@ pub record SelectsType (c : Caller) (a : ReceiveArguments) (e : QueueEntry) (mty
   pub its : IsEntryOf a.id e s
   pub may_read : lacks_access Read c its.queue.permissions ≡ false
   pub by_type : selected a.mtype its.queue.messages ≡ find (is_of_type mtype) its.queue.messages
+  pub typed : pos 1 ≤ℤ mtype
   -- a type that the Queue names has a message
-  pub stands : a.mtype <ℤ pos 0 → Contains (types its.queue.messages) mtype
+  pub stands : a.mtype ≤ℤ pos 0 → Contains (types its.queue.messages) mtype
 
 -- the queue may be read, and this message is taken
 pub record SelectsMessage (c : Caller) (a : ReceiveArguments) (e : QueueEntry) (s : State) : Type 0 where
