@@ -1,6 +1,6 @@
 -- What a Receive knows by what it was told.
 use Rattle.std.proofs.Common.{◌≡◌, ℕ, zero, suc, ◌<◌, ◌≤◌, ℤ, pos, negsuc, ◌≤ℤ◌, ◌<ℤ◌, Bool, true, false, List, [], ◌∷◌, length, Option, Some, None, ◌⊎◌, inl, inr, refl, sym, ap, ◌∙◌, subst, arith}
-use Rattle.std.specs.Prelude.{nat_abs, nat_lt, not, ◌&&◌, slice_index}
+use Rattle.std.specs.Prelude.{Result, Ok, Err, nat_abs, nat_lt, not, ◌&&◌, slice_index}
 use Rattle.std.specs.List.{Contains, find, position_or_len, remove}
 use Rattle.std.proofs.lemmas.Int.{ints}
 use Rattle.queue_model.specs.Access.{lacks_access}
@@ -26,12 +26,18 @@ use Rattle.type_chains.specs.Reading.{permissions_in}
 use Rattle.type_chains.specs.RecordOf.{record_of}
 use Rattle.xsi_inquiry.specs.Seeking.{IsEntryOf}
 use Rattle.xsi_inquiry.specs.Telling.{IsFiled, IsTold}
+use Rattle.xsi_inquiry.proofs.SeekLemmas.{clash}
 use Rattle.xsi_receive.specs.Knowing.{IsSelection}
 use Rattle.xsi_receive.specs.Places.{KnowsFirst, KnowsMessage, KnowsSelection, KnowsType, SelectsBoth, SelectsMessage, SelectsType, is_long}
 use Rattle.xsi_receive.specs.Reading.{alone, key_of_message, key_of_type}
 use Rattle.xsi_receive.proofs.FirstOfTypeLemmas.{serials_of_its_type, taken_at}
 use Rattle.xsi_receive.proofs.SelectingLemmas.{first_none, first_some, lowest_stands, none_of, selects_above, selects_below_in, selects_below_none, selects_below_out, stands_of, type_found}
 use Rattle.xsi_receive.proofs.StandLemmas.{message_stands, short, type_absent, type_stands, typed}
+
+above_zero : (t : ℤ) → (t ≤ℤ pos 0 → ⊥) → pos 0 <ℤ t
+above_zero (pos zero) never = absurd (never (omega (arith, ints)))
+above_zero (pos (suc n)) never = omega (arith, ints)
+above_zero (negsuc n) never = absurd (never (omega (arith, ints)))
 
 -- ---- once the Queue is read
 
@@ -168,12 +174,9 @@ module _ (c : Caller) (a : ReceiveArguments) (e : QueueEntry) (s : State) (filed
             let absent = none_of queue.messages mtype none in
             inr (
               at ∙ type_absent s filed a.id queue known.its.found mtype known.typed absent,
-              above (λ below. absent (known.stands below)),
+              above_zero a.mtype (λ below. absent (known.stands below)),
               known.by_type ∙ none,
             )
-          where
-            above : (a.mtype ≤ℤ pos 0 → ⊥) → pos 0 <ℤ a.mtype
-            above never = omega (arith, ints, never)
         by (Some m) some =
             let its = type_found queue.messages mtype m some in
             let selects_it : SelectsMessage c a e s = record {
@@ -229,3 +232,74 @@ module _ (c : Caller) (a : ReceiveArguments) (e : QueueEntry) (t : TypeEntry) (m
         may_read = k.may_read;
         fits = fits;
       }
+
+-- ---- what each place knows once it is told
+
+module _ (c : Caller) (a : ReceiveArguments) (s : State) (filed : IsFiled s) (found : Option Record) where
+  -- the first message
+  pub first_found : (e : QueueEntry) (serial : ℕ) → KnowsFirst c a e serial s →
+      IsTold s (Some (key_of_message a.id serial)) found → {E : Type 0} → (result : Result MessageEntry E) →
+      ((m : MessageEntry) → found ≡ Some (records.Message m) → length m.body ≤ 1024 → result ≡ Ok m) → (err : E) →
+      result ≡ Err err → ⊥
+  first_found e serial known told result takes err was =
+      let k = known.selects in
+      let is = its_message c a e s filed k serial known.is_its found told in
+      clash result _ (takes (message_entry k.its.queue k.message) is (is_short c a e s filed k)) err was
+
+  pub first_taken : (e : QueueEntry) (serial : ℕ) (m : MessageEntry) → KnowsFirst c a e serial s →
+      IsTold s (Some (key_of_message a.id serial)) found → found ≡ Some (records.Message m) → KnowsMessage c a e m s
+  first_taken e serial m known told is =
+      let k = known.selects in
+      let both = sym is ∙ its_message c a e s filed k serial known.is_its found told in
+      record { selects = k; entry = cc }
+
+  -- the Type of it
+  pub type_of_first_found : (e : QueueEntry) (m : MessageEntry) → KnowsMessage c a e m s →
+      IsTold s (Some (key_of_type a.id m.mtype)) found → {E : Type 0} → (result : Result TypeEntry E) →
+      ((t : TypeEntry) → found ≡ Some (records.Type t) → result ≡ Ok t) → (err : E) → result ≡ Err err → ⊥
+  type_of_first_found e m known told result takes err was =
+      let k = known.selects in
+      let is = its_type c a e s filed k m.mtype (ap (λ (x : MessageEntry). x.mtype) known.entry) found told in
+      clash result _ (takes (type_entry k.its.queue k.message.mtype) is) err was
+
+  pub type_of_first_taken : (e : QueueEntry) (m : MessageEntry) (t : TypeEntry) → KnowsMessage c a e m s →
+      IsTold s (Some (key_of_type a.id m.mtype)) found → found ≡ Some (records.Type t) → SelectsBoth c a e t m s
+  type_of_first_taken e m t known told is =
+      let k = known.selects in
+      let both = sym is ∙ its_type c a e s filed k m.mtype (ap (λ (x : MessageEntry). x.mtype) known.entry) found told in
+      record { selects = k; mtype = cc; entry = known.entry }
+
+  -- the Type that is sought
+  pub type_is_found : (e : QueueEntry) (mtype : ℤ) → SelectsType c a e mtype s →
+      IsTold s (Some (key_of_type a.id mtype)) found → (found ≡ None → pos 0 <ℤ a.mtype → ⊥) →
+      {E : Type 0} → (result : Result TypeEntry E) →
+      ((t : TypeEntry) → found ≡ Some (records.Type t) → result ≡ Ok t) → (err : E) → result ≡ Err err → ⊥
+  type_is_found e mtype known told some result takes err was = elim (type_told c a e s filed mtype known found told) [
+    | inl (it, is) ↦ clash result _ (takes (type_entry it.its.queue it.message.mtype) is) err was
+    | inr (none, above, empty) ↦ some none above
+  ]
+
+  pub type_is_taken : (e : QueueEntry) (mtype : ℤ) (t : TypeEntry) → SelectsType c a e mtype s →
+      IsTold s (Some (key_of_type a.id mtype)) found → found ≡ Some (records.Type t) → KnowsType c a e t s
+  type_is_taken e mtype t known told is = elim (type_told c a e s filed mtype known found told) [
+    | inl (it, some) ↦ let both = sym is ∙ some in record { selects = it; entry = cc }
+    | inr (none, above, empty) ↦
+        let both : ◌≡◌ {A = Option Record} (Some (records.Type t)) None = sym is ∙ none in absurd cc
+  ]
+
+  -- the first message of that Type
+  pub first_of_type_found : (e : QueueEntry) (t : TypeEntry) → KnowsType c a e t s →
+      IsTold s (Some (key_of_message a.id t.first)) found → {E : Type 0} → (result : Result MessageEntry E) →
+      ((m : MessageEntry) → found ≡ Some (records.Message m) → length m.body ≤ 1024 → result ≡ Ok m) → (err : E) →
+      result ≡ Err err → ⊥
+  first_of_type_found e t known told result takes err was =
+      let k = known.selects in
+      let is = its_message c a e s filed k t.first (first_is c a e s filed k t known.entry) found told in
+      clash result _ (takes (message_entry k.its.queue k.message) is (is_short c a e s filed k)) err was
+
+  pub first_of_type_taken : (e : QueueEntry) (t : TypeEntry) (m : MessageEntry) → KnowsType c a e t s →
+      IsTold s (Some (key_of_message a.id t.first)) found → found ≡ Some (records.Message m) → SelectsBoth c a e t m s
+  first_of_type_taken e t m known told is =
+      let k = known.selects in
+      let both = sym is ∙ its_message c a e s filed k t.first (first_is c a e s filed k t known.entry) found told in
+      record { selects = k; mtype = known.entry; entry = cc }

@@ -1,3 +1,4 @@
+pub mod DecidingLemmas
 pub mod EndLemmas
 pub mod FirstOfTypeLemmas
 pub mod KnowingLemmas
@@ -11,6 +12,7 @@ pub mod ReceiveLemmas
 pub mod RecordLemmas
 pub mod SelectingLemmas
 pub mod StandLemmas
+pub mod TakingLemmas
 pub mod TypeLemmas
 pub mod TypesLemmas
 pub mod WriteLemmas

@@ -11,7 +11,7 @@ ghost use Rattle.type_chains.specs.Reading.{permissions_in};
 ghost use Rattle.xsi_inquiry.specs.Seeking.{IsEntryOf, Tells};
 ghost use Rattle.xsi_inquiry.specs.Telling.{Gives, IsFiled, IsTold};
 ghost use Rattle.xsi_receive.specs.Giving.{given, puts_off};
-ghost use Rattle.xsi_receive.specs.Places.{KnowsAt, SelectsBoth, key_at, left_at, left_of_sought};
+ghost use Rattle.xsi_receive.specs.Places.{KnowsAt, SelectsBoth, is_long, key_at, left_at, left_of_sought};
 
 use crate::neighbour::{message_key, type_key};
 use crate::plan::plan_receive;
@@ -188,7 +188,7 @@ impl Place {
             KnowsAt c arguments.now result s }
         ensures left { left_at result ≤ 4 }
     {
-        if message.entry().body.len() > arguments.size as usize && !arguments.noerror {
+        if is_long(arguments, &message) {
             return Place::Refused(Errno::E2BIG);
         }
         Place::Selected(Selection::new(queue, mtype, message))
@@ -269,6 +269,13 @@ fn type_found(found: Option<Record<'_>>) -> Result<TypeEntry, NotASystem>
         return Err(NotASystem);
     };
     type_in(entry)
+}
+
+/// Whether a message is longer than asked for, and may not be cut.
+fn is_long(arguments: &ReceiveArguments, message: &HeldMessage) -> bool
+    ensures { result ≡ is_long arguments.now message.now }
+{
+    message.entry().body.len() > arguments.size as usize && !arguments.noerror
 }
 
 /// Owner, creator and mode of a queue.
