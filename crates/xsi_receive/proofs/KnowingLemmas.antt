@@ -1,6 +1,6 @@
 -- What a Receive knows by what it was told.
 use Rattle.std.proofs.Common.{◌≡◌, ℕ, zero, suc, ◌<◌, ◌≤◌, ℤ, pos, negsuc, ◌≤ℤ◌, ◌<ℤ◌, Bool, true, false, List, [], ◌∷◌, length, Option, Some, None, ◌⊎◌, inl, inr, refl, sym, ap, ◌∙◌, subst, arith}
-use Rattle.std.specs.Prelude.{Result, Ok, Err, nat_abs, nat_lt, not, ◌&&◌, slice_index}
+use Rattle.std.specs.Prelude.{Result, Ok, Err, int_lt, is_none, nat_abs, nat_lt, not, ◌&&◌, slice_index}
 use Rattle.std.specs.List.{Contains, find, position_or_len, remove}
 use Rattle.std.proofs.lemmas.Int.{ints}
 use Rattle.queue_model.specs.Access.{lacks_access}
@@ -113,6 +113,16 @@ module _ (c : Caller) (a : ReceiveArguments) (e : QueueEntry) (s : State) (its :
           };
           is_its = same;
         }
+
+-- whether a type above 0 has no Type
+pub is_absent : (found : Option Record) (b : Bool) → (is_none found && b) ≡ true → found ≡ None
+is_absent None b is = refl
+is_absent (Some r) b is = absurd cc
+
+pub not_absent : (found : Option Record) (t : ℤ) → (is_none found && int_lt (pos 0) t) ≡ false → found ≡ None →
+    pos 0 <ℤ t → ⊥
+not_absent None t is none above = absurd (grind (arith, ints, is, above))
+not_absent (Some r) t is none above = absurd cc
 
 -- ---- once more is read
 

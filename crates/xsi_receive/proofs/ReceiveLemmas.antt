@@ -53,12 +53,12 @@ all_read None None None (Some t) none = absurd cc
 all_read None None None None none = record { previous = refl; next = refl; lower = refl; higher = refl }
 
 -- what stands before a place of a list and of what is made of it
-before_made : (ms : List Message) (i : ℕ) →
+pub before_made : (ms : List Message) (i : ℕ) →
     before_place (serials ms) i ≡ option_map (λ (n : Message). n.serial) (before_place ms i)
 before_made ms zero = refl
 before_made ms (suc i) = slice_get-map (λ (n : Message). n.serial) ms i
 
-before_stands : {X : Type 0} (xs : List X) (i : ℕ) (x : X) → before_place xs i ≡ Some x → Contains xs x
+pub before_stands : {X : Type 0} (xs : List X) (i : ℕ) (x : X) → before_place xs i ≡ Some x → Contains xs x
 before_stands xs zero x is = absurd cc
 before_stands xs (suc i) x is = stands_at xs i x is
 

@@ -1,7 +1,13 @@
 -- What the records beside a message say when they are told.
-use Rattle.std.proofs.Common.{◌≡◌, ℕ, ◌≤◌, ℤ, Bool, true, false, length, Option, Some, None, refl, sym, ap, ◌∙◌, subst}
-use Rattle.std.specs.Prelude.{Result, Ok, Err, is_some, option_map}
-use Rattle.std.specs.List.{find}
+use Rattle.std.proofs.Common.{◌≡◌, ℕ, suc, ◌≤◌, ℤ, Bool, true, false, length, Option, Some, None, refl, sym, ap, ◌∙◌, subst}
+use Rattle.std.specs.Prelude.{IsSome, Result, Ok, Err, is_some, option_map, slice_get}
+use Rattle.std.specs.List.{Contains, find, position_or_len}
+use Rattle.std.proofs.lemmas.Option.{slice_get-map}
+use Rattle.bucket_page.specs.declared.record_key.RecordKey.{RecordKey}
+use Rattle.queue_model.specs.Access.{lacks_access}
+use Rattle.queue_model.specs.declared.caller.Caller.{Caller}
+use Rattle.queue_model.specs.declared.permissions.Access.TheVariants.{Read}
+use Rattle.queue_model.specs.Selection.{selected}
 use Rattle.queue_model.specs.declared.call.ReceiveArguments.{ReceiveArguments}
 use Rattle.queue_model.specs.declared.message.Message.{Message}
 use Rattle.queue_model.specs.declared.queue.Queue.{Queue}
@@ -13,8 +19,9 @@ use Rattle.queue_records.specs.declared.record.Record.{Record}
 use Rattle.queue_records.specs.declared.record.Record.TheVariants as records
 use Rattle.queue_records.specs.declared.type_entry.TypeEntry.{TypeEntry}
 use Rattle.queue_records.specs.Fields.{type_number}
-use Rattle.type_chains.specs.Entries.{message_entry, type_entry}
-use Rattle.type_chains.specs.Lists.{types}
+use Rattle.type_chains.specs.Entries.{is_number, is_same_type, message_entry, type_entry}
+use Rattle.type_chains.specs.Lists.{serials, types}
+use Rattle.type_chains.specs.Neighbours.{before_place}
 use Rattle.type_chains.specs.RecordOf.{has_number, has_serial, record_of}
 use Rattle.type_chains.proofs.Tests.{mapped}
 use Rattle.xsi_inquiry.specs.Telling.{IsFiled, IsTold}
@@ -24,7 +31,10 @@ use Rattle.xsi_receive.specs.declared.neighbour.Neighbour.TheVariants.{Previous,
 use Rattle.xsi_receive.specs.declared.selection.Selection.{Selection}
 use Rattle.xsi_receive.specs.Knowing.{IsMessageAt, IsSelection, IsTypeAt}
 use Rattle.xsi_receive.specs.Reading.{first_unread, higher_unread, key_missing, key_of_message, key_of_neighbour, key_of_type, lower_unread, missing, next_unread, previous_unread, unread, where_last}
-use Rattle.xsi_receive.proofs.StandLemmas.{at_message_key, at_type_key, short}
+use Rattle.xsi_receive.proofs.StandLemmas.{at_message_key, at_type_key, message_stands, short, type_stands}
+use Rattle.xsi_receive.proofs.PlanLemmas.{stands_at}
+use Rattle.xsi_receive.proofs.ReceiveLemmas.{before_made, before_stands}
+use Rattle.xsi_receive.specs.Places.{KnowsSelection, is_long}
 
 -- ---- what is to be read next is what a link names
 
@@ -179,3 +189,78 @@ module _ (a : ReceiveArguments) (e : Selection) (s : State) (filed : IsFiled s) 
         (is_higher (previous_unread e) (next_unread e) (lower_unread e) (higher_unread e) t is)))
         (sym (told_at (Higher t) is) ∙ ap Some same);
   }
+
+-- ---- each record beside it stands
+
+module _ (a : ReceiveArguments) (e : Selection) (s : State) (filed : IsFiled s) (known : IsSelection a e s) where
+  abbrev q : Queue
+  q = known.its.queue
+
+  message_named : (serial : ℕ) (o : Option Message) → option_map (λ (n : Message). n.serial) o ≡ Some serial →
+      ((n : Message) → o ≡ Some n → Contains q.messages n) → record_of s (key_of_message a.id serial) ≡ None → ⊥
+  message_named serial o is there none =
+      let (n, at, same) = mapped (λ (n : Message). n.serial) o serial is in
+      let stands = message_stands s filed a.id q known.its.found n (there n at) in
+      let both : ◌≡◌ {A = Option Record} (Some (records.Message (message_entry q n))) None =
+      sym stands ∙ ap (λ (k : ℕ). record_of s (key_of_message a.id k)) same ∙ none in absurd cc
+
+  type_named : (t : ℤ) → Contains (types q.messages) t → record_of s (key_of_type a.id t) ≡ None → ⊥
+  type_named t there none =
+      let both : ◌≡◌ {A = Option Record} (Some (records.Type (type_entry q t))) None =
+      sym (type_stands s filed a.id q known.its.found t there) ∙ none in absurd cc
+
+  stands : (n : Neighbour) → missing e ≡ Some n → record_of s (key_of_neighbour a.id n) ≡ None → ⊥
+  stands (Previous serial) is none =
+      let link = named (is_some e.previous) e.message.previous serial
+      (is_previous (previous_unread e) (next_unread e) (lower_unread e) (higher_unread e) serial is) in
+      let k = position_or_len (is_number known.message.serial) (serials q.messages) in
+      message_named serial (before_place q.messages k)
+      (sym (before_made q.messages k) ∙ sym (ap (λ (x : MessageEntry). x.previous) known.entry) ∙ link)
+      (before_stands q.messages k) none
+  stands (Next serial) is none =
+      let link = named (is_some e.next) e.message.next serial
+      (is_next (previous_unread e) (next_unread e) (lower_unread e) (higher_unread e) serial is) in
+      let k = position_or_len (is_number known.message.serial) (serials q.messages) in
+      message_named serial (slice_get q.messages (suc k))
+      (sym (slice_get-map (λ (n : Message). n.serial) q.messages (suc k))
+      ∙ sym (ap (λ (x : MessageEntry). x.next) known.entry) ∙ link)
+      (stands_at q.messages (suc k)) none
+  stands (Lower t) is none =
+      let link = named (is_some e.lower) e.mtype.lower t (named_last e.message.next_of_type
+      (unread (is_some e.lower) e.mtype.lower) t
+      (is_lower (previous_unread e) (next_unread e) (lower_unread e) (higher_unread e) t is)) in
+      let k = position_or_len (is_same_type known.message.mtype) (types q.messages) in
+      type_named t (before_stands (types q.messages) k t (sym (ap (λ (x : TypeEntry). x.lower) known.mtype) ∙ link)) none
+  stands (Higher t) is none =
+      let link = named (is_some e.higher) e.mtype.higher t (named_last e.message.next_of_type
+      (unread (is_some e.higher) e.mtype.higher) t
+      (is_higher (previous_unread e) (next_unread e) (lower_unread e) (higher_unread e) t is)) in
+      let k = position_or_len (is_same_type known.message.mtype) (types q.messages) in
+      type_named t (stands_at (types q.messages) (suc k) t (sym (ap (λ (x : TypeEntry). x.higher) known.mtype) ∙ link)) none
+
+  pub nothing_missing : IsSome (key_missing a.id e) → IsTold s (key_missing a.id e) None → ⊥
+  nothing_missing asked told = by (missing e) refl
+    where
+      by : (o : Option Neighbour) → missing e ≡ o → ⊥
+      by None is =
+          let none : false ≡ true = subst IsSome (ap (option_map (key_of_neighbour a.id)) is) asked in absurd cc
+      by (Some n) is =
+          stands n is (sym (told (key_of_neighbour a.id n) (ap (option_map (key_of_neighbour a.id)) is)))
+
+-- a selection of the same call and system is of the same message
+pub knows_again : (c : Caller) (a : ReceiveArguments) (e f : Selection) (s : State) → KnowsSelection c a e s →
+    IsSelection a f s → KnowsSelection c a f s
+knows_again c a e f s known new =
+    let old = known.is in
+    let queues : ◌≡◌ {A = Option Queue} (Some old.its.queue) (Some new.its.queue) = sym old.its.found ∙ new.its.found in
+    let same : old.its.queue ≡ new.its.queue = cc in
+    let selections : ◌≡◌ {A = Option Message} (Some old.message) (Some new.message) =
+    sym old.is_selected ∙ ap (λ (x : Queue). selected a.mtype x.messages) same ∙ new.is_selected in
+    let same_message : old.message ≡ new.message = cc in
+    let entries = old.entry ∙ ap (λ (x : Queue). message_entry x old.message) same
+    ∙ ap (message_entry new.its.queue) same_message ∙ sym new.entry in
+    record {
+      is = new;
+      may_read = subst (λ (x : Queue). lacks_access Read c x.permissions ≡ false) same known.may_read;
+      fits = subst (λ (x : MessageEntry). is_long a x ≡ false) entries known.fits;
+    }

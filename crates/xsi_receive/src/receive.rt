@@ -1,6 +1,6 @@
 //! Receive: the records that it asks for, and what it decides.
 
-ghost use Rattle.std.specs.Prelude.{◌≡◌, ◌≤◌, ◌<◌, IfOk, IsSome, Ok, OnOk, Some, length, take};
+ghost use Rattle.std.specs.Prelude.{◌≡◌, ◌≤◌, ◌<◌, ◌&&◌, IfOk, IsSome, Ok, OnOk, Some, int_lt, is_none, length, pos, take};
 ghost use Rattle.queue_model.specs.declared.caller.Caller.{Caller};
 ghost use Rattle.queue_model.specs.State.{State};
 ghost use Rattle.queue_records.specs.declared.limits.TheConstants.{MAX_BODY};
@@ -228,7 +228,7 @@ impl Place {
                 Ok(Place::of_message(arguments, queue, mtype, message))
             }
             Place::OfType(queue, _) => {
-                if found.is_none() && arguments.mtype > 0 {
+                if has_none(arguments, &found) {
                     return Ok(Place::PutOff);
                 }
                 Ok(Place::FirstOfType(queue, type_found(found)?))
@@ -269,6 +269,13 @@ fn type_found(found: Option<Record<'_>>) -> Result<TypeEntry, NotASystem>
         return Err(NotASystem);
     };
     type_in(entry)
+}
+
+/// Whether no message of the type asked for stands: a type above 0 may have no Type.
+fn has_none(arguments: &ReceiveArguments, found: &Option<Record<'_>>) -> bool
+    ensures { result ≡ (is_none found.now && int_lt (pos 0) arguments.now.mtype) }
+{
+    found.is_none() && arguments.mtype > 0
 }
 
 /// Whether a message is longer than asked for, and may not be cut.
