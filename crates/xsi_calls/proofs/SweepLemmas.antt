@@ -13,6 +13,7 @@ use Rattle.std.proofs.lemmas.Option.{slice_get_within}
 use Rattle.bucket_page.specs.Records.{Pair}
 use Rattle.queue_model.specs.declared.message.Message.{Message}
 use Rattle.queue_model.specs.declared.queue.Queue.{Queue}
+use Rattle.queue_model.specs.Lawful.{IsLawfulQueue}
 use Rattle.queue_model.specs.Rules.{has_id}
 use Rattle.queue_model.specs.State.{State}
 use Rattle.queue_records.specs.declared.layout.TheConstants.{TYPE, MESSAGE}
@@ -178,3 +179,9 @@ type_key_is id place s q serial it e number filed same is =
     in
     ap (λ (n : ℕ). record { kind = TYPE; queue = id; number = n })
     (is ∙ ap type_number (to_z-of_z w64 e.mtype fits) ∙ ap (λ (x : MessageEntry). type_number x.mtype) same)
+
+-- no queue has more messages than turns are taken
+pub few_messages : (id : ℕ) (s : State) (q : Queue) → IsFiled s → find (has_id id) s.queues ≡ Some q
+    → length q.messages ≤ 1024
+few_messages id s q filed alive =
+    (All-contains IsLawfulQueue s.queues q filed.lawful.queues_lawful (find-Some (has_id id) s.queues q alive).1).few_messages

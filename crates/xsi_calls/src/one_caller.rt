@@ -21,6 +21,7 @@ use std::alloc::Global;
 use std::marker::Model;
 use type_chains::{a_callers_numbers_fit, a_calls_numbers_fit};
 use xsi_control::{GetInquiry, RemoveInquiry, SetInquiry, StatInquiry};
+use xsi_receive::ReceiveInquiry;
 use xsi_send::SendInquiry;
 
 /// Serves calls one at a time over a file of which all records stand in the root bucket. It reads records and never
@@ -171,6 +172,9 @@ fn answer<D: PageDevice>(
             let inquiry = SendInquiry::new(caller, arguments);
             serve(file, stopped, alloc, call, inquiry)
         }
-        Call::Receive(_) => Err(CallFault::Failed),
+        Call::Receive(arguments) => {
+            let inquiry = ReceiveInquiry::new(caller, *arguments);
+            serve(file, stopped, alloc, call, inquiry)
+        }
     }
 }
