@@ -6,7 +6,6 @@ use Rattle.bucket_page.specs.declared.record_key.RecordKey.{RecordKey}
 use Rattle.bucket_page.specs.Changes.{HasValueOf, inserted, removed, replaced}
 use Rattle.bucket_page.specs.Keys.{is_same}
 use Rattle.bucket_page.specs.Records.{Pair, ascend, lookup, pair}
-
 use Rattle.bucket_page.proofs.KeyLaws.{same_is}
 use Rattle.bucket_page.proofs.LookupLaws.{lookup_inserted, lookup_removed, lookup_replaced}
 use Rattle.queue_records.specs.declared.record.Record.{Record}

@@ -40,10 +40,15 @@ module _ (queue number key_kind queue_kind type_kind message_kind : Bool) where
       (cond type_kind no_record (cond message_kind no_record no_record)))
 
   no_others : others ≡ no_record
-
   no_others =
-      rw (none_either queue, none_either number, none_either message_kind, none_either type_kind,
-      none_either queue_kind, none_either key_kind) refl
+      rw (
+        none_either queue,
+        none_either number,
+        none_either message_kind,
+        none_either type_kind,
+        none_either queue_kind,
+        none_either key_kind,
+      ) refl
 
 only_counter : (kind queue number : Bool) (rest : Option Record) → rest ≡ no_record
     → cond (kind && (queue && number)) (option_map value_of counter_at) None

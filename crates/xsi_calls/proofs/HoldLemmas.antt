@@ -112,17 +112,16 @@ module _ (c : Caller) (call : Call) (old new : CallerState) (s : State) (caller 
 
   pub held_after : (r : Result Served CallFault) → new.failed ≡ fails r
       → Tells c call s r (λ t. HasValues (record_of t) new.file.records) → Tells c call s r (Holds new)
-  held_after (Ok (Answer a)) sound told =
-      (
-        told.0,
-        told.1,
-        record {
-          filed = keeps_filed c call a s told.0 caller fitting told.1 held.filed;
-          sound = sound;
-          stopped = keeps_stopped c call a s told.0 told.1 ∙ held.stopped ∙ sym stopped;
-          file = holds_records old.file new.file (record_of s) (record_of told.0) same held.file told.2;
-        },
-      )
+  held_after (Ok (Answer a)) sound told = (
+    told.0,
+    told.1,
+    record {
+      filed = keeps_filed c call a s told.0 caller fitting told.1 held.filed;
+      sound = sound;
+      stopped = keeps_stopped c call a s told.0 told.1 ∙ held.stopped ∙ sym stopped;
+      file = holds_records old.file new.file (record_of s) (record_of told.0) same held.file told.2;
+    },
+  )
   held_after (Ok Waits) sound told = (told.0, left sound told.1)
   held_after (Err NoRoom) sound told = left sound told
   held_after (Err NoMemory) sound told = left sound told

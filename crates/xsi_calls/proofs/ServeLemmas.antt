@@ -30,8 +30,7 @@ pub answered : (c : Caller) (call : Call) (s : State) (d : Decision) (v : Verdic
     → HasValues (record_of s) old → Decides c call s d
     → Tells c call s (Ok (served.Answer a)) (λ t. HasValues (record_of t) new.records)
 answered c call s d v p a old new is answer carried has decides =
-    let it : IsAnswered c call s v p = subst (Decides c call s) is decides in
-    (
+    let it : IsAnswered c call s v p = subst (Decides c call s) is decides in (
       it.after,
       it.outcome ∙ ap (λ (x : Answer). Some (x, it.after)) (sym answer),
       carried (record_of s) (record_of it.after) has it.leads,

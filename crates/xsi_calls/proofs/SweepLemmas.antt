@@ -166,9 +166,9 @@ type_fits : (id place : ℕ) (s : State) (q : Queue) (serial : ℕ) (it : IsRead
 type_fits id place s q serial it filed =
     let turn = it.turn in
     let queue = All-contains HasFittingQueue s.queues turn.queue filed.fits
-        (find-Some (has_id id) s.queues turn.queue turn.alive).1 in
+    (find-Some (has_id id) s.queues turn.queue turn.alive).1 in
     let message = All-contains HasFittingMessage turn.queue.messages turn.message queue.messages
-        (at_place turn.queue.messages place turn.message turn.stands) in
+    (at_place turn.queue.messages place turn.message turn.stands) in
     subst (FitsSigned w64) (sym (ap (λ (e : MessageEntry). e.mtype) turn.its_entry)) message.mtype
 
 pub type_key_is : (id place : ℕ) (s : State) (q : Queue) (serial : ℕ) (it : IsRead id place s q serial) (e : MessageEntry)

@@ -32,10 +32,7 @@ pub fn carry<D: PageDevice>(file: &mut OneBucket<D>, plan: &Plan<'_>) -> Result<
 }
 
 /// Inserts records on trial.
-fn insert_all<D: PageDevice>(
-    file: &mut OneBucket<D>,
-    trials: &Trials<'_>,
-) -> Result<(), CallFault>
+fn insert_all<D: PageDevice>(file: &mut OneBucket<D>, trials: &Trials<'_>) -> Result<(), CallFault>
     requires { file.old.broken ≡ false }
     ensures ok { (records : Records) → HasValues records file.old.records →
         AreAbsent (trials_of trials.now) records → All IsInRange (trials_of trials.now) →

@@ -13,7 +13,6 @@ mod serve;
 mod served;
 mod sweep;
 
-
 pub use fault::CallFault;
 pub use laws::a_new_file_is_that_of_no_queue;
 pub use one_caller::OneCaller;

@@ -12,7 +12,6 @@ ghost use Rattle.xsi_inquiry.specs.Telling.{IsFiled};
 
 use crate::fault::CallFault;
 use crate::serve::serve;
-
 use crate::served::Served;
 use page_device::PageDevice;
 use queue_model::{Call, Caller};
@@ -43,11 +42,7 @@ impl<D: PageDevice> Model for OneCaller<D> {
 impl<D: PageDevice> OneCaller<D> {
     /// Opens the file on a device, with so many frames for its pages. The system is not stopped. Each refusal gives the
     /// device back.
-    pub fn open(
-        alloc: Global,
-        device: D,
-        frames: usize,
-    ) -> Result<OneCaller<D>, (D, OpenFault)>
+    pub fn open(alloc: Global, device: D, frames: usize) -> Result<OneCaller<D>, (D, OpenFault)>
         ensures ok { (s : State) → IsTrue (D.is_honest device) → IsFileOf s (D.content device) →
             IfOk result (λ caller. Holds caller (restarted s)) }
         // Nothing but a transfer, no frame or want of memory refuses the file of a system.
@@ -76,12 +71,7 @@ impl<D: PageDevice> OneCaller<D> {
     /// record, or no memory for the answer, which changes nothing either.
     ///
     /// `Failed` where the records are not those of a system, and from then on for each call.
-    pub fn call(
-        &mut self,
-        alloc: Global,
-        caller: Caller,
-        call: &Call,
-    ) -> Result<Served, CallFault>
+    pub fn call(&mut self, alloc: Global, caller: Caller, call: &Call) -> Result<Served, CallFault>
         ensures told { (s : State) → Holds self.old s →
             Tells caller call.now s result (Holds self.new) }
         ensures failed { IsTrue self.old.failed → result ≡ Err CallFault.Failed }

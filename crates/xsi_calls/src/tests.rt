@@ -4,7 +4,9 @@ ghost use Rattle.std.specs.Prelude.{◌≡◌, []};
 
 use super::*;
 use page_device::{FaultyDevice, MemDevice, PAYLOAD_BYTES, PageDevice, seal};
-use queue_model::{Answer, Body, Call, Caller, Errno, GetArguments, ReceiveArguments, SendArguments};
+use queue_model::{
+    Answer, Body, Call, Caller, Errno, GetArguments, ReceiveArguments, SendArguments,
+};
 use record_file::format;
 use std::alloc::Global;
 use std::process::Abort;
@@ -107,7 +109,10 @@ fn three_long_messages_fit_the_smallest_file(rt: HostRuntime) -> Result<(), Fail
     assert!(rt; caller.call(alloc, ROOT, &get(1)) == Ok(Served::Answer(Answer::Id(1))));
     for serial in 1..=3u64 {
         let sent = caller.call(alloc, ROOT, &send(alloc, 1, 1024)?);
-        assert!(rt; sent == Ok(Served::Answer(Answer::Sent(serial))), "message {serial}");
+        assert!(rt;
+            sent == Ok(Served::Answer(Answer::Sent(serial))),
+            "message {serial}"
+        );
     }
     let fourth = caller.call(alloc, ROOT, &send(alloc, 1, 1024)?);
     assert!(rt; fourth == Err(CallFault::NoRoom));
@@ -143,12 +148,18 @@ fn a_removed_queue_leaves_its_room(rt: HostRuntime) -> Result<(), Fail> {
         assert!(rt; caller.call(alloc, ROOT, &get(9)) == Ok(Served::Answer(Answer::Id(id))));
         for serial in 1..=3u64 {
             let sent = caller.call(alloc, ROOT, &send(alloc, id, 1024)?);
-            assert!(rt; sent == Ok(Served::Answer(Answer::Sent(serial))), "queue {id}");
+            assert!(rt;
+                sent == Ok(Served::Answer(Answer::Sent(serial))),
+                "queue {id}"
+            );
         }
         let removed = caller.call(alloc, ROOT, &Call::Remove { id });
         assert!(rt; removed == Ok(Served::Answer(Answer::Done)), "queue {id}");
         let gone = caller.call(alloc, ROOT, &receive(id));
-        assert!(rt; gone == Ok(Served::Answer(Answer::Refused(Errno::EIDRM))), "queue {id}");
+        assert!(rt;
+            gone == Ok(Served::Answer(Answer::Refused(Errno::EIDRM))),
+            "queue {id}"
+        );
     }
     closes(caller)?;
     Ok(())

@@ -13,14 +13,14 @@ returns-in-One-clause-ok g c =
 pub returns-in_default-clause-ok : goal.returns-in_default-clause-ok
 returns-in_default-clause-ok g c = λ records has absent range.
     let it = first_of_two c.args.trials.now c.in-Two.first c.in-Two.second _ _ c.in-Two.is c.in-Ok.ensures.ok
-        records has absent range in
+    records has absent range in
     both_inserted c.args.trials.now c.in-Two.first c.in-Two.second records _ c.in-Two.is
     (c.in_default.ensures.ok _ it.values it.absent it.in_range)
 
 pub returns-in-Ok-delete-clause-ok : goal.returns-in-Ok-delete-clause-ok
 returns-in-Ok-delete-clause-ok g c = λ records has absent range.
     let it = first_of_two c.args.trials.now c.in-Two.first c.in-Two.second _ _ c.in-Two.is c.in-Ok.ensures.ok
-        records has absent range in
+    records has absent range in
     both_back c.in-Err-insert.fault c.in-Two.first records (inserted (trials_of c.args.trials.now) records)
     (both_in c.in-Two.first c.in-Two.second records) c.insert-in-Two-2.new.file c.delete.new.file it.absent_first
     (c.in-Err-insert.ensures.ok _ it.values it.absent it.in_range)
@@ -30,7 +30,7 @@ returns-in-Ok-delete-clause-ok g c = λ records has absent range.
 pub returns-in-Err-delete-clause-ok : goal.returns-in-Err-delete-clause-ok
 returns-in-Err-delete-clause-ok g c = λ records has absent range.
     let it = first_of_two c.args.trials.now c.in-Two.first c.in-Two.second _ _ c.in-Two.is c.in-Ok.ensures.ok
-        records has absent range in
+    records has absent range in
     first_stands c.in-Err-insert.fault c.in-Two.first records (both_in c.in-Two.first c.in-Two.second records)
     c.insert-in-Two-2.new.file
     (c.in-Err-insert.ensures.ok _ it.values it.absent it.in_range)
