@@ -50,18 +50,18 @@ fn get(key: u32) -> Call {
 }
 
 /// A Send of type 5 with a body of so many bytes `a`.
-fn send(alloc: Global, id: u32, len: usize) -> Result<Call, Fail> {
+fn send(rt: &impl Abort, alloc: Global, id: u32, len: usize) -> Call {
     let mut bytes = Vec::new(alloc);
     for _ in 0..len {
-        bytes.push(b'a')?;
+        assert!(rt; bytes.push(b'a').is_ok(), "no memory");
     }
-    Ok(Call::Send(SendArguments {
+    Call::Send(SendArguments {
         id,
         mtype: 5,
         body: Body::new(bytes),
         nowait: false,
         moment: 11,
-    }))
+    })
 }
 
 fn receive(id: u32) -> Call {
@@ -94,7 +94,7 @@ fn a_message_is_sent_and_received(rt: HostRuntime) -> Result<(), Fail> {
     let alloc = rt.alloc();
     let mut caller = opens(alloc, new_file(alloc)?)?;
     assert!(rt; caller.call(alloc, ROOT, &get(7)) == Ok(Served::Answer(Answer::Id(1))));
-    let sent = caller.call(alloc, ROOT, &send(alloc, 1, 1)?);
+    let sent = caller.call(alloc, ROOT, &send(&rt, alloc, 1, 1));
     assert!(rt; sent == Ok(Served::Answer(Answer::Sent(1))));
     assert!(rt; is_received(&caller.call(alloc, ROOT, &receive(1)), 1, 1));
     assert!(rt; caller.call(alloc, ROOT, &get(7)) == Ok(Served::Answer(Answer::Id(1))));
@@ -108,17 +108,17 @@ fn three_long_messages_fit_the_smallest_file(rt: HostRuntime) -> Result<(), Fail
     let mut caller = opens(alloc, new_file(alloc)?)?;
     assert!(rt; caller.call(alloc, ROOT, &get(1)) == Ok(Served::Answer(Answer::Id(1))));
     for serial in 1..=3u64 {
-        let sent = caller.call(alloc, ROOT, &send(alloc, 1, 1024)?);
+        let sent = caller.call(alloc, ROOT, &send(&rt, alloc, 1, 1024));
         assert!(rt;
             sent == Ok(Served::Answer(Answer::Sent(serial))),
             "message {serial}"
         );
     }
-    let fourth = caller.call(alloc, ROOT, &send(alloc, 1, 1024)?);
+    let fourth = caller.call(alloc, ROOT, &send(&rt, alloc, 1, 1024));
     assert!(rt; fourth == Err(CallFault::NoRoom));
     assert_eq!(rt; CallFault::NoRoom.number(), 50);
     assert!(rt; is_received(&caller.call(alloc, ROOT, &receive(1)), 1, 1024));
-    let fourth = caller.call(alloc, ROOT, &send(alloc, 1, 1024)?);
+    let fourth = caller.call(alloc, ROOT, &send(&rt, alloc, 1, 1024));
     assert!(rt; fourth == Ok(Served::Answer(Answer::Sent(4))));
     closes(caller)?;
     Ok(())
@@ -147,7 +147,7 @@ fn a_removed_queue_leaves_its_room(rt: HostRuntime) -> Result<(), Fail> {
     for id in 1..=5u32 {
         assert!(rt; caller.call(alloc, ROOT, &get(9)) == Ok(Served::Answer(Answer::Id(id))));
         for serial in 1..=3u64 {
-            let sent = caller.call(alloc, ROOT, &send(alloc, id, 1024)?);
+            let sent = caller.call(alloc, ROOT, &send(&rt, alloc, id, 1024));
             assert!(rt;
                 sent == Ok(Served::Answer(Answer::Sent(serial))),
                 "queue {id}"
@@ -170,7 +170,7 @@ fn what_nobody_took_is_there_when_the_file_is_opened_again(rt: HostRuntime) -> R
     let alloc = rt.alloc();
     let mut caller = opens(alloc, new_file(alloc)?)?;
     assert!(rt; caller.call(alloc, ROOT, &get(1)) == Ok(Served::Answer(Answer::Id(1))));
-    let sent = caller.call(alloc, ROOT, &send(alloc, 1, 300)?);
+    let sent = caller.call(alloc, ROOT, &send(&rt, alloc, 1, 300));
     assert!(rt; sent == Ok(Served::Answer(Answer::Sent(1))));
     let mut caller = opens(alloc, closes(caller)?)?;
     assert!(rt; is_received(&caller.call(alloc, ROOT, &receive(1)), 1, 300));
