@@ -16,6 +16,7 @@ use Rattle.type_chains.specs.Reading.{info_in, permissions_in}
 use Rattle.type_chains.specs.RecordOf.{record_of}
 use Rattle.xsi_inquiry.specs.declared.decision.Plan.{Plan}
 use Rattle.xsi_inquiry.specs.declared.verdict.Verdict.TheVariants as verdicts
+use Rattle.xsi_inquiry.specs.declared.decision.Trials.TheVariants as trials
 use Rattle.xsi_inquiry.specs.Deciding.{IsAnswered, IsSwept}
 use Rattle.xsi_inquiry.specs.Seeking.{IsEntryOf}
 use Rattle.xsi_inquiry.specs.Sweeping.{swept}
@@ -53,10 +54,10 @@ module _ (c : Caller) (id : ℕ) (s : State) (e : QueueEntry) (is : IsEntryOf id
   pub remove_refused : is_owner c (permissions_in e) ≡ false → outcome c (Remove id) s ≡ refuse EPERM s
   remove_refused owns = is.goes_on (remove_from c id s) ∙ rw (owner_of false owns) refl
 
-  pub remove_swept : (p : Plan) → is_owner c (permissions_in e) ≡ true →
+  pub remove_swept : (p : Plan) → is_owner c (permissions_in e) ≡ true → p.trials ≡ trials.None →
       Leads p (swept id (length is.queue.messages) s) (record_of (without_queue id s)) →
       IsSwept c (Remove id) s e.first p
-  remove_swept p owns leads = record {
+  remove_swept p owns none leads = record {
     id = id;
     queue = is.queue;
     after = without_queue id s;
@@ -64,6 +65,7 @@ module _ (c : Caller) (id : ℕ) (s : State) (e : QueueEntry) (is : IsEntryOf id
     alive = is.found;
     outcome = is.goes_on (remove_from c id s) ∙ rw (owner_of true owns) refl;
     first_left = ap (λ (x : QueueEntry). x.first) is.entry;
+    no_trials = none;
     leads = leads;
   }
 

@@ -109,9 +109,10 @@ impl Inquiry for RemoveInquiry {
 /// records of the system without the queue.
 pub fn plan_remove<'a>(queue: &QueueEntry, counter: &Counter) -> Plan<'a>
     requires { 1 ≤ counter.now.queues_alive }
-    ensures { (id : ℕ) (s : State) → IsFiled s → (is : IsEntryOf id queue.now s) →
+    ensures leads { (id : ℕ) (s : State) → IsFiled s → (is : IsEntryOf id queue.now s) →
         counter.now ≡ counter_of s →
         Leads result (swept id (length is.queue.messages) s) (record_of (without_queue id s)) }
+    ensures none { result.trials ≡ Trials.None }
 {
     let mut writes = Writes::new();
     if let Some(key) = queue.key {

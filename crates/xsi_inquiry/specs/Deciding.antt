@@ -16,6 +16,7 @@ use Rattle.type_chains.specs.RecordOf.{record_of}
 use Rattle.xsi_inquiry.specs.declared.decision.Decision.{Decision}
 use Rattle.xsi_inquiry.specs.declared.decision.Decision.TheVariants.{Waits, Answers, Sweeps}
 use Rattle.xsi_inquiry.specs.declared.decision.Plan.{Plan}
+use Rattle.xsi_inquiry.specs.declared.decision.Trials.TheVariants as trials
 use Rattle.xsi_inquiry.specs.declared.verdict.Verdict.{Verdict}
 use Rattle.xsi_inquiry.specs.declared.verdict.Verdict.TheVariants as verdicts
 use Rattle.xsi_inquiry.specs.Sweeping.{swept}
@@ -48,6 +49,8 @@ pub record IsSwept (c : Caller) (call : Call) (s : State) (first : Option ℕ) (
   pub alive : find (has_id id) s.queues ≡ Some queue
   pub outcome : outcome c call s ≡ Some (answers.Done, after)
   pub first_left : first ≡ first_of (serials queue.messages)
+  -- nothing is inserted once the messages are gone
+  pub no_trials : p.trials ≡ trials.None
   pub leads : Leads p (swept id (length queue.messages) s) (record_of after)
 
 -- the decision is the outcome by the rules

@@ -10,8 +10,8 @@ use Rattle.xsi_control.proofs.remove_inquiry.plan_remove.Goals as goal
 use Rattle.xsi_control.proofs.remove_inquiry.plan_remove.Goals.{in-Some, in_default}
 
 -- the Key goes, then the Queue, and the Counter counts one less
-pub returns : goal.returns
-returns c id s filed is counted =
+pub returns-clause-leads : goal.returns-clause-leads
+returns-clause-leads c id s filed is counted =
     let e = c.args.queue.now in
     let n = c.args.counter.now in
     let keys : c.match-queue.writes ≡ key_deleted e.key = elim c.match-queue.branch [

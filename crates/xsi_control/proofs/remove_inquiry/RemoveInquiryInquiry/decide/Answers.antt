@@ -27,7 +27,8 @@ returns-else-counter-eq0 c s filed knows stopped =
     ∙ sym c.is_owned_by.ensures ∙ c.if-not-is_owned_by.false in
     let is = rw c.in-Found.is at knows.tells in
     remove_swept who id s c.in-Found.queue is c.plan_remove.result owns
-    (c.plan_remove.ensures id s filed is (rw c.in-Some.is at knows.counted))
+    c.plan_remove.ensures.none
+    (c.plan_remove.ensures.leads id s filed is (rw c.in-Some.is at knows.counted))
 
 -- the id has no queue
 pub returns-in-Refused : goal.returns-in-Refused

@@ -1,0 +1,6 @@
+pub mod Carrying
+pub mod Fault
+pub mod Filing
+pub mod Laws
+pub mod Serving
+pub mod Sweeping

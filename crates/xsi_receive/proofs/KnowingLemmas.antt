@@ -1,0 +1,315 @@
+-- What a Receive knows by what it was told.
+use Rattle.std.proofs.Common.{◌≡◌, ℕ, zero, suc, ◌<◌, ◌≤◌, ℤ, pos, negsuc, ◌≤ℤ◌, ◌<ℤ◌, Bool, true, false, List, [], ◌∷◌, length, Option, Some, None, ◌⊎◌, inl, inr, refl, sym, ap, ◌∙◌, subst, arith}
+use Rattle.std.specs.Prelude.{Result, Ok, Err, int_lt, is_none, nat_abs, nat_lt, not, ◌&&◌, slice_index}
+use Rattle.std.specs.List.{Contains, find, position_or_len, remove}
+use Rattle.std.proofs.lemmas.Int.{ints}
+use Rattle.queue_model.specs.Access.{lacks_access}
+use Rattle.queue_model.specs.declared.call.Call.TheVariants.{Receive}
+use Rattle.queue_model.specs.declared.call.ReceiveArguments.{ReceiveArguments}
+use Rattle.queue_model.specs.declared.caller.Caller.{Caller}
+use Rattle.queue_model.specs.declared.errno.Errno.TheVariants.{E2BIG, ENOMSG}
+use Rattle.queue_model.specs.declared.message.Message.{Message}
+use Rattle.queue_model.specs.declared.permissions.Access.TheVariants.{Read}
+use Rattle.queue_model.specs.declared.queue.Queue.{Queue}
+use Rattle.queue_model.specs.Rules.{Outcome, outcome, put_off, receive_found, receive_from, refuse}
+use Rattle.queue_model.specs.Selection.{selected, selects}
+use Rattle.queue_model.specs.State.{State}
+use Rattle.queue_model.proofs.ListLemmas.{find-Some}
+use Rattle.queue_records.specs.declared.message_entry.MessageEntry.{MessageEntry}
+use Rattle.queue_records.specs.declared.queue_entry.QueueEntry.{QueueEntry}
+use Rattle.queue_records.specs.declared.record.Record.{Record}
+use Rattle.queue_records.specs.declared.record.Record.TheVariants as records
+use Rattle.queue_records.specs.declared.type_entry.TypeEntry.{TypeEntry}
+use Rattle.type_chains.specs.Entries.{message_entry, queue_entry, type_entry}
+use Rattle.type_chains.specs.Lists.{is_of_type, serials_of_type, types}
+use Rattle.type_chains.specs.Reading.{permissions_in}
+use Rattle.type_chains.specs.RecordOf.{record_of}
+use Rattle.xsi_inquiry.specs.Seeking.{IsEntryOf}
+use Rattle.xsi_inquiry.specs.Telling.{IsFiled, IsTold}
+use Rattle.xsi_inquiry.proofs.SeekLemmas.{clash}
+use Rattle.xsi_receive.specs.Knowing.{IsSelection}
+use Rattle.xsi_receive.specs.Places.{KnowsFirst, KnowsMessage, KnowsSelection, KnowsType, SelectsBoth, SelectsMessage, SelectsType, is_long}
+use Rattle.xsi_receive.specs.Reading.{alone, key_of_message, key_of_type}
+use Rattle.xsi_receive.proofs.FirstOfTypeLemmas.{serials_of_its_type, taken_at}
+use Rattle.xsi_receive.proofs.SelectingLemmas.{first_none, first_some, lowest_stands, none_of, selects_above, selects_below_in, selects_below_none, selects_below_out, stands_of, type_found}
+use Rattle.xsi_receive.proofs.StandLemmas.{message_stands, short, type_absent, type_stands, typed}
+
+above_zero : (t : ℤ) → (t ≤ℤ pos 0 → ⊥) → pos 0 <ℤ t
+above_zero (pos zero) never = absurd (never (omega (arith, ints)))
+above_zero (pos (suc n)) never = omega (arith, ints)
+above_zero (negsuc n) never = absurd (never (omega (arith, ints)))
+
+-- ---- once the Queue is read
+
+module _ (c : Caller) (a : ReceiveArguments) (e : QueueEntry) (s : State) (its : IsEntryOf a.id e s) where
+  abbrev q : Queue
+  q = its.queue
+
+  pub may_read : lacks_access Read c (permissions_in e) ≡ false → lacks_access Read c q.permissions ≡ false
+  may_read may = ap (λ (x : QueueEntry). lacks_access Read c (permissions_in x)) (sym its.entry) ∙ may
+
+  -- the outcome is that of what is selected
+  pub on_selected : lacks_access Read c q.permissions ≡ false →
+      outcome c (Receive a) s ≡ receive_found (selected a.mtype q.messages) c a s q
+  on_selected may = its.goes_on (receive_from c a s) ∙ rw may refl
+
+  puts_off : lacks_access Read c q.permissions ≡ false → selected a.mtype q.messages ≡ None →
+      outcome c (Receive a) s ≡ put_off a.nowait ENOMSG s
+  puts_off may none = on_selected may ∙ ap (λ (o : Option Message). receive_found o c a s q) none
+
+  module _ (filed : IsFiled s) (may_in : lacks_access Read c (permissions_in e) ≡ false) where
+    may : lacks_access Read c q.permissions ≡ false
+    may = may_read may_in
+
+    pub knows_above : pos 0 <ℤ a.mtype → SelectsType c a e a.mtype s
+    knows_above above = record {
+      its = its;
+      may_read = may;
+      by_type = selects_above a.mtype q.messages above;
+      typed = omega (arith, ints, above);
+      stands = λ below. absurd (omega (arith, ints, above, below));
+    }
+
+    pub knows_none : a.mtype <ℤ pos 0 → e.lowest ≡ None → outcome c (Receive a) s ≡ put_off a.nowait ENOMSG s
+    knows_none below none =
+        let lowest = ap (λ (x : QueueEntry). x.lowest) (sym its.entry) ∙ none in
+        puts_off may (selects_below_none a.mtype q.messages below lowest)
+
+    lowest_is : (u : ℤ) → e.lowest ≡ Some u → (queue_entry q).lowest ≡ Some u
+    lowest_is u some = ap (λ (x : QueueEntry). x.lowest) (sym its.entry) ∙ some
+
+    lowest_typed : (u : ℤ) → e.lowest ≡ Some u → pos 1 ≤ℤ u
+    lowest_typed u some = typed s filed a.id q its.found u (lowest_stands q.messages u (lowest_is u some))
+
+    pub knows_out : (u : ℤ) → a.mtype <ℤ pos 0 → e.lowest ≡ Some u → nat_abs a.mtype < nat_abs u →
+        outcome c (Receive a) s ≡ put_off a.nowait ENOMSG s
+    knows_out u below some more = puts_off may
+        (selects_below_out a.mtype u q.messages below (lowest_is u some) (lowest_typed u some) more)
+
+    pub knows_below : (u : ℤ) → a.mtype <ℤ pos 0 → e.lowest ≡ Some u → nat_abs u ≤ nat_abs a.mtype →
+        SelectsType c a e u s
+    knows_below u below some within = record {
+      its = its;
+      may_read = may;
+      by_type = selects_below_in a.mtype u q.messages below (lowest_is u some) (lowest_typed u some) within;
+      typed = lowest_typed u some;
+      stands = λ _. lowest_stands q.messages u (lowest_is u some);
+    }
+
+    pub knows_empty : a.mtype ≡ pos 0 → e.first ≡ None → outcome c (Receive a) s ≡ put_off a.nowait ENOMSG s
+    knows_empty zero_type none =
+        let first = ap (λ (x : QueueEntry). x.first) (sym its.entry) ∙ none in
+        puts_off may (ap (λ (t : ℤ). selected t q.messages) zero_type ∙ first_none q.messages first)
+
+    pub knows_first : (serial : ℕ) → a.mtype ≡ pos 0 → e.first ≡ Some serial → KnowsFirst c a e serial s
+    knows_first serial zero_type some =
+        let (m, is, same) = first_some q.messages serial (ap (λ (x : QueueEntry). x.first) (sym its.entry) ∙ some) in
+        record {
+          selects = record {
+            its = its;
+            may_read = may;
+            message = m;
+            is_selected = ap (λ (t : ℤ). selected t q.messages) zero_type ∙ is;
+          };
+          is_its = same;
+        }
+
+-- whether a type above 0 has no Type
+pub is_absent : (found : Option Record) (b : Bool) → (is_none found && b) ≡ true → found ≡ None
+is_absent None b is = refl
+is_absent (Some r) b is = absurd cc
+
+pub not_absent : (found : Option Record) (t : ℤ) → (is_none found && int_lt (pos 0) t) ≡ false → found ≡ None →
+    pos 0 <ℤ t → ⊥
+not_absent None t is none above = absurd (grind (arith, ints, is, above))
+not_absent (Some r) t is none above = absurd cc
+
+-- ---- once more is read
+
+module _ (c : Caller) (a : ReceiveArguments) (e : QueueEntry) (s : State) (filed : IsFiled s) where
+  module _ (known : SelectsMessage c a e s) where
+    abbrev taken_of : Queue
+    taken_of = known.its.queue
+
+    stands : Contains taken_of.messages known.message
+    stands = (find-Some (selects a.mtype taken_of.messages) taken_of.messages known.message known.is_selected).1
+
+    pub its_message : (serial : ℕ) → serial ≡ known.message.serial → (found : Option Record) →
+        IsTold s (Some (key_of_message a.id serial)) found →
+        found ≡ Some (records.Message (message_entry taken_of known.message))
+    its_message serial same found told =
+        told (key_of_message a.id serial) refl
+        ∙ ap (λ (n : ℕ). record_of s (key_of_message a.id n)) same
+        ∙ message_stands s filed a.id taken_of known.its.found known.message stands
+
+    pub its_type : (mtype : ℤ) → mtype ≡ known.message.mtype → (found : Option Record) →
+        IsTold s (Some (key_of_type a.id mtype)) found →
+        found ≡ Some (records.Type (type_entry taken_of known.message.mtype))
+    its_type mtype same found told =
+        told (key_of_type a.id mtype) refl
+        ∙ ap (λ (t : ℤ). record_of s (key_of_type a.id t)) same
+        ∙ type_stands s filed a.id taken_of known.its.found known.message.mtype
+        (stands_of taken_of.messages known.message stands)
+
+    pub is_short : length (message_entry taken_of known.message).body ≤ 1024
+    is_short = short s filed a.id taken_of known.its.found known.message stands
+
+    -- a Type names its first message
+    pub first_is : (t : TypeEntry) → t ≡ type_entry taken_of known.message.mtype → t.first ≡ known.message.serial
+    first_is t same =
+        let i = position_or_len (selects a.mtype taken_of.messages) taken_of.messages in
+        let taken = taken_at a.mtype taken_of.messages known.message known.is_selected in
+        ap (λ (x : TypeEntry). x.first) same
+        ∙ ap (λ (xs : List ℕ). slice_index xs 0) (serials_of_its_type taken_of.messages i known.message taken)
+
+  module _ (mtype : ℤ) (known : SelectsType c a e mtype s) where
+    abbrev queue : Queue
+    queue = known.its.queue
+
+    -- the Type tells which message is taken, or none is
+    pub type_told : (found : Option Record) → IsTold s (Some (key_of_type a.id mtype)) found →
+        ((selects_it : SelectsMessage c a e s)
+        × (found ≡ Some (records.Type (type_entry selects_it.its.queue selects_it.message.mtype))))
+        ⊎ ((found ≡ None) × (pos 0 <ℤ a.mtype) × (selected a.mtype queue.messages ≡ None))
+    type_told found told = by (find (is_of_type mtype) queue.messages) refl
+      where
+        at : found ≡ record_of s (key_of_type a.id mtype)
+        at = told (key_of_type a.id mtype) refl
+
+        by : (o : Option Message) → find (is_of_type mtype) queue.messages ≡ o →
+            ((selects_it : SelectsMessage c a e s)
+            × (found ≡ Some (records.Type (type_entry selects_it.its.queue selects_it.message.mtype))))
+            ⊎ ((found ≡ None) × (pos 0 <ℤ a.mtype) × (selected a.mtype queue.messages ≡ None))
+        by None none =
+            let absent = none_of queue.messages mtype none in
+            inr (
+              at ∙ type_absent s filed a.id queue known.its.found mtype known.typed absent,
+              above_zero a.mtype (λ below. absent (known.stands below)),
+              known.by_type ∙ none,
+            )
+        by (Some m) some =
+            let its = type_found queue.messages mtype m some in
+            let selects_it : SelectsMessage c a e s = record {
+              its = known.its;
+              may_read = known.may_read;
+              message = m;
+              is_selected = known.by_type ∙ some;
+            } in
+            inl (
+              selects_it,
+              at ∙ type_stands s filed a.id queue known.its.found mtype its.1
+                  ∙ ap (λ (t : ℤ). Some (records.Type (type_entry queue t))) (sym its.0),
+            )
+
+    pub nothing_of_type : (found : Option Record) → IsTold s (Some (key_of_type a.id mtype)) found → found ≡ None →
+        outcome c (Receive a) s ≡ put_off a.nowait ENOMSG s
+    nothing_of_type found told none = elim (type_told found told) [
+      | inl (it, some) ↦
+          let clash : ◌≡◌ {A = Option Record} None (Some (records.Type (type_entry it.its.queue it.message.mtype))) =
+          sym none ∙ some in absurd cc
+      | inr (absent, above, empty) ↦
+          on_selected c a e s known.its known.may_read
+          ∙ ap (λ (o : Option Message). receive_found o c a s queue) empty
+    ]
+
+-- ---- once the message is read
+
+module _ (c : Caller) (a : ReceiveArguments) (e : QueueEntry) (t : TypeEntry) (m : MessageEntry) (s : State)
+    (known : SelectsBoth c a e t m s) where
+  pub too_long : is_long a m ≡ true → outcome c (Receive a) s ≡ refuse E2BIG s
+  too_long long =
+      let k = known.selects in
+      let its_long = sym (ap (is_long a) known.entry) ∙ long in
+      on_selected c a e s k.its k.may_read
+      ∙ ap (λ (o : Option Message). receive_found o c a s k.its.queue) k.is_selected
+      ∙ rw its_long refl
+
+  pub may_be_given : is_long a m ≡ false → KnowsSelection c a (alone e t m) s
+  may_be_given fits =
+      let k = known.selects in
+      record {
+        is = record {
+          its = k.its;
+          message = k.message;
+          is_selected = k.is_selected;
+          entry = known.entry;
+          mtype = known.mtype;
+          previous = tt;
+          next = tt;
+          lower = tt;
+          higher = tt;
+        };
+        may_read = k.may_read;
+        fits = fits;
+      }
+
+-- ---- what each place knows once it is told
+
+module _ (c : Caller) (a : ReceiveArguments) (s : State) (filed : IsFiled s) (found : Option Record) where
+  -- the first message
+  pub first_found : (e : QueueEntry) (serial : ℕ) → KnowsFirst c a e serial s →
+      IsTold s (Some (key_of_message a.id serial)) found → {E : Type 0} → (result : Result MessageEntry E) →
+      ((m : MessageEntry) → found ≡ Some (records.Message m) → length m.body ≤ 1024 → result ≡ Ok m) → (err : E) →
+      result ≡ Err err → ⊥
+  first_found e serial known told result takes err was =
+      let k = known.selects in
+      let is = its_message c a e s filed k serial known.is_its found told in
+      clash result _ (takes (message_entry k.its.queue k.message) is (is_short c a e s filed k)) err was
+
+  pub first_taken : (e : QueueEntry) (serial : ℕ) (m : MessageEntry) → KnowsFirst c a e serial s →
+      IsTold s (Some (key_of_message a.id serial)) found → found ≡ Some (records.Message m) → KnowsMessage c a e m s
+  first_taken e serial m known told is =
+      let k = known.selects in
+      let both = sym is ∙ its_message c a e s filed k serial known.is_its found told in
+      record { selects = k; entry = cc }
+
+  -- the Type of it
+  pub type_of_first_found : (e : QueueEntry) (m : MessageEntry) → KnowsMessage c a e m s →
+      IsTold s (Some (key_of_type a.id m.mtype)) found → {E : Type 0} → (result : Result TypeEntry E) →
+      ((t : TypeEntry) → found ≡ Some (records.Type t) → result ≡ Ok t) → (err : E) → result ≡ Err err → ⊥
+  type_of_first_found e m known told result takes err was =
+      let k = known.selects in
+      let is = its_type c a e s filed k m.mtype (ap (λ (x : MessageEntry). x.mtype) known.entry) found told in
+      clash result _ (takes (type_entry k.its.queue k.message.mtype) is) err was
+
+  pub type_of_first_taken : (e : QueueEntry) (m : MessageEntry) (t : TypeEntry) → KnowsMessage c a e m s →
+      IsTold s (Some (key_of_type a.id m.mtype)) found → found ≡ Some (records.Type t) → SelectsBoth c a e t m s
+  type_of_first_taken e m t known told is =
+      let k = known.selects in
+      let both = sym is ∙ its_type c a e s filed k m.mtype (ap (λ (x : MessageEntry). x.mtype) known.entry) found told in
+      record { selects = k; mtype = cc; entry = known.entry }
+
+  -- the Type that is sought
+  pub type_is_found : (e : QueueEntry) (mtype : ℤ) → SelectsType c a e mtype s →
+      IsTold s (Some (key_of_type a.id mtype)) found → (found ≡ None → pos 0 <ℤ a.mtype → ⊥) →
+      {E : Type 0} → (result : Result TypeEntry E) →
+      ((t : TypeEntry) → found ≡ Some (records.Type t) → result ≡ Ok t) → (err : E) → result ≡ Err err → ⊥
+  type_is_found e mtype known told some result takes err was = elim (type_told c a e s filed mtype known found told) [
+    | inl (it, is) ↦ clash result _ (takes (type_entry it.its.queue it.message.mtype) is) err was
+    | inr (none, above, empty) ↦ some none above
+  ]
+
+  pub type_is_taken : (e : QueueEntry) (mtype : ℤ) (t : TypeEntry) → SelectsType c a e mtype s →
+      IsTold s (Some (key_of_type a.id mtype)) found → found ≡ Some (records.Type t) → KnowsType c a e t s
+  type_is_taken e mtype t known told is = elim (type_told c a e s filed mtype known found told) [
+    | inl (it, some) ↦ let both = sym is ∙ some in record { selects = it; entry = cc }
+    | inr (none, above, empty) ↦
+        let both : ◌≡◌ {A = Option Record} (Some (records.Type t)) None = sym is ∙ none in absurd cc
+  ]
+
+  -- the first message of that Type
+  pub first_of_type_found : (e : QueueEntry) (t : TypeEntry) → KnowsType c a e t s →
+      IsTold s (Some (key_of_message a.id t.first)) found → {E : Type 0} → (result : Result MessageEntry E) →
+      ((m : MessageEntry) → found ≡ Some (records.Message m) → length m.body ≤ 1024 → result ≡ Ok m) → (err : E) →
+      result ≡ Err err → ⊥
+  first_of_type_found e t known told result takes err was =
+      let k = known.selects in
+      let is = its_message c a e s filed k t.first (first_is c a e s filed k t known.entry) found told in
+      clash result _ (takes (message_entry k.its.queue k.message) is (is_short c a e s filed k)) err was
+
+  pub first_of_type_taken : (e : QueueEntry) (t : TypeEntry) (m : MessageEntry) → KnowsType c a e t s →
+      IsTold s (Some (key_of_message a.id t.first)) found → found ≡ Some (records.Message m) → SelectsBoth c a e t m s
+  first_of_type_taken e t m known told is =
+      let k = known.selects in
+      let both = sym is ∙ its_message c a e s filed k t.first (first_is c a e s filed k t known.entry) found told in
+      record { selects = k; mtype = known.entry; entry = cc }
