@@ -172,8 +172,8 @@ module _ (s : State) (filed : IsFiled s) (id : ℕ) (q : Queue) (found : find (h
     other_number k t at other =
         let apart = place_other q pid moment i m taken none j at_j k t at other in
         let differ : type_number m.mtype ≢ type_number t = λ same.
-            apart (numbers_differ m.mtype t own_type_one
-            (typed s filed id q found t (stands_at (types q.messages) k t at)) same) in
+        apart (numbers_differ m.mtype t own_type_one
+        (typed s filed id q found t (stands_at (types q.messages) k t at)) same) in
         apart_numbers (type_number m.mtype) (type_number t) differ
 
     beside_right : (k : ℕ) (t : ℤ) → slice_get (types q.messages) k ≡ Some t → k ≢ j →
@@ -202,9 +202,9 @@ module _ (s : State) (filed : IsFiled s) (id : ℕ) (q : Queue) (found : find (h
     type_gone : Right (Delete (type_key entry))
     type_gone =
         let fails : (k : ℕ) (d : ℤ) → k < length (types q.messages) → k ≢ j →
-            has_number (type_number m.mtype) (get_or (types q.messages) k d) ≡ false =
-            λ k d within other. swapped (type_number m.mtype) _
-            (other_number k (get_or (types q.messages) k d) (slice_get-get_or (types q.messages) k d within) other) in
+        has_number (type_number m.mtype) (get_or (types q.messages) k d) ≡ false =
+        λ k d within other. swapped (type_number m.mtype) _
+        (other_number k (get_or (types q.messages) k d) (slice_get-get_or (types q.messages) k d within) other) in
         let now = type_after s filed id q found its pid moment i m taken m.mtype
         ∙ ap (option_map (λ (t : ℤ). records.Type (type_entry new t)))
         (ap (find (has_number (type_number m.mtype))) go
@@ -295,10 +295,10 @@ module _ (s : State) (filed : IsFiled s) (id : ℕ) (q : Queue) (found : find (h
           (All-cons Right (Delete (type_key entry)) [] type_gone (All-nil Right))));
       last = last_replaced (lower_write (before_place (types q.messages) j)) (highers ++ deletions)
           (last_replaced (higher_write (slice_get (types q.messages) (suc j))) deletions (
-        All-cons (λ (w : Write). is_same (key_written w) (message_key (message_entry q m)) ≡ false) (Delete (type_key entry)) [] refl
-            (All-nil (λ (w : Write). is_same (key_written w) (message_key (message_entry q m)) ≡ false)),
-        (All-nil (λ (w : Write). is_same (key_written w) (type_key entry) ≡ false), tt),
-      ));
+            All-cons (λ (w : Write). is_same (key_written w) (message_key (message_entry q m)) ≡ false) (Delete (type_key entry)) [] refl
+                (All-nil (λ (w : Write). is_same (key_written w) (message_key (message_entry q m)) ≡ false)),
+            (All-nil (λ (w : Write). is_same (key_written w) (type_key entry) ≡ false), tt),
+          ));
       gone = is_later (key_of_message id m.serial) lowers (highers ++ deletions)
           (is_later (key_of_message id m.serial) highers deletions (inl message_keyed));
       at_types = last_at;

@@ -253,7 +253,7 @@ module _ (s : State) (filed : IsFiled s) (id : ℕ) (q : Queue) (found : find (h
         by_id true e = by_queue (eqb-true key.queue id e) (key.kind == QUEUE) refl
         by_id false e =
             let apart : key.queue ≢ id = λ same.
-                let clash : true ≡ false = sym ((Decides-eqb key.queue id).1 same) ∙ e in absurd cc in
+            let clash : true ≡ false = sym ((Decides-eqb key.queue id).1 same) ∙ e in absurd cc in
             inl (same_at_other_id s id q new found its refl refl key apart)
 
     pub leads : Leads (record { trials = trials.None; writes = all_writes }) (record_of s) (record_of after)

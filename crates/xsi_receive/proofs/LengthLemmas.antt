@@ -43,10 +43,57 @@ pub queue_as_long : (e f : QueueEntry) → value_length (records.Queue e) ≡ va
 queue_as_long e f =
     ap length (queue_joined e)
     ∙ ap suc (as_long (queue_parts e) (queue_parts f) (
-      fours _ _, (fours _ _, (fours _ _, (fours _ _, (fours _ _, (fours _ _,
-      (eights _ _, (eights _ _, (eights _ _, (eights _ _, (eights _ _, (eights _ _, (eights _ _,
-      (fours _ _, (fours _ _, (fours _ _, (fours _ _,
-      (twos _ _, tt)))))))))))))))))))
+      fours _ _,
+      (
+        fours _ _,
+        (
+          fours _ _,
+          (
+            fours _ _,
+            (
+              fours _ _,
+              (
+                fours _ _,
+                (
+                  eights _ _,
+                  (
+                    eights _ _,
+                    (
+                      eights _ _,
+                      (
+                        eights _ _,
+                        (
+                          eights _ _,
+                          (
+                            eights _ _,
+                            (
+                              eights _ _,
+                              (
+                                fours _ _,
+                                (
+                                  fours _ _,
+                                  (
+                                    fours _ _,
+                                    (
+                                      fours _ _,
+                                      (twos _ _, tt),
+                                    ),
+                                  ),
+                                ),
+                              ),
+                            ),
+                          ),
+                        ),
+                      ),
+                    ),
+                  ),
+                ),
+              ),
+            ),
+          ),
+        ),
+      ),
+    ))
     ∙ sym (ap length (queue_joined f))
 
 pub type_as_long : (e f : TypeEntry) → value_length (records.Type e) ≡ value_length (records.Type f)

@@ -42,7 +42,6 @@ first_at is xs k x apart self at =
     (λ j below. let two = (apart j k x below within).0 in rw it at two)
     (λ inside. rw it self)
 
-
 module _ {X : Type 0} (is : X → X → Bool) (xs : List X) (i : ℕ) (x : X) (apart : AreToldApart is xs)
     (its_own : (y : X) → is y y ≡ true) (at_i : slice_get xs i ≡ Some x) where
   abbrev left : List X

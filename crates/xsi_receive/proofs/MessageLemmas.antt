@@ -53,9 +53,10 @@ module _ (q : Queue) (lawful : IsLawfulQueue q) (pid moment i : ℕ) (m : Messag
       let inside : l < length q.messages = omega (arith, within, long) in
       let less = lawful.serials_ascend k l m before inside in
       let one = get_or-map (λ (n : Message). n.serial) q.messages k m d (omega (arith, before, inside)) in
-      let two = get_or-map (λ (n : Message). n.serial) q.messages l m d inside in
-      (other_number _ _ (λ same. omega (arith, less, one, two, same)),
-        other_number _ _ (λ same. omega (arith, less, one, two, same)))
+      let two = get_or-map (λ (n : Message). n.serial) q.messages l m d inside in (
+        other_number _ _ (λ same. omega (arith, less, one, two, same)),
+        other_number _ _ (λ same. omega (arith, less, one, two, same)),
+      )
 
   own_number : (n : ℕ) → is_number n n ≡ true
   own_number n = (Decides-eqb n n).1 refl
@@ -76,7 +77,7 @@ module _ (q : Queue) (lawful : IsLawfulQueue q) (pid moment i : ℕ) (m : Messag
           ∙ behind_head n.serial m.serial _ (λ is. apart (sym is)))
       by false e =
           let apart_types : m.mtype ≢ n.mtype = λ same.
-              let clash : true ≡ false = sym ((Decides-int_eq m.mtype n.mtype).1 same) ∙ e in absurd cc in
+          let clash : true ≡ false = sym ((Decides-int_eq m.mtype n.mtype).1 same) ∙ e in absurd cc in
           ap (behind (is_number n.serial)) (serials_of_other_type q.messages i m taken n.mtype apart_types)
 
   pub serials_other : (k : ℕ) (n : Message) → slice_get q.messages k ≡ Some n → k ≢ i → n.serial ≢ m.serial

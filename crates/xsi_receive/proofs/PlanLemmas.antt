@@ -86,9 +86,11 @@ module _ (s : State) (filed : IsFiled s) (id : ℕ) (q : Queue) (found : find (h
   right : (r old : Record) (key : RecordKey) → key_of r ≡ key → record_of s key ≡ Some old → value_length old ≡ value_length r →
       record_of after key ≡ Some r → Right (Replace r)
   right r old key keyed was long now =
-      let then_now = ap (record_of after) keyed ∙ now in
-      (then_now, ap (option_map value_length) (ap (record_of s) keyed ∙ was) ∙ ap Some long,
-        in_range after (key_of r) r lawful_after then_now)
+      let then_now = ap (record_of after) keyed ∙ now in (
+        then_now,
+        ap (option_map value_length) (ap (record_of s) keyed ∙ was) ∙ ap Some long,
+        in_range after (key_of r) r lawful_after then_now,
+      )
 
   pub message_after : (serial : ℕ) → record_of after (key_of_message id serial) ≡ message_record serial new
   message_after serial = own_after s id q new found its refl refl (key_of_message id serial) refl refl refl

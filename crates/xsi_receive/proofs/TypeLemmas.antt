@@ -47,8 +47,7 @@ none_left t ms none n stands its =
 -- the types of a queue are told apart
 pub types_apart : (ms : List Message) → AreToldApart is_same_type (types ms)
 types_apart ms k l d sooner within =
-    let less = types_ascend ms k l d sooner within in
-    (
+    let less = types_ascend ms k l d sooner within in (
       other_type (get_or (types ms) k d) (get_or (types ms) l d) (λ same. omega (arith, ints, less, same)),
       other_type (get_or (types ms) l d) (get_or (types ms) k d) (λ same. omega (arith, ints, less, same)),
     )

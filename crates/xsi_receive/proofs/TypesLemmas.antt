@@ -78,9 +78,12 @@ stays xs i x y at (k, within, is) apart = elim (cases_lt k i) [
     | inl past ↦
         let inside = slice_get_within xs i x at in
         let fewer = length-remove xs i inside in
-        let up : k - 1 + 1 ≡ k = omega (arith, past) in
-        (k - 1, omega (arith, past, within, fewer), get_or-remove_above xs i y (k - 1) (omega (arith, past)) inside
-            ∙ ap (λ (j : ℕ). get_or xs j y) up ∙ is)
+        let up : k - 1 + 1 ≡ k = omega (arith, past) in (
+          k - 1,
+          omega (arith, past, within, fewer),
+          get_or-remove_above xs i y (k - 1) (omega (arith, past)) inside
+              ∙ ap (λ (j : ℕ). get_or xs j y) up ∙ is,
+        )
     | inr here ↦
         let same : k ≡ i = omega (arith, above, here) in
         absurd (apart (sym (get_or_from_slice_get xs i x y at) ∙ ap (λ (j : ℕ). get_or xs j y) (sym same) ∙ is))

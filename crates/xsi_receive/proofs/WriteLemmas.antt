@@ -75,14 +75,18 @@ pub can_all : (ws : List Write) (records : Records) → All (λ (w : Write). Can
 can_all [] records all last = tt
 can_all (Replace r ∷ ws) records all last =
     let first : CanBe (Replace r) records = All-head (λ (w : Write). CanBe w records) (Replace r) ws all in
-    let rest = All-tail (λ (w : Write). CanBe w records) (Replace r) ws all in
-    (first, can_all ws (with_at (key_of r) (Some r) records)
-    (λ k d within. behind_replace r records _ first (rest k d within)) last)
+    let rest = All-tail (λ (w : Write). CanBe w records) (Replace r) ws all in (
+      first,
+      can_all ws (with_at (key_of r) (Some r) records)
+          (λ k d within. behind_replace r records _ first (rest k d within)) last,
+    )
 can_all (Delete key ∷ ws) records all last =
     let first : CanBe (Delete key) records = All-head (λ (w : Write). CanBe w records) (Delete key) ws all in
-    let rest = All-tail (λ (w : Write). CanBe w records) (Delete key) ws all in
-    (first, can_all ws (with_at key None records)
-    (λ k d within. behind_delete key records _ (last.0 k d within) (rest k d within)) last.1)
+    let rest = All-tail (λ (w : Write). CanBe w records) (Delete key) ws all in (
+      first,
+      can_all ws (with_at key None records)
+          (λ k d within. behind_delete key records _ (last.0 k d within) (rest k d within)) last.1,
+    )
 
 -- ---- and lead there
 

@@ -11,3 +11,6 @@ pub use neighbour::Neighbour;
 pub use plan::plan_receive;
 pub use receive::ReceiveInquiry;
 pub use selection::Selection;
+
+#[cfg(test)]
+mod tests;

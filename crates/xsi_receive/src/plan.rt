@@ -26,7 +26,7 @@ pub fn plan_receive<'a>(
     requires { missing selection.now ≡ None }
     ensures { (s : State) → IsFiled s → (known : IsSelection arguments.now selection.now s) →
         Gives result (λ plan. Leads plan (record_of s) (record_of
-            (with_queue arguments.now.id (without_message pid arguments.now known.its.queue) s))) }
+        (with_queue arguments.now.id (without_message pid arguments.now known.its.queue) s))) }
 {
     if !selection.is_counted() {
         return Err(NotASystem);

@@ -1,6 +1,7 @@
 //! Receive: the records that it asks for, and what it decides.
 
 ghost use Rattle.std.specs.Prelude.{◌≡◌, ◌≤◌, ◌<◌, ◌&&◌, IfOk, IsSome, Ok, OnOk, Some, int_lt, is_none, length, pos, take};
+ghost use Rattle.queue_model.specs.declared.call.Call.TheVariants.{Receive};
 ghost use Rattle.queue_model.specs.declared.caller.Caller.{Caller};
 ghost use Rattle.queue_model.specs.State.{State};
 ghost use Rattle.queue_records.specs.declared.limits.TheConstants.{MAX_BODY};
@@ -60,10 +61,10 @@ pub struct ReceiveInquiry {
 impl ReceiveInquiry {
     /// Nothing is read yet.
     pub fn new(caller: Caller, arguments: ReceiveArguments) -> ReceiveInquiry
-        ensures caller { result.caller ≡ caller }
-        ensures call { result.arguments ≡ arguments }
-        ensures knows { (s : State) → KnowsAt caller arguments result.place s }
-        ensures left { left_at result.place ≤ 7 }
+        ensures caller { ⟦<ReceiveInquiry as Inquiry>⟧.caller result ≡ caller }
+        ensures call { ⟦<ReceiveInquiry as Inquiry>⟧.call result ≡ Receive arguments }
+        ensures knows { (s : State) → ⟦<ReceiveInquiry as Inquiry>⟧.Knows result s }
+        ensures left { ⟦<ReceiveInquiry as Inquiry>⟧.left result ≤ 7 }
     {
         let place = match Sought::new(arguments.id) {
             Sought::Refused(errno) => Place::Refused(errno),
