@@ -87,7 +87,7 @@ module _ (id : ℕ) (s : State) (q new : Queue) (found : find (has_id id) s.queu
   found_keyed : (key : ℕ) → option_map (λ (q : Queue). records.Key (key_entry key q)) (find (has_key key) t.queues)
       ≡ option_map (λ (q : Queue). records.Key (key_entry key q)) (find (has_key key) s.queues)
   found_keyed key = find_set (has_id id) (has_key key) (λ (q : Queue). records.Key (key_entry key q)) s.queues q new
-  found
+        found
       (ap (is_key key) same_key) (λ _. ap (λ n. records.Key (record { key = key; id = n })) same_id)
 
   -- a part that is the same of both queues is the same in both systems

@@ -78,7 +78,8 @@ module _ (c : Caller) (a : SendArguments) (e : QueueEntry) (s : State) (filed : 
     leads_sent reads of =
         let whole : record { queue = queue_entry q; last = last_message_of q; place = reads.place } ≡ reads =
         λ i. record { queue = sym of.queue i; last = sym of.last i; place = reads.place } in
-        subst (λ (r : SendReads). Leads (sent_plan c.pid a r) (record_of s) (record_of t)) whole (by reads.place of.place)
+        subst (λ (r : SendReads). Leads (sent_plan c.pid a r) (record_of s) (record_of t)) whole
+        (by reads.place of.place)
       where
         by : (place : TypePlace) → IsPlaceOf a.mtype place q →
             Leads (sent_plan c.pid a (record { queue = queue_entry q; last = last_message_of q; place = place }))

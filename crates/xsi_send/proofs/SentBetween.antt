@@ -114,11 +114,11 @@ module _ (c : Caller) (a : SendArguments) (e : QueueEntry) (s : State) (filed : 
 
     in_below : (u : ℤ) → Contains between.below u → Contains (types q.messages) u
     in_below u has = subst (λ ts. Contains ts u) (sym between.split) (Contains-append_left between.below between.above
-    u has)
+          u has)
 
     in_above : (u : ℤ) → Contains between.above u → Contains (types q.messages) u
     in_above u has = subst (λ ts. Contains ts u) (sym between.split) (Contains-append_right between.below
-    between.above u has)
+      between.above u has)
 
     -- no type of the queue is the message's
     apart : (u : ℤ) → Contains (types q.messages) u → u ≡ a.mtype → ⊥
@@ -156,7 +156,7 @@ module _ (c : Caller) (a : SendArguments) (e : QueueEntry) (s : State) (filed : 
       where
         by : (b : Bool) → has_number (type_number a.mtype) u ≡ b → b ≡ false
         by true passes = absurd (apart u has (same_number u a.mtype ((types_of_q c a e s filed known) u has) (typed c
-        a e s filed known)
+              a e s filed known)
             (eqb-true (type_number u) (type_number a.mtype) passes)))
         by false passes = refl
 
@@ -267,7 +267,7 @@ module _ (c : Caller) (a : SendArguments) (e : QueueEntry) (s : State) (filed : 
 
     pub leads_between : Leads (sent_plan c.pid a around) (record_of s) (record_of t)
     leads_between = leads_by old_records new_records (sent_plan c.pid a around) ((no_message c a e s filed known),
-    (no_type, tt))
+          (no_type, tt))
         (All-cons (IsNew old_records new_records) (records.Message (last_message c.pid a (queue_entry q)))
         (records.Type entry ∷ []) (message_new c a e s filed known)
         (All-cons (IsNew old_records new_records) (records.Type entry) [] type_new

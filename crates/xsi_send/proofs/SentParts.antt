@@ -202,7 +202,8 @@ module _ (c : Caller) (a : SendArguments) (e : QueueEntry) (s : State) (filed : 
     relinked_fills o each = all_replaced (Fills old_records new_records)
         (λ (m : MessageEntry). records.Message (linked a.mtype q.next_serial m)) o
         (λ x is. let (y, there, same) = each x is in
-        subst (λ z. Fills old_records new_records (Replace (records.Message (linked a.mtype q.next_serial z)))) (sym same)
+        subst (λ z. Fills old_records new_records (Replace (records.Message (linked a.mtype q.next_serial z))))
+        (sym same)
         (linked_fills y there))
 
     pub last_stands : (x : MessageEntry) → last_message_of q ≡ Some x →
@@ -249,7 +250,7 @@ module _ (c : Caller) (a : SendArguments) (e : QueueEntry) (s : State) (filed : 
         ∙ sym (find_over (has_serial key.number) q.messages [] m (over (q.next_serial == key.number) refl)))
       where
         over : (b : Bool) → (q.next_serial == key.number) ≡ b → (q.next_serial == key.number) ≡ false
-        over true e = absurd (misses_key key (key_of (records.Message (last_message c.pid a (queue_entry q)))) misses kind
+        over true e = absurd (misses_key key (key_of message_trial) misses kind
             (queue ∙ sym known.its_id) (sym (eqb-true q.next_serial key.number e)))
         over false e = e
 
@@ -277,7 +278,8 @@ module _ (c : Caller) (a : SendArguments) (e : QueueEntry) (s : State) (filed : 
         let w = Replace (records.Message (linked a.mtype q.next_serial (message_entry q x))) in
         let there : Contains (relinked a (queue_entry q) o) w =
         subst (λ (p : Option MessageEntry). Contains (relinked a (queue_entry q) p) w) (sym is) (contains_at [] [] w) in
-        misses_key key (key_of (records.Message (linked a.mtype q.next_serial (message_entry q x)))) (misses w there) kind
+        misses_key key (key_of (records.Message (linked a.mtype q.next_serial (message_entry q x))))
+        (misses w there) kind
         (queue ∙ sym known.its_id) (sym number)
 
     pub last_hit : (key : RecordKey) (x : Message) → MissesAll key (relinked a (queue_entry q) (last_message_of q)) →

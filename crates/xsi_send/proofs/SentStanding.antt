@@ -184,7 +184,7 @@ module _ (c : Caller) (a : SendArguments) (e : QueueEntry) (s : State) (filed : 
 
     pub leads_standing : Leads (sent_plan c.pid a standing) (record_of s) (record_of t)
     leads_standing = leads_by old_records new_records (sent_plan c.pid a standing) ((no_message c a e s filed known),
-    tt)
+          tt)
         (All-cons (IsNew old_records new_records) (records.Message (last_message c.pid a (queue_entry q))) []
         (message_new c a e s filed known) (All-nil (IsNew old_records new_records))) all_fill (new_in_range c a e s
         filed known) no_other

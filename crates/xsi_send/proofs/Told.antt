@@ -275,7 +275,8 @@ module _ (c : Caller) (a : SendArguments) (e : QueueEntry) (s : State) (filed : 
     last_is_queues standing same =
         let (m, is, has) = last_typed_there standing in
         let (n, last, its) = last_there (type_entry q a.mtype).last same in
-        let first = of_filter (is_of_type a.mtype) q.messages m (in_last (filter (is_of_type a.mtype) q.messages) m is) in
+        let of_type = filter (is_of_type a.mtype) q.messages in
+        let first = of_filter (is_of_type a.mtype) q.messages m (in_last of_type m is) in
         let second = in_last q.messages n last in
         let one = serial_tells (lawful_queue s filed.lawful q (stands s filed.lawful a.id q known.found known.its_id))
         m n first second (has ∙ sym its) in

@@ -61,7 +61,7 @@ module _ (c : Caller) (a : SendArguments) (e : QueueEntry) (s : State) (filed : 
   pub next_there : (low : Option TypeEntry) (next : ℤ) (walked : IsWalked a.mtype low next known.queue) →
       Contains (types known.queue.messages) next
   next_there low next walked = subst (λ ts. Contains ts next) (sym walked.split) (contains_at walked.walked
-  walked.rest next)
+        walked.rest next)
 
   pub next_told : (low : Option TypeEntry) (next : ℤ) (found : Option Record) →
       IsWalked a.mtype low next known.queue → IsTold s (Some (type_key_of a.id next)) found →

@@ -93,7 +93,8 @@ fn plan_of<'a>(
 /// The Queue with one message more, where its counts stay numbers.
 fn with_one_more(pid: u32, arguments: &SendArguments, queue: &QueueEntry) -> Option<QueueEntry>
     ensures value { IfSome result (λ more. more ≡ with_one_more pid arguments.now queue.now) }
-    ensures some { queue.now.cbytes + length arguments.now.body < 2 ^ 32 → queue.now.qnum + 1 < 2 ^ 32 →
+    ensures some { queue.now.cbytes + length arguments.now.body < 2 ^ 32 →
+        queue.now.qnum + 1 < 2 ^ 32 →
         queue.now.next_serial + 1 < 2 ^ 64 → IsSome result }
 {
     let length = u32::try_from(arguments.body.len()).ok()?;

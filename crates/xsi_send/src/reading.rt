@@ -38,7 +38,8 @@ pub fn seek(
 pub fn at_sought(caller: Caller, arguments: &SendArguments, sought: Sought) -> Stage
     ensures told { (s : State) → IsAllowed arguments.now → Tells arguments.now.id sought s →
         KnowsAt caller arguments.now result s }
-    ensures fewer { asks_left arguments.now result ≤ reads_left sought + (natural arguments.now.mtype + 3) }
+    ensures fewer { asks_left arguments.now result
+        ≤ reads_left sought + (natural arguments.now.mtype + 3) }
 {
     match sought {
         Sought::Unread | Sought::Absent => Stage::Seeking(sought),
@@ -187,7 +188,8 @@ pub fn take_neighbour(
         IsTold s (key_wanted arguments.now before) found.entry →
         Gives result (λ stage. KnowsAt caller arguments.now stage s) }
     ensures fewer { IfOk result (λ stage.
-        asks_left arguments.now stage < asks_left arguments.now (AtNeighbour queue last lower next)) }
+        asks_left arguments.now stage
+        < asks_left arguments.now (AtNeighbour queue last lower next)) }
 {
     let Some(found) = found else {
         return Err(NotASystem);

@@ -26,7 +26,11 @@ impl<'c> Model for SendInquiry<'c> {
 
     ghost Value = { Asking };
 
-    ghost view = { λ i. record { caller = i.caller; arguments = i.arguments.now; stage = i.stage } };
+    ghost view = { λ i. record {
+      caller = i.caller;
+      arguments = i.arguments.now;
+      stage = i.stage;
+    } };
 }
 
 impl<'c> SendInquiry<'c> {

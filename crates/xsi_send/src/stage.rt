@@ -69,7 +69,8 @@ impl Stage {
         ensures told { (s : State) → IsFiled s → KnowsAt caller arguments.now self s →
             IsTold s (key_wanted arguments.now self) found.entry →
             Gives result (λ stage. KnowsAt caller arguments.now stage s) }
-        ensures fewer { IfOk result (λ stage. asks_left arguments.now stage < asks_left arguments.now self) }
+        ensures fewer { IfOk result (λ stage.
+            asks_left arguments.now stage < asks_left arguments.now self) }
     {
         match self {
             Stage::Seeking(sought) => seek(caller, arguments, sought, found),

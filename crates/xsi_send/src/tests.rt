@@ -149,7 +149,10 @@ fn sends(
         }
         Trials::Two(first, second) => {
             assert!(rt; first == Record::Message(message));
-            assert!(rt; new_type.map(Record::Type) == Some(second));
+            let Some(entry) = new_type else {
+                return Err(NotASystem);
+            };
+            assert!(rt; second == Record::Type(entry));
         }
     }
     Ok(())
