@@ -1,3 +1,5 @@
 pub mod NumberLemmas
 pub mod CommandLemmas
+pub mod OutputLemmas
+pub mod RunLemmas
 pub mod ScriptLemmas
