@@ -3,3 +3,4 @@ pub mod CommandLemmas
 pub mod OutputLemmas
 pub mod RunLemmas
 pub mod ScriptLemmas
+pub mod ServeLemmas

@@ -1,5 +1,5 @@
 -- The lines of a script served one after the other.
-use Rattle.std.proofs.Common.{◌≡◌, ◌≢◌, ◌⊎◌, inl, inr, ℕ, Bool, true, false, List, [], ◌∷◌, ◌++◌, Option, Some, None, is_some, not, Result, Ok, Err, if◌then◌else◌, refl, sym, ap, ◌∙◌, subst, append_assoc, append-nil, rules, ◌||◌, ◌==◌, nat_le, nat_lt, int_lt, pos, length}
+use Rattle.std.proofs.Common.{◌≡◌, ◌≢◌, ◌⊎◌, inl, inr, ℕ, Bool, true, false, List, [], ◌∷◌, ◌++◌, Option, Some, None, is_some, not, Result, Ok, Err, if◌then◌else◌, refl, sym, ap, ◌∙◌, subst, append_assoc, append-nil, rules, ◌||◌, ◌==◌, nat_le, nat_lt, int_lt, pos, length, length-append, arith}
 use Rattle.std.specs.List.{find, list_any}
 use Rattle.queue_model.specs.Access.{lacks_access, is_owner}
 use Rattle.queue_model.specs.Rules.{with_settings, Outcome, outcome, refuse, put_off, on_found, on_queue, has_id, has_key, get_found, get_by, create, lacks_room, send_to, receive_found, receive_from, stat_of, set_to, remove_from, raises, with_queue, with_message}
@@ -20,13 +20,13 @@ use Rattle.queue_model.specs.declared.permissions.Access.TheVariants.{Read, Writ
 use Rattle.queue_model.specs.declared.message.Message.{Message}
 use Rattle.queue_model.specs.declared.queue.Queue.{Queue}
 use Rattle.xsi_calls.specs.Serving.{Tells}
-use Rattle.xsi_calls.specs.declared.caller.Served.{Served}
-use Rattle.xsi_calls.specs.declared.caller.Served.TheVariants as served
-use Rattle.xsi_calls.specs.declared.caller.CallFault.{CallFault}
-use Rattle.xsi_calls.specs.declared.caller.CallFault.TheVariants as fault
+use Rattle.xsi_calls.specs.declared.served.Served.{Served}
+use Rattle.xsi_calls.specs.declared.served.Served.TheVariants as served
+use Rattle.xsi_calls.specs.declared.fault.CallFault.{CallFault}
+use Rattle.xsi_calls.specs.declared.fault.CallFault.TheVariants as fault
 use Rattle.msgq_cli.specs.Answers.{reply_text}
 use Rattle.msgq_cli.specs.Outputs.{OutputState, Prints}
-use Rattle.msgq_cli.specs.Runs.{stop, IsReplied, AreReplied, printed, is_fault, ending_of, IsRun}
+use Rattle.msgq_cli.specs.Runs.{stop, IsReplied, AreReplied, printed, is_fault, ending_of, IsPrinted, IsRun}
 use Rattle.msgq_cli.specs.Scripts.{Parts, caller_of}
 use Rattle.msgq_cli.specs.Serving.{reply_to}
 use Rattle.msgq_cli.specs.declared.command.Command.TheVariants as command
@@ -145,14 +145,20 @@ AreReplied-push ids (l ∷ ls) s t u [] line reply replied is = absurd replied
 AreReplied-push ids (l ∷ ls) s t u (r ∷ rs) line reply (next, first, rest) is =
     (next, first, AreReplied-push ids ls next t u rs line reply rest is)
 
-printed-push : (ids : List SeatIds) (lines : List Line) (s t : State) (replies : List Reply) (line : Line) (reply : Reply)
-    → AreReplied ids lines s replies t
+as_many : (ids : List SeatIds) (lines : List Line) (s t : State) (replies : List Reply) → AreReplied ids lines s replies t
+    → length replies ≡ length lines
+as_many ids [] s t [] replied = refl
+as_many ids [] s t (r ∷ rs) replied = absurd replied
+as_many ids (l ∷ ls) s t [] replied = absurd replied
+as_many ids (l ∷ ls) s t (r ∷ rs) (next, first, rest) = let same = as_many ids ls next t rs rest in omega arith
+
+printed-push : (lines : List Line) (replies : List Reply) (line : Line) (reply : Reply) → length replies ≡ length lines
     → printed (lines ++ line ∷ []) (replies ++ reply ∷ []) ≡ printed lines replies ++ reply_text line.number reply
-printed-push ids [] s t [] line reply replied = append-nil (reply_text line.number reply)
-printed-push ids [] s t (r ∷ rs) line reply replied = absurd replied
-printed-push ids (l ∷ ls) s t [] line reply replied = absurd replied
-printed-push ids (l ∷ ls) s t (r ∷ rs) line reply (next, first, rest) =
-    ap (λ text. reply_text l.number r ++ text) (printed-push ids ls next t rs line reply rest)
+printed-push [] [] line reply same = append-nil (reply_text line.number reply)
+printed-push [] (r ∷ rs) line reply same = absurd (omega arith)
+printed-push (l ∷ ls) [] line reply same = absurd (omega arith)
+printed-push (l ∷ ls) (r ∷ rs) line reply same =
+    ap (λ text. reply_text l.number r ++ text) (printed-push ls rs line reply (omega arith))
     ∙ sym (append_assoc (reply_text l.number r) (printed ls rs) (reply_text line.number reply))
 
 -- a fault more makes the run faulty, and no other reply changes how it ends
@@ -175,6 +181,27 @@ ending-push (r ∷ rs) reply = by_fault (is_fault r) (ending-push rs reply)
         both false = refl
     by_fault false same = same
 
+-- nothing was printed yet
+pub IsPrinted-start : (ids : List SeatIds) (o : OutputState) → IsPrinted (record { ids = ids; lines = [] }) o o Done
+IsPrinted-start ids o = record { replies = []; as_many = refl; prints = Prints-nil o; ends = refl }
+
+-- one line more was printed
+pub IsPrinted-push : (ids : List SeatIds) (lines : List Line) (a b c : OutputState) (before after : Ending) (line : Line)
+    (reply : Reply) → IsPrinted (record { ids = ids; lines = lines }) a b before → Prints b c (reply_text line.number reply)
+    → after ≡ (if is_fault reply then Faulty else before)
+    → IsPrinted (record { ids = ids; lines = lines ++ line ∷ [] }) a c after
+IsPrinted-push ids lines a b c before after line reply told prints ends =
+    let same = told.as_many in
+    let longer = length-append told.replies (reply ∷ []) in
+    let longer_lines = length-append lines (line ∷ []) in
+    record {
+      replies = told.replies ++ reply ∷ [];
+      as_many = omega arith;
+      prints = subst (Prints a c) (sym (printed-push lines told.replies line reply same))
+          (Prints-then a b c _ _ told.prints prints);
+      ends = ends ∙ ap (λ e. if is_fault reply then Faulty else e) told.ends ∙ sym (ending-push told.replies reply);
+    }
+
 -- nothing was run yet
 pub IsRun-start : (ids : List SeatIds) (s : State) (H : State → Type 0) (o : OutputState) → H s
     → IsRun (record { ids = ids; lines = [] }) s H o o Done
@@ -187,15 +214,18 @@ pub IsRun-push : (ids : List SeatIds) (lines : List Line) (s : State) (H I : Sta
     → ((t : State) → H t → (u : State) × IsReplied (caller_of line.seat ids) line.command t reply u × I u)
     → Prints b c (reply_text line.number reply) → after ≡ (if is_fault reply then Faulty else before)
     → IsRun (record { ids = ids; lines = lines ++ line ∷ [] }) s I a c after
+unfolding IsPrinted-push
 IsRun-push ids lines s H I a b c before after line reply run serves prints ends =
     let (u, is, held) = serves run.left run.held in
+    let same = as_many ids lines s run.left run.replies run.replied in
+    let told : IsPrinted (record { ids = ids; lines = lines }) a b before =
+        record { replies = run.replies; as_many = same; prints = run.prints; ends = run.ends } in
+    let more = IsPrinted-push ids lines a b c before after line reply told prints ends in
     record {
       replies = run.replies ++ reply ∷ [];
       left = u;
       replied = AreReplied-push ids lines s run.left u run.replies line reply run.replied is;
       held = held;
-      prints = subst (Prints a c) (sym (printed-push ids lines s run.left run.replies line reply run.replied))
-          (Prints-then a b c _ _ run.prints prints);
-      ends =
-          ends ∙ ap (λ e. if is_fault reply then Faulty else e) run.ends ∙ sym (ending-push run.replies reply);
+      prints = more.prints;
+      ends = more.ends;
     }

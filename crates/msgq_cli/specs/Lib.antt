@@ -7,6 +7,7 @@ pub mod Outputs
 pub mod Reading
 pub mod Runs
 pub mod Scripts
+pub mod Serves
 pub mod Serving
 pub mod Texts
 pub mod Words

@@ -1,5 +1,5 @@
 -- What the lines of a script are replied, one after the other. docs/SCRIPTS.md, "Runs".
-use Rattle.std.specs.Prelude.{◌≡◌, ◌⊎◌, ℕ, Bool, true, false, List, [], ◌∷◌, ◌++◌, None, Some, if◌then◌else◌}
+use Rattle.std.specs.Prelude.{◌≡◌, ◌⊎◌, ℕ, Bool, true, false, List, [], ◌∷◌, ◌++◌, length, None, Some, if◌then◌else◌}
 use Rattle.std.specs.List.{list_any}
 use Rattle.queue_model.specs.Rules.{outcome}
 use Rattle.queue_model.specs.State.{State}
@@ -11,7 +11,7 @@ use Rattle.msgq_cli.specs.Scripts.{Parts, caller_of}
 use Rattle.msgq_cli.specs.declared.command.Command.{Command}
 use Rattle.msgq_cli.specs.declared.command.Command.TheVariants as command
 use Rattle.msgq_cli.specs.declared.ending.Ending.{Ending}
-use Rattle.msgq_cli.specs.declared.ending.Ending.TheVariants.{Done, Faulty}
+use Rattle.msgq_cli.specs.declared.ending.Ending.TheVariants.{Done, Faulty, WrongLine}
 use Rattle.msgq_cli.specs.declared.line.Line.{Line}
 use Rattle.msgq_cli.specs.declared.line.SeatIds.{SeatIds}
 use Rattle.msgq_cli.specs.declared.reply.Reply.{Reply}
@@ -62,6 +62,13 @@ is_fault (Failed fault) = true
 abbrev pub ending_of : List Reply → Ending
 ending_of replies = if list_any is_fault replies then Faulty else Done
 
+-- a line was printed for each line of a script, in order, whatever they were replied
+pub record IsPrinted (script : Parts) (old new : OutputState) (ending : Ending) : Type 0 where
+  pub replies : List Reply
+  pub as_many : length replies ≡ length script.lines
+  pub prints : Prints old new (printed script.lines replies)
+  pub ends : ending ≡ ending_of replies
+
 -- a script was run from the system s: its lines were replied one after the other, the replies were printed,
 -- and what held s now holds the system that they left
 pub record IsRun (script : Parts) (s : State) (Holds : State → Type 0) (old new : OutputState) (ending : Ending) : Type 0 where
@@ -71,3 +78,10 @@ pub record IsRun (script : Parts) (s : State) (Holds : State → Type 0) (old ne
   pub held : Holds left
   pub prints : Prints old new (printed script.lines replies)
   pub ends : ending ≡ ending_of replies
+
+-- the exit status of a program that ends so, and whose output refused a write or did not
+abbrev pub status_of : Bool → Ending → ℕ
+status_of refused (WrongLine line) = 2
+status_of refused Faulty = 1
+status_of true Done = 1
+status_of false Done = 0

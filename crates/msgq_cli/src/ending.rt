@@ -1,7 +1,7 @@
 //! How a run ends.
 
 ghost use Rattle.std.specs.Prelude.{◌≡◌, if◌then◌else◌};
-ghost use Rattle.msgq_cli.specs.Runs.{is_fault};
+ghost use Rattle.msgq_cli.specs.Runs.{is_fault, status_of};
 
 use crate::reply::Reply;
 
@@ -17,6 +17,18 @@ pub enum Ending {
 }
 
 impl Ending {
+    /// The exit status of a program whose output refused a write or did not: 0, 1 or 2
+    /// (docs/SCRIPTS.md, "Exit status").
+    pub fn status(self, refused: bool) -> u8
+        ensures { result ≡ status_of refused self }
+    {
+        match self {
+            Ending::WrongLine(_) => 2,
+            Ending::Faulty => 1,
+            Ending::Done => u8::from(refused),
+        }
+    }
+
     /// How it ends after one reply more.
     pub(crate) fn after(self, reply: &Reply) -> Ending
         ensures { result ≡ (if is_fault reply.now then Ending.Faulty else self) }

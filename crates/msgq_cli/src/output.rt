@@ -1,6 +1,6 @@
 //! Where answers are printed.
 
-ghost use Rattle.std.specs.Prelude.{◌≡◌, false};
+ghost use Rattle.std.specs.Prelude.{◌≡◌, false, []};
 ghost use Rattle.msgq_cli.specs.Outputs.{Prints, Takes};
 
 use std::io::{ErrorKind, Write};
@@ -38,6 +38,15 @@ impl<W: Write> Output<W> {
         ensures { result ≡ self.now.refused }
     {
         self.refused
+    }
+
+    /// Brings what was printed to where the writer writes.
+    pub fn flush(&mut self)
+        ensures { Prints self.old self.new [] }
+    {
+        if !self.refused {
+            self.refused = self.writer.flush().is_err();
+        }
     }
 
     /// The writer, which holds what it took.

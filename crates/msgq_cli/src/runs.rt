@@ -3,7 +3,7 @@
 ghost use Rattle.std.specs.Prelude.{◌≡◌, ◌↔◌, IsTrue};
 ghost use Rattle.queue_model.specs.State.{State};
 ghost use Rattle.xsi_calls.specs.Serving.{Holds};
-ghost use Rattle.msgq_cli.specs.Runs.{IsReplied, IsRun};
+ghost use Rattle.msgq_cli.specs.Runs.{IsPrinted, IsReplied, IsRun};
 ghost use Rattle.msgq_cli.specs.Serving.{reply_to};
 ghost use Rattle.msgq_cli.specs.declared.command.Command.TheVariants as command;
 
@@ -29,8 +29,9 @@ pub fn run<D: PageDevice, W: Write>(
     caller: &mut OneCaller<D>,
     output: &mut Output<W>,
 ) -> Ending
-    ensures { (s : State) → Holds caller.old s →
+    ensures served { (s : State) → Holds caller.old s →
         IsRun script.now s (Holds caller.new) output.old output.new result }
+    ensures lines { IsPrinted script.now output.old output.new result }
 {
     let mut ending = Ending::Done;
     for line in script.lines() {

@@ -1,0 +1,4 @@
+pub mod BucketLemmas
+pub mod FileLaws
+pub mod FileLemmas
+pub mod OpenLemmas

@@ -1,0 +1,5 @@
+pub mod Fault
+pub mod Files
+pub mod Laws
+pub mod OneBucket
+pub mod Opening
