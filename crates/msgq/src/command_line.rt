@@ -28,7 +28,9 @@ pub enum Task<'a> {
 
 /// Names of arguments.
 const FILE: &str = "FILE";
+
 const PAGES: &str = "PAGES";
+
 const SCRIPT: &str = "SCRIPT";
 
 /// Behind the help of the program.
@@ -102,7 +104,5 @@ fn command<'a>(alloc: Global) -> Result<Command<'a>, AllocError> {
 
 /// An argument that has to be given.
 fn argument<'a>(alloc: Global, name: &'a str) -> Arg<'a> {
-    Arg::new(alloc, name)
-        .required(true)
-        .action(ArgAction::Set)
+    Arg::new(alloc, name).required(true).action(ArgAction::Set)
 }

@@ -4,7 +4,7 @@
 
 mod command_line;
 
-use clap::ErrorKind;
+use clap::error::ErrorKind;
 use command_line::{Task, read_command_line};
 use directory::LEAST_PAGES;
 use msgq_cli::{Ending, Output, new_file, print_fault, run_file, serve};

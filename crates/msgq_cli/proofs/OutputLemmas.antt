@@ -130,10 +130,10 @@ pub Prints-spaced : {X : Type 0} (a b c d : OutputState) (text : X → List ℕ)
     → Prints a d (spaced (map text (take (i + 1) words)))
 Prints-spaced a b c d text words i x below before space word =
     let more : spaced (map text (take (i + 1) words)) ≡ spaced (map text (take i words)) ++ (32 ∷ text (get_or words i x)) =
-        ap (λ l. spaced (map text l)) (take_more words i x below)
-        ∙ ap spaced (map-append text (take i words) (get_or words i x ∷ []))
-        ∙ spaced-append (map text (take i words)) (text (get_or words i x) ∷ [])
-        ∙ ap (λ l. spaced (map text (take i words)) ++ 32 ∷ l) (append-nil (text (get_or words i x))) in
+    ap (λ l. spaced (map text l)) (take_more words i x below)
+    ∙ ap spaced (map-append text (take i words) (get_or words i x ∷ []))
+    ∙ spaced-append (map text (take i words)) (text (get_or words i x) ∷ [])
+    ∙ ap (λ l. spaced (map text (take i words)) ++ 32 ∷ l) (append-nil (text (get_or words i x))) in
     subst (Prints a d) (sym more) (Prints-then a b d _ _ before (Prints-then b c d _ _ space word))
 
 -- the whole line

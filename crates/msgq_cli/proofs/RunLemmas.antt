@@ -219,7 +219,7 @@ IsRun-push ids lines s H I a b c before after line reply run serves prints ends 
     let (u, is, held) = serves run.left run.held in
     let same = as_many ids lines s run.left run.replies run.replied in
     let told : IsPrinted (record { ids = ids; lines = lines }) a b before =
-        record { replies = run.replies; as_many = same; prints = run.prints; ends = run.ends } in
+    record { replies = run.replies; as_many = same; prints = run.prints; ends = run.ends } in
     let more = IsPrinted-push ids lines a b c before after line reply told prints ends in
     record {
       replies = run.replies ++ reply ∷ [];

@@ -2,6 +2,7 @@
 
 use crate::trial::printed;
 use crate::{Ending, Output, new_file, new_on, read_script, run_file, run_on};
+use directory::LEAST_PAGES;
 use page_device::{FaultyDevice, MemDevice, PAGE_BYTES, PageDevice, seal, unseal};
 use std::alloc::Global;
 use std::fs;
@@ -10,10 +11,10 @@ use std::process::Abort;
 use std::rt::Files;
 use std::test::Fail;
 
-/// A new file in memory.
-fn new_device(alloc: Global, pages: u32) -> MemDevice {
+/// A new file in memory, as small as there are.
+fn new_device(alloc: Global) -> MemDevice {
     let mut output = Output::new(Vec::new(alloc));
-    new_on(MemDevice::new(alloc), pages, &mut output).0
+    new_on(MemDevice::new(alloc), LEAST_PAGES, &mut output).0
 }
 
 /// Runs a script, which has to print this and end so, and gives the device back.
@@ -37,16 +38,17 @@ fn runs<R: Abort + AllocGlobal, D: PageDevice + Drop>(
 /// The first run of a script that is run in two.
 const FIRST: &str = "1 get 7 create\n1 snd 1 5 61\n1 snd 1 2 62\n1 snd 1 3 63\n1 snd 1 2 64\n\
     1 rcv 1 10 -3\n";
-const FIRST_PRINTS: &str =
-    "1 id 1\n2 sent 1\n3 sent 2\n4 sent 3\n5 sent 4\n6 received 2 1 2 62\n";
+
+const FIRST_PRINTS: &str = "1 id 1\n2 sent 1\n3 sent 2\n4 sent 3\n5 sent 4\n6 received 2 1 2 62\n";
 
 /// The second run.
 const SECOND: &str = "1 rcv 1 10 0\n1 rcv 1 10 0\n1 rcv 1 10 0\n";
+
 const SECOND_PRINTS: &str = "1 received 1 1 5 61\n2 received 3 1 3 63\n3 received 4 1 2 64\n";
 
 #[test]
 fn one_script_in_two_runs(rt: HostRuntime) -> Result<(), Fail> {
-    let device = new_device(rt.alloc(), 352);
+    let device = new_device(rt.alloc());
     let device = runs(&rt, device, FIRST, FIRST_PRINTS, Ending::Done)?;
     runs(&rt, device, SECOND, SECOND_PRINTS, Ending::Done)?;
     Ok(())
@@ -55,7 +57,7 @@ fn one_script_in_two_runs(rt: HostRuntime) -> Result<(), Fail> {
 /// A stop lasts as long as its run.
 #[test]
 fn a_stop_is_not_kept(rt: HostRuntime) -> Result<(), Fail> {
-    let device = new_device(rt.alloc(), 258);
+    let device = new_device(rt.alloc());
     let waits = "1 get 7 create\n1 rcv 1 10 0\n";
     let interrupted = "1 id 1\n2 refused EINTR\n";
     let device = runs(&rt, device, waits, interrupted, Ending::Done)?;
@@ -71,8 +73,14 @@ fn the_smallest_file(rt: HostRuntime) -> Result<(), Fail> {
     let script = format!(in alloc; "1 get 7 create\n{send}{send}{send}{send}1 rcv 1 1024 0\n")?;
     let sent = "1 id 1\n2 sent 1\n3 sent 2\n4 sent 3\n5 fault 50\n";
     let wanted = format!(in alloc; "{sent}6 received 1 1 1 {body}\n")?;
-    let device = new_device(alloc, 258);
-    runs(&rt, device, script.as_str(), wanted.as_str(), Ending::Faulty)?;
+    let device = new_device(alloc);
+    runs(
+        &rt,
+        device,
+        script.as_str(),
+        wanted.as_str(),
+        Ending::Faulty,
+    )?;
     Ok(())
 }
 
@@ -81,7 +89,9 @@ fn changed(device: &mut MemDevice, page: u32, place: usize, byte: u8) -> Result<
     let mut bytes = [0; PAGE_BYTES];
     device.read(page, &mut bytes)?;
     let mut payload = unseal(page, &bytes)?;
-    payload[place] = byte;
+    if let Some(at) = payload.get_mut(place) {
+        *at = byte;
+    }
     device.write(page, &seal(page, &payload))?;
     Ok(())
 }
@@ -104,11 +114,11 @@ fn a_file_of_another_form(rt: HostRuntime) -> Result<(), Fail> {
         (4, b'm', "fault 41\n"),
         (4000, 1, "fault 41\n"),
     ] {
-        let mut device = new_device(alloc, 258);
+        let mut device = new_device(alloc);
         changed(&mut device, 0, place, byte)?;
         runs(&rt, device, "1 stop\n", wanted, Ending::Faulty)?;
     }
-    let mut device = new_device(alloc, 258);
+    let mut device = new_device(alloc);
     spoilt(&mut device, 0)?;
     runs(&rt, device, "1 stop\n", "fault 21\n", Ending::Faulty)?;
     Ok(())
@@ -117,17 +127,23 @@ fn a_file_of_another_form(rt: HostRuntime) -> Result<(), Fail> {
 /// Each call is a fault, and so is the end.
 #[test]
 fn a_root_page_that_was_changed(rt: HostRuntime) -> Result<(), Fail> {
-    let mut device = new_device(rt.alloc(), 258);
+    let mut device = new_device(rt.alloc());
     spoilt(&mut device, 257)?;
     let wanted = "1 fault 62\n2 fault 62\nfault 62\n";
-    runs(&rt, device, "1 get 7 create\n1 stat 1\n", wanted, Ending::Faulty)?;
+    runs(
+        &rt,
+        device,
+        "1 get 7 create\n1 stat 1\n",
+        wanted,
+        Ending::Faulty,
+    )?;
     Ok(())
 }
 
 #[test]
 fn a_file_that_is_cut(rt: HostRuntime) -> Result<(), Fail> {
     let alloc = rt.alloc();
-    let mut whole = new_device(alloc, 258);
+    let mut whole = new_device(alloc);
     let mut cut = MemDevice::new(alloc);
     let mut bytes = [0; PAGE_BYTES];
     for page in 0..257 {
@@ -135,7 +151,13 @@ fn a_file_that_is_cut(rt: HostRuntime) -> Result<(), Fail> {
         cut.extend(&bytes)?;
     }
     runs(&rt, cut, "1 stop\n", "fault 22\n", Ending::Faulty)?;
-    runs(&rt, MemDevice::new(alloc), "1 stop\n", "fault 22\n", Ending::Faulty)?;
+    runs(
+        &rt,
+        MemDevice::new(alloc),
+        "1 stop\n",
+        "fault 22\n",
+        Ending::Faulty,
+    )?;
     Ok(())
 }
 
@@ -144,9 +166,9 @@ fn a_file_that_is_cut(rt: HostRuntime) -> Result<(), Fail> {
 fn a_device_that_fails(rt: HostRuntime) -> Result<(), Fail> {
     let alloc = rt.alloc();
     let script = "1 get 7 create\n1 snd 1 5 61\n";
-    let device = FaultyDevice::new(new_device(alloc, 258), 1);
+    let device = FaultyDevice::new(new_device(alloc), 1);
     runs(&rt, device, script, "fault 20\n", Ending::Faulty)?;
-    let device = FaultyDevice::new(new_device(alloc, 258), 3);
+    let device = FaultyDevice::new(new_device(alloc), 3);
     let wanted = "1 id 1\n2 sent 1\nfault 20\n";
     runs(&rt, device, script, wanted, Ending::Faulty)?;
     Ok(())
@@ -204,7 +226,13 @@ fn files_are_made_and_run(rt: HostRuntime) -> Result<(), Fail> {
     ] {
         runs_file(&rt, file, script, "fault 20\n", Ending::Faulty)?;
     }
-    runs_file(&rt, "msgq_files/none", "msgq_files/wrong", "", Ending::WrongLine(2))?;
+    runs_file(
+        &rt,
+        "msgq_files/none",
+        "msgq_files/wrong",
+        "",
+        Ending::WrongLine(2),
+    )?;
     fs::OpenOptions::new()
         .write(true)
         .open(&rt, file)?

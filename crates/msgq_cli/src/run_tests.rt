@@ -79,7 +79,8 @@ fn empty_bodies_fill_a_bucket(rt: HostRuntime) -> Result<(), Fail> {
 fn limits_of_arguments(rt: HostRuntime) -> Result<(), Fail> {
     let alloc = rt.alloc();
     let longest = "61".repeat(alloc, 1024)?;
-    let script = format!(in alloc; "1 get 7 create
+    let script = format!(in alloc;
+        "1 get 7 create
 1 snd 1 1 {longest}
 1 snd 1 1 {longest}61
 1 snd 1 0 61
@@ -87,7 +88,8 @@ fn limits_of_arguments(rt: HostRuntime) -> Result<(), Fail> {
 1 snd 9 0 61
 1 stat 0
 1 set 1 65537
-")?;
+"
+    )?;
     prints(
         &rt,
         script.as_str(),

@@ -30,11 +30,7 @@ pub const MOST_FRAMES: usize = 16_384;
 ///
 /// A wrong script runs nothing. Fault 60 alone where there is no memory to read the script or to make the
 /// file, fault 20 alone where the reader fails otherwise.
-pub fn serve<R: Read, W: Write>(
-    alloc: Global,
-    reader: &mut R,
-    output: &mut Output<W>,
-) -> Ending
+pub fn serve<R: Read, W: Write>(alloc: Global, reader: &mut R, output: &mut Output<W>) -> Ending
     ensures { RunsInput (R.remaining reader.old) output.old output.new result }
 {
     match read_text(alloc, reader) {
@@ -56,7 +52,7 @@ pub fn run_on<D: PageDevice, W: Write>(
 ) -> (D, Ending)
     ensures { (s : State) → IsTrue (D.is_honest device) → IsFileOf s (D.content device) →
         RunsOn script.now (restarted s) (IsKept (D.is_honest result.0) (D.content result.0))
-            (D.fault_count result.0) output.old output.new result.1 }
+        (D.fault_count result.0) output.old output.new result.1 }
 {
     let frames = (device.pages() as usize).clamp(1, MOST_FRAMES);
     match OneCaller::open(alloc, device, frames) {
@@ -74,7 +70,7 @@ fn run_open<D: PageDevice, W: Write>(
 ) -> (D, Ending)
     ensures { (s : State) → Holds caller s →
         RunsOn script.now s (IsKept (D.is_honest result.0) (D.content result.0))
-            (D.fault_count result.0) output.old output.new result.1 }
+        (D.fault_count result.0) output.old output.new result.1 }
 {
     let mut caller = caller;
     let ending = run(alloc, script, &mut caller, output);

@@ -38,11 +38,7 @@ where
 }
 
 /// Makes a file of so many pages on a device without pages.
-pub fn new_on<D: PageDevice, W: Write>(
-    device: D,
-    pages: u32,
-    output: &mut Output<W>,
-) -> (D, Ending)
+pub fn new_on<D: PageDevice, W: Write>(device: D, pages: u32, output: &mut Output<W>) -> (D, Ending)
     requires empty { D.content device ≡ [] }
     requires least { LEAST_PAGES ≤ pages }
     requires most { pages ≤ MAX_PAGES }

@@ -277,12 +277,16 @@ fn each_reply_is_printed(rt: HostRuntime) -> Result<(), Fail> {
     for (number, reply, wanted) in &table {
         let mut output = Output::new(Vec::new(alloc));
         reply.print(*number, &mut output);
-        assert!(rt; output.into_writer().as_slice() == wanted.as_bytes(), "{wanted}");
+        assert!(rt;
+            output.into_writer().as_slice() == wanted.as_bytes(),
+            "{wanted}"
+        );
     }
     let mut output = Output::new(Vec::new(alloc));
     print_info(&info, &mut output);
     assert!(rt;
-        output.into_writer().as_slice() == b"info 1 7 2 2 30000 2 2 16 7 14 200 10 100 10 600\n".as_slice()
+        output.into_writer().as_slice()
+            == b"info 1 7 2 2 30000 2 2 16 7 14 200 10 100 10 600\n".as_slice()
     );
     Ok(())
 }

@@ -21,4 +21,4 @@ returns g c =
     let words = rw all at c.loop-word.invariant in
     rw parts
     (Prints-line c.args.self.now c.word.new.self c.loop-word.self c.put-2.new.self text_of c.in-Some.first.now c.in-Some.rest.now
-        c.word.ensures words c.put-2.ensures)
+    c.word.ensures words c.put-2.ensures)
