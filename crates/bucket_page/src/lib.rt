@@ -19,7 +19,7 @@ mod write;
 pub use change::{DoesNotFit, put, remove, replace};
 pub use divide::{cut, join, write_lower_half, write_upper_half};
 pub use layout::{GREATEST_DEPTH, PAGE_ENTRIES, RECORD_HEAD_BYTES, ROOM_BYTES};
-pub use page::{Malformed, PageKind, bucket_of, read_page};
+pub use page::{Malformed, PageKind, read_page};
 pub use pseudokey::{ConstantKey, NumberKey, PseudoKey, ShaKey};
 pub use record_key::{KEY_BYTES, RecordKey};
 pub use records::{Record, Records};

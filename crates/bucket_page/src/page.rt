@@ -5,9 +5,7 @@ ghost use Rattle.page_device.specs.declared.page.TheConstants.{PAYLOAD_BYTES};
 ghost use Rattle.bucket_page.specs.Numbers.{four_at};
 ghost use Rattle.bucket_page.specs.Reading.{answer, bucket_at, bucket_fault, directory_fault, entries_at, is_zero, link_fault, reading};
 ghost use Rattle.bucket_page.specs.Spelling.{Spells};
-ghost use Rattle.bucket_page.specs.Changes.{IsBucketPage};
 
-use crate::change::records_of;
 use crate::field::{four_at, two_at};
 use crate::layout::{
     BUCKET, DIRECTORY, ENTRIES_BYTES, FREE, GREATEST_DEPTH, HEAD_BYTES, ROOM_BYTES, TOMBSTONE,
@@ -62,28 +60,6 @@ pub fn read_page(payload: &Payload) -> Result<PageKind<'_>, Malformed>
     ensures only { (page : PageKind) → Spells page payload.now → result ≡ Ok page }
 {
     read(payload)
-}
-
-/// The bucket of a payload that is known to be a bucket's. Nothing is tested again.
-pub fn bucket_of(payload: &Payload) -> BucketView<'_>
-    requires { IsBucketPage payload.now }
-    ensures { result ≡ bucket_at payload.now }
-{
-    bucket_in(payload)
-}
-
-#[tactic(auto, using(crate::proofs::ChangeLaws::opened))]
-fn bucket_in(bytes: &[u8]) -> BucketView
-    requires long { length bytes.now ≡ PAYLOAD_BYTES }
-    requires bucket { IsBucketPage bytes.now }
-    ensures { result ≡ bucket_at bytes.now }
-{
-    BucketView {
-        depth: bytes[1],
-        pattern: four_at(bytes, 4),
-        next: four_at(bytes, 8),
-        records: records_of(bytes),
-    }
 }
 
 fn read(bytes: &[u8]) -> Result<PageKind, Malformed>

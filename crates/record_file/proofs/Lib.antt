@@ -1,4 +1,0 @@
-pub mod BucketLemmas
-pub mod FileLaws
-pub mod FileLemmas
-pub mod OpenLemmas
