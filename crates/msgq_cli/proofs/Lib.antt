@@ -1,3 +1,6 @@
 pub mod NumberLemmas
 pub mod CommandLemmas
+pub mod OutputLemmas
+pub mod RunLemmas
 pub mod ScriptLemmas
+pub mod ServeLemmas

@@ -67,3 +67,11 @@ reply_text number reply = line_of (decimal number ∷ reply_words reply)
 -- what is printed of a queue that no line asked about
 abbrev pub info_text : QueueInfo → List ℕ
 info_text info = line_of (info_words info)
+
+-- what is printed for a fault that no line met
+abbrev pub fault_text : ℕ → List ℕ
+fault_text fault = line_of (codes "fault" ∷ decimal fault ∷ [])
+
+-- what is printed for a file of so many pages that was made
+abbrev pub made_text : ℕ → List ℕ
+made_text pages = line_of (codes "made" ∷ decimal pages ∷ [])

@@ -3,6 +3,11 @@ pub mod Commands
 pub mod Lines
 pub mod Numbers
 pub mod Options
+pub mod Outputs
 pub mod Reading
+pub mod Runs
 pub mod Scripts
+pub mod Serves
+pub mod Serving
+pub mod Texts
 pub mod Words

@@ -4,19 +4,36 @@
 #![tactic(auto)]
 
 mod command;
+mod ending;
 mod line;
 mod numbers;
 mod options;
+mod output;
+mod printed_word;
 mod refusal;
 mod reply;
+mod runs;
 mod script;
+mod serving;
+mod subcommands;
 mod words;
 
 pub use command::{Command, DEFAULT_MODE};
+pub use ending::Ending;
 pub use line::{Line, SeatIds};
 pub use numbers::SEATS;
-pub use reply::{Reply, info_line};
+pub use output::Output;
+pub use reply::{Reply, print_fault, print_info, print_made};
+pub use runs::run;
 pub use script::{Script, ScriptError, read_script};
+pub use serving::{MEMORY_PAGES, MOST_FRAMES, run_on, serve};
+pub use subcommands::{new_file, new_on, run_file};
 
 #[cfg(test)]
+mod file_tests;
+#[cfg(test)]
+mod run_tests;
+#[cfg(test)]
 mod tests;
+#[cfg(test)]
+mod trial;

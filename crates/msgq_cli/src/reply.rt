@@ -1,12 +1,17 @@
 //! What is printed for a line of a script.
 
-ghost use Rattle.std.specs.Prelude.{◌≡◌, ◌∷◌, IfOk, string_bytes};
+ghost use Rattle.std.specs.Prelude.{◌≡◌, ◌∷◌, [], map, codes};
 ghost use Rattle.std.specs.Fmt.{decimal};
-ghost use Rattle.msgq_cli.specs.Answers.{body_text, key_text, mode_text, permission_words};
-ghost use Rattle.msgq_cli.specs.Answers.{answer_words, line_of, reply_text, info_text};
+ghost use Rattle.msgq_cli.specs.Answers.{answer_words, message_words, fault_text, info_text, info_words};
+ghost use Rattle.msgq_cli.specs.Answers.{line_of, made_text, reply_text};
+ghost use Rattle.msgq_cli.specs.Outputs.{Prints};
+ghost use Rattle.msgq_cli.specs.Runs.{is_fault};
+ghost use Rattle.msgq_cli.specs.Texts.{text_of};
 
-use queue_model::{Answer, NoMemory, Permissions, QueueInfo};
-use std::alloc::Global;
+use crate::output::Output;
+use crate::printed_word::PrintedWord;
+use queue_model::{Answer, Message, QueueInfo};
+use std::io::Write;
 
 /// What became of a line's command.
 #[derive(Debug, Drop, PartialEq)]
@@ -20,96 +25,124 @@ pub enum Reply {
 }
 
 impl Reply {
-    /// What is printed for the line of this number, with the LF.
-    pub fn line(&self, alloc: Global, number: u64) -> Result<String, NoMemory>
-        ensures { IfOk result (λ text. string_bytes text ≡ reply_text number self.now) }
+    /// Whether it is a fault.
+    pub fn is_fault(&self) -> bool
+        ensures { result ≡ is_fault self.now }
+    {
+        matches!(self, Reply::Failed(_))
+    }
+
+    /// Prints the line for the script's line of this number.
+    pub fn print<W: Write>(&self, number: u64, output: &mut Output<W>)
+        ensures { Prints output.old output.new (reply_text number self.now) }
     {
         match self {
-            Reply::Answered(answer) => answer_line(alloc, number, answer),
-            Reply::Stopped => Ok(format!(in alloc; "{number} done\n")?),
-            Reply::Failed(fault) => Ok(format!(in alloc; "{number} fault {fault}\n")?),
+            Reply::Answered(answer) => print_answer(number, answer, output),
+            Reply::Stopped => {
+                output.line(&[PrintedWord::Number(number), PrintedWord::Text(b"done")])
+            }
+            Reply::Failed(fault) => output.line(&[
+                PrintedWord::Number(number),
+                PrintedWord::Text(b"fault"),
+                PrintedWord::Number(u64::from(*fault)),
+            ]),
         }
     }
 }
 
-/// What is printed of a queue that no line asked about, with the LF.
-pub fn info_line(alloc: Global, info: &QueueInfo) -> Result<String, NoMemory>
-    ensures { IfOk result (λ text. string_bytes text ≡ info_text info.now) }
+/// Prints the state of a queue that no line asked about.
+pub fn print_info<W: Write>(info: &QueueInfo, output: &mut Output<W>)
+    ensures { Prints output.old output.new (info_text info.now) }
 {
-    let key = key_text(alloc, info.key)?;
-    let permissions = permissions_line(alloc, &info.permissions)?;
-    Ok(format!(in alloc;
-        "info {} {key} {} {} {} {} {} {} {} {} {permissions}",
-        info.id,
-        info.qnum,
-        info.cbytes,
-        info.qbytes,
-        info.lspid,
-        info.lrpid,
-        info.stime,
-        info.rtime,
-        info.ctime
-    )?)
+    output.line(&words_of_info(info));
 }
 
-/// What is printed for the line of this number where its call was answered.
-fn answer_line(alloc: Global, number: u64, answer: &Answer) -> Result<String, NoMemory>
-    ensures { IfOk result (λ text.
-        string_bytes text ≡ line_of (decimal number ∷ answer_words answer.now)) }
+/// Prints a fault that no line met.
+pub fn print_fault<W: Write>(fault: u8, output: &mut Output<W>)
+    ensures { Prints output.old output.new (fault_text fault) }
+{
+    output.line(&[
+        PrintedWord::Text(b"fault"),
+        PrintedWord::Number(u64::from(fault)),
+    ]);
+}
+
+/// Prints of how many pages a file was made.
+pub fn print_made<W: Write>(pages: u32, output: &mut Output<W>)
+    ensures { Prints output.old output.new (made_text pages) }
+{
+    output.line(&[
+        PrintedWord::Text(b"made"),
+        PrintedWord::Number(u64::from(pages)),
+    ]);
+}
+
+/// Prints an answer behind the number of its line.
+fn print_answer<W: Write>(number: u64, answer: &Answer, output: &mut Output<W>)
+    ensures { Prints output.old output.new
+        (line_of (decimal number ∷ answer_words answer.now)) }
 {
     match answer {
-        Answer::Id(id) => Ok(format!(in alloc; "{number} id {id}\n")?),
-        Answer::Sent(serial) => Ok(format!(in alloc; "{number} sent {serial}\n")?),
-        Answer::Received(message) => {
-            let body = body_text(alloc, message.bytes.as_slice())?;
-            Ok(format!(in alloc;
-                "{number} received {} {} {} {body}\n",
-                message.serial, message.sender, message.mtype
-            )?)
-        }
+        Answer::Id(id) => output.line(&[
+            PrintedWord::Number(number),
+            PrintedWord::Text(b"id"),
+            PrintedWord::Number(u64::from(*id)),
+        ]),
+        Answer::Sent(serial) => output.line(&[
+            PrintedWord::Number(number),
+            PrintedWord::Text(b"sent"),
+            PrintedWord::Number(*serial),
+        ]),
+        Answer::Received(message) => print_message(number, message, output),
         Answer::Info(info) => {
-            let info = info_line(alloc, info)?;
-            Ok(format!(in alloc; "{number} {info}")?)
+            output.word(&PrintedWord::Number(number));
+            output.put(b" ");
+            print_info(info, output);
         }
-        Answer::Done => Ok(format!(in alloc; "{number} done\n")?),
-        Answer::Refused(errno) => Ok(format!(in alloc; "{number} refused {}\n", errno.name())?),
+        Answer::Done => output.line(&[PrintedWord::Number(number), PrintedWord::Text(b"done")]),
+        Answer::Refused(errno) => output.line(&[
+            PrintedWord::Number(number),
+            PrintedWord::Text(b"refused"),
+            PrintedWord::Text(errno.name().as_bytes()),
+        ]),
     }
 }
 
-/// A body in lower case digits, or `-` where it is empty.
-fn body_text(alloc: Global, body: &[u8]) -> Result<String, NoMemory>
-    ensures { IfOk result (λ text. string_bytes text ≡ body_text body.now) }
+/// Prints a message that was received, behind the number of its line.
+fn print_message<W: Write>(number: u64, message: &Message, output: &mut Output<W>)
+    ensures { Prints output.old output.new
+        (line_of (decimal number ∷ message_words message.now)) }
 {
-    if body.is_empty() {
-        return Ok(String::from_str(alloc, "-")?);
-    }
-    Ok(hex::encode(alloc, body)?)
+    output.line(&[
+        PrintedWord::Number(number),
+        PrintedWord::Text(b"received"),
+        PrintedWord::Number(message.serial),
+        PrintedWord::Number(u64::from(message.sender)),
+        PrintedWord::Signed(message.mtype),
+        PrintedWord::Body(message.bytes.as_slice()),
+    ]);
 }
 
-/// A key, or `private`.
-fn key_text(alloc: Global, key: Option<u32>) -> Result<String, NoMemory>
-    ensures { IfOk result (λ text. string_bytes text ≡ key_text key) }
+/// The words of a queue's state.
+fn words_of_info<'a>(info: &QueueInfo) -> [PrintedWord<'a>; 16]
+    ensures { map text_of result ≡ info_words info.now }
 {
-    match key {
-        Some(key) => Ok(format!(in alloc; "{key}")?),
-        None => Ok(String::from_str(alloc, "private")?),
-    }
-}
-
-/// Owner, creator and mode, with the LF.
-fn permissions_line(alloc: Global, permissions: &Permissions) -> Result<String, NoMemory>
-    ensures { IfOk result (λ text. string_bytes text ≡ line_of (permission_words permissions.now)) }
-{
-    let mode = mode_text(alloc, permissions.mode)?;
-    Ok(format!(in alloc;
-        "{} {} {} {} {mode}\n",
-        permissions.uid, permissions.gid, permissions.cuid, permissions.cgid
-    )?)
-}
-
-/// Nine bits as three octal digits.
-fn mode_text(alloc: Global, mode: u16) -> Result<String, NoMemory>
-    ensures { IfOk result (λ text. string_bytes text ≡ mode_text mode) }
-{
-    Ok(format!(in alloc; "{}{}{}", mode / 64 % 8, mode / 8 % 8, mode % 8)?)
+    [
+        PrintedWord::Text(b"info"),
+        PrintedWord::Number(u64::from(info.id)),
+        PrintedWord::Key(info.key),
+        PrintedWord::Number(u64::from(info.qnum)),
+        PrintedWord::Number(u64::from(info.cbytes)),
+        PrintedWord::Number(u64::from(info.qbytes)),
+        PrintedWord::Number(u64::from(info.lspid)),
+        PrintedWord::Number(u64::from(info.lrpid)),
+        PrintedWord::Number(info.stime),
+        PrintedWord::Number(info.rtime),
+        PrintedWord::Number(info.ctime),
+        PrintedWord::Number(u64::from(info.permissions.uid)),
+        PrintedWord::Number(u64::from(info.permissions.gid)),
+        PrintedWord::Number(u64::from(info.permissions.cuid)),
+        PrintedWord::Number(u64::from(info.permissions.cgid)),
+        PrintedWord::Mode(info.permissions.mode),
+    ]
 }

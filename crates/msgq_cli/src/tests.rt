@@ -1,6 +1,6 @@
 //! Scripts and the lines of answers, typed from their grammar.
 
-use crate::{Command, Line, Reply, ScriptError, info_line, read_script};
+use crate::{Command, Line, Output, Reply, ScriptError, print_info, read_script};
 use queue_model::{
     Answer, Body, Call, Caller, Errno, GetArguments, Message, Permissions, QueueInfo,
     ReceiveArguments, SendArguments, SetArguments,
@@ -275,13 +275,18 @@ fn each_reply_is_printed(rt: HostRuntime) -> Result<(), Fail> {
         (5, Reply::Failed(50), "5 fault 50\n"),
     ];
     for (number, reply, wanted) in &table {
-        let line = reply.line(alloc, *number)?;
-        assert_eq!(rt; line.as_str(), *wanted);
+        let mut output = Output::new(Vec::new(alloc));
+        reply.print(*number, &mut output);
+        assert!(rt;
+            output.into_writer().as_slice() == wanted.as_bytes(),
+            "{wanted}"
+        );
     }
-    let line = info_line(alloc, &info)?;
-    assert_eq!(rt;
-        line.as_str(),
-        "info 1 7 2 2 30000 2 2 16 7 14 200 10 100 10 600\n"
+    let mut output = Output::new(Vec::new(alloc));
+    print_info(&info, &mut output);
+    assert!(rt;
+        output.into_writer().as_slice()
+            == b"info 1 7 2 2 30000 2 2 16 7 14 200 10 100 10 600\n".as_slice()
     );
     Ok(())
 }

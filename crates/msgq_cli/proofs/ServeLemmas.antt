@@ -1,0 +1,52 @@
+-- Files opened, run on and closed.
+use Rattle.std.proofs.Common.{◌≡◌, ◌⊎◌, inl, inr, ℕ, ◌<◌, ◌+◌, List, refl, arith}
+use Rattle.std.specs.Bool.{⊤}
+use Rattle.page_device.specs.Device.{HasRisen, MOST_FAULTS}
+use Rattle.page_device.specs.Fault.{number_of}
+use Rattle.page_device.specs.declared.fault.DeviceFault.{DeviceFault}
+use Rattle.page_device.specs.declared.fault.DeviceFault.TheVariants as device
+use Rattle.queue_model.specs.State.{State}
+use Rattle.record_file.specs.Files.{MayNotFormat}
+use Rattle.msgq_cli.specs.Outputs.{OutputState}
+use Rattle.msgq_cli.specs.Runs.{IsRun}
+use Rattle.msgq_cli.specs.Scripts.{Parts}
+use Rattle.msgq_cli.specs.Serves.{IsFaultAlone, RunsNew, RunsOn}
+use Rattle.msgq_cli.specs.declared.ending.Ending.{Ending}
+
+-- a run whose caller's file was closed, or is looked at no more
+pub IsRun-weaker : (script : Parts) (s : State) (H I : State → Type 0) (old new : OutputState) (ending : Ending)
+    → ((t : State) → H t → I t) → IsRun script s H old new ending → IsRun script s I old new ending
+IsRun-weaker script s H I old new ending weaker run = record {
+  replies = run.replies;
+  left = run.left;
+  replied = run.replied;
+  held = weaker run.left run.held;
+  prints = run.prints;
+  ends = run.ends;
+}
+
+-- a device whose count of faults rose has failed
+pub has_failed : (old new : ℕ) → HasRisen old new → 0 < new
+has_failed old new (inl more) = omega arith
+has_failed old new (inr most) = rw most (omega arith)
+
+-- a device in memory does not fail
+pub never_fails : (old : ℕ) → HasRisen old 0 → ⊥
+never_fails old (inl less) = absurd (omega arith)
+never_fails old (inr most) = absurd (omega arith)
+
+-- what the making of a file in memory tells is want of memory
+pub no_memory : (fault : DeviceFault) → MayNotFormat fault → (fault ≡ device.Device → HasRisen 0 0) → number_of fault ≡ 60
+no_memory device.Device may failed = absurd (never_fails 0 (failed refl))
+no_memory device.BadDigest may failed = absurd may
+no_memory device.PastEnd may failed = absurd may
+no_memory device.DeviceFull may failed = absurd may
+no_memory device.NoMemory may failed = refl
+
+-- a file in memory is run on, or there is no memory for it
+pub RunsNew-memory : (script : Parts) (s : State) (IsLeft : State → Type 0) (old new : OutputState) (ending : Ending)
+    → RunsOn script s IsLeft 0 old new ending → IsRun script s (λ t. ⊤) old new ending ⊎ IsFaultAlone 60 old new ending
+RunsNew-memory script s IsLeft old new ending (inl run) =
+    inl (IsRun-weaker script s IsLeft (λ t. ⊤) old new ending (λ t held. tt) run)
+RunsNew-memory script s IsLeft old new ending (inr (inl alone)) = inr alone
+RunsNew-memory script s IsLeft old new ending (inr (inr (failed, which))) = absurd (omega (arith, failed))

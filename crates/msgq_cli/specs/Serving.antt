@@ -1,0 +1,14 @@
+-- What is replied to a call that was made.
+use Rattle.std.specs.Prelude.{Result, Ok, Err}
+use Rattle.xsi_calls.specs.declared.served.Served.{Served}
+use Rattle.xsi_calls.specs.declared.served.Served.TheVariants.{Answer, Waits}
+use Rattle.xsi_calls.specs.declared.fault.CallFault.{CallFault}
+use Rattle.xsi_calls.specs.Fault.{number_of}
+use Rattle.msgq_cli.specs.declared.reply.Reply.{Reply}
+use Rattle.msgq_cli.specs.declared.reply.Reply.TheVariants.{Answered, Failed}
+
+-- an answer is told, and a fault by its number; where a stopped system lets a call wait, the file holds none
+abbrev pub reply_to : Result Served CallFault → Reply
+reply_to (Ok (Answer answer)) = Answered answer
+reply_to (Ok Waits) = Failed 62
+reply_to (Err fault) = Failed (number_of fault)

@@ -1,0 +1,42 @@
+//! How a run ends.
+
+ghost use Rattle.std.specs.Prelude.{◌≡◌, if◌then◌else◌};
+ghost use Rattle.msgq_cli.specs.Runs.{is_fault, status_of};
+
+use crate::reply::Reply;
+
+/// How a run ends.
+#[derive(Clone, Copy, Debug, PartialEq, Eq)]
+pub enum Ending {
+    /// No fault was printed.
+    Done,
+    /// A fault was printed.
+    Faulty,
+    /// The script's line of this number is wrong, and nothing was run.
+    WrongLine(u64),
+}
+
+impl Ending {
+    /// The exit status of a program whose output refused a write or did not: 0, 1 or 2
+    /// (docs/SCRIPTS.md, "Exit status").
+    pub fn status(self, refused: bool) -> u8
+        ensures { result ≡ status_of refused self }
+    {
+        match self {
+            Ending::WrongLine(_) => 2,
+            Ending::Faulty => 1,
+            Ending::Done => u8::from(refused),
+        }
+    }
+
+    /// How it ends after one reply more.
+    pub(crate) fn after(self, reply: &Reply) -> Ending
+        ensures { result ≡ (if is_fault reply.now then Ending.Faulty else self) }
+    {
+        if reply.is_fault() {
+            Ending::Faulty
+        } else {
+            self
+        }
+    }
+}

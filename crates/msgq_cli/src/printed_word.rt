@@ -1,0 +1,98 @@
+//! The words of a printed line.
+
+ghost use Rattle.std.specs.Prelude.{◌≡◌, ℕ, List, map};
+ghost use Rattle.std.specs.Fmt.{decimal};
+ghost use Rattle.hex.specs.Hex.{encode_lower};
+ghost use Rattle.msgq_cli.specs.Answers.{line_of, body_text, mode_text};
+ghost use Rattle.msgq_cli.specs.Outputs.{Prints};
+ghost use Rattle.msgq_cli.specs.Texts.{text_of};
+
+use crate::output::Output;
+use itoa::Buffer;
+use std::io::Write;
+
+/// A word of a printed line.
+#[derive(Clone, Copy)]
+pub(crate) enum PrintedWord<'a> {
+    /// As it is.
+    Text(&'a [u8]),
+    /// In decimal digits.
+    Number(u64),
+    /// In decimal digits, with a `-` in front where it is negative.
+    Signed(i64),
+    /// A key in decimal digits, or `private`.
+    Key(Option<u32>),
+    /// A body in hexadecimal digits of lower case, or `-` where it is empty.
+    Body(&'a [u8]),
+    /// Nine bits as three octal digits.
+    Mode(u16),
+}
+
+impl<W: Write> Output<W> {
+    /// Prints words with a space between each two, and an LF behind them.
+    pub(crate) fn line(&mut self, words: &[PrintedWord<'_>])
+        ensures { Prints self.old self.new (line_of (map text_of words.now)) }
+    {
+        let Some((first, rest)) = words.split_first() else {
+            return self.put(b"\n");
+        };
+        self.word(first);
+        for word in rest {
+            self.put(b" ");
+            self.word(word);
+        }
+        self.put(b"\n");
+    }
+
+    /// Prints a word.
+    pub(crate) fn word(&mut self, word: &PrintedWord<'_>)
+        ensures { Prints self.old self.new (text_of word.now) }
+    {
+        match word {
+            PrintedWord::Text(text) => self.put(text),
+            PrintedWord::Number(number) => self.number(*number),
+            PrintedWord::Signed(number) => self.put(Buffer::new().format(*number).as_bytes()),
+            PrintedWord::Key(Some(key)) => self.number(u64::from(*key)),
+            PrintedWord::Key(None) => self.put(b"private"),
+            PrintedWord::Body(body) => self.body(body),
+            PrintedWord::Mode(mode) => self.mode(*mode),
+        }
+    }
+
+    /// Prints a number.
+    fn number(&mut self, number: u64)
+        ensures { Prints self.old self.new (decimal number) }
+    {
+        self.put(Buffer::new().format(number).as_bytes());
+    }
+
+    /// Prints a body.
+    fn body(&mut self, body: &[u8])
+        ensures { Prints self.old self.new (body_text body.now) }
+    {
+        if body.is_empty() {
+            return self.put(b"-");
+        }
+        self.digits(body);
+    }
+
+    /// Prints two hexadecimal digits for each byte.
+    fn digits(&mut self, bytes: &[u8])
+        ensures { Prints self.old self.new (encode_lower bytes.now) }
+    {
+        for byte in bytes {
+            let mut digits = [0; 2];
+            hex::encode_to_slice([*byte], &mut digits).unwrap();
+            self.put(&digits);
+        }
+    }
+
+    /// Prints a mode.
+    fn mode(&mut self, mode: u16)
+        ensures { Prints self.old self.new (mode_text mode) }
+    {
+        self.number(u64::from(mode / 64 % 8));
+        self.number(u64::from(mode / 8 % 8));
+        self.number(u64::from(mode % 8));
+    }
+}
