@@ -6,7 +6,12 @@ use Rattle.page_device.specs.Fault.{number_of}
 use Rattle.page_device.specs.declared.fault.DeviceFault.{DeviceFault}
 use Rattle.page_device.specs.declared.fault.DeviceFault.TheVariants as device
 use Rattle.queue_model.specs.State.{State}
+use Rattle.record_file.specs.declared.fault.OpenFault.{OpenFault}
+use Rattle.record_file.specs.declared.fault.OpenFault.TheVariants as opens
+use Rattle.record_file.specs.Fault as open_faults
 use Rattle.record_file.specs.Files.{MayNotFormat}
+use Rattle.record_file.specs.Laws.{IsOfMachine}
+use Rattle.record_file.specs.Opening.{HasCauseToRefuse}
 use Rattle.msgq_cli.specs.Outputs.{OutputState}
 use Rattle.msgq_cli.specs.Runs.{IsRun}
 use Rattle.msgq_cli.specs.Scripts.{Parts}
@@ -50,3 +55,17 @@ RunsNew-memory script s IsLeft old new ending (inl run) =
     inl (IsRun-weaker script s IsLeft (λ t. ⊤) old new ending (λ t held. tt) run)
 RunsNew-memory script s IsLeft old new ending (inr (inl alone)) = inr alone
 RunsNew-memory script s IsLeft old new ending (inr (inr (failed, which))) = absurd (omega (arith, failed))
+
+-- the file of a system is refused by its device or for want of memory alone, where there is a frame
+pub refused_alone : (script : Parts) (s : State) (IsLeft : State → Type 0) (was faults : ℕ) (old new : OutputState)
+    (ending : Ending) (fault : OpenFault) → IsOfMachine fault → HasCauseToRefuse was faults fault
+    → (fault ≡ opens.TooFewFrames → ⊥) → IsFaultAlone (open_faults.number_of fault) old new ending
+    → RunsOn script s IsLeft faults old new ending
+refused_alone script s IsLeft was faults old new ending opens.Device may cause frames alone =
+    inr (inr (has_failed was faults cause, inl alone))
+refused_alone script s IsLeft was faults old new ending opens.BadDigest may cause frames alone = absurd may
+refused_alone script s IsLeft was faults old new ending opens.PastEnd may cause frames alone = absurd may
+refused_alone script s IsLeft was faults old new ending opens.TooFewFrames may cause frames alone = absurd (frames refl)
+refused_alone script s IsLeft was faults old new ending opens.BadHeader may cause frames alone = absurd may
+refused_alone script s IsLeft was faults old new ending opens.BadVersion may cause frames alone = absurd may
+refused_alone script s IsLeft was faults old new ending opens.NoMemory may cause frames alone = inr (inl alone)
