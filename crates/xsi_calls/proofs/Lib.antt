@@ -6,3 +6,4 @@ pub mod HoldLemmas
 pub mod ReadLemmas
 pub mod ServeLemmas
 pub mod SweepLemmas
+pub mod CallListLemmas

@@ -1,3 +1,4 @@
+pub mod CallLists
 pub mod Carrying
 pub mod Fault
 pub mod Filing

@@ -4,6 +4,7 @@
 #![tactic(auto)]
 
 mod ask;
+mod call_list;
 mod carry;
 mod change;
 mod fault;
@@ -13,6 +14,7 @@ mod serve;
 mod served;
 mod sweep;
 
+pub use call_list::Asked;
 pub use fault::CallFault;
 pub use laws::a_new_file_is_that_of_no_queue;
 pub use one_caller::OneCaller;

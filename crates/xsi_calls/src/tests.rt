@@ -103,6 +103,26 @@ fn a_message_is_sent_and_received(rt: HostRuntime) -> Result<(), Fail> {
 }
 
 #[test]
+fn calls_are_served_one_after_the_other(rt: HostRuntime) -> Result<(), Fail> {
+    let alloc = rt.alloc();
+    let mut calls = Vec::new(alloc);
+    for call in [receive(1), get(7), send(&rt, alloc, 1, 2), receive(1), receive(1)] {
+        calls.push(Asked { caller: ROOT, call })?;
+    }
+    let mut caller = opens(alloc, new_file(alloc)?)?;
+    let told = caller.call_all(alloc, calls.as_slice());
+    closes(caller)?;
+    let told = told?;
+    assert!(rt; told.len() == 5);
+    assert!(rt; told[0] == Ok(Served::Answer(Answer::Refused(Errno::EINVAL))));
+    assert!(rt; told[1] == Ok(Served::Answer(Answer::Id(1))));
+    assert!(rt; told[2] == Ok(Served::Answer(Answer::Sent(1))));
+    assert!(rt; is_received(&told[3], 1, 2));
+    assert!(rt; told[4] == Ok(Served::Waits));
+    Ok(())
+}
+
+#[test]
 fn three_long_messages_fit_the_smallest_file(rt: HostRuntime) -> Result<(), Fail> {
     let alloc = rt.alloc();
     let mut caller = opens(alloc, new_file(alloc)?)?;
