@@ -2,6 +2,8 @@
 //! with the path of a file to be made it prints nanoseconds.
 #![tactic(auto)]
 
+mod calling;
+mod deciding;
 mod making;
 mod pinning;
 mod sealing;
@@ -12,6 +14,9 @@ use std::time::Instant;
 /// How often a workload runs when it is timed.
 const ROUNDS: u32 = 20_000;
 
+/// How many messages are sent and received.
+const MESSAGES: u32 = 100_000;
+
 /// How often a page that has a frame is pinned.
 const PINS: u32 = 2_000_000;
 
@@ -20,6 +25,10 @@ fn main(rt: HostRuntime) -> anyhow::Result<()> {
     let Some(path) = words.get(1) else {
         return once(&rt);
     };
+    calls(&rt)?;
+    for types in [1, 16, 200] {
+        decides(&rt, types)?;
+    }
     seals(&rt)?;
     for frames in [64, MAX_PAGES] {
         pins(&rt, frames)?;
@@ -37,7 +46,35 @@ fn once(rt: &HostRuntime) -> anyhow::Result<()> {
     let mut pool = pinning::pool_over(rt.alloc(), 4, 2)?;
     let mark = pinning::pins(&mut pool, 0, 4, 8)?;
     println!(rt; "pinning: {mark}")?;
+    let received = calling::sends_and_receives(rt.alloc(), 3)?;
+    println!(rt; "received: {received}")?;
+    let standing = deciding::sends(rt.alloc(), 16, 16, 1)?;
+    let new = deciding::sends(rt.alloc(), 16, 17, 1)?;
+    let taken = deciding::receives(16, 1);
+    println!(rt; "decided: {:?}", (standing, new, taken))?;
     Ok(())
+}
+
+/// Times sends and receives.
+fn calls(rt: &HostRuntime) -> anyhow::Result<()> {
+    let start = Instant::now(rt)?;
+    let received = calling::sends_and_receives(rt.alloc(), MESSAGES)?;
+    println!(rt; "{received} messages sent and received")?;
+    report(rt, "a send or a receive", 0, start, MESSAGES.saturating_mul(2))
+}
+
+/// Times decisions over a queue of so many types.
+fn decides(rt: &HostRuntime, types: u32) -> anyhow::Result<()> {
+    println!(rt; "with {types} types:")?;
+    let start = Instant::now(rt)?;
+    deciding::sends(rt.alloc(), types, i64::from(types), ROUNDS)?;
+    report(rt, "a send of a type that stands, decided", 0, start, ROUNDS)?;
+    let start = Instant::now(rt)?;
+    deciding::sends(rt.alloc(), types, i64::from(types).saturating_add(1), ROUNDS)?;
+    report(rt, "a send of a new type, decided", 0, start, ROUNDS)?;
+    let start = Instant::now(rt)?;
+    deciding::receives(types, ROUNDS);
+    report(rt, "a receive, decided", 0, start, ROUNDS)
 }
 
 /// Times digests, and pages sealed and unsealed.

@@ -1,0 +1,86 @@
+//! Calls served one at a time over a file in memory.
+
+use page_device::MemDevice;
+use queue_model::{
+    Body, Call, Caller, GetArguments, ReceiveArguments, SendArguments,
+};
+use record_file::{CloseFault, OpenFault, format};
+use std::alloc::{AllocError, Global};
+use xsi_calls::{CallFault, OneCaller, Served};
+
+/// Who calls.
+const CALLER: Caller = Caller {
+    pid: 1,
+    uid: 0,
+    gid: 0,
+};
+
+/// Pages of the file.
+const PAGES: u32 = 258;
+
+/// Bytes of each message.
+const BODY_BYTES: usize = 64;
+
+/// Sends a message and receives it, so many times, on a new file; tells how many were received.
+pub fn sends_and_receives(alloc: Global, rounds: u32) -> anyhow::Result<u32> {
+    let get = Call::Get(GetArguments {
+        key: Some(7),
+        create: true,
+        excl: false,
+        mode: 0o666,
+        moment: 1,
+    });
+    let send = sending(alloc)?;
+    let receive = Call::Receive(ReceiveArguments {
+        id: 1,
+        size: 1024,
+        mtype: 0,
+        nowait: true,
+        noerror: false,
+        moment: 3,
+    });
+    let mut device = MemDevice::new(alloc);
+    format(&mut device, PAGES)?;
+    let mut caller = opened(alloc, device)?;
+    let mut received = 0u32;
+    if is_answered(&caller.call(alloc, CALLER, &get)) {
+        for _ in 0..rounds {
+            let sent = is_answered(&caller.call(alloc, CALLER, &send));
+            if sent && is_answered(&caller.call(alloc, CALLER, &receive)) {
+                received = received.wrapping_add(1);
+            }
+        }
+    }
+    closed(caller)?;
+    Ok(received)
+}
+
+/// A Send of type 5.
+fn sending(alloc: Global) -> Result<Call, AllocError> {
+    let body = Body::new(Vec::from_slice(alloc, &[7; BODY_BYTES])?);
+    Ok(Call::Send(SendArguments {
+        id: 1,
+        mtype: 5,
+        body,
+        nowait: true,
+        moment: 2,
+    }))
+}
+
+fn opened(alloc: Global, device: MemDevice) -> Result<OneCaller<MemDevice>, OpenFault> {
+    match OneCaller::open(alloc, device, 2) {
+        Ok(caller) => Ok(caller),
+        Err((_, fault)) => Err(fault),
+    }
+}
+
+fn closed(caller: OneCaller<MemDevice>) -> Result<(), CloseFault> {
+    match caller.close() {
+        Ok(_) => Ok(()),
+        Err((_, fault)) => Err(fault),
+    }
+}
+
+fn is_answered(served: &Result<Served, CallFault>) -> bool {
+    matches!(served, Ok(Served::Answer(_)))
+}
