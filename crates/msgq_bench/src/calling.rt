@@ -1,9 +1,7 @@
 //! Calls served one at a time over a file in memory.
 
 use page_device::MemDevice;
-use queue_model::{
-    Body, Call, Caller, GetArguments, ReceiveArguments, SendArguments,
-};
+use queue_model::{Body, Call, Caller, GetArguments, ReceiveArguments, SendArguments};
 use record_file::{CloseFault, OpenFault, format};
 use std::alloc::{AllocError, Global};
 use xsi_calls::{CallFault, OneCaller, Served};

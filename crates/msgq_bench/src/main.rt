@@ -60,7 +60,13 @@ fn calls(rt: &HostRuntime) -> anyhow::Result<()> {
     let start = Instant::now(rt)?;
     let received = calling::sends_and_receives(rt.alloc(), MESSAGES)?;
     println!(rt; "{received} messages sent and received")?;
-    report(rt, "a send or a receive", 0, start, MESSAGES.saturating_mul(2))
+    report(
+        rt,
+        "a send or a receive",
+        0,
+        start,
+        MESSAGES.saturating_mul(2),
+    )
 }
 
 /// Times decisions over a queue of so many types.
@@ -68,9 +74,20 @@ fn decides(rt: &HostRuntime, types: u32) -> anyhow::Result<()> {
     println!(rt; "with {types} types:")?;
     let start = Instant::now(rt)?;
     deciding::sends(rt.alloc(), types, i64::from(types), ROUNDS)?;
-    report(rt, "a send of a type that stands, decided", 0, start, ROUNDS)?;
+    report(
+        rt,
+        "a send of a type that stands, decided",
+        0,
+        start,
+        ROUNDS,
+    )?;
     let start = Instant::now(rt)?;
-    deciding::sends(rt.alloc(), types, i64::from(types).saturating_add(1), ROUNDS)?;
+    deciding::sends(
+        rt.alloc(),
+        types,
+        i64::from(types).saturating_add(1),
+        ROUNDS,
+    )?;
     report(rt, "a send of a new type, decided", 0, start, ROUNDS)?;
     let start = Instant::now(rt)?;
     deciding::receives(types, ROUNDS);

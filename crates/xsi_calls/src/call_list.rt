@@ -38,7 +38,8 @@ impl<D: PageDevice> OneCaller<D> {
     {
         let mut told = Vec::with_capacity(alloc, calls.len())?;
         for asked in calls {
-            told.push(self.call(alloc, asked.caller, &asked.call)).unwrap();
+            told.push(self.call(alloc, asked.caller, &asked.call))
+                .unwrap();
         }
         Ok(told)
     }

@@ -106,7 +106,13 @@ fn a_message_is_sent_and_received(rt: HostRuntime) -> Result<(), Fail> {
 fn calls_are_served_one_after_the_other(rt: HostRuntime) -> Result<(), Fail> {
     let alloc = rt.alloc();
     let mut calls = Vec::new(alloc);
-    for call in [receive(1), get(7), send(&rt, alloc, 1, 2), receive(1), receive(1)] {
+    for call in [
+        receive(1),
+        get(7),
+        send(&rt, alloc, 1, 2),
+        receive(1),
+        receive(1),
+    ] {
         calls.push(Asked { caller: ROOT, call })?;
     }
     let mut caller = opens(alloc, new_file(alloc)?)?;
