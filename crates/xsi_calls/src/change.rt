@@ -39,7 +39,8 @@ pub fn insert<D: PageDevice>(file: &mut OneBucket<D>, entry: &Record<'_>) -> Res
 /// Replaces the record of a key by one that is as long.
 pub fn replace<D: PageDevice>(file: &mut OneBucket<D>, entry: &Record<'_>) -> Result<(), NotASystem>
     ensures ok { (records : Records) → HasValues records file.old.records →
-        OnOk result (HasValues (with_at (key_of entry.now) (Some entry.now) records) file.new.records) }
+        OnOk result (HasValues (with_at (key_of entry.now) (Some entry.now) records)
+        file.new.records) }
     ensures can { (records : Records) → HasValues records file.old.records →
         CanBe (Replace entry.now) records → IsInRange entry.now → IsOk result }
     ensures same { ChangesRecords file.old file.new }

@@ -46,7 +46,8 @@ impl<D: PageDevice> OneCaller<D> {
         ensures ok { (s : State) → IsTrue (D.is_honest device) → IsFileOf s (D.content device) →
             IfOk result (λ caller. Holds caller (restarted s)) }
         // Nothing but a transfer, no frame or want of memory refuses the file of a system.
-        ensures refused { (s : State) → IsTrue (D.is_honest device) → IsFileOf s (D.content device) →
+        ensures refused { (s : State) →
+            IsTrue (D.is_honest device) → IsFileOf s (D.content device) →
             IfErr result (λ refusal. IsOfMachine refusal.1) }
         ensures few { IsErrAnd result (λ refusal. refusal.1 ≡ OpenFault.TooFewFrames) ↔
             (frames ≡ 0) }

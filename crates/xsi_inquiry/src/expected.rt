@@ -11,7 +11,8 @@ use queue_records::{Counter, KeyEntry, MAX_BODY, QueueEntry, Record, TypeEntry};
 /// The Counter.
 pub fn counter_in(found: Record<'_>) -> Result<Counter, NotASystem>
     ensures ok { IfOk result (λ counter. found.entry ≡ records.Counter counter) }
-    ensures only { (counter : Counter) → found.entry ≡ records.Counter counter → result ≡ Ok counter }
+    ensures only { (counter : Counter) →
+        found.entry ≡ records.Counter counter → result ≡ Ok counter }
 {
     match found {
         Record::Counter(counter) => Ok(counter),

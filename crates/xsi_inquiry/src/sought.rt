@@ -59,7 +59,8 @@ impl Sought {
     pub fn take(&mut self, id: u32, found: Option<Record<'_>>) -> Result<(), NotASystem>
         requires { IsSome (key_sought id self.old) }
         ensures told { (s : State) → IsFiled s → Tells id self.old s →
-            IsTold s (key_sought id self.old) found.entry → Gives result (λ _. Tells id self.new s) }
+            IsTold s (key_sought id self.old) found.entry →
+            Gives result (λ _. Tells id self.new s) }
         ensures fewer { OnOk result (reads_left self.new < reads_left self.old) }
     {
         match *self {

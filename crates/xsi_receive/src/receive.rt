@@ -185,7 +185,8 @@ impl Place {
         mtype: TypeEntry,
         message: HeldMessage,
     ) -> Place
-        ensures knows { (c : Caller) (s : State) → SelectsBoth c arguments.now queue mtype message s →
+        ensures knows { (c : Caller) (s : State) →
+            SelectsBoth c arguments.now queue mtype message s →
             KnowsAt c arguments.now result s }
         ensures left { left_at result ≤ 4 }
     {
@@ -264,7 +265,8 @@ fn message_found(found: Option<Record<'_>>) -> Result<HeldMessage, NotASystem>
 /// The Type that has to be there.
 fn type_found(found: Option<Record<'_>>) -> Result<TypeEntry, NotASystem>
     ensures ok { IfOk result (λ mtype. found.entry ≡ Some (records.Type mtype)) }
-    ensures only { (mtype : TypeEntry) → found.entry ≡ Some (records.Type mtype) → result ≡ Ok mtype }
+    ensures only { (mtype : TypeEntry) →
+        found.entry ≡ Some (records.Type mtype) → result ≡ Ok mtype }
 {
     let Some(entry) = found else {
         return Err(NotASystem);
