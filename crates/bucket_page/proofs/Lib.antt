@@ -1,6 +1,5 @@
 pub mod ChangeLaws
 pub mod DivideLaws
-pub mod EntryLaws
 pub mod HeadLaws
 pub mod JoinLaws
 pub mod KeyLaws

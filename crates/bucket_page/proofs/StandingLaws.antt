@@ -18,7 +18,8 @@ use Rattle.fields.proofs.NumberLaws.{two_again, length-two}
 use Rattle.bucket_page.proofs.KeyLaws.{length-key}
 use Rattle.bucket_page.proofs.Steps.{length-pair}
 use Rattle.bucket_page.proofs.OrderLaws.{behind, IsAmong, is_among, ascend_without}
-use Rattle.bucket_page.proofs.SpliceLaws.{taken_between, written_between}
+use Rattle.bucket_page.proofs.SpliceLaws.{taken_between}
+use Rattle.fields.proofs.WrittenLaws.{written_between}
 use Rattle.bucket_page.proofs.ChangeLaws.{opened, remade}
 
 -- the bytes before a record, its own, and those behind it

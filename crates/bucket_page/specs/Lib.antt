@@ -1,7 +1,6 @@
 pub mod Bucket
 pub mod Changes
 pub mod Dividing
-pub mod Entries
 pub mod Keys
 pub mod Laws
 pub mod PseudokeyLaws

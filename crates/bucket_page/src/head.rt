@@ -4,8 +4,9 @@ ghost use Rattle.std.specs.Prelude.{◌≡◌, ◌≤◌, length};
 ghost use Rattle.bucket_page.specs.Reading.{head_at};
 ghost use Rattle.bucket_page.specs.Spelling.{head_bytes};
 
+use crate::layout::BUCKET;
+use directory::HEAD_BYTES;
 use fields::{blank, four_at, two_at, write_four, write_two};
-use crate::layout::{BUCKET, HEAD_BYTES};
 
 /// The numbers at the head of a bucket.
 #[derive(Clone, Copy, Debug)]

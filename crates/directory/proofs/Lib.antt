@@ -1,4 +1,4 @@
 pub mod EntryLaws
+pub mod HalfLaws
 pub mod HeaderLaws
-pub mod SlotLaws
 pub mod PageLaws

@@ -7,11 +7,11 @@ ghost use Rattle.fields.specs.Numbers.{numbers_of};
 ghost use Rattle.directory.specs.Reading.{counts_at, has_layout, has_magic, has_padding, has_range, reading};
 ghost use Rattle.directory.specs.Spelling.{Spells};
 
-use fields::{four_at, is_zero, read_numbers};
 use crate::header::Header;
 use crate::layout::{
-    GREATEST_DEPTH, HEADER, HEADER_BYTES, LEAST_PAGES, LOCAL_DEPTHS, MAGIC, VERSION,
+    COUNTS_BEGIN, GREATEST_DEPTH, HEADER, HEADER_BYTES, LEAST_PAGES, LOCAL_DEPTHS, MAGIC, VERSION,
 };
+use fields::{four_at, is_zero, read_numbers};
 use page_device::{MAX_PAGES, Payload};
 use thiserror::Error;
 
@@ -113,6 +113,6 @@ fn counts_at(bytes: &[u8]) -> [u32; LOCAL_DEPTHS]
     ensures { result ≡ counts_at bytes.now }
 {
     let mut counts = [0; LOCAL_DEPTHS];
-    read_numbers(&bytes[20..HEADER_BYTES], &mut counts);
+    read_numbers(&bytes[COUNTS_BEGIN..HEADER_BYTES], &mut counts);
     counts
 }

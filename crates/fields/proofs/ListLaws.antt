@@ -55,3 +55,10 @@ read_all (suc n) src (d ∷ ds) long read =
   where
     next : (k : ℕ) → 4 * suc k ≡ 4 + 4 * k
     next k = omega arith
+
+-- a number of many is replaced
+pub all_set : (ns : List ℕ) (slot number : ℕ) → number < 2 ^ 32 → AllByRecursion (λ e. e < 2 ^ 32) ns
+    → AllByRecursion (λ e. e < 2 ^ 32) (slice_set ns slot number)
+all_set [] slot number small all = tt
+all_set (n ∷ ns) zero number small all = (small, all.1)
+all_set (n ∷ ns) (suc slot) number small all = (all.0, all_set ns slot number small all.1)

@@ -1,8 +1,9 @@
 -- Bytes that are zero.
-use Rattle.std.proofs.Common.{◌≡◌, ℕ, zero, suc, ◌-◌, ◌==◌, Bool, true, false, ◌&&◌, List, [], ◌∷◌, ◌++◌, ◌+◌, replicate, length, drop, refl, sym, ap, ◌∙◌, arith}
+use Rattle.std.proofs.Common.{◌≡◌, ℕ, zero, suc, ◌-◌, ◌==◌, Bool, true, false, ◌&&◌, List, [], ◌∷◌, ◌++◌, ◌+◌, replicate, length, take, drop, ◌≤◌, refl, sym, ap, ◌∙◌, arith}
 use Rattle.std.proofs.Math.Nat.{zero-add}
 use Rattle.std.proofs.lemmas.Bool.{eqb-true}
-use Rattle.std.proofs.lemmas.List.{drop-replicate, length-replicate}
+use Rattle.std.proofs.lemmas.List.{drop-replicate, length-drop, length-replicate, length-take, take-append-drop}
+use Rattle.fields.proofs.NumberLaws.{past}
 use Rattle.fields.proofs.Tests.{both_true}
 use Rattle.fields.specs.Numbers.{is_zero, zeros}
 
@@ -37,3 +38,15 @@ zeros-zeros (suc m) n = ap (λ (xs : List ℕ). 0 ∷ xs) (zeros-zeros m n) ∙ 
   where
     next : suc (m + n) ≡ suc m + n
     next = omega arith
+
+-- bytes that are zero from a place on
+pub zeros_at : (at n : ℕ) (bytes : List ℕ) → at + n ≤ length bytes → is_zero (take n (drop at bytes)) ≡ true
+    → drop at bytes ≡ zeros n ++ drop (at + n) bytes
+zeros_at at n bytes long h =
+    let len : length (take n (drop at bytes)) ≡ n = omega (
+      arith,
+      long,
+      length-take n (drop at bytes),
+      length-drop at bytes,
+    ) in
+    sym (take-append-drop n (drop at bytes)) ∙ (λ i. zeros_of n (take n (drop at bytes)) len h i ++ past at n bytes i)

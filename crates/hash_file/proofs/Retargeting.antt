@@ -23,7 +23,7 @@ use Rattle.hash_file.proofs.Doubling.{within_entries}
 -- the test that names the entries of a range on a page
 abbrev is_of : Store → ℕ → Range → ℕ → Bool
 is_of s page r i =
-    page_of i == page && is_in_range s.header.depth (record { local_depth = r.depth; pattern = r.pattern }) i
+    page_of i == page && is_in_range s.header.depth r i
 
 -- an entry that passes it is covered by the range
 of_range : (s : Store) (page : ℕ) (r : Range) (i : ℕ) → is_of s page r i ≡ true → Covers r i

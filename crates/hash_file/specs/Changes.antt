@@ -83,7 +83,7 @@ write_old hash old new s = with_bucket old (lower_half hash new (bucket_at s old
 abbrev pub retarget : ℕ → Range → ℕ → Store → Store
 retarget page r n s = record s {
   entries = mapped_from 0 (λ (i e : ℕ). if page_of i == page
-      && is_in_range s.header.depth (record { local_depth = r.depth; pattern = r.pattern }) i
+      && is_in_range s.header.depth r i
       then n else e) s.entries;
 }
 

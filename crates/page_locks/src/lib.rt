@@ -9,11 +9,11 @@ mod lock;
 mod lock_table;
 mod row;
 
+pub use faults::NoMemory;
 pub use grant::Grant;
 pub use laws::{changes_are_local, names_differ};
 pub use lock::{Lock, LockKind, LockName};
 pub use lock_table::{LockTable, MAX_SEATS};
-pub use faults::NoMemory;
 pub use row::MAX_LOCKS;
 
 #[cfg(test)]

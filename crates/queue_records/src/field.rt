@@ -7,8 +7,8 @@ ghost use Rattle.queue_records.specs.Fields.{serial_number, type_number, type_li
 ghost use Rattle.queue_records.specs.Reading.{is_id, is_serial_link, is_type_link};
 ghost use Rattle.queue_records.specs.Records.{FitsFour, FitsEight};
 
-use limits::END_OF_IDS;
 use fields::eight_at;
+use limits::END_OF_IDS;
 
 /// The serial in the eight bytes from `at` on, where there is one.
 pub fn serial_at(bytes: &[u8], at: usize) -> Option<u64>

@@ -10,12 +10,15 @@ ghost use Rattle.queue_records.specs.Records.{FitsFour, FitsQueue, Spells};
 ghost use Rattle.queue_records.specs.Spelling.{queue_bytes, queue_key};
 
 use crate::bad_record::BadRecord;
-use crate::field::{eight_fits, four_fits, is_id, is_serial_link, is_type_link, serial_at, serial_fits, serial_number, type_link_at, type_link_fits, type_link_number};
+use crate::field::{
+    eight_fits, four_fits, is_id, is_serial_link, is_type_link, serial_at, serial_fits,
+    serial_number, type_link_at, type_link_fits, type_link_number,
+};
 use crate::layout::{QUEUE, QUEUE_BYTES};
-use limits::{MAX_MESSAGES, MAX_QBYTES, MODES};
 use crate::value::Value;
 use bucket_page::RecordKey;
 use fields::{eight_at, four_at, two_at};
+use limits::{MAX_MESSAGES, MAX_QBYTES, MODES};
 
 /// A queue, without its messages.
 #[derive(Clone, Copy, Debug, PartialEq, Eq)]

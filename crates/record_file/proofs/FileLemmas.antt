@@ -7,9 +7,9 @@ use Rattle.std.proofs.Math.Seq.{get_or-append_seam}
 use Rattle.page_device.specs.Sealed.{IsSealed, payload_of}
 use Rattle.page_device.specs.declared.fault.DeviceFault.{DeviceFault}
 use Rattle.page_device.specs.declared.page.TheConstants.{MAX_PAGES}
-use Rattle.directory.specs.declared.layout.TheConstants.{FIRST_DIRECTORY_PAGE, LEAST_PAGES, ROOT_PAGE}
+use Rattle.directory.specs.declared.layout.TheConstants.{FIRST_DIRECTORY_PAGE, LEAST_PAGES, PAGE_ENTRIES, ROOT_PAGE}
 use Rattle.bucket_page.specs.declared.change.DoesNotFit.{DoesNotFit}
-use Rattle.bucket_page.specs.declared.layout.TheConstants.{PAGE_ENTRIES, RECORD_HEAD_BYTES, ROOM_BYTES}
+use Rattle.bucket_page.specs.declared.layout.TheConstants.{RECORD_HEAD_BYTES, ROOM_BYTES}
 use Rattle.bucket_page.specs.declared.record_key.RecordKey.{RecordKey}
 use Rattle.bucket_page.specs.Bucket.{Bucket, bucket}
 use Rattle.bucket_page.specs.Changes.{Changes, SpellsBucket, inserted}

@@ -64,7 +64,7 @@ module _ (seat : ℕ) (old new : World) where
   retargets does =
       let r = upper_half_of does.whole in
       let asks : ℕ → Bool =
-      is_in_range old.store.header.depth (record { local_depth = r.depth; pattern = r.pattern }) in
+      is_in_range old.store.header.depth r in
       elim does.changes [
         | inl split ↦ by_change (WritesEntries old.store) (Linked does.lower does.upper does.whole)
             (retarget does.page r does.upper old.store) (Linked does.lower does.upper does.whole) split
