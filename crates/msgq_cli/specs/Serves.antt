@@ -1,8 +1,8 @@
 -- What is printed where a script is run on a file, and what that leaves. docs/SCRIPTS.md, "Runs".
 use Rattle.std.specs.Prelude.{◌≡◌, ◌⊎◌, ℕ, ◌<◌, Bool, IsTrue, List, Option, Some, None, Result, Ok, Err, ⊤}
 use Rattle.queue_model.specs.State.{State}
-use Rattle.xsi_calls.specs.Filing.{IsFileOf}
-use Rattle.xsi_calls.specs.Laws.{no_queues}
+use Rattle.one_caller.specs.Filing.{IsFileOf}
+use Rattle.one_caller.specs.Laws.{no_queues}
 use Rattle.msgq_cli.specs.Answers.{fault_text, made_text}
 use Rattle.msgq_cli.specs.Outputs.{OutputState, Prints}
 use Rattle.msgq_cli.specs.Runs.{IsRun}
