@@ -25,6 +25,3 @@ pub use laws::{
     wrong_changes_are_refuted,
 };
 pub use page::{Page, Shape};
-
-#[cfg(test)]
-mod tests;

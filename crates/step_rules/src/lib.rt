@@ -20,6 +20,3 @@ pub use learns::{
     an_owned_page_that_answers_is_live, own_locks_keep_what_is_known,
 };
 pub use progress::Progress;
-
-#[cfg(test)]
-mod tests;
