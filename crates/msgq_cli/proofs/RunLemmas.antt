@@ -15,7 +15,7 @@ use Rattle.queue_model.specs.declared.call.SetArguments.{SetArguments}
 use Rattle.queue_model.specs.declared.caller.Caller.{Caller}
 use Rattle.queue_model.specs.declared.errno.Errno.{Errno}
 use Rattle.queue_model.specs.declared.errno.Errno.TheVariants.{EACCES, EAGAIN, EINVAL, ENOENT, ENOMSG, EPERM}
-use Rattle.queue_model.specs.declared.limits.TheConstants.{MAX_BODY, MAX_QBYTES}
+use Rattle.limits.specs.declared.TheConstants.{MAX_BODY, MAX_QBYTES}
 use Rattle.queue_model.specs.declared.permissions.Access.TheVariants.{Read, Write}
 use Rattle.queue_model.specs.declared.message.Message.{Message}
 use Rattle.queue_model.specs.declared.queue.Queue.{Queue}

@@ -96,7 +96,7 @@ pub(crate) fn refuse<W: Write>(error: ScriptError, output: &mut Output<W>) -> En
 {
     match error {
         ScriptError::WrongLine { line } => Ending::WrongLine(line),
-        ScriptError::NoMemory => fail(NoMemory::NUMBER, output),
+        ScriptError::NoMemory => fail(faults::NO_MEMORY, output),
     }
 }
 
@@ -137,7 +137,7 @@ impl ReadFault {
         ensures { result ≡ read_number_of self }
     {
         match self {
-            ReadFault::NoMemory => NoMemory::NUMBER,
+            ReadFault::NoMemory => faults::NO_MEMORY,
             ReadFault::Device => DeviceFault::Device.number(),
         }
     }

@@ -3,7 +3,7 @@
 ghost use Rattle.std.specs.Prelude.{◌≡◌};
 ghost use Rattle.one_caller.specs.Fault.{number_of};
 
-use queue_model::NoMemory;
+use faults::NoMemory;
 use thiserror::Error;
 use xsi_inquiry::NotASystem;
 
@@ -27,9 +27,9 @@ impl CallFault {
         ensures { result ≡ number_of self }
     {
         match self {
-            CallFault::NoRoom => 50,
-            CallFault::NoMemory => 60,
-            CallFault::Failed => 62,
+            CallFault::NoRoom => faults::NO_ROOM,
+            CallFault::NoMemory => faults::NO_MEMORY,
+            CallFault::Failed => faults::FAILED,
         }
     }
 }

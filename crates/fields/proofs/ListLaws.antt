@@ -1,10 +1,22 @@
--- Numbers one behind the other, read from their bytes and spelled by them.
-use Rattle.std.proofs.Common.{◌≡◌, ℕ, zero, suc, ◌+◌, ◌*◌, ◌<◌, ◌^◌, List, [], ◌∷◌, ◌++◌, length, drop, get_or, refl, sym, ap, ◌∙◌, arith}
+-- Numbers of four bytes, one behind the other: read from their bytes, spelled by them, and one of them written.
+use Rattle.std.proofs.Common.{◌≡◌, ℕ, zero, suc, ◌+◌, ◌*◌, ◌<◌, ◌^◌, List, [], ◌∷◌, ◌++◌, length, take, drop, get_or, slice_index, slice_set, append_assoc, refl, sym, ap, ◌∙◌, arith}
 use Rattle.std.specs.List.{AllByRecursion}
-use Rattle.std.proofs.lemmas.List.{drop_at, drop-drop, length-append, length-drop, nil_from_length}
+use Rattle.std.proofs.lemmas.List.{drop_at, take_at, drop-drop, length-append, length-drop, length-set, nil_from_length}
 use Rattle.byteorder.specs.Endian.{big_number, IsRead}
-use Rattle.directory.specs.Numbers.{four, four_at, numbers_bytes, numbers_of}
-use Rattle.directory.proofs.Fields.{IsBytes, IsBytes-drop, length-four, four_takes, four_again, four_small}
+use Rattle.fields.specs.Numbers.{four, four_at, numbers_bytes, numbers_of, overwritten}
+use Rattle.fields.proofs.NumberLaws.{IsBytes, IsBytes-drop, length-four, four_takes, four_again, four_small}
+
+four_at-past : (at n : ℕ) (bytes : List ℕ) → four_at at (drop n bytes) ≡ four_at (n + at) bytes
+unfolding four_at
+four_at-past at n bytes = ap (λ (xs : List ℕ). big_number 4 xs) (drop-drop at n bytes)
+
+pub number_is : (n i : ℕ) (bytes : List ℕ) → i < n → slice_index (numbers_of n bytes) i ≡ four_at (4 * i) bytes
+number_is zero i bytes lt = absurd (omega (arith, lt))
+number_is (suc n) zero bytes lt = refl
+number_is (suc n) (suc i) bytes lt =
+    let next : 4 + 4 * i ≡ 4 * suc i = omega arith in
+    number_is n i (drop 4 bytes) (omega (arith, lt)) ∙ four_at-past (4 * i) 4 bytes
+    ∙ ap (λ (k : ℕ). four_at k bytes) next
 
 -- bytes are those of the numbers in them
 pub numbers_take : (n : ℕ) (bytes : List ℕ) → length bytes ≡ 4 * n → IsBytes bytes

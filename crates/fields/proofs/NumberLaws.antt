@@ -6,7 +6,7 @@ use Rattle.std.proofs.lemmas.List.{drop-drop, get_or-drop, get_or-take, get_or_p
 use Rattle.byteorder.specs.Endian.{big_bytes, big_number}
 use Rattle.byteorder.specs.Numbers.{length-bytes_high_first, big_number-reads_back, big_from-cons, big_from-lt}
 use Rattle.std.specs.Int.{byte_at}
-use Rattle.bucket_page.specs.Numbers.{two, four, eight, two_at, four_at, eight_at}
+use Rattle.fields.specs.Numbers.{two, four, eight, two_at, four_at, eight_at}
 
 abbrev pub IsBytes : List ℕ → Type 0
 IsBytes bytes = (i : ℕ) → get_or bytes i 0 < 256

@@ -1,15 +1,17 @@
-//! The limits of this profile, each in one place.
+//! The limits of queues, messages and permissions (docs/QUEUES.md), each once.
+
+#![tactic(auto)]
 
 /// Queues alive at once.
-pub const MAX_QUEUES: usize = 256;
+pub const MAX_QUEUES: u32 = 256;
 
 /// Messages on one queue.
-pub const MAX_MESSAGES: usize = 1024;
+pub const MAX_MESSAGES: u32 = 1024;
 
 /// Bytes of a message's body.
 pub const MAX_BODY: usize = 1024;
 
-/// The greatest `qbytes` of a queue.
+/// Bytes on one queue, and the greatest `qbytes`.
 pub const MAX_QBYTES: u32 = 65_536;
 
 /// The `qbytes` of a new queue.

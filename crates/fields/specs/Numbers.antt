@@ -1,5 +1,6 @@
 -- Numbers in bytes, the highest byte first; unfoldable, so that no proof counts their bytes out.
-use Rattle.std.specs.Prelude.{ℕ, ◌+◌, List, ◌++◌, length, take, drop, replicate}
+use Rattle.std.specs.Prelude.{ℕ, zero, suc, ◌+◌, ◌==◌, Bool, List, [], ◌∷◌, ◌++◌, length, take, drop, replicate}
+use Rattle.std.specs.List.{flat_map, list_all}
 use Rattle.byteorder.specs.Endian.{big_bytes, big_number}
 
 -- the two, four or eight bytes of a number
@@ -22,9 +23,21 @@ four_at at bytes = big_number 4 (drop at bytes)
 unfoldable pub eight_at : ℕ → List ℕ → ℕ
 eight_at at bytes = big_number 8 (drop at bytes)
 
+-- the bytes of numbers, one behind the other
+abbrev pub numbers_bytes : List ℕ → List ℕ
+numbers_bytes ns = flat_map four ns
+
+-- the numbers that stand first, as many as are asked for
+abbrev pub numbers_of : ℕ → List ℕ → List ℕ
+numbers_of zero bytes = []
+numbers_of (suc n) bytes = four_at 0 bytes ∷ numbers_of n (drop 4 bytes)
+
 -- so many zeros
 unfoldable pub zeros : ℕ → List ℕ
 zeros n = replicate n 0
+
+abbrev pub is_zero : List ℕ → Bool
+is_zero bytes = list_all (λ b. b == 0) bytes
 
 -- the bytes with new ones from a place on, and the others as they were
 abbrev pub overwritten : List ℕ → ℕ → List ℕ → List ℕ

@@ -1,7 +1,9 @@
-//! Numbers in slices of bytes, the highest byte first.
+//! Numbers in slices of bytes, the highest byte first: two, four or eight bytes each.
 
-ghost use Rattle.std.specs.Prelude.{◌≡◌, ◌+◌, ◌≤◌, length};
-ghost use Rattle.bucket_page.specs.Numbers.{two, four, eight, two_at, four_at, eight_at, zeros, overwritten};
+#![tactic(auto)]
+
+ghost use Rattle.std.specs.Prelude.{◌≡◌, ◌+◌, ◌*◌, ◌≤◌, length};
+ghost use Rattle.fields.specs.Numbers.{two, four, eight, two_at, four_at, eight_at, is_zero, numbers_bytes, numbers_of, overwritten, zeros};
 
 use byteorder::{BigEndian, ByteOrder};
 
@@ -62,6 +64,15 @@ pub fn set_four(bytes: &mut [u8], at: usize, number: u32)
     set_bytes(bytes, at, &new);
 }
 
+/// Writes a number over two bytes.
+#[tactic(auto, unfolding(crate::specs::Numbers::two))]
+pub fn write_two(bytes: &mut [u8], number: u16)
+    requires { length bytes.old ≡ 2 }
+    ensures { bytes.new ≡ two number }
+{
+    BigEndian::write_u16(bytes, number);
+}
+
 /// Writes a number over four bytes.
 #[tactic(auto, unfolding(crate::specs::Numbers::four))]
 pub fn write_four(bytes: &mut [u8], number: u32)
@@ -80,10 +91,34 @@ pub fn write_eight(bytes: &mut [u8], number: u64)
     BigEndian::write_u64(bytes, number);
 }
 
+/// Writes numbers of four bytes each, one behind the other.
+#[tactic(auto, unfolding(crate::specs::Numbers::four))]
+pub fn write_numbers(bytes: &mut [u8], numbers: &[u32])
+    requires { length bytes.old ≡ 4 * length numbers.now }
+    ensures { bytes.new ≡ numbers_bytes numbers.now }
+{
+    BigEndian::write_u32_into(numbers, bytes);
+}
+
+/// Reads numbers of four bytes each, one behind the other.
+pub fn read_numbers(bytes: &[u8], numbers: &mut [u32])
+    requires { length bytes.now ≡ 4 * length numbers.old }
+    ensures { numbers.new ≡ numbers_of (length numbers.old) bytes.now }
+{
+    BigEndian::read_u32_into(bytes, numbers);
+}
+
 /// Fills with zeros.
 #[tactic(auto, unfolding(crate::specs::Numbers::zeros))]
 pub fn blank(bytes: &mut [u8])
     ensures { bytes.new ≡ zeros (length bytes.old) }
 {
     bytes.fill(0);
+}
+
+/// Whether all bytes are zero.
+pub fn is_zero(bytes: &[u8]) -> bool
+    ensures { result ≡ is_zero bytes.now }
+{
+    bytes.iter().all(|byte| *byte == 0)
 }

@@ -3,12 +3,8 @@ use Rattle.std.proofs.Common.{◌≡◌, ℕ, zero, suc, ◌-◌, ◌==◌, Bool
 use Rattle.std.proofs.Math.Nat.{zero-add}
 use Rattle.std.proofs.lemmas.Bool.{eqb-true}
 use Rattle.std.proofs.lemmas.List.{drop-replicate, length-replicate}
-use Rattle.bucket_page.specs.Numbers.{zeros}
-use Rattle.bucket_page.specs.Reading.{is_zero}
-
-pub both_true : (a b : Bool) → (a && b) ≡ true → (a ≡ true) × (b ≡ true)
-both_true true b h = (refl, h)
-both_true false b h = absurd cc
+use Rattle.fields.proofs.Tests.{both_true}
+use Rattle.fields.specs.Numbers.{is_zero, zeros}
 
 pub zeros_are : (bytes : List ℕ) → is_zero bytes ≡ true → bytes ≡ zeros (length bytes)
 unfolding zeros

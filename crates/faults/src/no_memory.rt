@@ -1,22 +1,23 @@
 //! Want of memory.
 
 ghost use Rattle.std.specs.Prelude.{◌≡◌};
+ghost use Rattle.faults.specs.declared.TheConstants.{NO_MEMORY};
 
+use crate::NO_MEMORY;
 use std::alloc::{AllocError, AllocFailed};
+use thiserror::Error;
 
-/// A growth was refused, and no table was made.
-#[derive(Clone, Copy, Debug, PartialEq, Eq)]
+/// A growth was refused. Nothing has changed, and the same call may be made again.
+#[derive(Clone, Copy, Debug, PartialEq, Eq, Error)]
+#[error("out of memory")]
 pub struct NoMemory;
 
 impl NoMemory {
-    /// The number of this fault.
-    pub const NUMBER: u8 = 60;
-
     /// The number of this fault, as docs/FAULTS.md lists it.
     pub fn number(self) -> u8
-        ensures { result ≡ NoMemory.NUMBER }
+        ensures { result ≡ NO_MEMORY }
     {
-        NoMemory::NUMBER
+        NO_MEMORY
     }
 }
 
