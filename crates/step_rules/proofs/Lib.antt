@@ -18,3 +18,5 @@ pub mod BuddyLemmas
 pub mod WayLemmas
 pub mod BoundLemmas
 pub mod WalkLemmas
+pub mod AnswerLemmas
+pub mod RoomLemmas

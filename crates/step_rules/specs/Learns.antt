@@ -1,15 +1,16 @@
 -- What a seat learns by a step of its own, each on the contract of a function of src/learns.rt.
 -- docs/STEPS.md, "Search", "Merge" and "What a seat may know".
-use Rattle.std.specs.Prelude.{ℕ, ◌≡◌, ◌≢◌, ◌≤◌, ◌%◌, ◌^◌, true, false, Some}
+use Rattle.std.specs.Prelude.{ℕ, ◌≡◌, ◌≢◌, ◌≤◌, ◌⊎◌, ◌%◌, ◌^◌, true, false, Some, List}
 use Rattle.std.specs.List.{Contains}
 use Rattle.positions.specs.Ranges.{AreHalvesOf, is_lower, parent_of, buddy_of}
 use Rattle.bucket_page.specs.declared.record_key.RecordKey.{RecordKey}
 use Rattle.bucket_page.specs.Records.{lookup}
 use Rattle.page_locks.specs.declared.lock.LockKind.{LockKind}
+use Rattle.page_locks.specs.declared.lock.LockKind.TheVariants.{Exclusive}
 use Rattle.page_locks.specs.declared.lock.LockName.TheVariants.{Directory, Page}
-use Rattle.page_locks.specs.Table.{Table, row_of}
+use Rattle.page_locks.specs.Table.{Table, row_of, held}
 use Rattle.page_locks.specs.Writers.{may_write, IsWriter}
-use Rattle.hash_file.specs.Store.{Store, entry_at, next_at, records_at, range_at}
+use Rattle.hash_file.specs.Store.{Store, entry_at, next_at, records_at, bucket_at, range_at}
 use Rattle.hash_file.specs.Chain.{chain, IsBucketOf}
 use Rattle.hash_file.specs.Change.{Quiet}
 use Rattle.hash_file.specs.Search.{PageLeads}
@@ -18,7 +19,7 @@ use Rattle.step_rules.specs.World.{World, with_locks, IsHeld, MayAim, guard_of}
 use Rattle.step_rules.specs.Sound.{IsSoundWorld}
 use Rattle.step_rules.specs.Structure.{InPhase, HasDepth, BucketOf}
 use Rattle.step_rules.specs.Known.{Known, Deep, LeadsTo, Live, Built, Told, HasAnchor, IsKnown}
-use Rattle.step_rules.specs.LockSteps.{Grants, MovesOn}
+use Rattle.step_rules.specs.LockSteps.{Grants, Releases, MovesOn}
 use Rattle.step_rules.specs.PageSteps.{WritesFree, LinksFree}
 
 -- an entry found by the depth that was read, however old, leads to the pseudokey
@@ -80,6 +81,10 @@ abbrev pub HopGoesElsewhere : Type 0
 HopGoesElsewhere = (hash : RecordKey → ℕ) (w : World) (page k : ℕ) → IsSoundWorld hash w →
     PageLeads w.store w.change page k → (Answers w.store page k → ⊥) → next_at w.store page ≢ page
 
+-- page n is of these, and a bucket of this depth
+abbrev pub IsLiveOn : Store → List ℕ → ℕ → ℕ → Type 0
+IsLiveOn s ns depth n = Contains ns n × ((bucket_at s n).depth ≡ depth)
+
 -- the bucket that has the turned pattern of page x is another page, and no less deep; where it is as deep, it is the
 -- other half of what both were
 pub record IsFoundAsBuddy (s : Store) (x y : ℕ) : Type 0 where
@@ -94,3 +99,9 @@ abbrev pub BuddyIsOtherHalf : Type 0
 BuddyIsOtherHalf = (hash : RecordKey → ℕ) (w : World) (x y : ℕ) → IsSoundWorld hash w →
     Contains (chain w.store) x → 1 ≤ (range_at w.store x).depth →
     IsBucketOf w.store (buddy_of (range_at w.store x)).pattern y → IsFoundAsBuddy w.store x y
+
+-- who gives the directory back from an exclusive lock leaves it no depth, or a bucket as deep as it
+abbrev pub DirectoryIsHalved : Type 0
+DirectoryIsHalved = (hash : RecordKey → ℕ) (seat : ℕ) (old new : World) (r : Releases seat old new) →
+    IsSoundWorld hash old → r.name ≡ Directory → held old.locks seat Directory ≡ Some Exclusive →
+    (old.store.header.depth ≡ 0) ⊎ ((n : ℕ) × IsLiveOn old.store (chain old.store) old.store.header.depth n)

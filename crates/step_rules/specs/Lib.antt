@@ -14,3 +14,5 @@ pub mod Laws
 pub mod Learns
 pub mod Ways
 pub mod Walks
+pub mod Answering
+pub mod Rooms

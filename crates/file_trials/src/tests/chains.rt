@@ -1,6 +1,7 @@
 //! Chains and directories worked by hand: two splits and a merge, and what each looks like where it went wrong.
 
-use super::*;
+use hash_file::{Page, Shape, is_chain, names_buckets};
+use std::test::*;
 use positions::Range;
 
 /// The first bucket, behind the header and 256 directory pages.

@@ -1,4 +1,6 @@
-use super::*;
+//! Names of kinds, typed from the table of steps.
+
+use step_rules::{Kind, Progress};
 use std::test::*;
 
 #[test]
