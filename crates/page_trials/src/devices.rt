@@ -1,45 +1,47 @@
-use super::*;
+//! Digests of another program, devices of which each transfer fails in turn, and files of the system.
+
+use page_device::{
+    DIGEST_BYTES, DeviceFault, FaultyDevice, FileDevice, MemDevice, PAGE_BYTES, PAYLOAD_BYTES,
+    PageDevice, seal, unseal,
+};
 use std::fs;
 use std::fs::{OpenFile, OpenOptions};
-use std::process::Abort;
 use std::rt::Files;
 use std::test::Fail;
 
-/// The digests are those that Python's hashlib gives for the number, big-endian, and the payload.
-#[test]
-fn sealed_pages_have_the_digests_of_another_program(rt: HostRuntime) -> Result<(), Fail> {
-    shows_digest(
-        &rt,
+/// A page's number, the byte that fills its payload, and the digest that Python's hashlib gives for the number,
+/// big-endian, and the payload.
+const SEALED: [(u32, u8, &[u8; DIGEST_BYTES]); 3] = [
+    (
         0,
         0,
         b"\x82\x15\x79\x90\xb9\x77\x9e\x85\x00\x9d\xed\xc4\x80\x82\x64\x01\xc9\x2b\x75\x04\x0a\x75\xc6\xa7\xb3\xb0\xd9\xc4\x18\xcf\x70\x0b",
-    );
-    shows_digest(
-        &rt,
+    ),
+    (
         1,
         165,
         b"\x2b\x12\x77\x42\xda\xe7\x4a\xd7\xb4\x08\x89\x3e\xb0\x4c\xa3\xf8\x5e\x77\xac\x0b\x59\x16\x79\x92\xbd\x38\xd6\xdc\x57\x40\x42\x5e",
-    );
-    shows_digest(
-        &rt,
+    ),
+    (
         65535,
         255,
         b"\xce\xa0\xcb\x95\x0f\x6d\xfa\x02\x8d\xa9\xb9\x49\x29\xd1\xb4\x1b\x38\xe3\x71\xb9\x48\x69\x08\x38\xa4\xcd\x77\xae\x6c\x44\xc5\xcd",
-    );
-    Ok(())
-}
+    ),
+];
 
-fn shows_digest(rt: &impl Abort, n: u32, byte: u8, digest: &[u8; DIGEST_BYTES]) {
-    let payload = [byte; PAYLOAD_BYTES];
-    let mut page = seal(n, &payload);
-    assert!(rt; page[PAYLOAD_BYTES..] == digest[..], "page {n}");
-    assert!(rt; unseal(n, &page) == Ok(payload), "page {n}");
-    assert!(rt;
-        unseal(n ^ 1, &page) == Err(DeviceFault::BadDigest),
-        "page {n}"
-    );
-    page[100] ^= 1;
-    assert!(rt; unseal(n, &page) == Err(DeviceFault::BadDigest), "page {n}");
+#[test]
+fn sealed_pages_have_the_digests_of_another_program(rt: HostRuntime) {
+    for (number, byte, digest) in SEALED {
+        let payload = [byte; PAYLOAD_BYTES];
+        let mut page = seal(number, &payload);
+        assert!(rt; page[PAYLOAD_BYTES..] == digest[..], "page {number}");
+        assert!(rt; unseal(number, &page) == Ok(payload), "page {number}");
+        let elsewhere = unseal(number ^ 1, &page);
+        assert!(rt; elsewhere == Err(DeviceFault::BadDigest), "page {number}");
+        page[100] ^= 1;
+        let changed = unseal(number, &page);
+        assert!(rt; changed == Err(DeviceFault::BadDigest), "page {number}");
+    }
 }
 
 #[test]

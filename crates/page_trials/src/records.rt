@@ -1,7 +1,9 @@
-use crate::{
+//! Records as bytes typed out from the format, and values that are those of no record.
+
+use bucket_page::RecordKey;
+use queue_records::{
     BadRecord, Body, Counter, KeyEntry, MessageEntry, QueueEntry, Record, TypeEntry, Value,
 };
-use bucket_page::RecordKey;
 use std::process::Abort;
 use std::test::Fail;
 
