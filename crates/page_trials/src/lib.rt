@@ -8,6 +8,8 @@ mod bucket;
 #[cfg(test)]
 mod devices;
 #[cfg(test)]
+mod files;
+#[cfg(test)]
 mod records;
 #[cfg(test)]
 mod stored;

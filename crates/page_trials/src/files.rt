@@ -4,12 +4,12 @@ ghost use Rattle.std.specs.Prelude.{◌≡◌, ◌≤◌, [], false};
 ghost use Rattle.page_device.specs.declared.page.TheConstants.{MAX_PAGES};
 ghost use Rattle.directory.specs.declared.layout.TheConstants.{LEAST_PAGES};
 
-use super::*;
 use bucket_page::{DoesNotFit, RecordKey, write_bucket};
 use page_device::{
     DeviceFault, FaultyDevice, MemDevice, PAGE_BYTES, PAYLOAD_BYTES, Page, PageDevice, Payload,
     seal, unseal,
 };
+use record_file::{CloseFault, OneBucket, OpenFault, format};
 use std::alloc::Global;
 use std::process::Abort;
 use std::test::*;
@@ -245,10 +245,8 @@ fn what_is_no_file_is_refused(rt: HostRuntime) -> Result<(), Fail> {
         Err(refusal) => refusal,
     };
     assert!(rt; fault.number() == 30 && device.pages() == 258);
-    assert_eq!(rt;
-        OpenFault::Device.number() + OpenFault::NoMemory.number(),
-        80
-    );
+    assert_eq!(rt; OpenFault::Device.number(), 20);
+    assert_eq!(rt; OpenFault::NoMemory.number(), 60);
     Ok(())
 }
 
