@@ -34,8 +34,3 @@ pub use message::{Message, Messages};
 pub use permissions::{Access, Permissions};
 pub use queue::Queue;
 pub use system::{Applied, System};
-
-#[cfg(test)]
-mod tests;
-#[cfg(test)]
-mod trial;

@@ -28,6 +28,3 @@ pub use queue_entry::QueueEntry;
 pub use record::Record;
 pub use type_entry::TypeEntry;
 pub use value::Value;
-
-#[cfg(test)]
-mod tests;
