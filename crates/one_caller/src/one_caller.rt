@@ -1,6 +1,6 @@
 //! One caller at a time over a file.
 
-ghost use Rattle.std.specs.Prelude.{◌≡◌, ◌≢◌, ◌↔◌, true, false, Err, IsErrAnd, IsTrue, IfOk, IfErr};
+ghost use Rattle.std.specs.Prelude.{◌≡◌, ◌≢◌, ◌↔◌, ◌≤◌, true, false, Err, IsErrAnd, IsTrue, IfOk, IfErr};
 ghost use Rattle.page_device.specs.Device.{HasRisen};
 ghost use Rattle.queue_model.specs.State.{State};
 ghost use Rattle.record_file.specs.Laws.{IsOfMachine};
@@ -45,6 +45,8 @@ impl<D: PageDevice> OneCaller<D> {
     pub fn open(alloc: Global, device: D, frames: usize) -> Result<OneCaller<D>, (D, OpenFault)>
         ensures ok { (s : State) → IsTrue (D.is_honest device) → IsFileOf s (D.content device) →
             IfOk result (λ caller. Holds caller (restarted s)) }
+        // The count of failed transfers never falls.
+        ensures later { IfOk result (λ caller. D.fault_count device ≤ caller.file.faults) }
         // Nothing but a transfer, no frame or want of memory refuses the file of a system.
         ensures refused { (s : State) →
             IsTrue (D.is_honest device) → IsFileOf s (D.content device) →
