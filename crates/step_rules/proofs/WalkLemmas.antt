@@ -1,7 +1,7 @@
 -- A search among the steps of the others goes on its way, and makes few hops.
 use Rattle.std.proofs.Common.{◌≡◌, ◌≢◌, ◌≤◌, ◌+◌, ◌%◌, ◌^◌, [], ◌∷◌, ◌++◌, ◌&&◌, Bool, true, false, Some, ℕ, suc, refl, sym, ap, ◌∙◌, subst, inl, inr, arith}
 use Rattle.bucket_page.specs.declared.record_key.RecordKey.{RecordKey}
-use Rattle.bucket_page.proofs.Zeros.{both_true}
+use Rattle.fields.proofs.Tests.{both_true}
 use Rattle.page_locks.specs.declared.lock.LockKind.{LockKind}
 use Rattle.page_locks.specs.declared.lock.LockName.{LockName}
 use Rattle.page_locks.specs.declared.lock.LockName.TheVariants.{Directory, Page}
