@@ -12,10 +12,10 @@ use crate::answer::{Answer, QueueInfo};
 use crate::call::{Call, GetArguments, ReceiveArguments, SendArguments, SetArguments};
 use crate::caller::Caller;
 use crate::errno::Errno;
-use limits::{END_OF_IDS, MAX_BODY, MAX_QBYTES, MAX_QUEUES, SUPERUSER};
-use faults::NoMemory;
 use crate::permissions::Access;
 use crate::queue::Queue;
+use faults::NoMemory;
+use limits::{END_OF_IDS, MAX_BODY, MAX_QBYTES, MAX_QUEUES, SUPERUSER};
 use std::alloc::Global;
 use std::marker::Model;
 
