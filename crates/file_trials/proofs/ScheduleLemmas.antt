@@ -1,8 +1,7 @@
 -- Each turn of the schedule is allowed.
-use Rattle.std.proofs.Common.{◌≡◌, ◌≢◌, ◌<◌, ◌≤◌, ◌+◌, ◌%◌, ◌^◌, ◌⊎◌, ℕ, zero, suc, Bool, true, false, List, [], ◌∷◌, ◌++◌, length, map, Some, None, IsSome, refl, sym, ap, ◌∙◌, subst, inl, inr, arith}
+use Rattle.std.proofs.Common.{◌≡◌, ◌<◌, ◌≤◌, ◌+◌, ◌%◌, ◌^◌, ℕ, zero, suc, false, List, [], ◌∷◌, ◌++◌, length, map, None, IsSome, refl, sym, subst, inl, inr, arith}
 use Rattle.std.specs.List.{Contains}
-use Rattle.positions.specs.Positions.{position_of}
-use Rattle.positions.specs.Ranges.{Covers, whole_range, upper_half_of}
+use Rattle.positions.specs.Ranges.{whole_range, upper_half_of}
 use Rattle.positions.proofs.MemberLaws.{contains_head, contains_tail, contains_none}
 use Rattle.positions.proofs.PositionLaws.{position_zero}
 use Rattle.bucket_page.specs.Keys.{is_below}
@@ -18,24 +17,22 @@ use Rattle.page_locks.specs.declared.lock.LockName.{LockName}
 use Rattle.page_locks.specs.declared.lock.LockName.TheVariants.{Key, Counter, Queue, Directory, Page}
 use Rattle.page_locks.specs.declared.row.TheConstants.{MAX_LOCKS}
 use Rattle.page_locks.specs.Locks.{is_against, lock_of, kind_of, without}
-use Rattle.page_locks.specs.Table.{IsSeat, IsFree, row_of, held}
+use Rattle.page_locks.specs.Table.{IsFree, row_of}
 use Rattle.page_locks.specs.Writers.{IsWriter}
-use Rattle.hash_file.specs.Store.{Store, entry_at, next_at}
+use Rattle.hash_file.specs.Store.{Store}
 use Rattle.hash_file.specs.Chain.{chain}
 use Rattle.hash_file.specs.Change.{Change, Quiet, Taken, Filled, Linked, Absorbed, Buried, Drained, Freed, busy}
 use Rattle.hash_file.specs.Changes.{Put, Remove}
 use Rattle.hash_file.specs.Laws.{IsCopied, IsRetargeted}
-use Rattle.hash_file.specs.Looks.{Answers}
 use Rattle.hash_file.specs.Examples.{number_of, key}
 use Rattle.step_rules.specs.declared.kind.Kind.{Kind}
 use Rattle.step_rules.specs.declared.kind.Kind.TheVariants as steps
 use Rattle.step_rules.specs.World.{World, IsHeld, IsReached}
-use Rattle.step_rules.specs.Structure.{IsCopiedBefore, IsRetargetedBefore}
-use Rattle.step_rules.specs.LockSteps.{Grants, Releases, IsDone}
+use Rattle.step_rules.specs.LockSteps.{Releases, IsDone}
 use Rattle.step_rules.specs.Laws.{Move, LeadAlong}
 use Rattle.step_rules.specs.Pages.{used_on, size_of}
-use Rattle.step_rules.specs.Turns.{rank_of, Ask, Lock as AskLock, HopFrom, ToExclusive, Turn, no_ask, asks, MayBeGranted, Makes, SplitsFor, LacksRoom}
-use Rattle.file_trials.specs.Schedule.{record_of, first, third, taken, copied, raised, filled, linked, retargeted, split, with_third, without_first, absorbed, buried, named, drained, freed, merged, halved, world, beside_queue, in_directory, on_page, insert, delete, move, schedule, start, finish, AllKindsCome}
+use Rattle.step_rules.specs.Turns.{rank_of, Lock as AskLock, HopFrom, ToExclusive, no_ask, asks, MayBeGranted, Makes, LacksRoom}
+use Rattle.file_trials.specs.Schedule.{record_of, first, third, taken, copied, raised, filled, linked, retargeted, split, with_third, without_first, absorbed, buried, named, drained, freed, merged, halved, world, beside_queue, in_directory, on_page, insert, delete, schedule, start, finish, AllKindsCome}
 
 -- ---- two seats
 
@@ -655,47 +652,163 @@ turn_39 : Makes number_of no_ask steps.Release 1
 turn_39 = releases_one halved (beside_queue []) [] Quiet (Queue 0) refl (λ page there. contains_none page there) (λ same. absurd cc)
 
 allowed : LeadAlong number_of schedule start finish
-allowed =
-  ((world first [] (in_directory Read) Quiet), turn_1,
-  ((world first [] (in_directory Read) Quiet), turn_2,
-  ((world first [] (in_directory Read) Quiet), turn_3,
-  ((world first [] (in_directory Read ++ on_page 257 Read) Quiet), turn_4,
-  ((world first [] (on_page 257 Read) Quiet), turn_5,
-  ((world first (beside_queue []) (on_page 257 Read) Quiet), turn_6,
-  ((world first (beside_queue (in_directory Selective)) (on_page 257 Read) Quiet), turn_7,
-  ((world first (beside_queue (in_directory Selective ++ on_page 257 Selective)) (on_page 257 Read) Quiet), turn_8,
-  ((world first (beside_queue (in_directory Selective ++ on_page 257 Selective)) (on_page 257 Read) Quiet), turn_9,
-  ((world taken (beside_queue (in_directory Selective ++ on_page 257 Selective)) (on_page 257 Read) (Taken 258)), turn_10,
-  ((world copied (beside_queue (in_directory Selective ++ on_page 257 Selective)) (on_page 257 Read) (Taken 258)), turn_11,
-  ((world raised (beside_queue (in_directory Selective ++ on_page 257 Selective)) (on_page 257 Read) (Taken 258)), turn_12,
-  ((world filled (beside_queue (in_directory Selective ++ on_page 257 Selective)) (on_page 257 Read) (Filled 257 258)), turn_13,
-  ((world linked (beside_queue (in_directory Selective ++ on_page 257 Selective)) (on_page 257 Read) (Linked 257 258 whole_range)), turn_14,
-  ((world linked (beside_queue (in_directory Selective ++ on_page 257 Selective)) (on_page 258 Read) (Linked 257 258 whole_range)), turn_15,
-  ((world retargeted (beside_queue (in_directory Selective ++ on_page 257 Selective)) (on_page 258 Read) (Linked 257 258 whole_range)), turn_16,
-  ((world split (beside_queue (in_directory Selective ++ on_page 257 Selective)) (on_page 258 Read) Quiet), turn_17,
-  ((world split (beside_queue (in_directory Selective ++ on_page 257 Selective)) [] Quiet), turn_18,
-  ((world split (beside_queue (in_directory Selective ++ on_page 258 Selective)) [] Quiet), turn_19,
-  ((world with_third (beside_queue (in_directory Selective ++ on_page 258 Selective)) [] Quiet), turn_20,
-  ((world with_third (beside_queue (in_directory Selective ++ on_page 258 Selective)) [] Quiet), turn_21,
-  ((world without_first (beside_queue (in_directory Selective ++ on_page 258 Selective)) [] Quiet), turn_22,
-  ((world without_first (beside_queue (in_directory Selective)) [] Quiet), turn_23,
-  ((world without_first (beside_queue (in_directory Selective ++ on_page 257 Selective)) [] Quiet), turn_24,
-  ((world without_first (beside_queue (in_directory Selective ++ on_page 257 Selective ++ on_page 258 Selective)) [] Quiet), turn_25,
-  ((world absorbed (beside_queue (in_directory Selective ++ on_page 257 Selective ++ on_page 258 Selective)) [] (Absorbed 257 258 whole_range)), turn_26,
-  ((world buried (beside_queue (in_directory Selective ++ on_page 257 Selective ++ on_page 258 Selective)) [] (Buried 257 258 whole_range)), turn_27,
-  ((world named (beside_queue (in_directory Selective ++ on_page 257 Selective ++ on_page 258 Selective)) [] (Buried 257 258 whole_range)), turn_28,
-  ((world drained (beside_queue (in_directory Selective ++ on_page 257 Selective ++ on_page 258 Selective)) [] (Drained 257 258)), turn_29,
-  ((world drained (beside_queue (in_directory Selective ++ on_page 257 Selective)) [] (Drained 257 258)), turn_30,
-  ((world drained (beside_queue (in_directory Selective)) [] (Drained 257 258)), turn_31,
-  ((world drained (beside_queue (in_directory Exclusive)) [] (Drained 257 258)), turn_32,
-  ((world drained (beside_queue (in_directory Exclusive ++ on_page 258 Exclusive)) [] (Drained 257 258)), turn_33,
-  ((world freed (beside_queue (in_directory Exclusive ++ on_page 258 Exclusive)) [] (Freed 258)), turn_34,
-  ((world merged (beside_queue (in_directory Exclusive ++ on_page 258 Exclusive)) [] Quiet), turn_35,
-  ((world halved (beside_queue (in_directory Exclusive ++ on_page 258 Exclusive)) [] Quiet), turn_36,
-  ((world halved (beside_queue (in_directory Exclusive)) [] Quiet), turn_37,
-  ((world halved (beside_queue []) [] Quiet), turn_38,
-  ((world halved [] [] Quiet), turn_39,
-  refl)))))))))))))))))))))))))))))))))))))))
+allowed = (
+  (world first [] (in_directory Read) Quiet),
+  turn_1,
+  (
+    (world first [] (in_directory Read) Quiet),
+    turn_2,
+    (
+      (world first [] (in_directory Read) Quiet),
+      turn_3,
+      (
+        (world first [] (in_directory Read ++ on_page 257 Read) Quiet),
+        turn_4,
+        (
+          (world first [] (on_page 257 Read) Quiet),
+          turn_5,
+          (
+            (world first (beside_queue []) (on_page 257 Read) Quiet),
+            turn_6,
+            (
+              (world first (beside_queue (in_directory Selective)) (on_page 257 Read) Quiet),
+              turn_7,
+              (
+                (world first (beside_queue (in_directory Selective ++ on_page 257 Selective)) (on_page 257 Read) Quiet),
+                turn_8,
+                (
+                  (world first (beside_queue (in_directory Selective ++ on_page 257 Selective)) (on_page 257 Read) Quiet),
+                  turn_9,
+                  (
+                    (world taken (beside_queue (in_directory Selective ++ on_page 257 Selective)) (on_page 257 Read) (Taken 258)),
+                    turn_10,
+                    (
+                      (world copied (beside_queue (in_directory Selective ++ on_page 257 Selective)) (on_page 257 Read) (Taken 258)),
+                      turn_11,
+                      (
+                        (world raised (beside_queue (in_directory Selective ++ on_page 257 Selective)) (on_page 257 Read) (Taken 258)),
+                        turn_12,
+                        (
+                          (world filled (beside_queue (in_directory Selective ++ on_page 257 Selective)) (on_page 257 Read) (Filled 257 258)),
+                          turn_13,
+                          (
+                            (world linked (beside_queue (in_directory Selective ++ on_page 257 Selective)) (on_page 257 Read) (Linked 257 258 whole_range)),
+                            turn_14,
+                            (
+                              (world linked (beside_queue (in_directory Selective ++ on_page 257 Selective)) (on_page 258 Read) (Linked 257 258 whole_range)),
+                              turn_15,
+                              (
+                                (world retargeted (beside_queue (in_directory Selective ++ on_page 257 Selective)) (on_page 258 Read) (Linked 257 258 whole_range)),
+                                turn_16,
+                                (
+                                  (world split (beside_queue (in_directory Selective ++ on_page 257 Selective)) (on_page 258 Read) Quiet),
+                                  turn_17,
+                                  (
+                                    (world split (beside_queue (in_directory Selective ++ on_page 257 Selective)) [] Quiet),
+                                    turn_18,
+                                    (
+                                      (world split (beside_queue (in_directory Selective ++ on_page 258 Selective)) [] Quiet),
+                                      turn_19,
+                                      (
+                                        (world with_third (beside_queue (in_directory Selective ++ on_page 258 Selective)) [] Quiet),
+                                        turn_20,
+                                        (
+                                          (world with_third (beside_queue (in_directory Selective ++ on_page 258 Selective)) [] Quiet),
+                                          turn_21,
+                                          (
+                                            (world without_first (beside_queue (in_directory Selective ++ on_page 258 Selective)) [] Quiet),
+                                            turn_22,
+                                            (
+                                              (world without_first (beside_queue (in_directory Selective)) [] Quiet),
+                                              turn_23,
+                                              (
+                                                (world without_first (beside_queue (in_directory Selective ++ on_page 257 Selective)) [] Quiet),
+                                                turn_24,
+                                                (
+                                                  (world without_first (beside_queue (in_directory Selective ++ on_page 257 Selective ++ on_page 258 Selective)) [] Quiet),
+                                                  turn_25,
+                                                  (
+                                                    (world absorbed (beside_queue (in_directory Selective ++ on_page 257 Selective ++ on_page 258 Selective)) [] (Absorbed 257 258 whole_range)),
+                                                    turn_26,
+                                                    (
+                                                      (world buried (beside_queue (in_directory Selective ++ on_page 257 Selective ++ on_page 258 Selective)) [] (Buried 257 258 whole_range)),
+                                                      turn_27,
+                                                      (
+                                                        (world named (beside_queue (in_directory Selective ++ on_page 257 Selective ++ on_page 258 Selective)) [] (Buried 257 258 whole_range)),
+                                                        turn_28,
+                                                        (
+                                                          (world drained (beside_queue (in_directory Selective ++ on_page 257 Selective ++ on_page 258 Selective)) [] (Drained 257 258)),
+                                                          turn_29,
+                                                          (
+                                                            (world drained (beside_queue (in_directory Selective ++ on_page 257 Selective)) [] (Drained 257 258)),
+                                                            turn_30,
+                                                            (
+                                                              (world drained (beside_queue (in_directory Selective)) [] (Drained 257 258)),
+                                                              turn_31,
+                                                              (
+                                                                (world drained (beside_queue (in_directory Exclusive)) [] (Drained 257 258)),
+                                                                turn_32,
+                                                                (
+                                                                  (world drained (beside_queue (in_directory Exclusive ++ on_page 258 Exclusive)) [] (Drained 257 258)),
+                                                                  turn_33,
+                                                                  (
+                                                                    (world freed (beside_queue (in_directory Exclusive ++ on_page 258 Exclusive)) [] (Freed 258)),
+                                                                    turn_34,
+                                                                    (
+                                                                      (world merged (beside_queue (in_directory Exclusive ++ on_page 258 Exclusive)) [] Quiet),
+                                                                      turn_35,
+                                                                      (
+                                                                        (world halved (beside_queue (in_directory Exclusive ++ on_page 258 Exclusive)) [] Quiet),
+                                                                        turn_36,
+                                                                        (
+                                                                          (world halved (beside_queue (in_directory Exclusive)) [] Quiet),
+                                                                          turn_37,
+                                                                          (
+                                                                            (world halved (beside_queue []) [] Quiet),
+                                                                            turn_38,
+                                                                            (
+                                                                              (world halved [] [] Quiet),
+                                                                              turn_39,
+                                                                              refl,
+                                                                            ),
+                                                                          ),
+                                                                        ),
+                                                                      ),
+                                                                    ),
+                                                                  ),
+                                                                ),
+                                                              ),
+                                                            ),
+                                                          ),
+                                                        ),
+                                                      ),
+                                                    ),
+                                                  ),
+                                                ),
+                                              ),
+                                            ),
+                                          ),
+                                        ),
+                                      ),
+                                    ),
+                                  ),
+                                ),
+                              ),
+                            ),
+                          ),
+                        ),
+                      ),
+                    ),
+                  ),
+                ),
+              ),
+            ),
+          ),
+        ),
+      ),
+    ),
+  ),
+)
 
 each : (kind : Kind) → Contains (map (λ (m : Move). m.kind) schedule) kind
 each steps.Grant = (0, omega arith, refl)

@@ -16,3 +16,4 @@ pub mod Ways
 pub mod Walks
 pub mod Answering
 pub mod Rooms
+pub mod Falls
