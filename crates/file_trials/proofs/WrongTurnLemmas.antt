@@ -28,7 +28,7 @@ use Rattle.step_rules.specs.Turns.{HopsJust, WritesJust, SplitsFor}
 use Rattle.step_rules.proofs.LockLemmas.{names_eq}
 use Rattle.file_trials.specs.Schedule.{record_of, first, third, raised, linked, split, with_third, merged, world, beside_queue, in_directory}
 use Rattle.file_trials.specs.WrongTurns.{alone, both, standing, WrongTurns}
-use Rattle.file_trials.proofs.ScheduleLemmas.{chain_first, chain_raised, chain_split, chain_with_third, used_two, size_is}
+use Rattle.file_trials.proofs.TwoSeats.{chain_first, chain_raised, chain_split, chain_with_third, used_two, size_is}
 
 -- ---- pages of short chains
 
