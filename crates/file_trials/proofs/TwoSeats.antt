@@ -9,20 +9,13 @@ use Rattle.bucket_page.proofs.Steps.{length-pair, length-cons}
 use Rattle.std.proofs.lemmas.Bool.{true≢false}
 use Rattle.std.proofs.lemmas.List.{length-replicate}
 use Rattle.directory.specs.Entries.{page_of}
-use Rattle.page_locks.specs.declared.lock.Lock.{Lock}
-use Rattle.page_locks.specs.declared.lock.LockKind.{LockKind}
-use Rattle.page_locks.specs.declared.lock.LockKind.TheVariants.{Read, Exclusive}
-use Rattle.page_locks.specs.declared.lock.LockName.{LockName}
-use Rattle.page_locks.specs.declared.lock.LockName.TheVariants.{Key, Counter, Queue, Directory, Page}
 use Rattle.page_locks.specs.declared.row.TheConstants.{MAX_LOCKS}
 use Rattle.page_locks.specs.Locks.{is_against, lock_of, kind_of, without}
 use Rattle.page_locks.specs.Table.{IsFree, row_of}
 use Rattle.page_locks.specs.Writers.{IsWriter}
-use Rattle.hash_file.specs.Store.{Store}
-use Rattle.hash_file.specs.Chain.{chain}
-use Rattle.hash_file.specs.Change.{Change, Quiet, Drained, busy}
 use Rattle.hash_file.specs.Laws.{IsCopied, IsRetargeted}
 use Rattle.hash_file.specs.Examples.{number_of}
+use Rattle.step_rules.specs.Words.{Lock, LockKind, Read, Exclusive, LockName, Key, Counter, Queue, Directory, Page, Store, chain, Change, Quiet, Drained, busy}
 use Rattle.step_rules.specs.declared.kind.Kind.TheVariants as steps
 use Rattle.step_rules.specs.World.{World, IsHeld, IsReached}
 use Rattle.step_rules.specs.LockSteps.{Releases, IsDone}

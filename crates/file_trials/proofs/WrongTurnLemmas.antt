@@ -8,18 +8,12 @@ use Rattle.positions.specs.Ranges.{Covers}
 use Rattle.positions.proofs.MemberLaws.{contains_cases, contains_none}
 use Rattle.bucket_page.specs.declared.layout.TheConstants.{ROOM_BYTES}
 use Rattle.bucket_page.specs.Keys.{is_below}
-use Rattle.page_locks.specs.declared.lock.LockKind.{LockKind}
-use Rattle.page_locks.specs.declared.lock.LockKind.TheVariants.{Read, Exclusive}
-use Rattle.page_locks.specs.declared.lock.LockName.TheVariants.{Directory, Page}
 use Rattle.page_locks.specs.Table.{held, without_lock}
 use Rattle.page_locks.proofs.ChangeLemmas.{ChangesOnly-release}
 use Rattle.directory.specs.Entries.{page_of}
-use Rattle.hash_file.specs.Store.{Store, bucket_at, range_at}
-use Rattle.hash_file.specs.Chain.{chain}
-use Rattle.hash_file.specs.Change.{Quiet, Taken, Drained}
 use Rattle.hash_file.specs.Changes.{RecordWrite, Put, Replace, Remove, key_of, write_record}
-use Rattle.hash_file.specs.Looks.{Answers}
 use Rattle.hash_file.specs.Examples.{number_of, key, numbers_at}
+use Rattle.step_rules.specs.Words.{LockKind, Read, Exclusive, Directory, Page, Store, bucket_at, range_at, chain, Quiet, Taken, Drained, Answers}
 use Rattle.step_rules.specs.World.{World}
 use Rattle.step_rules.specs.Pages.{used_on, size_of}
 use Rattle.step_rules.specs.LockSteps.{MovesOn, Releases}

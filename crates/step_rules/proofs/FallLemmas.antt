@@ -9,15 +9,12 @@ use Rattle.bucket_page.specs.declared.page.PageKind.{PageKind}
 use Rattle.bucket_page.specs.declared.page.PageKind.TheVariants as kinds
 use Rattle.bucket_page.specs.Dividing.{lower_half}
 use Rattle.directory.specs.Entries.{page_of, is_upper, is_in_range}
-use Rattle.hash_file.specs.Store.{Store, bucket_of, bucket_at, range_at, entry_at}
-use Rattle.hash_file.specs.Chain.{chain}
-use Rattle.hash_file.specs.Change.{Change, Quiet, Taken, Filled, Linked, Absorbed, Buried, Drained, Freed}
 use Rattle.hash_file.specs.Changes.{copy_directory, retarget}
-use Rattle.hash_file.specs.Sound.{IsSoundFile}
 use Rattle.hash_file.proofs.Doubling.{within_entries, copied_at}
 use Rattle.hash_file.proofs.Frames.{page_same}
 use Rattle.hash_file.proofs.Headed.{mapped_first}
 use Rattle.hash_file.proofs.Roles.{numbered}
+use Rattle.step_rules.specs.Words.{Store, bucket_of, bucket_at, range_at, entry_at, chain, Change, Quiet, Taken, Filled, Linked, Absorbed, Buried, Drained, Freed, IsSoundFile}
 use Rattle.step_rules.specs.declared.kind.Kind.{Kind}
 use Rattle.step_rules.specs.declared.kind.Kind.TheVariants.{Grant, Release, ReadDepth, ReadEntry, Look, Hop, WriteRecord, Decide, TakePage, CopyDirectory, RaiseDepth, WriteNew, WriteOld, Retarget, SetCounts, WriteLeft, Tombstone, Convert, WriteFree, LinkFree, LowerDepth}
 use Rattle.step_rules.specs.World.{World}

@@ -10,14 +10,11 @@ use Rattle.std.proofs.Math.Nat.{mod-eq_of_lt}
 use Rattle.bucket_page.specs.declared.layout.TheConstants.{ROOM_BYTES}
 use Rattle.bucket_page.specs.declared.record_key.RecordKey.{RecordKey}
 use Rattle.bucket_page.specs.Records.{Pair}
-use Rattle.hash_file.specs.Store.{Store, bucket_at, range_at}
-use Rattle.hash_file.specs.Chain.{chain, IsBucketOf}
-use Rattle.hash_file.specs.Change.{owned}
 use Rattle.hash_file.specs.Changes.{RecordWrite, Put, Remove, key_of}
-use Rattle.hash_file.specs.Sound.{IsFreeList}
 use Rattle.hash_file.specs.Words.{HasOneRole, IsOneOf, First, Second, Third}
 use Rattle.hash_file.proofs.Chains.{chain_valid, bucket_unique}
 use Rattle.hash_file.proofs.Ties.{roles_are_one}
+use Rattle.step_rules.specs.Words.{Store, bucket_at, range_at, chain, IsBucketOf, owned, IsFreeList}
 use Rattle.step_rules.specs.declared.kind.Kind.TheVariants.{WriteRecord, TakePage, WriteLeft}
 use Rattle.step_rules.specs.World.{World}
 use Rattle.step_rules.specs.Sound.{IsSoundWorld}
