@@ -13,13 +13,13 @@ use Rattle.page_locks.specs.declared.lock.LockKind.{LockKind}
 use Rattle.page_locks.specs.declared.lock.LockName.TheVariants.{Queue, Directory, Page}
 use Rattle.page_locks.specs.Locks.{lock_of}
 use Rattle.hash_file.specs.Store.{Store}
-use Rattle.hash_file.specs.Change.{Change, Quiet, Taken, Filled, Linked, Absorbed, Buried, Drained, Freed}
-use Rattle.hash_file.specs.Changes.{RecordWrite, Put, Remove, write_record, take_page, copy_directory, raise_depth, write_new, write_old, retarget, set_counts, split_counts, merge_counts, write_left, write_tombstone, write_free, link_free, lower_depth}
+use Rattle.hash_file.specs.Change.{Change, Quiet}
+use Rattle.hash_file.specs.Changes.{Put, Remove, write_record, take_page, copy_directory, raise_depth, write_new, write_old, retarget, set_counts, split_counts, merge_counts, write_left, write_tombstone, write_free, link_free, lower_depth}
 use Rattle.hash_file.specs.Examples.{number_of, key, numbers_at}
 use Rattle.step_rules.specs.declared.kind.Kind.{Kind}
 use Rattle.step_rules.specs.declared.kind.Kind.TheVariants as steps
 use Rattle.step_rules.specs.World.{World}
-use Rattle.step_rules.specs.Turns.{Ask, Lock as AskLock, HopFrom, ToExclusive, Turn, no_ask, asks}
+use Rattle.step_rules.specs.Turns.{Lock as AskLock, HopFrom, ToExclusive, Turn, no_ask, asks}
 use Rattle.step_rules.specs.Laws.{Move, LeadAlong}
 
 -- ---- the file

@@ -1,6 +1,5 @@
 -- Turns that are not allowed, each at a world of the worked schedule or one beside it.
-use Rattle.std.specs.Prelude.{ℕ, ◌≡◌, List, [], ◌∷◌, ◌++◌, Option, Some, None}
-use Rattle.bucket_page.specs.Records.{Pair}
+use Rattle.std.specs.Prelude.{ℕ, ◌≡◌, List, [], ◌++◌, Option, Some, None}
 use Rattle.page_locks.specs.declared.lock.LockKind.TheVariants.{Read, Selective, Exclusive}
 use Rattle.page_locks.specs.declared.lock.LockName.TheVariants.{Directory, Page}
 use Rattle.hash_file.specs.Store.{Store}
@@ -8,15 +7,14 @@ use Rattle.hash_file.specs.Change.{Change, Quiet, Taken, Linked}
 use Rattle.hash_file.specs.Changes.{RecordWrite, Put, Replace, Remove, write_record}
 use Rattle.hash_file.specs.Examples.{number_of, key}
 use Rattle.positions.specs.Ranges.{whole_range}
-use Rattle.step_rules.specs.declared.kind.Kind.{Kind}
 use Rattle.step_rules.specs.declared.kind.Kind.TheVariants as steps
 use Rattle.step_rules.specs.declared.progress.Progress.{Progress}
 use Rattle.step_rules.specs.declared.progress.Progress.TheVariants.{Moved, Blocked}
 use Rattle.step_rules.specs.World.{World}
 use Rattle.step_rules.specs.PageSteps.{CopiesDirectory, Retargets}
 use Rattle.step_rules.specs.Answering.{IsTold, IsTaken}
-use Rattle.step_rules.specs.Turns.{Ask, Lock as AskLock, HopFrom, ToExclusive, Turn, no_ask, asks, TurnsAt}
-use Rattle.file_trials.specs.Schedule.{record_of, first, third, raised, linked, split, with_third, merged, world, beside_queue, in_directory, on_page, insert, delete}
+use Rattle.step_rules.specs.Turns.{Lock as AskLock, HopFrom, ToExclusive, Turn, no_ask, asks, TurnsAt}
+use Rattle.file_trials.specs.Schedule.{record_of, first, raised, linked, split, with_third, merged, world, beside_queue, in_directory, on_page, insert, delete}
 
 abbrev pub Refused : Turn → Progress ℕ → ℕ → World → World → Type 0
 Refused turn did seat old new = TurnsAt number_of turn did seat old new → ⊥

@@ -1,6 +1,5 @@
 -- A look may tell what it sees; and a directory that is given back from an exclusive lock is halved.
-use Rattle.std.proofs.Common.{◌≡◌, ◌≢◌, ◌⊎◌, ◌==◌, ℕ, suc, Bool, true, false, List, [], ◌∷◌, Some, refl, sym, ◌∙◌, subst, inl, inr, arith}
-use Rattle.std.specs.List.{Contains}
+use Rattle.std.proofs.Common.{◌≡◌, ◌≢◌, ◌⊎◌, ℕ, List, [], ◌∷◌, Some, refl, sym, ◌∙◌, subst, inl, inr}
 use Rattle.std.proofs.lemmas.Bool.{cases_eq, ne_eqb}
 use Rattle.positions.proofs.MemberLaws.{contains_head, contains_tail}
 use Rattle.bucket_page.specs.declared.record_key.RecordKey.{RecordKey}
@@ -8,9 +7,8 @@ use Rattle.bucket_page.specs.Records.{lookup}
 use Rattle.page_locks.specs.declared.lock.LockKind.TheVariants.{Exclusive}
 use Rattle.page_locks.specs.declared.lock.LockName.TheVariants.{Directory, Page}
 use Rattle.page_locks.specs.Table.{held}
-use Rattle.page_locks.specs.Writers.{may_write}
-use Rattle.hash_file.specs.Store.{Store, bucket_at, records_at, count_at}
-use Rattle.hash_file.specs.Chain.{chain, how_many, number_on}
+use Rattle.hash_file.specs.Store.{Store, bucket_at, records_at}
+use Rattle.hash_file.specs.Chain.{chain, number_on}
 use Rattle.hash_file.specs.Looks.{Answers}
 use Rattle.hash_file.specs.Sound.{IsSoundFile}
 use Rattle.hash_file.proofs.Searches.{looks_answer}

@@ -1,17 +1,11 @@
 -- A search among the steps of the others goes on its way, and makes few hops.
-use Rattle.std.proofs.Common.{◌≡◌, ◌≢◌, ◌≤◌, ◌+◌, ◌%◌, ◌^◌, [], ◌∷◌, ◌++◌, ◌&&◌, Bool, true, false, Some, ℕ, suc, refl, sym, ap, ◌∙◌, subst, inl, inr, arith}
+use Rattle.std.proofs.Common.{◌≡◌, ◌≢◌, ◌≤◌, ◌+◌, ◌%◌, ◌^◌, [], ◌∷◌, ◌++◌, ◌&&◌, Bool, true, false, Some, ℕ, suc, refl, sym, ap, ◌∙◌, subst, inr, arith}
 use Rattle.bucket_page.specs.declared.record_key.RecordKey.{RecordKey}
 use Rattle.fields.proofs.Tests.{both_true}
-use Rattle.page_locks.specs.declared.lock.LockKind.{LockKind}
-use Rattle.page_locks.specs.declared.lock.LockName.{LockName}
-use Rattle.page_locks.specs.declared.lock.LockName.TheVariants.{Directory, Page}
 use Rattle.page_locks.specs.Table.{Table, row_of, held, with_lock, without_lock}
 use Rattle.page_locks.specs.Locks.{lock_of}
 use Rattle.page_locks.proofs.ChangeLemmas.{held-grant, IsSeat-with_row}
-use Rattle.hash_file.specs.Store.{entry_at, next_at}
-use Rattle.hash_file.specs.Change.{Change, Quiet, Taken, Filled, Linked, Absorbed, Buried, Drained, Freed}
-use Rattle.hash_file.specs.Search.{PageLeads, distance}
-use Rattle.hash_file.specs.Looks.{Answers}
+use Rattle.step_rules.specs.Words.{LockKind, LockName, Directory, Page, entry_at, next_at, Change, Quiet, Taken, Filled, Linked, Absorbed, Buried, Drained, Freed, distance, Answers}
 use Rattle.step_rules.specs.declared.kind.Kind.{Kind}
 use Rattle.step_rules.specs.declared.kind.Kind.TheVariants.{Grant, Release, ReadDepth, ReadEntry, Look, Hop, WriteRecord, Decide, TakePage, CopyDirectory, RaiseDepth, WriteNew, WriteOld, Retarget, SetCounts, WriteLeft, Tombstone, Convert, WriteFree, LinkFree, LowerDepth}
 use Rattle.step_rules.specs.World.{World, with_locks, IsHeld}

@@ -5,7 +5,7 @@ use Rattle.bucket_page.specs.declared.record_key.RecordKey.{RecordKey}
 use Rattle.page_locks.specs.declared.lock.LockKind.{LockKind}
 use Rattle.page_locks.specs.declared.lock.LockName.TheVariants.{Directory, Page}
 use Rattle.page_locks.specs.Table.{Table, row_of, held}
-use Rattle.hash_file.specs.Store.{Store, entry_at, next_at}
+use Rattle.hash_file.specs.Store.{entry_at, next_at}
 use Rattle.hash_file.specs.Change.{Change, Quiet}
 use Rattle.hash_file.specs.Search.{distance}
 use Rattle.hash_file.specs.Looks.{Answers}

@@ -1,6 +1,7 @@
 //! The laws of steps. Each stands on the contract of a function that does nothing.
 
 ghost use Rattle.step_rules.specs.declared.kind.Kind.{Kind};
+ghost use Rattle.step_rules.specs.Falls.{CopiesOn, RetargetsOn, SearchesFall, SplitDeepens, StepFalls};
 ghost use Rattle.step_rules.specs.OnePage.{KindChangesLittle};
 ghost use Rattle.step_rules.specs.Rooms.{NoPageIsFree, NoRoomIsSeen, NoRoomIsStuck, TurnedAwayIsStuck};
 ghost use Rattle.step_rules.specs.Walks.{SearchesGoOn, SearchHopsLittle};
@@ -51,6 +52,17 @@ pub fn a_search_hops_once_more_at_most()
     ensures parts { (kind : Kind) → KindParts kind }
     ensures entry { EntryIsNear }
     ensures hop { HopIsNearer }
+{}
+
+/// Each own step of a search lowers the most that it has left. Each step that goes on with a split or a merge comes to a
+/// later phase, or one directory page further in their order; a doubling and a halving bring the depth nearer to its
+/// end; and each split makes its bucket deeper. So what a seat does alone comes to an end.
+pub fn own_steps_bring_the_end_nearer()
+    ensures searches { SearchesFall }
+    ensures steps { (kind : Kind) → StepFalls kind }
+    ensures copies { CopiesOn }
+    ensures retargets { RetargetsOn }
+    ensures splits { SplitDeepens }
 {}
 
 /// Where a record has no room it can't be put, and no split begins that makes room for it; a seat sees it by what it
