@@ -20,7 +20,7 @@ use Rattle.step_rules.specs.declared.kind.Kind.TheVariants as steps
 use Rattle.step_rules.specs.World.{World, IsHeld, IsReached}
 use Rattle.step_rules.specs.LockSteps.{Releases, IsDone}
 use Rattle.step_rules.specs.Pages.{used_on, size_of}
-use Rattle.step_rules.specs.Turns.{rank_of, Lock as AskLock, asks, MayBeGranted, Makes, LacksRoom}
+use Rattle.step_rules.specs.Turns.{rank_of, ForLock, asks, MayBeGranted, DoesTied, LacksRoom}
 use Rattle.file_trials.specs.Schedule.{record_of, first, third, taken, copied, raised, linked, retargeted, split, with_third, without_first, named, drained, halved, world, beside_queue, in_directory, on_page}
 
 -- ---- two seats
@@ -139,7 +139,7 @@ module _ (s : Store) (one two : List Lock) (c : Change) where
       is_against kind (kind_of two name) ≡ false →
       ((page : ℕ) → name ≡ Page page → IsReached (world s one two c) page) →
       MayBeGranted name kind 1 (world s one two c) →
-      Makes number_of (asks (AskLock name kind)) steps.Grant 1 (world s one two c)
+      DoesTied number_of (asks (ForLock name kind)) steps.Grant 1 (world s one two c)
       (world s (one ++ lock_of name kind ∷ []) two c)
   grants_one name kind room fresh ok aimed may = record {
     grants = record {
@@ -161,7 +161,7 @@ module _ (s : Store) (one two : List Lock) (c : Change) where
       is_against kind (kind_of one name) ≡ false →
       ((page : ℕ) → name ≡ Page page → IsReached (world s one two c) page) →
       MayBeGranted name kind 2 (world s one two c) →
-      Makes number_of (asks (AskLock name kind)) steps.Grant 2 (world s one two c)
+      DoesTied number_of (asks (ForLock name kind)) steps.Grant 2 (world s one two c)
       (world s one (two ++ lock_of name kind ∷ []) c)
   grants_two name kind room fresh ok aimed may = record {
     grants = record {
