@@ -11,8 +11,9 @@ use Rattle.hash_file.specs.Examples.{number_of, key}
 use Rattle.step_rules.specs.declared.kind.Kind.TheVariants as steps
 use Rattle.step_rules.specs.Pages.{used_on, size_of}
 use Rattle.step_rules.specs.Turns.{ForLock, ToExclusive, no_ask, asks, DoesTied}
+use Rattle.step_rules.proofs.MachineLemmas.{page_may}
 use Rattle.file_trials.specs.Schedule.{third, split, with_third, without_first, absorbed, buried, named, drained, freed, merged, halved, world, beside_queue, in_directory, on_page, insert, delete}
-use Rattle.file_trials.proofs.TwoSeats.{beside_one, only_page, chain_split, chain_with_third, chain_without_first, on, root_first, root_next, size_is, used_one, page_may, grants_one, releases_one, none_before, named_left, last_may, done}
+use Rattle.file_trials.proofs.TwoSeats.{beside_one, only_page, chain_split, chain_with_third, chain_without_first, on, root_first, root_next, size_is, used_one, grants_one, releases_one, none_before, named_left, last_may, done}
 
 pub turn_20 : DoesTied number_of insert steps.WriteRecord 1
     (world split (beside_queue (in_directory Selective ++ on_page 258 Selective)) [] Quiet)

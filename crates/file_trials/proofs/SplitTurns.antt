@@ -9,8 +9,9 @@ use Rattle.hash_file.specs.Change.{Quiet, Taken, Filled, Linked}
 use Rattle.hash_file.specs.Examples.{number_of}
 use Rattle.step_rules.specs.declared.kind.Kind.TheVariants as steps
 use Rattle.step_rules.specs.Turns.{ForLock, HopFrom, no_ask, asks, DoesTied}
+use Rattle.step_rules.proofs.MachineLemmas.{directory_may, page_may}
 use Rattle.file_trials.specs.Schedule.{first, taken, copied, raised, filled, linked, retargeted, split, world, beside_queue, in_directory, on_page, insert}
-use Rattle.file_trials.proofs.TwoSeats.{beside_one, beside_two, only_page, chain_first, chain_raised, chain_linked, chain_split, on, root_alone, root_first, directory_may, page_may, grants_one, grants_two, releases_two, lacks_first, lacks_taken, lacks_copied, lacks_raised, none_before, copied_all, named_new, even, lacks_at, queue_may}
+use Rattle.file_trials.proofs.TwoSeats.{beside_one, beside_two, only_page, chain_first, chain_raised, chain_linked, chain_split, on, root_alone, root_first, grants_one, grants_two, releases_two, lacks_first, lacks_taken, lacks_copied, lacks_raised, none_before, copied_all, named_new, even, lacks_at, queue_may}
 
 pub turn_1 : DoesTied number_of (asks (ForLock Directory Read)) steps.Grant 2
     (world first [] [] Quiet)
