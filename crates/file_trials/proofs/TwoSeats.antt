@@ -1,5 +1,5 @@
 -- What two seats hold and may be granted, chains of the schedule's files, sizes of records.
-use Rattle.std.proofs.Common.{◌≡◌, ◌<◌, ◌≤◌, ◌+◌, ◌%◌, ◌^◌, ℕ, zero, suc, false, List, [], ◌∷◌, ◌++◌, length, None, IsSome, refl, sym, subst, inl, arith}
+use Rattle.std.proofs.Common.{◌≡◌, ◌<◌, ◌+◌, ◌%◌, ◌^◌, ℕ, zero, suc, false, List, [], ◌∷◌, ◌++◌, length, None, IsSome, refl, sym, subst, inl, arith}
 use Rattle.std.specs.List.{Contains}
 use Rattle.positions.specs.Ranges.{whole_range, upper_half_of}
 use Rattle.positions.proofs.MemberLaws.{contains_head, contains_tail}
@@ -11,16 +11,17 @@ use Rattle.std.proofs.lemmas.List.{length-replicate}
 use Rattle.directory.specs.Entries.{page_of}
 use Rattle.page_locks.specs.declared.row.TheConstants.{MAX_LOCKS}
 use Rattle.page_locks.specs.Locks.{is_against, lock_of, kind_of, without}
-use Rattle.page_locks.specs.Table.{IsFree, row_of}
+use Rattle.page_locks.specs.Table.{IsFree}
 use Rattle.page_locks.specs.Writers.{IsWriter}
 use Rattle.hash_file.specs.Laws.{IsCopied, IsRetargeted}
 use Rattle.hash_file.specs.Examples.{number_of}
-use Rattle.step_rules.specs.Words.{Lock, LockKind, Read, Exclusive, LockName, Key, Counter, Queue, Directory, Page, Store, chain, Change, Quiet, Drained, busy}
+use Rattle.step_rules.specs.Words.{Lock, LockKind, Read, Exclusive, LockName, Queue, Directory, Page, Store, chain, Change, Quiet, Drained, busy}
 use Rattle.step_rules.specs.declared.kind.Kind.TheVariants as steps
-use Rattle.step_rules.specs.World.{World, IsHeld, IsReached}
+use Rattle.step_rules.specs.World.{World, IsReached}
 use Rattle.step_rules.specs.LockSteps.{Releases, IsDone}
 use Rattle.step_rules.specs.Pages.{used_on, size_of}
-use Rattle.step_rules.specs.Turns.{rank_of, Lock as AskLock, asks, MayBeGranted, Makes, LacksRoom}
+use Rattle.step_rules.specs.Turns.{ForLock, asks, MayBeGranted, DoesTied, LacksRoom}
+use Rattle.step_rules.proofs.MachineLemmas.{last_rank}
 use Rattle.file_trials.specs.Schedule.{record_of, first, third, taken, copied, raised, linked, retargeted, split, with_third, without_first, named, drained, halved, world, beside_queue, in_directory, on_page}
 
 -- ---- two seats
@@ -101,45 +102,12 @@ used_two m a n b = omega (arith, length-cons (record_of m a) (record_of n b ∷ 
 
 -- ---- grants and releases
 
--- a directory, by a seat that holds no page
-pub directory_may : (seat : ℕ) (kind : LockKind) (w : World) → (kind ≡ Exclusive → ⊥) →
-    ((n : ℕ) → kind_of (row_of w.locks seat) (Page n) ≡ None) → MayBeGranted Directory kind seat w
-directory_may seat kind w shared bare = record {
-  ordered = ordered;
-  shared = λ same x. shared x;
-  in_directory = λ page same. absurd cc;
-  last = λ page same x. absurd cc;
-}
-  where
-    ordered : (other : LockName) → IsHeld w.locks seat other → rank_of other ≤ 3
-    ordered (Key k) there = omega arith
-    ordered Counter there = omega arith
-    ordered (Queue id) there = omega arith
-    ordered Directory there = omega arith
-    ordered (Page n) there = absurd (true≢false (sym (subst IsSome (bare n) there)))
-
-pub last_rank : (name : LockName) → rank_of name ≤ 4
-last_rank (Key k) = omega arith
-last_rank Counter = omega arith
-last_rank (Queue id) = omega arith
-last_rank Directory = omega arith
-last_rank (Page n) = omega arith
-
-pub page_may : (n : ℕ) (kind : LockKind) (seat : ℕ) (w : World) → IsHeld w.locks seat Directory → (kind ≡ Exclusive → ⊥) →
-    MayBeGranted (Page n) kind seat w
-page_may n kind seat w there shared = record {
-  ordered = λ other held. last_rank other;
-  shared = λ same x. shared x;
-  in_directory = λ page same. there;
-  last = λ page same x. absurd (shared x);
-}
-
 module _ (s : Store) (one two : List Lock) (c : Change) where
   pub grants_one : (name : LockName) (kind : LockKind) → length one < MAX_LOCKS → kind_of one name ≡ None →
       is_against kind (kind_of two name) ≡ false →
       ((page : ℕ) → name ≡ Page page → IsReached (world s one two c) page) →
       MayBeGranted name kind 1 (world s one two c) →
-      Makes number_of (asks (AskLock name kind)) steps.Grant 1 (world s one two c)
+      DoesTied number_of (asks (ForLock name kind)) steps.Grant 1 (world s one two c)
       (world s (one ++ lock_of name kind ∷ []) two c)
   grants_one name kind room fresh ok aimed may = record {
     grants = record {
@@ -161,7 +129,7 @@ module _ (s : Store) (one two : List Lock) (c : Change) where
       is_against kind (kind_of one name) ≡ false →
       ((page : ℕ) → name ≡ Page page → IsReached (world s one two c) page) →
       MayBeGranted name kind 2 (world s one two c) →
-      Makes number_of (asks (AskLock name kind)) steps.Grant 2 (world s one two c)
+      DoesTied number_of (asks (ForLock name kind)) steps.Grant 2 (world s one two c)
       (world s one (two ++ lock_of name kind ∷ []) c)
   grants_two name kind room fresh ok aimed may = record {
     grants = record {

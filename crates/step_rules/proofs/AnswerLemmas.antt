@@ -18,11 +18,11 @@ use Rattle.step_rules.specs.Sound.{IsSoundWorld}
 use Rattle.step_rules.specs.Known.{LeadsTo, IsKnown}
 use Rattle.step_rules.specs.LockSteps.{Releases}
 use Rattle.step_rules.specs.Learns.{IsLiveOn}
-use Rattle.step_rules.specs.Answering.{IsTold}
+use Rattle.step_rules.specs.Answering.{IsAnswerOf}
 
 pub look_may_tell : (hash : RecordKey → ℕ) (seat page : ℕ) (key : RecordKey) (w : World) → IsSoundWorld hash w →
     IsKnown seat w (LeadsTo page (hash key)) → IsHeld w.locks seat (Page page) → Answers w.store page (hash key) →
-    IsTold hash seat page key (lookup key (records_at w.store page)) w
+    IsAnswerOf hash seat page key (lookup key (records_at w.store page)) w
 look_may_tell hash seat page key w sound leads there answers = record {
   held = there;
   answers = answers;

@@ -22,7 +22,7 @@ use Rattle.step_rules.specs.Structure.{BucketOf, HasFirstFree}
 use Rattle.step_rules.specs.Pages.{Lacking, Using, used_on, size_of}
 use Rattle.step_rules.specs.Known.{OnPage, Built, IsKnown}
 use Rattle.step_rules.specs.PageSteps.{Suits, TakesPage, WritesLeft}
-use Rattle.step_rules.specs.Turns.{Turn, Makes, WritesAsked, WritesJust, SplitsAsked, SplitsFor, MergesAsked}
+use Rattle.step_rules.specs.Turns.{Turn, DoesTied, WritesAsked, WritesJust, SplitsAsked, SplitsFor, MergesAsked}
 use Rattle.step_rules.specs.Rooms.{HasNoRoom, TurnsAway, IsWhole, IsLarge, Differs, AreLarge}
 
 pub no_room_is_seen : (hash : RecordKey → ℕ) (seat : ℕ) (p : Pair) (page used : ℕ) (w : World) →
@@ -60,7 +60,7 @@ module _ (hash : RecordKey → ℕ) (seat : ℕ) (p : Pair) (old new : World) (s
       ]
 
   pub no_room_is_stuck : (turn : Turn) → turn.write ≡ Some (Put p) →
-      Makes hash turn WriteRecord seat old new ⊎ Makes hash turn TakePage seat old new → ⊥
+      DoesTied hash turn WriteRecord seat old new ⊎ DoesTied hash turn TakePage seat old new → ⊥
   no_room_is_stuck turn is (inl does) =
       no_write (subst (λ (x : Option RecordWrite). WritesAsked hash x seat old new) is does)
   no_room_is_stuck turn is (inr (takes, splits)) = no_split takes
@@ -187,7 +187,7 @@ module _ (hash : RecordKey → ℕ) (key : RecordKey) (seat : ℕ) (old new : Wo
 
 pub turned_away_is_stuck : (hash : RecordKey → ℕ) (key : RecordKey) (seat : ℕ) (turn : Turn) (old new : World) →
     IsSoundWorld hash old → TurnsAway hash key seat old → turn.write ≡ Some (Remove key) →
-    Makes hash turn WriteLeft seat old new → ⊥
+    DoesTied hash turn WriteLeft seat old new → ⊥
 turned_away_is_stuck hash key seat turn old new sound away is (does, merges) =
     let found : (page : ℕ) × IsBucketOf old.store (hash key) page × ((page ≡ does.left) ⊎ (page ≡ does.right)) =
     subst (λ (x : Option RecordWrite). MergesAsked hash x old (λ page. (page ≡ does.left) ⊎ (page ≡ does.right))) is

@@ -20,16 +20,16 @@ use Rattle.step_rules.specs.Ways.{hops_between}
 -- ---- a search
 
 -- what a search does next
-pub data Task : Type 0 where
-  ToReadDepth : Task
-  ToReadEntry : (depth : ℕ) → Task
-  ToGrantPage : (page : ℕ) → Task
-  ToRelease : (page : ℕ) → Task
-  ToLook : (page : ℕ) → Task
-  ToHop : (page : ℕ) → Task
+pub data SearchTask : Type 0 where
+  ToReadDepth : SearchTask
+  ToReadEntry : (depth : ℕ) → SearchTask
+  ToGrantPage : (page : ℕ) → SearchTask
+  ToRelease : (page : ℕ) → SearchTask
+  ToLook : (page : ℕ) → SearchTask
+  ToHop : (page : ℕ) → SearchTask
 
 -- the most steps that it has left before its answer: two for each hop to come, and those up to the first look
-abbrev pub search_left : Store → ℕ → Task → ℕ
+abbrev pub search_left : Store → ℕ → SearchTask → ℕ
 search_left s k ToReadDepth = 7
 search_left s k (ToReadEntry depth) = 2 * hops_between s depth k + 6
 search_left s k (ToGrantPage page) = 2 * distance s page k + 3
