@@ -111,7 +111,7 @@ module _ (hash : RecordKey → ℕ) (s : Store) (c : Change) (sound : IsSoundFil
   retargeted_on : (r : Range) (n : ℕ) → IsRetargetedBefore s r n page →
       IsRetargetedBefore (retarget page r n s) r n (suc page)
   retargeted_on r n before i low covers there =
-      let ask : ℕ → Bool = is_in_range depth (record { local_depth = r.depth; pattern = r.pattern }) in
+      let ask : ℕ → Bool = is_in_range depth r in
       elim (cases_eq (page_of i) page) [
         | inr other ↦ entry_elsewhere page i ask (λ (k : ℕ). n) s.entries other
             ∙ before i low covers (omega (arith, there, other))
