@@ -4,13 +4,16 @@
 #![tactic(auto)]
 
 mod grant;
+mod holders;
 mod laws;
 mod lock;
 mod lock_table;
 mod no_memory;
 mod row;
+mod slot;
+mod slots;
 
-pub use grant::Grant;
+pub use grant::{Attempt, Grant};
 pub use laws::{changes_are_local, names_differ};
 pub use lock::{Lock, LockKind, LockName};
 pub use lock_table::{LockTable, MAX_SEATS};

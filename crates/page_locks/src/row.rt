@@ -1,7 +1,7 @@
 //! The locks of one seat.
 
 ghost use Rattle.std.specs.Prelude.{◌≡◌, ◌<◌, ◌≤◌, [], ◌∷◌, ◌++◌, length};
-ghost use Rattle.page_locks.specs.Locks.{kind_of, is_against, without, converted};
+ghost use Rattle.page_locks.specs.Locks.{kind_of, without, converted};
 
 use crate::lock::{Lock, LockKind, LockName};
 use arrayvec::ArrayVec;
@@ -52,16 +52,6 @@ impl Row {
             }
         }
         None
-    }
-
-    /// Whether these locks keep another seat from holding this one.
-    pub fn is_against(&self, lock: Lock) -> bool
-        ensures { result ≡ is_against lock.kind (kind_of self.now lock.name) }
-    {
-        match self.kind_of(lock.name) {
-            Some(held) => !lock.kind.is_compatible(held),
-            None => false,
-        }
     }
 
     /// Puts a lock last.
