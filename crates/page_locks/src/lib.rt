@@ -8,7 +8,6 @@ mod holders;
 mod laws;
 mod lock;
 mod lock_table;
-mod no_memory;
 mod row;
 mod slot;
 mod slots;
@@ -17,7 +16,7 @@ pub use grant::{Attempt, Grant};
 pub use laws::{changes_are_local, names_differ};
 pub use lock::{Lock, LockKind, LockName};
 pub use lock_table::{LockTable, MAX_SEATS};
-pub use no_memory::NoMemory;
+pub use faults::NoMemory;
 pub use row::MAX_LOCKS;
 
 #[cfg(test)]

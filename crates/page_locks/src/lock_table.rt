@@ -8,7 +8,7 @@ ghost use Rattle.page_locks.specs.Ties.{AreHomesApart};
 
 use crate::grant::{Attempt, Grant};
 use crate::lock::{Lock, LockKind, LockName};
-use crate::no_memory::NoMemory;
+use faults::NoMemory;
 use crate::row::{MAX_LOCKS, Row};
 use crate::slots::Slots;
 use std::alloc::Global;
