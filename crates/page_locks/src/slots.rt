@@ -9,7 +9,7 @@ ghost use Rattle.page_locks.specs.Probing.{IsProbed, IsOpened, IsSpot, HasFewNam
 
 use crate::holders::Holders;
 use crate::lock::LockName;
-use crate::no_memory::NoMemory;
+use faults::NoMemory;
 use crate::slot::{SLOTS, Slot, home, way};
 use std::alloc::Global;
 use std::marker::Model;

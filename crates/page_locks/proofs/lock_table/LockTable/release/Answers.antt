@@ -1,6 +1,7 @@
-use Rattle.std.proofs.Common.{ap, ◌∙◌}
+use Rattle.std.proofs.Common.{[], ap, ◌∙◌}
 use Rattle.page_locks.specs.Table.{Table, without_lock}
-use Rattle.page_locks.proofs.TieLemmas.{HasFewNames-tied, IsTied-release, row-released}
+use Rattle.page_locks.proofs.TieLemmas.{HasFewNames-tied, IsTied-release, row_is, row-released}
+use Rattle.page_locks.proofs.TableLemmas.{names_once}
 use Rattle.page_locks.proofs.lock_table.LockTable.release.Goals as goal
 
 -- half of the slots are free
@@ -26,3 +27,10 @@ invariant_of-self c =
     rw (row-released t seat is _ _ c.index_mut.ensures.value c.args.name c.remove.ensures)
     (IsTied-release c.self.inside.slots t c.self.invariant seat is c.args.name c.spot-spot.result.holders
     c.spot-spot.ensures.holders c.without.result c.store.new.self c.store.ensures c.without.ensures)
+
+-- a row has no name twice
+pub remove-requires : goal.remove-requires
+remove-requires c =
+    let is = rw (← c.self.view_is) at c.requires.seat in
+    let row = row_is c.self.inside.rows.items c.args.seat is _ [] c.index_mut.ensures.value in
+    rw row (record { once = names_once c.self.inside.rows.items c.args.seat c.self.invariant.lawful })
