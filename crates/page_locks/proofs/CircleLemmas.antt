@@ -1,5 +1,5 @@
 -- Steps in a circle.
-use Rattle.std.proofs.Common.{arith, ◌≡◌, ◌≢◌, ℕ, ◌+◌, ◌-◌, ◌<◌, ◌≤◌}
+use Rattle.std.proofs.Common.{arith, ◌≡◌, ℕ, ◌+◌, ◌-◌, ◌<◌, ◌≤◌}
 use Rattle.page_locks.specs.declared.slot.TheConstants.{SLOTS}
 use Rattle.page_locks.specs.Probing.{after, gap}
 

@@ -1,13 +1,13 @@
 -- How names move back over a hole, slot after slot.
-use Rattle.std.proofs.Common.{arith, ◌≡◌, ◌≢◌, ℕ, ◌+◌, ◌<◌, ◌≤◌, true, false, List, length, set, subst, refl, sym, ap, ◌∙◌, inl, inr}
+use Rattle.std.proofs.Common.{arith, ◌≡◌, ◌≢◌, ℕ, ◌+◌, ◌<◌, ◌≤◌, true, false, List, set, subst, refl, sym, ap, ◌∙◌, inl, inr}
 use Rattle.std.proofs.lemmas.Bool.{cases_eq, both_ways, not_from_true, not_from_false}
 use Rattle.page_locks.specs.declared.lock.LockName.{LockName}
 use Rattle.page_locks.specs.declared.slot.Slot.{Slot}
 use Rattle.page_locks.specs.declared.slot.TheConstants.{SLOTS}
 use Rattle.page_locks.specs.Holding.{is_nobody}
-use Rattle.page_locks.specs.Probing.{home, after, gap, way, free_slot, slot_at, name_at, is_taken, holders_of}
+use Rattle.page_locks.specs.Probing.{home, after, gap, way, free_slot, slot_at, is_taken, holders_of}
 use Rattle.page_locks.specs.Probing.{IsProbed, IsOpened, HasFreeBut}
-use Rattle.page_locks.proofs.CircleLemmas.{after-lt, after-none, after-gap, gap-lt, gap-after}
+use Rattle.page_locks.proofs.CircleLemmas.{after-lt, after-none, after-gap, gap-after}
 use Rattle.page_locks.proofs.ProbeLemmas.{taken_by, IsMoved, IsMoved-set, IsOpened-moved, holders_of-moved, StayBehind, IsProbed-closed}
 
 -- so far the hole has come `hole` steps from the start, and `steps` were looked at

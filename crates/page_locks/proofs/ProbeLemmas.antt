@@ -2,9 +2,8 @@
 -- that move back over it.
 use Rattle.std.proofs.Common.{arith, ◌≡◌, ◌≢◌, ◌⊎◌, ℕ, ◌+◌, ◌-◌, ◌<◌, ◌≤◌, Bool, true, false, not}
 use Rattle.std.proofs.Common.{List, length, set, subst, refl, sym, ap, ◌∙◌, inl, inr, get_or-set_same, get_or-set_other}
-use Rattle.std.proofs.lemmas.Bool.{cases_Bool, cases_lt, cases_eq, cases_order, not-true, both_ways}
+use Rattle.std.proofs.lemmas.Bool.{cases_Bool, cases_lt, cases_eq, cases_order, both_ways}
 use Rattle.std.proofs.lemmas.List.{length-set}
-use Rattle.page_locks.specs.declared.holders.Holders.{Holders}
 use Rattle.page_locks.specs.declared.lock.LockName.{LockName}
 use Rattle.page_locks.specs.declared.lock.LockName.TheVariants.{Key, Counter, Queue, Directory, Page}
 use Rattle.page_locks.specs.declared.slot.Slot.{Slot}
@@ -12,8 +11,8 @@ use Rattle.page_locks.specs.declared.slot.TheConstants.{SLOTS}
 use Rattle.page_locks.specs.Holding.{nobody, is_nobody}
 use Rattle.page_locks.specs.Probing.{home, after, gap, way, free_slot, slot_at, name_at, is_taken, has_name, holders_of}
 use Rattle.page_locks.specs.Probing.{IsProbed, IsOpened, ChangesName}
-use Rattle.page_locks.proofs.CircleLemmas.{after-lt, after-gap, gap-lt, gap-after, after-after, gap-on_way, gap-steps_up, gap-steps_round, gap-back}
-use Rattle.page_locks.proofs.SlotLemmas.{HasNamesOnce, within, stands-parts, holders_of-at, holders_of-none, holders_of-alike, stands}
+use Rattle.page_locks.proofs.CircleLemmas.{after-gap, gap-lt, gap-after, after-after, gap-on_way, gap-steps_up, gap-steps_round, gap-back}
+use Rattle.page_locks.proofs.SlotLemmas.{HasNamesOnce, within, stands-parts, holders_of-none, holders_of-alike}
 
 pub home-lt : (name : LockName) → home name < SLOTS
 home-lt (Key n) = omega arith
@@ -89,8 +88,11 @@ module _ (old new : List Slot) (place : ℕ) (written : IsWritten old new place 
       | inr has_not ↦ has_not
     ]);
     others = λ other apart. holders_of-alike old new other probed.once (once-emptied probed.once)
-        (λ k has. (k, written.others k (λ same.
-        apart (sym (stands-parts old other k has).1 ∙ ap (name_at old) same))))
+        (λ k has. (
+          k,
+          written.others k (λ same.
+              apart (sym (stands-parts old other k has).1 ∙ ap (name_at old) same)),
+        ))
         (λ k has. (k, sym (was k (stands-parts new other k has).0)));
   }
 

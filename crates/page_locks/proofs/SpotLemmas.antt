@@ -1,5 +1,5 @@
 -- Where a search for a name ends, and what a name put there leaves in order.
-use Rattle.std.proofs.Common.{arith, ◌≡◌, ◌≢◌, ◌⊎◌, ℕ, zero, suc, ◌+◌, ◌-◌, ◌<◌, ◌≤◌, Bool, true, false, not, ◌||◌}
+use Rattle.std.proofs.Common.{arith, ◌≡◌, ◌≢◌, ℕ, zero, suc, ◌-◌, ◌<◌, ◌≤◌, true, false, not}
 use Rattle.std.proofs.Common.{List, length, map, get_or, subst, refl, sym, ap, ◌∙◌, inl, inr}
 use Rattle.std.specs.Cmp.{IsEquivalence}
 use Rattle.std.specs.List.{list_any}
@@ -8,11 +8,10 @@ use Rattle.std.proofs.lemmas.List.{length-map, get_or-map}
 use Rattle.std.proofs.lemmas.List.Folds.{list_any_none}
 use Rattle.std.proofs.lemmas.Map.Keys.{IsDistinct-from_apart}
 use Rattle.std.proofs.lemmas.Map.Made.{length-le_from_is_member}
-use Rattle.page_locks.specs.declared.holders.Holders.{Holders}
 use Rattle.page_locks.specs.declared.lock.LockName.{LockName}
 use Rattle.page_locks.specs.declared.slot.Slot.{Slot}
 use Rattle.page_locks.specs.declared.slot.TheConstants.{SLOTS}
-use Rattle.page_locks.specs.Holding.{nobody, is_nobody}
+use Rattle.page_locks.specs.Holding.{is_nobody}
 use Rattle.page_locks.specs.Locks.{is_same}
 use Rattle.page_locks.specs.Probing.{home, after, gap, way, free_slot, slot_at, name_at, is_taken, has_name, holders_of, is_open}
 use Rattle.page_locks.specs.Probing.{IsProbed, IsSpot, ChangesName, HasFewNames, HasFree, IsWanted, HasHomesApart}
@@ -132,9 +131,11 @@ module _ (slots : List Slot) (name : LockName) (place : ℕ) (probed : IsProbed 
           ap (λ (s : Slot). s.holders) written.here;
       others = λ other apart. holders_of-alike slots new other probed.once once-put
           (λ k has.
-          let parts = stands-parts slots other k has in
-          (k, written.others k (λ same.
-          apart (sym parts.1 ∙ ap (name_at slots) same ∙ spot.its (ap (is_taken slots) (sym same) ∙ parts.0)))))
+          let parts = stands-parts slots other k has in (
+            k,
+            written.others k (λ same.
+                apart (sym parts.1 ∙ ap (name_at slots) same ∙ spot.its (ap (is_taken slots) (sym same) ∙ parts.0))),
+          ))
           (λ k has.
           let parts = stands-parts new other k has in
           (k, sym (written.others k (λ same. apart (sym parts.1 ∙ ap (name_at new) same ∙ now_named)))));
@@ -161,9 +162,10 @@ IsSpot-found slots name steps lt passed open_here =
 
     closed : (s : Slot) → is_open name s ≡ false → (not (is_nobody s.holders) ≡ true) × (s.name ≢ name)
     closed s is =
-        let parts = or_parts (is_nobody s.holders) (is_same s.name name) is in
-        (not_from_false (is_nobody s.holders) parts.0,
-        λ same. both_ways (is_same s.name name) parts.1 (ap (λ (n : LockName). is_same n name) same ∙ is_same-itself name))
+        let parts = or_parts (is_nobody s.holders) (is_same s.name name) is in (
+          not_from_false (is_nobody s.holders) parts.0,
+          λ same. both_ways (is_same s.name name) parts.1 (ap (λ (n : LockName). is_same n name) same ∙ is_same-itself name),
+        )
 
 -- a free slot would be open
 pub open_somewhere : (slots : List Slot) (name : LockName) → HasFree slots →
@@ -244,9 +246,11 @@ module _ (slots : List Slot) (probed : IsProbed slots) where
 
   pub HasFree-few : HasFewNames slots → HasFree slots
   HasFree-few few = elim (passes (λ (s : Slot). is_nobody s.holders) slots free_slot) [
-    | inl there ↦
-        (there.0, omega (arith, there.1, probed.as_many),
-        not_from_true (is_nobody (slot_at slots there.0).holders) there.2)
+    | inl there ↦ (
+      there.0,
+      omega (arith, there.1, probed.as_many),
+      not_from_true (is_nobody (slot_at slots there.0).holders) there.2,
+    )
     | inr none ↦
         let le = length-le_taken few.names
         (λ k lt. not_from_false (is_nobody (slot_at slots k).holders) (none k lt)) few.all

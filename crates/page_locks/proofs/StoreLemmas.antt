@@ -1,17 +1,16 @@
 -- What a table of slots is once a name was given holders.
 use Rattle.std.proofs.Common.{arith, ◌≡◌, ◌≢◌, ℕ, ◌<◌, true, false, List, ◌++◌, length, get_or, set, take, drop}
-use Rattle.std.proofs.Common.{refl, sym, ap, ◌∙◌, subst}
-use Rattle.std.proofs.lemmas.Bool.{cases_eq, both_ways, not_from_true, not_from_false}
+use Rattle.std.proofs.Common.{refl, sym, ap, ◌∙◌}
+use Rattle.std.proofs.lemmas.Bool.{both_ways, not_from_false}
 use Rattle.std.proofs.lemmas.List.{length-set}
 use Rattle.page_locks.specs.declared.holders.Holders.{Holders}
 use Rattle.page_locks.specs.declared.lock.LockName.{LockName}
 use Rattle.page_locks.specs.declared.slot.Slot.{Slot}
-use Rattle.page_locks.specs.declared.slot.TheConstants.{SLOTS}
-use Rattle.page_locks.specs.Holding.{nobody, is_nobody}
-use Rattle.page_locks.specs.Probing.{free_slot, slot_at, name_at, is_taken, holders_of}
+use Rattle.page_locks.specs.Holding.{is_nobody}
+use Rattle.page_locks.specs.Probing.{free_slot, slot_at, is_taken, holders_of}
 use Rattle.page_locks.specs.Probing.{IsProbed, IsOpened, IsSpot, HasFewNames, HasFreeBut, ChangesName}
 use Rattle.page_locks.proofs.HolderLemmas.{nobody-is}
-use Rattle.page_locks.proofs.ProbeLemmas.{taken_by, IsWritten, IsWritten-set, IsOpened-emptied, ChangesName-emptied}
+use Rattle.page_locks.proofs.ProbeLemmas.{taken_by, IsWritten-set, IsOpened-emptied, ChangesName-emptied}
 use Rattle.page_locks.proofs.SlotLemmas.{slot-read, written_back}
 use Rattle.page_locks.proofs.SpotLemmas.{spot-holders, IsProbed-put, ChangesName-put, HasFree-few}
 

@@ -1,7 +1,7 @@
 -- A table's rows and its slots say the same, and go on to after a change.
-use Rattle.std.proofs.Common.{arith, ◌≡◌, ◌≢◌, ◌⊎◌, ℕ, zero, suc, ◌-◌, ◌*◌, ◌<◌, ◌≤◌, Bool, true, false, ◌||◌}
+use Rattle.std.proofs.Common.{arith, ◌≡◌, ◌≢◌, ℕ, zero, suc, ◌-◌, ◌*◌, ◌<◌, ◌≤◌, true, false}
 use Rattle.std.proofs.Common.{List, [], ◌∷◌, ◌++◌, length, map, get_or, set, replicate, Option, Some, None, IsSome, refl, sym, ap, ◌∙◌, inl, inr, true≢false}
-use Rattle.std.specs.List.{flat_map, list_any, sum_by}
+use Rattle.std.specs.List.{flat_map, list_any}
 use Rattle.std.proofs.lemmas.Bool.{cases_eq, cases_Bool, or_left, or_right}
 use Rattle.std.proofs.Math.Numerals.{sub-one}
 use Rattle.std.proofs.lemmas.List.{get_or_default, length-map}
@@ -17,13 +17,13 @@ use Rattle.page_locks.specs.declared.row.TheConstants.{MAX_LOCKS}
 use Rattle.page_locks.specs.declared.lock_table.TheConstants.{MAX_SEATS}
 use Rattle.page_locks.specs.Holding.{nobody, is_nobody, kind_at, ChangesSeat}
 use Rattle.page_locks.specs.Locks.{is_against, is_on, is_same, kind_of, lock_of, without, converted}
-use Rattle.page_locks.specs.Probing.{home, holders_of, ChangesName, HasFewNames, HasHomesApart, IsWanted}
+use Rattle.page_locks.specs.Probing.{holders_of, ChangesName, HasFewNames, HasHomesApart, IsWanted}
 use Rattle.page_locks.specs.Table.{Table, IsSeat, row_of, with_row, held, with_lock, without_lock, with_kind, IsFree, IsLawful}
 use Rattle.page_locks.specs.Ties.{IsTied, AreHomesApart, IsHeldOrAsked}
 use Rattle.page_locks.specs.Writers.{ChangesOnly}
 use Rattle.page_locks.proofs.ChangeLemmas.{ChangesOnly-grant, ChangesOnly-release, ChangesOnly-convert, held-grant, held-release, held-convert}
 use Rattle.page_locks.proofs.HolderLemmas.{held_by, kind_at-nobody}
-use Rattle.page_locks.proofs.NameLemmas.{is_same-itself, is_same-true, is_same-false}
+use Rattle.page_locks.proofs.NameLemmas.{is_same-itself, is_same-true}
 use Rattle.page_locks.proofs.TableLemmas.{IsLawful-grant, IsLawful-release, IsLawful-convert, row_of-empty, IsLawful-empty}
 use Rattle.page_locks.proofs.WriterLemmas.{held-kept}
 

@@ -64,9 +64,18 @@ impl Holders {
         ensures { ChangesSeat seat (Some kind) self result }
     {
         match kind {
-            LockKind::Read => Holders { readers: self.readers | 1 << (seat - 1), ..self },
-            LockKind::Selective => Holders { selective: seat, ..self },
-            LockKind::Exclusive => Holders { exclusive: seat, ..self },
+            LockKind::Read => Holders {
+                readers: self.readers | 1 << (seat - 1),
+                ..self
+            },
+            LockKind::Selective => Holders {
+                selective: seat,
+                ..self
+            },
+            LockKind::Exclusive => Holders {
+                exclusive: seat,
+                ..self
+            },
         }
     }
 

@@ -12,12 +12,9 @@ mod row;
 mod slot;
 mod slots;
 
+pub use faults::NoMemory;
 pub use grant::{Attempt, Grant};
 pub use laws::{changes_are_local, names_differ};
 pub use lock::{Lock, LockKind, LockName};
 pub use lock_table::{LockTable, MAX_SEATS};
-pub use faults::NoMemory;
 pub use row::MAX_LOCKS;
-
-#[cfg(test)]
-mod tests;

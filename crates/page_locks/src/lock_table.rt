@@ -8,9 +8,9 @@ ghost use Rattle.page_locks.specs.Ties.{AreHomesApart};
 
 use crate::grant::{Attempt, Grant};
 use crate::lock::{Lock, LockKind, LockName};
-use faults::NoMemory;
 use crate::row::{MAX_LOCKS, Row};
 use crate::slots::Slots;
+use faults::NoMemory;
 use std::alloc::Global;
 use std::marker::Model;
 
@@ -113,7 +113,8 @@ impl LockTable {
                 looked: spot.looked,
             };
         }
-        self.slots.store(name, spot.place, spot.holders.with(seat, kind));
+        self.slots
+            .store(name, spot.place, spot.holders.with(seat, kind));
         self.rows[seat as usize - 1].push(Lock { name, kind });
         Attempt {
             grant: Grant::Granted,
@@ -133,7 +134,8 @@ impl LockTable {
         ensures { self.new ≡ without_lock self.old seat name }
     {
         let spot = self.slots.spot(name);
-        self.slots.store(name, spot.place, spot.holders.without(seat));
+        self.slots
+            .store(name, spot.place, spot.holders.without(seat));
         self.rows[seat as usize - 1].remove(name);
     }
 

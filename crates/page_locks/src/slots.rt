@@ -9,8 +9,8 @@ ghost use Rattle.page_locks.specs.Probing.{IsProbed, IsOpened, IsSpot, HasFewNam
 
 use crate::holders::Holders;
 use crate::lock::LockName;
-use faults::NoMemory;
 use crate::slot::{SLOTS, Slot, home, way};
+use faults::NoMemory;
 use std::alloc::Global;
 use std::marker::Model;
 

@@ -1,5 +1,5 @@
-use Rattle.std.proofs.Common.{arith, ◌≡◌, ◌<◌, length, refl, sym, ap, ◌∙◌}
-use Rattle.page_locks.specs.Probing.{after, home, gap, slot_at}
+use Rattle.std.proofs.Common.{arith, ◌<◌, length, refl, sym, ◌∙◌}
+use Rattle.page_locks.specs.Probing.{after}
 use Rattle.page_locks.proofs.CircleLemmas.{after-lt}
 use Rattle.page_locks.proofs.CloseLemmas.{Closes-empty, Closes-passed, Closes-moved}
 use Rattle.page_locks.proofs.SlotLemmas.{slot-read}

@@ -1,6 +1,6 @@
-use Rattle.std.proofs.Common.{arith, rules, ◌≡◌, ◌≢◌, ◌<◌, ◌-◌, ◌^◌, ap, sym, ◌∙◌}
+use Rattle.std.proofs.Common.{arith, rules, ◌<◌, ◌-◌, ◌^◌}
 use Rattle.std.proofs.Math.Nat.{add-sub_cancel}
-use Rattle.page_locks.proofs.HolderLemmas.{bit_at-cleared_other, nobody_else, first_else}
+use Rattle.page_locks.proofs.HolderLemmas.{nobody_else, first_else}
 use Rattle.page_locks.proofs.holders.Holders.other_reader.Goals as goal
 
 -- where no bit is left, none but the seat's was set

@@ -1,7 +1,7 @@
-use Rattle.std.proofs.Common.{arith, ◌≡◌, ◌+◌, ◌%◌, ℕ, List, refl, sym, ap, ◌∙◌, subst}
+use Rattle.std.proofs.Common.{arith, ◌≡◌, ◌+◌, ◌%◌, ℕ, List, sym, ap, ◌∙◌, subst}
 use Rattle.page_locks.specs.declared.slot.Slot.{Slot}
-use Rattle.page_locks.specs.Probing.{home, after, slot_at, holders_of, HasHomesApart, IsSpot}
-use Rattle.page_locks.proofs.CircleLemmas.{after-lt, gap-after}
+use Rattle.page_locks.specs.Probing.{home, after, slot_at, holders_of, HasHomesApart}
+use Rattle.page_locks.proofs.CircleLemmas.{gap-after}
 use Rattle.page_locks.proofs.ProbeLemmas.{home-lt}
 use Rattle.page_locks.proofs.SlotLemmas.{slot-read}
 use Rattle.page_locks.proofs.SpotLemmas.{HasFree-few, IsSpot-found, spot-holders, looked_once}

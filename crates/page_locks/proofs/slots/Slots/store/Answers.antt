@@ -1,6 +1,5 @@
-use Rattle.std.proofs.Common.{arith, rules, ◌≡◌, ◌<◌, false, true, length, set, refl, sym, ap, ◌∙◌}
+use Rattle.std.proofs.Common.{rules, ◌≡◌, false, true}
 use Rattle.page_locks.specs.Holding.{is_nobody}
-use Rattle.page_locks.specs.Probing.{free_slot, is_taken, ChangesName}
 use Rattle.page_locks.proofs.StoreLemmas.{IsProbed-stored, ChangesName-stored, ChangesName-nothing, IsOpened-freed, HasFreeBut-freed, ChangesName-freed}
 use Rattle.page_locks.proofs.slots.Slots.store.Goals as goal
 
