@@ -27,7 +27,8 @@ pub gap-on_way : (from mid to steps : ℕ) → from < SLOTS → to < SLOTS → a
 gap-on_way from mid to steps f t at lt = omega arith
 
 -- of two slots on a circle, one comes first
-pub gap-between : (a b to : ℕ) → a < SLOTS → b < SLOTS → to < SLOTS → gap b to < gap a to → gap a b + gap b to ≡ gap a to
+pub gap-between : (a b to : ℕ) → a < SLOTS → b < SLOTS → to < SLOTS → gap b to < gap a to →
+    gap a b + gap b to ≡ gap a to
 gap-between a b to p q r lt = omega arith
 
 -- how far apart two slots are that come after one

@@ -5,6 +5,7 @@ pub mod HolderLemmas
 pub mod NameLemmas
 pub mod ProbeLemmas
 pub mod RowLemmas
+pub mod SeatRowLemmas
 pub mod SlotLemmas
 pub mod SpotLemmas
 pub mod StoreLemmas

@@ -76,17 +76,18 @@ module _ (old new : List Slot) (place : ℕ) (written : IsWritten old new place 
   -- the name that stood there is held by nobody, and every other as it was
   pub ChangesName-emptied : IsProbed old → is_taken old place ≡ true → ChangesName (name_at old place) nobody old new
   ChangesName-emptied probed taken = record {
-    own = holders_of-none new (name_at old place) (λ k. elim (cases_Bool (has_name (name_at old place) (slot_at new k))) [
-      | inl has ↦
-          let parts = stands-parts new (name_at old place) k has in
-          let at_k = was k parts.0 in
-          let same : k ≡ place =
-          probed.once k place (sym (ap taken_by at_k) ∙ parts.0) taken
-          (sym (ap (λ (s : Slot). s.name) at_k) ∙ parts.1)
-          in
-          absurd (both_ways (is_taken new k) (ap (is_taken new) same ∙ emptied) parts.0)
-      | inr has_not ↦ has_not
-    ]);
+    own = holders_of-none new (name_at old place)
+        (λ k. elim (cases_Bool (has_name (name_at old place) (slot_at new k))) [
+          | inl has ↦
+              let parts = stands-parts new (name_at old place) k has in
+              let at_k = was k parts.0 in
+              let same : k ≡ place =
+              probed.once k place (sym (ap taken_by at_k) ∙ parts.0) taken
+              (sym (ap (λ (s : Slot). s.name) at_k) ∙ parts.1)
+              in
+              absurd (both_ways (is_taken new k) (ap (is_taken new) same ∙ emptied) parts.0)
+          | inr has_not ↦ has_not
+        ]);
     others = λ other apart. holders_of-alike old new other probed.once (once-emptied probed.once)
         (λ k has. (
           k,

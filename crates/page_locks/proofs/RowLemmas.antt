@@ -177,7 +177,8 @@ without-at (x ∷ xs) name (suc i) lt once on =
     once 0 (suc i) x (omega arith) lt (same ∙ sym (is_same-true (get_or xs i x).name name (on x))))
     in
     rw off (ap (λ (rest : List Lock). x ∷ rest)
-    (without-at xs name i (omega (arith, lt)) (λ a b d below b_lt. once (suc a) (suc b) d (omega (arith, below)) (omega (arith, b_lt))) on))
+    (without-at xs name i (omega (arith, lt))
+    (λ a b d below b_lt. once (suc a) (suc b) d (omega (arith, below)) (omega (arith, b_lt))) on))
 
 pub without-first : (xs : List Lock) (name : LockName) (i : ℕ) → HasNoNameTwice xs →
     position (is_on name) xs ≡ Some i → remove xs i ≡ without xs name

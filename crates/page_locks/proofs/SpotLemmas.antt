@@ -22,7 +22,8 @@ use Rattle.page_locks.proofs.ProbeLemmas.{home-lt, taken_by, IsWritten}
 use Rattle.page_locks.proofs.SlotLemmas.{HasNamesOnce, passes, within, stands, stands-parts, holders_of-at, holders_of-none, holders_of-alike}
 
 -- ---- the spot of a name
-module _ (slots : List Slot) (name : LockName) (place : ℕ) (probed : IsProbed slots) (spot : IsSpot slots name place) where
+module _ (slots : List Slot) (name : LockName) (place : ℕ) (probed : IsProbed slots)
+    (spot : IsSpot slots name place) where
   taken_lt : (k : ℕ) → is_taken slots k ≡ true → k < SLOTS
   taken_lt k taken = omega (arith, within slots k taken, probed.as_many)
 
@@ -164,7 +165,8 @@ IsSpot-found slots name steps lt passed open_here =
     closed s is =
         let parts = or_parts (is_nobody s.holders) (is_same s.name name) is in (
           not_from_false (is_nobody s.holders) parts.0,
-          λ same. both_ways (is_same s.name name) parts.1 (ap (λ (n : LockName). is_same n name) same ∙ is_same-itself name),
+          λ same.
+              both_ways (is_same s.name name) parts.1 (ap (λ (n : LockName). is_same n name) same ∙ is_same-itself name),
         )
 
 -- a free slot would be open
@@ -280,14 +282,14 @@ module _ (slots : List Slot) (probed : IsProbed slots) (free : HasFree slots) (n
         in
         let nearer = gap-between free.0 k place free.1 k_lt p_lt (before_free place p_lt taken) in
         let settled : way slots k ≡ 0 = at_home fuel k (omega (arith, nearer, few, some)) there in
-        let home_is : home (name_at slots k) ≡ k =
-        sym (after-none (home (name_at slots k)) (home-lt (name_at slots k))) ∙
-        ap (after (home (name_at slots k))) (sym settled) ∙ after-gap (home (name_at slots k)) k (home-lt (name_at slots k)) k_lt
+        let h = home (name_at slots k) in
+        let h_lt = home-lt (name_at slots k) in
+        let home_is : h ≡ k =
+        sym (after-none h h_lt) ∙ ap (after h) (sym settled) ∙ after-gap h k h_lt k_lt
         in
         let same = apart (name_at slots k) (name_at slots place) (wanted k there) (wanted place taken) home_is in
         let at : k ≡ place = probed.once k place there taken same in
-        let none : way slots place ≡ 0 = ap (λ (n : LockName). gap (home n) place) (sym same) ∙ ap (gap (home (name_at slots k))) (sym at) ∙ settled in
-        none
+        ap (λ (n : LockName). gap (home n) place) (sym same) ∙ ap (gap h) (sym at) ∙ settled
   ]
     where
       before_free : (p : ℕ) → p < SLOTS → is_taken slots p ≡ true → way slots p < gap free.0 p

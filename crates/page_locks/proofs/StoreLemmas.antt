@@ -14,7 +14,8 @@ use Rattle.page_locks.proofs.ProbeLemmas.{taken_by, IsWritten-set, IsOpened-empt
 use Rattle.page_locks.proofs.SlotLemmas.{slot-read, written_back}
 use Rattle.page_locks.proofs.SpotLemmas.{spot-holders, IsProbed-put, ChangesName-put, HasFree-few}
 
-module _ (slots : List Slot) (name : LockName) (place : ℕ) (probed : IsProbed slots) (spot : IsSpot slots name place) where
+module _ (slots : List Slot) (name : LockName) (place : ℕ) (probed : IsProbed slots)
+    (spot : IsSpot slots name place) where
   inside : place < length slots
   inside = omega (arith, spot.within, probed.as_many)
 
@@ -38,7 +39,8 @@ module _ (slots : List Slot) (name : LockName) (place : ℕ) (probed : IsProbed 
       IsOpened-emptied slots (set slots place free_slot) place (IsWritten-set slots place free_slot inside) probed
       spot.within
 
-  module _ (holders : Holders) (none : is_nobody holders ≡ true) (slot : Slot) (read : slot ≡ get_or slots place slot) where
+  module _ (holders : Holders) (none : is_nobody holders ≡ true) (slot : Slot)
+      (read : slot ≡ get_or slots place slot) where
     slot_is : slot ≡ slot_at slots place
     slot_is = slot-read slots place slot slot inside read
 
@@ -82,6 +84,8 @@ module _ (slots : List Slot) (name : LockName) (place : ℕ) (probed : IsProbed 
       let taken : is_taken slots place ≡ true =
       ap taken_by (sym (slot-read slots place slot slot inside read)) ∙ not_from_false (is_nobody slot.holders) some
       in
-      let apart : free.0 ≢ place = λ same. both_ways (is_taken slots place) (ap (is_taken slots) (sym same) ∙ free.2) taken in
+      let apart : free.0 ≢ place =
+      λ same. both_ways (is_taken slots place) (ap (is_taken slots) (sym same) ∙ free.2) taken
+      in
       let written = IsWritten-set slots place free_slot inside in
       (free.0, free.1, ap taken_by (written.others free.0 apart) ∙ free.2, apart)

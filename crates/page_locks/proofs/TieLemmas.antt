@@ -3,7 +3,6 @@ use Rattle.std.proofs.Common.{arith, ◌≡◌, ◌≢◌, ℕ, zero, suc, ◌-�
 use Rattle.std.proofs.Common.{List, [], ◌∷◌, ◌++◌, length, map, get_or, set, replicate, Option, Some, None, IsSome, refl, sym, ap, ◌∙◌, inl, inr, true≢false}
 use Rattle.std.specs.List.{flat_map, list_any}
 use Rattle.std.proofs.lemmas.Bool.{cases_eq, cases_Bool, or_left, or_right}
-use Rattle.std.proofs.Math.Numerals.{sub-one}
 use Rattle.std.proofs.lemmas.List.{get_or_default, length-map}
 use Rattle.std.proofs.lemmas.List.Concat.{length-flat_map}
 use Rattle.std.proofs.lemmas.List.Folds.{list_any-append}
@@ -124,7 +123,9 @@ module _ (slots : List Slot) (t : Table) (tied : IsTied slots t) where
             ap (λ (m : LockName). kind_at (holders_of new m) s) (sym same) ∙
             ap (λ (h : Holders). kind_at h s) stored.own ∙ same_name s ∙ ap (held t' s) same
         | inr not ↦
-            let apart : name ≢ n = λ same. true≢false (sym (ap (is_same name) (sym same) ∙ is_same-itself name) ∙ not) in
+            let apart : name ≢ n =
+            λ same. true≢false (sym (ap (is_same name) (sym same) ∙ is_same-itself name) ∙ not)
+            in
             ap (λ (h : Holders). kind_at h s) (stored.others n (λ e. apart (sym e))) ∙ tied.ties s n ∙
             sym (held-kept seat name t t' rows s n apart)
       ];
@@ -165,40 +166,3 @@ module _ (slots : List Slot) (t : Table) (tied : IsTied slots t) (seat : ℕ) (i
       (record { own = back.own; others = λ other apart. back.others other apart ∙ gone.others other apart })
       stored (with_kind t seat name kind) (ChangesOnly-convert t seat is name kind)
       (held-convert t seat is name kind old had) (IsLawful-convert t seat tied.lawful is name kind free)
-
--- a row as code writes it
-module _ (t : Table) (seat : ℕ) (is : IsSeat t seat) (row new : List Lock) (read : row ≡ get_or t (seat - 1) row) where
-  pub row_is : row ≡ row_of t seat
-  row_is = at seat is read
-    where
-      at : (s : ℕ) → IsSeat t s → row ≡ get_or t (s - 1) row → row ≡ row_of t s
-      at zero is_s read_s = absurd (omega (arith, is_s.0))
-      at (suc place) is_s read_s =
-          read_s ∙ ap (λ (k : ℕ). get_or t k row) (sub-one (suc place)) ∙
-          get_or_default t place row [] (omega (arith, is_s.1))
-
-  written : set t (seat - 1) new ≡ with_row t seat new
-  written = at seat is
-    where
-      at : (s : ℕ) → IsSeat t s → set t (s - 1) new ≡ with_row t s new
-      at zero is_s = absurd (omega (arith, is_s.0))
-      at (suc place) is_s = ap (λ (k : ℕ). set t k new) (sub-one (suc place))
-
-  pub row-granted : (name : LockName) (kind : LockKind) → new ≡ row ++ lock_of name kind ∷ [] →
-      set t (seat - 1) new ≡ with_lock t seat name kind
-  row-granted name kind new_is =
-      written ∙
-      ap (with_row t seat) (new_is ∙ ap (λ (locks : List Lock). locks ++ lock_of name kind ∷ []) row_is)
-
-  pub row-released : (name : LockName) → new ≡ without row name → set t (seat - 1) new ≡ without_lock t seat name
-  row-released name new_is =
-      written ∙ ap (with_row t seat) (new_is ∙ ap (λ (locks : List Lock). without locks name) row_is)
-
-  pub row-converted : (name : LockName) (kind : LockKind) → new ≡ converted row name kind →
-      set t (seat - 1) new ≡ with_kind t seat name kind
-  row-converted name kind new_is =
-      written ∙ ap (with_row t seat) (new_is ∙ ap (λ (locks : List Lock). converted locks name kind) row_is)
-
-pub some_kind : (o : Option LockKind) → IsSome o → (kind : LockKind) × (o ≡ Some kind)
-some_kind None is = absurd cc
-some_kind (Some kind) is = (kind, refl)

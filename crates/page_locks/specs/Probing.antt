@@ -46,6 +46,7 @@ way slots place = gap (home (name_at slots place)) place
 
 -- what is true of every table of slots
 pub record IsProbed (slots : List Slot) : Type 0 where
+  -- the circle has its size
   pub as_many : length slots ≡ SLOTS
   -- no name stands twice
   pub once : (i j : ℕ) → is_taken slots i ≡ true → is_taken slots j ≡ true →
@@ -57,11 +58,16 @@ pub record IsProbed (slots : List Slot) : Type 0 where
 
 -- a table in order, but that a slot has become empty over which later names had passed
 pub record IsOpened (slots : List Slot) (hole : ℕ) : Type 0 where
+  -- the circle has its size
   pub as_many : length slots ≡ SLOTS
+  -- the hole is one of its slots
   pub inside : hole < SLOTS
+  -- and no name stands there
   pub free : is_taken slots hole ≡ false
+  -- no name stands twice
   pub once : (i j : ℕ) → is_taken slots i ≡ true → is_taken slots j ≡ true →
       name_at slots i ≡ name_at slots j → i ≡ j
+  -- between a name's home and its slot the hole alone is empty
   pub reached : (place steps : ℕ) → place < SLOTS → is_taken slots place ≡ true →
       steps < way slots place →
       (after (home (name_at slots place)) steps ≡ hole) ⊎
@@ -95,17 +101,22 @@ holders_of slots name = holders_found (find (has_name name) slots)
 -- fewer names stand in the slots than there are slots
 pub record HasFewNames (slots : List Slot) : Type 0 where
   pub names : List LockName
+  -- the list is short
   pub few : length names < SLOTS
+  -- and has each name that is held
   pub all : (name : LockName) → is_nobody (holders_of slots name) ≡ false →
       list_any (is_same name) names ≡ true
 
 -- the slot where a name stands, else the first from its home on that has place
 pub record IsSpot (slots : List Slot) (name : LockName) (place : ℕ) : Type 0 where
+  -- it is one of the slots
   pub within : place < SLOTS
+  -- no other name stands there
   pub its : is_taken slots place ≡ true → name_at slots place ≡ name
-  -- other names stand before it
+  -- names stand in all slots from the home on to it
   pub taken : (steps : ℕ) → steps < gap (home name) place →
       is_taken slots (after (home name) steps) ≡ true
+  -- and this name in none of them
   pub others : (steps : ℕ) → steps < gap (home name) place →
       name_at slots (after (home name) steps) ≢ name
 

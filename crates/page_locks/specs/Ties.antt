@@ -8,6 +8,7 @@ use Rattle.page_locks.specs.Table.{Table, held, IsLawful}
 
 -- what is true of every table with its slots
 pub record IsTied (slots : List Slot) (t : Table) : Type 0 where
+  -- the rows keep the limits and go together
   pub lawful : IsLawful t
   -- a seat holds a name as the slots say
   pub ties : (seat : ℕ) (name : LockName) → kind_at (holders_of slots name) seat ≡ held t seat name

@@ -17,8 +17,8 @@ use std::marker::Model;
 /// The most seats of a table.
 pub const MAX_SEATS: u8 = 64;
 
-/// What each seat holds. Seats count from 1. Each seat has a row of the names that it holds, and each
-/// name that is held has a slot with its holders, so that one slot answers who stands in the way.
+/// What each seat holds. Seats count from 1. Each seat has a row of the names that it holds, and
+/// each name that is held a slot with its holders, so that one slot answers who stands in the way.
 #[derive(Debug, Drop)]
 pub struct LockTable {
     rows: Vec<Row>,
@@ -93,8 +93,8 @@ impl LockTable {
         self.attempt(seat, name, kind).grant
     }
 
-    /// `try_grant`, which also tells how many slots were looked at: one, where no two of the names that
-    /// are held or asked for have one home.
+    /// `try_grant`, which also tells how many slots were looked at: one, where no two of the names
+    /// that are held or asked for have one home.
     pub fn attempt(&mut self, seat: u8, name: LockName, kind: LockKind) -> Attempt
         requires seat { IsSeat self.old seat }
         requires room { length (row_of self.old seat) < MAX_LOCKS }

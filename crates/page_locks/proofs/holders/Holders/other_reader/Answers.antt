@@ -20,4 +20,5 @@ returns-clause-another c =
 pub returns-clause-reads : goal.returns-clause-reads
 returns-clause-reads c =
     let small : c.args.self.readers < 2 ^ 64 = search rules in
-    rw (add-sub_cancel _ 1) (first_else c.args.self.readers (c.args.seat - 1) small (omega arith) c.if-others-eq0.false).1
+    let first = first_else c.args.self.readers (c.args.seat - 1) small (omega arith) c.if-others-eq0.false in
+    rw (add-sub_cancel _ 1) first.1

@@ -3,7 +3,8 @@ use Rattle.page_locks.specs.Holding.{kind_at}
 use Rattle.page_locks.specs.Locks.{is_against}
 use Rattle.page_locks.specs.Table.{Table, with_lock}
 use Rattle.page_locks.specs.Ties.{AreHomesApart}
-use Rattle.page_locks.proofs.TieLemmas.{HasFewNames-tied, HasHomesApart-tied, IsFree-holders, IsTied-grant, row_is, row-granted}
+use Rattle.page_locks.proofs.SeatRowLemmas.{row_is, row-granted}
+use Rattle.page_locks.proofs.TieLemmas.{HasFewNames-tied, HasHomesApart-tied, IsFree-holders, IsTied-grant}
 use Rattle.page_locks.proofs.lock_table.LockTable.attempt.Goals as goal
 
 -- half of the slots are free

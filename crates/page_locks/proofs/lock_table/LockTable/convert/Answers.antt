@@ -2,7 +2,8 @@ use Rattle.std.proofs.Common.{rules, ◌≡◌, ◌≢◌, ℕ, false, ap, ◌�
 use Rattle.page_locks.specs.Holding.{kind_at}
 use Rattle.page_locks.specs.Locks.{is_against}
 use Rattle.page_locks.specs.Table.{Table, held, with_kind}
-use Rattle.page_locks.proofs.TieLemmas.{HasFewNames-tied, IsFree-holders, IsTied-convert, row-converted, some_kind}
+use Rattle.page_locks.proofs.SeatRowLemmas.{row-converted, some_kind}
+use Rattle.page_locks.proofs.TieLemmas.{HasFewNames-tied, IsFree-holders, IsTied-convert}
 use Rattle.page_locks.proofs.lock_table.LockTable.convert.Goals as goal
 
 -- half of the slots are free

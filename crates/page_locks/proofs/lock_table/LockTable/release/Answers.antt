@@ -1,6 +1,7 @@
 use Rattle.std.proofs.Common.{[], ap, ◌∙◌}
 use Rattle.page_locks.specs.Table.{Table, without_lock}
-use Rattle.page_locks.proofs.TieLemmas.{HasFewNames-tied, IsTied-release, row_is, row-released}
+use Rattle.page_locks.proofs.SeatRowLemmas.{row_is, row-released}
+use Rattle.page_locks.proofs.TieLemmas.{HasFewNames-tied, IsTied-release}
 use Rattle.page_locks.proofs.TableLemmas.{names_once}
 use Rattle.page_locks.proofs.lock_table.LockTable.release.Goals as goal
 

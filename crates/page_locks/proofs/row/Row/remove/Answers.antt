@@ -26,4 +26,5 @@ returns-in_default c =
     let at : position (is_on name) xs ≡ None =
     ap (position (is_on name)) (sym c.as_slice.ensures.value) ∙ sym c.place_of.ensures ∙ none
     in
-    sym (ap (λ (locks : List Lock). without locks name) (sym c.self.view_is) ∙ without-absent xs name at ∙ c.self.view_is)
+    sym (ap (λ (locks : List Lock). without locks name) (sym c.self.view_is) ∙ without-absent xs name at ∙
+    c.self.view_is)

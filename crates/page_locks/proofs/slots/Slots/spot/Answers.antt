@@ -41,7 +41,6 @@ returns-clause-once c = λ apart.
     let spot = IsSpot-found slots name steps end.within end.passed end.open in
     let few = rw (← c.self.view_is) at c.requires.few in
     let there = subst (λ (t : List Slot). HasHomesApart t name) (sym c.self.view_is) apart in
-    let none =
-    looked_once slots c.self.invariant (HasFree-few slots c.self.invariant few) name there (after (home name) steps) spot
-    in
+    let free = HasFree-few slots c.self.invariant few in
+    let none = looked_once slots c.self.invariant free name there (after (home name) steps) spot in
     omega (arith, none, gap-after (home name) steps (home-lt name) end.within)
