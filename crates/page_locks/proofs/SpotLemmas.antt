@@ -166,7 +166,8 @@ IsSpot-found slots name steps lt passed open_here =
         let parts = or_parts (is_nobody s.holders) (is_same s.name name) is in (
           not_from_false (is_nobody s.holders) parts.0,
           λ same.
-              both_ways (is_same s.name name) parts.1 (ap (λ (n : LockName). is_same n name) same ∙ is_same-itself name),
+              both_ways (is_same s.name name) parts.1
+              (ap (λ (n : LockName). is_same n name) same ∙ is_same-itself name),
         )
 
 -- a free slot would be open

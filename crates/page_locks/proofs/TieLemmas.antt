@@ -1,9 +1,9 @@
 -- A table's rows and its slots say the same, and go on to after a change.
-use Rattle.std.proofs.Common.{arith, ◌≡◌, ◌≢◌, ℕ, zero, suc, ◌-◌, ◌*◌, ◌<◌, ◌≤◌, true, false}
-use Rattle.std.proofs.Common.{List, [], ◌∷◌, ◌++◌, length, map, get_or, set, replicate, Option, Some, None, IsSome, refl, sym, ap, ◌∙◌, inl, inr, true≢false}
+use Rattle.std.proofs.Common.{arith, ◌≡◌, ◌≢◌, ℕ, zero, suc, ◌*◌, ◌<◌, ◌≤◌, true, false}
+use Rattle.std.proofs.Common.{List, [], ◌∷◌, length, map, get_or, replicate, Option, Some, None, refl, sym, ap, ◌∙◌, inl, inr, true≢false}
 use Rattle.std.specs.List.{flat_map, list_any}
 use Rattle.std.proofs.lemmas.Bool.{cases_eq, cases_Bool, or_left, or_right}
-use Rattle.std.proofs.lemmas.List.{get_or_default, length-map}
+use Rattle.std.proofs.lemmas.List.{length-map}
 use Rattle.std.proofs.lemmas.List.Concat.{length-flat_map}
 use Rattle.std.proofs.lemmas.List.Folds.{list_any-append}
 use Rattle.std.proofs.lemmas.List.Sums.{sum_by-le}
@@ -15,15 +15,15 @@ use Rattle.page_locks.specs.declared.slot.Slot.{Slot}
 use Rattle.page_locks.specs.declared.row.TheConstants.{MAX_LOCKS}
 use Rattle.page_locks.specs.declared.lock_table.TheConstants.{MAX_SEATS}
 use Rattle.page_locks.specs.Holding.{nobody, is_nobody, kind_at, ChangesSeat}
-use Rattle.page_locks.specs.Locks.{is_against, is_on, is_same, kind_of, lock_of, without, converted}
+use Rattle.page_locks.specs.Locks.{is_against, is_on, is_same, kind_of, without}
 use Rattle.page_locks.specs.Probing.{holders_of, ChangesName, HasFewNames, HasHomesApart, IsWanted}
-use Rattle.page_locks.specs.Table.{Table, IsSeat, row_of, with_row, held, with_lock, without_lock, with_kind, IsFree, IsLawful}
-use Rattle.page_locks.specs.Ties.{IsTied, AreHomesApart, IsHeldOrAsked}
+use Rattle.page_locks.specs.Table.{Table, IsSeat, row_of, held, with_lock, without_lock, with_kind, IsFree, IsLawful}
+use Rattle.page_locks.specs.Ties.{IsTied, IsSound, AreHomesApart, IsHeldOrAsked}
 use Rattle.page_locks.specs.Writers.{ChangesOnly}
 use Rattle.page_locks.proofs.ChangeLemmas.{ChangesOnly-grant, ChangesOnly-release, ChangesOnly-convert, held-grant, held-release, held-convert}
 use Rattle.page_locks.proofs.HolderLemmas.{held_by, kind_at-nobody}
 use Rattle.page_locks.proofs.NameLemmas.{is_same-itself, is_same-true}
-use Rattle.page_locks.proofs.TableLemmas.{IsLawful-grant, IsLawful-release, IsLawful-convert, row_of-empty, IsLawful-empty}
+use Rattle.page_locks.proofs.TableLemmas.{IsLawful-grant, IsLawful-release, IsLawful-convert, row_of-empty, row_of-same, row_of-other, IsLawful-empty}
 use Rattle.page_locks.proofs.WriterLemmas.{held-kept}
 
 -- the names that a row has, and those of all rows
@@ -166,3 +166,37 @@ module _ (slots : List Slot) (t : Table) (tied : IsTied slots t) (seat : ℕ) (i
       (record { own = back.own; others = λ other apart. back.others other apart ∙ gone.others other apart })
       stored (with_kind t seat name kind) (ChangesOnly-convert t seat is name kind)
       (held-convert t seat is name kind old had) (IsLawful-convert t seat tied.lawful is name kind free)
+
+-- what was looked at stays with a table that is tied
+pub IsSound-looked : {slots : List Slot} {t : Table} → IsTied slots t → (looked : ℕ) → 1 ≤ looked →
+    IsSound slots t looked
+IsSound-looked tied looked some = record { tied = tied; begun = λ none. absurd (omega (arith, some, none)) }
+
+module _ (slots : List Slot) (t : Table) (looked : ℕ) (sound : IsSound slots t looked) (seat : ℕ) where
+  pub IsSound-release : IsSeat t seat → (name : LockName) → {new : List Slot} → IsTied new (without_lock t seat name) →
+      IsSound new (without_lock t seat name) looked
+  IsSound-release is name tied = record {
+    tied = tied;
+    begun = λ none other. elim (cases_eq other seat) [
+      | inl same ↦
+          ap (row_of (without_lock t seat name)) same ∙ row_of-same t seat (without (row_of t seat) name) is ∙
+          ap (λ (locks : List Lock). without locks name) (sound.begun none seat)
+      | inr apart ↦ row_of-other t seat other (without (row_of t seat) name) apart ∙ sound.begun none other
+    ];
+  }
+
+  pub IsSound-convert : (name : LockName) (kind old : LockKind) → held t seat name ≡ Some old → {new : List Slot} →
+      IsTied new (with_kind t seat name kind) → IsSound new (with_kind t seat name kind) looked
+  IsSound-convert name kind old had tied = record {
+    tied = tied;
+    begun = λ none.
+        let empty : held t seat name ≡ None = ap (λ (locks : List Lock). kind_of locks name) (sound.begun none seat) in
+        absurd cc;
+  }
+
+pub IsSound-empty : (slots : List Slot) (seats looked : ℕ) → 1 ≤ seats → seats ≤ MAX_SEATS →
+    ((name : LockName) → holders_of slots name ≡ nobody) → IsSound slots (replicate seats []) looked
+IsSound-empty slots seats looked some few none = record {
+  tied = IsTied-empty slots seats some few none;
+  begun = λ first seat. row_of-empty seats seat;
+}

@@ -4,7 +4,7 @@ ghost use Rattle.std.specs.Prelude.{◌≡◌, ◌<◌, ◌≤◌, ◌↔◌, []
 ghost use Rattle.page_locks.specs.Grants.{OnGranted, IfBlocked, IsBlocked};
 ghost use Rattle.page_locks.specs.Table.{row_of, held, with_lock, without_lock, with_kind};
 ghost use Rattle.page_locks.specs.Table.{IsSeat, Opposes, IsOpposed, IsLawful, IsPairwiseCompatible};
-ghost use Rattle.page_locks.specs.Ties.{AreHomesApart};
+ghost use Rattle.page_locks.specs.Ties.{AreHomesApart, IsUnheld};
 
 use crate::grant::{Attempt, Grant};
 use crate::lock::{Lock, LockKind, LockName};
@@ -28,13 +28,13 @@ pub struct LockTable {
 
 impl Model for LockTable {
     ghost use Rattle.page_locks.specs.Table.{Table};
-    ghost use Rattle.page_locks.specs.Ties.{IsTied};
+    ghost use Rattle.page_locks.specs.Ties.{IsSound};
 
     ghost Value = { Table };
 
     ghost view = { λ t. t.rows.items };
 
-    ghost invariant = { λ t. IsTied t.slots t.rows.items };
+    ghost invariant = { λ t. IsSound t.slots t.rows.items t.looked };
 }
 
 impl LockTable {
@@ -104,6 +104,7 @@ impl LockTable {
         ensures blocked { IfBlocked result.grant (Opposes self.old seat name kind) }
         ensures same { IfBlocked result.grant (λ _. self.new ≡ self.old) }
         ensures once { AreHomesApart self.old name → result.looked ≡ 1 }
+        ensures within { 1 ≤ result.looked }
     {
         let spot = self.slots.spot(name);
         self.looked = spot.looked;
@@ -124,7 +125,9 @@ impl LockTable {
 
     /// How many slots the last `try_grant` or `attempt` looked at, from the name's home to where it
     /// stood or was put, both counted; 0 before the first.
-    pub fn looked(&self) -> usize {
+    pub fn looked(&self) -> usize
+        ensures begun { result ≡ 0 → IsUnheld self.now }
+    {
         self.looked
     }
 

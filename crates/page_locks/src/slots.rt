@@ -1,7 +1,7 @@
 //! The slots: a table of names by linear probing. It is a circle, and a name that is taken out
 //! leaves no hole (Knuth, The Art of Computer Programming, volume 3, section 6.4, algorithm R).
 
-ghost use Rattle.std.specs.Prelude.{◌≡◌, ◌<◌, ℕ, true, false, length, IfOk};
+ghost use Rattle.std.specs.Prelude.{◌≡◌, ◌<◌, ◌≤◌, ℕ, true, false, length, IfOk};
 ghost use Rattle.page_locks.specs.Holding.{nobody};
 ghost use Rattle.page_locks.specs.declared.lock.LockName.{LockName};
 ghost use Rattle.page_locks.specs.Probing.{home, after, slot_at, is_open, holders_of};
@@ -58,6 +58,7 @@ impl Slots {
         ensures spot { IsSpot self.now name result.place }
         ensures holders { result.holders ≡ holders_of self.now name }
         ensures once { HasHomesApart self.now name → result.looked ≡ 1 }
+        ensures within { 1 ≤ result.looked }
     {
         let steps = steps_to(&self.slots, name);
         let place = (home(name) + steps) % SLOTS;

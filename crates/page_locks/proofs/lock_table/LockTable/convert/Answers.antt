@@ -3,15 +3,16 @@ use Rattle.page_locks.specs.Holding.{kind_at}
 use Rattle.page_locks.specs.Locks.{is_against}
 use Rattle.page_locks.specs.Table.{Table, held, with_kind}
 use Rattle.page_locks.proofs.SeatRowLemmas.{row-converted, some_kind}
-use Rattle.page_locks.proofs.TieLemmas.{HasFewNames-tied, IsFree-holders, IsTied-convert}
+use Rattle.page_locks.proofs.TieLemmas.{IsSound-convert, HasFewNames-tied, IsFree-holders, IsTied-convert}
 use Rattle.page_locks.proofs.lock_table.LockTable.convert.Goals as goal
 
 -- half of the slots are free
 pub spot-spot-requires : goal.spot-spot-requires
-spot-spot-requires c = record { few = HasFewNames-tied c.self.inside.slots c.self.inside.rows.items c.self.invariant }
+spot-spot-requires c =
+    record { few = HasFewNames-tied c.self.inside.slots c.self.inside.rows.items c.self.invariant.tied }
 
 pub store-requires-clause-few : goal.store-requires-clause-few
-store-requires-clause-few c = HasFewNames-tied c.self.inside.slots c.self.inside.rows.items c.self.invariant
+store-requires-clause-few c = HasFewNames-tied c.self.inside.slots c.self.inside.rows.items c.self.invariant.tied
 
 -- the row that is written is the seat's
 pub returns-clause-ok : goal.returns-clause-ok
@@ -34,10 +35,12 @@ invariant_of-self c =
     in
     let its = c.spot-spot.ensures.holders in
     let free =
-    IsFree-holders c.self.inside.slots t c.self.invariant seat c.args.name holders its c.args.kind nobody_else
+    IsFree-holders c.self.inside.slots t c.self.invariant.tied seat c.args.name holders its c.args.kind nobody_else
     in
     let old = some_kind (held t seat c.args.name) had in
     rw (row-converted t seat is _ _ c.index_mut.ensures.value c.args.name c.args.kind c.convert.ensures)
-    (IsTied-convert c.self.inside.slots t c.self.invariant seat is c.args.name holders its c.with-holders.result
+    (IsSound-convert c.self.inside.slots t c.self.inside.looked c.self.invariant seat c.args.name c.args.kind old.0
+    old.1
+    (IsTied-convert c.self.inside.slots t c.self.invariant.tied seat is c.args.name holders its c.with-holders.result
     c.store.new.self c.store.ensures c.args.kind old.0 old.1 free c.without.result c.without.ensures
-    c.with-holders.ensures)
+    c.with-holders.ensures))

@@ -1,16 +1,17 @@
 use Rattle.std.proofs.Common.{[], ap, ◌∙◌}
 use Rattle.page_locks.specs.Table.{Table, without_lock}
 use Rattle.page_locks.proofs.SeatRowLemmas.{row_is, row-released}
-use Rattle.page_locks.proofs.TieLemmas.{HasFewNames-tied, IsTied-release}
+use Rattle.page_locks.proofs.TieLemmas.{IsSound-release, HasFewNames-tied, IsTied-release}
 use Rattle.page_locks.proofs.TableLemmas.{names_once}
 use Rattle.page_locks.proofs.lock_table.LockTable.release.Goals as goal
 
 -- half of the slots are free
 pub spot-spot-requires : goal.spot-spot-requires
-spot-spot-requires c = record { few = HasFewNames-tied c.self.inside.slots c.self.inside.rows.items c.self.invariant }
+spot-spot-requires c =
+    record { few = HasFewNames-tied c.self.inside.slots c.self.inside.rows.items c.self.invariant.tied }
 
 pub store-requires-clause-few : goal.store-requires-clause-few
-store-requires-clause-few c = HasFewNames-tied c.self.inside.slots c.self.inside.rows.items c.self.invariant
+store-requires-clause-few c = HasFewNames-tied c.self.inside.slots c.self.inside.rows.items c.self.invariant.tied
 
 -- the row that is written is the seat's
 pub returns : goal.returns
@@ -26,12 +27,13 @@ invariant_of-self c =
     let seat = c.args.seat in
     let is = rw (← c.self.view_is) at c.requires.seat in
     rw (row-released t seat is _ _ c.index_mut.ensures.value c.args.name c.remove.ensures)
-    (IsTied-release c.self.inside.slots t c.self.invariant seat is c.args.name c.spot-spot.result.holders
-    c.spot-spot.ensures.holders c.without.result c.store.new.self c.store.ensures c.without.ensures)
+    (IsSound-release c.self.inside.slots t c.self.inside.looked c.self.invariant seat is c.args.name
+    (IsTied-release c.self.inside.slots t c.self.invariant.tied seat is c.args.name c.spot-spot.result.holders
+    c.spot-spot.ensures.holders c.without.result c.store.new.self c.store.ensures c.without.ensures))
 
 -- a row has no name twice
 pub remove-requires : goal.remove-requires
 remove-requires c =
     let is = rw (← c.self.view_is) at c.requires.seat in
     let row = row_is c.self.inside.rows.items c.args.seat is _ [] c.index_mut.ensures.value in
-    rw row (record { once = names_once c.self.inside.rows.items c.args.seat c.self.invariant.lawful })
+    rw row (record { once = names_once c.self.inside.rows.items c.args.seat c.self.invariant.tied.lawful })
