@@ -1,2 +1,5 @@
 pub mod StoreLemmas
 pub mod ReadLemmas
+pub mod WriteLemmas
+pub mod RecordLemmas
+pub mod HeaderLemmas

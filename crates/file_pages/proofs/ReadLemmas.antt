@@ -1,18 +1,18 @@
 -- A page that is pinned, read and given back: what the pool is then, and why it was not pinned.
 use Rattle.std.proofs.Common.{◌≡◌, refl, ◌∙◌, sym, ap, subst, ℕ, zero, suc, ◌+◌, ◌-◌, ◌<◌, ◌≤◌, List, [], ◌∷◌, Bool, true, false, IsTrue, Option, Some, None}
 use Rattle.std.proofs.Common.{length, arith, slice_get, slice_index_or, slice_set, Result, Ok, Err, IsErrOf, IfErr, IfOk, ◌⊎◌, inl, inr}
-use Rattle.std.proofs.lemmas.Option.{get_or_from_slice_get}
+use Rattle.std.proofs.lemmas.Option.{get_or_from_slice_get, slice_get_within}
 use Rattle.page_device.specs.declared.fault.DeviceFault.{DeviceFault}
 use Rattle.page_device.specs.declared.fault.DeviceFault.TheVariants as device
 use Rattle.page_device.specs.Device.{HasRisen}
 use Rattle.page_device.specs.Sealed.{IsSealed}
 use Rattle.buffer_pool.specs.declared.fault.PoolFault.{PoolFault}
 use Rattle.buffer_pool.specs.declared.fault.PoolFault.TheVariants.{Device, Malformed, TooFewFrames, NoMemory}
-use Rattle.buffer_pool.specs.Pool.{PoolState, KeepsImages, KeepsSeals, PoolHasCause, MayNotPin, IsCrowded, IsAtRest, pins_at}
+use Rattle.buffer_pool.specs.Pool.{PoolState, KeepsSeals, MayNotPin, IsCrowded, pins_at}
 use Rattle.buffer_pool.proofs.ImagesLemmas.{count_none, rest_again}
 use Rattle.bucket_page.specs.declared.page.PageKind.TheVariants as kinds
 use Rattle.bucket_page.specs.Reading.{bucket_at, entries_at, page_at as page_in}
-use Rattle.directory.specs.declared.layout.TheConstants.{DIRECTORY_PAGES}
+use Rattle.directory.specs.declared.layout.TheConstants.{DIRECTORY_PAGES, ROOT_PAGE}
 use Rattle.page_forms.specs.Forms.{IsWell}
 use Rattle.page_forms.proofs.FormLemmas.{page_is, page_well}
 use Rattle.bucket_page.specs.declared.page.PageKind.{PageKind}
@@ -20,11 +20,13 @@ use Rattle.bucket_page.specs.Bucket.{Bucket}
 use Rattle.bucket_page.specs.Changes.{IsBucketPage}
 use Rattle.bucket_page.specs.Spelling.{Spells}
 use Rattle.bucket_page.proofs.PageLaws.{bucket_again}
-use Rattle.hash_file.specs.Store.{bucket_of, is_bucket}
+use Rattle.hash_file.specs.Store.{bucket_of, is_bucket, page_at}
 use Rattle.file_pages.specs.declared.fault.FileFault.{FileFault}
 use Rattle.file_pages.specs.declared.sight.BucketSight.{BucketSight}
 use Rattle.std.proofs.lemmas.Bool.{cases_lt}
-use Rattle.file_pages.specs.Files.{image, IsFile, IsFilePool, IsReady}
+use Rattle.file_pages.specs.Files.{store_of, image, IsFile, IsFilePool, IsReady}
+use Rattle.file_pages.specs.Pinning.{IsPinned}
+use Rattle.file_pages.proofs.StoreLemmas.{page_is as stored_page_is}
 use Rattle.file_pages.specs.Reads.{IsSeen, OnlyReads, sight_of}
 
 -- the seals of a file stay, where those of its pool do
@@ -35,27 +37,35 @@ file_kept s t same seals f = record {
 }
 
 -- the pool after a page was pinned and given back
-pub only_reads : (ok : Bool) (s t : PoolState) (page frame : ℕ) → IsReady s →
-    t.pins ≡ slice_set s.pins page (pins_at s page + 1) → frame ≡ page → pins_at t page ≡ pins_at s page + 1 →
-    KeepsImages true s t → (u : PoolState) → u ≡ record t { pins = slice_set t.pins frame (pins_at t frame - 1) } →
-    OnlyReads ok s u
-only_reads ok s t page frame ready pinned same once keeps u is = subst (OnlyReads ok s) (sym is) (record {
+pub only_reads : (ok : Bool) (s t u : PoolState) (page right : ℕ) → IsReady s → IsPinned page s t right
+    → u ≡ record t { pins = slice_set t.pins right (pins_at t right - 1) } → OnlyReads ok s u
+only_reads ok s t u page right ready pinned is = subst (OnlyReads ok s) (sym is) (record {
   ready = record {
-    rest = λ k. rest_again s t page frame ready.rest pinned same once k;
-    frames = omega (arith, ready.frames, keeps.frames);
+    rest = λ k. rest_again s t page right ready.rest pinned.pins pinned.right_is pinned.once k;
+    frames = omega (arith, ready.frames, pinned.keeps.frames);
   };
-  honest = keeps.honest;
-  images = keeps.images;
-  file = λ honest done f. file_kept s (record t { pins = slice_set t.pins frame (pins_at t frame - 1) })
-      (keeps.images honest) (keeps.seals honest refl) f;
+  honest = pinned.keeps.honest;
+  later = pinned.later;
+  images = pinned.keeps.images;
+  file = λ honest done f. file_kept s (record t { pins = slice_set t.pins right (pins_at t right - 1) })
+      (pinned.keeps.images honest) (pinned.keeps.seals honest refl) f;
 })
 
--- the image of the page was that of the pool before
-pub image_was : (s t : PoolState) (page frame : ℕ) (payload : List ℕ) → IsTrue s.honest → KeepsImages true s t →
-    frame ≡ page → slice_get t.images frame ≡ Some payload → image s.images page ≡ payload
-image_was s t page frame payload honest keeps same is =
-    ap (λ (xs : List (List ℕ)). image xs page) (sym (keeps.images honest))
-    ∙ ap (image t.images) (sym same) ∙ get_or_from_slice_get t.images frame payload [] is
+-- what is known of a page that is pinned
+module _ (s t : PoolState) (page right : ℕ) (payload : List ℕ) (pinned : IsPinned page s t right)
+    (is : slice_get t.images right ≡ Some payload) where
+  -- its image was that of the pool before
+  pub image_was : IsTrue s.honest → image s.images page ≡ payload
+  image_was honest =
+      ap (λ (xs : List (List ℕ)). image xs page) (sym (pinned.keeps.images honest))
+      ∙ ap (image t.images) (sym pinned.right_is) ∙ get_or_from_slice_get t.images right payload [] is
+
+  pub page_there : page < length s.images
+  page_there = omega (arith, slice_get_within t.images right payload is, pinned.keeps.as_many, pinned.right_is)
+
+  -- and what it says is what the file has there
+  pub page_was : IsTrue s.honest → ROOT_PAGE ≤ page → page_at (store_of s.images) page ≡ page_in payload
+  page_was honest behind = stored_page_is s.images page behind page_there ∙ ap page_in (image_was honest)
 
 -- each page of a file is well formed
 pub is_well : (images : List (List ℕ)) → IsFile images → (page : ℕ) → page < length images → IsWell (image images page)
@@ -106,3 +116,20 @@ seen (Ok sight) bytes it says =
     let is = page_is (kinds.Bucket (bucket_at bytes)) bytes it in
     record { bucket = ap is_bucket is; says = says ∙ ap (λ (p : PageKind). sight_of (bucket_of p)) (sym is) }
 seen (Err fault) bytes it says = tt
+
+-- ---- one step behind another
+
+-- a count that rose later rose
+pub risen_after : {old mid new : ℕ} → old ≤ mid → HasRisen mid new → HasRisen old new
+risen_after before (inl more) = inl (omega (arith, before, more))
+risen_after before (inr most) = inr most
+
+-- two reads are one
+pub reads_on : (ok : Bool) (s t u : PoolState) → OnlyReads true s t → OnlyReads ok t u → OnlyReads ok s u
+reads_on ok s t u first next = record {
+  ready = next.ready;
+  honest = next.honest ∙ first.honest;
+  later = omega (arith, first.later, next.later);
+  images = λ honest. next.images (first.honest ∙ honest) ∙ first.images honest;
+  file = λ honest done f. next.file (first.honest ∙ honest) done (first.file honest refl f);
+}

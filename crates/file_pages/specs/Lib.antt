@@ -1,3 +1,6 @@
 pub mod Fault
 pub mod Files
+pub mod Headers
+pub mod Pinning
 pub mod Reads
+pub mod Writes

@@ -1,5 +1,5 @@
 -- What a read of a file's page leaves, and what it says.
-use Rattle.std.specs.Prelude.{◌≡◌, ℕ, ◌<◌, List, Bool, true, IsTrue, Option, Some, None, length, ⊤}
+use Rattle.std.specs.Prelude.{◌≡◌, ℕ, ◌≤◌, Bool, true, IsTrue, Option, Some, None, length, ⊤}
 use Rattle.std.specs.Option.{option_map}
 use Rattle.buffer_pool.specs.Pool.{PoolState}
 use Rattle.bucket_page.specs.declared.record_key.RecordKey.{RecordKey}
@@ -14,10 +14,11 @@ use Rattle.file_pages.specs.declared.sight.BucketSight.{BucketSight}
 use Rattle.file_pages.specs.declared.sight.Sight.{Sight}
 use Rattle.file_pages.specs.declared.sight.Sight.TheVariants.{Covering, Naming}
 
--- nothing but frames has changed
+-- nothing but frames has changed, and the count of faults has not fallen
 pub record OnlyReads (succeeded : Bool) (old new : PoolState) : Type 0 where
   pub ready : IsReady new
   pub honest : new.honest ≡ old.honest
+  pub later : old.faults ≤ new.faults
   pub images : IsTrue old.honest → new.images ≡ old.images
   pub file : IsTrue old.honest → IsTrue succeeded → IsFilePool old → IsFilePool new
 

@@ -10,6 +10,7 @@ ghost use Rattle.file_pages.specs.Files.{IsReady, IsFilePool, store_of};
 ghost use Rattle.file_pages.specs.Reads.{OnlyReads, IsOnWay, IsSeen, IsSight};
 
 use crate::fault::FileFault;
+use crate::pinning::pin;
 use crate::sight::{BucketSight, Sight, see, see_bucket};
 use bucket_page::RecordKey;
 use buffer_pool::Pool;
@@ -27,10 +28,7 @@ pub fn read_depth<D: PageDevice>(pool: &mut Pool<D>) -> Result<u8, FileFault>
     ensures fault { IsTrue pool.old.honest → IsFilePool pool.old → IsErr result →
         HasRisen pool.old.faults pool.new.faults }
 {
-    let frame = match pool.pin(0) {
-        Ok(frame) => frame,
-        Err(fault) => return Err(FileFault::Pool(fault)),
-    };
+    let frame = pin(pool, 0)?;
     let depth = depth_of(pool.image(&frame));
     pool.unpin(frame);
     depth
@@ -58,10 +56,7 @@ pub fn read_entry<D: PageDevice>(pool: &mut Pool<D>, index: u32) -> Result<u32, 
     ensures fault { IsTrue pool.old.honest → IsFilePool pool.old → IsErr result →
         HasRisen pool.old.faults pool.new.faults }
 {
-    let frame = match pool.pin(page_of(index)) {
-        Ok(frame) => frame,
-        Err(fault) => return Err(FileFault::Pool(fault)),
-    };
+    let frame = pin(pool, page_of(index))?;
     let page = entry(pool.image(&frame).payload(), slot_of(index));
     pool.unpin(frame);
     Ok(page)
@@ -87,10 +82,7 @@ pub fn look<D: PageDevice>(
     if page < ROOT_PAGE {
         return Err(FileFault::Failed);
     }
-    let frame = match pool.pin(page) {
-        Ok(frame) => frame,
-        Err(fault) => return Err(FileFault::Pool(fault)),
-    };
+    let frame = pin(pool, page)?;
     let sight = see(pool.image(&frame), pseudokey, key);
     pool.unpin(frame);
     sight
@@ -110,10 +102,7 @@ pub fn read_bucket<D: PageDevice>(pool: &mut Pool<D>, page: u32) -> Result<Bucke
     if page < ROOT_PAGE {
         return Err(FileFault::Failed);
     }
-    let frame = match pool.pin(page) {
-        Ok(frame) => frame,
-        Err(fault) => return Err(FileFault::Pool(fault)),
-    };
+    let frame = pin(pool, page)?;
     let sight = see_bucket(pool.image(&frame));
     pool.unpin(frame);
     sight

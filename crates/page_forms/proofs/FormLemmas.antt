@@ -1,9 +1,12 @@
 -- What spells a page spells the one that is read from it.
-use Rattle.std.proofs.Common.{◌≡◌, ◌↔◌, refl, sym, ap, subst, ℕ, List, Bool, IsTrue, Option, Some, None, Result, Ok, Err, IfOk, OnOk, OnErr, inl, inr}
+use Rattle.std.proofs.Common.{◌≡◌, ◌↔◌, ◌∙◌, refl, sym, ap, subst, ℕ, List, Bool, IsTrue, Option, Some, None, Result, Ok, Err, IfOk, OnOk, OnErr, inl, inr}
 use Rattle.std.specs.Prelude.{is_ok}
 use Rattle.bucket_page.specs.declared.page.PageKind.{PageKind}
 use Rattle.bucket_page.specs.declared.page.Malformed.{Malformed}
-use Rattle.bucket_page.specs.Reading.{page_at, fault_of, answer}
+use Rattle.bucket_page.specs.Reading.{page_at, kind_at, fault_of, answer}
+use Rattle.bucket_page.specs.declared.layout.TheConstants.{FREE}
+use Rattle.bucket_page.specs.declared.page.PageKind.TheVariants as kinds
+use Rattle.bucket_page.specs.Numbers.{four_at}
 use Rattle.bucket_page.specs.Spelling.{Spells}
 use Rattle.bucket_page.proofs.PageLaws.{spelled_reads}
 use Rattle.directory.specs.declared.header.Header.{Header}
@@ -11,7 +14,7 @@ use Rattle.directory.specs.declared.read.HeaderFault.{HeaderFault}
 use Rattle.directory.specs.Reading.{header_at, fault_of as header_fault_of, answer as header_answer}
 use Rattle.directory.specs.Spelling.{Spells as SpellsHeader}
 use Rattle.directory.proofs.HeaderLaws.{spelled_reads as header_reads}
-use Rattle.page_forms.specs.Forms.{IsHeaderPage, IsWell}
+use Rattle.page_forms.specs.Forms.{IsFreePage, IsHeaderPage, IsWell}
 
 value_is : (f : Option Malformed) (x p : PageKind) → answer f x ≡ Ok p → x ≡ p
 value_is None x p is = cc
@@ -26,6 +29,13 @@ same_page p bytes it = subst (λ (q : PageKind). Spells q bytes) (sym (page_is p
 
 pub page_well : (p : PageKind) (bytes : List ℕ) → Spells p bytes → IsWell bytes
 page_well p bytes it = inl (same_page p bytes it)
+
+-- a free page names the next one where its field stands
+pub free_page : (next : ℕ) (bytes : List ℕ) → Spells (kinds.Free next) bytes → IsFreePage bytes
+free_page next bytes it =
+    let kind : kind_at bytes ≡ FREE = ap kind_at it.spelled in
+    let reads : page_at bytes ≡ kinds.Free (four_at 4 bytes) = rw kind refl in
+    subst (λ (p : PageKind). Spells p bytes) (sym (page_is (kinds.Free next) bytes it) ∙ reads) it
 
 header_value : (f : Option HeaderFault) (x h : Header) → header_answer f x ≡ Ok h → x ≡ h
 header_value None x h is = cc
