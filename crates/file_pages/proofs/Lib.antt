@@ -3,3 +3,4 @@ pub mod ReadLemmas
 pub mod WriteLemmas
 pub mod RecordLemmas
 pub mod HeaderLemmas
+pub mod PageLemmas

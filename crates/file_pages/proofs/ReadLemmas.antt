@@ -1,7 +1,7 @@
 -- A page that is pinned, read and given back: what the pool is then, and why it was not pinned.
 use Rattle.std.proofs.Common.{◌≡◌, refl, ◌∙◌, sym, ap, subst, ℕ, zero, suc, ◌+◌, ◌-◌, ◌<◌, ◌≤◌, List, [], ◌∷◌, Bool, true, false, IsTrue, Option, Some, None}
 use Rattle.std.proofs.Common.{length, arith, slice_get, slice_index_or, slice_set, Result, Ok, Err, IsErrOf, IfErr, IfOk, ◌⊎◌, inl, inr}
-use Rattle.std.proofs.lemmas.Option.{get_or_from_slice_get, slice_get_within}
+use Rattle.std.proofs.lemmas.Option.{get_or_from_slice_get}
 use Rattle.page_device.specs.declared.fault.DeviceFault.{DeviceFault}
 use Rattle.page_device.specs.declared.fault.DeviceFault.TheVariants as device
 use Rattle.page_device.specs.Device.{HasRisen}
@@ -51,6 +51,13 @@ only_reads ok s t u page right ready pinned is = subst (OnlyReads ok s) (sym is)
       (pinned.keeps.images honest) (pinned.keeps.seals honest refl) f;
 })
 
+pub not_past : (n page : ℕ) → (n ≤ page → ⊥) → page < n
+not_past n page inside = at (cases_lt page n)
+  where
+    at : (page < n) ⊎ (n ≤ page) → page < n
+    at (inl within) = within
+    at (inr past) = absurd (inside past)
+
 -- what is known of a page that is pinned
 module _ (s t : PoolState) (page right : ℕ) (payload : List ℕ) (pinned : IsPinned page s t right)
     (is : slice_get t.images right ≡ Some payload) where
@@ -61,7 +68,7 @@ module _ (s t : PoolState) (page right : ℕ) (payload : List ℕ) (pinned : IsP
       ∙ ap (image t.images) (sym pinned.right_is) ∙ get_or_from_slice_get t.images right payload [] is
 
   pub page_there : page < length s.images
-  page_there = omega (arith, slice_get_within t.images right payload is, pinned.keeps.as_many, pinned.right_is)
+  page_there = pinned.within
 
   -- and what it says is what the file has there
   pub page_was : IsTrue s.honest → ROOT_PAGE ≤ page → page_at (store_of s.images) page ≡ page_in payload

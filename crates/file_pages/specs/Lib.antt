@@ -1,3 +1,4 @@
+pub mod Buckets
 pub mod Fault
 pub mod Files
 pub mod Headers

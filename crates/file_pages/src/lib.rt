@@ -2,6 +2,7 @@
 
 #![tactic(auto)]
 
+mod bucket;
 mod fault;
 mod header;
 mod pinning;
@@ -9,6 +10,7 @@ mod read;
 mod records;
 mod sight;
 
+pub use bucket::{write_free, write_new, write_old, write_tombstone};
 pub use fault::FileFault;
 pub use header::{
     count_merge, count_split, link_free, lower_depth, raise_depth, read_header, take_page,
