@@ -7,17 +7,19 @@ use Rattle.bucket_page.specs.declared.layout.TheConstants.{GREATEST_DEPTH, ROOM_
 use Rattle.bucket_page.specs.declared.page.Malformed.{Malformed}
 use Rattle.bucket_page.specs.declared.page.PageKind.{PageKind}
 use Rattle.bucket_page.specs.declared.page.PageKind.TheVariants as kinds
-use Rattle.bucket_page.specs.Numbers.{four, zeros, four_at}
+use Rattle.fields.specs.Numbers.{four, zeros, four_at}
 use Rattle.bucket_page.specs.Records.{record_bytes, pairs_of, fills, ascend}
 use Rattle.bucket_page.specs.Bucket.{Bucket}
 use Rattle.bucket_page.specs.Entries.{entry_bytes, entries_of}
 use Rattle.bucket_page.specs.Spelling.{head_of, bucket_bytes, directory_bytes, link_bytes, bytes_of, IsBucket, IsDirectory, IsPage, Spells}
-use Rattle.bucket_page.specs.Reading.{count_at, used_at, area, after_area, entries_area, after_entries, bucket_at, page_at, is_zero, bucket_fault, directory_fault, link_fault, fault_of, reading, answer}
-use Rattle.bucket_page.proofs.Zeros.{zeros_again, length-zeros}
-use Rattle.bucket_page.proofs.Fields.{after_part, four_again, length-four}
+use Rattle.bucket_page.specs.Reading.{count_at, used_at, area, after_area, entries_area, after_entries, bucket_at, page_at, bucket_fault, directory_fault, link_fault, fault_of, reading, answer}
+use Rattle.fields.specs.Numbers.{is_zero}
+use Rattle.fields.proofs.ZeroLaws.{zeros_again, length-zeros}
+use Rattle.fields.proofs.NumberLaws.{after_part, four_again, length-four}
 use Rattle.bucket_page.proofs.HeadLaws.{head_again}
 use Rattle.bucket_page.proofs.RecordLaws.{records_again, count_below}
-use Rattle.bucket_page.proofs.EntryLaws.{entries_again, length-entries}
+use Rattle.bucket_page.proofs.EntryLaws.{entries_again}
+use Rattle.fields.proofs.ListLaws.{length-numbers}
 
 -- a pattern of a depth in range has four bytes: all that is used of the greatest depth
 pub pattern_small : (depth pattern : ℕ) → depth ≤ GREATEST_DEPTH → pattern < 2 ^ depth → pattern < 2 ^ 32
@@ -65,7 +67,7 @@ directory_again : (es : List ℕ) → IsDirectory es → (directory_fault (direc
 directory_again es is =
     let bytes : List ℕ = directory_bytes es in
     let tail : List ℕ = entry_bytes es ++ zeros 2000 in
-    let long : length (entry_bytes es) ≡ 2048 = omega (arith, length-entries es, is.number) in
+    let long : length (entry_bytes es) ≡ 2048 = omega (arith, length-numbers es, is.number) in
     let rest : drop 16 bytes ≡ tail = after_part 1 15 bytes (zeros 15) tail refl (length-zeros 15) in
     let front : is_zero (take 15 (drop 1 bytes)) ≡ true =
     rw (take_at (zeros 15) tail 15 (length-zeros 15)) (zeros_again 15) in

@@ -8,13 +8,15 @@ use Rattle.bucket_page.specs.declared.page.Malformed.{Malformed}
 use Rattle.bucket_page.specs.declared.page.Malformed.TheVariants as faults
 use Rattle.bucket_page.specs.declared.page.PageKind.{PageKind}
 use Rattle.bucket_page.specs.declared.page.PageKind.TheVariants as kinds
-use Rattle.bucket_page.specs.Numbers.{two, four, zeros, two_at, four_at}
+use Rattle.fields.specs.Numbers.{two, four, zeros, two_at, four_at}
 use Rattle.bucket_page.specs.Records.{Pair, record_bytes, pairs_of}
 use Rattle.bucket_page.specs.Entries.{entry_bytes, entries_of}
 use Rattle.bucket_page.specs.Spelling.{head_bytes, padded, link_bytes, Spells}
-use Rattle.bucket_page.specs.Reading.{kind_at, depth_at, count_at, used_at, area, after_area, entries_area, after_entries, head_at, bucket_at, page_at, is_zero, bucket_fault, directory_fault, link_fault, fault_of, answer, reading}
-use Rattle.bucket_page.proofs.Zeros.{both_true, zeros_of}
-use Rattle.bucket_page.proofs.Fields.{IsBytes, IsBytes-drop, IsBytes-take, past, two_takes, four_takes, four_small}
+use Rattle.bucket_page.specs.Reading.{kind_at, depth_at, count_at, used_at, area, after_area, entries_area, after_entries, head_at, bucket_at, page_at, bucket_fault, directory_fault, link_fault, fault_of, answer, reading}
+use Rattle.fields.specs.Numbers.{is_zero}
+use Rattle.fields.proofs.Tests.{both_true}
+use Rattle.fields.proofs.ZeroLaws.{zeros_of}
+use Rattle.fields.proofs.NumberLaws.{IsBytes, IsBytes-drop, IsBytes-take, past, two_takes, four_takes, four_small}
 use Rattle.bucket_page.proofs.RecordLaws.{records_take}
 use Rattle.bucket_page.proofs.EntryLaws.{entries_take}
 use Rattle.bucket_page.proofs.HeadLaws.{head_parts}

@@ -2,10 +2,10 @@
 use Rattle.std.proofs.Common.{◌≡◌, ℕ, ◌+◌, ◌-◌, ◌≤◌, List, ◌++◌, length, take, drop, refl, sym, ap, ◌∙◌, append_assoc, arith}
 use Rattle.std.proofs.lemmas.List.{take_at, drop_at, drop-drop, drop-take, length-append, length-take, length-drop, take-take}
 use Rattle.std.proofs.Math.Seq.{take-append-add, drop-append-add}
-use Rattle.bucket_page.specs.Numbers.{zeros, overwritten}
+use Rattle.fields.specs.Numbers.{zeros, overwritten}
 use Rattle.bucket_page.specs.Spelling.{padded}
 use Rattle.bucket_page.specs.Changes.{inserted_at, taken_out}
-use Rattle.bucket_page.proofs.Zeros.{drop-zeros, zeros-zeros}
+use Rattle.fields.proofs.ZeroLaws.{drop-zeros, zeros-zeros}
 
 -- the parts that `insert` makes are those of its contract
 pub insert_parts : (bytes : List ℕ) (used at n : ℕ) (new front back region rest placed : List ℕ) → at ≤ used

@@ -4,7 +4,6 @@ pub mod Dividing
 pub mod Entries
 pub mod Keys
 pub mod Laws
-pub mod Numbers
 pub mod PseudokeyLaws
 pub mod Pseudokeys
 pub mod Reading

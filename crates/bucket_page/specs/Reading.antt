@@ -1,13 +1,12 @@
 -- Which payloads are refused, and what the others say. The first test that fails names the refusal.
 use Rattle.std.specs.Prelude.{ℕ, ◌^◌, ◌==◌, nat_le, nat_lt, Bool, ◌&&◌, ◌||◌, List, [], ◌∷◌, take, drop, slice_index, Option, Some, None, Result, Ok, Err, if◌then◌else◌}
-use Rattle.std.specs.List.{list_all}
 use Rattle.bucket_page.specs.declared.layout.TheConstants.{GREATEST_DEPTH, ROOM_BYTES, ENTRIES_BYTES, DIRECTORY, BUCKET, TOMBSTONE, FREE}
 use Rattle.bucket_page.specs.declared.head.Head.{Head}
 use Rattle.bucket_page.specs.declared.page.Malformed.{Malformed}
 use Rattle.bucket_page.specs.declared.page.Malformed.TheVariants as faults
 use Rattle.bucket_page.specs.declared.page.PageKind.{PageKind}
 use Rattle.bucket_page.specs.declared.page.PageKind.TheVariants as kinds
-use Rattle.bucket_page.specs.Numbers.{two_at, four_at}
+use Rattle.fields.specs.Numbers.{two_at, four_at, is_zero}
 use Rattle.bucket_page.specs.Records.{Pair, pairs_of, fills, ascend}
 use Rattle.bucket_page.specs.Bucket.{Bucket}
 use Rattle.bucket_page.specs.Entries.{entries_of}
@@ -75,9 +74,6 @@ page_at bytes =
     else link_page_at bytes
 
 -- ---- the tests
-
-abbrev pub is_zero : List ℕ → Bool
-is_zero bytes = list_all (λ b. b == 0) bytes
 
 -- the fault of the first test that fails
 abbrev pub first_failed : List (Bool × Malformed) → Option Malformed

@@ -5,7 +5,7 @@ use Rattle.bucket_page.specs.declared.layout.TheConstants.{GREATEST_DEPTH, ROOM_
 use Rattle.bucket_page.specs.declared.head.Head.{Head}
 use Rattle.bucket_page.specs.declared.page.PageKind.{PageKind}
 use Rattle.bucket_page.specs.declared.page.PageKind.TheVariants as kinds
-use Rattle.bucket_page.specs.Numbers.{two, four, zeros}
+use Rattle.fields.specs.Numbers.{two, four, zeros}
 use Rattle.bucket_page.specs.Records.{IsPair, record_bytes, ascend}
 use Rattle.bucket_page.specs.Bucket.{Bucket}
 use Rattle.bucket_page.specs.Entries.{entry_bytes}

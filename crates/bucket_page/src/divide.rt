@@ -6,7 +6,7 @@ ghost use Rattle.bucket_page.specs.Changes.{IsBucketPage, SpellsBucket};
 ghost use Rattle.bucket_page.specs.Dividing.{AreBuddies, FitTogether, MayWiden, ShareNoKey, has_bit_as, half_of, joined, lower_half, pattern_of_half, upper_half, widened};
 
 use crate::change::{append, put_fitting, records_of};
-use crate::field::four_at;
+use fields::four_at;
 use crate::head::Head;
 use crate::layout::{GREATEST_DEPTH, HEAD_BYTES};
 use crate::pseudokey::PseudoKey;

@@ -4,7 +4,6 @@
 
 mod change;
 mod divide;
-mod field;
 mod head;
 pub mod laws;
 mod layout;

@@ -1,14 +1,16 @@
 //! Which page a payload spells.
 
 ghost use Rattle.std.specs.Prelude.{◌≡◌, IfOk, Ok, drop, length, take};
+ghost use Rattle.faults.specs.declared.TheConstants.{MALFORMED};
 ghost use Rattle.page_device.specs.declared.page.TheConstants.{PAYLOAD_BYTES};
-ghost use Rattle.bucket_page.specs.Numbers.{four_at};
-ghost use Rattle.bucket_page.specs.Reading.{answer, bucket_at, bucket_fault, directory_fault, entries_at, is_zero, link_fault, reading};
+ghost use Rattle.fields.specs.Numbers.{four_at};
+ghost use Rattle.bucket_page.specs.Reading.{answer, bucket_at, bucket_fault, directory_fault, entries_at, link_fault, reading};
 ghost use Rattle.bucket_page.specs.Spelling.{Spells};
 ghost use Rattle.bucket_page.specs.Changes.{IsBucketPage};
 
 use crate::change::records_of;
-use crate::field::{four_at, two_at};
+use faults::MALFORMED;
+use fields::{four_at, is_zero, two_at};
 use crate::layout::{
     BUCKET, DIRECTORY, ENTRIES_BYTES, FREE, GREATEST_DEPTH, HEAD_BYTES, ROOM_BYTES, TOMBSTONE,
 };
@@ -38,6 +40,15 @@ pub enum Malformed {
     /// A byte that no field names isn't zero.
     #[error("a byte that no field names is not zero")]
     Padding,
+}
+
+impl Malformed {
+    /// The number that a program prints, whichever test fails.
+    pub fn number(self) -> u8
+        ensures { result ≡ MALFORMED }
+    {
+        MALFORMED
+    }
 }
 
 /// A page that isn't the header.
@@ -102,18 +113,13 @@ fn read(bytes: &[u8]) -> Result<PageKind, Malformed>
             Ok(bucket) => Ok(PageKind::Bucket(bucket)),
             Err(fault) => Err(fault),
         },
-        DIRECTORY => match read_directory(bytes) {
-            Ok(directory) => Ok(PageKind::Directory(directory)),
-            Err(fault) => Err(fault),
-        },
-        TOMBSTONE => match read_link(bytes) {
-            Ok(link) => Ok(PageKind::Tombstone { link }),
-            Err(fault) => Err(fault),
-        },
-        FREE => match read_link(bytes) {
-            Ok(next) => Ok(PageKind::Free { next }),
-            Err(fault) => Err(fault),
-        },
+        DIRECTORY => Ok(PageKind::Directory(read_directory(bytes)?)),
+        TOMBSTONE => Ok(PageKind::Tombstone {
+            link: read_link(bytes)?,
+        }),
+        FREE => Ok(PageKind::Free {
+            next: read_link(bytes)?,
+        }),
         _ => Err(Malformed::Kind),
     }
 }
@@ -178,11 +184,4 @@ fn read_link(bytes: &[u8]) -> Result<u32, Malformed>
         return Err(Malformed::Padding);
     }
     Ok(four_at(bytes, 4))
-}
-
-/// Whether all bytes are zero.
-fn is_zero(bytes: &[u8]) -> bool
-    ensures { result ≡ is_zero bytes.now }
-{
-    bytes.iter().all(|byte| *byte == 0)
 }

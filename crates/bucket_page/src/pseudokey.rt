@@ -3,7 +3,7 @@
 ghost use Rattle.std.specs.Prelude.{◌≡◌, ◌%◌, ◌^◌};
 ghost use Rattle.bucket_page.specs.Pseudokeys.{sha_key};
 
-use crate::field::four_at;
+use fields::four_at;
 use crate::record_key::RecordKey;
 use sha2::{Digest, Sha256};
 

@@ -3,7 +3,7 @@
 ghost use Rattle.std.specs.Prelude.{◌≡◌, ◌<◌, length, slice_index, IfSome, IfNone, Some, None};
 ghost use Rattle.bucket_page.specs.Records.{record_bytes, lookup};
 
-use crate::field::four_at;
+use fields::four_at;
 use crate::layout::PAGE_ENTRIES;
 use crate::record_key::RecordKey;
 use crate::records::Records;

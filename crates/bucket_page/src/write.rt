@@ -2,18 +2,16 @@
 
 ghost use Rattle.std.specs.Prelude.{[], ◌≡◌, ◌<◌, ◌≤◌, ◌^◌, ◌*◌, length, slice_set};
 ghost use Rattle.bucket_page.specs.Bucket.{bucket};
-ghost use Rattle.bucket_page.specs.Entries.{entry_bytes};
 ghost use Rattle.bucket_page.specs.Spelling.{Spells, directory_bytes, link_bytes};
 ghost use Rattle.bucket_page.specs.Reading.{entries_at};
 ghost use Rattle.bucket_page.specs.Changes.{IsDirectoryPage, SpellsBucket, SpellsDirectory};
 
-use crate::field::{blank, set_four, write_four};
+use fields::{blank, set_four, write_four, write_numbers};
 use crate::head::Head;
 use crate::layout::{
     DIRECTORY, ENTRIES_BYTES, FREE, GREATEST_DEPTH, HEAD_BYTES, PAGE_ENTRIES, TOMBSTONE,
 };
 use crate::page::PageKind;
-use byteorder::{BigEndian, ByteOrder};
 use page_device::{PAYLOAD_BYTES, Payload};
 
 /// Writes a tombstone, whose link is the page of the bucket that took its records.
@@ -89,14 +87,6 @@ fn write_slots(bytes: &mut [u8], entries: &[u32])
     let (places, last) = others.split_at_mut(ENTRIES_BYTES);
     first[0] = DIRECTORY;
     blank(reserved);
-    write_entries(places, entries);
+    write_numbers(places, entries);
     blank(last);
-}
-
-#[tactic(auto, unfolding(crate::specs::Numbers::four))]
-fn write_entries(bytes: &mut [u8], entries: &[u32])
-    requires { length bytes.old ≡ 4 * length entries.now }
-    ensures { bytes.new ≡ entry_bytes entries.now }
-{
-    BigEndian::write_u32_into(entries, bytes);
 }

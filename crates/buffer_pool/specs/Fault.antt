@@ -1,5 +1,6 @@
 -- The numbers of faults.
 use Rattle.std.specs.Prelude.{ℕ}
+use Rattle.faults.specs.declared.TheConstants.{MALFORMED, NO_MEMORY, TOO_FEW_FRAMES}
 use Rattle.page_device.specs.Fault.{number_of as device_number_of}
 use Rattle.buffer_pool.specs.declared.fault.PoolFault.{PoolFault}
 use Rattle.buffer_pool.specs.declared.fault.PoolFault.TheVariants.{Device, Malformed, TooFewFrames, NoMemory}
@@ -7,6 +8,6 @@ use Rattle.buffer_pool.specs.declared.fault.PoolFault.TheVariants.{Device, Malfo
 -- the number that a program prints for a fault
 abbrev pub number_of : PoolFault → ℕ
 number_of (Device fault) = device_number_of fault
-number_of TooFewFrames = 30
-number_of Malformed = 40
-number_of NoMemory = 60
+number_of TooFewFrames = TOO_FEW_FRAMES
+number_of Malformed = MALFORMED
+number_of NoMemory = NO_MEMORY

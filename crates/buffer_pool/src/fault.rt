@@ -32,9 +32,9 @@ impl PoolFault {
     {
         match self {
             PoolFault::Device(fault) => fault.number(),
-            PoolFault::TooFewFrames => 30,
-            PoolFault::Malformed => 40,
-            PoolFault::NoMemory => 60,
+            PoolFault::TooFewFrames => faults::TOO_FEW_FRAMES,
+            PoolFault::Malformed => faults::MALFORMED,
+            PoolFault::NoMemory => faults::NO_MEMORY,
         }
     }
 }

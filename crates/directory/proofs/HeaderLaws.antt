@@ -8,12 +8,13 @@ use Rattle.page_device.specs.declared.page.TheConstants.{MAX_PAGES}
 use Rattle.directory.specs.declared.layout.TheConstants.{GREATEST_DEPTH, LOCAL_DEPTHS, LEAST_PAGES, HEADER, VERSION, MAGIC}
 use Rattle.directory.specs.declared.header.Header.{Header}
 use Rattle.directory.specs.declared.read.HeaderFault.{HeaderFault}
-use Rattle.directory.specs.Numbers.{four, four_at, numbers_bytes, numbers_of, zeros, is_zero}
+use Rattle.fields.specs.Numbers.{four, four_at, numbers_bytes, numbers_of, zeros, is_zero}
 use Rattle.directory.specs.Spelling.{header_bytes, IsHeader, Spells}
 use Rattle.directory.specs.Reading.{kind_at, version_at, depth_at, pages_at, counts_area, counts_at, header_at, has_magic, has_range, has_padding, has_layout, fault_of, answer, reading}
-use Rattle.directory.proofs.Zeros.{both_true, zeros_of, zeros_again}
-use Rattle.directory.proofs.Fields.{IsBytes, IsBytes-drop, IsBytes-take, past, four_takes, four_again, four_small, after_part, length-four}
-use Rattle.directory.proofs.NumberLaws.{numbers_take, numbers_again, length-numbers}
+use Rattle.fields.proofs.Tests.{both_true}
+use Rattle.fields.proofs.ZeroLaws.{zeros_of, zeros_again}
+use Rattle.fields.proofs.NumberLaws.{IsBytes, IsBytes-drop, IsBytes-take, past, four_takes, four_again, four_small, after_part, length-four}
+use Rattle.fields.proofs.ListLaws.{numbers_take, numbers_again, length-numbers}
 
 -- ---- spelled, then read
 

@@ -3,9 +3,9 @@ use Rattle.std.proofs.Common.{◌≡◌, ◌≢◌, ℕ, zero, suc, ◌+◌, ◌
 use Rattle.std.proofs.lemmas.Bool.{cases_lt}
 use Rattle.std.proofs.lemmas.List.{drop_at, get_or-drop, get_or-take, get_or_append_left, get_or-append_right, length-append, length-take}
 use Rattle.byteorder.specs.Endian.{big_from}
-use Rattle.directory.specs.Numbers.{four, four_at, overwritten}
+use Rattle.fields.specs.Numbers.{four, four_at, overwritten}
 use Rattle.directory.specs.Entries.{slot_at, KeepsOtherBytes}
-use Rattle.directory.proofs.Fields.{four_again, length-four}
+use Rattle.fields.proofs.NumberLaws.{four_again, length-four}
 
 -- a byte before or behind what is written
 byte_stays : (bytes new : List ℕ) (at k : ℕ) → at + length new ≤ length bytes → (k < at) ⊎ (at + length new ≤ k)

@@ -2,7 +2,7 @@
 use Rattle.std.specs.Prelude.{◌≡◌, ◌⊎◌, ℕ, ◌+◌, ◌-◌, ◌*◌, ◌/◌, ◌%◌, ◌^◌, ◌<◌, ◌≤◌, ◌==◌, nat_le, nat_lt, Bool, ◌&&◌, List, slice_index, if◌then◌else◌}
 use Rattle.directory.specs.declared.layout.TheConstants.{ENTRIES_IN_A_PAGE, FIRST_DIRECTORY_PAGE, ENTRIES_BEGIN, ENTRIES_END}
 use Rattle.directory.specs.declared.entries.Range.{Range}
-use Rattle.directory.specs.Numbers.{four_at}
+use Rattle.fields.specs.Numbers.{four_at}
 
 -- the page of the file in which entry i stands, and its slot there
 abbrev pub page_of : ℕ → ℕ

@@ -4,7 +4,7 @@ use Rattle.std.specs.List.{AllByRecursion}
 use Rattle.page_device.specs.declared.page.TheConstants.{MAX_PAGES}
 use Rattle.directory.specs.declared.layout.TheConstants.{GREATEST_DEPTH, LOCAL_DEPTHS, LEAST_PAGES, HEADER, VERSION, MAGIC}
 use Rattle.directory.specs.declared.header.Header.{Header}
-use Rattle.directory.specs.Numbers.{four, numbers_bytes, zeros}
+use Rattle.fields.specs.Numbers.{four, numbers_bytes, zeros}
 
 -- the payload that spells a header
 abbrev pub header_bytes : Header → List ℕ

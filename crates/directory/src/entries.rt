@@ -5,7 +5,7 @@ ghost use Rattle.directory.specs.declared.layout.TheConstants.{DIRECTORY_PAGES, 
 ghost use Rattle.directory.specs.Entries.{KeepsOtherBytes, copied, entry_in, is_in_range, is_upper, page_of, retargeted, slot_at};
 
 use crate::directory::{page_of, slot_of};
-use crate::field::{four_at, set_four};
+use fields::{four_at, set_four};
 use crate::layout::{ENTRIES_BEGIN, ENTRIES_IN_A_PAGE, FIRST_DIRECTORY_PAGE};
 use page_device::Payload;
 

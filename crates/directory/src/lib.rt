@@ -4,7 +4,6 @@
 
 mod directory;
 mod entries;
-mod field;
 mod header;
 mod layout;
 mod read;

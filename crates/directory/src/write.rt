@@ -4,7 +4,7 @@ ghost use Rattle.std.specs.Prelude.{◌≡◌, ◌≤◌, length};
 ghost use Rattle.page_device.specs.declared.page.TheConstants.{MAX_PAGES, PAYLOAD_BYTES};
 ghost use Rattle.directory.specs.Spelling.{Spells, header_bytes};
 
-use crate::field::{blank, write_four, write_numbers};
+use fields::{blank, write_four, write_numbers};
 use crate::header::Header;
 use crate::layout::{GREATEST_DEPTH, HEADER, LEAST_PAGES, MAGIC, VERSION};
 use page_device::{MAX_PAGES, Payload};

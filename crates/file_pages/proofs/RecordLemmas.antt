@@ -10,7 +10,7 @@ use Rattle.directory.specs.declared.layout.TheConstants.{ROOT_PAGE}
 use Rattle.page_forms.proofs.FormLemmas.{page_is as read_is}
 use Rattle.bucket_page.specs.Spelling.{Spells}
 use Rattle.hash_file.specs.Store.{bucket_at, bucket_of, is_bucket}
-use Rattle.hash_file.specs.Changes.{Write, with_bucket, with_page, write_record, written}
+use Rattle.hash_file.specs.Changes.{RecordWrite, records_after, with_bucket, with_page, write_record}
 use Rattle.file_pages.specs.Files.{IsFile, image, store_of}
 use Rattle.file_pages.specs.Pinning.{IsPinned}
 use Rattle.file_pages.specs.Writes.{IsBucketThere}
@@ -30,7 +30,7 @@ module _ (s t : PoolState) (page right : ℕ) (old new : List ℕ) (pinned : IsP
       ∙ read_is (kinds.Bucket (bucket_in old)) old bucket)
 
   -- its records become what the write makes of them
-  module _ (w : Write) (changes : Changes (written w) old new) where
+  module _ (w : RecordWrite) (changes : Changes (records_after w) old new) where
     pub keeps_file : IsFile s.images → IsFile (slice_set s.images page new)
     keeps_file = file_set s.images page new behind within _ changes
 
@@ -39,8 +39,8 @@ module _ (s t : PoolState) (page right : ℕ) (old new : List ℕ) (pinned : IsP
     record_written honest =
         store_set s.images page new behind within
         ∙ ap (λ (p : PageKind). with_page page p (store_of s.images))
-        (read_is (kinds.Bucket (record (bucket_in old) { records = written w (records_in old) })) new changes)
-        ∙ ap (λ (b : Bucket). with_bucket page (record b { records = written w b.records }) (store_of s.images))
+        (read_is (kinds.Bucket (record (bucket_in old) { records = records_after w (records_in old) })) new changes)
+        ∙ ap (λ (b : Bucket). with_bucket page (record b { records = records_after w b.records }) (store_of s.images))
         (sym (bucket_was honest))
 
 -- where the file has a bucket there, the image is a bucket's

@@ -1,5 +1,6 @@
 -- The numbers of faults.
 use Rattle.std.specs.Prelude.{ℕ}
+use Rattle.faults.specs.declared.TheConstants.{FAILED}
 use Rattle.buffer_pool.specs.Fault.{number_of as pool_number_of}
 use Rattle.file_pages.specs.declared.fault.FileFault.{FileFault}
 use Rattle.file_pages.specs.declared.fault.FileFault.TheVariants.{Pool, Failed}
@@ -7,4 +8,4 @@ use Rattle.file_pages.specs.declared.fault.FileFault.TheVariants.{Pool, Failed}
 -- the number that a program prints for a fault
 abbrev pub number_of : FileFault → ℕ
 number_of (Pool fault) = pool_number_of fault
-number_of Failed = 62
+number_of Failed = FAILED

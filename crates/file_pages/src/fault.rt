@@ -24,7 +24,7 @@ impl FileFault {
     {
         match self {
             FileFault::Pool(fault) => fault.number(),
-            FileFault::Failed => 62,
+            FileFault::Failed => faults::FAILED,
         }
     }
 }

@@ -8,8 +8,8 @@ use Rattle.bucket_page.specs.Records.{Pair, pair}
 use Rattle.hash_file.specs.Store.{Store, has_bucket, bucket_at, range_at, next_at}
 use Rattle.hash_file.specs.Chain.{chain, contents, pairs, IsChain, IsBucketOf}
 use Rattle.hash_file.specs.Change.{Change, Quiet, owned}
-use Rattle.hash_file.specs.Search.{Leads}
-use Rattle.hash_file.specs.Sound.{HasLayout, IsFreeList, IsSound, IsExact}
+use Rattle.hash_file.specs.Search.{PageLeads}
+use Rattle.hash_file.specs.Sound.{HasLayout, IsFreeList, IsSoundFile, IsExact}
 
 -- the live buckets, from the root on, end; patterns ascend in bit-reversed order, and each pseudokey is in the range
 -- of exactly one; none is deeper than the directory
@@ -43,11 +43,11 @@ pub record HasOneRole (s : Store) (c : Change) (spares : List ℕ) : Type 0 wher
   pub spares_once : AllPairs (λ (m n : ℕ). m ≢ n) spares
 
 abbrev pub RolesAreOne : Type 0
-RolesAreOne = (hash : RecordKey → ℕ) (s : Store) (c : Change) → IsSound hash s c →
+RolesAreOne = (hash : RecordKey → ℕ) (s : Store) (c : Change) → IsSoundFile hash s c →
     (spares : List ℕ) × IsFreeList s spares × HasOneRole s c spares
 
 abbrev pub QuietIsExact : Type 0
-QuietIsExact = (hash : RecordKey → ℕ) (s : Store) → IsSound hash s Quiet → IsExact s
+QuietIsExact = (hash : RecordKey → ℕ) (s : Store) → IsSoundFile hash s Quiet → IsExact s
 
 -- no two records of the file have one key, and the value at a key is that of its record
 pub record HasContents (s : Store) : Type 0 where
@@ -56,7 +56,7 @@ pub record HasContents (s : Store) : Type 0 where
       (contents s key ≡ Some value) ↔ Contains (pairs s) (pair key value)
 
 abbrev pub ContentsArePairs : Type 0
-ContentsArePairs = (hash : RecordKey → ℕ) (s : Store) (c : Change) → IsSound hash s c → HasContents s
+ContentsArePairs = (hash : RecordKey → ℕ) (s : Store) (c : Change) → IsSoundFile hash s c → HasContents s
 
 -- the bucket of a pseudokey is page n of the chain, or stands behind it
 abbrev pub StandsAtOrBefore : Store → ℕ → ℕ → Type 0
@@ -64,5 +64,5 @@ StandsAtOrBefore s n k = (front : List ℕ) × (back : List ℕ) × (m : ℕ) ×
     (chain s ≡ front ++ n ∷ back) × Contains (n ∷ back) m × IsBucketOf s k m
 
 abbrev pub LeadingIsStandingBefore : Type 0
-LeadingIsStandingBefore = (hash : RecordKey → ℕ) (s : Store) (c : Change) (n k : ℕ) → IsSound hash s c →
-    Contains (chain s) n → Leads s c n k ↔ StandsAtOrBefore s n k
+LeadingIsStandingBefore = (hash : RecordKey → ℕ) (s : Store) (c : Change) (n k : ℕ) → IsSoundFile hash s c →
+    Contains (chain s) n → PageLeads s c n k ↔ StandsAtOrBefore s n k

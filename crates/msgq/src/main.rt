@@ -50,6 +50,6 @@ fn words(rt: &HostRuntime) -> Option<Vec<String>> {
 /// Ends where there is no memory to begin with.
 fn without_memory(rt: &HostRuntime) -> ExitCode {
     let mut output = Output::new(io::writer(rt));
-    print_fault(NoMemory::NUMBER, &mut output);
+    print_fault(faults::NO_MEMORY, &mut output);
     ExitCode::FAILURE
 }

@@ -7,6 +7,7 @@ mod deciding;
 mod making;
 mod pinning;
 mod sealing;
+mod stepping;
 
 use page_device::MAX_PAGES;
 use std::time::Instant;
@@ -20,6 +21,9 @@ const MESSAGES: u32 = 100_000;
 /// How often a page that has a frame is pinned.
 const PINS: u32 = 2_000_000;
 
+/// How often a step on pages in frames is made.
+const STEPS: u32 = 1_000_000;
+
 fn main(rt: HostRuntime) -> anyhow::Result<()> {
     let words: Vec<String> = std::env::args(&rt)?.collect(rt.alloc())?;
     let Some(path) = words.get(1) else {
@@ -30,6 +34,7 @@ fn main(rt: HostRuntime) -> anyhow::Result<()> {
         decides(&rt, types)?;
     }
     seals(&rt)?;
+    steps(&rt)?;
     for frames in [64, MAX_PAGES] {
         pins(&rt, frames)?;
     }
@@ -52,6 +57,10 @@ fn once(rt: &HostRuntime) -> anyhow::Result<()> {
     let new = deciding::sends(rt.alloc(), 16, 17, 1)?;
     let taken = deciding::receives(16, 1);
     println!(rt; "decided: {:?}", (standing, new, taken))?;
+    let mut pool = stepping::full_file(rt.alloc())?;
+    let marks = (stepping::entries(&mut pool, 3)?, stepping::looks(&mut pool, 3)?);
+    stepping::writes(&mut pool, 3)?;
+    println!(rt; "steps: {marks:?}")?;
     Ok(())
 }
 
@@ -92,6 +101,20 @@ fn decides(rt: &HostRuntime, types: u32) -> anyhow::Result<()> {
     let start = Instant::now(rt)?;
     deciding::receives(types, ROUNDS);
     report(rt, "a receive, decided", 0, start, ROUNDS)
+}
+
+/// Times steps on pages that are in frames.
+fn steps(rt: &HostRuntime) -> anyhow::Result<()> {
+    let mut pool = stepping::full_file(rt.alloc())?;
+    let start = Instant::now(rt)?;
+    let mark = stepping::entries(&mut pool, STEPS)?;
+    report(rt, "an entry read", mark as u8, start, STEPS)?;
+    let start = Instant::now(rt)?;
+    let mark = stepping::looks(&mut pool, STEPS)?;
+    report(rt, "a look in a full bucket", mark as u8, start, STEPS)?;
+    let start = Instant::now(rt)?;
+    stepping::writes(&mut pool, STEPS)?;
+    report(rt, "a record of 64 bytes replaced in a full bucket", 0, start, STEPS)
 }
 
 /// Times digests, and pages sealed and unsealed.

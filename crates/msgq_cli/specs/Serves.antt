@@ -1,8 +1,9 @@
 -- What is printed where a script is run on a file, and what that leaves. docs/SCRIPTS.md, "Runs".
 use Rattle.std.specs.Prelude.{◌≡◌, ◌⊎◌, ℕ, ◌<◌, Bool, IsTrue, List, Option, Some, None, Result, Ok, Err, ⊤}
+use Rattle.faults.specs.declared.TheConstants.{DEVICE, NO_MEMORY}
 use Rattle.queue_model.specs.State.{State}
-use Rattle.xsi_calls.specs.Filing.{IsFileOf}
-use Rattle.xsi_calls.specs.Laws.{no_queues}
+use Rattle.one_caller.specs.Filing.{IsFileOf}
+use Rattle.one_caller.specs.Laws.{no_queues}
 use Rattle.msgq_cli.specs.Answers.{fault_text, made_text}
 use Rattle.msgq_cli.specs.Outputs.{OutputState, Prints}
 use Rattle.msgq_cli.specs.Runs.{IsRun}
@@ -41,12 +42,12 @@ IsKept honest content s = IsTrue honest → IsFileOf s content
 abbrev pub RunsOn : Parts → State → (State → Type 0) → ℕ → OutputState → OutputState → Ending → Type 0
 RunsOn script s IsLeft faults old new ending =
     IsRun script s IsLeft old new ending
-    ⊎ IsFaultAlone 60 old new ending
-    ⊎ ((0 < faults) × (IsFaultAlone 20 old new ending ⊎ IsRunAndFault script s 20 old new ending))
+    ⊎ IsFaultAlone NO_MEMORY old new ending
+    ⊎ ((0 < faults) × (IsFaultAlone DEVICE old new ending ⊎ IsRunAndFault script s 20 old new ending))
 
 -- from the empty system a script is run, unless there is no memory to make its file
 abbrev pub RunsNew : Parts → OutputState → OutputState → Ending → Type 0
-RunsNew script old new ending = IsRun script no_queues (λ t. ⊤) old new ending ⊎ IsFaultAlone 60 old new ending
+RunsNew script old new ending = IsRun script no_queues (λ t. ⊤) old new ending ⊎ IsFaultAlone NO_MEMORY old new ending
 
 -- a wrong script is told by its first wrong line, and nothing is run
 abbrev pub RunsScript : Result Parts ℕ → OutputState → OutputState → Ending → Type 0
@@ -55,7 +56,7 @@ RunsScript (Err line) old new ending = (ending ≡ WrongLine line) × (new ≡ o
 
 -- a text is run as the script that it spells, unless there is no memory to read it
 abbrev pub RunsText : List ℕ → OutputState → OutputState → Ending → Type 0
-RunsText text old new ending = RunsScript (script_of text) old new ending ⊎ IsFaultAlone 60 old new ending
+RunsText text old new ending = RunsScript (script_of text) old new ending ⊎ IsFaultAlone NO_MEMORY old new ending
 
 -- the bytes of a reader, where they are known
 abbrev pub AreKnownAs : Option (List ℕ) → List ℕ → Type 0
@@ -66,18 +67,18 @@ AreKnownAs (Some known) bytes = bytes ≡ known
 abbrev pub RunsInput : Option (List ℕ) → OutputState → OutputState → Ending → Type 0
 RunsInput known old new ending =
     ((text : List ℕ) × AreKnownAs known text × RunsText text old new ending)
-    ⊎ IsFaultAlone 60 old new ending
-    ⊎ IsFaultAlone 20 old new ending
+    ⊎ IsFaultAlone NO_MEMORY old new ending
+    ⊎ IsFaultAlone DEVICE old new ending
 
 -- what is told where there is no script
 abbrev pub IsRefused : ScriptError → OutputState → OutputState → Ending → Type 0
 IsRefused (errors.WrongLine line) old new ending = (ending ≡ WrongLine line) × (new ≡ old)
-IsRefused errors.NoMemory old new ending = IsFaultAlone 60 old new ending
+IsRefused errors.NoMemory old new ending = IsFaultAlone NO_MEMORY old new ending
 
 -- the number that is printed where a text is not read
 abbrev pub read_number_of : ReadFault → ℕ
-read_number_of read.NoMemory = 60
-read_number_of read.Device = 20
+read_number_of read.NoMemory = NO_MEMORY
+read_number_of read.Device = DEVICE
 
 -- a file is told to be made, or one fault is told
 abbrev pub IsMadeOrFault : ℕ → OutputState → OutputState → Ending → Type 0
@@ -87,5 +88,5 @@ IsMadeOrFault pages old new ending = IsMade pages old new ending ⊎ ((fault : �
 abbrev pub Makes : ℕ → List (List ℕ) → ℕ → OutputState → OutputState → Ending → Type 0
 Makes pages content faults old new ending =
     (IsMade pages old new ending × IsNewFile pages content)
-    ⊎ IsFaultAlone 60 old new ending
-    ⊎ ((0 < faults) × IsFaultAlone 20 old new ending)
+    ⊎ IsFaultAlone NO_MEMORY old new ending
+    ⊎ ((0 < faults) × IsFaultAlone DEVICE old new ending)

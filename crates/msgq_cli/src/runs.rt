@@ -2,7 +2,7 @@
 
 ghost use Rattle.std.specs.Prelude.{◌≡◌, ◌↔◌, IsTrue};
 ghost use Rattle.queue_model.specs.State.{State};
-ghost use Rattle.xsi_calls.specs.Serving.{Holds};
+ghost use Rattle.one_caller.specs.Serving.{Holds};
 ghost use Rattle.msgq_cli.specs.Runs.{IsPrinted, IsReplied, IsRun};
 ghost use Rattle.msgq_cli.specs.Serving.{reply_to};
 ghost use Rattle.msgq_cli.specs.declared.command.Command.TheVariants as command;
@@ -16,7 +16,7 @@ use page_device::PageDevice;
 use queue_model::{Call, Caller};
 use std::alloc::Global;
 use std::io::Write;
-use xsi_calls::{CallFault, OneCaller, Served};
+use one_caller::{CallFault, OneCaller, Served};
 
 /// Serves the lines of a script one after the other, and prints what each is replied.
 ///

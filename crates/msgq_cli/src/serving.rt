@@ -2,8 +2,8 @@
 
 ghost use Rattle.std.specs.Prelude.{◌≡◌, ◌⊎◌, IfOk, IfErr, IsTrue, ◌≤◌};
 ghost use Rattle.queue_model.specs.State.{State};
-ghost use Rattle.xsi_calls.specs.Filing.{IsFileOf};
-ghost use Rattle.xsi_calls.specs.Serving.{Holds, restarted};
+ghost use Rattle.one_caller.specs.Filing.{IsFileOf};
+ghost use Rattle.one_caller.specs.Serving.{Holds, restarted};
 ghost use Rattle.msgq_cli.specs.Serves.{AreKnownAs, IsFaultAlone, IsKept, IsRefused, RunsInput};
 ghost use Rattle.msgq_cli.specs.Serves.{RunsNew, RunsOn, RunsText, read_number_of};
 
@@ -18,7 +18,7 @@ use record_file::format;
 use std::alloc::Global;
 use std::io;
 use std::io::{ErrorKind, Read, Write};
-use xsi_calls::{OneCaller, a_new_file_is_that_of_no_queue};
+use one_caller::{OneCaller, a_new_file_is_that_of_no_queue};
 
 /// How many pages the file in memory has on which a script of standard input is run.
 pub const MEMORY_PAGES: u32 = 352;
@@ -96,7 +96,7 @@ pub(crate) fn refuse<W: Write>(error: ScriptError, output: &mut Output<W>) -> En
 {
     match error {
         ScriptError::WrongLine { line } => Ending::WrongLine(line),
-        ScriptError::NoMemory => fail(NoMemory::NUMBER, output),
+        ScriptError::NoMemory => fail(faults::NO_MEMORY, output),
     }
 }
 
@@ -137,7 +137,7 @@ impl ReadFault {
         ensures { result ≡ read_number_of self }
     {
         match self {
-            ReadFault::NoMemory => NoMemory::NUMBER,
+            ReadFault::NoMemory => faults::NO_MEMORY,
             ReadFault::Device => DeviceFault::Device.number(),
         }
     }

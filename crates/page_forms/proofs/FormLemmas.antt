@@ -6,7 +6,7 @@ use Rattle.bucket_page.specs.declared.page.Malformed.{Malformed}
 use Rattle.bucket_page.specs.Reading.{page_at, kind_at, fault_of, answer}
 use Rattle.bucket_page.specs.declared.layout.TheConstants.{FREE}
 use Rattle.bucket_page.specs.declared.page.PageKind.TheVariants as kinds
-use Rattle.bucket_page.specs.Numbers.{four_at}
+use Rattle.fields.specs.Numbers.{four_at}
 use Rattle.bucket_page.specs.Spelling.{Spells}
 use Rattle.bucket_page.proofs.PageLaws.{spelled_reads}
 use Rattle.directory.specs.declared.header.Header.{Header}

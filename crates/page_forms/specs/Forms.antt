@@ -1,6 +1,6 @@
 -- Payloads that spell a page of a file, and those of each kind (docs/FORMAT.md, "Pages").
 use Rattle.std.specs.Prelude.{ℕ, ◌⊎◌, List}
-use Rattle.bucket_page.specs.Numbers.{four_at}
+use Rattle.fields.specs.Numbers.{four_at}
 use Rattle.bucket_page.specs.declared.page.PageKind.TheVariants as kinds
 use Rattle.bucket_page.specs.Reading.{page_at}
 use Rattle.bucket_page.specs.Spelling.{Spells, bytes_of}

@@ -2,7 +2,7 @@
 
 ghost use Rattle.std.specs.Prelude.{◌≡◌, ◌↔◌, IsNone, IsSome, IsTrue, IfNone, IfSome};
 ghost use Rattle.bucket_page.specs.Changes.{IsBucketPage, IsDirectoryPage};
-ghost use Rattle.bucket_page.specs.Numbers.{four_at};
+ghost use Rattle.fields.specs.Numbers.{four_at};
 ghost use Rattle.bucket_page.specs.Reading.{bucket_at, page_at};
 ghost use Rattle.bucket_page.specs.Spelling.{Spells};
 ghost use Rattle.directory.specs.Reading.{header_at};

@@ -7,7 +7,7 @@ ghost use Rattle.page_locks.specs.Table.{IsSeat, Opposes, IsOpposed, IsFree, IsL
 
 use crate::grant::Grant;
 use crate::lock::{Lock, LockKind, LockName};
-use crate::no_memory::NoMemory;
+use faults::NoMemory;
 use crate::row::{MAX_LOCKS, Row};
 use std::alloc::Global;
 use std::marker::Model;

@@ -4,7 +4,7 @@ ghost use Rattle.std.specs.Prelude.{◌≡◌, IfOk};
 
 use crate::errno::Errno;
 use crate::message::Message;
-use crate::no_memory::NoMemory;
+use faults::NoMemory;
 use crate::permissions::Permissions;
 
 /// What Stat tells of a queue (`msqid_ds` of POSIX.1-2017, `<sys/msg.h>`).

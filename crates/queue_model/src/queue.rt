@@ -8,9 +8,9 @@ ghost use Rattle.queue_model.specs.Lawful.{IsLawfulQueue};
 use crate::answer::QueueInfo;
 use crate::call::{GetArguments, ReceiveArguments, SendArguments, SetArguments};
 use crate::caller::Caller;
-use crate::limits::{DEFAULT_QBYTES, END_OF_SERIALS, MAX_BODY, MAX_MESSAGES, MAX_QBYTES};
+use limits::{DEFAULT_QBYTES, END_OF_SERIALS, MAX_BODY, MAX_MESSAGES, MAX_QBYTES};
 use crate::message::{Message, Messages};
-use crate::no_memory::NoMemory;
+use faults::NoMemory;
 use crate::permissions::Permissions;
 use std::alloc::Global;
 
@@ -68,7 +68,7 @@ impl Queue {
         ensures { result ≡ lacks_room length self.now }
     {
         self.messages.total_bytes() + length > self.qbytes as usize
-            || self.messages.len() == MAX_MESSAGES
+            || self.messages.len() == MAX_MESSAGES as usize
             || self.next_serial == END_OF_SERIALS
     }
 

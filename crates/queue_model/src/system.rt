@@ -12,8 +12,8 @@ use crate::answer::{Answer, QueueInfo};
 use crate::call::{Call, GetArguments, ReceiveArguments, SendArguments, SetArguments};
 use crate::caller::Caller;
 use crate::errno::Errno;
-use crate::limits::{END_OF_IDS, MAX_BODY, MAX_QBYTES, MAX_QUEUES, SUPERUSER};
-use crate::no_memory::NoMemory;
+use limits::{END_OF_IDS, MAX_BODY, MAX_QBYTES, MAX_QUEUES, SUPERUSER};
+use faults::NoMemory;
 use crate::permissions::Access;
 use crate::queue::Queue;
 use std::alloc::Global;
@@ -158,7 +158,7 @@ impl System {
         requires { IsFreshKey arguments.now.key self.old }
         ensures { Meets result (create caller arguments.now self.old) self.old self.new }
     {
-        if self.queues() == MAX_QUEUES || self.next_id == END_OF_IDS {
+        if self.queues() == MAX_QUEUES as usize || self.next_id == END_OF_IDS {
             return refused(Errno::ENOSPC);
         }
         let alloc: Global = *self.queues.allocator();

@@ -9,7 +9,6 @@ mod field;
 mod key_entry;
 mod laws;
 mod layout;
-mod limits;
 mod message_entry;
 mod queue_entry;
 mod record;

@@ -9,6 +9,8 @@ pub mod SplitStepLemmas
 pub mod MergeStepLemmas
 pub mod OwnLemmas
 pub mod KindLemmas
+pub mod TurnLemmas
+pub mod ScheduleLemmas
 pub mod RestLemmas
 pub mod MachineLemmas
 pub mod OnePageLemmas

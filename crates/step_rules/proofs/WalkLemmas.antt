@@ -9,16 +9,16 @@ use Rattle.page_locks.specs.Locks.{lock_of}
 use Rattle.page_locks.specs.Table.{row_of}
 use Rattle.page_locks.proofs.ChangeLemmas.{held-grant, IsSeat-with_row}
 use Rattle.hash_file.specs.Store.{next_at}
-use Rattle.hash_file.specs.Search.{Leads, distance}
+use Rattle.hash_file.specs.Search.{PageLeads, distance}
 use Rattle.step_rules.specs.declared.kind.Kind.TheVariants.{Grant, Release, Hop}
 use Rattle.step_rules.specs.World.{World, IsHeld}
 use Rattle.step_rules.specs.Sound.{IsSoundWorld}
-use Rattle.step_rules.specs.Known.{Deep, LeadsTo, Holds}
-use Rattle.step_rules.specs.LockSteps.{GoesOn, Hops}
+use Rattle.step_rules.specs.Known.{Deep, LeadsTo, IsKnown}
+use Rattle.step_rules.specs.LockSteps.{MovesOn, Hops}
 use Rattle.step_rules.specs.Ways.{hops_between}
 use Rattle.step_rules.specs.Walks.{HasRead, Now, Beside, HasCome, Entered, Waited, Took, Gave, Hopped}
 use Rattle.step_rules.proofs.LockLemmas.{IsHeld-some, held-released}
-use Rattle.step_rules.proofs.KnownLemmas.{Holds-kept}
+use Rattle.step_rules.proofs.KnownLemmas.{IsKnown-kept}
 use Rattle.step_rules.proofs.KindLemmas.{kind_keeps}
 use Rattle.step_rules.proofs.OwnLemmas.{entry_read_leads, hop_is_led_on, own_grant_keeps}
 use Rattle.step_rules.proofs.BuddyLemmas.{hop_goes_elsewhere}
@@ -28,7 +28,7 @@ use Rattle.step_rules.proofs.BoundLemmas.{depth_is_exact, kind_parts, entry_is_n
 -- what a seat that has read the depth may count on
 record HasNear (hash : RecordKey → ℕ) (seat k depth : ℕ) (w : World) (added : ℕ) : Type 0 where
   pub sound : IsSoundWorld hash w
-  pub deep : Holds seat w (Deep depth)
+  pub deep : IsKnown seat w (Deep depth)
   pub near : hops_between w.store depth k ≤ added
 
 has_near : (hash : RecordKey → ℕ) (seat k depth : ℕ) (w : World) (added : ℕ) → HasRead hash seat depth w added →
@@ -43,19 +43,19 @@ has_near hash seat k depth _ _ (Beside old new added other kind before apart doe
     let keeps = kind_keeps kind hash other old new was.sound does in
     record {
       sound = keeps.sound;
-      deep = Holds-kept hash seat other old new apart was.sound keeps.leaves (Deep depth) was.deep;
+      deep = IsKnown-kept hash seat other old new apart was.sound keeps.leaves (Deep depth) was.deep;
       near = omega (arith, was.near, kind_parts kind hash other seat old new depth k was.sound does apart was.deep.0);
     }
 
 -- and one that has come to a page
 record IsOnItsWay (hash : RecordKey → ℕ) (seat k late : ℕ) (w : World) (page hops added : ℕ) : Type 0 where
   pub sound : IsSoundWorld hash w
-  pub leads : Holds seat w (LeadsTo page k)
+  pub leads : IsKnown seat w (LeadsTo page k)
   pub near : hops + distance w.store page k ≤ added + late
 
 -- it holds the page that it hopped to
 hop_holds : (seat page : ℕ) (old new : World) (kind : LockKind) → next_at old.store page ≢ page →
-    GoesOn page kind seat old new → IsHeld new.locks seat (Page (next_at old.store page))
+    MovesOn page kind seat old new → IsHeld new.locks seat (Page (next_at old.store page))
 hop_holds seat page old new kind other g =
     let further : LockName = Page (next_at old.store page) in
     let t : Table = with_lock old.locks seat further kind in
@@ -84,7 +84,7 @@ on_its_way hash seat k late _ _ _ _ (Waited old new page hops added other kind b
     let keeps = kind_keeps kind hash other old new was.sound does in
     record {
       sound = keeps.sound;
-      leads = Holds-kept hash seat other old new apart was.sound keeps.leaves (LeadsTo page k) was.leads;
+      leads = IsKnown-kept hash seat other old new apart was.sound keeps.leaves (LeadsTo page k) was.leads;
       near = omega (
         arith,
         was.near,
@@ -102,7 +102,7 @@ on_its_way hash seat k late _ _ _ _ (Gave old new page hops added before r aim) 
     let was = on_its_way hash seat k late old page hops added before in
     record {
       sound = (kind_keeps Release hash seat old new was.sound r).sound;
-      leads = (aim, subst (λ (w : World). Leads w.store w.change page k) (sym r.is) was.leads.1);
+      leads = (aim, subst (λ (w : World). PageLeads w.store w.change page k) (sym r.is) was.leads.1);
       near = subst (λ (w : World). hops + distance w.store page k ≤ added + late) (sym r.is) was.near;
     }
 on_its_way hash seat k late _ _ _ _ (Hopped old new page hops added kind before had other g) =

@@ -2,12 +2,13 @@ pub mod Kinds
 pub mod World
 pub mod Sound
 pub mod Structure
-pub mod Ids
+pub mod Pages
 pub mod Known
 pub mod Leaves
 pub mod LockSteps
 pub mod PageSteps
 pub mod Does
+pub mod Turns
 pub mod OnePage
 pub mod Laws
 pub mod Learns

@@ -11,7 +11,7 @@ use Rattle.hash_file.specs.Looks.{Answers}
 use Rattle.step_rules.specs.declared.kind.Kind.{Kind}
 use Rattle.step_rules.specs.World.{World, IsHeld, MayAim}
 use Rattle.step_rules.specs.Sound.{IsSoundWorld}
-use Rattle.step_rules.specs.LockSteps.{Grants, Releases, GoesOn}
+use Rattle.step_rules.specs.LockSteps.{Grants, Releases, MovesOn}
 use Rattle.step_rules.specs.Does.{Does}
 use Rattle.step_rules.specs.Ways.{hops_added}
 
@@ -38,7 +38,7 @@ pub data HasCome (hash : RecordKey → ℕ) (seat k late : ℕ) : World → ℕ 
       MayAim new.locks seat page → HasCome hash seat k late new page hops added
   -- it hopped
   Hopped : (old new : World) (page hops added : ℕ) (kind : LockKind) → HasCome hash seat k late old page hops added →
-      held old.locks seat (Page page) ≡ Some kind → (Answers old.store page k → ⊥) → GoesOn page kind seat old new →
+      held old.locks seat (Page page) ≡ Some kind → (Answers old.store page k → ⊥) → MovesOn page kind seat old new →
       HasCome hash seat k late new (next_at old.store page) (suc hops) added
 
 -- a search makes no more hops than the others may have added since it read the depth, but for one where its entry was

@@ -4,16 +4,18 @@ ghost use Rattle.step_rules.specs.declared.kind.Kind.{Kind};
 ghost use Rattle.step_rules.specs.OnePage.{KindChangesLittle};
 ghost use Rattle.step_rules.specs.Walks.{SearchHopsLittle};
 ghost use Rattle.step_rules.specs.Ways.{KindLengthens, SchedulesLengthen, DepthIsExact, KindParts, EntryIsNear, HopIsNearer};
-ghost use Rattle.step_rules.specs.Laws.{OthersKnow, KindKeeps, KindKeepsContents, WriteChangesOneRecord, SchedulesKeepSound, SchedulesKeepKnowledge, RestIsSound, RestIsQuiet};
+ghost use Rattle.step_rules.specs.Laws.{OthersKnow, KindKeeps, TurnKeeps, TurnIsOfItsKind, KindKeepsContents, WriteChangesOneRecord, SchedulesKeepSound, SchedulesKeepKnowledge, RestIsSound, RestIsQuiet};
 
 /// What a seat knows is still so after a step of another seat, by what that step leaves.
 pub fn others_keep_what_they_know()
     ensures { OthersKnow }
 {}
 
-/// A step of any kind keeps the world sound, and leaves the others what they know.
+/// A step of any kind keeps the world sound, and leaves the others what they know; so does one that is tied to its turn.
 pub fn each_kind_leaves_what_others_know()
-    ensures { (kind : Kind) → KindKeeps kind }
+    ensures kinds { (kind : Kind) → KindKeeps kind }
+    ensures turns { (kind : Kind) → TurnKeeps kind }
+    ensures tied { (kind : Kind) → TurnIsOfItsKind kind }
 {}
 
 /// A step changes what the file holds only where it writes a record, and then that one record.

@@ -7,7 +7,7 @@ mod laws;
 mod learns;
 mod progress;
 
-pub use kind::Kind;
+pub use kind::{Kind, MERGED_BYTES};
 pub use laws::{
     a_search_hops_once_more_at_most, a_step_changes_one_page_and_one_lock_at_most,
     a_world_at_rest_is_a_quiet_file, each_kind_leaves_what_others_know,

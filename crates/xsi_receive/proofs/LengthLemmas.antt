@@ -2,8 +2,8 @@
 use Rattle.std.proofs.Common.{◌≡◌, ℕ, suc, List, [], ◌∷◌, ◌++◌, length, refl, sym, ap, ◌∙◌, arith}
 use Rattle.std.specs.Prelude.{⊤}
 use Rattle.std.proofs.lemmas.List.{length-append}
-use Rattle.bucket_page.specs.Numbers.{two, four, eight}
-use Rattle.bucket_page.proofs.Fields.{length-two, length-four, length-eight}
+use Rattle.fields.specs.Numbers.{two, four, eight}
+use Rattle.fields.proofs.NumberLaws.{length-two, length-four, length-eight}
 use Rattle.queue_records.specs.declared.message_entry.MessageEntry.{MessageEntry}
 use Rattle.queue_records.specs.declared.queue_entry.QueueEntry.{QueueEntry}
 use Rattle.queue_records.specs.declared.record.Record.TheVariants as records

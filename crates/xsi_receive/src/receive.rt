@@ -4,7 +4,7 @@ ghost use Rattle.std.specs.Prelude.{◌≡◌, ◌≤◌, ◌<◌, ◌&&◌, IfO
 ghost use Rattle.queue_model.specs.declared.call.Call.TheVariants.{Receive};
 ghost use Rattle.queue_model.specs.declared.caller.Caller.{Caller};
 ghost use Rattle.queue_model.specs.State.{State};
-ghost use Rattle.queue_records.specs.declared.limits.TheConstants.{MAX_BODY};
+ghost use Rattle.limits.specs.declared.TheConstants.{MAX_BODY};
 ghost use Rattle.queue_records.specs.declared.message_entry.MessageEntry.{MessageEntry};
 ghost use Rattle.queue_records.specs.declared.record.Record.TheVariants as records;
 ghost use Rattle.queue_records.specs.declared.type_entry.TypeEntry.{TypeEntry};

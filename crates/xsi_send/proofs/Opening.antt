@@ -10,7 +10,7 @@ use Rattle.queue_model.specs.declared.call.SendArguments.{SendArguments}
 use Rattle.queue_model.specs.declared.caller.Caller.{Caller}
 use Rattle.queue_model.specs.declared.errno.Errno.{Errno}
 use Rattle.queue_model.specs.declared.errno.Errno.TheVariants.{EINVAL, EINTR, EACCES, EAGAIN}
-use Rattle.queue_model.specs.declared.limits.TheConstants.{MAX_BODY}
+use Rattle.limits.specs.declared.TheConstants.{MAX_BODY}
 use Rattle.queue_model.specs.declared.permissions.Access.TheVariants.{Write}
 use Rattle.queue_model.specs.declared.queue.Queue.{Queue}
 use Rattle.queue_model.specs.Access.{lacks_access}

@@ -1,5 +1,5 @@
 use Rattle.std.proofs.Common.{◌≡◌, ◌∙◌, ◌++◌, length, ap, arith}
-use Rattle.bucket_page.specs.Numbers.{zeros}
+use Rattle.fields.specs.Numbers.{zeros}
 use Rattle.bucket_page.proofs.EntryLaws.{one_byte}
 use Rattle.bucket_page.proofs.write.write_slots.Goals as goal
 
@@ -12,4 +12,4 @@ returns c =
     let d = c.split_at_mut-places.ensures.back_len in
     let long : length c.split_at_mut-places.result.1.now ≡ 2000 = omega (arith, a, b, d, c.requires.long) in
     let last = c.blank-2.ensures ∙ ap zeros long in
-    λ i. first i ++ (reserved i ++ (c.write_entries.ensures i ++ last i))
+    λ i. first i ++ (reserved i ++ (c.write_numbers.ensures i ++ last i))

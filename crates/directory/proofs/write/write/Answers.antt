@@ -1,5 +1,5 @@
 use Rattle.std.proofs.Common.{◌≡◌, ◌∙◌, ◌++◌, length, ap, arith}
-use Rattle.directory.specs.Numbers.{zeros}
+use Rattle.fields.specs.Numbers.{zeros}
 use Rattle.directory.proofs.HeaderLaws.{four_written}
 use Rattle.directory.proofs.write.write.Goals as goal
 

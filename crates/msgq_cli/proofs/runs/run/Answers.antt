@@ -1,6 +1,6 @@
 use Rattle.std.proofs.Common.{rules, ◌≡◌, ◌<◌, ◌++◌, ◌∷◌, [], length, take, take_all, get_or, ◌+◌, ap, ◌∙◌}
 use Rattle.std.proofs.lemmas.List.{take_more}
-use Rattle.xsi_calls.specs.Serving.{Holds}
+use Rattle.one_caller.specs.Serving.{Holds}
 use Rattle.msgq_cli.proofs.RunLemmas.{IsPrinted-start, IsPrinted-push, IsRun-start, IsRun-push}
 use Rattle.msgq_cli.proofs.runs.run.Goals as goal
 

@@ -1,6 +1,6 @@
 use Rattle.std.proofs.Common.{take}
 use Rattle.queue_model.specs.State.{State}
-use Rattle.xsi_calls.specs.Serving.{CallerState, Holds}
+use Rattle.one_caller.specs.Serving.{CallerState, Holds}
 use Rattle.msgq_cli.specs.Outputs.{OutputState}
 use Rattle.msgq_cli.specs.Runs.{IsPrinted, IsRun}
 use Rattle.msgq_cli.specs.Scripts.{Parts}

@@ -1,5 +1,5 @@
 use Rattle.std.proofs.Common.{rules, ◌≡◌, Ok}
-use Rattle.xsi_calls.specs.declared.served.Served.TheVariants.{Waits}
+use Rattle.one_caller.specs.declared.served.Served.TheVariants.{Waits}
 use Rattle.msgq_cli.specs.Runs.{stop}
 use Rattle.msgq_cli.proofs.RunLemmas.{Leaves-first, Leaves-stopped}
 use Rattle.msgq_cli.proofs.runs.serve_call.Goals as goal

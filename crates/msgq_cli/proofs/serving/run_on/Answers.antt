@@ -1,7 +1,7 @@
 use Rattle.std.proofs.Common.{◌≡◌, arith}
 use Rattle.std.proofs.lemmas.Int.{clamps}
 use Rattle.msgq_cli.proofs.ServeLemmas.{refused_alone}
-use Rattle.xsi_calls.specs.Serving.{restarted}
+use Rattle.one_caller.specs.Serving.{restarted}
 use Rattle.msgq_cli.proofs.serving.run_on.Goals as goal
 
 -- what was opened holds the file's system

@@ -1,5 +1,5 @@
 use Rattle.std.proofs.Common.{refl}
-use Rattle.xsi_calls.specs.Laws.{no_queues}
+use Rattle.one_caller.specs.Laws.{no_queues}
 use Rattle.msgq_cli.proofs.ServeLemmas.{RunsNew-memory}
 use Rattle.msgq_cli.proofs.serving.serve_script.Goals as goal
 

@@ -1,0 +1,4 @@
+pub mod ListLaws
+pub mod NumberLaws
+pub mod Tests
+pub mod ZeroLaws
