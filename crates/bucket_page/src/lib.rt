@@ -17,8 +17,8 @@ mod write;
 
 pub use change::{DoesNotFit, put, remove, replace};
 pub use divide::{cut, join, write_lower_half, write_upper_half};
-pub use layout::{RECORD_HEAD_BYTES, ROOM_BYTES};
-pub use page::{Malformed, PageKind, bucket_of, read_page};
+pub use layout::{BUCKET, FREE, RECORD_HEAD_BYTES, ROOM_BYTES, TOMBSTONE};
+pub use page::{Malformed, PageKind, bucket_of, link_of, read_page};
 pub use pseudokey::{ConstantKey, NumberKey, PseudoKey, ShaKey};
 pub use record_key::{KEY_BYTES, RecordKey};
 pub use records::{Record, Records};

@@ -82,6 +82,13 @@ pub fn bucket_of(payload: &Payload) -> BucketView<'_>
     bucket_in(payload)
 }
 
+/// The page that the payload of a tombstone or of a free page names. Nothing is tested.
+pub fn link_of(payload: &Payload) -> u32
+    ensures { result ≡ four_at 4 payload.now }
+{
+    four_at(payload, 4)
+}
+
 #[tactic(auto, using(crate::proofs::ChangeLaws::opened))]
 fn bucket_in(bytes: &[u8]) -> BucketView
     requires long { length bytes.now ≡ PAYLOAD_BYTES }

@@ -1,5 +1,5 @@
 -- The images of a pool, page by page, and its pins.
-use Rattle.std.proofs.Common.{◌≡◌, ◌∙◌, refl, sym, ap, subst, ℕ, ◌+◌, ◌-◌, ◌<◌, ◌≤◌, List, []}
+use Rattle.std.proofs.Common.{◌≡◌, ◌∙◌, refl, sym, ap, subst, ℕ, ◌+◌, ◌-◌, ◌<◌, ◌≤◌, List, [], ◌∷◌}
 use Rattle.std.proofs.Common.{length, arith, ◌⊎◌, inl, inr, Option, Some, None, zero, suc}
 use Rattle.std.proofs.Common.{replicate, slice_get, slice_index_or, slice_set}
 use Rattle.std.proofs.Math.ListN.{get_or, get_or-map, get_or-eq_default}
@@ -10,7 +10,7 @@ use Rattle.page_device.specs.Pages.{first_pages}
 use Rattle.page_device.specs.Sealed.{payload_of}
 use Rattle.page_device.proofs.PagesLemmas.{first_pages_length, first_pages_at, first_pages_get, first_pages_same}
 use Rattle.buffer_pool.specs.Table.{Held, place_of, payload_in}
-use Rattle.buffer_pool.specs.Table.{no_pages}
+use Rattle.buffer_pool.specs.Table.{count_pinned, no_pages}
 use Rattle.buffer_pool.specs.Pool.{PoolState, IsAtRest, pins_at, shown, image_at}
 use Rattle.buffer_pool.specs.Pool.{images_of, payloads_of}
 
@@ -29,6 +29,12 @@ pub none_pinned : (n page : ℕ) → ◌≡◌ {A = ℕ} (slice_index_or (replic
 none_pinned zero page = refl
 none_pinned (suc n) zero = refl
 none_pinned (suc n) (suc page) = none_pinned n page
+
+-- where no page is pinned, none is counted
+pub count_none : (pins : List ℕ) → ((k : ℕ) → ◌≡◌ {A = ℕ} (slice_index_or pins k 0) 0) → count_pinned pins ≡ 0
+count_none [] rest = refl
+count_none (zero ∷ pins) rest = count_none pins (λ k. rest (suc k))
+count_none (suc n ∷ pins) rest = absurd (let first = rest 0 in omega (arith, first))
 
 -- the payload of each page
 pub payload_at : (stored : List (List ℕ)) (n : ℕ) (d : List ℕ) → n < length stored
@@ -68,7 +74,7 @@ image_found stored t page frame within place =
     ∙ ap (λ p. Some (shown t p (slice_index_or stored page []))) place
 
 -- the image of a page without a frame is its payload on the device
-image_outside : (stored : List (List ℕ)) (t : Held) (page : ℕ) → page < length stored → place_of t page ≡ None
+pub image_outside : (stored : List (List ℕ)) (t : Held) (page : ℕ) → page < length stored → place_of t page ≡ None
     → get_or (images_of stored t) page [] ≡ payload_of (slice_index_or stored page [])
 image_outside stored t page within outside =
     first_pages_at (length stored) page (image_at stored t) [] within

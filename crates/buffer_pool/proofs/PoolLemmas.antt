@@ -1,5 +1,5 @@
 -- What the changes of a pool leave true of it, and of its images.
-use Rattle.std.proofs.Common.{◌≡◌, ◌∙◌, refl, sym, ap, subst, ℕ, ◌<◌, Bool, true, false, List, []}
+use Rattle.std.proofs.Common.{◌≡◌, ◌∙◌, refl, sym, ap, subst, arith, ℕ, ◌<◌, Bool, true, false, List, []}
 use Rattle.std.proofs.Common.{length, ◌⊎◌, inl, inr, Option, Some, None, IsTrue, unwrap_or}
 use Rattle.std.proofs.Common.{slice_index_or, slice_set}
 use Rattle.std.proofs.Math.ListN.{get_or}
@@ -10,8 +10,9 @@ use Rattle.page_device.specs.Sealed.{payload_of}
 use Rattle.page_device.specs.Device.{DiffersAtMostAt}
 use Rattle.page_device.proofs.PagesLemmas.{first_pages_at}
 use Rattle.page_device.proofs.PagesLemmas.{first_pages_set}
-use Rattle.buffer_pool.specs.Table.{Held, IsFree, place_of, page_of, is_changed, payload_in, with_pins, moved_in}
+use Rattle.buffer_pool.specs.Table.{Held, IsFree, place_of, pins_of, page_of, is_changed, payload_in, with_pins, moved_in}
 use Rattle.buffer_pool.specs.Table.{stored_in, cleaned_at, without}
+use Rattle.buffer_pool.specs.Transfer.{KeepsPins, StaysIn}
 use Rattle.buffer_pool.specs.Pool.{IsSound, IsClean, AgreesAt, shown, image_at}
 use Rattle.buffer_pool.specs.Pool.{images_of, payloads_of}
 use Rattle.buffer_pool.proofs.TableLemmas.{IsWhole-moved_in, IsWhole-with_pins, within_if_found, without_keeps}
@@ -101,6 +102,25 @@ module _ (stored : List (List ℕ)) (honest : Bool) (t : Held) (sound : IsSound 
             filled_other g other
             ∙ sound.agrees is j g (sym (put_other g other) ∙ here)
             (sym (get_or-set_other t.changed frame g false false other) ∙ unchanged)
+
+    -- a pinned page stays in its frame
+    pub stays-moved_in : (j g : ℕ) → 0 < pins_of t j → place_of t j ≡ Some g → StaysIn j g t after
+    stays-moved_in j g pinned place = record {
+      place = get_or-set_other gone page j (Some frame) None apart
+          ∙ without_keeps (page_of t frame) t.places j
+          (λ here. let equal : Some g ≡ Some frame = sym place ∙ sound.whole.at_place j frame here in
+          let same : g ≡ frame = cc in other same)
+          ∙ place;
+      payload = filled_other g other;
+    }
+      where
+        other : g ≡ frame → ⊥
+        other same =
+            let none = free j (ap (page_of t) (sym same) ∙ sound.whole.in_frame j g place) in
+            absurd (omega (arith, none, pinned))
+
+        apart : j ≡ page → ⊥
+        apart same = let clash : None ≡ Some g = sym outside ∙ ap (place_of t) (sym same) ∙ place in absurd cc
 
     pub images-moved_in : IsTrue honest → images_of stored after ≡ images_of stored t
     images-moved_in is = images_same stored stored t after refl (λ n within. at n within (cases_eq n page))
@@ -252,3 +272,22 @@ module _ (stored : List (List ℕ)) (honest : Bool) (t : Held) (sound : IsSound 
             let equal : Some n ≡ Some page = sym in_g ∙ moved ∙ in_f in
             let pages_same : n ≡ page = cc in
             other pages_same)
+
+-- ---- the images of pinned pages
+
+-- the image of a page that is in a frame is what the frame has
+in_frame_is : (stored : List (List ℕ)) (honest : Bool) (t : Held) → IsSound stored honest t → (page frame : ℕ)
+    → place_of t page ≡ Some frame → get_or (images_of stored t) page [] ≡ payload_in t frame
+in_frame_is stored honest t sound page frame place =
+    first_pages_at (length stored) page (image_at stored t) []
+    (page_within stored honest t sound frame page (sound.whole.in_frame page frame place))
+    ∙ ap (λ p. shown t p (slice_index_or stored page [])) place
+
+pub pinned_kept : (before after : List (List ℕ)) (was is : Bool) (old new : Held) → IsSound before was old
+    → IsSound after is new → KeepsPins old new → (page : ℕ) → 0 < pins_of old page
+    → get_or (images_of after new) page [] ≡ get_or (images_of before old) page []
+pinned_kept before after was is old new sound sound' keeps page pinned =
+    let place = sound.whole.stays page pinned in
+    let stays = keeps.stays page place.0 pinned place.1 in
+    in_frame_is after is new sound' page place.0 stays.place ∙ stays.payload
+    ∙ sym (in_frame_is before was old sound page place.0 place.1)

@@ -6,7 +6,8 @@ use Rattle.page_device.specs.Sealed.{payload_of, IsSealed}
 use Rattle.page_device.specs.Device.{HasRisen}
 use Rattle.page_device.specs.declared.fault.DeviceFault.TheVariants as device
 use Rattle.buffer_pool.specs.declared.fault.PoolFault.{PoolFault}
-use Rattle.buffer_pool.specs.declared.fault.PoolFault.TheVariants.{Device, TooFewFrames, NoMemory}
+use Rattle.buffer_pool.specs.declared.fault.PoolFault.TheVariants.{Device, Malformed, TooFewFrames, NoMemory}
+use Rattle.page_forms.specs.Forms.{IsWell}
 use Rattle.buffer_pool.specs.Table.{Held, place_of, page_of, is_changed, payload_in, count_pinned, IsWhole}
 
 pub record PoolState : Type 0 where
@@ -54,6 +55,10 @@ IsClean t frame = (page : ℕ) → page_of t frame ≡ Some page → is_changed 
 abbrev pub pins_at : PoolState → ℕ → ℕ
 pins_at s page = slice_index_or s.pins page 0
 
+-- the image of a page
+abbrev pub image_of : PoolState → ℕ → List ℕ
+image_of s page = slice_index_or s.images page []
+
 -- the page is there and not pinned, and each frame is pinned by another
 pub record IsCrowded (page : ℕ) (s : PoolState) : Type 0 where
   pub there : page < length s.images
@@ -80,9 +85,11 @@ opened frames stored honest synced faults = record {
 abbrev pub KeepsSeals : List (List ℕ) → List (List ℕ) → Type 0
 KeepsSeals old new = (n : ℕ) → IsSealed n (slice_index_or old n []) → IsSealed n (slice_index_or new n [])
 
--- the images, the frames and honesty stay, and where the call succeeded the seals on the device
+-- the images, the frames and honesty stay, and where the call succeeded the seals on the device; the images of
+-- pinned pages stay whatever the device
 pub record KeepsImages (succeeded : Bool) (old new : PoolState) : Type 0 where
   pub images : IsTrue old.honest → new.images ≡ old.images
+  pub pinned : (page : ℕ) → 0 < pins_at old page → image_of new page ≡ image_of old page
   pub as_many : length new.images ≡ length old.images
   pub frames : new.frames ≡ old.frames
   pub honest : new.honest ≡ old.honest
@@ -95,13 +102,15 @@ pub record PoolHasCause {T : Type 0} (MayTell : PoolFault → Type 0) (old new :
   pub failed : IsErrOf result (Device device.Device) → HasRisen old new
   pub told : IfErr result MayTell
 
--- what the pinning of a page may tell; a wrong digest never of a sealed page of an honest device
+-- what the pinning of a page may tell: of an honest device no wrong digest of a page that is sealed, and no page
+-- malformed whose image spells one
 abbrev pub MayNotPin : ℕ → PoolState → PoolFault → Type 0
 MayNotPin page s (Device device.Device) = ⊤
 MayNotPin page s (Device device.BadDigest) = IsTrue s.honest → IsSealed page (slice_index_or s.stored page []) → ⊥
 MayNotPin page s (Device device.PastEnd) = ⊤
 MayNotPin page s (Device device.DeviceFull) = ⊥
 MayNotPin page s (Device device.NoMemory) = ⊥
+MayNotPin page s Malformed = IsTrue s.honest → IsWell (image_of s page) → ⊥
 MayNotPin page s TooFewFrames = ⊤
 MayNotPin page s NoMemory = ⊥
 

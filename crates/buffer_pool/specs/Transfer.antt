@@ -1,10 +1,12 @@
 -- What the transfers of a pool leave.
-use Rattle.std.specs.Prelude.{◌≡◌, ℕ, ◌<◌, Bool, false, List, [], length, IsTrue, slice_index_or, ⊤}
-use Rattle.page_device.specs.declared.fault.DeviceFault.{DeviceFault}
-use Rattle.page_device.specs.declared.fault.DeviceFault.TheVariants.{Device, BadDigest, PastEnd, DeviceFull, NoMemory}
+use Rattle.std.specs.Prelude.{◌≡◌, ℕ, ◌<◌, Bool, false, List, [], length, Some, IsTrue, slice_index_or, ⊤}
+use Rattle.page_device.specs.declared.fault.DeviceFault.TheVariants as device
 use Rattle.page_device.specs.Sealed.{IsSealed}
+use Rattle.page_forms.specs.Forms.{IsWell}
+use Rattle.buffer_pool.specs.declared.fault.PoolFault.{PoolFault}
+use Rattle.buffer_pool.specs.declared.fault.PoolFault.TheVariants.{Device, Malformed, TooFewFrames, NoMemory}
 use Rattle.buffer_pool.specs.Pool.{IsClean, KeepsSeals}
-use Rattle.buffer_pool.specs.Table.{Held, is_changed}
+use Rattle.buffer_pool.specs.Table.{Held, is_changed, payload_in, pins_of, place_of}
 
 -- each frame holds what it held, and no other frame was changed
 pub record KeepsPages (old new : Held) : Type 0 where
@@ -14,8 +16,14 @@ pub record KeepsPages (old new : Held) : Type 0 where
   pub payloads : new.payloads ≡ old.payloads
   pub clean : (frame : ℕ) → is_changed old frame ≡ false → is_changed new frame ≡ false
 
--- the pins and the number of frames stay
+-- a page stays in a frame, with its payload
+pub record StaysIn (page frame : ℕ) (old new : Held) : Type 0 where
+  pub place : place_of new page ≡ Some frame
+  pub payload : payload_in new frame ≡ payload_in old frame
+
+-- the pins and the number of frames stay, and each pinned page stays in its frame
 pub record KeepsPins (old new : Held) : Type 0 where
+  pub stays : (page frame : ℕ) → 0 < pins_of old page → place_of old page ≡ Some frame → StaysIn page frame old new
   pub pins : new.pins ≡ old.pins
   pub places : length new.places ≡ length old.places
   pub frames : length new.pages ≡ length old.pages
@@ -30,10 +38,15 @@ pub record AreWritten (honest is_synced : Bool) (t : Held) : Type 0 where
   pub clean : (frame : ℕ) → frame < length t.pages → IsClean t frame
   pub synced : IsTrue honest → IsTrue is_synced
 
--- what the reading of a page that is there may tell; a wrong digest never of a sealed page of an honest device
-abbrev pub MayBeUnread : Bool → ℕ → List (List ℕ) → DeviceFault → Type 0
-MayBeUnread honest page stored Device = ⊤
-MayBeUnread honest page stored BadDigest = IsTrue honest → IsSealed page (slice_index_or stored page []) → ⊥
-MayBeUnread honest page stored PastEnd = ⊥
-MayBeUnread honest page stored DeviceFull = ⊥
-MayBeUnread honest page stored NoMemory = ⊥
+-- what the reading of a page that is there may tell: of an honest device no wrong digest of a page that is sealed, and
+-- no page malformed whose image spells one
+abbrev pub MayBeUnread : Bool → ℕ → (stored images : List (List ℕ)) → PoolFault → Type 0
+MayBeUnread honest page stored images (Device device.Device) = ⊤
+MayBeUnread honest page stored images (Device device.BadDigest) =
+    IsTrue honest → IsSealed page (slice_index_or stored page []) → ⊥
+MayBeUnread honest page stored images (Device device.PastEnd) = ⊥
+MayBeUnread honest page stored images (Device device.DeviceFull) = ⊥
+MayBeUnread honest page stored images (Device device.NoMemory) = ⊥
+MayBeUnread honest page stored images Malformed = IsTrue honest → IsWell (slice_index_or images page []) → ⊥
+MayBeUnread honest page stored images TooFewFrames = ⊥
+MayBeUnread honest page stored images NoMemory = ⊥

@@ -13,6 +13,9 @@ pub enum PoolFault {
     /// image and no pin was changed.
     #[error(transparent)]
     Device(DeviceFault),
+    /// The payload of a page, whose digest is right, spells no page. No image and no pin was changed.
+    #[error("a page is malformed")]
+    Malformed,
     /// A pool of no frame was asked for, or each frame is pinned by another page. Nothing was
     /// changed.
     #[error("there are too few frames")]
@@ -30,6 +33,7 @@ impl PoolFault {
         match self {
             PoolFault::Device(fault) => fault.number(),
             PoolFault::TooFewFrames => faults::TOO_FEW_FRAMES,
+            PoolFault::Malformed => faults::MALFORMED,
             PoolFault::NoMemory => faults::NO_MEMORY,
         }
     }

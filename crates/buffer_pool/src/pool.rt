@@ -9,7 +9,8 @@ use crate::fault::PoolFault;
 use crate::frame::Frame;
 use crate::table::Table;
 use crate::transfer::{bring_in, write_all};
-use page_device::{DeviceFault, PageDevice, Payload};
+use page_device::{DeviceFault, PageDevice};
+use page_forms::FilePage;
 use std::alloc::Global;
 use std::marker::Model;
 
@@ -75,7 +76,8 @@ impl<D: PageDevice> Pool<D> {
         self.device.faults()
     }
 
-    /// Pins a page, so that it stays in its frame, and reads it where it has none.
+    /// Pins a page, so that it stays in its frame. Where it has none it is read, and its digest and its
+    /// payload are tested.
     #[tactic(auto, using(crate::proofs::ImagesLemmas::images_length))]
     pub fn pin(&mut self, page: u32) -> Result<Frame, PoolFault>
         requires { pins_at self.old page + 1 < 2 ^ 32 }
@@ -95,10 +97,7 @@ impl<D: PageDevice> Pool<D> {
         if self.table.pins(page) == 0 && self.table.pinned() >= self.table.frames() {
             return Err(PoolFault::TooFewFrames);
         }
-        match bring_in(&mut self.device, &mut self.table, page) {
-            Ok(()) => {}
-            Err(fault) => return Err(PoolFault::Device(fault)),
-        }
+        bring_in(&mut self.device, &mut self.table, page)?;
         self.table.pin(page);
         Ok(Frame::new(page))
     }
@@ -114,26 +113,26 @@ impl<D: PageDevice> Pool<D> {
     }
 
     /// The image of a pinned page.
-    pub fn image(&self, frame: &Frame) -> &Payload
+    pub fn image(&self, frame: &Frame) -> &FilePage
         requires { 0 < pins_at self.now frame.now }
         ensures { slice_get self.now.images frame.now ≡ Some result.now }
     {
         self.table.payload(self.table.frame_of(frame.page()))
     }
 
-    /// Makes this the image of a pinned page.
-    pub fn store(&mut self, frame: &Frame, payload: &Payload)
+    /// Makes this page the image of a pinned page.
+    pub fn store(&mut self, frame: &Frame, page: FilePage)
         requires { 0 < pins_at self.old frame.now }
         ensures { self.new ≡ record self.old {
-          images = slice_set self.old.images frame.now payload.now;
+          images = slice_set self.old.images frame.now page;
         } }
     {
-        *self.image_mut(frame) = *payload;
+        *self.image_mut(frame) = page;
     }
 
     /// Lends the image of a pinned page, to be changed in place. It counts as stored, and the page
     /// is sealed when it is written back.
-    pub fn image_mut(&mut self, frame: &Frame) -> &mut Payload
+    pub fn image_mut(&mut self, frame: &Frame) -> &mut FilePage
         requires { 0 < pins_at self.old frame.now }
         ensures* writes_back { sem 𝓛 (LendsImage D.row D.PageDevice self.entry frame.now result) }
         ensures value { slice_get self.old.images frame.now ≡ Some result.now }
@@ -151,10 +150,7 @@ impl<D: PageDevice> Pool<D> {
         ensures keeps { KeepsImages (is_ok result) self.old self.new }
         ensures cause { PoolHasCause MayNotFlush self.old.faults self.new.faults result }
     {
-        match write_all(&mut self.device, &mut self.table) {
-            Ok(()) => {}
-            Err(fault) => return Err(PoolFault::Device(fault)),
-        }
+        write_all(&mut self.device, &mut self.table)?;
         Ok(())
     }
 

@@ -2,9 +2,10 @@
 ghost use Rattle.std.specs.Prelude.{◌≡◌, ◌+◌, ◌-◌, ◌^◌, ◌<◌, length, replicate, ℕ, true, false, Some, None, IsSome, IfOk};
 ghost use Rattle.buffer_pool.specs.Table.{place_of, pins_of, page_of, is_changed, payload_in, count_pinned, no_pages, with_pins, moved_in, stored_in, cleaned_at, without, IsWhole, IsFree, IsTaken};
 ghost use Rattle.std.specs.Borrow.{sem};
+ghost use Rattle.page_forms.specs.Forms.{blank_page};
 ghost use Rattle.buffer_pool.specs.Lending.{LendsPayload};
 
-use page_device::{PAYLOAD_BYTES, Payload};
+use page_forms::FilePage;
 use std::alloc::{AllocError, Global};
 use std::marker::Model;
 
@@ -16,7 +17,7 @@ pub struct Table {
     pinned: usize,
     pages: Vec<Option<u32>>,
     changed: Vec<bool>,
-    payloads: Vec<Payload>,
+    payloads: Vec<FilePage>,
     /// Of each frame, whether it was used since the hand went by.
     used: Vec<bool>,
     /// Where the search for a frame goes on.
@@ -56,7 +57,7 @@ impl Table {
             pinned: 0,
             pages: copies(alloc, None, frames)?,
             changed: copies(alloc, false, frames)?,
-            payloads: copies(alloc, [0; PAYLOAD_BYTES], frames)?,
+            payloads: blanks(alloc, frames)?,
             used: copies(alloc, false, frames)?,
             hand: 0,
         })
@@ -102,7 +103,7 @@ impl Table {
     }
 
     /// The payload in a frame.
-    pub fn payload(&self, frame: usize) -> &Payload
+    pub fn payload(&self, frame: usize) -> &FilePage
         requires { frame < length self.now.pages }
         ensures { result.now ≡ payload_in self.now frame }
     {
@@ -217,19 +218,19 @@ impl Table {
     }
 
     /// Puts a page and its payload into a frame, in the place of the page that was there.
-    pub fn move_in(&mut self, frame: usize, page: u32, payload: &Payload)
+    pub fn move_in(&mut self, frame: usize, page: u32, payload: FilePage)
         requires frame { frame < length self.old.pages }
         requires free { IsFree self.old frame }
         requires page { page < length self.old.places }
         requires outside { place_of self.old page ≡ None }
-        ensures { self.new ≡ moved_in frame page payload.now self.old }
+        ensures { self.new ≡ moved_in frame page payload self.old }
     {
         forget(&mut self.places, self.pages[frame]);
         self.places[page as usize] = Some(frame);
         self.pages[frame] = Some(page);
         self.changed[frame] = false;
         self.used[frame] = true;
-        self.payloads[frame] = *payload;
+        self.payloads[frame] = payload;
     }
 
     /// The frame of a page that is in one.
@@ -247,7 +248,7 @@ impl Table {
     }
 
     /// Lends the payload in a frame, which is changed by that.
-    pub fn payload_mut(&mut self, frame: usize) -> &mut Payload
+    pub fn payload_mut(&mut self, frame: usize) -> &mut FilePage
         requires { frame < length self.old.pages }
         ensures* writes_back { sem 𝓛 (LendsPayload self.entry frame result) }
         ensures value { result.now ≡ payload_in self.old frame }
@@ -289,5 +290,16 @@ fn copies<T: Copy + Drop>(alloc: Global, value: T, count: usize) -> Result<Vec<T
 {
     let mut list = Vec::new(alloc);
     list.resize(count, value)?;
+    Ok(list)
+}
+
+/// So many blank pages.
+fn blanks(alloc: Global, count: usize) -> Result<Vec<FilePage>, AllocError>
+    ensures { IfOk result (λ list. list.items ≡ replicate count blank_page) }
+{
+    let mut list = Vec::with_capacity(alloc, count)?;
+    for _ in 0..count {
+        list.push(FilePage::blank())?;
+    }
     Ok(list)
 }

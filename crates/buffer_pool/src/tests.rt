@@ -5,20 +5,28 @@ use super::*;
 use page_device::{
     DeviceFault, FaultyDevice, MemDevice, PAGE_BYTES, PAYLOAD_BYTES, PageDevice, seal,
 };
+use page_forms::FilePage;
 use std::alloc::Global;
 use std::test::Fail;
 
-/// Three pages, each filled with its number.
+/// A free page that names another.
+fn naming(next: u32) -> FilePage {
+    let mut page = FilePage::blank();
+    page.write_free(next);
+    page
+}
+
+/// Three free pages, each of which names itself.
 fn three_pages(alloc: Global) -> Result<MemDevice, DeviceFault> {
     let mut device = MemDevice::new(alloc);
     for page in 0..3u32 {
-        device.extend(&seal(page, &[page as u8; PAYLOAD_BYTES]))?;
+        device.extend(&seal(page, naming(page).payload()))?;
     }
     Ok(device)
 }
 
-/// Stores a page filled with this byte.
-fn put<D: PageDevice>(pool: &mut Pool<D>, page: u32, byte: u8) -> Result<(), PoolFault>
+/// Stores a free page that names this one.
+fn put<D: PageDevice>(pool: &mut Pool<D>, page: u32, next: u32) -> Result<(), PoolFault>
     requires { IsAtRest pool.old }
     ensures { IsAtRest pool.new }
 {
@@ -26,13 +34,13 @@ fn put<D: PageDevice>(pool: &mut Pool<D>, page: u32, byte: u8) -> Result<(), Poo
         Ok(frame) => frame,
         Err(fault) => return Err(fault),
     };
-    pool.store(&frame, &[byte; PAYLOAD_BYTES]);
+    pool.store(&frame, naming(next));
     pool.unpin(frame);
     Ok(())
 }
 
-/// The last byte of the image of a page.
-fn get<D: PageDevice>(pool: &mut Pool<D>, page: u32) -> Result<u8, PoolFault>
+/// The page that the image of a free page names.
+fn get<D: PageDevice>(pool: &mut Pool<D>, page: u32) -> Result<u32, PoolFault>
     requires { IsAtRest pool.old }
     ensures { IsAtRest pool.new }
 {
@@ -40,28 +48,27 @@ fn get<D: PageDevice>(pool: &mut Pool<D>, page: u32) -> Result<u8, PoolFault>
         Ok(frame) => frame,
         Err(fault) => return Err(fault),
     };
-    let last = pool.image(&frame)[PAYLOAD_BYTES - 1];
+    let next = pool.image(&frame).next_free();
     pool.unpin(frame);
-    Ok(last)
+    Ok(next.unwrap_or(0))
 }
 
-/// Changes the last byte of a page's image in place.
-fn change<D: PageDevice>(pool: &mut Pool<D>, page: u32, byte: u8) -> Result<u8, PoolFault>
+/// Changes the image of a page in place.
+fn change<D: PageDevice>(pool: &mut Pool<D>, page: u32, next: u32) -> Result<Option<u32>, PoolFault>
     requires { IsAtRest pool.old }
 {
     let frame = match pool.pin(page) {
         Ok(frame) => frame,
         Err(fault) => return Err(fault),
     };
-    let image = pool.image_mut(&frame);
-    image[PAYLOAD_BYTES - 1] = byte;
-    let last = pool.image(&frame)[PAYLOAD_BYTES - 1];
+    pool.image_mut(&frame).write_free(next);
+    let named = pool.image(&frame).next_free();
     pool.unpin(frame);
-    Ok(last)
+    Ok(named)
 }
 
-/// The last bytes of the images of three pages.
-fn get_all<D: PageDevice>(pool: &mut Pool<D>) -> Result<[u8; 3], PoolFault>
+/// The pages that three free pages name.
+fn get_all<D: PageDevice>(pool: &mut Pool<D>) -> Result<[u32; 3], PoolFault>
     requires { IsAtRest pool.old }
     ensures { IsAtRest pool.new }
 {
@@ -69,7 +76,7 @@ fn get_all<D: PageDevice>(pool: &mut Pool<D>) -> Result<[u8; 3], PoolFault>
 }
 
 /// Stores two pages, reads all three and flushes them.
-fn run<D: PageDevice>(pool: &mut Pool<D>) -> Result<[u8; 3], PoolFault>
+fn run<D: PageDevice>(pool: &mut Pool<D>) -> Result<[u32; 3], PoolFault>
     requires { IsAtRest pool.old }
     ensures { IsAtRest pool.new }
 {
@@ -125,6 +132,19 @@ fn each_transfer_fails_in_turn(rt: HostRuntime) -> Result<(), Fail> {
 }
 
 #[test]
+fn a_page_that_spells_none_is_refused(rt: HostRuntime) -> Result<(), Fail> {
+    let mut device = three_pages(rt.alloc())?;
+    device.write(1, &seal(1, &[7; PAYLOAD_BYTES]))?;
+    let Ok(mut pool) = Pool::open(rt.alloc(), device, 1) else {
+        return Err(PoolFault::NoMemory.into());
+    };
+    assert!(rt; get(&mut pool, 1) == Err(PoolFault::Malformed));
+    assert_eq!(rt; PoolFault::Malformed.number(), 40);
+    assert_eq!(rt; get(&mut pool, 2)?, 2);
+    Ok(())
+}
+
+#[test]
 fn a_page_with_a_wrong_digest_is_refused(rt: HostRuntime) -> Result<(), Fail> {
     let mut device = three_pages(rt.alloc())?;
     device.write(1, &[1; PAGE_BYTES])?;
@@ -135,7 +155,7 @@ fn a_page_with_a_wrong_digest_is_refused(rt: HostRuntime) -> Result<(), Fail> {
     assert!(rt; get(&mut pool, 1) == Err(fault));
     assert_eq!(rt; get(&mut pool, 2)?, 2);
     assert_eq!(rt; fault.number(), 21);
-    assert_eq!(rt; change(&mut pool, 2, 7)?, 7);
+    assert_eq!(rt; change(&mut pool, 2, 7)?, Some(7));
     Ok(())
 }
 

@@ -1,12 +1,14 @@
 //! Pages between a device and the frames.
 ghost use Rattle.std.specs.Prelude.{◌≡◌, ◌<◌, length, is_ok, None, IsSome, IsTrue, OnOk};
 ghost use Rattle.page_device.specs.Device.{HasCause, MayOnlyFail};
-ghost use Rattle.buffer_pool.specs.Pool.{IsSound, IsClean, images_of};
+ghost use Rattle.buffer_pool.specs.Pool.{IsSound, IsClean, PoolHasCause, images_of};
 ghost use Rattle.buffer_pool.specs.Table.{place_of, count_pinned};
 ghost use Rattle.buffer_pool.specs.Transfer.{AreWritten, KeepsDevice, KeepsPages, KeepsPins, MayBeUnread};
 
+use crate::fault::PoolFault;
 use crate::table::Table;
 use page_device::{DeviceFault, PAGE_BYTES, PageDevice, seal, unseal};
+use page_forms::FilePage;
 
 /// Writes the page of a frame to the device where the frame was changed.
 pub fn write_back<D: PageDevice>(
@@ -32,22 +34,19 @@ pub fn write_back<D: PageDevice>(
     if !table.is_changed(frame) {
         return Ok(());
     }
-    let sealed = seal(page, table.payload(frame));
-    match device.write(page, &sealed) {
-        Ok(()) => {}
-        Err(fault) => return Err(fault),
-    }
+    let sealed = seal(page, table.payload(frame).payload());
+    device.write(page, &sealed)?;
     table.clean(frame);
     Ok(())
 }
 
-/// Sees that a page is in a frame. Where it is in none it is read into a frame whose page may go,
-/// and which is written to the device before.
+/// Sees that a page is in a frame. Where it is in none it is read and tested, and comes into a frame whose
+/// page may go, and which is written to the device before.
 pub fn bring_in<D: PageDevice>(
     device: &mut D,
     table: &mut Table,
     page: u32,
-) -> Result<(), DeviceFault>
+) -> Result<(), PoolFault>
     requires sound { IsSound (D.content device.old) (D.is_honest device.old) table.old }
     requires page { page < length table.old.places }
     requires room { place_of table.old page ≡ None →
@@ -59,7 +58,8 @@ pub fn bring_in<D: PageDevice>(
     ensures pins { KeepsPins table.old table.new }
     ensures device { KeepsDevice (is_ok result) (D.is_honest device.old) (D.is_honest device.new)
         (D.content device.old) (D.content device.new) }
-    ensures cause { HasCause (MayBeUnread (D.is_honest device.old) page (D.content device.old))
+    ensures cause { PoolHasCause (MayBeUnread (D.is_honest device.old) page
+        (D.content device.old) (images_of (D.content device.old) table.old))
         (D.fault_count device.old) (D.fault_count device.new) result }
 {
     if let Some(frame) = table.place(page) {
@@ -67,20 +67,14 @@ pub fn bring_in<D: PageDevice>(
         return Ok(());
     }
     let mut bytes = [0; PAGE_BYTES];
-    match device.read(page, &mut bytes) {
-        Ok(()) => {}
-        Err(fault) => return Err(fault),
-    }
-    let payload = match unseal(page, &bytes) {
-        Ok(payload) => payload,
-        Err(fault) => return Err(fault),
+    device.read(page, &mut bytes)?;
+    let payload = unseal(page, &bytes)?;
+    let Some(read) = FilePage::read(&payload) else {
+        return Err(PoolFault::Malformed);
     };
     let frame = table.free_frame();
-    match write_back(device, table, frame) {
-        Ok(()) => {}
-        Err(fault) => return Err(fault),
-    }
-    table.move_in(frame, page, &payload);
+    write_back(device, table, frame)?;
+    table.move_in(frame, page, read);
     Ok(())
 }
 
@@ -99,10 +93,7 @@ pub fn write_all<D: PageDevice>(device: &mut D, table: &mut Table) -> Result<(),
         (D.fault_count device.old) (D.fault_count device.new) result }
 {
     for frame in 0..table.frames() {
-        match write_back(device, table, frame) {
-            Ok(()) => {}
-            Err(fault) => return Err(fault),
-        }
+        write_back(device, table, frame)?;
     }
     device.sync()
 }

@@ -4,7 +4,7 @@ ghost use Rattle.std.specs.Prelude.{◌≡◌, IfOk, Ok, length};
 ghost use Rattle.page_device.specs.declared.page.TheConstants.{PAYLOAD_BYTES};
 ghost use Rattle.directory.specs.Fault.{number_of};
 ghost use Rattle.fields.specs.Numbers.{numbers_of};
-ghost use Rattle.directory.specs.Reading.{counts_at, has_layout, has_magic, has_padding, has_range, reading};
+ghost use Rattle.directory.specs.Reading.{counts_at, header_at, has_layout, has_magic, has_padding, has_range, reading};
 ghost use Rattle.directory.specs.Spelling.{Spells};
 
 use crate::header::Header;
@@ -51,6 +51,25 @@ pub fn read_header(payload: &Payload) -> Result<Header, HeaderFault>
     read(payload)
 }
 
+/// The header of a payload that is known to spell one. Nothing is tested again.
+pub fn header_of(payload: &Payload) -> Header
+    ensures { result ≡ header_at payload.now }
+{
+    header_in(payload)
+}
+
+fn header_in(bytes: &[u8]) -> Header
+    requires { length bytes.now ≡ PAYLOAD_BYTES }
+    ensures { result ≡ header_at bytes.now }
+{
+    Header {
+        depth: bytes[2],
+        pages: four_at(bytes, 12),
+        first_free: four_at(bytes, 16),
+        counts: counts_at(bytes),
+    }
+}
+
 fn read(bytes: &[u8]) -> Result<Header, HeaderFault>
     requires { length bytes.now ≡ PAYLOAD_BYTES }
     ensures { result ≡ reading bytes.now }
@@ -64,12 +83,7 @@ fn read(bytes: &[u8]) -> Result<Header, HeaderFault>
     if !has_layout(bytes) {
         return Err(HeaderFault::BadHeader);
     }
-    Ok(Header {
-        depth: bytes[2],
-        pages: four_at(bytes, 12),
-        first_free: four_at(bytes, 16),
-        counts: counts_at(bytes),
-    })
+    Ok(header_in(bytes))
 }
 
 /// Whether the magic stands at its place.

@@ -8,6 +8,7 @@ mod locking;
 mod making;
 mod pinning;
 mod sealing;
+mod stepping;
 
 use page_device::MAX_PAGES;
 use std::time::Instant;
@@ -24,6 +25,9 @@ const PINS: u32 = 2_000_000;
 /// How often a lock is granted and given back.
 const GRANTS: u32 = 5_000_000;
 
+/// How often a step on pages in frames is made.
+const STEPS: u32 = 1_000_000;
+
 fn main(rt: HostRuntime) -> anyhow::Result<()> {
     let words: Vec<String> = std::env::args(&rt)?.collect(rt.alloc())?;
     let Some(path) = words.get(1) else {
@@ -37,6 +41,7 @@ fn main(rt: HostRuntime) -> anyhow::Result<()> {
         locks(&rt, seats)?;
     }
     seals(&rt)?;
+    steps(&rt)?;
     for frames in [64, MAX_PAGES] {
         pins(&rt, frames)?;
     }
@@ -62,6 +67,10 @@ fn once(rt: &HostRuntime) -> anyhow::Result<()> {
     let mut table = locking::table_of(rt.alloc(), 64, 6)?;
     let granted = locking::grants(&mut table, 64, 100);
     println!(rt; "granted: {granted}")?;
+    let mut pool = stepping::full_file(rt.alloc())?;
+    let marks = (stepping::entries(&mut pool, 3)?, stepping::looks(&mut pool, 3)?);
+    stepping::writes(&mut pool, 3)?;
+    println!(rt; "steps: {marks:?}")?;
     Ok(())
 }
 
@@ -112,6 +121,20 @@ fn locks(rt: &HostRuntime, seats: u8) -> anyhow::Result<()> {
     let granted = locking::grants(&mut table, seats, GRANTS);
     println!(rt; "{granted} locks granted and given back")?;
     report(rt, "a grant and its release", 0, start, GRANTS)
+}
+
+/// Times steps on pages that are in frames.
+fn steps(rt: &HostRuntime) -> anyhow::Result<()> {
+    let mut pool = stepping::full_file(rt.alloc())?;
+    let start = Instant::now(rt)?;
+    let mark = stepping::entries(&mut pool, STEPS)?;
+    report(rt, "an entry read", (mark % 256) as u8, start, STEPS)?;
+    let start = Instant::now(rt)?;
+    let mark = stepping::looks(&mut pool, STEPS)?;
+    report(rt, "a look in a full bucket", (mark % 256) as u8, start, STEPS)?;
+    let start = Instant::now(rt)?;
+    stepping::writes(&mut pool, STEPS)?;
+    report(rt, "a record of 64 bytes replaced in a full bucket", 0, start, STEPS)
 }
 
 /// Times digests, and pages sealed and unsealed.

@@ -4,7 +4,8 @@ ghost use Rattle.std.specs.Prelude.{OnOk, IfOk};
 ghost use Rattle.buffer_pool.specs.Pool.{IsAtRest};
 
 use buffer_pool::{Pool, PoolFault};
-use page_device::{MemDevice, PAYLOAD_BYTES, PageDevice, seal};
+use page_device::{MemDevice, PageDevice, seal};
+use page_forms::FilePage;
 use std::alloc::Global;
 
 /// A pool of so many frames over so many pages in memory.
@@ -14,7 +15,7 @@ pub fn pool_over(alloc: Global, pages: u32, frames: usize) -> Result<Pool<MemDev
     let mut device = MemDevice::new(alloc);
     for page in 0..pages {
         device
-            .extend(&seal(page, &[7; PAYLOAD_BYTES]))
+            .extend(&seal(page, FilePage::blank().payload()))
             .map_err(PoolFault::Device)?;
     }
     match Pool::open(alloc, device, frames) {
@@ -49,7 +50,7 @@ fn pin_once(pool: &mut Pool<MemDevice>, page: u32) -> Result<u8, PoolFault>
         Ok(frame) => frame,
         Err(fault) => return Err(fault),
     };
-    let first = pool.image(&frame)[0];
+    let first = pool.image(&frame).payload()[0];
     pool.unpin(frame);
     Ok(first)
 }

@@ -1,15 +1,21 @@
 -- What an open file shows of its pages, and what it leaves of them.
-use Rattle.std.proofs.Common.{◌≡◌, refl, ◌∙◌, sym, ap, subst, ◌↔◌, ◌⊎◌, inl, inr, ℕ, ◌<◌, ◌≤◌, ◌+◌, Bool, true, false, IsTrue, List, [], Option, Some, None, Ok, Err, Result, arith}
+use Rattle.std.proofs.Common.{◌≡◌, refl, ◌∙◌, sym, ap, subst, ◌↔◌, ◌⊎◌, inl, inr, ℕ, ◌<◌, ◌≤◌, ◌+◌, Bool, true, false, IsTrue, List, [], Option, Some, None, IfNone, IsErrOf, Ok, Err, Result, arith}
 use Rattle.std.proofs.Common.{map, slice_get, slice_index_or, nat_eq, eq-eqb}
 use Rattle.std.proofs.Math.ListN.{get_or, get_or-map}
 use Rattle.std.proofs.lemmas.Bool.{eqb-true}
 use Rattle.std.proofs.lemmas.Option.{get_or_from_slice_get}
 use Rattle.page_device.specs.Device.{HasRisen}
 use Rattle.page_device.specs.Sealed.{IsSealed, payload_of}
-use Rattle.buffer_pool.specs.Pool.{PoolState, KeepsImages, KeepsSeals, opened, payloads_of, pins_at}
-use Rattle.directory.specs.declared.layout.TheConstants.{ROOT_PAGE}
-use Rattle.bucket_page.specs.declared.page.Malformed.{Malformed}
-use Rattle.bucket_page.specs.declared.page.PageKind.{PageKind}
+use Rattle.std.proofs.Common.{length}
+use Rattle.page_device.specs.declared.fault.DeviceFault.TheVariants as device
+use Rattle.bucket_page.specs.declared.page.PageKind.TheVariants as kinds
+use Rattle.page_forms.specs.Forms.{IsWell}
+use Rattle.page_forms.proofs.FormLemmas.{page_well}
+use Rattle.buffer_pool.specs.declared.fault.PoolFault.{PoolFault}
+use Rattle.buffer_pool.specs.declared.fault.PoolFault.TheVariants as pools
+use Rattle.buffer_pool.proofs.ImagesLemmas.{count_none}
+use Rattle.buffer_pool.specs.Pool.{IsAtRest, IsCrowded, MayNotPin, PoolState, KeepsImages, KeepsSeals, opened, payloads_of, pins_at}
+use Rattle.directory.specs.declared.layout.TheConstants.{LEAST_PAGES, ROOT_PAGE}
 use Rattle.bucket_page.specs.Bucket.{Bucket, bucket}
 use Rattle.bucket_page.specs.Changes.{SpellsBucket}
 use Rattle.bucket_page.specs.Reading.{bucket_at, records_at}
@@ -112,12 +118,10 @@ module _ {b : Bool} {frames faults : ℕ} {content was : List (List ℕ)} {hones
 
 -- ---- the test of the root page, goes on
 
--- what is refused is no root bucket
-pub no_root : (r : Result PageKind Malformed) (fault : Malformed) {page : PageKind} → r ≡ Err fault → r ≡ Ok page → ⊥
-no_root r fault bad good = absurd (clash (sym bad ∙ good))
-  where
-    clash : {f : Malformed} {p : PageKind} → ◌≡◌ {A = Result PageKind Malformed} (Err f) (Ok p) → ⊥
-    clash same = cc
+-- what holds where there is none
+pub refused : {X : Type 0} {P : Type 0} (o : Option X) → IfNone o P → o ≡ None → P
+refused None it none = it
+refused (Some x) it none = absurd cc
 
 pub root_test : (payload : List ℕ) (b : Bucket) → SpellsBucket b payload → b.depth ≡ 0 → b.pattern ≡ 0 → (next : ℕ)
     → next ≡ b.next → IsTrue (nat_eq next 0) ↔ IsRoot (records_at payload) payload
@@ -154,3 +158,27 @@ not_root images content page image is found all wrong rs sealed it = wrong (subs
 
     records : rs ≡ records_at image
     records = ap (λ (b : Bucket). b.records) (sym (read_again (root_bucket rs) image here))
+
+-- the root page of a pool that was opened is not pinned: it is no sealed root bucket
+pub not_pinned : (s : PoolState) (fault : PoolFault) (content : List (List ℕ)) → IsTrue s.honest
+    → s.images ≡ payloads_of content → s.stored ≡ content → IsAtRest s → 0 < s.frames → LEAST_PAGES ≤ length s.images
+    → (fault ≡ pools.Device device.Device → ⊥)
+    → (IsErrOf {T = ℕ} (Err fault) (pools.Device device.PastEnd) → length s.images ≤ ROOT_PAGE)
+    → (IsErrOf {T = ℕ} (Err fault) pools.TooFewFrames → IsCrowded ROOT_PAGE s) → MayNotPin ROOT_PAGE s fault
+    → (rs : List Pair) → IsSealed ROOT_PAGE (page_at content ROOT_PAGE) → IsRoot rs (payload_at content ROOT_PAGE) → ⊥
+not_pinned s (pools.Device device.Device) content honest images stored rest some least other past crowded told rs sealed it =
+    other refl
+not_pinned s (pools.Device device.BadDigest) content honest images stored rest some least other past crowded told rs sealed it =
+    told honest (subst (λ (pages : List (List ℕ)). IsSealed ROOT_PAGE (page_at pages ROOT_PAGE)) (sym stored) sealed)
+not_pinned s (pools.Device device.PastEnd) content honest images stored rest some least other past crowded told rs sealed it =
+    absurd (omega (arith, past refl, least))
+not_pinned s (pools.Device device.DeviceFull) content honest images stored rest some least other past crowded told rs sealed it =
+    absurd told
+not_pinned s (pools.Device device.NoMemory) content honest images stored rest some least other past crowded told rs sealed it =
+    absurd told
+not_pinned s pools.Malformed content honest images stored rest some least other past crowded told rs sealed it =
+    told honest (subst IsWell (sym (ap (λ xs. slice_index_or xs ROOT_PAGE []) images ∙ payload_among content))
+    (page_well (kinds.Bucket (root_bucket rs)) (payload_at content ROOT_PAGE) it))
+not_pinned s pools.TooFewFrames content honest images stored rest some least other past crowded told rs sealed it =
+    absurd (omega (arith, (crowded refl).all_pinned, count_none s.pins rest, some))
+not_pinned s pools.NoMemory content honest images stored rest some least other past crowded told rs sealed it = absurd told

@@ -13,10 +13,11 @@ ghost use Rattle.record_file.specs.OneBucket.{HasCauseToFail, IsRoot, Leaves, Sh
 
 use crate::fault::{CloseFault, OpenFault};
 use crate::header_test::test_header;
-use bucket_page::{DoesNotFit, PageKind, RecordKey, bucket_of, put, read_page, remove, replace};
+use bucket_page::{DoesNotFit, RecordKey, bucket_of};
 use buffer_pool::{Frame, Pool, PoolFault};
 use directory::ROOT_PAGE;
-use page_device::{DeviceFault, PageDevice, Payload};
+use page_device::{DeviceFault, PageDevice};
+use page_forms::FilePage;
 use std::alloc::Global;
 use std::marker::Model;
 
@@ -111,7 +112,7 @@ impl<D: PageDevice> OneBucket<D> {
         ensures none { IfNone result (lookup key.now self.now.records ≡ None) }
     {
         let Some(root) = &self.root else { return None };
-        bucket_of(self.pool.image(root)).find(key)
+        bucket_of(self.pool.image(root).payload()).find(key)
     }
 
     /// Puts a record whose key has none. Where it does not fit nothing is changed.
@@ -128,7 +129,7 @@ impl<D: PageDevice> OneBucket<D> {
         let Some(root) = &self.root else {
             return Err(DoesNotFit);
         };
-        put(self.pool.image_mut(root), key, value)
+        self.pool.image_mut(root).put(key, value)
     }
 
     /// Replaces the value of a key by one of the same length.
@@ -139,7 +140,7 @@ impl<D: PageDevice> OneBucket<D> {
         } }
     {
         let Some(root) = &self.root else { return };
-        replace(self.pool.image_mut(root), key, value);
+        self.pool.image_mut(root).replace(key, value);
     }
 
     /// Takes the record of a key that has one.
@@ -150,7 +151,7 @@ impl<D: PageDevice> OneBucket<D> {
         } }
     {
         let Some(root) = &self.root else { return };
-        remove(self.pool.image_mut(root), key);
+        self.pool.image_mut(root).remove(key);
     }
 
     /// Writes the root page to the device, and gives the device back. The pages of a broken file stay
@@ -192,11 +193,11 @@ impl<D: PageDevice> OneBucket<D> {
     }
 }
 
-/// Whether a payload is that of a root bucket: one of all pseudokeys, with no other behind it.
-fn is_root(payload: &Payload) -> bool
-    ensures { IsTrue result ↔ IsRoot (records_at payload.now) payload.now }
+/// Whether a page is a root bucket: one of all pseudokeys, with no other behind it.
+fn is_root(page: &FilePage) -> bool
+    ensures { IsTrue result ↔ IsRoot (records_at page.now) page.now }
 {
-    let Ok(PageKind::Bucket(bucket)) = read_page(payload) else {
+    let Some(bucket) = page.bucket() else {
         return false;
     };
     bucket.depth() == 0 && bucket.pattern() == 0 && bucket.next() == 0

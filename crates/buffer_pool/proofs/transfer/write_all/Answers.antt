@@ -21,13 +21,13 @@ loop-frame-preserved g c =
       };
       honest = now.device.honest ∙ before.honest;
       later = let first = before.later in let next = now.cause.later in omega arith;
-      seals = λ is n was. let honest = rw (← before.honest) at is in c.in-Ok.ensures.device.seals honest refl n
+      seals = λ is n was. let honest = rw (← before.honest) at is in c.in_ok-write_back.ensures.device.seals honest refl n
           (before.seals is n was);
     }
   where
     clean_at : (f : ℕ) → f < c.loop-frame.frame + 1 → (f ≡ c.loop-frame.frame) ⊎ (f ≡ c.loop-frame.frame → ⊥)
         → IsClean c.write_back.new.table f
-    clean_at f below (inl last) = subst (λ n. IsClean c.write_back.new.table n) (sym last) c.in-Ok.ensures.ok
+    clean_at f below (inl last) = subst (λ n. IsClean c.write_back.new.table n) (sym last) c.in_ok-write_back.ensures.ok
     clean_at f below (inr earlier) = λ page here.
         let was_here = sym (ap (λ pages. slice_index_or pages f None) c.write_back.ensures.pages.pages) ∙ here in
         c.write_back.ensures.pages.clean f (c.loop-frame.invariant.clean f (omega arith) page was_here)

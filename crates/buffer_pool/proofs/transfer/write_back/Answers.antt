@@ -1,28 +1,30 @@
 -- The device has what the frame has once the page is written, and the frame stays changed where that fails.
 use Rattle.std.proofs.Common.{◌∙◌, sym, ap, [], slice_index_or}
 use Rattle.std.proofs.lemmas.List.{get_or-set_same}
+use Rattle.page_device.specs.Device.{HasCause, MayOnlyFail}
 use Rattle.page_device.specs.Sealed.{payload_of}
 use Rattle.buffer_pool.proofs.PoolLemmas.{IsSound-failed, IsSound-cleaned, images-written, page_within}
-use Rattle.buffer_pool.proofs.TransferLemmas.{only_fails, seals_written}
+use Rattle.buffer_pool.proofs.TransferLemmas.{handed_on, only_fails, seals_written}
 use Rattle.buffer_pool.proofs.transfer.write_back.Goals as goal
 
-pub returns-in-Err-clause-sound : goal.returns-in-Err-clause-sound
-returns-in-Err-clause-sound g c =
+pub returns-in_err-write-clause-sound : goal.returns-in_err-write-clause-sound
+returns-in_err-write-clause-sound g c =
     let here = sym c.page.ensures ∙ c.in-Some.is in
     rw c.write.ensures.honest
     (IsSound-failed _ _ _ c.requires.sound _ c.args.frame c.in-Some.page here c.write.ensures.others
     (sym c.is_changed.ensures ∙ c.if-not-is_changed.false))
 
-pub returns-in-Err-clause-images : goal.returns-in-Err-clause-images
-returns-in-Err-clause-images g c =
+pub returns-in_err-write-clause-images : goal.returns-in_err-write-clause-images
+returns-in_err-write-clause-images g c =
     let here = sym c.page.ensures ∙ c.in-Some.is in
     images-written _ _ _ c.requires.sound _ c.args.frame c.in-Some.page here c.write.ensures.others
 
-pub returns-in-Err-clause-cause : goal.returns-in-Err-clause-cause
-returns-in-Err-clause-cause g c =
+pub returns-in_err-write-clause-cause : goal.returns-in_err-write-clause-cause
+returns-in_err-write-clause-cause g c =
     let here = sym c.page.ensures ∙ c.in-Some.is in
     let within = page_within _ _ _ c.requires.sound c.args.frame c.in-Some.page here in
-    only_fails c.in-Err.fault _ _ _ c.in-Some.page c.in-Err.ensures.cause c.in-Err.ensures.past within
+    handed_on c.from_residual.result c.in_err-write.field-0.0 c.from_residual.ensures.1 (HasCause MayOnlyFail _ _)
+    (only_fails c.in_err-write.field-0.0 _ _ _ c.in-Some.page c.in_err-write.ensures.cause c.in_err-write.ensures.past within)
 
 pub returns-clause-sound : goal.returns-clause-sound
 returns-clause-sound g c =
@@ -30,9 +32,9 @@ returns-clause-sound g c =
     let within = page_within _ _ _ c.requires.sound c.args.frame c.in-Some.page here in
     rw (c.write.ensures.honest, c.clean.ensures)
     (IsSound-cleaned _ _ _ c.requires.sound _ c.args.frame c.in-Some.page here c.write.ensures.others (λ is.
-    ap (λ s. payload_of (slice_index_or s c.in-Some.page [])) (c.in-Ok.ensures.ok is)
+    ap (λ s. payload_of (slice_index_or s c.in-Some.page [])) (c.in_ok-write.ensures.ok is)
     ∙ ap payload_of (get_or-set_same _ c.in-Some.page c.seal-sealed.result [] within)
-    ∙ c.seal-sealed.ensures.payload ∙ c.payload.ensures))
+    ∙ c.seal-sealed.ensures.payload ∙ c.payload-2.ensures ∙ c.payload.ensures))
 
 pub returns-clause-images : goal.returns-clause-images
 returns-clause-images g c =
@@ -45,5 +47,5 @@ returns-clause-device g c = record {
   seals = λ is _.
       let here = sym c.page.ensures ∙ c.in-Some.is in
       let within = page_within _ _ _ c.requires.sound c.args.frame c.in-Some.page here in
-      rw (c.in-Ok.ensures.ok is) (seals_written _ c.in-Some.page _ within c.seal-sealed.ensures.sealed);
+      rw (c.in_ok-write.ensures.ok is) (seals_written _ c.in-Some.page _ within c.seal-sealed.ensures.sealed);
 }

@@ -19,7 +19,7 @@ invariant_of-self c =
     let outside = rw (← c.self.view_is) at c.requires.outside in
     let read = get_or_default c.self.inside.pages.items c.args.frame None c.index.result.now in_range
     ∙ sym c.index.ensures in
-    let moved = IsWhole-moved_in _ c.self.invariant.whole c.args.frame c.args.page c.args.payload.now
+    let moved = IsWhole-moved_in _ c.self.invariant.whole c.args.frame c.args.page c.args.payload
     in_range free on_device outside in
     record {
       whole = rw (c.forget.ensures, ← read) moved;

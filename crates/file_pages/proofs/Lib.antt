@@ -1,0 +1,6 @@
+pub mod StoreLemmas
+pub mod ReadLemmas
+pub mod WriteLemmas
+pub mod RecordLemmas
+pub mod HeaderLemmas
+pub mod PageLemmas

@@ -1,0 +1,66 @@
+-- A page made of others, and stored.
+use Rattle.std.proofs.Common.{◌≡◌, ◌∙◌, refl, sym, ap, subst, ℕ, ◌<◌, List, length, arith, true, IsTrue, Result, Ok, Err, IsErr, IfOk, OnOk}
+use Rattle.bucket_page.specs.declared.page.PageKind.{PageKind}
+use Rattle.bucket_page.specs.declared.page.PageKind.TheVariants as kinds
+use Rattle.bucket_page.specs.Bucket.{Bucket}
+use Rattle.bucket_page.specs.Changes.{IsBucketPage, SpellsBucket}
+use Rattle.bucket_page.specs.Reading.{page_at as page_in}
+use Rattle.bucket_page.specs.Spelling.{Spells}
+use Rattle.page_forms.proofs.FormLemmas.{page_is as read_is, same_page}
+use Rattle.buffer_pool.specs.Pool.{PoolState}
+use Rattle.hash_file.specs.Changes.{with_page}
+use Rattle.file_pages.specs.declared.fault.FileFault.{FileFault}
+use Rattle.file_pages.specs.Buckets.{IsThere}
+use Rattle.file_pages.specs.Files.{IsFilePool, store_of}
+use Rattle.file_pages.specs.Reads.{OnlyReads}
+use Rattle.file_pages.specs.Writes.{IsBucketThere}
+use Rattle.page_device.specs.Device.{HasRisen}
+use Rattle.hash_file.specs.Store.{Store}
+use Rattle.file_pages.proofs.ReadLemmas.{risen_after}
+use Rattle.file_pages.proofs.StoreLemmas.{pages_are}
+
+pub there_is : (images : List (List ℕ)) (page : ℕ) → IsThere page (store_of images) → page < length images
+there_is images page there = omega (arith, pages_are images, there.within)
+
+-- what is made of the image's bucket is made of the file's
+pub half_is : {old : List ℕ} {was now : Bucket} (r : Result (List ℕ) FileFault) (make : Bucket → Bucket)
+    → IfOk r (λ _. IsBucketPage old) → (IsBucketPage old → was ≡ now) → IfOk r (SpellsBucket (make now))
+    → IfOk r (SpellsBucket (make was))
+half_is (Ok half) make bucket same it = subst (λ (b : Bucket). SpellsBucket (make b) half) (sym (same bucket)) it
+half_is (Err fault) make bucket same it = tt
+
+pub half_spells : (r : Result (List ℕ) FileFault) (b : Bucket) → IfOk r (SpellsBucket b)
+    → IfOk r (λ half. Spells (page_in half) half)
+half_spells (Ok half) b it = same_page (kinds.Bucket b) half it
+half_spells (Err fault) b it = tt
+
+-- a page that was made behind a read, and stored
+pub page_stored : {T E : Type 0} (r : Result T E) (s t v : PoolState) (page : ℕ) (new : List ℕ) (kind : PageKind)
+    → IsTrue s.honest → OnlyReads true s t → Spells kind new
+    → (IsTrue t.honest → OnOk r (store_of v.images ≡ with_page page (page_in new) (store_of t.images)))
+    → OnOk r (store_of v.images ≡ with_page page kind (store_of s.images))
+page_stored (Ok value) s t v page new kind honest reads spells stored =
+    stored (reads.honest ∙ honest)
+    ∙ (λ j. with_page page (read_is kind new spells j) (store_of (reads.images honest j)))
+page_stored (Err fault) s t v page new kind honest reads spells stored = tt
+
+-- a bucket that is there is a page that is there
+pub there_of : {page : ℕ} {s : Store} → IsBucketThere page s → IsThere page s
+there_of there = record { behind = there.behind; within = there.within }
+
+-- why a page that was made behind a read is not stored
+pub fails_to_store : {T E : Type 0} (r : Result T E) (s t v : PoolState) {page : ℕ} → IsTrue s.honest → IsFilePool s
+    → OnlyReads true s t → IsThere page (store_of s.images)
+    → (IsTrue t.honest → IsFilePool t → IsErr r → IsThere page (store_of t.images) → HasRisen t.faults v.faults)
+    → IsErr r → HasRisen s.faults v.faults
+fails_to_store r s t v {page} honest file reads there fault failed =
+    risen_after reads.later (fault (reads.honest ∙ honest) (reads.file honest refl file) failed
+    (subst (λ (images : List (List ℕ)). IsThere page (store_of images)) (sym (reads.images honest)) there))
+
+-- a page that was made of nothing, and stored
+pub stored_as : {T E : Type 0} (r : Result T E) (s v : PoolState) (page : ℕ) (new : List ℕ) (kind : PageKind) → Spells kind new
+    → OnOk r (store_of v.images ≡ with_page page (page_in new) (store_of s.images))
+    → OnOk r (store_of v.images ≡ with_page page kind (store_of s.images))
+stored_as (Ok value) s v page new kind spells stored =
+    stored ∙ ap (λ (p : PageKind). with_page page p (store_of s.images)) (read_is kind new spells)
+stored_as (Err fault) s v page new kind spells stored = tt

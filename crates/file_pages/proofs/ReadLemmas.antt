@@ -1,0 +1,143 @@
+-- A page that is pinned, read and given back: what the pool is then, and why it was not pinned.
+use Rattle.std.proofs.Common.{◌≡◌, refl, ◌∙◌, sym, ap, subst, ℕ, zero, suc, ◌+◌, ◌-◌, ◌<◌, ◌≤◌, List, [], ◌∷◌, Bool, true, false, IsTrue, Option, Some, None}
+use Rattle.std.proofs.Common.{length, arith, slice_get, slice_index_or, slice_set, Result, Ok, Err, IsErrOf, IfErr, IfOk, ◌⊎◌, inl, inr}
+use Rattle.std.proofs.lemmas.Option.{get_or_from_slice_get}
+use Rattle.page_device.specs.declared.fault.DeviceFault.{DeviceFault}
+use Rattle.page_device.specs.declared.fault.DeviceFault.TheVariants as device
+use Rattle.page_device.specs.Device.{HasRisen}
+use Rattle.page_device.specs.Sealed.{IsSealed}
+use Rattle.buffer_pool.specs.declared.fault.PoolFault.{PoolFault}
+use Rattle.buffer_pool.specs.declared.fault.PoolFault.TheVariants.{Device, Malformed, TooFewFrames, NoMemory}
+use Rattle.buffer_pool.specs.Pool.{PoolState, KeepsSeals, MayNotPin, IsCrowded, pins_at}
+use Rattle.buffer_pool.proofs.ImagesLemmas.{count_none, rest_again}
+use Rattle.bucket_page.specs.declared.page.PageKind.TheVariants as kinds
+use Rattle.bucket_page.specs.Reading.{bucket_at, page_at as page_in}
+use Rattle.directory.specs.declared.layout.TheConstants.{DIRECTORY_PAGES, ROOT_PAGE}
+use Rattle.directory.specs.Pages.{IsDirectoryPage, SpellsDirectory, entries_at}
+use Rattle.page_forms.specs.Forms.{IsWell}
+use Rattle.page_forms.proofs.FormLemmas.{directory_well, page_is, page_well}
+use Rattle.bucket_page.specs.declared.page.PageKind.{PageKind}
+use Rattle.bucket_page.specs.Bucket.{Bucket}
+use Rattle.bucket_page.specs.Changes.{IsBucketPage}
+use Rattle.bucket_page.specs.Spelling.{Spells}
+use Rattle.bucket_page.proofs.PageLaws.{bucket_again}
+use Rattle.hash_file.specs.Store.{bucket_of, is_bucket, page_at}
+use Rattle.file_pages.specs.declared.fault.FileFault.{FileFault}
+use Rattle.file_pages.specs.declared.sight.BucketSight.{BucketSight}
+use Rattle.std.proofs.lemmas.Bool.{cases_lt}
+use Rattle.file_pages.specs.Files.{store_of, image, IsFile, IsFilePool, IsReady}
+use Rattle.file_pages.specs.Pinning.{IsPinned}
+use Rattle.file_pages.proofs.StoreLemmas.{page_is as stored_page_is}
+use Rattle.file_pages.specs.Reads.{IsSeen, OnlyReads, sight_of}
+
+-- the seals of a file stay, where those of its pool do
+file_kept : (s t : PoolState) → t.images ≡ s.images → KeepsSeals s.stored t.stored → IsFilePool s → IsFilePool t
+file_kept s t same seals f = record {
+  file = subst IsFile (sym same) f.file;
+  sealed = λ n within. seals n (f.sealed n (subst (λ (xs : List (List ℕ)). n < length xs) same within));
+}
+
+-- the pool after a page was pinned and given back
+pub only_reads : (ok : Bool) (s t u : PoolState) (page right : ℕ) → IsReady s → IsPinned page s t right
+    → u ≡ record t { pins = slice_set t.pins right (pins_at t right - 1) } → OnlyReads ok s u
+only_reads ok s t u page right ready pinned is = subst (OnlyReads ok s) (sym is) (record {
+  ready = record {
+    rest = λ k. rest_again s t page right ready.rest pinned.pins pinned.right_is pinned.once k;
+    frames = omega (arith, ready.frames, pinned.keeps.frames);
+  };
+  honest = pinned.keeps.honest;
+  later = pinned.later;
+  images = pinned.keeps.images;
+  file = λ honest done f. file_kept s (record t { pins = slice_set t.pins right (pins_at t right - 1) })
+      (pinned.keeps.images honest) (pinned.keeps.seals honest refl) f;
+})
+
+pub not_past : (n page : ℕ) → (n ≤ page → ⊥) → page < n
+not_past n page inside = at (cases_lt page n)
+  where
+    at : (page < n) ⊎ (n ≤ page) → page < n
+    at (inl within) = within
+    at (inr past) = absurd (inside past)
+
+-- what is known of a page that is pinned
+module _ (s t : PoolState) (page right : ℕ) (payload : List ℕ) (pinned : IsPinned page s t right)
+    (is : slice_get t.images right ≡ Some payload) where
+  -- its image was that of the pool before
+  pub image_was : IsTrue s.honest → image s.images page ≡ payload
+  image_was honest =
+      ap (λ (xs : List (List ℕ)). image xs page) (sym (pinned.keeps.images honest))
+      ∙ ap (image t.images) (sym pinned.right_is) ∙ get_or_from_slice_get t.images right payload [] is
+
+  pub page_there : page < length s.images
+  page_there = pinned.within
+
+  -- and what it says is what the file has there
+  pub page_was : IsTrue s.honest → ROOT_PAGE ≤ page → page_at (store_of s.images) page ≡ page_in payload
+  page_was honest behind = stored_page_is s.images page behind page_there ∙ ap page_in (image_was honest)
+
+-- each page of a file is well formed
+pub is_well : (images : List (List ℕ)) → IsFile images → (page : ℕ) → page < length images → IsWell (image images page)
+is_well images file zero within = inr file.header
+is_well images file (suc n) within = at (cases_lt n DIRECTORY_PAGES)
+  where
+    at : (n < DIRECTORY_PAGES) ⊎ (DIRECTORY_PAGES ≤ n) → IsWell (image images (suc n))
+    at (inl entries) = directory_well (entries_at (image images (suc n))) (image images (suc n))
+        (file.directory (suc n) (omega arith) (omega arith))
+    at (inr behind) = inl (file.spelled (suc n) (omega arith) within)
+
+-- a page of a file is not pinned only where the device failed
+pub pin_fails : {T : Type 0} (fault : PoolFault) (s : PoolState) (new page : ℕ) → IsTrue s.honest → IsFilePool s → IsReady s →
+    page < length s.images →
+    (IsErrOf {T = T} (Err fault) (Device device.PastEnd) → length s.images ≤ page) →
+    (IsErrOf {T = T} (Err fault) TooFewFrames → IsCrowded page s) → MayNotPin page s fault →
+    (IsErrOf {T = T} (Err fault) (Device device.Device) → HasRisen s.faults new) → HasRisen s.faults new
+pin_fails (Device device.Device) s new page honest f ready within past crowded told failed = failed refl
+pin_fails (Device device.BadDigest) s new page honest f ready within past crowded told failed =
+    absurd (told honest (f.sealed page within))
+pin_fails (Device device.PastEnd) s new page honest f ready within past crowded told failed =
+    absurd (omega (arith, past refl, within))
+pin_fails (Device device.DeviceFull) s new page honest f ready within past crowded told failed = absurd told
+pin_fails (Device device.NoMemory) s new page honest f ready within past crowded told failed = absurd told
+pin_fails Malformed s new page honest f ready within past crowded told failed =
+    absurd (told honest (is_well s.images f.file page within))
+pin_fails TooFewFrames s new page honest f ready within past crowded told failed =
+    absurd (omega (arith, (crowded refl).all_pinned, count_none s.pins ready.rest, ready.frames))
+pin_fails NoMemory s new page honest f ready within past crowded told failed = absurd told
+
+-- ---- what is seen of a page
+
+-- a page that is a bucket's is so of its bytes
+pub bucket_spelled : (bytes : List ℕ) → Spells (page_in bytes) bytes → is_bucket (page_in bytes) ≡ true → IsBucketPage bytes
+bucket_spelled bytes it bucket = at (page_in bytes) it bucket
+  where
+    at : (p : PageKind) → Spells p bytes → is_bucket p ≡ true → IsBucketPage bytes
+    at (kinds.Bucket b) spells is =
+        subst (λ (c : Bucket). Spells (kinds.Bucket c) bytes)
+        (sym (ap bucket_at spells.spelled ∙ (bucket_again b spells.in_range).value)) spells
+    at (kinds.Directory es) spells is = absurd cc
+    at (kinds.Tombstone link) spells is = absurd cc
+    at (kinds.Free next) spells is = absurd cc
+
+pub seen : (r : Result BucketSight FileFault) (bytes : List ℕ) → IfOk r (λ _. IsBucketPage bytes)
+    → IfOk r (λ sight. sight ≡ sight_of (bucket_at bytes)) → IfOk r (λ sight. IsSeen sight (page_in bytes))
+seen (Ok sight) bytes it says =
+    let is = page_is (kinds.Bucket (bucket_at bytes)) bytes it in
+    record { bucket = ap is_bucket is; says = says ∙ ap (λ (p : PageKind). sight_of (bucket_of p)) (sym is) }
+seen (Err fault) bytes it says = tt
+
+-- ---- one step behind another
+
+-- a count that rose later rose
+pub risen_after : {old mid new : ℕ} → old ≤ mid → HasRisen mid new → HasRisen old new
+risen_after before (inl more) = inl (omega (arith, before, more))
+risen_after before (inr most) = inr most
+
+-- two reads are one
+pub reads_on : (ok : Bool) (s t u : PoolState) → OnlyReads true s t → OnlyReads ok t u → OnlyReads ok s u
+reads_on ok s t u first next = record {
+  ready = next.ready;
+  honest = next.honest ∙ first.honest;
+  later = omega (arith, first.later, next.later);
+  images = λ honest. next.images (first.honest ∙ honest) ∙ first.images honest;
+  file = λ honest done f. next.file (first.honest ∙ honest) done (first.file honest refl f);
+}

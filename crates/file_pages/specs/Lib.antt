@@ -1,0 +1,7 @@
+pub mod Buckets
+pub mod Fault
+pub mod Files
+pub mod Headers
+pub mod Pinning
+pub mod Reads
+pub mod Writes

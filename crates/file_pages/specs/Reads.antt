@@ -1,0 +1,49 @@
+-- What a read of a file's page leaves, and what it says.
+use Rattle.std.specs.Prelude.{◌≡◌, ℕ, ◌≤◌, Bool, true, IsTrue, Option, Some, None, length, ⊤}
+use Rattle.std.specs.Option.{option_map}
+use Rattle.buffer_pool.specs.Pool.{PoolState}
+use Rattle.bucket_page.specs.declared.record_key.RecordKey.{RecordKey}
+use Rattle.bucket_page.specs.declared.page.PageKind.{PageKind}
+use Rattle.bucket_page.specs.declared.page.PageKind.TheVariants as kinds
+use Rattle.bucket_page.specs.Bucket.{Bucket}
+use Rattle.bucket_page.specs.Records.{lookup, record_bytes}
+use Rattle.positions.specs.Ranges.{Covers}
+use Rattle.hash_file.specs.Store.{is_bucket, bucket_of, range_of}
+use Rattle.file_pages.specs.Files.{IsFilePool, IsReady}
+use Rattle.file_pages.specs.declared.sight.BucketSight.{BucketSight}
+use Rattle.file_pages.specs.declared.sight.Sight.{Sight}
+use Rattle.file_pages.specs.declared.sight.Sight.TheVariants.{Covering, Naming}
+
+-- nothing but frames has changed, and the count of faults has not fallen
+pub record OnlyReads (succeeded : Bool) (old new : PoolState) : Type 0 where
+  pub ready : IsReady new
+  pub honest : new.honest ≡ old.honest
+  pub later : old.faults ≤ new.faults
+  pub images : IsTrue old.honest → new.images ≡ old.images
+  pub file : IsTrue old.honest → IsTrue succeeded → IsFilePool old → IsFilePool new
+
+-- a bucket whose range has the pseudokey
+pub record CoversIn (page : PageKind) (k : ℕ) : Type 0 where
+  pub bucket : is_bucket page ≡ true
+  pub covers : Covers (range_of (bucket_of page)) k
+
+-- what is seen of a page by who looks for a key
+abbrev pub IsSight : Sight → PageKind → ℕ → RecordKey → Type 0
+IsSight (Covering found) page k key = CoversIn page k × (found ≡ option_map length (lookup key (bucket_of page).records))
+IsSight (Naming next) page k key = (CoversIn page k → ⊥) × ((bucket_of page).next ≡ next)
+
+-- what a bucket says beside its records
+abbrev pub sight_of : Bucket → BucketSight
+sight_of b = record { depth = b.depth; pattern = b.pattern; next = b.next; used = length (record_bytes b.records) }
+
+-- the page is a bucket, and this is what it says beside its records
+pub record IsSeen (sight : BucketSight) (page : PageKind) : Type 0 where
+  pub bucket : is_bucket page ≡ true
+  pub says : sight ≡ sight_of (bucket_of page)
+
+-- a search may come to such a page
+abbrev pub IsOnWay : PageKind → Type 0
+IsOnWay (kinds.Bucket b) = ⊤
+IsOnWay (kinds.Tombstone link) = ⊤
+IsOnWay (kinds.Directory es) = ⊥
+IsOnWay (kinds.Free next) = ⊥

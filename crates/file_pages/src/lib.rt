@@ -1,0 +1,20 @@
+//! The pages of a pool as those of a hash file: what each read and each write is of the file's value.
+
+#![tactic(auto)]
+
+mod bucket;
+mod fault;
+mod header;
+mod pinning;
+mod read;
+mod records;
+mod sight;
+
+pub use bucket::{write_free, write_new, write_old, write_tombstone};
+pub use fault::FileFault;
+pub use header::{
+    count_merge, count_split, link_free, lower_depth, raise_depth, read_header, take_page,
+};
+pub use read::{look, read_bucket, read_depth, read_entry};
+pub use records::{put_record, remove_record, replace_record};
+pub use sight::{BucketSight, Sight};

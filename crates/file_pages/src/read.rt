@@ -1,0 +1,123 @@
+//! Reads of a file's pages.
+
+ghost use Rattle.std.specs.Prelude.{◌≡◌, ◌<◌, ◌≤◌, ◌^◌, length, is_ok, true, IsTrue, IsErr, IfOk};
+ghost use Rattle.page_device.specs.Device.{HasRisen};
+ghost use Rattle.directory.specs.declared.layout.TheConstants.{GREATEST_DEPTH, PAGE_ENTRIES, ROOT_PAGE};
+ghost use Rattle.directory.specs.Entries.{slot_at};
+ghost use Rattle.directory.specs.Pages.{IsDirectoryPage};
+ghost use Rattle.directory.specs.Reading.{header_at};
+ghost use Rattle.hash_file.specs.Store.{entry_at, is_bucket, page_at};
+ghost use Rattle.page_forms.specs.Forms.{IsHeaderPage};
+ghost use Rattle.file_pages.specs.Files.{IsReady, IsFilePool, store_of};
+ghost use Rattle.file_pages.specs.Reads.{OnlyReads, IsOnWay, IsSeen, IsSight};
+
+use crate::fault::FileFault;
+use crate::pinning::pin;
+use crate::sight::{BucketSight, Sight, see, see_bucket};
+use bucket_page::RecordKey;
+use buffer_pool::Pool;
+use directory::{ROOT_PAGE, page_of, slot_of};
+use page_device::PageDevice;
+use page_forms::FilePage;
+
+/// The depth of the directory.
+pub fn read_depth<D: PageDevice>(pool: &mut Pool<D>) -> Result<u8, FileFault>
+    requires ready { IsReady pool.old }
+    ensures reads { OnlyReads (is_ok result) pool.old pool.new }
+    ensures small { IfOk result (λ depth. depth ≤ GREATEST_DEPTH) }
+    ensures ok { IsTrue pool.old.honest →
+        IfOk result (λ depth. depth ≡ (store_of pool.old.images).header.depth) }
+    ensures fault { IsTrue pool.old.honest → IsFilePool pool.old → IsErr result →
+        HasRisen pool.old.faults pool.new.faults }
+{
+    let frame = pin(pool, 0)?;
+    let depth = depth_of(pool.image(&frame));
+    pool.unpin(frame);
+    depth
+}
+
+/// The depth that a header has.
+fn depth_of(page: &FilePage) -> Result<u8, FileFault>
+    ensures small { IfOk result (λ depth. depth ≤ GREATEST_DEPTH) }
+    ensures ok { IfOk result (λ depth. depth ≡ (header_at page.now).depth) }
+    ensures err { IsErr result → IsHeaderPage page.now → ⊥ }
+{
+    match page.header() {
+        Some(header) => Ok(header.depth),
+        None => Err(FileFault::Failed),
+    }
+}
+
+/// The page that an entry names. It is `Failed` where the entry stands on no page of the directory.
+pub fn read_entry<D: PageDevice>(pool: &mut Pool<D>, index: u32) -> Result<u32, FileFault>
+    requires ready { IsReady pool.old }
+    requires within { index < 2 ^ GREATEST_DEPTH }
+    ensures reads { OnlyReads (is_ok result) pool.old pool.new }
+    ensures ok { IsTrue pool.old.honest →
+        IfOk result (λ page. page ≡ entry_at (store_of pool.old.images) index) }
+    ensures fault { IsTrue pool.old.honest → IsFilePool pool.old → IsErr result →
+        HasRisen pool.old.faults pool.new.faults }
+{
+    let frame = pin(pool, page_of(index))?;
+    let page = entry_of(pool.image(&frame), slot_of(index));
+    pool.unpin(frame);
+    page
+}
+
+/// What a slot of a page of the directory names.
+fn entry_of(page: &FilePage, slot: usize) -> Result<u32, FileFault>
+    requires { slot < PAGE_ENTRIES }
+    ensures ok { IfOk result (λ bucket. bucket ≡ slot_at slot page.now) }
+    ensures err { IsErr result → IsDirectoryPage page.now → ⊥ }
+{
+    match page.directory() {
+        Some(entries) => Ok(entries.entry(slot)),
+        None => Err(FileFault::Failed),
+    }
+}
+
+/// What a search for a key sees of a page: whether it covers the pseudokey and what it has of the key, or
+/// where it leads on.
+pub fn look<D: PageDevice>(
+    pool: &mut Pool<D>,
+    page: u32,
+    pseudokey: u32,
+    key: &RecordKey,
+) -> Result<Sight, FileFault>
+    requires ready { IsReady pool.old }
+    ensures reads { OnlyReads (is_ok result) pool.old pool.new }
+    ensures ok { IsTrue pool.old.honest → IfOk result (λ sight.
+        IsSight sight (page_at (store_of pool.old.images) page) pseudokey key.now) }
+    ensures fault { IsTrue pool.old.honest → IsFilePool pool.old → IsErr result →
+        ROOT_PAGE ≤ page → page < length pool.old.images →
+        IsOnWay (page_at (store_of pool.old.images) page) →
+        HasRisen pool.old.faults pool.new.faults }
+{
+    if page < ROOT_PAGE {
+        return Err(FileFault::Failed);
+    }
+    let frame = pin(pool, page)?;
+    let sight = see(pool.image(&frame), pseudokey, key);
+    pool.unpin(frame);
+    sight
+}
+
+/// What a bucket says beside its records.
+pub fn read_bucket<D: PageDevice>(pool: &mut Pool<D>, page: u32) -> Result<BucketSight, FileFault>
+    requires ready { IsReady pool.old }
+    ensures reads { OnlyReads (is_ok result) pool.old pool.new }
+    ensures ok { IsTrue pool.old.honest → IfOk result (λ sight.
+        IsSeen sight (page_at (store_of pool.old.images) page)) }
+    ensures fault { IsTrue pool.old.honest → IsFilePool pool.old → IsErr result →
+        ROOT_PAGE ≤ page → page < length pool.old.images →
+        is_bucket (page_at (store_of pool.old.images) page) ≡ true →
+        HasRisen pool.old.faults pool.new.faults }
+{
+    if page < ROOT_PAGE {
+        return Err(FileFault::Failed);
+    }
+    let frame = pin(pool, page)?;
+    let sight = see_bucket(pool.image(&frame));
+    pool.unpin(frame);
+    sight
+}

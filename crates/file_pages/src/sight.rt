@@ -1,0 +1,72 @@
+//! What is seen of a page.
+
+ghost use Rattle.std.specs.Prelude.{◌≡◌, ℕ, IsErr, IfOk};
+ghost use Rattle.bucket_page.specs.Changes.{IsBucketPage};
+ghost use Rattle.bucket_page.specs.Reading.{bucket_at, page_at};
+ghost use Rattle.bucket_page.specs.Spelling.{Spells};
+ghost use Rattle.file_pages.specs.Reads.{IsOnWay, IsSight, sight_of};
+
+use crate::fault::FileFault;
+use bucket_page::RecordKey;
+use page_forms::FilePage;
+use positions::Range;
+
+/// What a search for a key sees of a page.
+#[derive(Clone, Copy, Debug, PartialEq, Eq)]
+pub enum Sight {
+    /// The page's range has the pseudokey. Of the key: the length of its value, none where it has no record.
+    Covering(Option<usize>),
+    /// It has not, or the page is a tombstone: this is the next page or the link.
+    Naming(u32),
+}
+
+/// What a bucket says beside its records.
+#[derive(Clone, Copy, Debug, PartialEq, Eq)]
+pub struct BucketSight {
+    /// The local depth.
+    pub depth: u8,
+    /// The low bits of its records' pseudokeys.
+    pub pattern: u32,
+    /// The next page on the chain, 0 for the last.
+    pub next: u32,
+    /// The bytes of its records.
+    pub used: usize,
+}
+
+/// What is seen of a page by who looks for a key.
+pub fn see(page: &FilePage, pseudokey: u32, key: &RecordKey) -> Result<Sight, FileFault>
+    ensures ok { IfOk result (λ sight. IsSight sight (page_at page.now) pseudokey key.now) }
+    ensures err { IsErr result → Spells (page_at page.now) page.now → IsOnWay (page_at page.now) → ⊥ }
+{
+    if let Some(bucket) = page.bucket() {
+        let range = Range {
+            depth: bucket.depth(),
+            pattern: bucket.pattern(),
+        };
+        if !range.covers(pseudokey) {
+            return Ok(Sight::Naming(bucket.next()));
+        }
+        return Ok(Sight::Covering(bucket.find(key).map(|value| value.len())));
+    }
+    match page.link() {
+        Some(link) => Ok(Sight::Naming(link)),
+        None => Err(FileFault::Failed),
+    }
+}
+
+/// What is seen of a bucket.
+pub fn see_bucket(page: &FilePage) -> Result<BucketSight, FileFault>
+    ensures bucket { IfOk result (λ _. IsBucketPage page.now) }
+    ensures ok { IfOk result (λ sight. sight ≡ sight_of (bucket_at page.now)) }
+    ensures err { IsErr result → IsBucketPage page.now → ⊥ }
+{
+    let Some(bucket) = page.bucket() else {
+        return Err(FileFault::Failed);
+    };
+    Ok(BucketSight {
+        depth: bucket.depth(),
+        pattern: bucket.pattern(),
+        next: bucket.next(),
+        used: bucket.used(),
+    })
+}
