@@ -4,3 +4,4 @@ pub mod WriteLemmas
 pub mod RecordLemmas
 pub mod HeaderLemmas
 pub mod PageLemmas
+pub mod EntryLemmas

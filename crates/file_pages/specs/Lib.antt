@@ -1,4 +1,5 @@
 pub mod Buckets
+pub mod Entries
 pub mod Fault
 pub mod Files
 pub mod Headers

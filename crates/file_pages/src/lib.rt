@@ -3,6 +3,7 @@
 #![tactic(auto)]
 
 mod bucket;
+mod entries;
 mod fault;
 mod header;
 mod pinning;
@@ -11,6 +12,7 @@ mod records;
 mod sight;
 
 pub use bucket::{write_free, write_new, write_old, write_tombstone};
+pub use entries::{copy_directory, retarget};
 pub use fault::FileFault;
 pub use header::{
     count_merge, count_split, link_free, lower_depth, raise_depth, read_header, take_page,

@@ -8,7 +8,7 @@ ghost use Rattle.directory.specs.Pages.{IsDirectoryPage};
 ghost use Rattle.directory.specs.Reading.{header_at};
 ghost use Rattle.hash_file.specs.Store.{entry_at, is_bucket, page_at};
 ghost use Rattle.page_forms.specs.Forms.{IsHeaderPage};
-ghost use Rattle.file_pages.specs.Files.{IsReady, IsFilePool, store_of};
+ghost use Rattle.file_pages.specs.Files.{IsReady, IsFilePool, image, store_of};
 ghost use Rattle.file_pages.specs.Reads.{OnlyReads, IsOnWay, IsSeen, IsSight};
 
 use crate::fault::FileFault;
@@ -74,6 +74,21 @@ fn entry_of(page: &FilePage, slot: usize) -> Result<u32, FileFault>
         Some(entries) => Ok(entries.entry(slot)),
         None => Err(FileFault::Failed),
     }
+}
+
+/// A copy of a page, for steps that make one page of two.
+pub(crate) fn read_page<D: PageDevice>(pool: &mut Pool<D>, page: u32) -> Result<FilePage, FileFault>
+    requires ready { IsReady pool.old }
+    ensures reads { OnlyReads (is_ok result) pool.old pool.new }
+    ensures ok { IsTrue pool.old.honest →
+        IfOk result (λ copy. copy ≡ image pool.old.images page) }
+    ensures fault { IsTrue pool.old.honest → IsFilePool pool.old → IsErr result →
+        page < length pool.old.images → HasRisen pool.old.faults pool.new.faults }
+{
+    let frame = pin(pool, page)?;
+    let copy = pool.image(&frame).copy();
+    pool.unpin(frame);
+    Ok(copy)
 }
 
 /// What a search for a key sees of a page: whether it covers the pseudokey and what it has of the key, or
