@@ -1,2 +1,5 @@
+pub mod TwoSeats
+pub mod SplitTurns
+pub mod MergeTurns
 pub mod ScheduleLemmas
 pub mod WrongTurnLemmas

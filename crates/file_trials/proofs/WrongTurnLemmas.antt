@@ -1,42 +1,28 @@
 -- Each wrong turn is refused.
-use Rattle.std.proofs.Common.{◌≡◌, ◌≢◌, ◌<◌, ◌≤◌, ◌+◌, ◌⊎◌, ◌%◌, ◌^◌, ℕ, suc, true, false, List, [], ◌∷◌, ◌++◌, length, Option, Some, None, IsSome, refl, sym, ap, ◌∙◌, subst, inl, inr, arith}
+use Rattle.std.proofs.Common.{◌≡◌, ◌<◌, ◌≤◌, ◌+◌, ◌⊎◌, ◌^◌, ℕ, true, false, List, [], ◌∷◌, Option, Some, None, refl, sym, ap, ◌∙◌, subst, inl, inr, arith}
 use Rattle.std.proofs.lemmas.Bool.{true≢false}
 use Rattle.std.proofs.lemmas.Nat.{pow_pos}
 use Rattle.std.specs.List.{Contains}
 use Rattle.positions.specs.declared.range.Range.{Range}
-use Rattle.positions.specs.Ranges.{Covers, whole_range}
+use Rattle.positions.specs.Ranges.{Covers}
 use Rattle.positions.proofs.MemberLaws.{contains_cases, contains_none}
 use Rattle.bucket_page.specs.declared.layout.TheConstants.{ROOM_BYTES}
-use Rattle.bucket_page.specs.declared.record_key.RecordKey.{RecordKey}
 use Rattle.bucket_page.specs.Keys.{is_below}
-use Rattle.bucket_page.specs.Records.{Pair, lookup}
-use Rattle.bucket_page.specs.Changes.{HasValueOf}
-use Rattle.page_locks.specs.declared.lock.Lock.{Lock}
-use Rattle.page_locks.specs.declared.lock.LockKind.{LockKind}
-use Rattle.page_locks.specs.declared.lock.LockKind.TheVariants.{Read, Selective, Exclusive}
-use Rattle.page_locks.specs.declared.lock.LockName.{LockName}
-use Rattle.page_locks.specs.declared.lock.LockName.TheVariants.{Directory, Page}
-use Rattle.page_locks.specs.Locks.{kind_of}
-use Rattle.page_locks.specs.Table.{row_of, held, without_lock}
+use Rattle.page_locks.specs.Table.{held, without_lock}
 use Rattle.page_locks.proofs.ChangeLemmas.{ChangesOnly-release}
 use Rattle.directory.specs.Entries.{page_of}
-use Rattle.hash_file.specs.Store.{Store, bucket_at, range_at, records_at, next_at}
-use Rattle.hash_file.specs.Chain.{chain, IsBucketOf}
-use Rattle.hash_file.specs.Change.{Change, Quiet, Taken, Linked, Drained}
 use Rattle.hash_file.specs.Changes.{RecordWrite, Put, Replace, Remove, key_of, write_record}
-use Rattle.hash_file.specs.Looks.{Answers}
 use Rattle.hash_file.specs.Examples.{number_of, key, numbers_at}
-use Rattle.step_rules.specs.declared.kind.TheConstants.{MERGED_BYTES}
-use Rattle.step_rules.specs.World.{World, with_locks, with_store}
+use Rattle.step_rules.specs.Words.{LockKind, Read, Exclusive, Directory, Page, Store, bucket_at, range_at, chain, Quiet, Taken, Drained, Answers}
+use Rattle.step_rules.specs.World.{World}
 use Rattle.step_rules.specs.Pages.{used_on, size_of}
-use Rattle.step_rules.specs.LockSteps.{Hops, MovesOn, Releases}
-use Rattle.step_rules.specs.PageSteps.{Suits, WritesRecord, WritesLeft, CopiesDirectory, Retargets}
-use Rattle.step_rules.specs.Answering.{IsTold, IsTaken}
+use Rattle.step_rules.specs.LockSteps.{MovesOn, Releases}
+use Rattle.step_rules.specs.PageSteps.{Suits, WritesLeft}
 use Rattle.step_rules.specs.Turns.{HopsJust, WritesJust, SplitsFor}
 use Rattle.step_rules.proofs.LockLemmas.{names_eq}
-use Rattle.file_trials.specs.Schedule.{record_of, first, third, raised, linked, split, with_third, merged, world, beside_queue, in_directory, on_page, insert, delete}
+use Rattle.file_trials.specs.Schedule.{record_of, first, third, raised, linked, split, with_third, merged, world, beside_queue, in_directory}
 use Rattle.file_trials.specs.WrongTurns.{alone, both, standing, WrongTurns}
-use Rattle.file_trials.proofs.ScheduleLemmas.{chain_first, chain_raised, chain_split, chain_with_third, used_two, used_one, size_is}
+use Rattle.file_trials.proofs.TwoSeats.{chain_first, chain_raised, chain_split, chain_with_third, used_two, size_is}
 
 -- ---- pages of short chains
 

@@ -13,13 +13,13 @@ use Rattle.page_locks.specs.declared.lock.LockKind.{LockKind}
 use Rattle.page_locks.specs.declared.lock.LockName.TheVariants.{Queue, Directory, Page}
 use Rattle.page_locks.specs.Locks.{lock_of}
 use Rattle.hash_file.specs.Store.{Store}
-use Rattle.hash_file.specs.Change.{Change, Quiet, Taken, Filled, Linked, Absorbed, Buried, Drained, Freed}
-use Rattle.hash_file.specs.Changes.{RecordWrite, Put, Remove, write_record, take_page, copy_directory, raise_depth, write_new, write_old, retarget, set_counts, split_counts, merge_counts, write_left, write_tombstone, write_free, link_free, lower_depth}
+use Rattle.hash_file.specs.Change.{Change, Quiet}
+use Rattle.hash_file.specs.Changes.{Put, Remove, write_record, take_page, copy_directory, raise_depth, write_new, write_old, retarget, set_counts, split_counts, merge_counts, write_left, write_tombstone, write_free, link_free, lower_depth}
 use Rattle.hash_file.specs.Examples.{number_of, key, numbers_at}
 use Rattle.step_rules.specs.declared.kind.Kind.{Kind}
 use Rattle.step_rules.specs.declared.kind.Kind.TheVariants as steps
 use Rattle.step_rules.specs.World.{World}
-use Rattle.step_rules.specs.Turns.{Ask, Lock as AskLock, HopFrom, ToExclusive, Turn, no_ask, asks}
+use Rattle.step_rules.specs.Turns.{ForLock, HopFrom, ToExclusive, Turn, no_ask, asks}
 use Rattle.step_rules.specs.Laws.{Move, LeadAlong}
 
 -- ---- the file
@@ -118,14 +118,14 @@ move seat turn kind = record { seat = seat; turn = turn; kind = kind }
 
 abbrev pub schedule : List Move
 schedule =
-    move 2 (asks (AskLock Directory Read)) steps.Grant
+    move 2 (asks (ForLock Directory Read)) steps.Grant
     ∷ move 2 no_ask steps.ReadDepth
     ∷ move 2 no_ask steps.ReadEntry
-    ∷ move 2 (asks (AskLock (Page 257) Read)) steps.Grant
+    ∷ move 2 (asks (ForLock (Page 257) Read)) steps.Grant
     ∷ move 2 no_ask steps.Release
-    ∷ move 1 (asks (AskLock (Queue 0) Exclusive)) steps.Grant
-    ∷ move 1 (asks (AskLock Directory Selective)) steps.Grant
-    ∷ move 1 (asks (AskLock (Page 257) Selective)) steps.Grant
+    ∷ move 1 (asks (ForLock (Queue 0) Exclusive)) steps.Grant
+    ∷ move 1 (asks (ForLock Directory Selective)) steps.Grant
+    ∷ move 1 (asks (ForLock (Page 257) Selective)) steps.Grant
     ∷ move 1 no_ask steps.Look
     ∷ move 1 insert steps.TakePage
     ∷ move 1 insert steps.CopyDirectory
@@ -141,8 +141,8 @@ schedule =
     ∷ move 1 no_ask steps.Decide
     ∷ move 1 delete steps.WriteRecord
     ∷ move 1 no_ask steps.Release
-    ∷ move 1 (asks (AskLock (Page 257) Selective)) steps.Grant
-    ∷ move 1 (asks (AskLock (Page 258) Selective)) steps.Grant
+    ∷ move 1 (asks (ForLock (Page 257) Selective)) steps.Grant
+    ∷ move 1 (asks (ForLock (Page 258) Selective)) steps.Grant
     ∷ move 1 delete steps.WriteLeft
     ∷ move 1 delete steps.Tombstone
     ∷ move 1 delete steps.Retarget
@@ -150,7 +150,7 @@ schedule =
     ∷ move 1 no_ask steps.Release
     ∷ move 1 no_ask steps.Release
     ∷ move 1 (asks ToExclusive) steps.Convert
-    ∷ move 1 (asks (AskLock (Page 258) Exclusive)) steps.Grant
+    ∷ move 1 (asks (ForLock (Page 258) Exclusive)) steps.Grant
     ∷ move 1 delete steps.WriteFree
     ∷ move 1 delete steps.LinkFree
     ∷ move 1 delete steps.LowerDepth

@@ -32,7 +32,7 @@ lower_stays depth page i low = by_test (page_of i == page)
     by_test false = refl
 
 -- copying changes no entry that is read
-copied_at : (hash : RecordKey → ℕ) (s : Store) (c : Change) (ns : List ℕ) (page i : ℕ) → IsSoundOn hash s c ns →
+pub copied_at : (hash : RecordKey → ℕ) (s : Store) (c : Change) (ns : List ℕ) (page i : ℕ) → IsSoundOn hash s c ns →
     i < 2 ^ s.header.depth → entry_at (copy_directory page s) i ≡ entry_at s i
 copied_at hash s c ns page i h low =
     mapped_first (λ (j e : ℕ). if page_of j == page && is_upper s.header.depth j

@@ -1,5 +1,5 @@
 -- Where the right page of a merge leads; and all that is well formed of a file.
-use Rattle.std.proofs.Common.{ℕ, ◌≡◌, ◌≤◌, ◌<◌, ◌↔◌, ◌⊎◌, List, [], ◌∷◌, ◌++◌, true, false, refl, sym, ap, ◌∙◌, subst, inl, inr, arith}
+use Rattle.std.proofs.Common.{ℕ, ◌≡◌, ◌≤◌, ◌<◌, ◌↔◌, ◌⊎◌, [], ◌∷◌, ◌++◌, false, refl, sym, ap, subst, inl, inr, arith}
 use Rattle.std.specs.List.{Contains}
 use Rattle.std.proofs.lemmas.List.Elements.{All-contains}
 use Rattle.positions.specs.declared.pseudokey.TheConstants.{POSITIONS, PSEUDOKEY_BITS}
@@ -13,12 +13,12 @@ use Rattle.positions.proofs.TileLaws.{tiles_cut, tiles_within}
 use Rattle.bucket_page.specs.declared.record_key.RecordKey.{RecordKey}
 use Rattle.bucket_page.specs.declared.page.PageKind.{PageKind}
 use Rattle.bucket_page.specs.Records.{Pair}
-use Rattle.hash_file.specs.Store.{Store, is_bucket, bucket_of, page_at, has_bucket, bucket_at, range_at, records_at, next_at}
-use Rattle.hash_file.specs.Chain.{chain, IsBucketOf}
+use Rattle.hash_file.specs.Store.{Store, is_bucket, bucket_of, has_bucket, range_at, records_at, next_at}
+use Rattle.hash_file.specs.Chain.{chain}
 use Rattle.hash_file.specs.Change.{Change, Absorbed, Buried, Drained, aside}
 use Rattle.hash_file.specs.Search.{reach, PageLeads}
 use Rattle.hash_file.specs.Sound.{IsSoundFile}
-use Rattle.hash_file.specs.Words.{IsWellFormedFile, HasContents, StandsAtOrBefore, StandsBehind, RightPageLeads}
+use Rattle.hash_file.specs.Words.{IsWellFormedFile, StandsAtOrBefore, StandsBehind, RightPageLeads}
 use Rattle.hash_file.proofs.Chains.{chain_valid, has_position}
 use Rattle.hash_file.proofs.Contents.{contents_are_pairs}
 use Rattle.hash_file.proofs.Ties.{chain_well_formed, leading_is_before, roles_are_one}

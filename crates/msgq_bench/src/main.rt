@@ -4,6 +4,7 @@
 
 mod calling;
 mod deciding;
+mod locking;
 mod making;
 mod pinning;
 mod sealing;
@@ -20,6 +21,9 @@ const MESSAGES: u32 = 100_000;
 /// How often a page that has a frame is pinned.
 const PINS: u32 = 2_000_000;
 
+/// How often a lock is granted and given back.
+const GRANTS: u32 = 5_000_000;
+
 fn main(rt: HostRuntime) -> anyhow::Result<()> {
     let words: Vec<String> = std::env::args(&rt)?.collect(rt.alloc())?;
     let Some(path) = words.get(1) else {
@@ -28,6 +32,9 @@ fn main(rt: HostRuntime) -> anyhow::Result<()> {
     calls(&rt)?;
     for types in [1, 16, 200] {
         decides(&rt, types)?;
+    }
+    for seats in [1, 64] {
+        locks(&rt, seats)?;
     }
     seals(&rt)?;
     for frames in [64, MAX_PAGES] {
@@ -52,6 +59,9 @@ fn once(rt: &HostRuntime) -> anyhow::Result<()> {
     let new = deciding::sends(rt.alloc(), 16, 17, 1)?;
     let taken = deciding::receives(16, 1);
     println!(rt; "decided: {:?}", (standing, new, taken))?;
+    let mut table = locking::table_of(rt.alloc(), 64, 6)?;
+    let granted = locking::grants(&mut table, 64, 100);
+    println!(rt; "granted: {granted}")?;
     Ok(())
 }
 
@@ -92,6 +102,16 @@ fn decides(rt: &HostRuntime, types: u32) -> anyhow::Result<()> {
     let start = Instant::now(rt)?;
     deciding::receives(types, ROUNDS);
     report(rt, "a receive, decided", 0, start, ROUNDS)
+}
+
+/// Times grants and releases in a table of so many seats that hold six names each.
+fn locks(rt: &HostRuntime, seats: u8) -> anyhow::Result<()> {
+    let mut table = locking::table_of(rt.alloc(), seats, 6)?;
+    println!(rt; "with {seats} seats:")?;
+    let start = Instant::now(rt)?;
+    let granted = locking::grants(&mut table, seats, GRANTS);
+    println!(rt; "{granted} locks granted and given back")?;
+    report(rt, "a grant and its release", 0, start, GRANTS)
 }
 
 /// Times digests, and pages sealed and unsealed.

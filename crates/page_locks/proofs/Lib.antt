@@ -1,5 +1,14 @@
 pub mod ChangeLemmas
+pub mod CircleLemmas
+pub mod CloseLemmas
+pub mod HolderLemmas
 pub mod NameLemmas
+pub mod ProbeLemmas
 pub mod RowLemmas
+pub mod SeatRowLemmas
+pub mod SlotLemmas
+pub mod SpotLemmas
+pub mod StoreLemmas
 pub mod TableLemmas
+pub mod TieLemmas
 pub mod WriterLemmas

@@ -1,13 +1,16 @@
 -- The locks of one seat after a grant, a release and a conversion.
-use Rattle.std.proofs.Common.{arith, ◌≡◌, ◌≢◌, ◌⊎◌, ℕ, zero, suc, ◌<◌, Bool, true, false, not, if◌then◌else◌}
+use Rattle.std.proofs.Common.{arith, ◌≡◌, ◌≢◌, ◌⊎◌, ℕ, zero, suc, ◌<◌, Bool, true, false, not, nat_lt, if◌then◌else◌}
 use Rattle.std.proofs.Common.{List, [], ◌∷◌, ◌++◌, length, get_or, Option, Some, None, refl, sym, ap, ◌∙◌, inl, inr, true≢false}
+use Rattle.std.specs.List.{position, position_or_len, remove}
 use Rattle.std.specs.Option.{option_map}
-use Rattle.std.proofs.lemmas.Bool.{cases_Bool}
+use Rattle.std.proofs.lemmas.Bool.{cases_Bool, ltb-false, not-true}
 use Rattle.std.proofs.lemmas.List.{get_or-map, length-map}
 use Rattle.std.proofs.lemmas.List.Kept.{AllPairs-filter}
-use Rattle.std.proofs.lemmas.List.Quantifiers.{all_pairs_push}
+use Rattle.std.proofs.lemmas.List.Quantifiers.{all_pairs_push, position-Some}
+use Rattle.std.proofs.lemmas.List.Sums.{prefix_len_passes}
 use Rattle.page_locks.specs.declared.lock.Lock.{Lock}
 use Rattle.page_locks.specs.declared.lock.LockKind.{LockKind}
+use Rattle.page_locks.specs.declared.lock.LockKind.TheVariants.{Read}
 use Rattle.page_locks.specs.declared.lock.LockName.{LockName}
 use Rattle.page_locks.specs.Locks.{is_same, is_on, in_kind, lock_of, kind_of, without, converted, HasNoNameTwice}
 use Rattle.page_locks.proofs.NameLemmas.{is_same-itself, is_same-true, is_same-false}
@@ -150,3 +153,49 @@ module _ (name : LockName) where
         ap (λ (x : Lock). x.name) (get_or-map (in_kind name kind) xs k d d lt) ∙ in_kind-name (get_or xs k d)
         in
         once i j d below inside (sym (name_at i (omega arith)) ∙ same ∙ name_at j inside)
+
+-- where no lock is on the name, all stay
+without-none : (xs : List Lock) (name : LockName) →
+    ((k : ℕ) (d : Lock) → k < length xs → is_on name (get_or xs k d) ≡ false) → without xs name ≡ xs
+without-none [] name none = refl
+without-none (x ∷ xs) name none =
+    let off : is_on name x ≡ false = none 0 x (omega arith) in
+    rw off (ap (λ (rest : List Lock). x ∷ rest) (without-none xs name (λ k d lt. none (suc k) d (omega (arith, lt)))))
+
+-- the one lock on a name is taken out
+without-at : (xs : List Lock) (name : LockName) (i : ℕ) → i < length xs → HasNoNameTwice xs →
+    ((d : Lock) → is_on name (get_or xs i d) ≡ true) → remove xs i ≡ without xs name
+without-at [] name i lt once on = absurd (omega (arith, lt))
+without-at (x ∷ xs) name zero lt once on =
+    let here : is_on name x ≡ true = on x in
+    rw here (sym (without-none xs name (λ k d k_lt.
+    is_same-false (get_or xs k d).name name (λ same.
+    once 0 (suc k) d (omega arith) (omega (arith, k_lt)) (is_same-true x.name name here ∙ sym same)))))
+without-at (x ∷ xs) name (suc i) lt once on =
+    let off : is_on name x ≡ false =
+    is_same-false x.name name (λ same.
+    once 0 (suc i) x (omega arith) lt (same ∙ sym (is_same-true (get_or xs i x).name name (on x))))
+    in
+    rw off (ap (λ (rest : List Lock). x ∷ rest)
+    (without-at xs name i (omega (arith, lt))
+    (λ a b d below b_lt. once (suc a) (suc b) d (omega (arith, below)) (omega (arith, b_lt))) on))
+
+pub without-first : (xs : List Lock) (name : LockName) (i : ℕ) → HasNoNameTwice xs →
+    position (is_on name) xs ≡ Some i → remove xs i ≡ without xs name
+without-first xs name i once at =
+    let first = λ (d : Lock). position-Some (is_on name) xs i d at in
+    let none : Lock = lock_of name Read in
+    without-at xs name i (first none).0 once (λ d. (first d).1)
+
+-- where no lock is found none is on the name
+not_found : (b : Bool) (i : ℕ) → (if b then Some i else None) ≡ None → b ≡ false
+not_found true i e = absurd cc
+not_found false i e = refl
+
+pub without-absent : (xs : List Lock) (name : LockName) → position (is_on name) xs ≡ None → without xs name ≡ xs
+without-absent xs name none =
+    let first = position_or_len (is_on name) xs in
+    let past = ltb-false first (length xs) (not_found (nat_lt first (length xs)) first none) in
+    without-none xs name (λ k d lt.
+    not-true (is_on name (get_or xs k d))
+    (prefix_len_passes (λ (x : Lock). not (is_on name x)) xs k d (omega (arith, lt, past))))

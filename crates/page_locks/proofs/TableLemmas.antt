@@ -130,7 +130,8 @@ module _ (t : Table) (seat : ℕ) (lawful : IsLawful t) where
         (λ other n k l apart mine theirs.
         lawful.pairs seat other n k l (λ e. apart (sym e)) (kind_of-without_was name (row_of t seat) n k mine) theirs)
 
-row_of-empty : (seats seat : ℕ) → row_of (replicate seats []) seat ≡ []
+-- where nobody holds a lock each row is empty
+pub row_of-empty : (seats seat : ℕ) → row_of (replicate seats []) seat ≡ []
 row_of-empty seats zero = refl
 row_of-empty zero (suc place) = refl
 row_of-empty (suc seats) (suc zero) = refl

@@ -8,3 +8,12 @@ pub enum Grant {
     /// Nothing changed: this other seat holds the name in a kind that does not go with that one.
     Blocked(u8),
 }
+
+/// The answer, and how many slots were looked at for it.
+#[derive(Clone, Copy, Debug, PartialEq, Eq)]
+pub struct Attempt {
+    /// What the seat is told.
+    pub grant: Grant,
+    /// The slots from the name's home to where it stood or was put, both counted.
+    pub looked: usize,
+}

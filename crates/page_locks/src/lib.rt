@@ -4,17 +4,17 @@
 #![tactic(auto)]
 
 mod grant;
+mod holders;
 mod laws;
 mod lock;
 mod lock_table;
 mod row;
+mod slot;
+mod slots;
 
 pub use faults::NoMemory;
-pub use grant::Grant;
+pub use grant::{Attempt, Grant};
 pub use laws::{changes_are_local, names_differ};
 pub use lock::{Lock, LockKind, LockName};
 pub use lock_table::{LockTable, MAX_SEATS};
 pub use row::MAX_LOCKS;
-
-#[cfg(test)]
-mod tests;

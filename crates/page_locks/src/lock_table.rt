@@ -1,13 +1,15 @@
 //! The table: who holds what.
 
-ghost use Rattle.std.specs.Prelude.{◌≡◌, ◌<◌, ◌≤◌, ◌↔◌, [], length, replicate, None, IsSome, IsTrue, IfSome, IfNone, IfOk};
+ghost use Rattle.std.specs.Prelude.{◌≡◌, ◌<◌, ◌≤◌, ◌↔◌, [], length, replicate, None, IsSome, IsTrue, IfOk};
 ghost use Rattle.page_locks.specs.Grants.{OnGranted, IfBlocked, IsBlocked};
 ghost use Rattle.page_locks.specs.Table.{row_of, held, with_lock, without_lock, with_kind};
-ghost use Rattle.page_locks.specs.Table.{IsSeat, Opposes, IsOpposed, IsFree, IsLawful, IsPairwiseCompatible};
+ghost use Rattle.page_locks.specs.Table.{IsSeat, Opposes, IsOpposed, IsLawful, IsPairwiseCompatible};
+ghost use Rattle.page_locks.specs.Ties.{AreHomesApart, IsUnheld};
 
-use crate::grant::Grant;
+use crate::grant::{Attempt, Grant};
 use crate::lock::{Lock, LockKind, LockName};
 use crate::row::{MAX_LOCKS, Row};
+use crate::slots::Slots;
 use faults::NoMemory;
 use std::alloc::Global;
 use std::marker::Model;
@@ -15,20 +17,24 @@ use std::marker::Model;
 /// The most seats of a table.
 pub const MAX_SEATS: u8 = 64;
 
-/// What each seat holds. Seats count from 1.
+/// What each seat holds. Seats count from 1. Each seat has a row of the names that it holds, and
+/// each name that is held a slot with its holders, so that one slot answers who stands in the way.
 #[derive(Debug, Drop)]
 pub struct LockTable {
     rows: Vec<Row>,
+    slots: Slots,
+    looked: usize,
 }
 
 impl Model for LockTable {
-    ghost use Rattle.page_locks.specs.Table.{Table, IsLawful};
+    ghost use Rattle.page_locks.specs.Table.{Table};
+    ghost use Rattle.page_locks.specs.Ties.{IsSound};
 
     ghost Value = { Table };
 
     ghost view = { λ t. t.rows.items };
 
-    ghost invariant = { λ t. IsLawful t.rows.items };
+    ghost invariant = { λ t. IsSound t.slots t.rows.items t.looked };
 }
 
 impl LockTable {
@@ -38,11 +44,16 @@ impl LockTable {
         requires few { seats ≤ MAX_SEATS }
         ensures { IfOk result (λ table. table ≡ replicate seats []) }
     {
+        let slots = Slots::new(alloc)?;
         let mut rows = Vec::with_capacity(alloc, seats as usize)?;
         for _ in 0..seats {
             rows.push(Row::new())?;
         }
-        Ok(LockTable { rows })
+        Ok(LockTable {
+            rows,
+            slots,
+            looked: 0,
+        })
     }
 
     /// How many seats there are.
@@ -79,12 +90,45 @@ impl LockTable {
         ensures blocked { IfBlocked result (Opposes self.old seat name kind) }
         ensures same { IfBlocked result (λ _. self.new ≡ self.old) }
     {
-        let lock = Lock { name, kind };
-        if let Some(other) = self.opponent(seat, lock) {
-            return Grant::Blocked(other);
+        self.attempt(seat, name, kind).grant
+    }
+
+    /// `try_grant`, which also tells how many slots were looked at: one, where no two of the names
+    /// that are held or asked for have one home.
+    pub fn attempt(&mut self, seat: u8, name: LockName, kind: LockKind) -> Attempt
+        requires seat { IsSeat self.old seat }
+        requires room { length (row_of self.old seat) < MAX_LOCKS }
+        requires fresh { held self.old seat name ≡ None }
+        ensures ok { OnGranted result.grant (self.new ≡ with_lock self.old seat name kind) }
+        ensures busy { IsBlocked result.grant ↔ IsOpposed self.old seat name kind }
+        ensures blocked { IfBlocked result.grant (Opposes self.old seat name kind) }
+        ensures same { IfBlocked result.grant (λ _. self.new ≡ self.old) }
+        ensures once { AreHomesApart self.old name → result.looked ≡ 1 }
+        ensures within { 1 ≤ result.looked }
+    {
+        let spot = self.slots.spot(name);
+        self.looked = spot.looked;
+        if let Some(other) = spot.holders.opponent(seat, kind) {
+            return Attempt {
+                grant: Grant::Blocked(other),
+                looked: spot.looked,
+            };
         }
-        self.rows[seat as usize - 1].push(lock);
-        Grant::Granted
+        self.slots
+            .store(name, spot.place, spot.holders.with(seat, kind));
+        self.rows[seat as usize - 1].push(Lock { name, kind });
+        Attempt {
+            grant: Grant::Granted,
+            looked: spot.looked,
+        }
+    }
+
+    /// How many slots the last `try_grant` or `attempt` looked at, from the name's home to where it
+    /// stood or was put, both counted; 0 before the first.
+    pub fn looked(&self) -> usize
+        ensures begun { result ≡ 0 → IsUnheld self.now }
+    {
+        self.looked
     }
 
     /// Takes the name back from the seat. A name that the seat does not hold changes nothing.
@@ -92,6 +136,9 @@ impl LockTable {
         requires seat { IsSeat self.old seat }
         ensures { self.new ≡ without_lock self.old seat name }
     {
+        let spot = self.slots.spot(name);
+        self.slots
+            .store(name, spot.place, spot.holders.without(seat));
         self.rows[seat as usize - 1].remove(name);
     }
 
@@ -104,9 +151,12 @@ impl LockTable {
         ensures blocked { IfBlocked result (Opposes self.old seat name kind) }
         ensures same { IfBlocked result (λ _. self.new ≡ self.old) }
     {
-        if let Some(other) = self.opponent(seat, Lock { name, kind }) {
+        let spot = self.slots.spot(name);
+        if let Some(other) = spot.holders.opponent(seat, kind) {
             return Grant::Blocked(other);
         }
+        let holders = spot.holders.without(seat).with(seat, kind);
+        self.slots.store(name, spot.place, holders);
         self.rows[seat as usize - 1].convert(name, kind);
         Grant::Granted
     }
@@ -131,20 +181,5 @@ impl LockTable {
         ensures { result.now ≡ row_of self.now seat }
     {
         &self.rows[seat as usize - 1]
-    }
-
-    /// Another seat that holds the name in a kind that does not go with this one.
-    fn opponent(&self, seat: u8, lock: Lock) -> Option<u8>
-        ensures none { IfNone result (IsFree self.now seat lock.name lock.kind) }
-        ensures some { IfSome result (Opposes self.now seat lock.name lock.kind) }
-    {
-        let mut other = 0;
-        for row in &self.rows {
-            other += 1;
-            if other != seat && row.is_against(lock) {
-                return Some(other);
-            }
-        }
-        None
     }
 }

@@ -1,7 +1,8 @@
 //! The locks of one seat.
 
-ghost use Rattle.std.specs.Prelude.{◌≡◌, ◌<◌, ◌≤◌, [], ◌∷◌, ◌++◌, length};
-ghost use Rattle.page_locks.specs.Locks.{kind_of, is_against, without, converted};
+ghost use Rattle.std.specs.Prelude.{◌≡◌, ◌<◌, [], ◌∷◌, ◌++◌, length};
+ghost use Rattle.std.specs.List.{position};
+ghost use Rattle.page_locks.specs.Locks.{kind_of, is_on, without, converted, HasNoNameTwice};
 
 use crate::lock::{Lock, LockKind, LockName};
 use arrayvec::ArrayVec;
@@ -54,16 +55,6 @@ impl Row {
         None
     }
 
-    /// Whether these locks keep another seat from holding this one.
-    pub fn is_against(&self, lock: Lock) -> bool
-        ensures { result ≡ is_against lock.kind (kind_of self.now lock.name) }
-    {
-        match self.kind_of(lock.name) {
-            Some(held) => !lock.kind.is_compatible(held),
-            None => false,
-        }
-    }
-
     /// Puts a lock last.
     pub fn push(&mut self, lock: Lock)
         requires { length self.old < MAX_LOCKS }
@@ -72,11 +63,14 @@ impl Row {
         self.locks.push(lock);
     }
 
-    /// Takes out the lock on a name.
+    /// Takes out the lock on a name, if there is one.
     pub fn remove(&mut self, name: LockName)
+        requires once { HasNoNameTwice self.old }
         ensures { self.new ≡ without self.old name }
     {
-        self.locks.retain(|lock| !lock.is_on(name));
+        if let Some(place) = place_of(self.locks.as_slice(), name) {
+            self.locks.remove(place);
+        }
     }
 
     /// Changes the kind in which a name is held.
@@ -87,4 +81,11 @@ impl Row {
             lock.convert(name, kind);
         }
     }
+}
+
+/// The first lock on a name.
+fn place_of(locks: &[Lock], name: LockName) -> Option<usize>
+    ensures { result ≡ position (is_on name) locks.now }
+{
+    locks.iter().position(|lock| lock.is_on(name))
 }

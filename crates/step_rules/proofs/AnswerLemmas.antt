@@ -1,6 +1,5 @@
 -- A look may tell what it sees; and a directory that is given back from an exclusive lock is halved.
-use Rattle.std.proofs.Common.{◌≡◌, ◌≢◌, ◌⊎◌, ◌==◌, ℕ, suc, Bool, true, false, List, [], ◌∷◌, Some, refl, sym, ◌∙◌, subst, inl, inr, arith}
-use Rattle.std.specs.List.{Contains}
+use Rattle.std.proofs.Common.{◌≡◌, ◌≢◌, ◌⊎◌, ℕ, List, [], ◌∷◌, Some, refl, sym, ◌∙◌, subst, inl, inr}
 use Rattle.std.proofs.lemmas.Bool.{cases_eq, ne_eqb}
 use Rattle.positions.proofs.MemberLaws.{contains_head, contains_tail}
 use Rattle.bucket_page.specs.declared.record_key.RecordKey.{RecordKey}
@@ -8,9 +7,8 @@ use Rattle.bucket_page.specs.Records.{lookup}
 use Rattle.page_locks.specs.declared.lock.LockKind.TheVariants.{Exclusive}
 use Rattle.page_locks.specs.declared.lock.LockName.TheVariants.{Directory, Page}
 use Rattle.page_locks.specs.Table.{held}
-use Rattle.page_locks.specs.Writers.{may_write}
-use Rattle.hash_file.specs.Store.{Store, bucket_at, records_at, count_at}
-use Rattle.hash_file.specs.Chain.{chain, how_many, number_on}
+use Rattle.hash_file.specs.Store.{Store, bucket_at, records_at}
+use Rattle.hash_file.specs.Chain.{chain, number_on}
 use Rattle.hash_file.specs.Looks.{Answers}
 use Rattle.hash_file.specs.Sound.{IsSoundFile}
 use Rattle.hash_file.proofs.Searches.{looks_answer}
@@ -20,11 +18,11 @@ use Rattle.step_rules.specs.Sound.{IsSoundWorld}
 use Rattle.step_rules.specs.Known.{LeadsTo, IsKnown}
 use Rattle.step_rules.specs.LockSteps.{Releases}
 use Rattle.step_rules.specs.Learns.{IsLiveOn}
-use Rattle.step_rules.specs.Answering.{IsTold}
+use Rattle.step_rules.specs.Answering.{IsAnswerOf}
 
 pub look_may_tell : (hash : RecordKey → ℕ) (seat page : ℕ) (key : RecordKey) (w : World) → IsSoundWorld hash w →
     IsKnown seat w (LeadsTo page (hash key)) → IsHeld w.locks seat (Page page) → Answers w.store page (hash key) →
-    IsTold hash seat page key (lookup key (records_at w.store page)) w
+    IsAnswerOf hash seat page key (lookup key (records_at w.store page)) w
 look_may_tell hash seat page key w sound leads there answers = record {
   held = there;
   answers = answers;

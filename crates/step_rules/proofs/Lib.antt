@@ -20,3 +20,4 @@ pub mod BoundLemmas
 pub mod WalkLemmas
 pub mod AnswerLemmas
 pub mod RoomLemmas
+pub mod FallLemmas

@@ -1,15 +1,18 @@
--- A seat's facts through its own locks, and each answer of a turn.
-use Rattle.std.proofs.Common.{◌≡◌, false, List, [], ◌∷◌, ℕ}
+-- A seat's facts through its own locks, each answer of a turn, and what a seat may be granted.
+use Rattle.std.proofs.Common.{◌≡◌, ◌≤◌, false, List, [], ◌∷◌, ℕ, None, IsSome, sym, subst, arith}
+use Rattle.std.proofs.lemmas.Bool.{true≢false}
 use Rattle.bucket_page.specs.declared.record_key.RecordKey.{RecordKey}
+use Rattle.page_locks.specs.Locks.{kind_of}
 use Rattle.page_locks.specs.Table.{Table, row_of}
+use Rattle.step_rules.specs.Words.{LockKind, LockName, Exclusive, Key, Counter, Queue, Directory, Page}
 use Rattle.step_rules.specs.declared.progress.Progress.{Progress}
 use Rattle.step_rules.specs.declared.progress.Progress.TheVariants.{Moved, Blocked, Fault, Ended}
-use Rattle.step_rules.specs.World.{World, with_locks}
+use Rattle.step_rules.specs.World.{World, with_locks, IsHeld}
 use Rattle.step_rules.specs.Sound.{IsSoundWorld}
 use Rattle.step_rules.specs.Known.{Known, AllKnown, AllAnchored}
 use Rattle.step_rules.specs.LockSteps.{Grants}
 use Rattle.step_rules.specs.Does.{KeepsOthers}
-use Rattle.step_rules.specs.Turns.{Turn, TurnsAt, is_fault}
+use Rattle.step_rules.specs.Turns.{Turn, TurnsAt, is_fault, rank_of, MayBeGranted}
 use Rattle.step_rules.proofs.LockStepLemmas.{KeepsOthers-same}
 use Rattle.step_rules.proofs.TurnLemmas.{turn_keeps}
 use Rattle.step_rules.proofs.OwnLemmas.{own_locks_keep, own_grant_keeps}
@@ -33,3 +36,39 @@ answer_keeps hash turn (Moved kind) seat old new fine sound does = turn_keeps ki
 answer_keeps hash turn (Blocked other) seat old new fine sound does = KeepsOthers-same hash seat old new sound does.1
 answer_keeps hash turn (Fault fault) seat old new fine sound does = absurd cc
 answer_keeps hash turn Ended seat old new fine sound does = KeepsOthers-same hash seat old new sound does
+
+-- ---- what a seat may be granted
+
+-- the directory, by a seat that holds no page
+pub directory_may : (seat : ℕ) (kind : LockKind) (w : World) → (kind ≡ Exclusive → ⊥) →
+    ((n : ℕ) → kind_of (row_of w.locks seat) (Page n) ≡ None) → MayBeGranted Directory kind seat w
+directory_may seat kind w shared bare = record {
+  ordered = ordered;
+  shared = λ same x. shared x;
+  in_directory = λ page same. absurd cc;
+  last = λ page same x. absurd cc;
+}
+  where
+    ordered : (other : LockName) → IsHeld w.locks seat other → rank_of other ≤ 3
+    ordered (Key k) there = omega arith
+    ordered Counter there = omega arith
+    ordered (Queue id) there = omega arith
+    ordered Directory there = omega arith
+    ordered (Page n) there = absurd (true≢false (sym (subst IsSome (bare n) there)))
+
+pub last_rank : (name : LockName) → rank_of name ≤ 4
+last_rank (Key k) = omega arith
+last_rank Counter = omega arith
+last_rank (Queue id) = omega arith
+last_rank Directory = omega arith
+last_rank (Page n) = omega arith
+
+-- a page, by a seat that holds the directory
+pub page_may : (n : ℕ) (kind : LockKind) (seat : ℕ) (w : World) → IsHeld w.locks seat Directory → (kind ≡ Exclusive → ⊥) →
+    MayBeGranted (Page n) kind seat w
+page_may n kind seat w there shared = record {
+  ordered = λ other held. last_rank other;
+  shared = λ same x. shared x;
+  in_directory = λ page same. there;
+  last = λ page same x. absurd (shared x);
+}

@@ -24,7 +24,7 @@ use Rattle.step_rules.specs.PageSteps.{Restructures, Retargets, SetsCounts}
 use Rattle.step_rules.specs.OnePage.{WritesHeader, WritesEntries, WritesPage, ChangesLocks, KindChangesLittle}
 
 -- an entry stays where the page is another's, whatever else is asked of it
-entry_elsewhere : (page i : ℕ) (ask : ℕ → Bool) (become : ℕ → ℕ) (es : List ℕ) → page_of i ≢ page →
+pub entry_elsewhere : (page i : ℕ) (ask : ℕ → Bool) (become : ℕ → ℕ) (es : List ℕ) → page_of i ≢ page →
     slice_index_or (mapped_from 0 (λ (j e : ℕ). if page_of j == page && ask j then become j else e) es) i 0
     ≡ slice_index_or es i 0
 entry_elsewhere page i ask become es other =

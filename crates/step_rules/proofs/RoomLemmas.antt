@@ -1,5 +1,5 @@
 -- Where a record has no room it can't be put, nor room be made for it; where a merge is turned away from none is made.
-use Rattle.std.proofs.Common.{◌≡◌, ◌≢◌, ◌<◌, ◌≤◌, ◌+◌, ◌-◌, ◌^◌, ◌⊎◌, ℕ, suc, List, [], ◌∷◌, Option, Some, None, length, refl, sym, ap, ◌∙◌, subst, inl, inr, arith}
+use Rattle.std.proofs.Common.{◌≡◌, ◌<◌, ◌≤◌, ◌+◌, ◌-◌, ◌^◌, ◌⊎◌, ℕ, suc, List, [], ◌∷◌, Option, Some, length, refl, sym, ap, ◌∙◌, subst, inl, inr, arith}
 use Rattle.std.specs.List.{Contains}
 use Rattle.positions.specs.declared.range.Range.{Range}
 use Rattle.positions.specs.Ranges.{IsRange, Covers, lower_half_of, upper_half_of, buddy_of}
@@ -10,24 +10,20 @@ use Rattle.std.proofs.Math.Nat.{mod-eq_of_lt}
 use Rattle.bucket_page.specs.declared.layout.TheConstants.{ROOM_BYTES}
 use Rattle.bucket_page.specs.declared.record_key.RecordKey.{RecordKey}
 use Rattle.bucket_page.specs.Records.{Pair}
-use Rattle.hash_file.specs.Store.{Store, bucket_at, range_at, next_at}
-use Rattle.hash_file.specs.Chain.{chain, IsBucketOf}
-use Rattle.hash_file.specs.Change.{owned}
-use Rattle.hash_file.specs.Changes.{RecordWrite, Put, Replace, Remove, key_of}
-use Rattle.hash_file.specs.Sound.{IsFreeList}
+use Rattle.hash_file.specs.Changes.{RecordWrite, Put, Remove, key_of}
 use Rattle.hash_file.specs.Words.{HasOneRole, IsOneOf, First, Second, Third}
 use Rattle.hash_file.proofs.Chains.{chain_valid, bucket_unique}
 use Rattle.hash_file.proofs.Ties.{roles_are_one}
+use Rattle.step_rules.specs.Words.{Store, bucket_at, range_at, chain, IsBucketOf, owned, IsFreeList}
 use Rattle.step_rules.specs.declared.kind.Kind.TheVariants.{WriteRecord, TakePage, WriteLeft}
-use Rattle.step_rules.specs.declared.kind.TheConstants.{MERGED_BYTES}
 use Rattle.step_rules.specs.World.{World}
 use Rattle.step_rules.specs.Sound.{IsSoundWorld}
 use Rattle.step_rules.specs.Structure.{BucketOf, HasFirstFree}
 use Rattle.step_rules.specs.Pages.{Lacking, Using, used_on, size_of}
 use Rattle.step_rules.specs.Known.{OnPage, Built, IsKnown}
 use Rattle.step_rules.specs.PageSteps.{Suits, TakesPage, WritesLeft}
-use Rattle.step_rules.specs.Turns.{Turn, Makes, WritesAsked, WritesJust, SplitsAsked, SplitsFor, MergesAsked}
-use Rattle.step_rules.specs.Rooms.{HasNoRoom, HoldsBuddies, TurnsAway, IsWhole, IsLarge, Differs, AreLarge}
+use Rattle.step_rules.specs.Turns.{Turn, DoesTied, WritesAsked, WritesJust, SplitsAsked, SplitsFor, MergesAsked}
+use Rattle.step_rules.specs.Rooms.{HasNoRoom, TurnsAway, IsWhole, IsLarge, Differs, AreLarge}
 
 pub no_room_is_seen : (hash : RecordKey → ℕ) (seat : ℕ) (p : Pair) (page used : ℕ) (w : World) →
     IsKnown seat w (Built (BucketOf (hash p.key) page)) → IsKnown seat w (OnPage page (Lacking p.key)) →
@@ -64,7 +60,7 @@ module _ (hash : RecordKey → ℕ) (seat : ℕ) (p : Pair) (old new : World) (s
       ]
 
   pub no_room_is_stuck : (turn : Turn) → turn.write ≡ Some (Put p) →
-      Makes hash turn WriteRecord seat old new ⊎ Makes hash turn TakePage seat old new → ⊥
+      DoesTied hash turn WriteRecord seat old new ⊎ DoesTied hash turn TakePage seat old new → ⊥
   no_room_is_stuck turn is (inl does) =
       no_write (subst (λ (x : Option RecordWrite). WritesAsked hash x seat old new) is does)
   no_room_is_stuck turn is (inr (takes, splits)) = no_split takes
@@ -191,7 +187,7 @@ module _ (hash : RecordKey → ℕ) (key : RecordKey) (seat : ℕ) (old new : Wo
 
 pub turned_away_is_stuck : (hash : RecordKey → ℕ) (key : RecordKey) (seat : ℕ) (turn : Turn) (old new : World) →
     IsSoundWorld hash old → TurnsAway hash key seat old → turn.write ≡ Some (Remove key) →
-    Makes hash turn WriteLeft seat old new → ⊥
+    DoesTied hash turn WriteLeft seat old new → ⊥
 turned_away_is_stuck hash key seat turn old new sound away is (does, merges) =
     let found : (page : ℕ) × IsBucketOf old.store (hash key) page × ((page ≡ does.left) ⊎ (page ≡ does.right)) =
     subst (λ (x : Option RecordWrite). MergesAsked hash x old (λ page. (page ≡ does.left) ⊎ (page ≡ does.right))) is

@@ -9,25 +9,25 @@ use Rattle.step_rules.specs.LockSteps.{Grants, Hops, Converts}
 use Rattle.step_rules.specs.PageSteps.{WritesRecord}
 use Rattle.step_rules.specs.Does.{Does}
 use Rattle.step_rules.specs.Laws.{TurnKeeps}
-use Rattle.step_rules.specs.Turns.{Ask, Lock, HopFrom, ToExclusive, Turn, GrantsAsked, HopsAsked, ConvertsAsked, WritesAsked, Makes}
+use Rattle.step_rules.specs.Turns.{Ask, ForLock, HopFrom, ToExclusive, Turn, GrantsAsked, HopsAsked, ConvertsAsked, WritesAsked, DoesTied}
 use Rattle.step_rules.proofs.KindLemmas.{kind_keeps}
 
 module _ (hash : RecordKey → ℕ) (seat : ℕ) (old new : World) where
   grants : (ask : Option Ask) → GrantsAsked ask seat old new → Grants seat old new
   grants None d = absurd d
-  grants (Some (Lock name kind)) d = d.grants
+  grants (Some (ForLock name kind)) d = d.grants
   grants (Some (HopFrom page k)) d = absurd d
   grants (Some ToExclusive) d = absurd d
 
   hops : (ask : Option Ask) → HopsAsked ask seat old new → Hops seat old new
   hops None d = absurd d
-  hops (Some (Lock name kind)) d = absurd d
+  hops (Some (ForLock name kind)) d = absurd d
   hops (Some (HopFrom page k)) d = d.hops
   hops (Some ToExclusive) d = absurd d
 
   converts : (ask : Option Ask) → ConvertsAsked ask seat old new → Converts seat old new
   converts None d = absurd d
-  converts (Some (Lock name kind)) d = absurd d
+  converts (Some (ForLock name kind)) d = absurd d
   converts (Some (HopFrom page k)) d = absurd d
   converts (Some ToExclusive) d = d
 
@@ -35,7 +35,7 @@ module _ (hash : RecordKey → ℕ) (seat : ℕ) (old new : World) where
   writes None d = absurd d
   writes (Some w) d = d.writes
 
-  pub is_of_its_kind : (turn : Turn) (kind : Kind) → Makes hash turn kind seat old new → Does hash kind seat old new
+  pub is_of_its_kind : (turn : Turn) (kind : Kind) → DoesTied hash turn kind seat old new → Does hash kind seat old new
   is_of_its_kind turn Grant d = grants turn.ask d
   is_of_its_kind turn Release d = d
   is_of_its_kind turn ReadDepth d = d

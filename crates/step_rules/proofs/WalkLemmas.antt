@@ -1,17 +1,11 @@
 -- A search among the steps of the others goes on its way, and makes few hops.
-use Rattle.std.proofs.Common.{◌≡◌, ◌≢◌, ◌≤◌, ◌+◌, ◌%◌, ◌^◌, [], ◌∷◌, ◌++◌, ◌&&◌, Bool, true, false, Some, ℕ, suc, refl, sym, ap, ◌∙◌, subst, inl, inr, arith}
+use Rattle.std.proofs.Common.{◌≡◌, ◌≢◌, ◌≤◌, ◌+◌, ◌%◌, ◌^◌, [], ◌∷◌, ◌++◌, ◌&&◌, Bool, true, false, Some, ℕ, suc, refl, sym, ap, ◌∙◌, subst, inr, arith}
 use Rattle.bucket_page.specs.declared.record_key.RecordKey.{RecordKey}
 use Rattle.fields.proofs.Tests.{both_true}
-use Rattle.page_locks.specs.declared.lock.LockKind.{LockKind}
-use Rattle.page_locks.specs.declared.lock.LockName.{LockName}
-use Rattle.page_locks.specs.declared.lock.LockName.TheVariants.{Directory, Page}
 use Rattle.page_locks.specs.Table.{Table, row_of, held, with_lock, without_lock}
 use Rattle.page_locks.specs.Locks.{lock_of}
 use Rattle.page_locks.proofs.ChangeLemmas.{held-grant, IsSeat-with_row}
-use Rattle.hash_file.specs.Store.{entry_at, next_at}
-use Rattle.hash_file.specs.Change.{Change, Quiet, Taken, Filled, Linked, Absorbed, Buried, Drained, Freed}
-use Rattle.hash_file.specs.Search.{PageLeads, distance}
-use Rattle.hash_file.specs.Looks.{Answers}
+use Rattle.step_rules.specs.Words.{LockKind, LockName, Directory, Page, entry_at, next_at, Change, Quiet, Taken, Filled, Linked, Absorbed, Buried, Drained, Freed, distance, Answers}
 use Rattle.step_rules.specs.declared.kind.Kind.{Kind}
 use Rattle.step_rules.specs.declared.kind.Kind.TheVariants.{Grant, Release, ReadDepth, ReadEntry, Look, Hop, WriteRecord, Decide, TakePage, CopyDirectory, RaiseDepth, WriteNew, WriteOld, Retarget, SetCounts, WriteLeft, Tombstone, Convert, WriteFree, LinkFree, LowerDepth}
 use Rattle.step_rules.specs.World.{World, with_locks, IsHeld}
@@ -20,7 +14,7 @@ use Rattle.step_rules.specs.Known.{Deep, LeadsTo, HasAnchor, IsKnown}
 use Rattle.step_rules.specs.LockSteps.{Grants, MovesOn}
 use Rattle.step_rules.specs.Does.{Does}
 use Rattle.step_rules.specs.Ways.{hops_added, hops_between}
-use Rattle.step_rules.specs.Walks.{Stage, Entered, HasRead, IsAt, Walk, is_quiet, late, IsNearAt, IsOnItsWay, begun_walk, beside, WalksGoOn, HasHoppedLittle}
+use Rattle.step_rules.specs.Walks.{WalkStage, Entered, HasRead, IsAt, SearchWalk, is_quiet, late, IsNearAt, IsOnItsWay, begun_walk, walk_beside, WalksGoOn, HasHoppedLittle}
 use Rattle.step_rules.proofs.LockLemmas.{IsHeld-some, held-released}
 use Rattle.step_rules.proofs.KnownLemmas.{IsKnown-kept}
 use Rattle.step_rules.proofs.KindLemmas.{kind_keeps}
@@ -40,7 +34,7 @@ quiet_is (Drained left right) is = absurd cc
 quiet_is (Freed right) is = absurd cc
 
 -- a walk at a stage that is told by an equation
-at_stage : (seat k : ℕ) (walk : Walk) (w : World) (stage : Stage) → walk.stage ≡ stage → IsOnItsWay seat k walk w →
+at_stage : (seat k : ℕ) (walk : SearchWalk) (w : World) (stage : WalkStage) → walk.stage ≡ stage → IsOnItsWay seat k walk w →
     IsNearAt seat k w walk stage
 at_stage seat k walk w stage is on = subst (IsNearAt seat k w walk) is on.near
 
@@ -71,7 +65,7 @@ module _ (hash : RecordKey → ℕ) (seat k : ℕ) where
     calm = λ calm. (quiet_is new.change calm, refl);
   }
 
-  reads_depth : (w : World) (walk : Walk) → IsSoundWorld hash w → walk.stage ≡ Entered → IsOnItsWay seat k walk w →
+  reads_depth : (w : World) (walk : SearchWalk) → IsSoundWorld hash w → walk.stage ≡ Entered → IsOnItsWay seat k walk w →
       IsOnItsWay seat k (record walk { stage = HasRead w.store.header.depth }) w
   reads_depth w walk sound is on =
       let was = at_stage seat k walk w Entered is on in
@@ -91,7 +85,7 @@ module _ (hash : RecordKey → ℕ) (seat k : ℕ) where
   entry_near w depth hops added false sound deep near quiet =
       omega (arith, near, entry_is_near hash seat w depth k sound deep)
 
-  reads_entry : (w : World) (walk : Walk) (depth : ℕ) → IsSoundWorld hash w → walk.stage ≡ HasRead depth →
+  reads_entry : (w : World) (walk : SearchWalk) (depth : ℕ) → IsSoundWorld hash w → walk.stage ≡ HasRead depth →
       IsOnItsWay seat k walk w → IsOnItsWay seat k (record walk { stage = IsAt (entry_at w.store (k % 2 ^ depth)) }) w
   reads_entry w walk depth sound is on =
       let was = at_stage seat k walk w (HasRead depth) is on in
@@ -103,7 +97,7 @@ module _ (hash : RecordKey → ℕ) (seat k : ℕ) where
         calm = on.calm;
       }
 
-  locks : (w : World) (walk : Walk) (page : ℕ) (t : Table) → walk.stage ≡ IsAt page →
+  locks : (w : World) (walk : SearchWalk) (page : ℕ) (t : Table) → walk.stage ≡ IsAt page →
       HasAnchor (row_of t seat) (LeadsTo page k) → IsOnItsWay seat k walk w → IsOnItsWay seat k walk (with_locks t w)
   locks w walk page t is anchor on =
       let was = at_stage seat k walk w (IsAt page) is on in
@@ -113,7 +107,7 @@ module _ (hash : RecordKey → ℕ) (seat k : ℕ) where
         calm = on.calm;
       }
 
-  hops_on : (old new : World) (walk : Walk) (page : ℕ) (kind : LockKind) → IsSoundWorld hash old →
+  hops_on : (old new : World) (walk : SearchWalk) (page : ℕ) (kind : LockKind) → IsSoundWorld hash old →
       walk.stage ≡ IsAt page → held old.locks seat (Page page) ≡ Some kind → (Answers old.store page k → ⊥) →
       MovesOn page kind seat old new → IsOnItsWay seat k walk old →
       IsOnItsWay seat k (record walk { stage = IsAt (next_at old.store page); hops = suc walk.hops }) new
@@ -165,9 +159,9 @@ module _ (hash : RecordKey → ℕ) (seat k : ℕ) where
   later true false = omega arith
   later false quiet = omega arith
 
-  near_beside : (old new : World) (walk : Walk) (other : ℕ) (kind : Kind) → IsSoundWorld hash old → seat ≢ other →
-      Does hash kind other old new → (stage : Stage) → IsNearAt seat k old walk stage →
-      IsNearAt seat k new (beside kind new.change walk) stage
+  near_beside : (old new : World) (walk : SearchWalk) (other : ℕ) (kind : Kind) → IsSoundWorld hash old → seat ≢ other →
+      Does hash kind other old new → (stage : WalkStage) → IsNearAt seat k old walk stage →
+      IsNearAt seat k new (walk_beside kind new.change walk) stage
   near_beside old new walk other kind sound apart does Entered near =
       let keeps = kind_keeps kind hash other old new sound does in
       ((IsKnown-kept hash seat other old new apart sound keeps.leaves (Deep 0) (near.0, omega arith)).0, near.1)
@@ -183,8 +177,8 @@ module _ (hash : RecordKey → ℕ) (seat k : ℕ) where
         omega (arith, near.1, longer, later walk.calm (is_quiet new.change)),
       )
 
-  others : (old new : World) (walk : Walk) (other : ℕ) (kind : Kind) → IsSoundWorld hash old → seat ≢ other →
-      Does hash kind other old new → IsOnItsWay seat k walk old → IsOnItsWay seat k (beside kind new.change walk) new
+  others : (old new : World) (walk : SearchWalk) (other : ℕ) (kind : Kind) → IsSoundWorld hash old → seat ≢ other →
+      Does hash kind other old new → IsOnItsWay seat k walk old → IsOnItsWay seat k (walk_beside kind new.change walk) new
   others old new walk other kind sound apart does on = record {
     near = near_beside old new walk other kind sound apart does walk.stage on.near;
     calm = λ calm.
@@ -203,7 +197,7 @@ module _ (hash : RecordKey → ℕ) (seat k : ℕ) where
     others = others;
   }
 
-few_at : (seat k : ℕ) (walk : Walk) (w : World) (stage : Stage) → IsNearAt seat k w walk stage → walk.hops ≤ walk.added + late walk.calm
+few_at : (seat k : ℕ) (walk : SearchWalk) (w : World) (stage : WalkStage) → IsNearAt seat k w walk stage → walk.hops ≤ walk.added + late walk.calm
 few_at seat k walk w Entered near = omega (arith, near.1)
 few_at seat k walk w (HasRead depth) near = omega (arith, near.1)
 few_at seat k walk w (IsAt page) near = omega (arith, near.1)
@@ -212,7 +206,7 @@ late_by_one : (calm : Bool) → late calm ≤ 1
 late_by_one true = omega arith
 late_by_one false = omega arith
 
-pub search_hops_little : (seat k : ℕ) (walk : Walk) (w : World) → IsOnItsWay seat k walk w → HasHoppedLittle walk
+pub search_hops_little : (seat k : ℕ) (walk : SearchWalk) (w : World) → IsOnItsWay seat k walk w → HasHoppedLittle walk
 search_hops_little seat k walk w on =
     let few = few_at seat k walk w walk.stage on.near in
     record {

@@ -14,7 +14,7 @@ use Rattle.step_rules.specs.Sound.{IsSoundWorld}
 use Rattle.step_rules.specs.Known.{LeadsTo, IsKnown}
 
 -- the seat holds a page that answers for the key, and has been told what the file holds there
-pub record IsTold (hash : RecordKey → ℕ) (seat page : ℕ) (key : RecordKey) (value : Option (List ℕ)) (w : World)
+pub record IsAnswerOf (hash : RecordKey → ℕ) (seat page : ℕ) (key : RecordKey) (value : Option (List ℕ)) (w : World)
     : Type 0 where
   pub held : IsHeld w.locks seat (Page page)
   pub answers : Answers w.store page (hash key)
@@ -22,21 +22,21 @@ pub record IsTold (hash : RecordKey → ℕ) (seat page : ℕ) (key : RecordKey)
 
 -- what a search has of its answer before and after a step, where `kept` is what it keeps of a value: it stays, or it
 -- comes at a Look of a page that answers
-pub record IsTaken {F A : Type 0} (hash : RecordKey → ℕ) (did : Progress F) (seat page : ℕ) (key : RecordKey)
+pub record TakesAnswer {F A : Type 0} (hash : RecordKey → ℕ) (did : Progress F) (seat page : ℕ) (key : RecordKey)
     (kept : Option (List ℕ) → A) (before after : Option A) (w : World) : Type 0 where
   pub looked : did ≡ Moved Look
   pub first : before ≡ None
   pub value : Option (List ℕ)
   pub is : after ≡ Some (kept value)
-  pub told : IsTold hash seat page key value w
+  pub told : IsAnswerOf hash seat page key value w
 
 abbrev pub AnswersAt : {F A : Type 0} → (RecordKey → ℕ) → Progress F → (seat page : ℕ) → RecordKey →
     (Option (List ℕ) → A) → (before after : Option A) → World → Type 0
 AnswersAt hash did seat page key kept before after w =
-    (after ≡ before) ⊎ IsTaken hash did seat page key kept before after w
+    (after ≡ before) ⊎ TakesAnswer hash did seat page key kept before after w
 
 -- what a page that leads to the key and answers for it has of the key may be told
 abbrev pub LookMayTell : Type 0
 LookMayTell = (hash : RecordKey → ℕ) (seat page : ℕ) (key : RecordKey) (w : World) → IsSoundWorld hash w →
     IsKnown seat w (LeadsTo page (hash key)) → IsHeld w.locks seat (Page page) → Answers w.store page (hash key) →
-    IsTold hash seat page key (lookup key (records_at w.store page)) w
+    IsAnswerOf hash seat page key (lookup key (records_at w.store page)) w

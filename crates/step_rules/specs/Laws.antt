@@ -14,7 +14,7 @@ use Rattle.step_rules.specs.Sound.{IsSoundWorld}
 use Rattle.step_rules.specs.Known.{Known, IsKnown}
 use Rattle.step_rules.specs.Leaves.{Leaves}
 use Rattle.step_rules.specs.Does.{Does, KeepsOthers}
-use Rattle.step_rules.specs.Turns.{Turn, Makes, WritesJust}
+use Rattle.step_rules.specs.Turns.{Turn, DoesTied, WritesJust}
 
 -- what seat i knows, through what a step of seat j leaves
 abbrev pub OthersKnow : Type 0
@@ -29,11 +29,11 @@ KindKeeps kind = (hash : RecordKey → ℕ) (seat : ℕ) (old new : World) → I
 -- a step that is tied to its turn is one of its kind, so it does no less
 abbrev pub TurnKeeps : Kind → Type 0
 TurnKeeps kind = (hash : RecordKey → ℕ) (turn : Turn) (seat : ℕ) (old new : World) → IsSoundWorld hash old →
-    Makes hash turn kind seat old new → KeepsOthers hash seat old new
+    DoesTied hash turn kind seat old new → KeepsOthers hash seat old new
 
 abbrev pub TurnIsOfItsKind : Kind → Type 0
 TurnIsOfItsKind kind = (hash : RecordKey → ℕ) (turn : Turn) (seat : ℕ) (old new : World) →
-    Makes hash turn kind seat old new → Does hash kind seat old new
+    DoesTied hash turn kind seat old new → Does hash kind seat old new
 
 -- only a WriteRecord changes what the file holds
 abbrev pub KindKeepsContents : Kind → Type 0
@@ -55,7 +55,7 @@ pub record Move : Type 0 where
 abbrev pub LeadAlong : (RecordKey → ℕ) → List Move → World → World → Type 0
 LeadAlong hash [] old new = new ≡ old
 LeadAlong hash (move ∷ moves) old new =
-    (next : World) × Makes hash move.turn move.kind move.seat old next × LeadAlong hash moves next new
+    (next : World) × DoesTied hash move.turn move.kind move.seat old next × LeadAlong hash moves next new
 
 -- none of the moves is of this seat
 abbrev pub StandsStill : ℕ → List Move → Type 0

@@ -1,3 +1,4 @@
+pub mod Words
 pub mod Kinds
 pub mod World
 pub mod Sound
@@ -16,3 +17,4 @@ pub mod Ways
 pub mod Walks
 pub mod Answering
 pub mod Rooms
+pub mod Falls

@@ -19,7 +19,7 @@ use Rattle.step_rules.specs.Sound.{IsSoundWorld}
 use Rattle.step_rules.specs.Structure.{BucketOf, HasFirstFree}
 use Rattle.step_rules.specs.Pages.{Lacking, Using, used_on, size_of}
 use Rattle.step_rules.specs.Known.{OnPage, Built, IsKnown}
-use Rattle.step_rules.specs.Turns.{Turn, Makes, LacksRoom}
+use Rattle.step_rules.specs.Turns.{Turn, DoesTied, LacksRoom}
 
 -- a record does not fit its bucket, and no page is free or the bucket is as deep as one can be: an Insert turns to
 -- fault 50 only at a step behind which this is so
@@ -40,7 +40,7 @@ NoRoomIsSeen = (hash : RecordKey → ℕ) (seat : ℕ) (p : Pair) (page used : �
 abbrev pub NoRoomIsStuck : Type 0
 NoRoomIsStuck = (hash : RecordKey → ℕ) (seat : ℕ) (p : Pair) (turn : Turn) (old new : World) →
     IsSoundWorld hash old → HasNoRoom hash p old → turn.write ≡ Some (Put p) →
-    Makes hash turn WriteRecord seat old new ⊎ Makes hash turn TakePage seat old new → ⊥
+    DoesTied hash turn WriteRecord seat old new ⊎ DoesTied hash turn TakePage seat old new → ⊥
 
 -- where the list of free pages is empty, each page from the root on is live, or owned by a change
 abbrev pub NoPageIsFree : Type 0
@@ -76,4 +76,4 @@ pub data TurnsAway (hash : RecordKey → ℕ) (key : RecordKey) (seat : ℕ) (w 
 abbrev pub TurnedAwayIsStuck : Type 0
 TurnedAwayIsStuck = (hash : RecordKey → ℕ) (key : RecordKey) (seat : ℕ) (turn : Turn) (old new : World) →
     IsSoundWorld hash old → TurnsAway hash key seat old → turn.write ≡ Some (Remove key) →
-    Makes hash turn WriteLeft seat old new → ⊥
+    DoesTied hash turn WriteLeft seat old new → ⊥

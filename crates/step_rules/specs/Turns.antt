@@ -28,7 +28,7 @@ use Rattle.step_rules.specs.Does.{Does}
 
 -- what a seat asks for
 pub data Ask : Type 0 where
-  Lock : LockName → LockKind → Ask
+  ForLock : LockName → LockKind → Ask
   HopFrom : (page pseudokey : ℕ) → Ask
   ToExclusive : Ask
 
@@ -75,7 +75,7 @@ pub record GrantsJust (name : LockName) (kind : LockKind) (seat : ℕ) (old new 
   pub may : MayBeGranted name kind seat old
 
 abbrev pub GrantsAsked : Option Ask → ℕ → World → World → Type 0
-GrantsAsked (Some (Lock name kind)) seat old new = GrantsJust name kind seat old new
+GrantsAsked (Some (ForLock name kind)) seat old new = GrantsJust name kind seat old new
 GrantsAsked ask seat old new = ⊥
 
 -- from this page, for this pseudokey
@@ -134,23 +134,23 @@ MergesAsked hash write w P = ⊥
 -- ---- turns
 
 -- a step of a kind, tied to its turn
-abbrev pub Makes : (RecordKey → ℕ) → Turn → Kind → ℕ → World → World → Type 0
-Makes hash turn Grant seat old new = GrantsAsked turn.ask seat old new
-Makes hash turn Hop seat old new = HopsAsked turn.ask seat old new
-Makes hash turn Convert seat old new = ConvertsAsked turn.ask seat old new
-Makes hash turn WriteRecord seat old new = WritesAsked hash turn.write seat old new
-Makes hash turn TakePage seat old new =
+abbrev pub DoesTied : (RecordKey → ℕ) → Turn → Kind → ℕ → World → World → Type 0
+DoesTied hash turn Grant seat old new = GrantsAsked turn.ask seat old new
+DoesTied hash turn Hop seat old new = HopsAsked turn.ask seat old new
+DoesTied hash turn Convert seat old new = ConvertsAsked turn.ask seat old new
+DoesTied hash turn WriteRecord seat old new = WritesAsked hash turn.write seat old new
+DoesTied hash turn TakePage seat old new =
     TakesPage seat old new × SplitsAsked hash turn.write seat old (λ page. Unit {0})
-Makes hash turn CopyDirectory seat old new =
+DoesTied hash turn CopyDirectory seat old new =
     CopiesDirectory seat old new × SplitsAsked hash turn.write seat old (IsAsDeep old)
-Makes hash turn RaiseDepth seat old new =
+DoesTied hash turn RaiseDepth seat old new =
     RaisesDepth seat old new × SplitsAsked hash turn.write seat old (IsAsDeep old)
-Makes hash turn WriteNew seat old new =
+DoesTied hash turn WriteNew seat old new =
     (writes : WritesNew hash seat old new) × SplitsAsked hash turn.write seat old (λ page. writes.split ≡ page)
-Makes hash turn WriteLeft seat old new =
+DoesTied hash turn WriteLeft seat old new =
     (writes : WritesLeft seat old new)
     × MergesAsked hash turn.write old (λ page. (page ≡ writes.left) ⊎ (page ≡ writes.right))
-Makes hash turn kind seat old new = Does hash kind seat old new
+DoesTied hash turn kind seat old new = Does hash kind seat old new
 
 -- the seat holds its page, which does not answer, and another seat stands in the way to the page that it names
 pub record IsKeptFrom (page pseudokey : ℕ) (seat other : ℕ) (old : World) : Type 0 where
@@ -162,13 +162,13 @@ pub record IsKeptFrom (page pseudokey : ℕ) (seat other : ℕ) (old : World) : 
 -- another seat stands in the way of just what is asked
 abbrev pub StandsInWay : Option Ask → ℕ → ℕ → World → Type 0
 StandsInWay None seat other old = ⊥
-StandsInWay (Some (Lock name kind)) seat other old = Opposes old.locks seat name kind other
+StandsInWay (Some (ForLock name kind)) seat other old = Opposes old.locks seat name kind other
 StandsInWay (Some (HopFrom page pseudokey)) seat other old = IsKeptFrom page pseudokey seat other old
 StandsInWay (Some ToExclusive) seat other old = Opposes old.locks seat Directory Exclusive other
 
 -- what is done at each answer; after a fault nothing is said of the file
 abbrev pub TurnsAt : {F : Type 0} → (RecordKey → ℕ) → Turn → Progress F → ℕ → World → World → Type 0
-TurnsAt hash turn (Moved kind) seat old new = Makes hash turn kind seat old new
+TurnsAt hash turn (Moved kind) seat old new = DoesTied hash turn kind seat old new
 TurnsAt hash turn (Blocked other) seat old new = StandsInWay turn.ask seat other old × (new ≡ old)
 TurnsAt hash turn (Fault fault) seat old new = Unit {0}
 TurnsAt hash turn Ended seat old new = new ≡ old

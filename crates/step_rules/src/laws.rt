@@ -1,6 +1,7 @@
 //! The laws of steps. Each stands on the contract of a function that does nothing.
 
 ghost use Rattle.step_rules.specs.declared.kind.Kind.{Kind};
+ghost use Rattle.step_rules.specs.Falls.{CopiesOn, RetargetsOn, SearchesFall, SplitDeepens, StepFalls};
 ghost use Rattle.step_rules.specs.OnePage.{KindChangesLittle};
 ghost use Rattle.step_rules.specs.Rooms.{NoPageIsFree, NoRoomIsSeen, NoRoomIsStuck, TurnedAwayIsStuck};
 ghost use Rattle.step_rules.specs.Walks.{SearchesGoOn, SearchHopsLittle};
@@ -39,11 +40,11 @@ pub fn two_kinds_lengthen_a_way_by_a_hop()
     ensures schedule { SchedulesLengthen }
 {}
 
-/// The walk of a search to the bucket of its pseudokey goes on by each step of its own and of the others. So in every
-/// schedule it has made no more hops, at any time, than one more than there were WriteOld and Tombstone steps of other
-/// seats since it was granted the directory, and none where no change was under way in all that time. For by the depth
-/// that it read no bucket is on the way, the entry is late by one at most, each such step adds one at most, and each hop
-/// comes one nearer.
+/// The walk of a search to the bucket of its pseudokey stays on its way at each step of its own and of the others, one
+/// law a step. On its way it has made at most one hop more than there were WriteOld and Tombstone steps of other seats
+/// since it was granted the directory, and none where no change was under way in all that time. For by the depth that it
+/// read no bucket is on the way, the entry is late by one at most, each such step adds one at most, and each hop comes
+/// one nearer.
 pub fn a_search_hops_once_more_at_most()
     ensures walk { SearchesGoOn }
     ensures few { SearchHopsLittle }
@@ -51,6 +52,17 @@ pub fn a_search_hops_once_more_at_most()
     ensures parts { (kind : Kind) → KindParts kind }
     ensures entry { EntryIsNear }
     ensures hop { HopIsNearer }
+{}
+
+/// Each own step of a search lowers the most that it has left. Each step that goes on with a split or a merge comes to a
+/// later phase, or one directory page further in their order; a doubling and a halving bring the depth nearer to its
+/// end; and each split makes its bucket deeper.
+pub fn own_steps_bring_the_end_nearer()
+    ensures searches { SearchesFall }
+    ensures steps { (kind : Kind) → StepFalls kind }
+    ensures copies { CopiesOn }
+    ensures retargets { RetargetsOn }
+    ensures splits { SplitDeepens }
 {}
 
 /// Where a record has no room it can't be put, and no split begins that makes room for it; a seat sees it by what it

@@ -1,8 +1,8 @@
 //! Chains and directories worked by hand: two splits and a merge, and what each looks like where it went wrong.
 
 use hash_file::{Page, Shape, is_chain, names_buckets};
-use std::test::*;
 use positions::Range;
+use std::test::*;
 
 /// The first bucket, behind the header and 256 directory pages.
 const ROOT: u32 = 257;

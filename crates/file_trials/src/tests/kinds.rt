@@ -1,7 +1,7 @@
 //! Names of kinds, typed from the table of steps.
 
-use step_rules::{Kind, Progress};
 use std::test::*;
+use step_rules::{Kind, Progress};
 
 #[test]
 fn kinds_have_the_names_of_schedules(rt: HostRuntime) {

@@ -1,10 +1,12 @@
+//! Rows of grants and refusals.
+
 ghost use Rattle.std.specs.Prelude.{◌↔◌, IsTrue};
 ghost use Rattle.page_locks.specs.Table.{IsSeat};
 
-use super::Grant::{Blocked, Granted};
-use super::LockKind::{Exclusive, Read, Selective};
-use super::LockName::{Counter, Directory, Key, Page, Queue};
-use super::*;
+use page_locks::Grant::{Blocked, Granted};
+use page_locks::LockKind::{Exclusive, Read, Selective};
+use page_locks::LockName::{Counter, Directory, Key, Page, Queue};
+use page_locks::{Grant, LockKind, LockName, LockTable, MAX_SEATS, NoMemory};
 use std::test::*;
 
 /// Whether the table has this seat.
@@ -46,6 +48,17 @@ fn give(table: &mut LockTable, seat: u8, name: LockName) {
     }
 }
 
+/// Whether each of the 64 seats is granted eight keys, all of which have the home 0.
+fn fills(table: &mut LockTable) -> bool {
+    for number in 0..512 {
+        let seat = (number / 8 + 1) as u8;
+        if ask(table, seat, Key(1024 * number), Exclusive) != Some(Granted) {
+            return false;
+        }
+    }
+    true
+}
+
 #[test]
 fn kinds_go_together_or_not(rt: HostRuntime) -> Result<(), NoMemory> {
     let mut table = LockTable::new(rt.alloc(), 4)?;
@@ -76,6 +89,34 @@ fn a_seat_holds_eight_names(rt: HostRuntime) -> Result<(), NoMemory> {
     assert_eq!(rt; ask(&mut table, 63, Page(7), Read), Some(Blocked(64)));
     assert_eq!(rt; ask(&mut table, 63, Queue(7), Read), Some(Granted));
     assert_eq!(rt; ask(&mut table, 62, Counter, Exclusive), Some(Granted));
+    Ok(())
+}
+
+#[test]
+fn names_of_one_home_stand_one_after_the_other(rt: HostRuntime) -> Result<(), NoMemory> {
+    let mut table = LockTable::new(rt.alloc(), MAX_SEATS)?;
+    assert_eq!(rt; table.looked(), 0);
+    assert!(rt; fills(&mut table));
+    assert_eq!(rt; table.looked(), 512);
+    give(&mut table, 1, Key(0));
+    assert_eq!(rt; ask(&mut table, 1, Key(8192), Exclusive), Some(Blocked(2)));
+    assert_eq!(rt; ask(&mut table, 1, Key(0), Exclusive), Some(Granted));
+    for number in 0..512 {
+        give(&mut table, (number / 8 + 1) as u8, Key(1024 * number));
+    }
+    assert!(rt; fills(&mut table));
+    Ok(())
+}
+
+#[test]
+fn one_slot_is_looked_at_where_homes_are_apart(rt: HostRuntime) -> Result<(), NoMemory> {
+    let mut table = LockTable::new(rt.alloc(), 2)?;
+    assert_eq!(rt; ask(&mut table, 1, Page(5), Exclusive), Some(Granted));
+    assert_eq!(rt; table.looked(), 1);
+    assert_eq!(rt; ask(&mut table, 1, Page(6), Exclusive), Some(Granted));
+    assert_eq!(rt; table.looked(), 1);
+    assert_eq!(rt; ask(&mut table, 2, Queue(1029), Read), Some(Granted));
+    assert_eq!(rt; table.looked(), 3);
     Ok(())
 }
 
