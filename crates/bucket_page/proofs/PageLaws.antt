@@ -69,7 +69,8 @@ link_again kind page small =
     let bytes : List ℕ = link_bytes kind page in
     let tail : List ℕ = four page ++ zeros (PAYLOAD_BYTES - LINK_BYTES) in
     let at4 : drop 4 bytes ≡ tail = after_part 1 3 bytes (zeros 3) tail refl (length-zeros 3) in
-    let at8 : drop LINK_BYTES bytes ≡ zeros (PAYLOAD_BYTES - LINK_BYTES) = after_part 4 4 bytes (four page) (zeros (PAYLOAD_BYTES - LINK_BYTES)) at4 (length-four page) in
+    let at8 : drop LINK_BYTES bytes ≡ zeros (PAYLOAD_BYTES - LINK_BYTES) =
+    after_part 4 4 bytes (four page) (zeros (PAYLOAD_BYTES - LINK_BYTES)) at4 (length-four page) in
     let front : is_zero (take 3 (drop 1 bytes)) ≡ true =
     rw (take_at (zeros 3) tail 3 (length-zeros 3)) (zeros_again 3) in
     let back : is_zero (drop LINK_BYTES bytes) ≡ true = rw at8 (zeros_again (PAYLOAD_BYTES - LINK_BYTES)) in

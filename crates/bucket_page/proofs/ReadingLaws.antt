@@ -102,7 +102,8 @@ link_takes kind bytes long all is passes =
     let blanks = both_true _ _ (passed _ _ _ passes).0 in
     let front = zeros_at 1 3 bytes (omega (arith, long)) blanks.0 in
     let page = four_takes 4 bytes (omega (arith, long)) all in
-    let back : drop LINK_BYTES bytes ≡ zeros (PAYLOAD_BYTES - LINK_BYTES) = zeros_of (PAYLOAD_BYTES - LINK_BYTES) (drop LINK_BYTES bytes) (omega (arith, long, length-drop LINK_BYTES bytes))
+    let back : drop LINK_BYTES bytes ≡ zeros (PAYLOAD_BYTES - LINK_BYTES) =
+    zeros_of (PAYLOAD_BYTES - LINK_BYTES) (drop LINK_BYTES bytes) (omega (arith, long, length-drop LINK_BYTES bytes))
     blanks.1 in
     let parts = front ∙ ap (λ (xs : List ℕ). zeros 3 ++ xs) (page
     ∙ ap (λ (xs : List ℕ). four (four_at 4 bytes) ++ xs) back) in

@@ -102,7 +102,7 @@ fn insert_record(payload: &mut Payload, at: usize, key: &RecordKey, value: &[u8]
     requires room { used_at payload.old + (RECORD_HEAD_BYTES + length value.now) ≤ ROOM_BYTES }
     ensures { InsertsAt at (pair key.now value.now) payload.old payload.new }
 {
-    key.is_in_range();
+    key.fits_bytes();
     let head = Head::read(payload);
     let used = head.used as usize;
     let (front, body) = payload.split_at_mut(HEAD_BYTES);

@@ -24,6 +24,3 @@ pub use record_key::{KEY_BYTES, RecordKey};
 pub use records::{Record, Records};
 pub use view::BucketView;
 pub use write::{write_bucket, write_free, write_tombstone};
-
-#[cfg(test)]
-mod tests;

@@ -52,4 +52,5 @@ lower_half i page depth on upper =
     let to : i < 2 * 2 ^ depth = ltb-true _ _ both.1 in
     let low : slot_of i < 512 = mod-lt i (omega arith) in
     ap (λ (k : ℕ). page_of (k - 2 ^ depth)) (sym place)
-    ∙ ap (λ (k : ℕ). 1 + k) (half_back (page - 1) (slot_of i) depth low (omega (arith, place, from)) (omega (arith, place, to)))
+    ∙ ap (λ (k : ℕ). 1 + k)
+    (half_back (page - 1) (slot_of i) depth low (omega (arith, place, from)) (omega (arith, place, to)))

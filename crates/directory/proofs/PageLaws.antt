@@ -52,7 +52,8 @@ directory_again es is =
     let bytes : List ℕ = directory_bytes es in
     let tail : List ℕ = numbers_bytes es ++ zeros BEHIND in
     let long : length (numbers_bytes es) ≡ ENTRIES_BYTES = omega (arith, length-numbers es, is.number) in
-    let rest : drop HEAD_BYTES bytes ≡ tail = after_part 1 BEFORE bytes (zeros BEFORE) tail refl (length-zeros BEFORE) in
+    let rest : drop HEAD_BYTES bytes ≡ tail =
+    after_part 1 BEFORE bytes (zeros BEFORE) tail refl (length-zeros BEFORE) in
     let front : is_zero (take BEFORE (drop 1 bytes)) ≡ true =
     rw (take_at (zeros BEFORE) tail BEFORE (length-zeros BEFORE)) (zeros_again BEFORE) in
     let inside : entries_area bytes ≡ numbers_bytes es =

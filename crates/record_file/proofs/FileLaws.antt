@@ -114,7 +114,8 @@ same_others : (xs ys : List (List ℕ)) → length xs ≡ length ys
     → ((n : ℕ) → n < length xs → (n ≡ ROOT_PAGE → ⊥) → slice_index_or xs n [] ≡ slice_index_or ys n [])
     → without_root xs ≡ without_root ys
 same_others xs ys size same =
-    same_lists (without_root xs) (without_root ys) (length-set xs ROOT_PAGE [] ∙ size ∙ sym (length-set ys ROOT_PAGE []))
+    same_lists (without_root xs) (without_root ys)
+    (length-set xs ROOT_PAGE [] ∙ size ∙ sym (length-set ys ROOT_PAGE []))
     (λ n d within. at n d (subst (λ m. n < m) (length-set xs ROOT_PAGE []) within) (cases_eq n ROOT_PAGE))
   where
     at : (n : ℕ) (d : List ℕ) → n < length xs → (n ≡ ROOT_PAGE) ⊎ (n ≡ ROOT_PAGE → ⊥)

@@ -28,7 +28,8 @@ risen_after old mid new before (inl more) = inl (omega arith)
 risen_after old mid new before (inr most) = inr most
 
 -- the root page's payload among those of all pages
-pub payload_among : (content : List (List ℕ)) → slice_index_or (payloads_of content) ROOT_PAGE [] ≡ payload_at content ROOT_PAGE
+pub payload_among : (content : List (List ℕ)) →
+    slice_index_or (payloads_of content) ROOT_PAGE [] ≡ payload_at content ROOT_PAGE
 payload_among content = get_or-map payload_of content ROOT_PAGE []
 
 -- ---- the test of the root page

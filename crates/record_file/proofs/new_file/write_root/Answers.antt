@@ -19,4 +19,5 @@ put-requires-clause-absent c =
 pub returns : goal.returns
 returns c =
     root_written c.put.result c.write_bucket.new.payload c.put.new.payload c.key.result c.as_slice.result.now
-    c.write_bucket.ensures c.key.ensures (c.as_slice.ensures.value ∙ c.encode.ensures) c.put.ensures.full c.put.ensures.ok
+    c.write_bucket.ensures c.key.ensures (c.as_slice.ensures.value ∙ c.encode.ensures) c.put.ensures.full
+    c.put.ensures.ok

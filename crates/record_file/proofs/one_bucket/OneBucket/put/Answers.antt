@@ -18,13 +18,15 @@ put-requires-clause-absent g c =
 
 pub invariant_of-self : goal.invariant_of-self
 invariant_of-self g c =
-    stores_either c.put.result c.self.inside.pool c.put.new.payload c.self.view_is c.in-Some.is c.self.invariant c.image_mut.ensures.value (inserted _)
+    stores_either c.put.result c.self.inside.pool c.put.new.payload c.self.view_is c.in-Some.is c.self.invariant
+    c.image_mut.ensures.value (inserted _)
     c.put.ensures.ok c.put.ensures.err
 
 pub returns-clause-ok : goal.returns-clause-ok
 returns-clause-ok g c =
     on_ok_weaker c.put.result
-    (λ made. (stores c.self.inside.pool c.self.view_is c.in-Some.is c.self.invariant c.image_mut.ensures.value (inserted _) made).shown)
+    (λ made. (stores c.self.inside.pool c.self.view_is c.in-Some.is c.self.invariant c.image_mut.ensures.value
+    (inserted _) made).shown)
     c.put.ensures.ok
 
 pub returns-clause-full : goal.returns-clause-full
@@ -35,5 +37,6 @@ returns-clause-full g c =
 pub returns-clause-err : goal.returns-clause-err
 returns-clause-err g c =
     on_err_weaker c.put.result
-    (λ same. (stores_same c.self.inside.pool c.self.view_is c.in-Some.is c.self.invariant c.image_mut.ensures.value same).shown)
+    (λ same. (stores_same c.self.inside.pool c.self.view_is c.in-Some.is c.self.invariant c.image_mut.ensures.value
+    same).shown)
     c.put.ensures.err

@@ -1,11 +1,14 @@
 //! Payloads typed out from the layout, and changes worked by hand.
 
 ghost use Rattle.std.specs.Prelude.{◌≡◌, true};
-ghost use Rattle.bucket_page.specs.Reading.{bucket_at};
-ghost use Rattle.bucket_page.specs.Changes.{IsBucketPage};
 ghost use Rattle.bucket_page.specs.Dividing.{ShareNoKey};
 
-use super::*;
+use crate::bucket::bucket;
+use bucket_page::{
+    BucketView, ConstantKey, DoesNotFit, Malformed, NumberKey, PageKind, PseudoKey,
+    RECORD_HEAD_BYTES, ROOM_BYTES, RecordKey, ShaKey, cut, join, put, read_page, remove, replace,
+    write_bucket, write_free, write_tombstone,
+};
 use directory::{GREATEST_DEPTH, PAGE_ENTRIES, set_entry, write_directory};
 use page_device::{PAYLOAD_BYTES, Payload};
 use std::process::Abort;
@@ -19,16 +22,6 @@ fn key(number: u64) -> RecordKey {
         kind: 5,
         queue: 7,
         number,
-    }
-}
-
-fn bucket<'a>(rt: &impl Abort, payload: &'a Payload) -> BucketView<'a>
-    ensures page { IsBucketPage payload.now }
-    ensures value { result ≡ bucket_at payload.now }
-{
-    match read_page(payload) {
-        Ok(PageKind::Bucket(bucket)) => bucket,
-        _ => panic!(rt; "no bucket"),
     }
 }
 

@@ -1,5 +1,5 @@
 use Rattle.bucket_page.specs.Dividing.{ShareNoKey}
-use Rattle.bucket_page.proofs.tests.share_no_key.Given as goal
+use Rattle.page_trials.proofs.buckets.share_no_key.Given as goal
 
 -- no key is shared where none of those that are left is
 abbrev pub invariant-loop-record : goal.invariant-loop-record

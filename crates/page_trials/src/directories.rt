@@ -1,7 +1,12 @@
+//! Headers and directory pages as bytes typed out from the format, and a directory that doubles.
+
 ghost use Rattle.std.specs.Prelude.{◌≡◌};
 ghost use Rattle.directory.specs.Pages.{IsDirectoryPage};
 
-use super::*;
+use directory::{
+    Header, HeaderFault, LOCAL_DEPTHS, PAGE_ENTRIES, copy_upper, directory_of, lower_page, page_of,
+    read_header, retarget, set_entry, slot_of, write_directory, write_header,
+};
 use page_device::{PAYLOAD_BYTES, Payload};
 use positions::Range;
 use std::process::Abort;
