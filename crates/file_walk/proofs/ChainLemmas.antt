@@ -18,7 +18,7 @@ use Rattle.file_walk.specs.Outlines.{IsBucketAt, shape_of_bucket}
 use Rattle.file_walk.specs.Walks.{IsRightChain, IsChainSoFar, ContinuesAt, EndsAt, BreaksAt}
 
 -- no range begins behind all positions
-no_tile_behind : (r : Range) → IsTileAt r POSITIONS → ⊥
+pub no_tile_behind : (r : Range) → IsTileAt r POSITIONS → ⊥
 no_tile_behind r t = let low = position_below r.pattern in let begins = t.begins in omega arith
 
 pub further : (r : Range) (reached : ℕ) → IsTileAt r reached → reached < stop_of r

@@ -8,3 +8,5 @@ pub mod SparesLemmas
 pub mod IndexLemmas
 pub mod OutlinedLemmas
 pub mod StructureLemmas
+pub mod SoundLemmas
+pub mod FaultLemmas

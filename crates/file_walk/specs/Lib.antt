@@ -5,3 +5,4 @@ pub mod Order
 pub mod Readings
 pub mod Walks
 pub mod Structure
+pub mod Laws

@@ -7,6 +7,7 @@ use Rattle.directory.specs.declared.header.Header.{Header}
 use Rattle.directory.specs.declared.read.HeaderFault.{HeaderFault}
 use Rattle.directory.specs.declared.read.HeaderFault.TheVariants as headers
 use Rattle.directory.specs.Reading as header
+use Rattle.directory.specs.Spelling.{IsHeader}
 use Rattle.bucket_page.specs.declared.page.Malformed.{Malformed}
 use Rattle.bucket_page.specs.declared.page.Malformed.TheVariants as reasons
 use Rattle.bucket_page.specs.declared.page.PageKind.{PageKind}
@@ -22,6 +23,7 @@ use Rattle.file_walk.specs.Files.{page_on, payload_on, said_on, header_on}
 pub record HasHeader (content : List (List ℕ)) : Type 0 where
   pub sealed : IsSealed 0 (page_on content 0)
   pub read : header.reading (payload_on content 0) ≡ Ok (header_on content)
+  pub in_range : IsHeader (header_on content)
   pub as_many : (header_on content).pages ≡ length content
 
 -- the header tells of more pages than there are

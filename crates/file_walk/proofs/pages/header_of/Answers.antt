@@ -1,6 +1,7 @@
 -- The header and its number of pages, or what is wrong with them.
 use Rattle.std.proofs.Common.{inr, sym, ◌∙◌, ap, subst, arith, rules, ◌<◌, ◌≤◌, ◌≡◌, length}
 use Rattle.std.proofs.lemmas.Result.{err_from_is_err_and}
+use Rattle.directory.specs.Spelling.{IsHeader}
 use Rattle.file_walk.specs.Files.{header_on}
 use Rattle.file_walk.proofs.PageLemmas.{header_is, header_read, header_fault, header_cut, header_too_long}
 use Rattle.file_walk.proofs.pages.header_of.Goals as goal
@@ -33,6 +34,7 @@ returns-clause-ok g c =
           record {
             sealed = p.sealed;
             read = header_read _ _ _ p e;
+            in_range = subst IsHeader (header_is _ _ _ p e) c.in-Ok.ensures.ok.in_range;
             as_many = sym (ap (λ h. h.pages) (header_is _ _ _ p e)) ∙ same;
           };
       value = λ honest. header_is _ _ _ (c.in_ok-read_sealed.ensures.ok honest) c.in-Ok.ensures.value;
