@@ -14,19 +14,19 @@ use Rattle.bucket_page.specs.declared.page.PageKind.{PageKind}
 use Rattle.bucket_page.specs.declared.page.PageKind.TheVariants as kinds
 use Rattle.bucket_page.specs.declared.record_key.RecordKey.{RecordKey}
 use Rattle.bucket_page.specs.Bucket.{Bucket}
-use Rattle.bucket_page.specs.Numbers.{four_at}
-use Rattle.bucket_page.specs.Entries.{entries_of, numbers_of}
+use Rattle.fields.specs.Numbers.{four_at, numbers_of}
+use Rattle.bucket_page.specs.Entries.{entries_of}
 use Rattle.bucket_page.specs.Reading as reading
 use Rattle.hash_file.specs.Store.{Store, is_bucket, has_bucket, bucket_at, range_at}
 use Rattle.hash_file.specs.Chain.{IsChain, IsPlaced, times, number_on}
 use Rattle.hash_file.specs.Change.{Quiet}
-use Rattle.hash_file.specs.Sound.{HasLayout, IsSound, IsSoundOn}
+use Rattle.hash_file.specs.Sound.{HasLayout, IsSoundFile, IsSoundOn}
 use Rattle.hash_file.proofs.Chains.{chain_is}
 use Rattle.hash_file.proofs.Frames.{sound_by}
 use Rattle.hash_file.proofs.Ties.{quiet_exact}
 use Rattle.file_walk.specs.Files.{page_on, said_by, said_on, entries_on, pages_on, header_on, file_of}
 use Rattle.file_walk.specs.Files as files
-use Rattle.file_walk.specs.Laws.{IsSoundFile}
+use Rattle.file_walk.specs.Laws.{IsQuietFile}
 use Rattle.file_walk.specs.Order.{AreRight, IsRightPage, HasHeader, is_directory, may_stand, after_reading, malformed_on}
 use Rattle.file_walk.specs.Structure.{HasPages, IsRightStructure}
 use Rattle.file_walk.proofs.PagesLemmas.{pages_length}
@@ -154,9 +154,9 @@ module _ (hash : RecordKey → ℕ) (content : List (List ℕ)) (ns : List ℕ) 
     phase = tt;
   }
 
-  pub structure_sound : IsSoundFile hash (file_of content) ns
+  pub structure_sound : IsQuietFile hash (file_of content) ns
   structure_sound =
-      let sound : IsSound hash (file_of content) Quiet = sound_by hash (file_of content) Quiet ns sound_on in
+      let sound : IsSoundFile hash (file_of content) Quiet = sound_by hash (file_of content) Quiet ns sound_on in
       record {
         chained = chain_is (file_of content) ns (layout_of content r.pages) chained;
         sound = sound;

@@ -7,6 +7,15 @@ use bucket_page::Malformed;
 use std::alloc::{AllocError, AllocFailed};
 use thiserror::Error;
 
+/// The number of a fault of the chain.
+pub const CHAIN_BROKEN: u8 = 70;
+
+/// The number of a fault of the free pages.
+pub const PAGE_LOST: u8 = 71;
+
+/// The number of a fault of the directory.
+pub const ENTRY_WRONG: u8 = 72;
+
 /// The first thing that is wrong with the structure of a file, and where it stands.
 #[derive(Clone, Copy, Debug, PartialEq, Eq, Error)]
 pub enum StructureFault {
@@ -57,18 +66,18 @@ impl StructureFault {
         ensures { result ≡ number_of self }
     {
         match self {
-            StructureFault::Device => 20,
-            StructureFault::BadDigest { .. } => 21,
-            StructureFault::PastEnd => 22,
-            StructureFault::Malformed { .. } => 40,
-            StructureFault::BadHeader => 41,
-            StructureFault::BadVersion => 42,
-            StructureFault::NoMemory => 60,
-            StructureFault::ChainBroken { .. } => 70,
-            StructureFault::NotFree { .. } | StructureFault::PageLost { .. } => 71,
+            StructureFault::Device => faults::DEVICE,
+            StructureFault::BadDigest { .. } => faults::BAD_DIGEST,
+            StructureFault::PastEnd => faults::PAST_END,
+            StructureFault::Malformed { .. } => faults::MALFORMED,
+            StructureFault::BadHeader => faults::BAD_HEADER,
+            StructureFault::BadVersion => faults::BAD_VERSION,
+            StructureFault::NoMemory => faults::NO_MEMORY,
+            StructureFault::ChainBroken { .. } => CHAIN_BROKEN,
+            StructureFault::NotFree { .. } | StructureFault::PageLost { .. } => PAGE_LOST,
             StructureFault::TooDeep { .. }
             | StructureFault::WrongEntry { .. }
-            | StructureFault::WrongCount { .. } => 72,
+            | StructureFault::WrongCount { .. } => ENTRY_WRONG,
         }
     }
 }
