@@ -2,8 +2,8 @@
 
 ghost use Rattle.std.specs.Prelude.{◌≡◌};
 
-use bucket_page::{PAGE_ENTRIES, write_bucket, write_directory, write_free};
-use directory::{Header, LOCAL_DEPTHS, write_header};
+use bucket_page::{write_bucket, write_free};
+use directory::{Header, LOCAL_DEPTHS, PAGE_ENTRIES, write_directory, write_header};
 use file_walk::check_structure;
 use page_device::{MemDevice, PAYLOAD_BYTES, Page, PageDevice, Payload, seal};
 use std::alloc::Global;

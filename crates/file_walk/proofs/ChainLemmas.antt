@@ -1,20 +1,20 @@
 -- A chain is walked: what each page adds, where it breaks, and that a broken one is no chain.
-use Rattle.std.proofs.Common.{ℕ, ◌≡◌, ◌≢◌, ◌<◌, ◌≤◌, ◌⊎◌, List, [], ◌∷◌, ◌++◌, true, false, refl, sym, ap, subst, ◌∙◌, inl, inr, arith}
+use Rattle.std.proofs.Common.{ℕ, ◌≡◌, ◌≢◌, ◌<◌, List, [], ◌∷◌, ◌++◌, true, false, refl, sym, ap, subst, ◌∙◌, inl, inr, arith}
 use Rattle.std.specs.List.{Contains}
 use Rattle.std.proofs.lemmas.List.Elements.{Contains-append_cases}
 use Rattle.positions.specs.declared.pseudokey.TheConstants.{POSITIONS}
 use Rattle.positions.specs.declared.range.Range.{Range}
 use Rattle.positions.specs.Links.{Links}
-use Rattle.positions.specs.Ranges.{start_of, stop_of, IsRange}
+use Rattle.positions.specs.Ranges.{stop_of}
 use Rattle.positions.specs.Tiles.{IsTileAt, Tiles}
 use Rattle.positions.proofs.MemberLaws.{contains_cases, contains_none, contains_head, contains_tail}
 use Rattle.positions.proofs.PartitionLaws.{partition_tiles, tiles_partition}
 use Rattle.positions.proofs.PositionLaws.{position_below, width_positive}
 use Rattle.positions.proofs.TileLaws.{tiles_push}
 use Rattle.positions.proofs.WalkLaws.{links_join}
-use Rattle.hash_file.specs.Store.{Store, has_bucket, bucket_at, range_at, next_at}
+use Rattle.hash_file.specs.Store.{Store, has_bucket, range_at, next_at}
 use Rattle.hash_file.specs.declared.page.Shape.{Shape}
-use Rattle.file_walk.specs.Outlines.{IsBucketAt, shape_of_bucket}
+use Rattle.file_walk.specs.Outlines.{IsBucketAt}
 use Rattle.file_walk.specs.Walks.{IsRightChain, IsChainSoFar, ContinuesAt, EndsAt, BreaksAt}
 
 -- no range begins behind all positions

@@ -1,5 +1,5 @@
 -- Nothing is wrong with what is right.
-use Rattle.std.proofs.Common.{ℕ, zero, suc, ◌≡◌, ◌≢◌, ◌+◌, ◌<◌, ◌≤◌, ◌⊎◌, Bool, true, false, if◌then◌else◌, List, [], ◌∷◌, ◌++◌, length, Option, Some, None, Ok, Err, refl, sym, ap, subst, ◌∙◌, inl, inr, lit≤, arith}
+use Rattle.std.proofs.Common.{ℕ, suc, ◌≡◌, ◌≢◌, ◌+◌, ◌<◌, Bool, true, false, if◌then◌else◌, List, [], ◌∷◌, ◌++◌, length, refl, sym, ap, subst, ◌∙◌, inl, inr, arith}
 use Rattle.std.specs.List.{Contains}
 use Rattle.std.proofs.lemmas.List.{append_assoc, append-nil}
 use Rattle.std.proofs.lemmas.Bool.Decides.{nat_tests}
@@ -9,7 +9,6 @@ use Rattle.positions.specs.Ranges.{stop_of}
 use Rattle.positions.specs.Tiles.{Tiles, IsTileAt}
 use Rattle.positions.proofs.MemberLaws.{contains_head, contains_tail}
 use Rattle.positions.proofs.PartitionLaws.{partition_tiles}
-use Rattle.directory.specs.declared.layout.TheConstants.{FIRST_DIRECTORY_PAGE, LEAST_PAGES}
 use Rattle.hash_file.specs.Store.{Store, range_at, next_at, IsFreePage}
 use Rattle.hash_file.specs.Chain.{times}
 use Rattle.hash_file.specs.Sound.{is_numbered}
@@ -17,9 +16,9 @@ use Rattle.hash_file.proofs.Lists.{times_append, times_member}
 use Rattle.file_walk.specs.declared.fault.StructureFault.{StructureFault}
 use Rattle.file_walk.specs.declared.fault.StructureFault.TheVariants as faults
 use Rattle.file_walk.specs.Files.{file_of}
-use Rattle.file_walk.specs.Order.{HasHeader, IsHeaderFault, IsFaultOf, IsFirstWrong, IsRightPage, AreRight}
+use Rattle.file_walk.specs.Order.{HasHeader, IsHeaderFault, IsFaultOf, IsRightPage}
 use Rattle.file_walk.specs.Structure.{IsRightStructure, IsFirstWrongThing}
-use Rattle.file_walk.specs.Walks.{IsRightChain, AreSparesSoFar, AreRightSpares, HasRightSpares, IsNotFree, IsLost, IsRightDirectory, IsChainFault, IsSparesFault, IsDirectoryFault}
+use Rattle.file_walk.specs.Walks.{IsRightChain, AreRightSpares, IsNotFree, IsLost, IsRightDirectory, IsChainFault, IsSparesFault, IsDirectoryFault}
 use Rattle.file_walk.proofs.ChainLemmas.{broken_is_no_chain, no_tile_behind}
 
 -- what stands between two lists stands on both together

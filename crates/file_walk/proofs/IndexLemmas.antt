@@ -1,16 +1,15 @@
 -- The directory: each bucket of the file is on the chain, and what a walk along the chain has counted.
-use Rattle.std.proofs.Common.{ℕ, suc, ◌≡◌, ◌+◌, ◌<◌, ◌≤◌, ◌⊎◌, ◌==◌, nat_lt, Bool, true, false, if◌then◌else◌, List, [], ◌∷◌, ◌++◌, length, take, slice_index_or, refl, sym, ap, subst, ◌∙◌, inl, inr, add-zero, arith}
+use Rattle.std.proofs.Common.{ℕ, ◌≡◌, ◌+◌, ◌<◌, ◌≤◌, ◌==◌, nat_lt, Bool, true, false, if◌then◌else◌, List, [], ◌∷◌, ◌++◌, length, take, slice_index_or, refl, sym, ap, subst, ◌∙◌, inl, inr, add-zero, arith}
 use Rattle.std.specs.List.{Contains}
 use Rattle.std.proofs.lemmas.Bool.Decides.{nat_tests}
 use Rattle.std.proofs.lemmas.List.{take_more}
 use Rattle.std.proofs.lemmas.List.Elements.{Contains-append_cases}
-use Rattle.positions.specs.declared.range.Range.{Range}
 use Rattle.positions.specs.Ranges.{Covers}
 use Rattle.positions.proofs.MemberLaws.{contains_cases, contains_none}
 use Rattle.directory.specs.declared.layout.TheConstants.{ROOT_PAGE}
 use Rattle.hash_file.specs.declared.page.Shape.{Shape}
-use Rattle.hash_file.specs.Store.{Store, is_bucket, has_bucket, bucket_at, range_at}
-use Rattle.hash_file.specs.Chain.{IsBucketOn, times, number_on, how_many}
+use Rattle.hash_file.specs.Store.{Store, is_bucket, has_bucket, bucket_at}
+use Rattle.hash_file.specs.Chain.{IsBucketOn, times, number_on}
 use Rattle.hash_file.specs.Sound.{is_numbered}
 use Rattle.hash_file.proofs.Lists.{times_stands, how_many_append}
 use Rattle.file_walk.specs.Outlines.{IsBucketAt, IsOutlined}

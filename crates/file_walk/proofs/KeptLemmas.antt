@@ -1,8 +1,7 @@
 -- Entries are kept behind those that are kept already, up to the most.
-use Rattle.std.proofs.Common.{ℕ, zero, suc, ◌≡◌, ◌≢◌, ◌+◌, ◌-◌, ◌<◌, ◌≤◌, min, List, [], ◌∷◌, ◌++◌, length, take, drop, get_or, refl, sym, ap, subst, ◌∙◌, append_assoc, length-append, arith}
-use Rattle.std.proofs.lemmas.List.{take-append-drop, take_all, take_more, take-append-le, length-take}
+use Rattle.std.proofs.Common.{ℕ, zero, suc, ◌≡◌, ◌+◌, ◌<◌, ◌≤◌, min, List, [], ◌∷◌, ◌++◌, length, take, drop, get_or, refl, sym, ap, subst, ◌∙◌, append_assoc, length-append}
+use Rattle.std.proofs.lemmas.List.{take-append-drop, take_all, take_more, length-take}
 use Rattle.std.proofs.Math.Seq.{take-append_seam}
-use Rattle.std.proofs.Math.Nat.{min_comm}
 
 -- what is taken of a list that is as long already
 prefix_taken : (most : ℕ) (xs ys : List ℕ) → length xs ≡ most → take most (xs ++ ys) ≡ xs

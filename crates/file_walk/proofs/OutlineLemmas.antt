@@ -1,12 +1,12 @@
 -- What an outline tells of a page.
-use Rattle.std.proofs.Common.{ℕ, ◌≡◌, ◌<◌, ◌≤◌, Bool, true, false, List, length, map, slice_index_or, get_or-take, lit<, refl, sym, ap, subst, ◌∙◌, arith}
+use Rattle.std.proofs.Common.{ℕ, ◌≡◌, ◌<◌, false, List, length, slice_index_or, get_or-take, lit<, refl, sym, ap, subst, ◌∙◌, arith}
 use Rattle.std.proofs.lemmas.List.{get_or-map, length-map, get_or-replicate}
 use Rattle.directory.specs.declared.layout.TheConstants.{LEAST_PAGES, ROOT_PAGE}
 use Rattle.directory.specs.declared.header.Header.{Header}
 use Rattle.bucket_page.specs.declared.page.PageKind.{PageKind}
 use Rattle.bucket_page.specs.declared.page.PageKind.TheVariants as kinds
 use Rattle.hash_file.specs.declared.page.Shape.{Shape}
-use Rattle.hash_file.specs.Store.{Store, page_at, is_bucket, bucket_of, has_bucket, IsFreePage, next_at}
+use Rattle.hash_file.specs.Store.{Store, is_bucket, bucket_of, has_bucket, IsFreePage, next_at}
 use Rattle.file_walk.specs.declared.form.Form.{Form}
 use Rattle.file_walk.specs.declared.form.Form.TheVariants as forms
 use Rattle.file_walk.specs.Outlines.{file_shown, shown, shape_of_bucket, IsKeptAt, IsBucketAt, IsFreeAt, IsOutline, IsOutlined}

@@ -1,26 +1,23 @@
 -- A file and its outline have the same chain, free pages and directory.
-use Rattle.std.proofs.Common.{ℕ, ◌≡◌, ◌≢◌, ◌<◌, ◌≤◌, ◌⊎◌, ◌^◌, nat_lt, ◌&&◌, nat_le, ◌==◌, Bool, List, ◌++◌, length, map, slice_index_or, refl, sym, ap, subst, ◌∙◌, inl, inr, get_or-take, Err, if◌then◌else◌}
+use Rattle.std.proofs.Common.{ℕ, ◌≡◌, ◌<◌, ◌≤◌, ◌⊎◌, ◌^◌, nat_lt, ◌&&◌, nat_le, ◌==◌, Bool, List, length, refl, sym, ap, subst, ◌∙◌, inl, inr, get_or-take, Err, if◌then◌else◌}
 use Rattle.std.proofs.Math.ListN.{get_or-map}
 use Rattle.std.proofs.Math.Path.{fun_ext}
 use Rattle.std.proofs.lemmas.List.{length-map}
-use Rattle.std.specs.List.{Contains}
 use Rattle.positions.specs.declared.range.Range.{Range}
-use Rattle.positions.specs.declared.pseudokey.TheConstants.{POSITIONS}
 use Rattle.positions.specs.Links.{Links}
 use Rattle.positions.specs.Partition.{IsPartition}
 use Rattle.positions.specs.Ranges.{Covers}
 use Rattle.positions.specs.Tiles.{IsTileAt, Tiles}
 use Rattle.bucket_page.specs.declared.page.PageKind.{PageKind}
 use Rattle.bucket_page.specs.declared.page.PageKind.TheVariants as kinds
-use Rattle.bucket_page.specs.Bucket.{Bucket}
-use Rattle.hash_file.specs.Store.{Store, page_at, bucket_of, is_bucket, range_of, has_bucket, bucket_at, range_at, next_at, entry_at, count_at, IsFreePage}
-use Rattle.hash_file.specs.Chain.{IsBucketOn, times, number_on, how_many}
-use Rattle.hash_file.specs.Sound.{IsFreeList, is_numbered}
+use Rattle.hash_file.specs.Store.{Store, page_at, bucket_of, is_bucket, range_of, has_bucket, bucket_at, range_at, next_at, entry_at, IsFreePage}
+use Rattle.hash_file.specs.Chain.{IsBucketOn, number_on, how_many}
+use Rattle.hash_file.specs.Sound.{is_numbered}
 use Rattle.file_walk.specs.declared.fault.StructureFault.{StructureFault}
 use Rattle.file_walk.specs.declared.fault.StructureFault.TheVariants as faults
 use Rattle.file_walk.specs.Outlines.{outlined, bare}
 use Rattle.file_walk.specs.Order.{LacksMemory, IsOfMachine, HasReadCause}
-use Rattle.file_walk.specs.Walks.{IsRightChain, IsChainSoFar, ContinuesAt, EndsAt, BreaksAt, AreSparesSoFar, AreRightSpares, HasRightSpares, IsNotFree, IsLost, IsRightDirectory, IsChainFault, IsSparesFault, IsDirectoryFault}
+use Rattle.file_walk.specs.Walks.{IsRightChain, IsChainSoFar, BreaksAt, AreSparesSoFar, HasRightSpares, IsRightDirectory, IsChainFault, IsSparesFault, IsDirectoryFault}
 
 bare_next : (p : PageKind) → (bucket_of (bare p)).next ≡ (bucket_of p).next
 bare_next (kinds.Bucket b) = refl

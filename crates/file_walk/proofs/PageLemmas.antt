@@ -1,8 +1,7 @@
 -- What reading the payload of a page tells of it.
-use Rattle.std.proofs.Common.{ℕ, ◌≡◌, ◌<◌, ◌≤◌, ◌⊎◌, ◌+◌, ◌++◌, take, min, IsTrue, nat_lt, Bool, true, false, List, length, Option, Some, None, Result, Ok, Err, refl, sym, ap, subst, ◌∙◌, inl, inr, arith}
+use Rattle.std.proofs.Common.{ℕ, ◌≡◌, ◌<◌, ◌≤◌, ◌⊎◌, ◌+◌, ◌++◌, take, min, IsTrue, nat_lt, Bool, true, false, List, length, Option, Some, None, Ok, Err, refl, sym, ap, subst, ◌∙◌, inl, inr, arith}
 use Rattle.std.proofs.lemmas.Bool.Decides.{nat_tests}
-use Rattle.page_device.specs.Sealed.{IsSealed, payload_of}
-use Rattle.directory.specs.declared.layout.TheConstants.{ENTRIES_IN_A_PAGE, ROOT_PAGE}
+use Rattle.directory.specs.declared.layout.TheConstants.{PAGE_ENTRIES, ROOT_PAGE}
 use Rattle.directory.specs.declared.header.Header.{Header}
 use Rattle.directory.specs.declared.read.HeaderFault.{HeaderFault}
 use Rattle.directory.specs.Reading as header
@@ -13,10 +12,10 @@ use Rattle.bucket_page.specs.declared.page.PageKind.TheVariants as kinds
 use Rattle.bucket_page.specs.Reading.{reading, fault_of, page_at, answer}
 use Rattle.file_walk.specs.declared.fault.StructureFault.{StructureFault}
 use Rattle.file_walk.specs.declared.fault.StructureFault.TheVariants as faults
-use Rattle.file_walk.specs.Files.{page_on, payload_on, said_by, said_on, header_on, entries_of}
+use Rattle.file_walk.specs.Files.{payload_on, said_by, said_on, header_on, entries_of}
 use Rattle.file_walk.specs.declared.form.Form.{Form}
 use Rattle.file_walk.specs.Outlines.{shown, bare}
-use Rattle.file_walk.specs.Order.{IsCut, IsTooLong, is_directory, IsSealFault, may_stand, after_reading, malformed_on, IsRightPage, IsFaultOf, IsOfMachine, IsHeaderFault, HasHeader}
+use Rattle.file_walk.specs.Order.{IsCut, IsTooLong, is_directory, IsSealFault, may_stand, after_reading, malformed_on, IsRightPage, IsFaultOf, IsOfMachine, IsHeaderFault}
 use Rattle.file_walk.specs.Readings.{IsPayloadOf, IsFormOf, TakesEntries}
 use Rattle.file_walk.proofs.KeptLemmas.{taken_length}
 
@@ -160,7 +159,7 @@ module _ (content : List (List ℕ)) (payload : List ℕ) (h : Header) (pages : 
 -- the entries of a directory page are taken
 pub entries_taken : (honest : Bool) (content : List (List ℕ)) (n most : ℕ) (old new es payload : List ℕ) →
     (IsTrue honest → IsPayloadOf content n payload) → Ok (kinds.Directory es) ≡ reading payload → n < ROOT_PAGE →
-    length es ≡ ENTRIES_IN_A_PAGE → new ≡ take most (old ++ es) → TakesEntries honest content n most old new
+    length es ≡ PAGE_ENTRIES → new ≡ take most (old ++ es) → TakesEntries honest content n most old new
 entries_taken honest content n most old new es payload h e below long taken = record {
   number = ap length taken ∙ taken_length most old es ∙ ap (λ k. min most (length old + k)) long;
   right = λ is. is_right content n payload (h is) (kinds.Directory es) e (may_below n (kinds.Directory es) true below refl);

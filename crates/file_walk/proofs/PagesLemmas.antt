@@ -1,17 +1,17 @@
 -- The pages of a file by their numbers, and the entries of its directory by its pages.
-use Rattle.std.proofs.Common.{ℕ, ◌≡◌, ◌≢◌, ◌⊎◌, ◌+◌, ◌-◌, ◌<◌, ◌≤◌, Bool, List, [], ◌∷◌, ◌++◌, length, map, take, drop, replicate, get_or, refl, sym, ap, subst, ◌∙◌, inl, inr, length-append, append-nil, nat_lt, ◌*◌, ◌^◌, lit<, min, true, false, zero, suc, IsTrue, arith}
+use Rattle.std.proofs.Common.{ℕ, ◌≡◌, ◌⊎◌, ◌+◌, ◌-◌, ◌<◌, ◌≤◌, Bool, List, [], ◌∷◌, ◌++◌, length, map, take, drop, replicate, get_or, refl, sym, ap, subst, ◌∙◌, inl, inr, length-append, append-nil, nat_lt, ◌*◌, ◌^◌, lit<, min, true, false, zero, suc, IsTrue, arith}
 use Rattle.std.specs.List.{flat_map}
 use Rattle.std.proofs.lemmas.List.{map-append, get_or-append_right, get_or-drop, get_or-map, length-map, length-drop, length-replicate, map_more, take_more, take_at, take_all}
 use Rattle.std.proofs.Math.Nat.{pow-le-pow_right}
 use Rattle.std.proofs.lemmas.Grind.{flat_map-append}
 use Rattle.std.proofs.lemmas.Bool.Decides.{nat_tests}
-use Rattle.directory.specs.declared.layout.TheConstants.{ENTRIES_IN_A_PAGE, GREATEST_DEPTH, FIRST_DIRECTORY_PAGE, ROOT_PAGE}
+use Rattle.directory.specs.declared.layout.TheConstants.{PAGE_ENTRIES, GREATEST_DEPTH, FIRST_DIRECTORY_PAGE, ROOT_PAGE}
 use Rattle.bucket_page.specs.declared.page.PageKind.{PageKind}
 use Rattle.bucket_page.specs.declared.page.PageKind.TheVariants as kinds
 use Rattle.file_walk.specs.declared.fault.StructureFault.{StructureFault}
 use Rattle.file_walk.specs.declared.form.Form.{Form}
 use Rattle.file_walk.specs.declared.form.Form.TheVariants as forms
-use Rattle.file_walk.specs.Files.{page_on, said_by, said_on, entries_of, entries_on, pages_on}
+use Rattle.file_walk.specs.Files.{said_by, said_on, entries_of, entries_on, pages_on}
 use Rattle.file_walk.specs.Outlines.{shown, bare}
 use Rattle.file_walk.proofs.KeptLemmas.{taken_again}
 use Rattle.file_walk.specs.Order.{AreRight, IsRightPage, IsFaultOf, IsFirstWrong, IsOfMachine}
@@ -175,18 +175,18 @@ entries_kept content n most old new behind within before taken =
     ∙ ap (take most) (sym (entries_more content n behind within))
 
 pub entries_counted : (most n a b : ℕ) → FIRST_DIRECTORY_PAGE ≤ n →
-    a ≡ min most (ENTRIES_IN_A_PAGE * (n - FIRST_DIRECTORY_PAGE)) → b ≡ min most (a + ENTRIES_IN_A_PAGE) →
-    b ≡ min most (ENTRIES_IN_A_PAGE * (n + 1 - FIRST_DIRECTORY_PAGE))
+    a ≡ min most (PAGE_ENTRIES * (n - FIRST_DIRECTORY_PAGE)) → b ≡ min most (a + PAGE_ENTRIES) →
+    b ≡ min most (PAGE_ENTRIES * (n + 1 - FIRST_DIRECTORY_PAGE))
 entries_counted most n a b behind before taken = omega arith
 
 -- at the end all entries of the directory are kept
 module _ (content : List (List ℕ)) (d most n : ℕ) (es : List ℕ) (small : d ≤ GREATEST_DEPTH) (is : most ≡ 2 ^ d)
     (ended : n ≡ ROOT_PAGE) where
-  pub entries_number : length es ≡ min most (ENTRIES_IN_A_PAGE * (n - FIRST_DIRECTORY_PAGE)) → length es ≡ 2 ^ d
+  pub entries_number : length es ≡ min most (PAGE_ENTRIES * (n - FIRST_DIRECTORY_PAGE)) → length es ≡ 2 ^ d
   entries_number kept =
       let bound : 2 ^ d ≤ 2 ^ GREATEST_DEPTH = pow-le-pow_right {n = 2} (lit< tt) small in
-      let pages : length es ≡ min most (ENTRIES_IN_A_PAGE * (ROOT_PAGE - FIRST_DIRECTORY_PAGE)) =
-      subst (λ k. length es ≡ min most (ENTRIES_IN_A_PAGE * (k - FIRST_DIRECTORY_PAGE))) ended kept in
+      let pages : length es ≡ min most (PAGE_ENTRIES * (ROOT_PAGE - FIRST_DIRECTORY_PAGE)) =
+      subst (λ k. length es ≡ min most (PAGE_ENTRIES * (k - FIRST_DIRECTORY_PAGE))) ended kept in
       omega arith
 
   pub entries_whole : es ≡ take most (entries_before content n) → es ≡ take (2 ^ d) (entries_on content)

@@ -1,13 +1,13 @@
 -- The header, the entries and the pages together are the outline of a file.
-use Rattle.std.proofs.Common.{ℕ, ◌≡◌, ◌⊎◌, ◌≤◌, ◌<◌, ◌^◌, Bool, List, length, map, take, IsTrue, refl, sym, ap, subst, ◌∙◌, inl, inr, lit≤, arith}
-use Rattle.directory.specs.declared.layout.TheConstants.{FIRST_DIRECTORY_PAGE, LEAST_PAGES, ROOT_PAGE}
+use Rattle.std.proofs.Common.{ℕ, ◌≡◌, ◌⊎◌, ◌^◌, Bool, List, length, map, take, IsTrue, sym, ap, subst, ◌∙◌, inl, inr, arith}
+use Rattle.directory.specs.declared.layout.TheConstants.{FIRST_DIRECTORY_PAGE, ROOT_PAGE}
 use Rattle.directory.specs.declared.header.Header.{Header}
 use Rattle.bucket_page.specs.declared.page.PageKind.{PageKind}
 use Rattle.hash_file.specs.Store.{Store}
 use Rattle.file_walk.specs.declared.fault.StructureFault.{StructureFault}
 use Rattle.file_walk.specs.declared.form.Form.{Form}
-use Rattle.file_walk.specs.Files.{file_layout, header_on, entries_on, pages_on, file_of}
-use Rattle.file_walk.specs.Outlines.{IsOutline, file_shown, outlined, shown, bare}
+use Rattle.file_walk.specs.Files.{file_layout, entries_on, pages_on}
+use Rattle.file_walk.specs.Outlines.{IsOutline, file_shown, bare}
 use Rattle.file_walk.specs.Order.{HasHeader, AreRight, IsOfMachine, IsHeaderFault, IsFirstWrong, IsReadingFault}
 use Rattle.file_walk.specs.Readings.{IsHeaderOf, AreEntriesOf, AreFormsOf, IsOutlineOf}
 use Rattle.file_walk.proofs.PagesLemmas.{right_join}

@@ -1,5 +1,5 @@
 -- A right structure makes up a sound file.
-use Rattle.std.proofs.Common.{ℕ, zero, suc, ◌≡◌, ◌+◌, ◌*◌, ◌<◌, ◌≤◌, ◌^◌, ◌==◌, nat_lt, Bool, true, false, if◌then◌else◌, List, [], ◌∷◌, ◌++◌, length, take, drop, replicate, slice_index_or, Option, Some, None, refl, sym, ap, subst, ◌∙◌, inl, inr, lit≤, lit<, add-zero, zero-add, map, arith}
+use Rattle.std.proofs.Common.{ℕ, zero, suc, ◌≡◌, ◌+◌, ◌*◌, ◌<◌, ◌≤◌, ◌^◌, ◌==◌, nat_lt, Bool, true, false, if◌then◌else◌, List, [], ◌∷◌, ◌++◌, length, take, drop, replicate, slice_index_or, Option, Some, None, refl, sym, ap, subst, ◌∙◌, inl, lit≤, lit<, add-zero, zero-add, map, arith}
 use Rattle.std.specs.List.{Contains, flat_map}
 use Rattle.std.proofs.lemmas.List.{append-nil, get_or_append_left, get_or-replicate, get_or-drop, get_or-take, length-replicate, length-take-le, length-drop, length-append}
 use Rattle.std.proofs.Math.Nat.{zero-mul}
@@ -7,18 +7,19 @@ use Rattle.std.proofs.lemmas.List.Concat.{flat_map-cons}
 use Rattle.std.proofs.lemmas.Bool.Decides.{nat_tests}
 use Rattle.positions.proofs.PartitionLaws.{partition_tiles}
 use Rattle.page_device.specs.Sealed.{payload_of}
-use Rattle.directory.specs.declared.layout.TheConstants.{DIRECTORY_PAGES, ENTRIES_IN_A_PAGE, FIRST_DIRECTORY_PAGE, GREATEST_DEPTH, LEAST_PAGES, ROOT_PAGE}
+use Rattle.directory.specs.declared.layout.TheConstants.{DIRECTORY_PAGES, PAGE_ENTRIES, FIRST_DIRECTORY_PAGE, GREATEST_DEPTH, LEAST_PAGES, ROOT_PAGE}
 use Rattle.bucket_page.specs.declared.page.Malformed.{Malformed}
-use Rattle.bucket_page.specs.declared.layout.TheConstants.{BUCKET, DIRECTORY, TOMBSTONE}
+use Rattle.bucket_page.specs.declared.layout.TheConstants.{BUCKET, TOMBSTONE}
+use Rattle.directory.specs.declared.layout.TheConstants.{DIRECTORY}
 use Rattle.bucket_page.specs.declared.page.PageKind.{PageKind}
 use Rattle.bucket_page.specs.declared.page.PageKind.TheVariants as kinds
 use Rattle.bucket_page.specs.declared.record_key.RecordKey.{RecordKey}
 use Rattle.bucket_page.specs.Bucket.{Bucket}
 use Rattle.fields.specs.Numbers.{four_at, numbers_of}
-use Rattle.bucket_page.specs.Entries.{entries_of}
+use Rattle.directory.specs.Pages.{entries_area, entries_at, entries_of}
 use Rattle.bucket_page.specs.Reading as reading
-use Rattle.hash_file.specs.Store.{Store, is_bucket, has_bucket, bucket_at, range_at}
-use Rattle.hash_file.specs.Chain.{IsChain, IsPlaced, times, number_on}
+use Rattle.hash_file.specs.Store.{is_bucket, has_bucket, bucket_at, range_at}
+use Rattle.hash_file.specs.Chain.{IsChain, IsPlaced, times}
 use Rattle.hash_file.specs.Change.{Quiet}
 use Rattle.hash_file.specs.Sound.{HasLayout, IsSoundFile, IsSoundOn}
 use Rattle.hash_file.proofs.Chains.{chain_is}
@@ -27,7 +28,7 @@ use Rattle.hash_file.proofs.Ties.{quiet_exact}
 use Rattle.file_walk.specs.Files.{page_on, said_by, said_on, entries_on, pages_on, header_on, file_of}
 use Rattle.file_walk.specs.Files as files
 use Rattle.file_walk.specs.Laws.{IsQuietFile}
-use Rattle.file_walk.specs.Order.{AreRight, IsRightPage, HasHeader, is_directory, may_stand, after_reading, malformed_on}
+use Rattle.file_walk.specs.Order.{AreRight, IsRightPage, is_directory, may_stand, after_reading}
 use Rattle.file_walk.specs.Structure.{HasPages, IsRightStructure}
 use Rattle.file_walk.proofs.PagesLemmas.{pages_length}
 
@@ -37,9 +38,9 @@ numbers_length : (n : ℕ) (bytes : List ℕ) → length (numbers_of n bytes) �
 numbers_length zero bytes = refl
 numbers_length (suc n) bytes = ap suc (numbers_length n (drop 4 bytes)) ∙ refl
 
-entries_length : (bytes : List ℕ) → length (entries_of bytes) ≡ ENTRIES_IN_A_PAGE
+entries_length : (bytes : List ℕ) → length (entries_of bytes) ≡ PAGE_ENTRIES
 unfolding entries_of
-entries_length bytes = numbers_length ENTRIES_IN_A_PAGE bytes
+entries_length bytes = numbers_length PAGE_ENTRIES bytes
 
 -- a page by its first byte
 by_kind : (a b c : Bool) (bucket : Bucket) (es : List ℕ) (link : ℕ) →
@@ -52,13 +53,13 @@ by_kind false true c bucket es link e = refl
 by_kind false false true bucket es link e = absurd cc
 by_kind false false false bucket es link e = absurd cc
 
-said_length : (page : List ℕ) → is_directory (said_by page) ≡ true → length (files.entries_of (said_by page)) ≡ ENTRIES_IN_A_PAGE
+said_length : (page : List ℕ) → is_directory (said_by page) ≡ true → length (files.entries_of (said_by page)) ≡ PAGE_ENTRIES
 unfolding said_by
 said_length page e =
     let bytes : List ℕ = payload_of page in
     ap length (by_kind (reading.kind_at bytes == BUCKET) (reading.kind_at bytes == DIRECTORY)
-    (reading.kind_at bytes == TOMBSTONE) (reading.bucket_at bytes) (reading.entries_at bytes) (four_at 4 bytes) e)
-    ∙ entries_length (reading.entries_area bytes)
+    (reading.kind_at bytes == TOMBSTONE) (reading.bucket_at bytes) (entries_at bytes) (four_at 4 bytes) e)
+    ∙ entries_length (entries_area bytes)
 
 -- a right page below the root is one of the directory
 stands : (fault : Option Malformed) (b : Bool) → after_reading fault b ≡ None → b ≡ true
@@ -84,19 +85,19 @@ pieces_length f k (page ∷ pages) each =
     ap length (flat_map-cons f page pages) ∙ length-append (f page) (flat_map f pages) ∙ omega (arith, head, rest)
 
 directory_length : (content : List (List ℕ)) → LEAST_PAGES ≤ length content →
-    AreRight content FIRST_DIRECTORY_PAGE (length content) → length (entries_on content) ≡ DIRECTORY_PAGES * ENTRIES_IN_A_PAGE
+    AreRight content FIRST_DIRECTORY_PAGE (length content) → length (entries_on content) ≡ DIRECTORY_PAGES * PAGE_ENTRIES
 unfolding entries_on
 directory_length content long right =
-    pieces_length (λ (page : List ℕ). files.entries_of (said_by page)) ENTRIES_IN_A_PAGE
+    pieces_length (λ (page : List ℕ). files.entries_of (said_by page)) PAGE_ENTRIES
     (take DIRECTORY_PAGES (drop FIRST_DIRECTORY_PAGE content)) each
-    ∙ ap (λ n. n * ENTRIES_IN_A_PAGE) number
+    ∙ ap (λ n. n * PAGE_ENTRIES) number
   where
     number : length (take DIRECTORY_PAGES (drop FIRST_DIRECTORY_PAGE content)) ≡ DIRECTORY_PAGES
     number = length-take-le DIRECTORY_PAGES (drop FIRST_DIRECTORY_PAGE content) (rw length-drop (omega arith))
 
     each : (i : ℕ) → i < length (take DIRECTORY_PAGES (drop FIRST_DIRECTORY_PAGE content)) →
         length (files.entries_of (said_by (slice_index_or (take DIRECTORY_PAGES (drop FIRST_DIRECTORY_PAGE content)) i [])))
-        ≡ ENTRIES_IN_A_PAGE
+        ≡ PAGE_ENTRIES
     each i within =
         let few : i < DIRECTORY_PAGES = subst (λ n. i < n) number within in
         let place : slice_index_or (take DIRECTORY_PAGES (drop FIRST_DIRECTORY_PAGE content)) i []

@@ -1,6 +1,6 @@
 -- The list of free pages is walked: marks, what each page adds, and what is wrong where the walk stops.
-use Rattle.std.proofs.Common.{ℕ, ◌≡◌, ◌≢◌, ◌+◌, ◌<◌, ◌≤◌, ◌⊎◌, ◌==◌, nat_le, nat_lt, ◌&&◌, Bool, true, false, if◌then◌else◌, List, [], ◌∷◌, ◌++◌, length, take, drop, slice_index_or, slice_set, refl, sym, ap, subst, ◌∙◌, inl, inr, zero, suc, add-one, add-zero, lit≤, get_or-set_same, get_or-set_other, arith}
-use Rattle.std.specs.List.{Contains, sum_by, AllPairs}
+use Rattle.std.proofs.Common.{ℕ, ◌≡◌, ◌≢◌, ◌+◌, ◌<◌, ◌≤◌, ◌==◌, nat_lt, Bool, true, false, if◌then◌else◌, List, [], ◌∷◌, ◌++◌, length, take, drop, slice_index_or, slice_set, refl, sym, ap, subst, ◌∙◌, inl, inr, zero, suc, add-zero, lit≤, get_or-set_same, get_or-set_other, arith}
+use Rattle.std.specs.List.{Contains, sum_by}
 use Rattle.std.proofs.lemmas.Bool.Decides.{nat_tests}
 use Rattle.std.proofs.lemmas.List.{append_assoc, append-nil, take-append-drop, take_more, get_or_past}
 use Rattle.std.proofs.lemmas.List.Elements.{Contains-append_cases, All-contains_itself}
@@ -8,8 +8,8 @@ use Rattle.std.proofs.lemmas.List.Sums.{sum_by-set}
 use Rattle.std.proofs.Math.ListN.{length-set}
 use Rattle.std.proofs.Math.Seq.{drop-cons}
 use Rattle.positions.specs.Links.{Links}
-use Rattle.positions.proofs.MemberLaws.{contains_cases, contains_none, contains_head, contains_tail}
-use Rattle.positions.proofs.PartitionLaws.{partition_tiles, tiles_distinct}
+use Rattle.positions.proofs.MemberLaws.{contains_cases, contains_none, contains_head}
+use Rattle.positions.proofs.PartitionLaws.{partition_tiles}
 use Rattle.positions.specs.declared.pseudokey.TheConstants.{POSITIONS}
 use Rattle.positions.specs.Ranges.{stop_of}
 use Rattle.positions.specs.Tiles.{Tiles}
@@ -18,12 +18,12 @@ use Rattle.positions.proofs.TileLaws.{tiles_within}
 use Rattle.positions.proofs.WalkLaws.{links_join}
 use Rattle.directory.specs.declared.layout.TheConstants.{ROOT_PAGE}
 use Rattle.bucket_page.specs.declared.page.PageKind.TheVariants as kinds
-use Rattle.hash_file.specs.Store.{Store, page_at, is_bucket, has_bucket, range_at, next_at, IsFreePage}
+use Rattle.hash_file.specs.Store.{Store, is_bucket, has_bucket, range_at, next_at, IsFreePage}
 use Rattle.hash_file.specs.Chain.{times}
-use Rattle.hash_file.specs.Sound.{IsFreeList, is_numbered}
+use Rattle.hash_file.specs.Sound.{is_numbered}
 use Rattle.hash_file.proofs.Lists.{times_one, times_other, times_append, times_member, times_stands}
 use Rattle.file_walk.specs.Outlines.{IsFreeAt, IsOutlined}
-use Rattle.file_walk.specs.Walks.{IsRightChain, AreMarked, HasRoomFor, AreSparesSoFar, AreRightSpares, HasRightSpares, IsNotFree, IsLost}
+use Rattle.file_walk.specs.Walks.{IsRightChain, AreMarked, HasRoomFor, AreSparesSoFar, HasRightSpares, IsNotFree, IsLost}
 
 -- ---- marks
 

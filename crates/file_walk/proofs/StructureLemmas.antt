@@ -1,10 +1,8 @@
 -- The tests in their order make up the structure, and what each finds is the first thing that is wrong.
-use Rattle.std.proofs.Common.{ℕ, ◌≡◌, ◌⊎◌, List, length, sym, subst, inl, inr}
-use Rattle.directory.specs.declared.layout.TheConstants.{FIRST_DIRECTORY_PAGE}
+use Rattle.std.proofs.Common.{ℕ, ◌⊎◌, List, subst, inl, inr}
 use Rattle.hash_file.specs.Store.{Store}
 use Rattle.file_walk.specs.declared.fault.StructureFault.{StructureFault}
 use Rattle.file_walk.specs.Files.{file_of}
-use Rattle.file_walk.specs.Outlines.{outlined}
 use Rattle.file_walk.specs.Order.{IsReadingFault, LacksMemory}
 use Rattle.file_walk.specs.Readings.{IsOutlineOf}
 use Rattle.file_walk.specs.Structure.{HasPages, IsFirstFault, IsStructureOf}

@@ -1,5 +1,5 @@
 -- The file that the pages of a device are, as a value (docs/FORMAT.md, "Pages").
-use Rattle.std.specs.Prelude.{◌≡◌, ℕ, List, [], ◌++◌, map, take, drop, replicate, slice_index_or}
+use Rattle.std.specs.Prelude.{ℕ, List, [], ◌++◌, map, take, drop, replicate, slice_index_or}
 use Rattle.std.specs.List.{flat_map}
 use Rattle.page_device.specs.Sealed.{payload_of}
 use Rattle.directory.specs.declared.layout.TheConstants.{DIRECTORY_PAGES, FIRST_DIRECTORY_PAGE, GREATEST_DEPTH, ROOT_PAGE}

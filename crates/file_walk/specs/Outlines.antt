@@ -1,5 +1,5 @@
 -- A file without its records, as it is kept while it is walked.
-use Rattle.std.specs.Prelude.{◌≡◌, ℕ, ◌<◌, ◌≤◌, ◌^◌, true, slice_index_or, List, [], length, map, take, replicate}
+use Rattle.std.specs.Prelude.{◌≡◌, ℕ, ◌<◌, ◌≤◌, ◌^◌, true, List, [], length, map, take, replicate}
 use Rattle.page_device.specs.declared.page.TheConstants.{MAX_PAGES}
 use Rattle.directory.specs.declared.layout.TheConstants.{GREATEST_DEPTH, LEAST_PAGES, LOCAL_DEPTHS, ROOT_PAGE}
 use Rattle.directory.specs.declared.header.Header.{Header}

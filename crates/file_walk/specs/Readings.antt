@@ -1,7 +1,7 @@
 -- What is known once pages have been read. `honest` tells whether the device gives back what was written.
-use Rattle.std.specs.Prelude.{◌≡◌, ℕ, ◌+◌, ◌≤◌, ◌^◌, Bool, List, ◌++◌, IsTrue, length, map, min, take, replicate}
+use Rattle.std.specs.Prelude.{◌≡◌, ℕ, ◌+◌, ◌^◌, Bool, List, ◌++◌, IsTrue, length, map, min, take, replicate}
 use Rattle.page_device.specs.Sealed.{IsSealed}
-use Rattle.directory.specs.declared.layout.TheConstants.{ENTRIES_IN_A_PAGE, FIRST_DIRECTORY_PAGE, ROOT_PAGE}
+use Rattle.directory.specs.declared.layout.TheConstants.{PAGE_ENTRIES, FIRST_DIRECTORY_PAGE, ROOT_PAGE}
 use Rattle.directory.specs.declared.header.Header.{Header}
 use Rattle.directory.specs.Spelling.{IsHeader}
 use Rattle.hash_file.specs.Store.{Store}
@@ -30,7 +30,7 @@ pub record IsFormOf (content : List (List ℕ)) (n : ℕ) (form : Form) : Type 0
 
 -- so many entries of page n are kept behind those that were
 pub record TakesEntries (honest : Bool) (content : List (List ℕ)) (n most : ℕ) (old new : List ℕ) : Type 0 where
-  pub number : length new ≡ min most (length old + ENTRIES_IN_A_PAGE)
+  pub number : length new ≡ min most (length old + PAGE_ENTRIES)
   pub right : IsTrue honest → IsRightPage content n
   pub value : IsTrue honest → new ≡ take most (old ++ entries_of (said_on content n))
 

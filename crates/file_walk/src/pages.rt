@@ -2,7 +2,7 @@
 
 ghost use Rattle.std.specs.Prelude.{◌≡◌, ◌≤◌, ◌<◌, ◌^◌, ◌⊎◌, ◌++◌, length, take, IsTrue, IfOk, IfErr, OnOk};
 ghost use Rattle.directory.specs.declared.layout.TheConstants.{FIRST_DIRECTORY_PAGE, GREATEST_DEPTH, LEAST_PAGES, ROOT_PAGE};
-ghost use Rattle.bucket_page.specs.declared.layout.TheConstants.{PAGE_ENTRIES};
+ghost use Rattle.directory.specs.declared.layout.TheConstants.{PAGE_ENTRIES};
 ghost use Rattle.file_walk.specs.Outlines.{shape_of_bucket};
 ghost use Rattle.file_walk.specs.Order.{HasReadCause, IsFaultOf, IsFirstWrong, IsHeaderFault, IsOfMachine, IsReadingFault, IsSealFault};
 ghost use Rattle.file_walk.specs.Readings.{AreEntriesOf, AreFormsOf, IsFormOf, IsHeaderOf, IsOutlineOf, IsPayloadOf, TakesEntries};
@@ -10,8 +10,10 @@ ghost use Rattle.file_walk.specs.Readings.{AreEntriesOf, AreFormsOf, IsFormOf, I
 use crate::fault::StructureFault;
 use crate::form::Form;
 use crate::outline::Outline;
-use bucket_page::{BucketView, DirectoryView, Malformed, PAGE_ENTRIES, PageKind, read_page};
-use directory::{FIRST_DIRECTORY_PAGE, Header, HeaderFault, ROOT_PAGE, read_header};
+use bucket_page::{BucketView, Malformed, PageKind, read_page};
+use directory::{
+    DirectoryView, FIRST_DIRECTORY_PAGE, Header, HeaderFault, PAGE_ENTRIES, ROOT_PAGE, read_header,
+};
 use hash_file::Shape;
 use page_device::{DeviceFault, PAGE_BYTES, PAYLOAD_BYTES, PageDevice, Payload, unseal_into};
 use positions::Range;

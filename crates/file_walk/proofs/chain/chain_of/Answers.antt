@@ -1,5 +1,5 @@
 -- The chain grows page by page, or breaks.
-use Rattle.std.proofs.Common.{◌≡◌, ◌<◌, ◌≤◌, List, ℕ, refl, sym, subst, ap, ◌∙◌, arith, inr, lit≤}
+use Rattle.std.proofs.Common.{◌≡◌, ◌<◌, ◌≤◌, List, ℕ, refl, sym, subst, arith, inr, lit≤}
 use Rattle.positions.specs.declared.pseudokey.TheConstants.{POSITIONS}
 use Rattle.positions.specs.Ranges.{stop_of}
 use Rattle.positions.specs.Tiles.{IsTileAt}

@@ -1,7 +1,6 @@
 -- A bucket of this depth is counted, and no other.
-use Rattle.std.proofs.Common.{◌≡◌, ◌≢◌, ◌==◌, true, false, slice_index_or, take, refl, sym, ap, ◌∙◌, add-zero, ◌+◌, arith}
+use Rattle.std.proofs.Common.{◌≡◌, ◌==◌, true, false, slice_index_or, sym, ap, ◌∙◌, add-zero, ◌+◌, arith}
 use Rattle.std.proofs.lemmas.Bool.Decides.{nat_tests}
-use Rattle.hash_file.specs.Chain.{number_on}
 use Rattle.hash_file.specs.Store.{bucket_at}
 use Rattle.file_walk.proofs.IndexLemmas.{number_more}
 use Rattle.file_walk.proofs.index.number_of.Goals as goal

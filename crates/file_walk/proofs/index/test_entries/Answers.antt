@@ -1,5 +1,5 @@
 -- Entry by entry, up to the end of the directory.
-use Rattle.std.proofs.Common.{◌<◌, refl, subst, below_more, arith}
+use Rattle.std.proofs.Common.{refl, below_more, arith}
 use Rattle.hash_file.specs.Chain.{IsBucketOn}
 use Rattle.hash_file.specs.Store.{entry_at}
 use Rattle.file_walk.proofs.index.test_entries.Goals as goal

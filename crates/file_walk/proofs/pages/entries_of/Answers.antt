@@ -1,10 +1,10 @@
 -- Page by page the entries are kept, up to the end of the directory.
-use Rattle.std.proofs.Common.{◌≡◌, ◌≤◌, ◌<◌, ◌^◌, ◌++◌, take, length, sym, subst, ap, ◌∙◌, min, IsTrue, arith}
+use Rattle.std.proofs.Common.{◌≡◌, ◌<◌, ◌++◌, take, length, sym, subst, ap, ◌∙◌, IsTrue, arith}
 use Rattle.std.proofs.Math.Nat.{min-zero}
 use Rattle.std.proofs.Math.Seq.{take-nil}
 use Rattle.std.proofs.lemmas.Result.{err_from_is_err_and}
 use Rattle.directory.specs.declared.layout.TheConstants.{FIRST_DIRECTORY_PAGE, ROOT_PAGE}
-use Rattle.file_walk.specs.Files.{entries_of, said_on, entries_on}
+use Rattle.file_walk.specs.Files.{entries_of, said_on}
 use Rattle.file_walk.specs.Order.{AreRight}
 use Rattle.file_walk.proofs.PagesLemmas.{read_none, read_more, entries_kept, entries_counted, entries_number, entries_whole, first_wrong}
 use Rattle.file_walk.proofs.pages.entries_of.Goals as goal

@@ -1,10 +1,10 @@
 -- Page by page what is kept of it is put behind.
-use Rattle.std.proofs.Common.{◌≡◌, ◌≤◌, ◌<◌, ◌+◌, ◌++◌, ◌∷◌, [], map, take, lit≤, length, length-append, sym, subst, ap, ◌∙◌, IsTrue, arith}
+use Rattle.std.proofs.Common.{◌≡◌, ◌≤◌, ◌<◌, ◌+◌, map, take, lit≤, length, length-append, sym, subst, ap, ◌∙◌, IsTrue, arith}
 use Rattle.std.proofs.lemmas.Result.{err_from_is_err_and}
 use Rattle.directory.specs.declared.layout.TheConstants.{ROOT_PAGE}
 use Rattle.file_walk.specs.declared.form.Form.TheVariants as forms
 use Rattle.std.proofs.lemmas.List.{length-replicate, take_all, take-append-le}
-use Rattle.file_walk.specs.Files.{said_on, pages_on}
+use Rattle.file_walk.specs.Files.{said_on}
 use Rattle.file_walk.specs.Outlines.{shown, bare}
 use Rattle.file_walk.specs.Order.{AreRight}
 use Rattle.file_walk.proofs.PagesLemmas.{read_none, read_more, forms_start, forms_more, forms_end, first_wrong}

@@ -1,8 +1,7 @@
 -- The header and its number of pages, or what is wrong with them.
-use Rattle.std.proofs.Common.{inr, sym, ◌∙◌, ap, subst, arith, rules, ◌<◌, ◌≤◌, ◌≡◌, length}
+use Rattle.std.proofs.Common.{inr, sym, ◌∙◌, ap, subst, arith, ◌≡◌, length}
 use Rattle.std.proofs.lemmas.Result.{err_from_is_err_and}
 use Rattle.directory.specs.Spelling.{IsHeader}
-use Rattle.file_walk.specs.Files.{header_on}
 use Rattle.file_walk.proofs.PageLemmas.{header_is, header_read, header_fault, header_cut, header_too_long}
 use Rattle.file_walk.proofs.pages.header_of.Goals as goal
 

@@ -1,5 +1,5 @@
 -- Entries are kept up to the end of the page, or up to the most.
-use Rattle.std.proofs.Common.{◌≡◌, ◌≢◌, ◌≤◌, ◌<◌, ◌+◌, length-append, subst, sym, ◌∙◌, ap, arith, vec_len, length, ◌++◌, ◌∷◌, []}
+use Rattle.std.proofs.Common.{◌≢◌, ◌≤◌, ◌<◌, length-append, subst, sym, ◌∙◌, ap, arith, length, ◌++◌, ◌∷◌, []}
 use Rattle.file_walk.proofs.KeptLemmas.{kept_full, kept_all, kept_more}
 use Rattle.file_walk.proofs.pages.keep_entries.Goals as goal
 

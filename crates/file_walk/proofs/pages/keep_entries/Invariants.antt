@@ -1,5 +1,5 @@
 -- As many entries as were looked at are kept, up to the most.
-use Rattle.std.proofs.Common.{◌≡◌, ◌≤◌, ◌++◌, ◌+◌, take, length}
+use Rattle.std.proofs.Common.{◌≡◌, ◌≤◌, ◌++◌, take, length}
 use Rattle.file_walk.proofs.pages.keep_entries.Given as goal
 
 abbrev pub invariant-loop-slot : goal.invariant-loop-slot

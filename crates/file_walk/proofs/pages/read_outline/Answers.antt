@@ -1,10 +1,10 @@
 -- The parts that were read are of one file.
 use Rattle.std.proofs.Common.{sym, subst, ◌∙◌, ◌⊎◌, IsTrue}
 use Rattle.std.proofs.lemmas.Result.{err_from_is_err_and}
-use Rattle.directory.specs.declared.layout.TheConstants.{FIRST_DIRECTORY_PAGE, ROOT_PAGE}
+use Rattle.directory.specs.declared.layout.TheConstants.{ROOT_PAGE}
 use Rattle.file_walk.specs.Order.{IsOfMachine, IsFirstWrong}
 use Rattle.file_walk.specs.Readings.{AreEntriesOf, AreFormsOf}
-use Rattle.file_walk.proofs.ReadLemmas.{moved, outline_kept, outline_read, root_wrong, directory_wrong, header_wrong}
+use Rattle.file_walk.proofs.ReadLemmas.{moved, outline_kept, outline_read, root_wrong}
 use Rattle.file_walk.proofs.pages.read_outline.Goals as goal
 
 pub invariant_of-result : goal.invariant_of-result

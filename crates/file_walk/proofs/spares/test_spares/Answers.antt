@@ -1,7 +1,7 @@
 -- The free list is walked to its end, or to what is wrong with it; then no page is lost.
-use Rattle.std.proofs.Common.{◌≡◌, ◌<◌, ◌≤◌, length, true, false, slice_index_or, sym, ◌∙◌, subst, inr, arith}
+use Rattle.std.proofs.Common.{◌<◌, length, true, false, sym, subst, inr, arith}
 use Rattle.file_walk.specs.Walks.{AreMarked}
-use Rattle.file_walk.proofs.SparesLemmas.{AreWalked, walk_begun, walk_goes_on, walk_not_free, walk_met, walk_lost, walk_whole, unmarked_falls, mark_read, marks_more}
+use Rattle.file_walk.proofs.SparesLemmas.{AreWalked, walk_begun, walk_goes_on, walk_not_free, walk_met, walk_whole, unmarked_falls, mark_read, marks_more}
 use Rattle.file_walk.proofs.spares.test_spares.Goals as goal
 
 pub walk-init : goal.walk-init

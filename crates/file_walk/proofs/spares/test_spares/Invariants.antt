@@ -1,6 +1,5 @@
 -- The free list so far is right, its pages are marked beside those of the chain, and no page before is lost.
-use Rattle.std.proofs.Common.{ℕ, ◌≡◌, ◌<◌, ◌≤◌, ◌++◌, true, false, slice_index_or, length}
-use Rattle.file_walk.specs.Walks.{AreMarked, AreSparesSoFar}
+use Rattle.std.proofs.Common.{ℕ, ◌≡◌, ◌<◌, ◌≤◌, true, false, slice_index_or}
 use Rattle.file_walk.proofs.SparesLemmas.{AreWalked, unmarked}
 use Rattle.file_walk.proofs.spares.test_spares.Given as goal
 

@@ -1,10 +1,8 @@
 -- What is right of the outline is right of the file, and what is wrong is wrong.
-use Rattle.std.proofs.Common.{ℕ, ◌≡◌, ◌≤◌, ◌⊎◌, List, sym, subst, ap, ◌∙◌, inl, inr}
+use Rattle.std.proofs.Common.{ℕ, ◌⊎◌, List, subst}
 use Rattle.std.proofs.lemmas.Result.{err_from_is_err_and}
-use Rattle.hash_file.specs.Store.{Store}
-use Rattle.file_walk.specs.Files.{file_of}
 use Rattle.file_walk.specs.Order.{LacksMemory}
-use Rattle.file_walk.specs.Walks.{IsRightChain, HasRightSpares, IsRightDirectory, IsChainFault, IsSparesFault, IsDirectoryFault}
+use Rattle.file_walk.specs.Walks.{HasRightSpares, IsRightDirectory, IsChainFault, IsSparesFault, IsDirectoryFault}
 use Rattle.file_walk.proofs.OutlinedLemmas.{no_transfer}
 use Rattle.file_walk.proofs.StructureLemmas.{reading_first, chain_first, spares_first, directory_first, structure_right}
 use Rattle.file_walk.proofs.structure.check_structure.Goals as goal
