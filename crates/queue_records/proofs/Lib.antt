@@ -1,4 +1,5 @@
 pub mod FieldLaws
+pub mod Lengths
 pub mod OneRecord
 pub mod PartsLaws
 pub mod RangeLaws

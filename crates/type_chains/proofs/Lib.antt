@@ -12,5 +12,7 @@ pub mod TypesStand
 pub mod Read
 pub mod Spelled
 pub mod OneQueue
+pub mod OneQueueChanged
+pub mod OneQueueChanged
 pub mod Sends
 pub mod Fitting
