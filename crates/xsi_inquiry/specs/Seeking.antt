@@ -1,6 +1,6 @@
 -- What the records tell of the queue that a call names.
 -- docs/QUEUES.md, "Calls".
-use Rattle.std.specs.Prelude.{◌≡◌, ℕ, zero, suc, ◌<◌, Bool, Option, Some, None, if◌then◌else◌}
+use Rattle.std.specs.Prelude.{◌≡◌, ℕ, zero, suc, ◌<◌, Bool, Option, Some, None, ⊤, if◌then◌else◌}
 use Rattle.std.specs.List.{find}
 use Rattle.queue_model.specs.declared.errno.Errno.{Errno}
 use Rattle.queue_model.specs.declared.errno.Errno.TheVariants.{EIDRM, EINVAL}
@@ -37,6 +37,13 @@ reads_left Unread = 2
 reads_left Absent = 1
 reads_left (Found e) = 0
 reads_left (Refused errno) = 0
+
+-- it was told whether the id was given out, and no queue has it
+abbrev pub IsRefused : Sought → Type 0
+IsRefused Unread = ⊥
+IsRefused Absent = ⊥
+IsRefused (Found e) = ⊥
+IsRefused (Refused errno) = ⊤
 
 -- the entry is that of the queue of an id, on which calls go on
 pub record IsEntryOf (id : ℕ) (e : QueueEntry) (s : State) : Type 0 where

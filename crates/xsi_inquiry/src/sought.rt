@@ -2,7 +2,7 @@
 
 ghost use Rattle.std.specs.Prelude.{◌≡◌, ◌<◌, OnErr, OnOk};
 ghost use Rattle.queue_model.specs.State.{State};
-ghost use Rattle.xsi_inquiry.specs.Seeking.{Tells, begun, reads_left, refusal, sought_next};
+ghost use Rattle.xsi_inquiry.specs.Seeking.{IsRefused, Tells, begun, reads_left, refusal, sought_next};
 ghost use Rattle.xsi_inquiry.specs.Telling.{AsksGiven, AsksRecord, Gives, IsFiled, IsTold, IsToldGiven};
 
 use crate::expected::queue_in;
@@ -75,6 +75,7 @@ impl Sought {
         ensures told { (s : State) → IsFiled s → Tells id self.old s →
             IsToldGiven s (sought_next id self.old) given →
             Gives result (λ _. Tells id self.new s) }
+        ensures refused { OnOk result (IsRefused self.new) }
         ensures fewer { OnOk result (reads_left self.new < reads_left self.old) }
         ensures err { OnErr result (self.new ≡ self.old) }
     {
