@@ -13,6 +13,5 @@ pub mod Read
 pub mod Spelled
 pub mod OneQueue
 pub mod OneQueueChanged
-pub mod OneQueueChanged
 pub mod Sends
 pub mod Fitting
