@@ -1,8 +1,8 @@
 -- The plan of a Send leads to the records of the system with the message, in order.
-use Rattle.std.proofs.Common.{◌≡◌, ℕ, ℤ, Bool, true, false, cond, List, [], ◌∷◌, Option, Some, None, refl, sym, ap, ◌∙◌, subst}
+use Rattle.std.proofs.Common.{◌≡◌, ℕ, ℤ, true, false, cond, List, [], ◌∷◌, Option, Some, None, refl, sym, ap, ◌∙◌, subst}
 use Rattle.std.specs.Prelude.{◌==◌, nat_eq, option_map}
 use Rattle.std.specs.Option.{option_eq}
-use Rattle.std.specs.List.{All, Contains, filter}
+use Rattle.std.specs.List.{filter}
 use Rattle.std.proofs.lemmas.Bool.Decides.{Decides-int_eq}
 use Rattle.std.proofs.lemmas.List.Elements.{All-contains, filter_passes}
 use Rattle.queue_model.specs.declared.call.SendArguments.{SendArguments}
@@ -33,7 +33,7 @@ use Rattle.xsi_send.specs.declared.type_place.TypePlace.{TypePlace}
 use Rattle.xsi_send.specs.declared.type_place.TypePlace.TheVariants.{Standing, Between}
 use Rattle.xsi_send.specs.Knowing.{IsOpen}
 use Rattle.xsi_send.specs.Places.{IsPlaceOf}
-use Rattle.xsi_send.specs.Planning.{behind_end, higher_write, links_behind, lower_write, new_type, plan_at, queue_write, type_write}
+use Rattle.xsi_send.specs.Planning.{behind_end, higher_write, links_behind, lower_write, new_type, plan_at, type_write}
 use Rattle.xsi_send.proofs.Beside.{in_last, last-map, some_last}
 use Rattle.xsi_send.proofs.SentBetween.{right_between}
 use Rattle.xsi_send.proofs.SentParts.{IsRightPlan, queue_is}

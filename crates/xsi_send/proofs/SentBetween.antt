@@ -1,14 +1,12 @@
 -- The plan of a Send of a type that does not stand on the queue.
-use Rattle.std.proofs.Common.{◌≡◌, ℕ, ◌<◌, ℤ, ◌<ℤ◌, Bool, true, false, cond, List, [], ◌∷◌, ◌++◌, Option, Some, None, ◌⊎◌, inl, inr, refl, sym, ap, ◌∙◌, subst, arith}
-use Rattle.std.specs.Prelude.{◌==◌, option_map, option_and_then}
-use Rattle.std.specs.List.{All, Contains, filter, find}
+use Rattle.std.proofs.Common.{◌≡◌, ℕ, ◌<◌, ℤ, ◌<ℤ◌, Bool, true, false, List, [], ◌∷◌, ◌++◌, Option, Some, None, ◌⊎◌, inl, inr, refl, sym, ap, ◌∙◌, subst, arith}
+use Rattle.std.specs.Prelude.{option_map, option_and_then}
+use Rattle.std.specs.List.{All, Contains, find}
 use Rattle.std.proofs.lemmas.Bool.{eqb-true}
-use Rattle.std.proofs.lemmas.Bool.Decides.{Decides-eqb, Decides-int_eq}
+use Rattle.std.proofs.lemmas.Bool.Decides.{Decides-int_eq}
 use Rattle.std.proofs.lemmas.Int.{ints}
-use Rattle.std.proofs.lemmas.Option.{same_Some}
 use Rattle.std.proofs.lemmas.List.Elements.{All-cons, All-contains, All-nil, Contains-append_cases, Contains-append_left, Contains-append_right}
 use Rattle.bucket_page.specs.declared.record_key.RecordKey.{RecordKey}
-use Rattle.bucket_page.specs.Keys.{is_same}
 use Rattle.page_locks.specs.declared.lock.LockName.TheVariants as names
 use Rattle.queue_model.specs.declared.call.SendArguments.{SendArguments}
 use Rattle.queue_model.specs.declared.caller.Caller.{Caller}
@@ -16,14 +14,14 @@ use Rattle.queue_model.specs.declared.message.Message.{Message}
 use Rattle.queue_model.specs.declared.queue.Queue.{Queue}
 use Rattle.queue_model.specs.Rules.{with_message, with_queue}
 use Rattle.queue_model.specs.State.{State}
-use Rattle.queue_records.specs.declared.layout.TheConstants.{TYPE, MESSAGE}
+use Rattle.queue_records.specs.declared.layout.TheConstants.{TYPE}
 use Rattle.queue_records.specs.declared.links.Link.TheVariants.{Stays, LeadsTo}
 use Rattle.queue_records.specs.declared.queue_entry.QueueEntry.{QueueEntry}
 use Rattle.queue_records.specs.declared.record.Record.{Record}
 use Rattle.queue_records.specs.declared.record.Record.TheVariants as records
 use Rattle.queue_records.specs.declared.type_entry.TypeEntry.{TypeEntry}
 use Rattle.queue_records.specs.Fields.{type_number}
-use Rattle.queue_records.specs.Keys.{guard_of, key_of_message, key_of_type}
+use Rattle.queue_records.specs.Keys.{guard_of}
 use Rattle.queue_records.specs.Spelling.{key_of}
 use Rattle.type_chains.specs.Entries.{queue_entry, type_entry}
 use Rattle.type_chains.specs.Lists.{serials, serials_of_type, types, is_of_type}
@@ -34,20 +32,20 @@ use Rattle.type_chains.proofs.Members.{contains_tail}
 use Rattle.type_chains.proofs.OneQueueChanged.{agree_but}
 use Rattle.type_chains.proofs.Pairs.{all_of}
 use Rattle.xsi_inquiry.specs.declared.write.Write.{Write}
-use Rattle.xsi_inquiry.specs.declared.write.Write.TheVariants.{Replace, Relink}
-use Rattle.xsi_inquiry.specs.Owning.{IsBefore, IsOrdered, IsUnder, trial_rank}
+use Rattle.xsi_inquiry.specs.declared.write.Write.TheVariants.{Replace}
+use Rattle.xsi_inquiry.specs.Owning.{IsBefore, IsOrdered, trial_rank}
 use Rattle.xsi_inquiry.specs.Telling.{IsFiled}
-use Rattle.xsi_inquiry.specs.Writing.{Leads, Plan, key_written, somes}
+use Rattle.xsi_inquiry.specs.Writing.{Plan, key_written, somes}
 use Rattle.xsi_inquiry.proofs.LeadLemmas.{IsNew, Fills, Misses, MissesRecord, leads_by}
 use Rattle.xsi_inquiry.proofs.SlotLemmas.{InSlot, somes_all, somes_ascend, somes_each}
 use Rattle.xsi_send.specs.Knowing.{IsOpen}
 use Rattle.xsi_send.specs.Places.{IsBetween}
-use Rattle.xsi_send.specs.Planning.{behind_end, higher_write, links_behind, lower_write, new_type, type_write}
+use Rattle.xsi_send.specs.Planning.{behind_end, higher_write, lower_write, new_type}
 use Rattle.xsi_send.proofs.Beside.{contains_at, in_first, in_last}
 use Rattle.xsi_send.proofs.Sorted.{less_apart}
-use Rattle.xsi_send.proofs.SentParts.{IsRightPlan, each_of, empty_filter, find_nothing, find_over, four, lawful_q, lawful_t, less_than_last, linked_fills, message_hit, message_new, messages_same, mine, misses_key, new_in_range, new_stands, no_message, number_less, of_type_stands, queue_fills, queue_missed, slot_all, type_fills, type_hit, types_of_q, types_same}
-use Rattle.xsi_send.proofs.Told.{has_first, last_with, of_filter, same_number, serial_tells, type_stands, typed}
-use Rattle.xsi_send.proofs.TypeLinks.{entry_above, entry_below, entry_higher, entry_lower, entry_new, other_entry, same_types, standing_entry, types_after}
+use Rattle.xsi_send.proofs.SentParts.{IsRightPlan, each_of, empty_filter, find_nothing, find_over, four, lawful_t, linked_fills, message_hit, message_new, messages_same, mine, misses_key, new_in_range, new_stands, no_message, number_less, of_type_stands, queue_fills, queue_missed, slot_all, type_fills, type_hit, types_of_q, types_same}
+use Rattle.xsi_send.proofs.Told.{same_number, type_stands, typed}
+use Rattle.xsi_send.proofs.TypeLinks.{entry_above, entry_below, entry_higher, entry_lower, entry_new, types_after}
 
 module _ (c : Caller) (a : SendArguments) (e : QueueEntry) (s : State) (filed : IsFiled s) (known : IsOpen c a e s)
   where
@@ -260,8 +258,11 @@ module _ (c : Caller) (a : SendArguments) (e : QueueEntry) (s : State) (filed : 
           let links_less : 1 < 2 = omega arith in
           let before = IsBefore queue_record in
           record {
-            trials = (All-cons (λ (x : Record). trial_rank (key_of message_trial) < trial_rank (key_of x))
-                (records.Type entry) [] first_less (All-nil _), (All-nil _, tt));
+            trials = (
+              All-cons (λ (x : Record). trial_rank (key_of message_trial) < trial_rank (key_of x))
+                  (records.Type entry) [] first_less (All-nil _),
+              (All-nil _, tt),
+            );
             writes = somes_ascend slots (
               All-cons (InSlot before) links (lowers ∷ highers ∷ []) (slot_all before end_write ends (λ n is. inl first_less))
                   (All-cons (InSlot before) lowers (highers ∷ [])

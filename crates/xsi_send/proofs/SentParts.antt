@@ -1,12 +1,12 @@
 -- The records that a Send writes to its queue, and those that it leaves.
-use Rattle.std.proofs.Common.{◌≡◌, ℕ, ◌+◌, ◌<◌, ℤ, pos, negsuc, ◌≤ℤ◌, ◌<ℤ◌, Bool, true, false, cond, List, [], ◌∷◌, ◌++◌, length, map, Option, Some, None, ◌⊎◌, inl, inr, refl, sym, ap, ◌∙◌, subst, arith}
-use Rattle.std.specs.Prelude.{◌==◌, ◌≢◌, option_map, option_and_then}
+use Rattle.std.proofs.Common.{◌≡◌, ℕ, ◌<◌, ℤ, pos, negsuc, ◌≤ℤ◌, ◌<ℤ◌, Bool, true, false, cond, List, [], ◌∷◌, ◌++◌, length, Option, Some, None, inl, inr, refl, sym, ap, ◌∙◌, subst, arith}
+use Rattle.std.specs.Prelude.{◌==◌, option_map, option_and_then}
 use Rattle.std.specs.List.{All, AllPairs, Contains, filter, find}
 use Rattle.std.proofs.lemmas.Bool.{eqb-true}
-use Rattle.std.proofs.lemmas.Bool.Decides.{Decides-eqb, Decides-int_eq, nat_tests}
+use Rattle.std.proofs.lemmas.Bool.Decides.{Decides-eqb, nat_tests}
 use Rattle.std.proofs.lemmas.Int.{ints}
 use Rattle.std.proofs.lemmas.List.{append-nil}
-use Rattle.std.proofs.lemmas.List.Elements.{All-append, All-cons, All-contains, All-head, All-nil, All-tail, All-weaker, Contains-append_cases, Contains-append_left, Contains-append_right}
+use Rattle.std.proofs.lemmas.List.Elements.{All-cons, All-contains, All-head, All-nil, All-tail, All-weaker, Contains-append_cases, Contains-append_left}
 use Rattle.bucket_page.specs.declared.record_key.RecordKey.{RecordKey}
 use Rattle.bucket_page.specs.Keys.{is_same}
 use Rattle.queue_model.specs.declared.answer.Answer.TheVariants.{Sent}
@@ -31,37 +31,35 @@ use Rattle.queue_records.specs.Fields.{type_number}
 use Rattle.queue_records.specs.Range.{IsInRange, IsType}
 use Rattle.queue_records.specs.Spelling.{key_of}
 use Rattle.type_chains.specs.Entries.{queue_entry, type_entry, message_entry}
-use Rattle.type_chains.specs.Lists.{serials, serials_of_type, types, is_of_type}
-use Rattle.type_chains.specs.Neighbours.{first_of, last_of}
+use Rattle.type_chains.specs.Lists.{types, is_of_type}
+use Rattle.type_chains.specs.Neighbours.{last_of}
 use Rattle.type_chains.specs.RecordOf.{has_number, has_serial, type_record, message_record, record_of}
 use Rattle.type_chains.specs.Sending.{message_of, with_one_more, last_message}
 use Rattle.type_chains.proofs.Limits.{all_types, in_range, lawful_queue}
 use Rattle.type_chains.proofs.Members.{contains_tail, head_or_tail}
-use Rattle.type_chains.proofs.Pairs.{all_of}
 use Rattle.type_chains.proofs.Sends.{made_of_the_queue}
-use Rattle.type_chains.proofs.Tests.{mapped}
 use Rattle.type_chains.proofs.TypesStand.{are_types_of}
 use Rattle.xsi_inquiry.specs.declared.write.Write.{Write}
 use Rattle.xsi_inquiry.specs.declared.write.Write.TheVariants.{Replace, Relink}
 use Rattle.xsi_inquiry.specs.Telling.{IsFiled}
-use Rattle.xsi_inquiry.specs.Writing.{AreAbsent, Leads, Plan, somes, value_length, writes_of}
+use Rattle.xsi_inquiry.specs.Writing.{Leads, Plan, value_length}
 use Rattle.page_locks.specs.declared.lock.LockName.TheVariants as names
 use Rattle.queue_records.specs.declared.links.Links.TheVariants as links
 use Rattle.queue_records.specs.declared.links.TypeLinks.{TypeLinks}
-use Rattle.queue_records.specs.Keys.{guard_of, key_of_message, key_of_type}
+use Rattle.queue_records.specs.Keys.{key_of_message, key_of_type}
 use Rattle.queue_records.specs.Relinking.{relinked, with_type_links}
 use Rattle.queue_records.proofs.Lengths.{length-queue}
-use Rattle.xsi_inquiry.specs.Owning.{Ascend, IsBefore, IsOrdered, IsUnder}
-use Rattle.xsi_inquiry.proofs.SlotLemmas.{InSlot, SlotsAscend, somes_all, somes_ascend, somes_each}
+use Rattle.xsi_inquiry.specs.Owning.{IsOrdered, IsUnder}
+use Rattle.xsi_inquiry.proofs.SlotLemmas.{InSlot}
 use Rattle.xsi_send.specs.Knowing.{IsOpen}
 use Rattle.xsi_send.specs.Planning.{links_behind, queue_write, takes_more}
-use Rattle.xsi_send.proofs.Beside.{contains_at, in_first, in_last, split_last}
-use Rattle.xsi_send.proofs.Sorted.{less_apart, pairs_front}
+use Rattle.xsi_send.proofs.Beside.{contains_at, split_last}
+use Rattle.xsi_send.proofs.Sorted.{pairs_front}
 use Rattle.xsi_send.proofs.Walked.{more_taken}
 use Rattle.xsi_send.proofs.Links.{is_linked}
-use Rattle.type_chains.proofs.OneQueueChanged.{agree_but, found_new}
-use Rattle.xsi_inquiry.proofs.LeadLemmas.{IsNew, Fills, Misses, MissesRecord, leads_by}
-use Rattle.xsi_send.proofs.Told.{has_first, message_stands, of_filter, queue_stands, same_number, stands, type_stands, typed}
+use Rattle.type_chains.proofs.OneQueueChanged.{found_new}
+use Rattle.xsi_inquiry.proofs.LeadLemmas.{IsNew, Fills}
+use Rattle.xsi_send.proofs.Told.{message_stands, queue_stands, stands, type_stands, typed}
 
 -- ---- what is replaced where there is something
 

@@ -1,14 +1,12 @@
 -- The plan of a Send of a type that stands on the queue.
-use Rattle.std.proofs.Common.{◌≡◌, ℕ, ◌<◌, ℤ, ◌<ℤ◌, Bool, true, false, cond, List, [], ◌∷◌, ◌++◌, Option, Some, None, ◌⊎◌, inl, inr, refl, sym, ap, ◌∙◌, subst, arith}
-use Rattle.std.specs.Prelude.{◌==◌, option_map, option_and_then}
-use Rattle.std.specs.List.{All, Contains, filter, find}
+use Rattle.std.proofs.Common.{◌≡◌, ◌<◌, Bool, true, false, cond, List, [], ◌∷◌, Option, Some, None, inl, inr, refl, sym, ap, ◌∙◌, subst, arith}
+use Rattle.std.specs.Prelude.{◌==◌}
+use Rattle.std.specs.List.{All, Contains, filter}
 use Rattle.std.proofs.lemmas.Bool.{eqb-true}
-use Rattle.std.proofs.lemmas.Bool.Decides.{Decides-eqb, Decides-int_eq}
-use Rattle.std.proofs.lemmas.Int.{ints}
+use Rattle.std.proofs.lemmas.Bool.Decides.{Decides-eqb}
 use Rattle.std.proofs.lemmas.Option.{same_Some}
-use Rattle.std.proofs.lemmas.List.Elements.{All-cons, All-contains, All-nil, Contains-append_cases, Contains-append_left, Contains-append_right}
+use Rattle.std.proofs.lemmas.List.Elements.{All-cons, All-contains, All-nil}
 use Rattle.bucket_page.specs.declared.record_key.RecordKey.{RecordKey}
-use Rattle.bucket_page.specs.Keys.{is_same}
 use Rattle.page_locks.specs.declared.lock.LockName.TheVariants as names
 use Rattle.queue_model.specs.declared.call.SendArguments.{SendArguments}
 use Rattle.queue_model.specs.declared.caller.Caller.{Caller}
@@ -16,38 +14,33 @@ use Rattle.queue_model.specs.declared.message.Message.{Message}
 use Rattle.queue_model.specs.declared.queue.Queue.{Queue}
 use Rattle.queue_model.specs.Rules.{with_message, with_queue}
 use Rattle.queue_model.specs.State.{State}
-use Rattle.queue_records.specs.declared.layout.TheConstants.{TYPE, MESSAGE}
-use Rattle.queue_records.specs.declared.links.Link.TheVariants.{Stays, LeadsTo}
+use Rattle.queue_records.specs.declared.layout.TheConstants.{MESSAGE}
+use Rattle.queue_records.specs.declared.links.Link.TheVariants.{Stays}
 use Rattle.queue_records.specs.declared.queue_entry.QueueEntry.{QueueEntry}
 use Rattle.queue_records.specs.declared.record.Record.{Record}
 use Rattle.queue_records.specs.declared.record.Record.TheVariants as records
-use Rattle.queue_records.specs.declared.type_entry.TypeEntry.{TypeEntry}
 use Rattle.queue_records.specs.Fields.{type_number}
-use Rattle.queue_records.specs.Keys.{guard_of, key_of_message, key_of_type}
+use Rattle.queue_records.specs.Keys.{guard_of, key_of_message}
 use Rattle.queue_records.specs.Spelling.{key_of}
-use Rattle.type_chains.specs.Entries.{queue_entry, type_entry}
-use Rattle.type_chains.specs.Lists.{serials, serials_of_type, types, is_of_type}
-use Rattle.type_chains.specs.Neighbours.{first_of, last_of}
-use Rattle.type_chains.specs.RecordOf.{has_number, record_of, type_record}
+use Rattle.type_chains.specs.Entries.{queue_entry}
+use Rattle.type_chains.specs.Lists.{types, is_of_type}
+use Rattle.type_chains.specs.Neighbours.{last_of}
+use Rattle.type_chains.specs.RecordOf.{record_of}
 use Rattle.type_chains.specs.Sending.{with_one_more, last_message}
-use Rattle.type_chains.proofs.Members.{contains_tail}
 use Rattle.type_chains.proofs.OneQueueChanged.{agree_but}
-use Rattle.type_chains.proofs.Pairs.{all_of}
 use Rattle.xsi_inquiry.specs.declared.write.Write.{Write}
 use Rattle.xsi_inquiry.specs.declared.write.Write.TheVariants.{Replace, Relink}
-use Rattle.xsi_inquiry.specs.Owning.{IsBefore, IsOrdered, IsUnder}
+use Rattle.xsi_inquiry.specs.Owning.{IsBefore, IsOrdered}
 use Rattle.xsi_inquiry.specs.Telling.{IsFiled}
-use Rattle.xsi_inquiry.specs.Writing.{Leads, Plan, key_written, somes}
+use Rattle.xsi_inquiry.specs.Writing.{Plan, key_written, somes}
 use Rattle.xsi_inquiry.proofs.LeadLemmas.{IsNew, Fills, Misses, MissesRecord, leads_by}
 use Rattle.xsi_inquiry.proofs.SlotLemmas.{InSlot, somes_all, somes_ascend, somes_each}
 use Rattle.xsi_send.specs.Knowing.{IsOpen}
-use Rattle.xsi_send.specs.Places.{IsBetween}
-use Rattle.xsi_send.specs.Planning.{behind_end, higher_write, links_behind, lower_write, new_type, type_write}
-use Rattle.xsi_send.proofs.Beside.{contains_at, in_first, in_last}
-use Rattle.xsi_send.proofs.Sorted.{less_apart}
-use Rattle.xsi_send.proofs.SentParts.{IsRightPlan, each_of, empty_filter, find_nothing, find_over, four, lawful_q, lawful_t, less_than_last, linked_fills, message_hit, message_new, messages_same, mine, misses_key, new_in_range, new_stands, no_message, number_less, of_type_stands, queue_fills, queue_missed, slot_all, type_fills, type_hit, types_of_q, types_same}
-use Rattle.xsi_send.proofs.Told.{has_first, last_with, of_filter, same_number, serial_tells, type_stands, typed}
-use Rattle.xsi_send.proofs.TypeLinks.{entry_above, entry_below, entry_higher, entry_lower, entry_new, other_entry, same_types, standing_entry, types_after}
+use Rattle.xsi_send.specs.Planning.{behind_end, links_behind, type_write}
+use Rattle.xsi_send.proofs.Beside.{contains_at, in_last}
+use Rattle.xsi_send.proofs.SentParts.{IsRightPlan, each_of, four, lawful_q, less_than_last, linked_fills, message_hit, message_new, messages_same, mine, new_in_range, no_message, queue_fills, queue_missed, type_fills, type_hit, types_same}
+use Rattle.xsi_send.proofs.Told.{has_first, of_filter, serial_tells}
+use Rattle.xsi_send.proofs.TypeLinks.{other_entry, same_types, standing_entry}
 
 module _ (c : Caller) (a : SendArguments) (e : QueueEntry) (s : State) (filed : IsFiled s) (known : IsOpen c a e s)
   where
@@ -181,8 +174,11 @@ module _ (c : Caller) (a : SendArguments) (e : QueueEntry) (s : State) (filed : 
               (
                 first_is (λ (w : Write). All (InSlot (IsBefore w)) (end ∷ its ∷ [])) b
                     (λ at no. All-cons (InSlot (IsBefore typed_end)) end (its ∷ [])
-                    (inr (refl, less_than_last c a e s filed known x y y_there last
-                    (λ same. apart (at ∙ no) (sym (serial_tells (lawful_q c a e s filed known) y x y_there x_there same)))))
+                    (inr (
+                      refl,
+                      less_than_last c a e s filed known x y y_there last
+                          (λ same. apart (at ∙ no) (sym (serial_tells (lawful_q c a e s filed known) y x y_there x_there same))),
+                    ))
                     (All-cons (InSlot (IsBefore typed_end)) its [] (inl links_less) (All-nil _))) is,
                 (All-cons (InSlot (IsBefore (queue_end b))) its [] (inl links_less) (All-nil _), (All-nil _, tt)),
               ),

@@ -1,27 +1,22 @@
 -- What the records at the keys that a Send asks for tell of its queue.
-use Rattle.std.proofs.Common.{of_z, to_z, ◌≡◌, ℕ, suc, ◌-◌, ◌≤◌, ◌<◌, ℤ, pos, negsuc, ◌≤ℤ◌, ◌<ℤ◌, Bool, true, false, List, [], ◌∷◌, ◌++◌, length, map, Option, Some, None, refl, sym, ap, ◌∙◌, subst, arith}
-use Rattle.std.specs.Prelude.{◌≢◌, ◌+◌, ◌^◌, int_lt, nat_lt, slice_index, nat_eq, not, ◌==◌, option_map, option_and_then, FitsSigned, Result, Ok}
+use Rattle.std.proofs.Common.{of_z, to_z, ◌≡◌, ℕ, ◌-◌, ◌≤◌, ℤ, pos, negsuc, ◌≤ℤ◌, Bool, List, ◌++◌, length, Option, Some, None, refl, sym, ap, ◌∙◌, subst, arith}
+use Rattle.std.specs.Prelude.{◌≢◌, int_lt, slice_index, option_and_then, FitsSigned, Result, Ok}
 use Rattle.std.specs.Int.{w64}
-use Rattle.std.specs.Option.{option_eq}
-use Rattle.std.specs.List.{All, AllPairs, Contains, filter, find}
+use Rattle.std.specs.List.{All, Contains, filter, find}
 use Rattle.std.proofs.lemmas.Bool.{eqb-true}
 use Rattle.std.proofs.lemmas.Bool.Decides.{Decides-eqb}
 use Rattle.std.proofs.lemmas.Int.{ints, to_z-of_z}
-use Rattle.std.proofs.lemmas.List.{append-nil, append_assoc}
 use Rattle.std.proofs.lemmas.Option.{same_Some, slice_get-get_or}
-use Rattle.std.proofs.lemmas.List.Elements.{Contains-append_left, Contains-append_right, All-nil, All-cons, All-push, All-contains, All-contains_itself, All-filter, All-weaker}
+use Rattle.std.proofs.lemmas.List.Elements.{Contains-append_left, Contains-append_right, All-contains, All-contains_itself, All-filter}
 use Rattle.queue_model.specs.declared.call.SendArguments.{SendArguments}
 use Rattle.queue_model.specs.declared.caller.Caller.{Caller}
-use Rattle.queue_model.specs.declared.limits.TheConstants.{END_OF_SERIALS}
 use Rattle.queue_model.specs.declared.message.Message.{Message}
 use Rattle.queue_model.specs.declared.queue.Queue.{Queue}
 use Rattle.queue_model.specs.Lawful.{IsLawful, IsLawfulQueue, IsLawfulMessage}
 use Rattle.queue_model.specs.Rules.{has_id}
-use Rattle.queue_model.specs.Selection.{total_bytes}
 use Rattle.queue_model.specs.State.{State}
 use Rattle.queue_model.proofs.ListLemmas.{find-Some}
 use Rattle.queue_records.specs.declared.limits.TheConstants.{MAX_BODY}
-use Rattle.queue_records.specs.declared.message_entry.MessageEntry.{MessageEntry}
 use Rattle.queue_records.specs.declared.queue_entry.QueueEntry.{QueueEntry}
 use Rattle.queue_records.specs.declared.record.Record.{Record}
 use Rattle.queue_records.specs.declared.record.Record.TheVariants as records
@@ -29,26 +24,22 @@ use Rattle.queue_records.specs.declared.type_entry.TypeEntry.{TypeEntry}
 use Rattle.queue_records.specs.Fields.{type_number}
 use Rattle.queue_records.specs.Range.{IsType}
 use Rattle.queue_records.specs.Spelling.{key_of}
-use Rattle.type_chains.specs.Entries.{queue_entry, type_entry, message_entry, is_same_type}
-use Rattle.type_chains.specs.Fits.{HasFittingMessage, HasFittingQueue}
+use Rattle.type_chains.specs.Entries.{queue_entry, type_entry, message_entry}
 use Rattle.type_chains.specs.Image.{queue_records, key_records, type_records, message_records}
 use Rattle.type_chains.specs.Lists.{serials, serials_of_type, types, is_of_type}
-use Rattle.type_chains.specs.Neighbours.{first_of, last_of, behind}
-use Rattle.type_chains.specs.RecordOf.{has_number, has_serial, type_record, message_record, record_of}
-use Rattle.type_chains.proofs.Elements.{All-types}
+use Rattle.type_chains.specs.Neighbours.{last_of}
+use Rattle.type_chains.specs.RecordOf.{has_number, has_serial, type_record, record_of}
 use Rattle.type_chains.proofs.Images.{queue_has}
 use Rattle.type_chains.proofs.Limits.{all_types, lawful_queue, types_stand}
 use Rattle.type_chains.proofs.Members.{contains_head, contains_tail, in_map}
 use Rattle.type_chains.proofs.Pairs.{all_of}
 use Rattle.type_chains.proofs.Tests.{mapped}
-use Rattle.type_chains.proofs.Unique.{find_one, types_ascend}
+use Rattle.type_chains.proofs.Unique.{find_one}
 use Rattle.xsi_inquiry.specs.Telling.{IsFiled, IsTold}
 use Rattle.xsi_inquiry.specs.declared.wanted.Wanted.TheVariants.{At}
 use Rattle.queue_records.specs.Keys.{key_of_message, key_of_type}
 use Rattle.xsi_send.specs.Knowing.{IsOpen}
-use Rattle.xsi_send.proofs.Beside.{contains_at, in_first, in_last, last-map, last_push}
-use Rattle.xsi_send.proofs.Sorted.{pairs_back}
-use Rattle.xsi_send.proofs.TypeLinks.{higher_is}
+use Rattle.xsi_send.proofs.Beside.{in_last, last-map}
 
 -- types from 1 on with one number are one
 pub same_number : (t u : ℤ) → pos 1 ≤ℤ t → pos 1 ≤ℤ u → type_number t ≡ type_number u → t ≡ u

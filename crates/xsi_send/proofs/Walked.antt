@@ -1,47 +1,31 @@
 -- What a Send knows on its way up the types, and that its numbers stay numbers.
-use Rattle.std.proofs.Common.{of_z, to_z, ◌≡◌, ℕ, suc, ◌-◌, ◌≤◌, ◌<◌, ℤ, pos, negsuc, ◌≤ℤ◌, ◌<ℤ◌, Bool, true, false, List, [], ◌∷◌, ◌++◌, length, map, Option, Some, None, refl, sym, ap, ◌∙◌, subst, arith}
-use Rattle.std.specs.Prelude.{◌≢◌, ◌+◌, ◌^◌, int_lt, nat_le, nat_lt, slice_index, nat_eq, not, ◌==◌, option_map, option_and_then, FitsSigned}
+use Rattle.std.proofs.Common.{◌≡◌, ℕ, ◌≤◌, ◌<◌, ℤ, pos, ◌≤ℤ◌, ◌<ℤ◌, true, false, [], ◌∷◌, ◌++◌, length, Option, Some, None, refl, sym, ap, ◌∙◌, subst, arith}
+use Rattle.std.specs.Prelude.{◌≢◌, ◌+◌, ◌^◌, nat_le, nat_lt, FitsSigned}
 use Rattle.std.specs.Int.{w64}
-use Rattle.std.specs.Option.{option_eq}
-use Rattle.std.specs.List.{All, AllPairs, Contains, filter, find}
-use Rattle.std.proofs.lemmas.Bool.{eqb-true}
-use Rattle.std.proofs.lemmas.Bool.Decides.{Decides-eqb}
-use Rattle.std.proofs.lemmas.Int.{ints, to_z-of_z}
+use Rattle.std.specs.List.{AllPairs, Contains}
+use Rattle.std.proofs.lemmas.Int.{ints}
 use Rattle.std.proofs.lemmas.List.{append-nil, append_assoc, length-append}
-use Rattle.std.proofs.lemmas.Option.{same_Some, slice_get-get_or}
-use Rattle.std.proofs.lemmas.List.Elements.{Contains-append_left, Contains-append_right, All-nil, All-cons, All-push, All-contains, All-contains_itself, All-filter, All-weaker}
+use Rattle.std.proofs.lemmas.List.Elements.{Contains-append_right, All-nil, All-cons, All-push, All-contains, All-weaker}
 use Rattle.queue_model.specs.declared.call.SendArguments.{SendArguments}
 use Rattle.queue_model.specs.declared.caller.Caller.{Caller}
 use Rattle.queue_model.specs.declared.limits.TheConstants.{END_OF_SERIALS, MAX_MESSAGES}
 use Rattle.queue_model.specs.declared.message.Message.{Message}
 use Rattle.queue_model.specs.declared.queue.Queue.{Queue}
-use Rattle.queue_model.specs.Lawful.{IsLawful, IsLawfulQueue, IsLawfulMessage}
-use Rattle.queue_model.specs.Rules.{has_id}
 use Rattle.queue_model.specs.Selection.{total_bytes}
 use Rattle.queue_model.specs.State.{State}
-use Rattle.queue_model.proofs.ListLemmas.{find-Some}
-use Rattle.queue_records.specs.declared.limits.TheConstants.{MAX_BODY}
-use Rattle.queue_records.specs.declared.message_entry.MessageEntry.{MessageEntry}
 use Rattle.queue_records.specs.declared.queue_entry.QueueEntry.{QueueEntry}
 use Rattle.queue_records.specs.declared.record.Record.{Record}
 use Rattle.queue_records.specs.declared.record.Record.TheVariants as records
-use Rattle.queue_records.specs.declared.type_entry.TypeEntry.{TypeEntry}
-use Rattle.queue_records.specs.Fields.{type_number}
 use Rattle.queue_records.specs.Range.{IsType}
-use Rattle.queue_records.specs.Spelling.{key_of}
-use Rattle.type_chains.specs.Entries.{queue_entry, type_entry, message_entry, is_same_type}
+use Rattle.type_chains.specs.Entries.{type_entry, is_same_type}
 use Rattle.type_chains.specs.Fits.{HasFittingMessage, HasFittingQueue}
-use Rattle.type_chains.specs.Image.{queue_records, key_records, type_records, message_records}
-use Rattle.type_chains.specs.Lists.{serials, serials_of_type, types, is_of_type}
-use Rattle.type_chains.specs.Neighbours.{first_of, last_of, behind}
-use Rattle.type_chains.specs.RecordOf.{has_number, has_serial, type_record, message_record, record_of}
+use Rattle.type_chains.specs.Lists.{types}
+use Rattle.type_chains.specs.Neighbours.{first_of, behind}
+use Rattle.type_chains.specs.RecordOf.{record_of}
 use Rattle.type_chains.proofs.Elements.{All-types}
-use Rattle.type_chains.proofs.Images.{queue_has}
-use Rattle.type_chains.proofs.Limits.{all_types, lawful_queue, types_stand}
-use Rattle.type_chains.proofs.Members.{contains_head, contains_tail, in_map}
-use Rattle.type_chains.proofs.Pairs.{all_of}
-use Rattle.type_chains.proofs.Tests.{mapped}
-use Rattle.type_chains.proofs.Unique.{find_one, types_ascend}
+use Rattle.type_chains.proofs.Limits.{all_types, lawful_queue}
+use Rattle.type_chains.proofs.Members.{contains_tail}
+use Rattle.type_chains.proofs.Unique.{types_ascend}
 use Rattle.xsi_inquiry.specs.Telling.{IsFiled, IsTold}
 use Rattle.xsi_inquiry.specs.declared.wanted.Wanted.TheVariants.{At}
 use Rattle.queue_records.specs.Keys.{key_of_type}
@@ -49,7 +33,7 @@ use Rattle.xsi_send.specs.Knowing.{IsOpen}
 use Rattle.xsi_send.specs.declared.stage.Walk.{Walk}
 use Rattle.xsi_send.specs.Planning.{takes_more}
 use Rattle.xsi_send.specs.Places.{IsBetween, IsWalked}
-use Rattle.xsi_send.proofs.Beside.{contains_at, no_first, split_first, in_first, in_last, last-map, last_push}
+use Rattle.xsi_send.proofs.Beside.{contains_at, no_first, split_first, in_first, last_push}
 use Rattle.xsi_send.proofs.Sorted.{pairs_back}
 use Rattle.xsi_send.proofs.TypeLinks.{higher_is}
 use Rattle.xsi_send.proofs.Few.{few_types}

@@ -75,10 +75,7 @@ pub fn sent_write(
         )),
         (1, TypePlace::Between(..)) => {
             let end = queue.last?;
-            Some(Write::Relink(
-                message_key(id, end),
-                links_behind(serial, true, false),
-            ))
+            Some(Write::Relink(message_key(id, end), links_behind(serial, true, false)))
         }
         (2, TypePlace::Between(lower, _)) => {
             let lower = lower?;
@@ -193,13 +190,7 @@ fn last_message<'a>(pid: u32, arguments: &'a SendArguments, queue: &QueueEntry) 
 }
 
 /// The Type of a type of which this is the one message, between its neighbours.
-fn new_type(
-    id: u32,
-    mtype: i64,
-    serial: u64,
-    lower: Option<i64>,
-    higher: Option<i64>,
-) -> TypeEntry
+fn new_type(id: u32, mtype: i64, serial: u64, lower: Option<i64>, higher: Option<i64>) -> TypeEntry
     ensures { result ≡ new_type id mtype serial lower higher }
 {
     TypeEntry {

@@ -100,11 +100,7 @@ pub fn take_type(
 }
 
 /// The way from the lowest type up begins.
-fn walk(
-    caller: Caller,
-    arguments: &SendArguments,
-    queue: QueueEntry,
-) -> Result<Stage, NotASystem>
+fn walk(caller: Caller, arguments: &SendArguments, queue: QueueEntry) -> Result<Stage, NotASystem>
     ensures told { (s : State) → IsFiled s → KnowsAt caller arguments.now (AtType queue) s →
         record_of s (key_of_type arguments.now.id arguments.now.mtype) ≡ None →
         Gives result (λ stage. KnowsAt caller arguments.now stage s) }
@@ -144,16 +140,10 @@ pub fn take_neighbour(
         return Err(NotASystem);
     }
     if walk.next > arguments.mtype {
-        return Ok(Stage::Done(
-            walk.queue,
-            TypePlace::Between(walk.lower, Some(walk.next)),
-        ));
+        return Ok(Stage::Done(walk.queue, TypePlace::Between(walk.lower, Some(walk.next))));
     }
     let Some(next) = entry.higher else {
-        return Ok(Stage::Done(
-            walk.queue,
-            TypePlace::Between(Some(walk.next), None),
-        ));
+        return Ok(Stage::Done(walk.queue, TypePlace::Between(Some(walk.next), None)));
     };
     if next <= walk.next {
         return Err(NotASystem);
