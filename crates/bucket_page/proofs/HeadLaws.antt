@@ -3,11 +3,12 @@ use Rattle.std.proofs.Common.{◌≡◌, ℕ, ◌<◌, ◌^◌, true, List, ◌�
 use Rattle.std.proofs.lemmas.List.{take_at, length-append}
 use Rattle.bucket_page.specs.declared.layout.TheConstants.{BUCKET}
 use Rattle.bucket_page.specs.declared.head.Head.{Head}
-use Rattle.bucket_page.specs.Numbers.{two, four, zeros, four_at}
+use Rattle.fields.specs.Numbers.{two, four, zeros, four_at}
 use Rattle.bucket_page.specs.Spelling.{head_bytes}
-use Rattle.bucket_page.specs.Reading.{is_zero, count_at, used_at}
-use Rattle.bucket_page.proofs.Zeros.{zeros_again, length-zeros}
-use Rattle.bucket_page.proofs.Fields.{after_part, two_again, four_again, length-two, length-four}
+use Rattle.bucket_page.specs.Reading.{count_at, used_at}
+use Rattle.fields.specs.Numbers.{is_zero}
+use Rattle.fields.proofs.ZeroLaws.{zeros_again, length-zeros}
+use Rattle.fields.proofs.NumberLaws.{after_part, two_again, four_again, length-two, length-four}
 
 -- the fields one by one
 pub head_parts : (h : Head) (body : List ℕ) → head_bytes h ++ body

@@ -1,7 +1,5 @@
 pub mod ChangeLaws
 pub mod DivideLaws
-pub mod EntryLaws
-pub mod Fields
 pub mod HeadLaws
 pub mod JoinLaws
 pub mod KeyLaws
@@ -14,4 +12,3 @@ pub mod RecordLaws
 pub mod SpliceLaws
 pub mod StandingLaws
 pub mod Steps
-pub mod Zeros

@@ -3,21 +3,24 @@ use Rattle.std.proofs.Common.{◌≡◌, ℕ, ◌-◌, ◌^◌, ◌<◌, ◌≤�
 use Rattle.std.proofs.lemmas.Bool.{le-leb, lt-ltb}
 use Rattle.std.proofs.lemmas.List.{take_at, drop_at}
 use Rattle.std.proofs.Math.Nat.{pow-le-pow_right}
-use Rattle.bucket_page.specs.declared.layout.TheConstants.{GREATEST_DEPTH, ROOM_BYTES}
+use Rattle.bucket_page.specs.declared.layout.TheConstants.{LINK_BYTES, ROOM_BYTES}
+use Rattle.page_device.specs.declared.page.TheConstants.{PAYLOAD_BYTES}
+use Rattle.directory.specs.declared.layout.TheConstants.{GREATEST_DEPTH}
 use Rattle.bucket_page.specs.declared.page.Malformed.{Malformed}
 use Rattle.bucket_page.specs.declared.page.PageKind.{PageKind}
 use Rattle.bucket_page.specs.declared.page.PageKind.TheVariants as kinds
-use Rattle.bucket_page.specs.Numbers.{four, zeros, four_at}
+use Rattle.fields.specs.Numbers.{four, zeros, four_at}
 use Rattle.bucket_page.specs.Records.{record_bytes, pairs_of, fills, ascend}
 use Rattle.bucket_page.specs.Bucket.{Bucket}
-use Rattle.bucket_page.specs.Entries.{entry_bytes, entries_of}
-use Rattle.bucket_page.specs.Spelling.{head_of, bucket_bytes, directory_bytes, link_bytes, bytes_of, IsBucket, IsDirectory, IsPage, Spells}
-use Rattle.bucket_page.specs.Reading.{count_at, used_at, area, after_area, entries_area, after_entries, bucket_at, page_at, is_zero, bucket_fault, directory_fault, link_fault, fault_of, reading, answer}
-use Rattle.bucket_page.proofs.Zeros.{zeros_again, length-zeros}
-use Rattle.bucket_page.proofs.Fields.{after_part, four_again, length-four}
+use Rattle.bucket_page.specs.Spelling.{head_of, bucket_bytes, link_bytes, bytes_of, IsBucket, IsPage, Spells}
+use Rattle.bucket_page.specs.Reading.{count_at, used_at, area, after_area, bucket_at, page_at, bucket_fault, directory_fault, link_fault, fault_of, reading, answer}
+use Rattle.fields.specs.Numbers.{is_zero}
+use Rattle.fields.proofs.ZeroLaws.{zeros_again, length-zeros}
+use Rattle.fields.proofs.NumberLaws.{after_part, four_again, length-four}
 use Rattle.bucket_page.proofs.HeadLaws.{head_again}
 use Rattle.bucket_page.proofs.RecordLaws.{records_again, count_below}
-use Rattle.bucket_page.proofs.EntryLaws.{entries_again, length-entries}
+use Rattle.directory.specs.Pages.{IsDirectoryPage}
+use Rattle.directory.proofs.PageLaws.{directory_again, spelled_page}
 
 -- a pattern of a depth in range has four bytes: all that is used of the greatest depth
 pub pattern_small : (depth pattern : ℕ) → depth ≤ GREATEST_DEPTH → pattern < 2 ^ depth → pattern < 2 ^ 32
@@ -60,37 +63,23 @@ bucket_again b is =
       value = λ i. record { depth = b.depth; pattern = h.pattern i; next = h.next i; records = found i };
     }
 
-directory_again : (es : List ℕ) → IsDirectory es → (directory_fault (directory_bytes es) ≡ None)
-    × (entries_of (entries_area (directory_bytes es)) ≡ es)
-directory_again es is =
-    let bytes : List ℕ = directory_bytes es in
-    let tail : List ℕ = entry_bytes es ++ zeros 2000 in
-    let long : length (entry_bytes es) ≡ 2048 = omega (arith, length-entries es, is.number) in
-    let rest : drop 16 bytes ≡ tail = after_part 1 15 bytes (zeros 15) tail refl (length-zeros 15) in
-    let front : is_zero (take 15 (drop 1 bytes)) ≡ true =
-    rw (take_at (zeros 15) tail 15 (length-zeros 15)) (zeros_again 15) in
-    let inside : entries_area bytes ≡ entry_bytes es =
-    ap (take 2048) rest ∙ take_at (entry_bytes es) (zeros 2000) 2048 long in
-    let behind : after_entries bytes ≡ zeros 2000 = ap (drop 2048) rest
-    ∙ drop_at (entry_bytes es) (zeros 2000) 2048 long in
-    let back : is_zero (after_entries bytes) ≡ true = rw behind (zeros_again 2000) in
-    (rw (front, back) refl, ap entries_of inside ∙ entries_again es is.number is.entries)
-
 link_again : (kind page : ℕ) → page < 2 ^ 32 → (link_fault (link_bytes kind page) ≡ None)
     × (four_at 4 (link_bytes kind page) ≡ page)
 link_again kind page small =
     let bytes : List ℕ = link_bytes kind page in
-    let tail : List ℕ = four page ++ zeros 4056 in
+    let tail : List ℕ = four page ++ zeros (PAYLOAD_BYTES - LINK_BYTES) in
     let at4 : drop 4 bytes ≡ tail = after_part 1 3 bytes (zeros 3) tail refl (length-zeros 3) in
-    let at8 : drop 8 bytes ≡ zeros 4056 = after_part 4 4 bytes (four page) (zeros 4056) at4 (length-four page) in
+    let at8 : drop LINK_BYTES bytes ≡ zeros (PAYLOAD_BYTES - LINK_BYTES) = after_part 4 4 bytes (four page) (zeros (PAYLOAD_BYTES - LINK_BYTES)) at4 (length-four page) in
     let front : is_zero (take 3 (drop 1 bytes)) ≡ true =
     rw (take_at (zeros 3) tail 3 (length-zeros 3)) (zeros_again 3) in
-    let back : is_zero (drop 8 bytes) ≡ true = rw at8 (zeros_again 4056) in
-    (rw (front, back) refl, four_again 4 page bytes (zeros 4056) at4 small)
+    let back : is_zero (drop LINK_BYTES bytes) ≡ true = rw at8 (zeros_again (PAYLOAD_BYTES - LINK_BYTES)) in
+    (rw (front, back) refl, four_again 4 page bytes (zeros (PAYLOAD_BYTES - LINK_BYTES)) at4 small)
 
 page_again : (page : PageKind) → IsPage page → (fault_of (bytes_of page) ≡ None) × (page_at (bytes_of page) ≡ page)
 page_again (kinds.Bucket b) is = let it = bucket_again b is in (it.fault, ap kinds.Bucket it.value)
-page_again (kinds.Directory es) is = let it = directory_again es is in (it.0, ap kinds.Directory it.1)
+page_again (kinds.Directory es) is =
+    let it = directory_again es is in
+    (rw it.0 refl, ap kinds.Directory it.1)
 page_again (kinds.Tombstone link) is = let it = link_again 4 link is in (it.0, ap kinds.Tombstone it.1)
 page_again (kinds.Free next) is = let it = link_again 5 next is in (it.0, ap kinds.Free it.1)
 
@@ -106,3 +95,7 @@ spelled_once a b payload one other =
     let same : ◌≡◌ {A = Result PageKind Malformed} (Ok a) (Ok b) =
     sym (spelled_reads a payload one) ∙ spelled_reads b payload other in
     cc
+
+-- a payload that spells a directory page is one
+pub directory_page : (es payload : List ℕ) → Spells (kinds.Directory es) payload → IsDirectoryPage payload
+directory_page es payload it = spelled_page es payload (record { in_range = it.in_range; spelled = it.spelled })

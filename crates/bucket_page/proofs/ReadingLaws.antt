@@ -3,37 +3,29 @@ use Rattle.std.proofs.Common.{◌≡◌, ℕ, ◌+◌, ◌-◌, ◌≤◌, Bool,
 use Rattle.std.specs.Prelude.{IfOk}
 use Rattle.std.proofs.lemmas.Bool.{eqb-true, leb-true, ltb-true}
 use Rattle.std.proofs.lemmas.List.{take-append-drop, length-take, length-drop}
-use Rattle.bucket_page.specs.declared.layout.TheConstants.{ROOM_BYTES, DIRECTORY, BUCKET}
+use Rattle.bucket_page.specs.declared.layout.TheConstants.{BUCKET, LINK_BYTES, ROOM_BYTES}
+use Rattle.page_device.specs.declared.page.TheConstants.{PAYLOAD_BYTES}
+use Rattle.directory.specs.declared.layout.TheConstants.{DIRECTORY}
 use Rattle.bucket_page.specs.declared.page.Malformed.{Malformed}
 use Rattle.bucket_page.specs.declared.page.Malformed.TheVariants as faults
 use Rattle.bucket_page.specs.declared.page.PageKind.{PageKind}
 use Rattle.bucket_page.specs.declared.page.PageKind.TheVariants as kinds
-use Rattle.bucket_page.specs.Numbers.{two, four, zeros, two_at, four_at}
+use Rattle.fields.specs.Numbers.{two, four, zeros, two_at, four_at}
 use Rattle.bucket_page.specs.Records.{Pair, record_bytes, pairs_of}
-use Rattle.bucket_page.specs.Entries.{entry_bytes, entries_of}
+use Rattle.directory.specs.Pages.{entries_at}
 use Rattle.bucket_page.specs.Spelling.{head_bytes, padded, link_bytes, Spells}
-use Rattle.bucket_page.specs.Reading.{kind_at, depth_at, count_at, used_at, area, after_area, entries_area, after_entries, head_at, bucket_at, page_at, is_zero, bucket_fault, directory_fault, link_fault, fault_of, answer, reading}
-use Rattle.bucket_page.proofs.Zeros.{both_true, zeros_of}
-use Rattle.bucket_page.proofs.Fields.{IsBytes, IsBytes-drop, IsBytes-take, past, two_takes, four_takes, four_small}
+use Rattle.bucket_page.specs.Reading.{kind_at, depth_at, count_at, used_at, area, after_area, head_at, bucket_at, page_at, bucket_fault, directory_fault, link_fault, fault_of, answer, reading}
+use Rattle.fields.specs.Numbers.{is_zero}
+use Rattle.fields.proofs.Tests.{both_true}
+use Rattle.fields.proofs.ZeroLaws.{zeros_at, zeros_of}
+use Rattle.fields.proofs.NumberLaws.{IsBytes, IsBytes-drop, IsBytes-take, past, two_takes, four_takes, four_small}
 use Rattle.bucket_page.proofs.RecordLaws.{records_take}
-use Rattle.bucket_page.proofs.EntryLaws.{entries_take}
+use Rattle.directory.proofs.PageLaws.{directory_takes}
 use Rattle.bucket_page.proofs.HeadLaws.{head_parts}
 
 passed : (b : Bool) (m : Malformed) (o : Option Malformed) → cond b o (Some m) ≡ None → (b ≡ true) × (o ≡ None)
 passed true m o e = (refl, e)
 passed false m o e = absurd cc
-
--- bytes that are zero from a place on
-zeros_at : (at n : ℕ) (bytes : List ℕ) → at + n ≤ length bytes → is_zero (take n (drop at bytes)) ≡ true
-    → drop at bytes ≡ zeros n ++ drop (at + n) bytes
-zeros_at at n bytes long h =
-    let len : length (take n (drop at bytes)) ≡ n = omega (
-      arith,
-      long,
-      length-take n (drop at bytes),
-      length-drop at bytes,
-    ) in
-    sym (take-append-drop n (drop at bytes)) ∙ (λ i. zeros_of n (take n (drop at bytes)) len h i ++ past at n bytes i)
 
 kind_first : (bytes : List ℕ) → 1 ≤ length bytes → bytes ≡ kind_at bytes ∷ drop 1 bytes
 kind_first [] long = absurd (omega (arith, long))
@@ -103,26 +95,6 @@ bucket_takes bytes long all kind passes =
           ∙ ap (padded ROOM_BYTES) records.0) i);
     }
 
-directory_takes : (bytes : List ℕ) → length bytes ≡ 4064 → IsBytes bytes → kind_at bytes ≡ DIRECTORY
-    → directory_fault bytes ≡ None → Spells (kinds.Directory (entries_of (entries_area bytes))) bytes
-directory_takes bytes long all kind passes =
-    let blanks = both_true _ _ (passed _ _ _ passes).0 in
-    let front = zeros_at 1 15 bytes (omega (arith, long)) blanks.0 in
-    let area-len : length (entries_area bytes) ≡ 2048 =
-    omega (arith, long, length-take 2048 (drop 16 bytes), length-drop 16 bytes) in
-    let after-len : length (after_entries bytes) ≡ 2000 =
-    omega (arith, long, length-drop 2048 (drop 16 bytes), length-drop 16 bytes) in
-    let entries = entries_take (entries_area bytes) area-len
-    (IsBytes-take 2048 (drop 16 bytes) (IsBytes-drop 16 bytes all)) in
-    let body : drop 16 bytes ≡ entry_bytes (entries_of (entries_area bytes)) ++ zeros 2000 =
-    sym (take-append-drop 2048 (drop 16 bytes)) ∙ (λ i. entries.0 i
-    ++ zeros_of 2000 (after_entries bytes) after-len blanks.1 i) in
-    record {
-      in_range = record { number = entries.2; entries = entries.1 };
-      spelled = kind_first bytes (omega (arith, long))
-          ∙ (λ i. kind i ∷ (front ∙ ap (λ (xs : List ℕ). zeros 15 ++ xs) body) i);
-    }
-
 -- four bytes from place 4 on, between zeros
 link_takes : (kind : ℕ) (bytes : List ℕ) → length bytes ≡ 4064 → IsBytes bytes → kind_at bytes ≡ kind
     → link_fault bytes ≡ None → bytes ≡ link_bytes kind (four_at 4 bytes)
@@ -130,7 +102,7 @@ link_takes kind bytes long all is passes =
     let blanks = both_true _ _ (passed _ _ _ passes).0 in
     let front = zeros_at 1 3 bytes (omega (arith, long)) blanks.0 in
     let page = four_takes 4 bytes (omega (arith, long)) all in
-    let back : drop 8 bytes ≡ zeros 4056 = zeros_of 4056 (drop 8 bytes) (omega (arith, long, length-drop 8 bytes))
+    let back : drop LINK_BYTES bytes ≡ zeros (PAYLOAD_BYTES - LINK_BYTES) = zeros_of (PAYLOAD_BYTES - LINK_BYTES) (drop LINK_BYTES bytes) (omega (arith, long, length-drop LINK_BYTES bytes))
     blanks.1 in
     let parts = front ∙ ap (λ (xs : List ℕ). zeros 3 ++ xs) (page
     ∙ ap (λ (xs : List ℕ). four (four_at 4 bytes) ++ xs) back) in
@@ -146,10 +118,12 @@ page_takes bytes long all passes = by_kind (eqb (kind_at bytes) 3) (eqb (kind_at
         → cond bucket (bucket_fault bytes) (cond directory (directory_fault bytes)
         (cond (tombstone || free) (link_fault bytes) (Some faults.Kind))) ≡ None
         → Spells (cond bucket (kinds.Bucket (bucket_at bytes))
-        (cond directory (kinds.Directory (entries_of (entries_area bytes)))
+        (cond directory (kinds.Directory (entries_at bytes))
         (cond tombstone (kinds.Tombstone (four_at 4 bytes)) (kinds.Free (four_at 4 bytes))))) bytes
     by_kind true directory tombstone free a b c d passes = bucket_takes bytes long all (eqb-true _ _ a) passes
-    by_kind false true tombstone free a b c d passes = directory_takes bytes long all (eqb-true _ _ b) passes
+    by_kind false true tombstone free a b c d passes =
+        let it = directory_takes bytes long all (eqb-true _ _ b) (passed _ _ _ passes).0 in
+        record { in_range = it.in_range; spelled = it.spelled }
     by_kind false false true free a b c d passes = record {
       in_range = four_small 4 bytes all;
       spelled =

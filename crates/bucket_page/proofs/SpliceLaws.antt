@@ -2,10 +2,10 @@
 use Rattle.std.proofs.Common.{◌≡◌, ℕ, ◌+◌, ◌-◌, ◌≤◌, List, ◌++◌, length, take, drop, refl, sym, ap, ◌∙◌, append_assoc, arith}
 use Rattle.std.proofs.lemmas.List.{take_at, drop_at, drop-drop, drop-take, length-append, length-take, length-drop, take-take}
 use Rattle.std.proofs.Math.Seq.{take-append-add, drop-append-add}
-use Rattle.bucket_page.specs.Numbers.{zeros, overwritten}
+use Rattle.fields.specs.Numbers.{zeros, overwritten}
 use Rattle.bucket_page.specs.Spelling.{padded}
 use Rattle.bucket_page.specs.Changes.{inserted_at, taken_out}
-use Rattle.bucket_page.proofs.Zeros.{drop-zeros, zeros-zeros}
+use Rattle.fields.proofs.ZeroLaws.{drop-zeros, zeros-zeros}
 
 -- the parts that `insert` makes are those of its contract
 pub insert_parts : (bytes : List ℕ) (used at n : ℕ) (new front back region rest placed : List ℕ) → at ≤ used
@@ -85,25 +85,3 @@ taken_between f x b room fits =
     ∙ ap (λ (xs : List ℕ). f ++ xs) (append_assoc b (zeros (length x)) z
     ∙ ap (λ (xs : List ℕ). b ++ xs) (zeros-zeros (length x) (room - length r) ∙ ap zeros room-left))
     ∙ sym (append_assoc f b (zeros (room - length (f ++ b))))
-
--- bytes between a front and a back are written over
-pub written_between : (f old new b : List ℕ) (at : ℕ) → length f ≡ at → length old ≡ length new
-    → overwritten (f ++ (old ++ b)) at new ≡ f ++ (new ++ b)
-written_between f old new b at len same =
-    let front = take_at f (old ++ b) at len in
-    let back : drop (at + length new) (f ++ (old ++ b)) ≡ b =
-    sym (drop-drop (length new) at (f ++ (old ++ b))) ∙ ap (drop (length new)) (drop_at f (old ++ b) at len)
-    ∙ drop_at old b (length new) same in
-    (λ i. front i ++ new ++ back i) ∙ append_assoc f new b
-
--- what is written behind a part leaves it
-pub written_behind : (p q new : List ℕ) (at : ℕ) → overwritten (p ++ q) (length p + at) new
-    ≡ p ++ overwritten q at new
-written_behind p q new at =
-    let front = take-append-add p q at in
-    let end : length p + at + length new ≡ length p + (at + length new) = omega arith in
-    let back : drop (length p + at + length new) (p ++ q) ≡ drop (at + length new) q =
-    ap (λ (k : ℕ). drop k (p ++ q)) end ∙ drop-append-add p q (at + length new) in
-    (λ i. front i ++ new ++ back i)
-    ∙ ap (λ (xs : List ℕ). xs ++ drop (at + length new) q) (append_assoc p (take at q) new)
-    ∙ append_assoc p (take at q ++ new) (drop (at + length new) q)

@@ -3,12 +3,12 @@ use Rattle.std.specs.Prelude.{◌≡◌, ℕ, ◌+◌, ◌-◌, true, Some, List
 use Rattle.std.specs.Option.{option_map}
 use Rattle.bucket_page.specs.declared.record_key.RecordKey.{RecordKey}
 use Rattle.bucket_page.specs.declared.page.PageKind.TheVariants as kinds
-use Rattle.bucket_page.specs.Numbers.{zeros}
+use Rattle.fields.specs.Numbers.{zeros}
 use Rattle.bucket_page.specs.Keys.{is_same, is_below}
 use Rattle.bucket_page.specs.Records.{Pair, record_bytes, ascend, lookup}
 use Rattle.bucket_page.specs.Bucket.{Bucket}
 use Rattle.bucket_page.specs.Spelling.{Spells}
-use Rattle.bucket_page.specs.Reading.{bucket_at, entries_at, records_at}
+use Rattle.bucket_page.specs.Reading.{bucket_at, records_at}
 
 -- a pair is put before the first greater key
 abbrev pub inserted : Pair → List Pair → List Pair
@@ -37,13 +37,6 @@ SpellsBucket b payload = Spells (kinds.Bucket b) payload
 -- the payload is a bucket's
 abbrev pub IsBucketPage : List ℕ → Type 0
 IsBucketPage payload = SpellsBucket (bucket_at payload) payload
-
-abbrev pub SpellsDirectory : List ℕ → List ℕ → Type 0
-SpellsDirectory es payload = Spells (kinds.Directory es) payload
-
--- the payload is a directory page's
-abbrev pub IsDirectoryPage : List ℕ → Type 0
-IsDirectoryPage payload = SpellsDirectory (entries_at payload) payload
 
 -- the bucket's records became what the change makes of them, and its other numbers stayed
 abbrev pub Changes : (List Pair → List Pair) → List ℕ → List ℕ → Type 0

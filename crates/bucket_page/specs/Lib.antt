@@ -1,10 +1,8 @@
 pub mod Bucket
 pub mod Changes
 pub mod Dividing
-pub mod Entries
 pub mod Keys
 pub mod Laws
-pub mod Numbers
 pub mod PseudokeyLaws
 pub mod Pseudokeys
 pub mod Reading

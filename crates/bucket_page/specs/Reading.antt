@@ -1,16 +1,16 @@
 -- Which payloads are refused, and what the others say. The first test that fails names the refusal.
 use Rattle.std.specs.Prelude.{ℕ, ◌^◌, ◌==◌, nat_le, nat_lt, Bool, ◌&&◌, ◌||◌, List, [], ◌∷◌, take, drop, slice_index, Option, Some, None, Result, Ok, Err, if◌then◌else◌}
-use Rattle.std.specs.List.{list_all}
-use Rattle.bucket_page.specs.declared.layout.TheConstants.{GREATEST_DEPTH, ROOM_BYTES, ENTRIES_BYTES, DIRECTORY, BUCKET, TOMBSTONE, FREE}
+use Rattle.bucket_page.specs.declared.layout.TheConstants.{BUCKET, FREE, LINK_BYTES, ROOM_BYTES, TOMBSTONE}
+use Rattle.directory.specs.declared.layout.TheConstants.{DIRECTORY, GREATEST_DEPTH, HEAD_BYTES}
 use Rattle.bucket_page.specs.declared.head.Head.{Head}
 use Rattle.bucket_page.specs.declared.page.Malformed.{Malformed}
 use Rattle.bucket_page.specs.declared.page.Malformed.TheVariants as faults
 use Rattle.bucket_page.specs.declared.page.PageKind.{PageKind}
 use Rattle.bucket_page.specs.declared.page.PageKind.TheVariants as kinds
-use Rattle.bucket_page.specs.Numbers.{two_at, four_at}
+use Rattle.fields.specs.Numbers.{two_at, four_at, is_zero}
 use Rattle.bucket_page.specs.Records.{Pair, pairs_of, fills, ascend}
 use Rattle.bucket_page.specs.Bucket.{Bucket}
-use Rattle.bucket_page.specs.Entries.{entries_of}
+use Rattle.directory.specs.Pages.{entries_at, has_entries_padding}
 
 -- what stands at the places of a page's fields
 abbrev pub kind_at : List ℕ → ℕ
@@ -27,20 +27,10 @@ used_at bytes = two_at 12 bytes
 
 -- the bytes of the records, and those after them
 abbrev pub area : List ℕ → List ℕ
-area bytes = take (used_at bytes) (drop 16 bytes)
+area bytes = take (used_at bytes) (drop HEAD_BYTES bytes)
 
 abbrev pub after_area : List ℕ → List ℕ
-after_area bytes = drop (used_at bytes) (drop 16 bytes)
-
--- the bytes of the entries, and those after them
-abbrev pub entries_area : List ℕ → List ℕ
-entries_area bytes = take ENTRIES_BYTES (drop 16 bytes)
-
-abbrev pub after_entries : List ℕ → List ℕ
-after_entries bytes = drop ENTRIES_BYTES (drop 16 bytes)
-
-abbrev pub entries_at : List ℕ → List ℕ
-entries_at bytes = entries_of (entries_area bytes)
+after_area bytes = drop (used_at bytes) (drop HEAD_BYTES bytes)
 
 abbrev pub bucket_at : List ℕ → Bucket
 bucket_at bytes = record {
@@ -76,9 +66,6 @@ page_at bytes =
 
 -- ---- the tests
 
-abbrev pub is_zero : List ℕ → Bool
-is_zero bytes = list_all (λ b. b == 0) bytes
-
 -- the fault of the first test that fails
 abbrev pub first_failed : List (Bool × Malformed) → Option Malformed
 first_failed [] = None
@@ -113,16 +100,12 @@ bucket_fault bytes = first_failed (
     ∷ (has_padding bytes, faults.Padding)
     ∷ [])
 
--- each byte that is neither a directory page's kind nor its entries is zero
-abbrev pub has_directory_padding : List ℕ → Bool
-has_directory_padding bytes = is_zero (take 15 (drop 1 bytes)) && is_zero (after_entries bytes)
-
 abbrev pub directory_fault : List ℕ → Option Malformed
-directory_fault bytes = first_failed ((has_directory_padding bytes, faults.Padding) ∷ [])
+directory_fault bytes = first_failed ((has_entries_padding bytes, faults.Padding) ∷ [])
 
 -- each byte that is neither the kind nor the link is zero
 abbrev pub has_link_padding : List ℕ → Bool
-has_link_padding bytes = is_zero (take 3 (drop 1 bytes)) && is_zero (drop 8 bytes)
+has_link_padding bytes = is_zero (take 3 (drop 1 bytes)) && is_zero (drop LINK_BYTES bytes)
 
 abbrev pub link_fault : List ℕ → Option Malformed
 link_fault bytes = first_failed ((has_link_padding bytes, faults.Padding) ∷ [])

@@ -1,14 +1,16 @@
 -- The one spelling of each page (docs/FORMAT.md, "Pages"), and which pages have one.
 use Rattle.std.specs.Prelude.{◌≡◌, ℕ, ◌-◌, ◌≤◌, ◌<◌, ◌^◌, true, List, ◌∷◌, ◌++◌, length}
 use Rattle.std.specs.List.{AllByRecursion}
-use Rattle.bucket_page.specs.declared.layout.TheConstants.{GREATEST_DEPTH, ROOM_BYTES, PAGE_ENTRIES, DIRECTORY, BUCKET, TOMBSTONE, FREE}
+use Rattle.bucket_page.specs.declared.layout.TheConstants.{BUCKET, FREE, LINK_BYTES, ROOM_BYTES, TOMBSTONE}
+use Rattle.page_device.specs.declared.page.TheConstants.{PAYLOAD_BYTES}
+use Rattle.directory.specs.declared.layout.TheConstants.{GREATEST_DEPTH}
 use Rattle.bucket_page.specs.declared.head.Head.{Head}
 use Rattle.bucket_page.specs.declared.page.PageKind.{PageKind}
 use Rattle.bucket_page.specs.declared.page.PageKind.TheVariants as kinds
-use Rattle.bucket_page.specs.Numbers.{two, four, zeros}
+use Rattle.fields.specs.Numbers.{two, four, zeros}
 use Rattle.bucket_page.specs.Records.{IsPair, record_bytes, ascend}
 use Rattle.bucket_page.specs.Bucket.{Bucket}
-use Rattle.bucket_page.specs.Entries.{entry_bytes}
+use Rattle.directory.specs.Pages.{IsDirectory, directory_bytes}
 
 -- the sixteen bytes of a bucket's head
 abbrev pub head_bytes : Head → List ℕ
@@ -31,12 +33,9 @@ padded room bytes = bytes ++ zeros (room - length bytes)
 abbrev pub bucket_bytes : Bucket → List ℕ
 bucket_bytes b = head_bytes (head_of b) ++ padded ROOM_BYTES (record_bytes b.records)
 
-abbrev pub directory_bytes : List ℕ → List ℕ
-directory_bytes es = DIRECTORY ∷ (zeros 15 ++ (entry_bytes es ++ zeros 2000))
-
 -- a tombstone or a free page names one page
 abbrev pub link_bytes : ℕ → ℕ → List ℕ
-link_bytes kind page = kind ∷ (zeros 3 ++ (four page ++ zeros 4056))
+link_bytes kind page = kind ∷ (zeros 3 ++ (four page ++ zeros (PAYLOAD_BYTES - LINK_BYTES)))
 
 -- the payload that spells a page
 abbrev pub bytes_of : PageKind → List ℕ
@@ -53,11 +52,6 @@ pub record IsBucket (b : Bucket) : Type 0 where
   pub pairs : AllByRecursion IsPair b.records
   pub room : length (record_bytes b.records) ≤ ROOM_BYTES
   pub order : ascend b.records ≡ true
-
--- entries that have a spelling
-pub record IsDirectory (es : List ℕ) : Type 0 where
-  pub number : length es ≡ PAGE_ENTRIES
-  pub entries : AllByRecursion (λ e. e < 2 ^ 32) es
 
 -- a page that has a spelling
 abbrev pub IsPage : PageKind → Type 0

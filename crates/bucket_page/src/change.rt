@@ -5,12 +5,13 @@ ghost use Rattle.bucket_page.specs.Records.{ascend, pair, lookup, record_bytes};
 ghost use Rattle.bucket_page.specs.Reading.{records_at, used_at};
 ghost use Rattle.bucket_page.specs.Changes.{Appends, Changes, InsertsAt, HasValueOf, IsBucketPage, below, inserted, removed, replaced};
 
-use crate::field::{set_bytes, two_at};
 use crate::head::Head;
-use crate::layout::{HEAD_BYTES, RECORD_HEAD_BYTES, ROOM_BYTES};
+use crate::layout::{RECORD_HEAD_BYTES, ROOM_BYTES};
 use crate::record_key::RecordKey;
 use crate::records::Records;
 use crate::splice::{insert, take_out};
+use directory::HEAD_BYTES;
+use fields::{set_bytes, two_at};
 use page_device::{PAYLOAD_BYTES, Payload};
 use thiserror::Error;
 

@@ -6,11 +6,11 @@ ghost use Rattle.bucket_page.specs.Changes.{IsBucketPage, SpellsBucket};
 ghost use Rattle.bucket_page.specs.Dividing.{AreBuddies, FitTogether, MayWiden, ShareNoKey, has_bit_as, half_of, joined, lower_half, pattern_of_half, upper_half, widened};
 
 use crate::change::{append, put_fitting, records_of};
-use crate::field::four_at;
 use crate::head::Head;
-use crate::layout::{GREATEST_DEPTH, HEAD_BYTES};
 use crate::pseudokey::PseudoKey;
 use crate::write::write_bucket;
+use directory::{GREATEST_DEPTH, HEAD_BYTES};
+use fields::four_at;
 use page_device::Payload;
 
 /// Cuts a bucket in two: the old one keeps the records whose pseudokeys have 0 in the next bit, and

@@ -4,9 +4,9 @@ ghost use Rattle.std.specs.Prelude.{◌≡◌, ◌≤◌, length};
 ghost use Rattle.bucket_page.specs.Reading.{head_at};
 ghost use Rattle.bucket_page.specs.Spelling.{head_bytes};
 
-use crate::field::{blank, four_at, two_at};
-use crate::layout::{BUCKET, HEAD_BYTES};
-use byteorder::{BigEndian, ByteOrder};
+use crate::layout::BUCKET;
+use directory::HEAD_BYTES;
+use fields::{blank, four_at, two_at, write_four, write_two};
 
 /// The numbers at the head of a bucket.
 #[derive(Clone, Copy, Debug)]
@@ -36,7 +36,6 @@ impl Head {
     }
 
     /// Writes this head.
-    #[tactic(auto, unfolding(crate::specs::Numbers::two, crate::specs::Numbers::four))]
     pub fn write(self, bytes: &mut [u8])
         requires { length bytes.old ≡ HEAD_BYTES }
         ensures { bytes.new ≡ head_bytes self }
@@ -48,10 +47,10 @@ impl Head {
         let (used, last) = others.split_at_mut(2);
         first[0] = BUCKET;
         first[1] = self.depth;
-        BigEndian::write_u16(count, self.count);
-        BigEndian::write_u32(pattern, self.pattern);
-        BigEndian::write_u32(next, self.next);
-        BigEndian::write_u16(used, self.used);
+        write_two(count, self.count);
+        write_four(pattern, self.pattern);
+        write_four(next, self.next);
+        write_two(used, self.used);
         blank(last);
     }
 }

@@ -4,7 +4,6 @@
 
 mod change;
 mod divide;
-mod field;
 mod head;
 pub mod laws;
 mod layout;
@@ -18,13 +17,13 @@ mod write;
 
 pub use change::{DoesNotFit, put, remove, replace};
 pub use divide::{cut, join, write_lower_half, write_upper_half};
-pub use layout::{GREATEST_DEPTH, PAGE_ENTRIES, RECORD_HEAD_BYTES, ROOM_BYTES};
+pub use layout::{RECORD_HEAD_BYTES, ROOM_BYTES};
 pub use page::{Malformed, PageKind, bucket_of, read_page};
 pub use pseudokey::{ConstantKey, NumberKey, PseudoKey, ShaKey};
 pub use record_key::{KEY_BYTES, RecordKey};
 pub use records::{Record, Records};
-pub use view::{BucketView, DirectoryView};
-pub use write::{set_entry, write_bucket, write_directory, write_free, write_tombstone};
+pub use view::BucketView;
+pub use write::{write_bucket, write_free, write_tombstone};
 
 #[cfg(test)]
 mod tests;

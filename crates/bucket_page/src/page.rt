@@ -1,19 +1,20 @@
 //! Which page a payload spells.
 
 ghost use Rattle.std.specs.Prelude.{◌≡◌, IfOk, Ok, drop, length, take};
+ghost use Rattle.faults.specs.declared.TheConstants.{MALFORMED};
 ghost use Rattle.page_device.specs.declared.page.TheConstants.{PAYLOAD_BYTES};
-ghost use Rattle.bucket_page.specs.Numbers.{four_at};
-ghost use Rattle.bucket_page.specs.Reading.{answer, bucket_at, bucket_fault, directory_fault, entries_at, is_zero, link_fault, reading};
+ghost use Rattle.fields.specs.Numbers.{four_at};
+ghost use Rattle.bucket_page.specs.Reading.{answer, bucket_at, bucket_fault, link_fault, reading};
 ghost use Rattle.bucket_page.specs.Spelling.{Spells};
 ghost use Rattle.bucket_page.specs.Changes.{IsBucketPage};
 
 use crate::change::records_of;
-use crate::field::{four_at, two_at};
-use crate::layout::{
-    BUCKET, DIRECTORY, ENTRIES_BYTES, FREE, GREATEST_DEPTH, HEAD_BYTES, ROOM_BYTES, TOMBSTONE,
-};
+use crate::layout::{BUCKET, FREE, LINK_BYTES, ROOM_BYTES, TOMBSTONE};
 use crate::records::Records;
-use crate::view::{BucketView, DirectoryView};
+use crate::view::BucketView;
+use directory::{DIRECTORY, DirectoryView, GREATEST_DEPTH, HEAD_BYTES, read_entries};
+use faults::MALFORMED;
+use fields::{four_at, is_zero, two_at};
 use page_device::{PAYLOAD_BYTES, Payload};
 use thiserror::Error;
 
@@ -38,6 +39,15 @@ pub enum Malformed {
     /// A byte that no field names isn't zero.
     #[error("a byte that no field names is not zero")]
     Padding,
+}
+
+impl Malformed {
+    /// The number that a program prints, whichever test fails.
+    pub fn number(self) -> u8
+        ensures { result ≡ MALFORMED }
+    {
+        MALFORMED
+    }
 }
 
 /// A page that isn't the header.
@@ -95,18 +105,16 @@ fn read(bytes: &[u8]) -> Result<PageKind, Malformed>
             Ok(bucket) => Ok(PageKind::Bucket(bucket)),
             Err(fault) => Err(fault),
         },
-        DIRECTORY => match read_directory(bytes) {
-            Ok(directory) => Ok(PageKind::Directory(directory)),
-            Err(fault) => Err(fault),
+        DIRECTORY => match read_entries(bytes) {
+            Some(entries) => Ok(PageKind::Directory(entries)),
+            None => Err(Malformed::Padding),
         },
-        TOMBSTONE => match read_link(bytes) {
-            Ok(link) => Ok(PageKind::Tombstone { link }),
-            Err(fault) => Err(fault),
-        },
-        FREE => match read_link(bytes) {
-            Ok(next) => Ok(PageKind::Free { next }),
-            Err(fault) => Err(fault),
-        },
+        TOMBSTONE => Ok(PageKind::Tombstone {
+            link: read_link(bytes)?,
+        }),
+        FREE => Ok(PageKind::Free {
+            next: read_link(bytes)?,
+        }),
         _ => Err(Malformed::Kind),
     }
 }
@@ -145,20 +153,6 @@ fn read_bucket(bytes: &[u8]) -> Result<BucketView, Malformed>
     })
 }
 
-fn read_directory(bytes: &[u8]) -> Result<DirectoryView, Malformed>
-    requires { length bytes.now ≡ PAYLOAD_BYTES }
-    ensures { result ≡ answer (directory_fault bytes.now) (entries_at bytes.now) }
-{
-    let (entries, after) = bytes[HEAD_BYTES..].split_at(ENTRIES_BYTES);
-    if !is_zero(&bytes[1..HEAD_BYTES]) {
-        return Err(Malformed::Padding);
-    }
-    if !is_zero(after) {
-        return Err(Malformed::Padding);
-    }
-    Ok(DirectoryView { entries })
-}
-
 /// The page that a tombstone or a free page names.
 fn read_link(bytes: &[u8]) -> Result<u32, Malformed>
     requires { length bytes.now ≡ PAYLOAD_BYTES }
@@ -167,15 +161,8 @@ fn read_link(bytes: &[u8]) -> Result<u32, Malformed>
     if !is_zero(&bytes[1..4]) {
         return Err(Malformed::Padding);
     }
-    if !is_zero(&bytes[8..]) {
+    if !is_zero(&bytes[LINK_BYTES..]) {
         return Err(Malformed::Padding);
     }
     Ok(four_at(bytes, 4))
-}
-
-/// Whether all bytes are zero.
-fn is_zero(bytes: &[u8]) -> bool
-    ensures { result ≡ is_zero bytes.now }
-{
-    bytes.iter().all(|byte| *byte == 0)
 }

@@ -1,14 +1,13 @@
 //! Edits of the bytes of records, which stand at the front of a slice with room behind them.
 
 ghost use Rattle.std.specs.Prelude.{◌≡◌, ◌+◌, ◌-◌, ◌≤◌, ◌++◌, drop, length, take};
-ghost use Rattle.bucket_page.specs.Numbers.{zeros};
+ghost use Rattle.fields.specs.Numbers.{zeros};
 ghost use Rattle.bucket_page.specs.Records.{pair, pair_bytes};
 ghost use Rattle.bucket_page.specs.Changes.{inserted_at, taken_out};
 
-use crate::field::blank;
 use crate::layout::{RECORD_HEAD_BYTES, ROOM_BYTES};
 use crate::record_key::{KEY_BYTES, RecordKey, write_key};
-use byteorder::{BigEndian, ByteOrder};
+use fields::{blank, write_two};
 
 /// Puts a record among the used bytes.
 pub fn insert(bytes: &mut [u8], used: usize, at: usize, key: &RecordKey, value: &[u8])
@@ -47,7 +46,6 @@ fn put_first(region: &mut [u8], key: &RecordKey, value: &[u8])
 }
 
 /// Writes a record over a slice of its length.
-#[tactic(auto, unfolding(crate::specs::Numbers::two))]
 fn write_record(bytes: &mut [u8], key: &RecordKey, value: &[u8])
     requires room { length bytes.old ≡ RECORD_HEAD_BYTES + length value.now }
     requires short { length value.now ≤ ROOM_BYTES }
@@ -55,7 +53,7 @@ fn write_record(bytes: &mut [u8], key: &RecordKey, value: &[u8])
 {
     let (len, others) = bytes.split_at_mut(2);
     let (name, rest) = others.split_at_mut(KEY_BYTES);
-    BigEndian::write_u16(len, value.len() as u16);
+    write_two(len, value.len() as u16);
     write_key(name, key);
     rest.copy_from_slice(value);
 }

@@ -6,6 +6,7 @@ ghost use Rattle.bucket_page.specs.Changes.{IsBucketPage};
 ghost use Rattle.bucket_page.specs.Dividing.{ShareNoKey};
 
 use super::*;
+use directory::{GREATEST_DEPTH, PAGE_ENTRIES, set_entry, write_directory};
 use page_device::{PAYLOAD_BYTES, Payload};
 use std::process::Abort;
 use std::test::*;

@@ -1,10 +1,8 @@
-//! Buckets and directory pages, lent by the payload that spells them.
+//! Buckets, lent by the payload that spells them.
 
-ghost use Rattle.std.specs.Prelude.{◌≡◌, ◌<◌, length, slice_index, IfSome, IfNone, Some, None};
+ghost use Rattle.std.specs.Prelude.{◌≡◌, length, IfSome, IfNone, Some, None};
 ghost use Rattle.bucket_page.specs.Records.{record_bytes, lookup};
 
-use crate::field::four_at;
-use crate::layout::PAGE_ENTRIES;
 use crate::record_key::RecordKey;
 use crate::records::Records;
 use std::marker::Model;
@@ -72,34 +70,5 @@ impl<'a> BucketView<'a> {
         ensures { result ≡ self.now.records }
     {
         self.records.again()
-    }
-}
-
-/// A page of the directory.
-#[derive(Debug, Drop)]
-pub struct DirectoryView<'a> {
-    pub(crate) entries: &'a [u8],
-}
-
-impl<'a> Model for DirectoryView<'a> {
-    ghost use Rattle.std.specs.Prelude.{◌≡◌, ℕ, List, length};
-    ghost use Rattle.bucket_page.specs.declared.layout.TheConstants.{ENTRIES_BYTES};
-    ghost use Rattle.bucket_page.specs.Entries.{entries_of};
-
-    ghost Value = { List ℕ };
-
-    ghost view = { λ d. entries_of d.entries.now };
-
-    ghost invariant = { λ d. length d.entries.now ≡ ENTRIES_BYTES };
-}
-
-impl<'a> DirectoryView<'a> {
-    /// The bucket's page that a slot names.
-    #[tactic(auto, using(crate::proofs::EntryLaws::entry_is))]
-    pub fn entry(&self, slot: usize) -> u32
-        requires { slot < PAGE_ENTRIES }
-        ensures { result ≡ slice_index self.now slot }
-    {
-        four_at(self.entries, 4 * slot)
     }
 }

@@ -1,19 +1,15 @@
-//! Pages written whole, and entries of directory pages.
+//! Pages written whole.
 
-ghost use Rattle.std.specs.Prelude.{[], ◌≡◌, ◌<◌, ◌≤◌, ◌^◌, ◌*◌, length, slice_set};
+ghost use Rattle.std.specs.Prelude.{[], ◌≡◌, ◌<◌, ◌≤◌, ◌^◌, length};
 ghost use Rattle.bucket_page.specs.Bucket.{bucket};
-ghost use Rattle.bucket_page.specs.Entries.{entry_bytes};
-ghost use Rattle.bucket_page.specs.Spelling.{Spells, directory_bytes, link_bytes};
-ghost use Rattle.bucket_page.specs.Reading.{entries_at};
-ghost use Rattle.bucket_page.specs.Changes.{IsDirectoryPage, SpellsBucket, SpellsDirectory};
+ghost use Rattle.bucket_page.specs.Spelling.{Spells, link_bytes};
+ghost use Rattle.bucket_page.specs.Changes.{SpellsBucket};
 
-use crate::field::{blank, set_four, write_four};
 use crate::head::Head;
-use crate::layout::{
-    DIRECTORY, ENTRIES_BYTES, FREE, GREATEST_DEPTH, HEAD_BYTES, PAGE_ENTRIES, TOMBSTONE,
-};
+use crate::layout::{FREE, TOMBSTONE};
 use crate::page::PageKind;
-use byteorder::{BigEndian, ByteOrder};
+use directory::{GREATEST_DEPTH, HEAD_BYTES};
+use fields::{blank, write_four};
 use page_device::{PAYLOAD_BYTES, Payload};
 
 /// Writes a tombstone, whose link is the page of the bucket that took its records.
@@ -28,23 +24,6 @@ pub fn write_free(payload: &mut Payload, next: u32)
     ensures { Spells (PageKind.Free next) payload.new }
 {
     write_link(payload, FREE, next);
-}
-
-/// Writes a page of the directory.
-pub fn write_directory(payload: &mut Payload, entries: &[u32; PAGE_ENTRIES])
-    ensures { SpellsDirectory entries.now payload.new }
-{
-    write_slots(payload, entries);
-}
-
-/// Writes one entry of a directory page.
-pub fn set_entry(payload: &mut Payload, slot: usize, page: u32)
-    requires directory { IsDirectoryPage payload.old }
-    requires slot { slot < PAGE_ENTRIES }
-    ensures { SpellsDirectory (slice_set (entries_at payload.old) slot page) payload.new }
-{
-    let (_, entries) = payload.split_at_mut(HEAD_BYTES);
-    set_four(entries, 4 * slot, page);
 }
 
 /// Writes a bucket without records.
@@ -77,26 +56,4 @@ fn write_link(bytes: &mut [u8], kind: u8, page: u32)
     blank(reserved);
     write_four(link, page);
     blank(last);
-}
-
-fn write_slots(bytes: &mut [u8], entries: &[u32])
-    requires long { length bytes.old ≡ PAYLOAD_BYTES }
-    requires whole { length entries.now ≡ PAGE_ENTRIES }
-    ensures { bytes.new ≡ directory_bytes entries.now }
-{
-    let (first, others) = bytes.split_at_mut(1);
-    let (reserved, others) = others.split_at_mut(HEAD_BYTES - 1);
-    let (places, last) = others.split_at_mut(ENTRIES_BYTES);
-    first[0] = DIRECTORY;
-    blank(reserved);
-    write_entries(places, entries);
-    blank(last);
-}
-
-#[tactic(auto, unfolding(crate::specs::Numbers::four))]
-fn write_entries(bytes: &mut [u8], entries: &[u32])
-    requires { length bytes.old ≡ 4 * length entries.now }
-    ensures { bytes.new ≡ entry_bytes entries.now }
-{
-    BigEndian::write_u32_into(entries, bytes);
 }

@@ -1,5 +1,6 @@
 -- The numbers of faults.
 use Rattle.std.specs.Prelude.{ℕ}
+use Rattle.faults.specs.declared.TheConstants.{NO_MEMORY, TOO_FEW_FRAMES}
 use Rattle.page_device.specs.Fault.{number_of as device_number_of}
 use Rattle.buffer_pool.specs.declared.fault.PoolFault.{PoolFault}
 use Rattle.buffer_pool.specs.declared.fault.PoolFault.TheVariants.{Device, TooFewFrames, NoMemory}
@@ -7,5 +8,5 @@ use Rattle.buffer_pool.specs.declared.fault.PoolFault.TheVariants.{Device, TooFe
 -- the number that a program prints for a fault
 abbrev pub number_of : PoolFault → ℕ
 number_of (Device fault) = device_number_of fault
-number_of TooFewFrames = 30
-number_of NoMemory = 60
+number_of TooFewFrames = TOO_FEW_FRAMES
+number_of NoMemory = NO_MEMORY

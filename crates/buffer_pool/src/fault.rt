@@ -29,8 +29,8 @@ impl PoolFault {
     {
         match self {
             PoolFault::Device(fault) => fault.number(),
-            PoolFault::TooFewFrames => 30,
-            PoolFault::NoMemory => 60,
+            PoolFault::TooFewFrames => faults::TOO_FEW_FRAMES,
+            PoolFault::NoMemory => faults::NO_MEMORY,
         }
     }
 }

@@ -1,7 +1,4 @@
 pub mod EntryLaws
-pub mod Fields
+pub mod HalfLaws
 pub mod HeaderLaws
-pub mod NumberLaws
-pub mod SlotLaws
 pub mod PageLaws
-pub mod Zeros

@@ -1,28 +1,23 @@
 -- The directory on its pages: where an entry stands, and what it is after a change.
-use Rattle.std.specs.Prelude.{◌≡◌, ◌⊎◌, ℕ, ◌+◌, ◌-◌, ◌*◌, ◌/◌, ◌%◌, ◌^◌, ◌<◌, ◌≤◌, ◌==◌, nat_le, nat_lt, Bool, ◌&&◌, List, slice_index, if◌then◌else◌}
-use Rattle.directory.specs.declared.layout.TheConstants.{ENTRIES_IN_A_PAGE, FIRST_DIRECTORY_PAGE, ENTRIES_BEGIN, ENTRIES_END}
-use Rattle.directory.specs.declared.entries.Range.{Range}
-use Rattle.directory.specs.Numbers.{four_at}
+use Rattle.std.specs.Prelude.{ℕ, ◌+◌, ◌-◌, ◌*◌, ◌/◌, ◌%◌, ◌^◌, ◌==◌, nat_le, nat_lt, Bool, ◌&&◌, List, slice_index, if◌then◌else◌}
+use Rattle.positions.specs.declared.range.Range.{Range}
+use Rattle.directory.specs.declared.layout.TheConstants.{FIRST_DIRECTORY_PAGE, PAGE_ENTRIES}
+use Rattle.directory.specs.Pages.{entries_at}
 
 -- the page of the file in which entry i stands, and its slot there
 abbrev pub page_of : ℕ → ℕ
-page_of i = FIRST_DIRECTORY_PAGE + i / ENTRIES_IN_A_PAGE
+page_of i = FIRST_DIRECTORY_PAGE + i / PAGE_ENTRIES
 
 abbrev pub slot_of : ℕ → ℕ
-slot_of i = i % ENTRIES_IN_A_PAGE
+slot_of i = i % PAGE_ENTRIES
 
 -- the entry in a slot of a page
 abbrev pub slot_at : ℕ → List ℕ → ℕ
-slot_at slot page = four_at (ENTRIES_BEGIN + 4 * slot) page
+slot_at slot page = slice_index (entries_at page) slot
 
 -- entry i, where this is the page in which it stands
 abbrev pub entry_in : List ℕ → ℕ → ℕ
 entry_in page i = slot_at (slot_of i) page
-
--- the bytes that are of no entry are as they were
-abbrev pub KeepsOtherBytes : List ℕ → List ℕ → Type 0
-KeepsOtherBytes old new =
-    (place : ℕ) → (place < ENTRIES_BEGIN) ⊎ (ENTRIES_END ≤ place) → slice_index new place ≡ slice_index old place
 
 -- the directory of a depth doubles: an entry of the upper half becomes that of the lower half with the same
 -- low bits, and any other stays
@@ -34,7 +29,7 @@ copied depth lower page i = if is_upper depth i then entry_in lower (i - 2 ^ dep
 
 -- a bucket gets the entries of a range: those of the directory whose low bits are the pattern; any other stays
 abbrev pub is_in_range : ℕ → Range → ℕ → Bool
-is_in_range depth range i = nat_lt i (2 ^ depth) && i % 2 ^ range.local_depth == range.pattern
+is_in_range depth range i = nat_lt i (2 ^ depth) && i % 2 ^ range.depth == range.pattern
 
 abbrev pub retargeted : ℕ → Range → ℕ → List ℕ → ℕ → ℕ
 retargeted depth range bucket page i = if is_in_range depth range i then bucket else entry_in page i

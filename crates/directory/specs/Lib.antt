@@ -1,5 +1,5 @@
 pub mod Entries
 pub mod Fault
-pub mod Numbers
+pub mod Pages
 pub mod Reading
 pub mod Spelling

@@ -2,11 +2,11 @@
 use Rattle.std.specs.Prelude.{ℕ, ◌==◌, nat_le, nat_eq, Bool, ◌&&◌, List, [], ◌∷◌, take, drop, slice_index, Option, Some, None, Result, Ok, Err, if◌then◌else◌}
 use Rattle.std.specs.Cmp.Lexicographic.{pointwise}
 use Rattle.page_device.specs.declared.page.TheConstants.{MAX_PAGES}
-use Rattle.directory.specs.declared.layout.TheConstants.{GREATEST_DEPTH, LOCAL_DEPTHS, LEAST_PAGES, HEADER, VERSION, MAGIC, HEADER_BYTES}
+use Rattle.directory.specs.declared.layout.TheConstants.{COUNTS_BEGIN, COUNTS_BYTES, GREATEST_DEPTH, LOCAL_DEPTHS, LEAST_PAGES, HEADER, VERSION, MAGIC, HEADER_BYTES}
 use Rattle.directory.specs.declared.header.Header.{Header}
 use Rattle.directory.specs.declared.read.HeaderFault.{HeaderFault}
 use Rattle.directory.specs.declared.read.HeaderFault.TheVariants as faults
-use Rattle.directory.specs.Numbers.{four_at, numbers_of, is_zero}
+use Rattle.fields.specs.Numbers.{four_at, numbers_of, is_zero}
 
 -- what stands at the places of the fields
 abbrev pub kind_at : List ℕ → ℕ
@@ -23,7 +23,7 @@ pages_at bytes = four_at 12 bytes
 
 -- the bytes of the counts; unfoldable, as the numbers are, so that no proof counts them out
 unfoldable pub counts_area : List ℕ → List ℕ
-counts_area bytes = take 72 (drop 20 bytes)
+counts_area bytes = take COUNTS_BYTES (drop COUNTS_BEGIN bytes)
 
 unfoldable pub counts_at : List ℕ → List ℕ
 counts_at bytes = numbers_of LOCAL_DEPTHS (counts_area bytes)

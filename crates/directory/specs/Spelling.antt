@@ -1,16 +1,18 @@
 -- The one spelling of each header, and which headers have one.
-use Rattle.std.specs.Prelude.{◌≡◌, ℕ, ◌≤◌, ◌<◌, ◌^◌, List, ◌∷◌, ◌++◌, length}
+use Rattle.std.specs.Prelude.{◌≡◌, ℕ, ◌-◌, ◌≤◌, ◌<◌, ◌^◌, List, ◌∷◌, ◌++◌, length}
 use Rattle.std.specs.List.{AllByRecursion}
-use Rattle.page_device.specs.declared.page.TheConstants.{MAX_PAGES}
-use Rattle.directory.specs.declared.layout.TheConstants.{GREATEST_DEPTH, LOCAL_DEPTHS, LEAST_PAGES, HEADER, VERSION, MAGIC}
+use Rattle.page_device.specs.declared.page.TheConstants.{MAX_PAGES, PAYLOAD_BYTES}
+use Rattle.directory.specs.declared.layout.TheConstants.{GREATEST_DEPTH, LOCAL_DEPTHS, LEAST_PAGES, HEADER, VERSION, MAGIC, HEADER_BYTES}
 use Rattle.directory.specs.declared.header.Header.{Header}
-use Rattle.directory.specs.Numbers.{four, numbers_bytes, zeros}
+use Rattle.fields.specs.Numbers.{four, numbers_bytes, zeros}
 
 -- the payload that spells a header
 abbrev pub header_bytes : Header → List ℕ
 header_bytes h =
     HEADER ∷ VERSION ∷ h.depth ∷ 0
-    ∷ (MAGIC ++ (four h.pages ++ (four h.first_free ++ (numbers_bytes h.counts ++ zeros 3972))))
+    ∷ (MAGIC
+    ++ (four h.pages
+    ++ (four h.first_free ++ (numbers_bytes h.counts ++ zeros (PAYLOAD_BYTES - HEADER_BYTES)))))
 
 -- numbers of four bytes, and a count for each local depth
 pub record FitsBytes (h : Header) : Type 0 where

@@ -1,38 +1,38 @@
 //! Entries on one page of the directory, and their changes.
 
-ghost use Rattle.std.specs.Prelude.{◌≡◌, ◌≢◌, ◌+◌, ◌*◌, ◌-◌, ◌≤◌, ◌<◌, ◌%◌, ◌^◌, ℕ, true};
-ghost use Rattle.directory.specs.declared.layout.TheConstants.{DIRECTORY_PAGES, ENTRIES_IN_A_PAGE, GREATEST_DEPTH};
-ghost use Rattle.directory.specs.Entries.{KeepsOtherBytes, copied, entry_in, is_in_range, is_upper, page_of, retargeted, slot_at};
+ghost use Rattle.std.specs.Prelude.{◌≡◌, ◌≢◌, ◌*◌, ◌-◌, ◌≤◌, ◌<◌, ◌^◌, ℕ, slice_set, true};
+ghost use Rattle.directory.specs.declared.layout.TheConstants.{DIRECTORY_PAGES, FIRST_DIRECTORY_PAGE, GREATEST_DEPTH, PAGE_ENTRIES};
+ghost use Rattle.directory.specs.Entries.{copied, entry_in, is_upper, page_of, retargeted, slot_at};
+ghost use Rattle.directory.specs.Pages.{IsDirectoryPage, SpellsDirectory, entries_at};
 
 use crate::directory::{page_of, slot_of};
-use crate::field::{four_at, set_four};
-use crate::layout::{ENTRIES_BEGIN, ENTRIES_IN_A_PAGE, FIRST_DIRECTORY_PAGE};
+use crate::layout::{FIRST_DIRECTORY_PAGE, HEAD_BYTES, PAGE_ENTRIES};
+use crate::page::directory_of;
+use fields::set_four;
 use page_device::Payload;
+use positions::Range;
 
-/// The pseudokeys whose low bits, as many as the local depth, are the pattern.
-#[derive(Clone, Copy, Debug, PartialEq, Eq)]
-pub struct Range {
-    pub local_depth: u8,
-    pub pattern: u32,
-}
-
-/// The bucket's page that a slot names.
-pub fn entry(payload: &Payload, slot: u32) -> u32
-    requires { slot < ENTRIES_IN_A_PAGE }
-    ensures { result ≡ slot_at slot payload.now }
+/// Has a slot name a bucket's page.
+pub fn set_entry(payload: &mut Payload, slot: usize, bucket: u32)
+    requires directory { IsDirectoryPage payload.old }
+    requires slot { slot < PAGE_ENTRIES }
+    ensures ok { SpellsDirectory (slice_set (entries_at payload.old) slot bucket) payload.new }
+    ensures directory { IsDirectoryPage payload.new }
 {
-    four_at(payload, ENTRIES_BEGIN + 4 * slot as usize)
+    let (_, entries) = payload.split_at_mut(HEAD_BYTES);
+    set_four(entries, 4 * slot, bucket);
 }
 
-/// Has a slot name another bucket's page.
-pub fn set_entry(payload: &mut Payload, slot: u32, bucket: u32)
-    requires { slot < ENTRIES_IN_A_PAGE }
+/// Has a slot name a bucket's page, and the others name what they did.
+fn put_entry(payload: &mut Payload, slot: usize, bucket: u32)
+    requires directory { IsDirectoryPage payload.old }
+    requires slot { slot < PAGE_ENTRIES }
     ensures ok { slot_at slot payload.new ≡ bucket }
     ensures others { (other : ℕ) → other ≢ slot →
         slot_at other payload.new ≡ slot_at other payload.old }
-    ensures same { KeepsOtherBytes payload.old payload.new }
+    ensures directory { IsDirectoryPage payload.new }
 {
-    set_four(payload, ENTRIES_BEGIN + 4 * slot as usize, bucket);
+    set_entry(payload, slot, bucket);
 }
 
 /// The doubling of a directory of a depth, on one of its pages: each entry of the upper half becomes that of
@@ -41,14 +41,15 @@ pub fn copy_upper(payload: &mut Payload, page: u32, depth: u8, lower: &Payload)
     requires first { FIRST_DIRECTORY_PAGE ≤ page }
     requires last { page ≤ DIRECTORY_PAGES }
     requires depth { depth < GREATEST_DEPTH }
+    requires directory { IsDirectoryPage payload.old }
     ensures ok { (i : ℕ) → page_of i ≡ page
         → entry_in payload.new i ≡ copied depth lower.now payload.old i }
-    ensures same { KeepsOtherBytes payload.old payload.new }
+    ensures directory { IsDirectoryPage payload.new }
 {
     let first = first_entry(page);
-    for slot in 0..ENTRIES_IN_A_PAGE {
-        let bucket = copied(payload, first + slot, depth, lower);
-        set_entry(payload, slot, bucket);
+    for slot in 0..PAGE_ENTRIES {
+        let bucket = copied(payload, first + slot as u32, depth, lower);
+        put_entry(payload, slot, bucket);
     }
 }
 
@@ -68,15 +69,16 @@ pub fn retarget(payload: &mut Payload, page: u32, depth: u8, range: Range, bucke
     requires first { FIRST_DIRECTORY_PAGE ≤ page }
     requires last { page ≤ DIRECTORY_PAGES }
     requires depth { depth ≤ GREATEST_DEPTH }
-    requires local_depth { range.local_depth ≤ GREATEST_DEPTH }
+    requires local_depth { range.depth ≤ GREATEST_DEPTH }
+    requires directory { IsDirectoryPage payload.old }
     ensures ok { (i : ℕ) → page_of i ≡ page
         → entry_in payload.new i ≡ retargeted depth range bucket payload.old i }
-    ensures same { KeepsOtherBytes payload.old payload.new }
+    ensures directory { IsDirectoryPage payload.new }
 {
     let first = first_entry(page);
-    for slot in 0..ENTRIES_IN_A_PAGE {
-        let named = retargeted(payload, first + slot, depth, range, bucket);
-        set_entry(payload, slot, named);
+    for slot in 0..PAGE_ENTRIES {
+        let named = retargeted(payload, first + slot as u32, depth, range, bucket);
+        put_entry(payload, slot, named);
     }
 }
 
@@ -84,12 +86,12 @@ pub fn retarget(payload: &mut Payload, page: u32, depth: u8, range: Range, bucke
 fn first_entry(page: u32) -> u32
     requires first { FIRST_DIRECTORY_PAGE ≤ page }
     requires last { page ≤ DIRECTORY_PAGES }
-    ensures { result ≡ ENTRIES_IN_A_PAGE * (page - FIRST_DIRECTORY_PAGE) }
+    ensures { result ≡ PAGE_ENTRIES * (page - FIRST_DIRECTORY_PAGE) }
 {
-    ENTRIES_IN_A_PAGE * (page - FIRST_DIRECTORY_PAGE)
+    PAGE_ENTRIES as u32 * (page - FIRST_DIRECTORY_PAGE)
 }
 
-/// Entries of a directory of a depth.
+/// Entries of a directory of a depth: half of those of the next.
 fn half_of(depth: u8) -> u32
     requires { depth < GREATEST_DEPTH }
     ensures { result ≡ 2 ^ depth }
@@ -104,21 +106,21 @@ fn copied(payload: &Payload, index: u32, depth: u8, lower: &Payload) -> u32
 {
     let half = 1 << depth;
     if half <= index && index < 2 * half {
-        entry(lower, slot_of(index - half))
+        directory_of(lower).entry(slot_of(index - half))
     } else {
-        entry(payload, slot_of(index))
+        directory_of(payload).entry(slot_of(index))
     }
 }
 
 /// What an entry becomes where a bucket gets the entries of a range.
 fn retargeted(payload: &Payload, index: u32, depth: u8, range: Range, bucket: u32) -> u32
     requires depth { depth ≤ GREATEST_DEPTH }
-    requires local_depth { range.local_depth ≤ GREATEST_DEPTH }
+    requires local_depth { range.depth ≤ GREATEST_DEPTH }
     ensures { result ≡ retargeted depth range bucket payload.now index }
 {
-    if index < 1 << depth && index % (1 << range.local_depth) == range.pattern {
+    if index < 1 << depth && positions::index(index, range.depth) == range.pattern {
         bucket
     } else {
-        entry(payload, slot_of(index))
+        directory_of(payload).entry(slot_of(index))
     }
 }

@@ -1,31 +1,43 @@
-//! Where the pages of a file and their fields stand.
+//! Where the pages of a file and their fields stand (docs/FORMAT.md, "Pages").
+
+/// The numbers in which the layouts of files differ.
+#[derive(Clone, Copy, Debug, PartialEq, Eq)]
+pub struct Layout {
+    /// The greatest depth of the directory, and the greatest local depth of a bucket.
+    pub greatest_depth: u8,
+    /// Local depths of buckets, of each of which the header has a count.
+    pub local_depths: usize,
+    /// Pages of the directory, behind the header.
+    pub directory_pages: u32,
+    /// The page of the root bucket, behind the directory.
+    pub root_page: u32,
+}
+
+/// The layout of this version. Each number below that differs between layouts is of it.
+pub const LAYOUT: Layout = Layout {
+    greatest_depth: 17,
+    local_depths: 18,
+    directory_pages: 256,
+    root_page: 257,
+};
 
 /// The greatest depth of the directory, and the greatest local depth of a bucket.
-pub const GREATEST_DEPTH: u8 = 17;
+pub const GREATEST_DEPTH: u8 = LAYOUT.greatest_depth;
 
 /// Local depths of buckets, of each of which the header has a count.
-pub const LOCAL_DEPTHS: usize = 18;
+pub const LOCAL_DEPTHS: usize = LAYOUT.local_depths;
 
 /// The first page of the directory, behind the header.
 pub const FIRST_DIRECTORY_PAGE: u32 = 1;
 
 /// Pages of the directory.
-pub const DIRECTORY_PAGES: u32 = 256;
+pub const DIRECTORY_PAGES: u32 = LAYOUT.directory_pages;
 
 /// The page of the root bucket, behind the directory.
-pub const ROOT_PAGE: u32 = 257;
+pub const ROOT_PAGE: u32 = LAYOUT.root_page;
 
 /// Pages of the shortest file: up to the root bucket, with it.
-pub const LEAST_PAGES: u32 = 258;
-
-/// Entries of a directory page.
-pub const ENTRIES_IN_A_PAGE: u32 = 512;
-
-/// Where the entries of a directory page begin, four bytes each.
-pub const ENTRIES_BEGIN: usize = 16;
-
-/// Where they end.
-pub const ENTRIES_END: usize = 2064;
+pub const LEAST_PAGES: u32 = LAYOUT.root_page + 1;
 
 /// The first byte of the header.
 pub const HEADER: u8 = 1;
@@ -36,5 +48,23 @@ pub const VERSION: u8 = 2;
 /// What the header has from its fifth byte on.
 pub const MAGIC: [u8; 8] = *b"MSGQFILE";
 
+/// Where the counts of the header begin, four bytes each.
+pub const COUNTS_BEGIN: usize = 20;
+
+/// Bytes of the counts.
+pub const COUNTS_BYTES: usize = 4 * LAYOUT.local_depths;
+
 /// Bytes of the header up to its last field, with it.
-pub const HEADER_BYTES: usize = 92;
+pub const HEADER_BYTES: usize = COUNTS_BEGIN + COUNTS_BYTES;
+
+/// The first byte of a directory page.
+pub const DIRECTORY: u8 = 2;
+
+/// Bytes at the head of a directory page or of a bucket, before its entries or records.
+pub const HEAD_BYTES: usize = 16;
+
+/// Entries of a directory page.
+pub const PAGE_ENTRIES: usize = 512;
+
+/// Bytes of the entries of a directory page, four each.
+pub const ENTRIES_BYTES: usize = 4 * PAGE_ENTRIES;

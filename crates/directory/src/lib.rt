@@ -4,19 +4,20 @@
 
 mod directory;
 mod entries;
-mod field;
 mod header;
 mod layout;
+mod page;
 mod read;
 mod write;
 
-pub use directory::{index, page_of, slot_of};
-pub use entries::{Range, copy_upper, entry, lower_page, retarget, set_entry};
+pub use directory::{page_of, slot_of};
+pub use entries::{copy_upper, lower_page, retarget, set_entry};
 pub use header::Header;
 pub use layout::{
-    DIRECTORY_PAGES, ENTRIES_IN_A_PAGE, FIRST_DIRECTORY_PAGE, GREATEST_DEPTH, LEAST_PAGES,
-    LOCAL_DEPTHS, ROOT_PAGE,
+    DIRECTORY, DIRECTORY_PAGES, FIRST_DIRECTORY_PAGE, GREATEST_DEPTH, HEAD_BYTES, LAYOUT,
+    LEAST_PAGES, LOCAL_DEPTHS, Layout, PAGE_ENTRIES, ROOT_PAGE,
 };
+pub use page::{DirectoryView, directory_of, read_entries, write_directory};
 pub use read::{HeaderFault, read_header};
 pub use write::write_header;
 

@@ -3,16 +3,15 @@
 ghost use Rattle.std.specs.Prelude.{◌≡◌, IfOk, Ok, length};
 ghost use Rattle.page_device.specs.declared.page.TheConstants.{PAYLOAD_BYTES};
 ghost use Rattle.directory.specs.Fault.{number_of};
-ghost use Rattle.directory.specs.Numbers.{numbers_of};
+ghost use Rattle.fields.specs.Numbers.{numbers_of};
 ghost use Rattle.directory.specs.Reading.{counts_at, has_layout, has_magic, has_padding, has_range, reading};
 ghost use Rattle.directory.specs.Spelling.{Spells};
 
-use crate::field::{four_at, is_zero};
 use crate::header::Header;
 use crate::layout::{
-    GREATEST_DEPTH, HEADER, HEADER_BYTES, LEAST_PAGES, LOCAL_DEPTHS, MAGIC, VERSION,
+    COUNTS_BEGIN, GREATEST_DEPTH, HEADER, HEADER_BYTES, LEAST_PAGES, LOCAL_DEPTHS, MAGIC, VERSION,
 };
-use byteorder::{BigEndian, ByteOrder};
+use fields::{four_at, is_zero, read_numbers};
 use page_device::{MAX_PAGES, Payload};
 use thiserror::Error;
 
@@ -34,8 +33,8 @@ impl HeaderFault {
         ensures { result ≡ number_of self }
     {
         match self {
-            HeaderFault::BadHeader => 41,
-            HeaderFault::BadVersion => 42,
+            HeaderFault::BadHeader => faults::BAD_HEADER,
+            HeaderFault::BadVersion => faults::BAD_VERSION,
         }
     }
 }
@@ -114,6 +113,6 @@ fn counts_at(bytes: &[u8]) -> [u32; LOCAL_DEPTHS]
     ensures { result ≡ counts_at bytes.now }
 {
     let mut counts = [0; LOCAL_DEPTHS];
-    BigEndian::read_u32_into(&bytes[20..HEADER_BYTES], &mut counts);
+    read_numbers(&bytes[COUNTS_BEGIN..HEADER_BYTES], &mut counts);
     counts
 }

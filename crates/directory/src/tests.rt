@@ -1,7 +1,9 @@
 ghost use Rattle.std.specs.Prelude.{◌≡◌};
+ghost use Rattle.directory.specs.Pages.{IsDirectoryPage};
 
 use super::*;
 use page_device::{PAYLOAD_BYTES, Payload};
+use positions::Range;
 use std::process::Abort;
 use std::test::Fail;
 
@@ -93,13 +95,22 @@ fn a_header_changes_in_one_place(rt: HostRuntime) {
 fn shows(rt: &impl Abort, payload: &Payload, wanted: &[u32]) {
     for slot in 0..8 {
         let want = wanted.get(slot).copied().unwrap_or(0);
-        assert_eq!(rt; entry(payload, slot as u32), want, "slot {slot}");
+        assert_eq!(rt; directory_of(payload).entry(slot), want, "slot {slot}");
     }
+}
+
+/// A page of the directory without entries.
+fn new_page() -> Payload
+    ensures { IsDirectoryPage result }
+{
+    let mut payload = [0; PAYLOAD_BYTES];
+    write_directory(&mut payload, &[0; PAGE_ENTRIES]);
+    payload
 }
 
 #[test]
 fn a_directory_doubles_twice(rt: HostRuntime) {
-    let mut payload = [0; PAYLOAD_BYTES];
+    let mut payload = new_page();
     set_entry(&mut payload, 0, 257);
     let lower = payload;
     copy_upper(&mut payload, 1, 0, &lower);
@@ -108,25 +119,24 @@ fn a_directory_doubles_twice(rt: HostRuntime) {
     let lower = payload;
     copy_upper(&mut payload, 1, 1, &lower);
     shows(&rt, &payload, &[257, 258, 257, 258]);
-    let mut want = [0; PAYLOAD_BYTES];
+    let mut want = new_page();
     want[16..32].copy_from_slice(&[0, 0, 1, 1, 0, 0, 1, 2, 0, 0, 1, 1, 0, 0, 1, 2]);
     assert!(rt; payload == want);
-    let mut second = [0; PAYLOAD_BYTES];
+    let mut second = new_page();
     copy_upper(&mut second, 2, 9, &payload);
     assert!(rt; second == want);
 }
 
 #[test]
 fn a_range_gets_its_bucket(rt: HostRuntime) {
-    let mut payload = [0; PAYLOAD_BYTES];
+    let mut payload = new_page();
     let range = Range {
-        local_depth: 1,
+        depth: 1,
         pattern: 1,
     };
     retarget(&mut payload, 1, 3, range, 300);
     shows(&rt, &payload, &[0, 300, 0, 300, 0, 300, 0, 300]);
-    assert_eq!(rt; entry(&payload, 9), 0);
-    assert_eq!(rt; index(0x1d, 3), 5);
+    assert_eq!(rt; directory_of(&payload).entry(9), 0);
     assert_eq!(rt; page_of(0x1_ffff), 256);
     assert_eq!(rt; slot_of(513), 1);
     assert_eq!(rt; lower_page(4, 10), 2);

@@ -4,9 +4,9 @@ ghost use Rattle.std.specs.Prelude.{◌≡◌, ◌≤◌, length};
 ghost use Rattle.page_device.specs.declared.page.TheConstants.{MAX_PAGES, PAYLOAD_BYTES};
 ghost use Rattle.directory.specs.Spelling.{Spells, header_bytes};
 
-use crate::field::{blank, write_four, write_numbers};
 use crate::header::Header;
-use crate::layout::{GREATEST_DEPTH, HEADER, LEAST_PAGES, MAGIC, VERSION};
+use crate::layout::{COUNTS_BYTES, GREATEST_DEPTH, HEADER, LEAST_PAGES, MAGIC, VERSION};
+use fields::{blank, write_four, write_numbers};
 use page_device::{MAX_PAGES, Payload};
 
 /// Writes a header over the whole payload.
@@ -28,7 +28,7 @@ fn write(bytes: &mut [u8], header: &Header)
     let (magic, others) = others.split_at_mut(8);
     let (pages, others) = others.split_at_mut(4);
     let (first_free, others) = others.split_at_mut(4);
-    let (counts, rest) = others.split_at_mut(72);
+    let (counts, rest) = others.split_at_mut(COUNTS_BYTES);
     head[0] = HEADER;
     head[1] = VERSION;
     head[2] = header.depth;

@@ -17,7 +17,7 @@ use Rattle.hash_file.specs.declared.page.Page.{Page}
 use Rattle.hash_file.specs.declared.page.Page.TheVariants as pages
 use Rattle.hash_file.specs.Store.{Store, page_at, bucket_of, range_of, has_bucket, bucket_at, range_at, next_at}
 use Rattle.hash_file.specs.Chain.{IsChain}
-use Rattle.hash_file.specs.Skeletons.{shown, shape_of, skeleton, GoesOn}
+use Rattle.hash_file.specs.Skeletons.{shown, shape_of, skeleton, ExtendsChain}
 
 -- ---- pages
 
@@ -60,12 +60,12 @@ pub record IsChainTo (s : Store) (ns : List ℕ) (reached expected : ℕ) : Type
 
 -- for this it is all one where the chain begins
 pub with_root : (root depth : ℕ) (ps : List Page) (n reached expected : ℕ) →
-    GoesOn (skeleton 0 depth [] ps) n reached expected → GoesOn (skeleton root depth [] ps) n reached expected
+    ExtendsChain (skeleton 0 depth [] ps) n reached expected → ExtendsChain (skeleton root depth [] ps) n reached expected
 with_root root depth ps n reached expected g =
     record { live = g.live; comes = g.comes; shallow = g.shallow; tile = g.tile }
 
 pub without_root : (root depth : ℕ) (ps : List Page) (n reached expected : ℕ) →
-    GoesOn (skeleton root depth [] ps) n reached expected → GoesOn (skeleton 0 depth [] ps) n reached expected
+    ExtendsChain (skeleton root depth [] ps) n reached expected → ExtendsChain (skeleton 0 depth [] ps) n reached expected
 without_root root depth ps n reached expected g =
     record { live = g.live; comes = g.comes; shallow = g.shallow; tile = g.tile }
 
@@ -74,7 +74,7 @@ module _ (s : Store) where
   links_end [] x a b l k = sym l ∙ k
   links_end (n ∷ ns) x a b l k = links_end ns (next_at s n) a b l.1 k.1
 
-  grown : (ns : List ℕ) (n reached expected : ℕ) → IsChainTo s ns reached expected → GoesOn s n reached expected →
+  grown : (ns : List ℕ) (n reached expected : ℕ) → IsChainTo s ns reached expected → ExtendsChain s n reached expected →
       IsChainTo s (ns ++ n ∷ []) (stop_of (range_at s n)) (next_at s n)
   grown ns n reached expected h g = record {
     linked = links_join (next_at s) ns (n ∷ []) s.layout.root expected (next_at s n) h.linked (sym g.comes, refl);
@@ -97,14 +97,14 @@ module _ (s : Store) where
 
   -- one page more is seen
   pub chain_grown : (xs : List ℕ) (k d reached expected : ℕ) → k < length xs →
-      IsChainTo s (take k xs) reached expected → GoesOn s (slice_index_or xs k d) reached expected →
+      IsChainTo s (take k xs) reached expected → ExtendsChain s (slice_index_or xs k d) reached expected →
       IsChainTo s (take (k + 1) xs) (stop_of (range_at s (slice_index_or xs k d))) (next_at s (slice_index_or xs k d))
   chain_grown xs k d reached expected within h g =
       rw (add-one k, take-suc xs k d within) (grown (take k xs) (slice_index_or xs k d) reached expected h g)
 
   -- of a chain each page goes on with those before it
   pub chain_continues : (xs : List ℕ) (k d reached expected : ℕ) → k < length xs →
-      IsChainTo s (take k xs) reached expected → IsChain s xs → GoesOn s (slice_index_or xs k d) reached expected
+      IsChainTo s (take k xs) reached expected → IsChain s xs → ExtendsChain s (slice_index_or xs k d) reached expected
   chain_continues xs k d reached expected within h whole =
       let n = slice_index_or xs k d in
       let parts : xs ≡ take k xs ++ slice_index_or xs k d ∷ drop (suc k) xs =

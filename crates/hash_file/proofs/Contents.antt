@@ -19,7 +19,7 @@ use Rattle.bucket_page.proofs.OrderLaws.{ascend_rest}
 use Rattle.hash_file.specs.Store.{Store, bucket_at, range_at, records_at}
 use Rattle.hash_file.specs.Chain.{chain, pairs, pairs_on, IsPlaced}
 use Rattle.hash_file.specs.Change.{Change}
-use Rattle.hash_file.specs.Sound.{IsSound}
+use Rattle.hash_file.specs.Sound.{IsSoundFile}
 use Rattle.hash_file.specs.Words.{HasContents}
 
 abbrev Differ : Pair → Pair → Type 0
@@ -130,7 +130,7 @@ there_found key value (p ∷ ps) apart c = elim (contains_cases p (pair key valu
             (same ∙ sym (ap (λ (q : Pair). q.key) is))
     by_test false other d found = rw other found
 
-pub contents_are_pairs : (hash : RecordKey → ℕ) (s : Store) (c : Change) → IsSound hash s c → HasContents s
+pub contents_are_pairs : (hash : RecordKey → ℕ) (s : Store) (c : Change) → IsSoundFile hash s c → HasContents s
 contents_are_pairs hash s c h =
     let apart = pairs_differ hash s (chain s) 0 POSITIONS h.chained.tiled h.placed in
     record {

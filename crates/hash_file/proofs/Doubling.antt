@@ -10,9 +10,9 @@ use Rattle.directory.specs.Entries.{page_of, is_upper}
 use Rattle.hash_file.specs.Store.{Store, entry_at, bucket_at, range_at, count_at}
 use Rattle.hash_file.specs.Chain.{chain, IsBucketOn, how_many, number_on}
 use Rattle.hash_file.specs.Change.{Change, Quiet, Taken}
-use Rattle.hash_file.specs.Sound.{IsSoundOn, IsSound, HasEntry}
+use Rattle.hash_file.specs.Sound.{IsSoundOn, IsSoundFile, HasEntry}
 use Rattle.hash_file.specs.Changes.{copy_directory, raise_depth, lower_depth}
-use Rattle.hash_file.specs.Kept.{Keeps}
+use Rattle.hash_file.specs.Kept.{KeepsFile}
 use Rattle.hash_file.specs.Laws.{IsCopied}
 use Rattle.hash_file.proofs.Headed.{layout_headed, chain_headed, spared_headed, keeps_headed, length-mapped, mapped_first}
 
@@ -40,8 +40,8 @@ copied_at hash s c ns page i h low =
     ∙ ap (λ (b : Bool). cond b (entry_at s (i - 2 ^ s.header.depth)) (entry_at s i))
     (lower_stays s.header.depth page i low)
 
-pub copy_directory_keeps : (hash : RecordKey → ℕ) (s : Store) (new page : ℕ) → IsSound hash s (Taken new) →
-    Keeps hash s (Taken new) (copy_directory page s) (Taken new)
+pub copy_directory_keeps : (hash : RecordKey → ℕ) (s : Store) (new page : ℕ) → IsSoundFile hash s (Taken new) →
+    KeepsFile hash s (Taken new) (copy_directory page s) (Taken new)
 copy_directory_keeps hash s new page h =
     let t = copy_directory page s in
     keeps_headed s s.header t.entries hash (Taken new) (Taken new) (record {
@@ -63,8 +63,8 @@ copy_directory_keeps hash s new page h =
     }) (λ n off. off)
 
 -- an index of the doubled directory is one of the directory, or one of it and its half
-pub raise_depth_keeps : (hash : RecordKey → ℕ) (s : Store) (new : ℕ) → IsSound hash s (Taken new) →
-    s.header.depth < s.layout.greatest → IsCopied s → Keeps hash s (Taken new) (raise_depth s) (Taken new)
+pub raise_depth_keeps : (hash : RecordKey → ℕ) (s : Store) (new : ℕ) → IsSoundFile hash s (Taken new) →
+    s.header.depth < s.layout.greatest → IsCopied s → KeepsFile hash s (Taken new) (raise_depth s) (Taken new)
 raise_depth_keeps hash s new h room copied =
     let t = raise_depth s in
     keeps_headed s t.header s.entries hash (Taken new) (Taken new) (record {
@@ -116,8 +116,8 @@ none_passes test (y ∷ ys) x none c = elim (contains_cases y x ys c) [
     first true is = absurd (let none' = rw is at none in omega (arith, none'))
     first false is = refl
 
-pub lower_depth_keeps : (hash : RecordKey → ℕ) (s : Store) → IsSound hash s Quiet → 0 < s.header.depth →
-    count_at s s.header.depth ≡ 0 → Keeps hash s Quiet (lower_depth s) Quiet
+pub lower_depth_keeps : (hash : RecordKey → ℕ) (s : Store) → IsSoundFile hash s Quiet → 0 < s.header.depth →
+    count_at s s.header.depth ≡ 0 → KeepsFile hash s Quiet (lower_depth s) Quiet
 lower_depth_keeps hash s h deep none =
     let t = lower_depth s in
     keeps_headed s t.header s.entries hash Quiet Quiet (record {

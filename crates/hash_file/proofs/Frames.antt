@@ -17,34 +17,34 @@ use Rattle.bucket_page.specs.Records.{lookup}
 use Rattle.hash_file.specs.Store.{Store, page_at, is_bucket, bucket_of, bucket_at, range_of, has_bucket, range_at, next_at, entry_at}
 use Rattle.hash_file.specs.Chain.{contents, pairs_on, IsChain, IsBucketOn, number_on}
 use Rattle.hash_file.specs.Change.{Change}
-use Rattle.hash_file.specs.Search.{reach, Leads, LeadsOn, distance, distance_on}
-use Rattle.hash_file.specs.Sound.{IsSoundOn, IsSound, HasLayout, HasEntry, IsFreeList, is_numbered}
+use Rattle.hash_file.specs.Search.{reach, PageLeads, PageLeadsOn, distance, distance_on}
+use Rattle.hash_file.specs.Sound.{IsSoundOn, IsSoundFile, HasLayout, HasEntry, IsFreeList, is_numbered}
 use Rattle.hash_file.specs.Changes.{with_page}
-use Rattle.hash_file.specs.Kept.{HasShapeOf, Keeps, LengthensWays}
+use Rattle.hash_file.specs.Kept.{HasShapeOf, KeepsFile, LengthensWays}
 use Rattle.hash_file.proofs.Chains.{chain_is}
 use Rattle.hash_file.proofs.Lists.{how_many_same}
 
 -- ---- closing
 
-pub sound_by : (hash : RecordKey → ℕ) (t : Store) (d : Change) (ms : List ℕ) → IsSoundOn hash t d ms → IsSound hash t d
+pub sound_by : (hash : RecordKey → ℕ) (t : Store) (d : Change) (ms : List ℕ) → IsSoundOn hash t d ms → IsSoundFile hash t d
 sound_by hash t d ms h =
     subst (λ (ns : List ℕ). IsSoundOn hash t d ns) (sym (chain_is t ms h.layout h.chained)) h
 
 -- what is shown of a list that is sound is so of the chain
 pub keeps_by : (hash : RecordKey → ℕ) (s : Store) (c : Change) (t : Store) (d : Change) (ms : List ℕ) →
     IsSoundOn hash t d ms → ((key : RecordKey) → lookup key (pairs_on t ms) ≡ contents s key) →
-    ((n k : ℕ) → Leads s c n k → LeadsOn t d ms n k) → Keeps hash s c t d
+    ((n k : ℕ) → PageLeads s c n k → PageLeadsOn t d ms n k) → KeepsFile hash s c t d
 keeps_by hash s c t d ms h same leads =
     let is = chain_is t ms h.layout h.chained in
     record {
       sound = sound_by hash t d ms h;
       contents = λ key. ap (λ (ns : List ℕ). lookup key (pairs_on t ns)) is ∙ same key;
-      leads = λ n k l. subst (λ (ns : List ℕ). LeadsOn t d ns n k) (sym is) (leads n k l);
+      leads = λ n k l. subst (λ (ns : List ℕ). PageLeadsOn t d ns n k) (sym is) (leads n k l);
     }
 
 -- likewise of ways
 pub ways_by : (hops : ℕ) (s : Store) (c : Change) (t : Store) (ms : List ℕ) → HasLayout t → IsChain t ms →
-    ((n k : ℕ) → Leads s c n k → distance_on t ms n k ≤ distance s n k + hops) → LengthensWays hops s c t
+    ((n k : ℕ) → PageLeads s c n k → distance_on t ms n k ≤ distance s n k + hops) → LengthensWays hops s c t
 ways_by hops s c t ms layout h near n k l =
     subst (λ (ns : List ℕ). distance_on t ns n k ≤ distance s n k + hops) (sym (chain_is t ms layout h)) (near n k l)
 

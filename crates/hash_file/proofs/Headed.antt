@@ -8,7 +8,7 @@ use Rattle.hash_file.specs.Chain.{chain, IsChain}
 use Rattle.hash_file.specs.Change.{Change, aside}
 use Rattle.hash_file.specs.Sound.{IsSoundOn, HasLayout, IsFreeList}
 use Rattle.hash_file.specs.Changes.{mapped_from}
-use Rattle.hash_file.specs.Kept.{Keeps}
+use Rattle.hash_file.specs.Kept.{KeepsFile}
 use Rattle.hash_file.proofs.Frames.{keeps_by}
 
 abbrev pub headed : Store → Header → List ℕ → Store
@@ -44,7 +44,7 @@ module _ (s : Store) (head : Header) (entries : List ℕ) where
 
   -- so what is sound of it keeps what the file holds, and where pages lead
   pub keeps_headed : (hash : RecordKey → ℕ) (c d : Change) → IsSoundOn hash (headed s head entries) d (chain s) →
-      ((n : ℕ) → Contains (aside c) n → Contains (aside d) n) → Keeps hash s c (headed s head entries) d
+      ((n : ℕ) → Contains (aside c) n → Contains (aside d) n) → KeepsFile hash s c (headed s head entries) d
   keeps_headed hash c d h beside = keeps_by hash s c (headed s head entries) d (chain s) h (λ key. refl)
       (λ n k l. record {
         stands = elim l.stands [ inl on ↦ inl on | inr off ↦ inr (beside n off) ];

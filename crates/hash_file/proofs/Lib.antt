@@ -24,3 +24,5 @@ pub mod Checking
 pub mod Hops
 pub mod Joins
 pub mod New
+pub mod Short
+pub mod RightPages

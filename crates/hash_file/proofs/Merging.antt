@@ -24,11 +24,11 @@ use Rattle.bucket_page.specs.Dividing.{joined}
 use Rattle.hash_file.specs.Store.{Store, page_at, is_bucket, bucket_of, bucket_at, range_of, range_at, next_at, has_bucket, entry_at, count_at}
 use Rattle.hash_file.specs.Chain.{chain, pairs_on, IsChain, IsPlaced, IsBucketOn, number_on, times}
 use Rattle.hash_file.specs.Change.{Change, Quiet, Absorbed, gained, lost}
-use Rattle.hash_file.specs.Search.{reach, LeadsOn, distance_on}
+use Rattle.hash_file.specs.Search.{reach, PageLeadsOn, distance_on}
 use Rattle.hash_file.specs.Phases.{IsAbsorbed}
-use Rattle.hash_file.specs.Sound.{IsSoundOn, IsSound, HasEntry}
+use Rattle.hash_file.specs.Sound.{IsSoundOn, IsSoundFile, HasEntry}
 use Rattle.hash_file.specs.Changes.{write_left}
-use Rattle.hash_file.specs.Kept.{Keeps, LengthensWays}
+use Rattle.hash_file.specs.Kept.{KeepsFile, LengthensWays}
 use Rattle.hash_file.proofs.Chains.{chain_valid, bucket_found}
 use Rattle.hash_file.proofs.Lists.{how_many_append, how_many_same, twice, times_append, contains_is}
 use Rattle.hash_file.proofs.Lookups.{look_at}
@@ -36,7 +36,7 @@ use Rattle.hash_file.proofs.Roles.{thrice, numbered, numbered_positive, live_not
 use Rattle.hash_file.proofs.Frames.{shape_of_page, reach_same, page_other, page_same, spared_same, numbered_same, layout_same, keeps_by, ways_by}
 use Rattle.hash_file.proofs.Joins.{range_joined, joined_left, joined_right, placed_joined}
 
-module _ (hash : RecordKey → ℕ) (s : Store) (left right : ℕ) (whole : Range) (h : IsSound hash s Quiet)
+module _ (hash : RecordKey → ℕ) (s : Store) (left right : ℕ) (whole : Range) (h : IsSoundFile hash s Quiet)
     (halves : AreHalvesOf whole (range_at s left) (range_at s right)) (front back : List ℕ)
     (is : chain s ≡ front ++ left ∷ right ∷ back) where
   abbrev d : Change
@@ -321,13 +321,13 @@ module _ (hash : RecordKey → ℕ) (s : Store) (left right : ℕ) (whole : Rang
         (λ dead. absurd (both_ways (has_bucket s n) dead (sound.chained.buckets n on)))
   ]
 
-  merge_keeps : Keeps hash s Quiet t d
+  merge_keeps : KeepsFile hash s Quiet t d
   merge_keeps = keeps_by hash s Quiet t d ms sound_on
       (λ key. looked_up key (bucket_found s ns (hash key) sound.chained)
       ∙ ap (λ (xs : List ℕ). lookup key (pairs_on s xs)) (sym is))
-      (λ n k l. on_chain n k (subst (λ (xs : List ℕ). LeadsOn s Quiet xs n k) is l))
+      (λ n k l. on_chain n k (subst (λ (xs : List ℕ). PageLeadsOn s Quiet xs n k) is l))
     where
-      on_chain : (n k : ℕ) → LeadsOn s Quiet ns n k → LeadsOn t d ms n k
+      on_chain : (n k : ℕ) → PageLeadsOn s Quiet ns n k → PageLeadsOn t d ms n k
       on_chain n k l = elim l.stands [
         | inl on ↦ record {
           stands = elim (contains_grown_cases front left right back n on) [
@@ -353,7 +353,7 @@ module _ (hash : RecordKey → ℕ) (s : Store) (left right : ℕ) (whole : Rang
   merge_ways : LengthensWays 0 s Quiet t
   merge_ways = ways_by 0 s Quiet t ms sound_on.layout chained
       (λ n k l. subst (λ (xs : List ℕ). distance_on t ms n k ≤ distance_on s xs n k + 0) (sym is)
-      (on_chain n k (subst (λ (xs : List ℕ). LeadsOn s Quiet xs n k) is l)))
+      (on_chain n k (subst (λ (xs : List ℕ). PageLeadsOn s Quiet xs n k) is l)))
     where
       live : (n : ℕ) → Contains ns n → has_bucket t n ≡ true
       live n on = elim (cases_eq n left) [
@@ -361,7 +361,7 @@ module _ (hash : RecordKey → ℕ) (s : Store) (left right : ℕ) (whole : Rang
         | inr far ↦ ap is_bucket (other n far) ∙ sound.chained.buckets n on
       ]
 
-      on_chain : (n k : ℕ) → LeadsOn s Quiet ns n k → distance_on t ms n k ≤ distance_on s ns n k + 0
+      on_chain : (n k : ℕ) → PageLeadsOn s Quiet ns n k → distance_on t ms n k ≤ distance_on s ns n k + 0
       on_chain n k l = elim l.stands [
         | inl on ↦ (
             let now : distance_on t ms n k
@@ -376,18 +376,18 @@ module _ (hash : RecordKey → ℕ) (s : Store) (left right : ℕ) (whole : Rang
         | inr off ↦ absurd (contains_none n off)
       ]
 
-pub write_left_keeps : (hash : RecordKey → ℕ) (s : Store) (left right : ℕ) (whole : Range) → IsSound hash s Quiet →
+pub write_left_keeps : (hash : RecordKey → ℕ) (s : Store) (left right : ℕ) (whole : Range) → IsSoundFile hash s Quiet →
     Contains (chain s) left → Contains (chain s) right → AreHalvesOf whole (range_at s left) (range_at s right) →
-    Keeps hash s Quiet (write_left left right s) (Absorbed left right whole)
+    KeepsFile hash s Quiet (write_left left right s) (Absorbed left right whole)
 write_left_keeps hash s left right whole h on_left on_right halves =
     beside
     (halves_neighbours (range_at s) (chain s) 0 POSITIONS whole left right h.chained.tiled on_left on_right halves)
   where
     beside : AreNeighbours (chain s) left right →
-        Keeps hash s Quiet (write_left left right s) (Absorbed left right whole)
+        KeepsFile hash s Quiet (write_left left right s) (Absorbed left right whole)
     beside (front, back, is) = merge_keeps hash s left right whole h halves front back is
 
-pub write_left_ways : (hash : RecordKey → ℕ) (s : Store) (left right : ℕ) (whole : Range) → IsSound hash s Quiet →
+pub write_left_ways : (hash : RecordKey → ℕ) (s : Store) (left right : ℕ) (whole : Range) → IsSoundFile hash s Quiet →
     Contains (chain s) left → Contains (chain s) right → AreHalvesOf whole (range_at s left) (range_at s right) →
     LengthensWays 0 s Quiet (write_left left right s)
 write_left_ways hash s left right whole h on_left on_right halves =

@@ -19,11 +19,11 @@ use Rattle.bucket_page.specs.Dividing.{upper_half}
 use Rattle.hash_file.specs.Store.{Store, page_at, is_bucket, bucket_of, bucket_at, range_of, range_at, entry_at, records_at, next_at, has_bucket}
 use Rattle.hash_file.specs.Chain.{chain, contents, pairs_on, IsChain, IsPlaced, times}
 use Rattle.hash_file.specs.Change.{Change, Taken, Filled, Absorbed, Buried, Drained, Freed, owned, TakesDetour, gained, lost}
-use Rattle.hash_file.specs.Search.{reach, LeadsOn, distance, distance_on}
+use Rattle.hash_file.specs.Search.{reach, PageLeadsOn, distance, distance_on}
 use Rattle.hash_file.specs.Phases.{HasPhase}
-use Rattle.hash_file.specs.Sound.{IsSoundOn, IsSound, HasEntry}
+use Rattle.hash_file.specs.Sound.{IsSoundOn, IsSoundFile, HasEntry}
 use Rattle.hash_file.specs.Changes.{with_page, write_new, write_tombstone, write_free}
-use Rattle.hash_file.specs.Kept.{HasShapeOf, Keeps, LengthensWays, KeepsWaysBut}
+use Rattle.hash_file.specs.Kept.{HasShapeOf, KeepsFile, LengthensWays, KeepsWaysBut}
 use Rattle.hash_file.specs.Laws.{FreesPage}
 use Rattle.hash_file.proofs.Chains.{chain_is, chain_valid}
 use Rattle.hash_file.proofs.Roles.{numbered, numbered_positive, live_not_owned, spare_not_owned}
@@ -37,7 +37,7 @@ pairs_same s t (n ∷ ns) same =
     ap (λ (ps : List Pair). ps ++ pairs_on t ns) (same n (contains_head n ns))
     ∙ ap (λ (ps : List Pair). records_at s n ++ ps) (pairs_same s t ns (λ m c. same m (contains_tail n m ns c)))
 
-module _ (hash : RecordKey → ℕ) (s : Store) (c : Change) (n : ℕ) (page : PageKind) (h : IsSound hash s c)
+module _ (hash : RecordKey → ℕ) (s : Store) (c : Change) (n : ℕ) (page : PageKind) (h : IsSoundFile hash s c)
     (own : Contains (owned c) n) where
   abbrev ns : List ℕ
   ns = chain s
@@ -109,9 +109,9 @@ module _ (hash : RecordKey → ℕ) (s : Store) (c : Change) (n : ℕ) (page : P
 one : (m n : ℕ) → Contains (m ∷ []) n → m ≡ n
 one m n off = elim (contains_cases m n [] off) [ inl same ↦ same | inr d ↦ absurd (contains_none n d) ]
 
-pub write_new_keeps : (hash : RecordKey → ℕ) (s : Store) (old new : ℕ) → IsSound hash s (Taken new) →
+pub write_new_keeps : (hash : RecordKey → ℕ) (s : Store) (old new : ℕ) → IsSoundFile hash s (Taken new) →
     Contains (chain s) old → (bucket_at s old).depth < s.header.depth →
-    Keeps hash s (Taken new) (write_new hash old new s) (Filled old new)
+    KeepsFile hash s (Taken new) (write_new hash old new s) (Filled old new)
 write_new_keeps hash s old new h on shallow =
     let page : PageKind = kinds.Bucket (upper_half hash (bucket_at s old)) in
     let t = write_new hash old new s in
@@ -133,8 +133,8 @@ write_new_keeps hash s old new h on shallow =
     })
 
 pub write_tombstone_keeps : (hash : RecordKey → ℕ) (s : Store) (left right : ℕ) (whole : Range) →
-    IsSound hash s (Absorbed left right whole) →
-    Keeps hash s (Absorbed left right whole) (write_tombstone left right s) (Buried left right whole)
+    IsSoundFile hash s (Absorbed left right whole) →
+    KeepsFile hash s (Absorbed left right whole) (write_tombstone left right s) (Buried left right whole)
 write_tombstone_keeps hash s left right whole h =
     let page : PageKind = kinds.Tombstone left in
     let c = Absorbed left right whole in
@@ -180,7 +180,7 @@ write_tombstone_keeps hash s left right whole h =
         omega (arith, reaches, starts, ap start_of p.upper, upper_half_start whole valid shallow, low'') in
         subst (λ m. reach (write_tombstone left right s) m ≤ position_of k) is here'
 
-pub write_free_keeps : (hash : RecordKey → ℕ) (s : Store) (left right : ℕ) → IsSound hash s (Drained left right) →
+pub write_free_keeps : (hash : RecordKey → ℕ) (s : Store) (left right : ℕ) → IsSoundFile hash s (Drained left right) →
     FreesPage hash s (Drained left right) (write_free right s) right
 write_free_keeps hash s left right h =
     let page : PageKind = kinds.Free s.header.first_free in
@@ -194,7 +194,7 @@ write_free_keeps hash s left right h =
       sound = sound_by hash t (Freed right) (chain s) sound;
       contents = λ key. ap (λ (ms : List ℕ). lookup key (pairs_on t ms)) is
           ∙ contents_off hash s c right page h own key;
-      leads = λ n k other l. subst (λ (ms : List ℕ). LeadsOn t (Freed right) ms n k) (sym is) (elim l.stands [
+      leads = λ n k other l. subst (λ (ms : List ℕ). PageLeadsOn t (Freed right) ms n k) (sym is) (elim l.stands [
         | inl live ↦ record {
           stands = inl live;
           reaches = omega (arith, l.reaches, live_reach hash s c right page h own n live);
@@ -205,7 +205,7 @@ write_free_keeps hash s left right h =
 
 -- ---- ways
 
-pub write_new_ways : (hash : RecordKey → ℕ) (s : Store) (old new : ℕ) → IsSound hash s (Taken new) →
+pub write_new_ways : (hash : RecordKey → ℕ) (s : Store) (old new : ℕ) → IsSoundFile hash s (Taken new) →
     Contains (chain s) old → (bucket_at s old).depth < s.header.depth →
     LengthensWays 0 s (Taken new) (write_new hash old new s)
 write_new_ways hash s old new h on shallow =
@@ -219,7 +219,7 @@ write_new_ways hash s old new h on shallow =
       | inr off ↦ absurd (contains_none n off)
     ])
 
-pub write_free_ways : (hash : RecordKey → ℕ) (s : Store) (left right : ℕ) → IsSound hash s (Drained left right) →
+pub write_free_ways : (hash : RecordKey → ℕ) (s : Store) (left right : ℕ) → IsSoundFile hash s (Drained left right) →
     KeepsWaysBut right s (Drained left right) (write_free right s)
 write_free_ways hash s left right h n k other l =
     let page : PageKind = kinds.Free s.header.first_free in
@@ -233,7 +233,7 @@ write_free_ways hash s left right h n k other l =
     ])
 
 pub write_tombstone_ways : (hash : RecordKey → ℕ) (s : Store) (left right : ℕ) (whole : Range) →
-    IsSound hash s (Absorbed left right whole) →
+    IsSoundFile hash s (Absorbed left right whole) →
     LengthensWays 1 s (Absorbed left right whole) (write_tombstone left right s)
 write_tombstone_ways hash s left right whole h =
     let page : PageKind = kinds.Tombstone left in

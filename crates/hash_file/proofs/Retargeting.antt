@@ -7,14 +7,14 @@ use Rattle.positions.specs.declared.range.Range.{Range}
 use Rattle.positions.specs.Ranges.{IsRange, Covers, upper_half_of}
 use Rattle.positions.proofs.RangeLaws.{half_in_range}
 use Rattle.bucket_page.specs.declared.record_key.RecordKey.{RecordKey}
-use Rattle.bucket_page.proofs.Zeros.{both_true}
+use Rattle.fields.proofs.Tests.{both_true}
 use Rattle.directory.specs.Entries.{page_of, is_in_range}
 use Rattle.hash_file.specs.Store.{Store, entry_at, count_at}
 use Rattle.hash_file.specs.Chain.{chain, IsBucketOn, number_on}
 use Rattle.hash_file.specs.Change.{Change, Quiet, Linked, Buried, Drained, TakesDetour, gained, lost}
-use Rattle.hash_file.specs.Sound.{IsSoundOn, IsSound, HasEntry}
+use Rattle.hash_file.specs.Sound.{IsSoundOn, IsSoundFile, HasEntry}
 use Rattle.hash_file.specs.Changes.{retarget, set_counts, split_counts, merge_counts}
-use Rattle.hash_file.specs.Kept.{Keeps}
+use Rattle.hash_file.specs.Kept.{KeepsFile}
 use Rattle.hash_file.specs.Laws.{IsRetargeted}
 use Rattle.hash_file.proofs.Chains.{chain_valid}
 use Rattle.hash_file.proofs.Headed.{layout_headed, chain_headed, spared_headed, keeps_headed, length-mapped, mapped_first}
@@ -23,7 +23,7 @@ use Rattle.hash_file.proofs.Doubling.{within_entries}
 -- the test that names the entries of a range on a page
 abbrev is_of : Store → ℕ → Range → ℕ → Bool
 is_of s page r i =
-    page_of i == page && is_in_range s.header.depth (record { local_depth = r.depth; pattern = r.pattern }) i
+    page_of i == page && is_in_range s.header.depth r i
 
 -- an entry that passes it is covered by the range
 of_range : (s : Store) (page : ℕ) (r : Range) (i : ℕ) → is_of s page r i ≡ true → Covers r i
@@ -65,8 +65,8 @@ in_new hash s ns old new whole i h covers =
     (h.phase.new_on, subst (λ (r : Range). Covers r i) (sym h.phase.halves.upper) covers)
 
 pub retarget_keeps_split : (hash : RecordKey → ℕ) (s : Store) (old new : ℕ) (whole : Range) (page : ℕ) →
-    IsSound hash s (Linked old new whole) →
-    Keeps hash s (Linked old new whole) (retarget page (upper_half_of whole) new s) (Linked old new whole)
+    IsSoundFile hash s (Linked old new whole) →
+    KeepsFile hash s (Linked old new whole) (retarget page (upper_half_of whole) new s) (Linked old new whole)
 retarget_keeps_split hash s old new whole page h =
     let t = retarget page (upper_half_of whole) new s in
     let c = Linked old new whole in
@@ -94,8 +94,8 @@ retarget_keeps_split hash s old new whole page h =
     }) (λ n off. off)
 
 pub retarget_keeps_merge : (hash : RecordKey → ℕ) (s : Store) (left right : ℕ) (whole : Range) (page : ℕ) →
-    IsSound hash s (Buried left right whole) →
-    Keeps hash s (Buried left right whole) (retarget page (upper_half_of whole) left s) (Buried left right whole)
+    IsSoundFile hash s (Buried left right whole) →
+    KeepsFile hash s (Buried left right whole) (retarget page (upper_half_of whole) left s) (Buried left right whole)
 retarget_keeps_merge hash s left right whole page h =
     let t = retarget page (upper_half_of whole) left s in
     let c = Buried left right whole in
@@ -145,8 +145,8 @@ two_set l d x y counts within = elim (cases_eq (suc l) d) [
     ]
 
 pub set_counts_keeps_split : (hash : RecordKey → ℕ) (s : Store) (old new : ℕ) (whole : Range) →
-    IsSound hash s (Linked old new whole) → IsRetargeted (upper_half_of whole) new s →
-    Keeps hash s (Linked old new whole) (set_counts (split_counts whole.depth s.header.counts) s) Quiet
+    IsSoundFile hash s (Linked old new whole) → IsRetargeted (upper_half_of whole) new s →
+    KeepsFile hash s (Linked old new whole) (set_counts (split_counts whole.depth s.header.counts) s) Quiet
 set_counts_keeps_split hash s old new whole h all =
     let t = set_counts (split_counts whole.depth s.header.counts) s in
     keeps_headed s t.header s.entries hash (Linked old new whole) Quiet (record {
@@ -212,8 +212,8 @@ set_counts_keeps_split hash s old new whole h all =
         ]
 
 pub set_counts_keeps_merge : (hash : RecordKey → ℕ) (s : Store) (left right : ℕ) (whole : Range) →
-    IsSound hash s (Buried left right whole) → IsRetargeted (upper_half_of whole) left s →
-    Keeps hash s (Buried left right whole) (set_counts (merge_counts whole.depth s.header.counts) s)
+    IsSoundFile hash s (Buried left right whole) → IsRetargeted (upper_half_of whole) left s →
+    KeepsFile hash s (Buried left right whole) (set_counts (merge_counts whole.depth s.header.counts) s)
     (Drained left right)
 set_counts_keeps_merge hash s left right whole h all =
     let t = set_counts (merge_counts whole.depth s.header.counts) s in

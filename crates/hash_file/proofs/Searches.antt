@@ -16,7 +16,7 @@ use Rattle.bucket_page.specs.Records.{lookup}
 use Rattle.hash_file.specs.Store.{Store, page_at, has_bucket, is_bucket, bucket_of, range_at, records_at, next_at}
 use Rattle.hash_file.specs.Chain.{IsChain, IsBucketOn, pairs_on}
 use Rattle.hash_file.specs.Change.{Change, Quiet, Taken, Filled, Linked, Absorbed, Buried, Drained, Freed, aside, TakesDetour}
-use Rattle.hash_file.specs.Search.{reach, LeadsOn, Leads, distance_on, IsNearer}
+use Rattle.hash_file.specs.Search.{reach, PageLeadsOn, PageLeads, distance_on, IsNearer}
 use Rattle.hash_file.specs.Phases.{IsLinked, IsAbsorbed, IsBuried, IsDrained}
 use Rattle.hash_file.specs.Sound.{IsSoundOn}
 use Rattle.hash_file.specs.Looks.{Answers}
@@ -71,7 +71,7 @@ absorbed_leads hash s c ns left right k whole h deep a low out =
     (omega (arith, far, stops))
 
 pub hops_lead_on : (hash : RecordKey → ℕ) (s : Store) (c : Change) (ns : List ℕ) (n k : ℕ) → IsSoundOn hash s c ns →
-    LeadsOn s c ns n k → (Answers s n k → ⊥) → IsNearer s c ns n k
+    PageLeadsOn s c ns n k → (Answers s n k → ⊥) → IsNearer s c ns n k
 hops_lead_on hash s c ns n k h l out = elim l.stands [ inl on ↦ from_chain on | inr off ↦ off_chain c refl off ]
   where
     from_chain : Contains ns n → IsNearer s c ns n k
@@ -112,7 +112,7 @@ hops_lead_on hash s c ns n k h l out = elim l.stands [ inl on ↦ from_chain on 
 
 -- a page that leads to a key and answers for it has of that key what the file holds
 pub looks_answer : (hash : RecordKey → ℕ) (s : Store) (c : Change) (ns : List ℕ) (n : ℕ) (key : RecordKey) →
-    IsSoundOn hash s c ns → LeadsOn s c ns n (hash key) → Answers s n (hash key) →
+    IsSoundOn hash s c ns → PageLeadsOn s c ns n (hash key) → Answers s n (hash key) →
     lookup key (pairs_on s ns) ≡ lookup key (records_at s n)
 looks_answer hash s c ns n key h l answers =
     elim l.stands [
@@ -157,13 +157,13 @@ looks_answer hash s c ns n key h l answers =
         dead left right (one right (rw is at off)) b.tombstone
     off_chain (Freed right) is off = absurd (contains_none n (rw is at off))
 
-pub stale_depths_lead : (s : Store) (c : Change) (n k depth : ℕ) → Leads s c n (k % 2 ^ depth) → Leads s c n k
+pub stale_depths_lead : (s : Store) (c : Change) (n k depth : ℕ) → PageLeads s c n (k % 2 ^ depth) → PageLeads s c n k
 stale_depths_lead s c n k depth l =
     record { stands = l.stands; reaches = omega (arith, l.reaches, position_truncated depth k) }
 
 -- the bucket of a pseudokey leads to it with no hop
 pub bucket_leads : (s : Store) (c : Change) (ns : List ℕ) (n k : ℕ) → IsChain s ns → IsBucketOn s ns k n →
-    LeadsOn s c ns n k × (distance_on s ns n k ≡ 0)
+    PageLeadsOn s c ns n k × (distance_on s ns n k ≡ 0)
 bucket_leads s c ns n k h b =
     let has = has_position s ns k n h b in
     let live = h.buckets n b.0 in (
@@ -178,7 +178,7 @@ one_hop s c ns n k h near b = omega (arith, near.nearer, (bucket_leads s c ns (n
 
 -- what an entry owes a search
 pub record EntryLeadsOn (s : Store) (c : Change) (ns : List ℕ) (n i : ℕ) : Type 0 where
-  pub leads : LeadsOn s c ns n i
+  pub leads : PageLeadsOn s c ns n i
   pub near : distance_on s ns n i ≤ 1
 
 -- the position of a pseudokey in the upper half of a range
@@ -215,7 +215,7 @@ entries_lead hash s c ns n i h (inr detour) = on_detour c refl detour
         omega (arith, ap start_of p.halves.lower, has.1, has.0.0) in
         let in_new : IsBucketOn s ns i new =
         (p.new_on, subst (λ (r : Range). Covers r i) (sym p.halves.upper) covers) in
-        let leads : LeadsOn s c ns old i = record { stands = inl p.old_on; reaches = rw live low } in
+        let leads : PageLeadsOn s c ns old i = record { stands = inl p.old_on; reaches = rw live low } in
         let near = hops_lead_on hash s c ns old i h leads (λ answers. halves_apart whole i valid.0 valid.1
         (subst (λ (r : Range). Covers r i) p.halves.lower answers.1) covers) in
         rw same (record { leads = leads; near = one_hop s c ns old i h.chained near (rw (p.next) in_new) })

@@ -24,10 +24,10 @@ use Rattle.bucket_page.specs.Dividing.{has_bit, lower_half, upper_half}
 use Rattle.hash_file.specs.Store.{Store, page_at, is_bucket, bucket_of, bucket_at, range_of, range_at, next_at, has_bucket, entry_at, count_at}
 use Rattle.hash_file.specs.Chain.{chain, pairs_on, IsChain, IsPlaced, IsBucketOn, number_on, times}
 use Rattle.hash_file.specs.Change.{Change, Filled, Linked, owned, gained, lost}
-use Rattle.hash_file.specs.Search.{reach, LeadsOn, distance_on}
-use Rattle.hash_file.specs.Sound.{IsSoundOn, IsSound, HasEntry}
+use Rattle.hash_file.specs.Search.{reach, PageLeadsOn, distance_on}
+use Rattle.hash_file.specs.Sound.{IsSoundOn, IsSoundFile, HasEntry}
 use Rattle.hash_file.specs.Changes.{write_old}
-use Rattle.hash_file.specs.Kept.{Keeps, LengthensWays}
+use Rattle.hash_file.specs.Kept.{KeepsFile, LengthensWays}
 use Rattle.hash_file.proofs.Chains.{chain_valid, bucket_found}
 use Rattle.hash_file.proofs.Lists.{how_many_append, how_many_same, twice, times_append}
 use Rattle.hash_file.proofs.Lookups.{look_at}
@@ -35,7 +35,7 @@ use Rattle.hash_file.proofs.Roles.{thrice, numbered, numbered_positive, live_not
 use Rattle.hash_file.proofs.Frames.{shape_of_page, reach_same, page_other, page_same, spared_same, numbered_same, layout_same, keeps_by, ways_by}
 use Rattle.hash_file.proofs.Halves.{bit_set, bit_clear, range_lower, range_upper, placed_lower, placed_upper, look_lower, look_upper}
 
-module _ (hash : RecordKey → ℕ) (s : Store) (old new : ℕ) (h : IsSound hash s (Filled old new)) (front back : List ℕ)
+module _ (hash : RecordKey → ℕ) (s : Store) (old new : ℕ) (h : IsSoundFile hash s (Filled old new)) (front back : List ℕ)
     (is : chain s ≡ front ++ old ∷ back) where
   abbrev c : Change
   c = Filled old new
@@ -271,13 +271,13 @@ module _ (hash : RecordKey → ℕ) (s : Store) (old new : ℕ) (h : IsSound has
         (λ dead. absurd (both_ways (has_bucket s n) dead (sound.chained.buckets n on)))
   ]
 
-  split_keeps : Keeps hash s c t d
+  split_keeps : KeepsFile hash s c t d
   split_keeps = keeps_by hash s c t d ms sound_on
       (λ key. looked_up key (bucket_found s ns (hash key) sound.chained)
       ∙ ap (λ (xs : List ℕ). lookup key (pairs_on s xs)) (sym is))
-      (λ n k l. on_chain n k (subst (λ (xs : List ℕ). LeadsOn s c xs n k) is l))
+      (λ n k l. on_chain n k (subst (λ (xs : List ℕ). PageLeadsOn s c xs n k) is l))
     where
-      on_chain : (n k : ℕ) → LeadsOn s c ns n k → LeadsOn t d ms n k
+      on_chain : (n k : ℕ) → PageLeadsOn s c ns n k → PageLeadsOn t d ms n k
       on_chain n k l = elim l.stands [
         | inl on ↦ record {
           stands = inl (contains_grown front old new back n on);
@@ -301,9 +301,9 @@ module _ (hash : RecordKey → ℕ) (s : Store) (old new : ℕ) (h : IsSound has
   split_ways : LengthensWays 1 s c t
   split_ways = ways_by 1 s c t ms sound_on.layout chained
       (λ n k l. subst (λ (xs : List ℕ). distance_on t ms n k ≤ distance_on s xs n k + 1) (sym is)
-      (on_chain n k (subst (λ (xs : List ℕ). LeadsOn s c xs n k) is l)))
+      (on_chain n k (subst (λ (xs : List ℕ). PageLeadsOn s c xs n k) is l)))
     where
-      on_chain : (n k : ℕ) → LeadsOn s c ns n k → distance_on t ms n k ≤ distance_on s ns n k + 1
+      on_chain : (n k : ℕ) → PageLeadsOn s c ns n k → distance_on t ms n k ≤ distance_on s ns n k + 1
       on_chain n k l = elim l.stands [
         | inl on ↦ (
             let was = sound.chained.buckets n on in
@@ -318,15 +318,15 @@ module _ (hash : RecordKey → ℕ) (s : Store) (old new : ℕ) (h : IsSound has
         | inr off ↦ absurd (contains_none n off)
       ]
 
-pub write_old_keeps : (hash : RecordKey → ℕ) (s : Store) (old new : ℕ) → IsSound hash s (Filled old new) →
-    Keeps hash s (Filled old new) (write_old hash old new s) (Linked old new (range_at s old))
+pub write_old_keeps : (hash : RecordKey → ℕ) (s : Store) (old new : ℕ) → IsSoundFile hash s (Filled old new) →
+    KeepsFile hash s (Filled old new) (write_old hash old new s) (Linked old new (range_at s old))
 write_old_keeps hash s old new h = at_old (contains_between (chain s) old h.phase.old_on)
   where
     at_old : (front : List ℕ) × (back : List ℕ) × (chain s ≡ front ++ old ∷ back) →
-        Keeps hash s (Filled old new) (write_old hash old new s) (Linked old new (range_at s old))
+        KeepsFile hash s (Filled old new) (write_old hash old new s) (Linked old new (range_at s old))
     at_old (front, back, is) = split_keeps hash s old new h front back is
 
-pub write_old_ways : (hash : RecordKey → ℕ) (s : Store) (old new : ℕ) → IsSound hash s (Filled old new) →
+pub write_old_ways : (hash : RecordKey → ℕ) (s : Store) (old new : ℕ) → IsSoundFile hash s (Filled old new) →
     LengthensWays 1 s (Filled old new) (write_old hash old new s)
 write_old_ways hash s old new h = at_old (contains_between (chain s) old h.phase.old_on)
   where

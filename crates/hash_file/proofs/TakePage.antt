@@ -9,9 +9,9 @@ use Rattle.bucket_page.specs.declared.page.PageKind.TheVariants as kinds
 use Rattle.hash_file.specs.Store.{Store, bucket_of, next_at, IsFreePage}
 use Rattle.hash_file.specs.Chain.{chain, times}
 use Rattle.hash_file.specs.Change.{Quiet, Taken, Freed}
-use Rattle.hash_file.specs.Sound.{IsSound, is_numbered}
+use Rattle.hash_file.specs.Sound.{IsSoundFile, is_numbered}
 use Rattle.hash_file.specs.Changes.{take_page, link_free}
-use Rattle.hash_file.specs.Kept.{Keeps}
+use Rattle.hash_file.specs.Kept.{KeepsFile}
 use Rattle.hash_file.proofs.Headed.{layout_headed, chain_headed, keeps_headed}
 use Rattle.hash_file.proofs.Roles.{thrice}
 use Rattle.hash_file.proofs.Lists.{times_append}
@@ -25,14 +25,14 @@ moves n m ns spares = omega (
   times_append n (m ∷ []) spares,
 )
 
-pub take_page_keeps : (hash : RecordKey → ℕ) (s : Store) → IsSound hash s Quiet → s.header.first_free ≢ 0 →
-    Keeps hash s Quiet (take_page s) (Taken s.header.first_free)
+pub take_page_keeps : (hash : RecordKey → ℕ) (s : Store) → IsSoundFile hash s Quiet → s.header.first_free ≢ 0 →
+    KeepsFile hash s Quiet (take_page s) (Taken s.header.first_free)
 take_page_keeps hash s h some = from_list h.spares h.spared.linked h.spared.free h.roles
   where
     from_list : (spares : List ℕ) → Links (next_at s) s.header.first_free spares 0 →
         ((n : ℕ) → Contains spares n → IsFreePage s n) →
         ((n : ℕ) → times n (chain s ++ (spares ++ [])) ≡ (if is_numbered s n then 1 else 0)) →
-        Keeps hash s Quiet (take_page s) (Taken s.header.first_free)
+        KeepsFile hash s Quiet (take_page s) (Taken s.header.first_free)
     from_list [] linked free roles = absurd (some linked)
     from_list (m ∷ spares) (is, linked) free roles =
         keeps_headed s (take_page s).header s.entries hash Quiet (Taken s.header.first_free) (record {
@@ -51,8 +51,8 @@ take_page_keeps hash s h some = from_list h.spares h.spared.linked h.spared.free
           phase = rw is (free m (contains_head m spares));
         }) (λ n off. off)
 
-pub link_free_keeps : (hash : RecordKey → ℕ) (s : Store) (right : ℕ) → IsSound hash s (Freed right) →
-    Keeps hash s (Freed right) (link_free right s) Quiet
+pub link_free_keeps : (hash : RecordKey → ℕ) (s : Store) (right : ℕ) → IsSoundFile hash s (Freed right) →
+    KeepsFile hash s (Freed right) (link_free right s) Quiet
 link_free_keeps hash s right h =
     keeps_headed s (link_free right s).header s.entries hash (Freed right) Quiet (record {
       layout = layout_headed s (link_free right s).header s.entries

@@ -16,8 +16,8 @@ use Rattle.bucket_page.specs.declared.record_key.RecordKey.{RecordKey}
 use Rattle.hash_file.specs.Store.{Store, range_at, entry_at}
 use Rattle.hash_file.specs.Chain.{chain, IsChain, IsBucketOf, times}
 use Rattle.hash_file.specs.Change.{Change, Quiet, owned}
-use Rattle.hash_file.specs.Search.{Leads}
-use Rattle.hash_file.specs.Sound.{IsSound, IsExact, HasEntry, IsFreeList}
+use Rattle.hash_file.specs.Search.{PageLeads}
+use Rattle.hash_file.specs.Sound.{IsSoundFile, IsExact, HasEntry, IsFreeList}
 use Rattle.hash_file.specs.Words.{IsWellFormed, HasOneRole, IsOneOf, First, Second, Third, StandsAtOrBefore}
 use Rattle.hash_file.proofs.Chains.{has_position, bucket_found}
 use Rattle.hash_file.proofs.Lists.{times_member, times_stands}
@@ -39,7 +39,7 @@ chain_well_formed s = (
   },
 )
 
-pub quiet_exact : (hash : RecordKey → ℕ) (s : Store) → IsSound hash s Quiet → IsExact s
+pub quiet_exact : (hash : RecordKey → ℕ) (s : Store) → IsSoundFile hash s Quiet → IsExact s
 quiet_exact hash s h = record {
   entries = λ i within. named i (h.entries i within);
   counts = λ depth within. omega (arith, h.counts depth within);
@@ -51,8 +51,8 @@ quiet_exact hash s h = record {
 
 -- ---- leading is standing before
 
-pub leading_is_before : (hash : RecordKey → ℕ) (s : Store) (c : Change) (n k : ℕ) → IsSound hash s c →
-    Contains (chain s) n → Leads s c n k ↔ StandsAtOrBefore s n k
+pub leading_is_before : (hash : RecordKey → ℕ) (s : Store) (c : Change) (n k : ℕ) → IsSoundFile hash s c →
+    Contains (chain s) n → PageLeads s c n k ↔ StandsAtOrBefore s n k
 leading_is_before hash s c n k h on = (
   λ l. let low = rw (h.chained.buckets n on) at l.reaches in before low (contains_between (chain s) n on)
       (bucket_found s (chain s) k h.chained),
@@ -119,7 +119,7 @@ one_of n xs ys zs (suc a) (suc b) c is_a is_b is_c sum = absurd (omega (arith, s
 one_of n xs ys zs (suc a) zero (suc c) is_a is_b is_c sum = absurd (omega (arith, sum))
 one_of n xs ys zs zero (suc b) (suc c) is_a is_b is_c sum = absurd (omega (arith, sum))
 
-pub roles_are_one : (hash : RecordKey → ℕ) (s : Store) (c : Change) → IsSound hash s c →
+pub roles_are_one : (hash : RecordKey → ℕ) (s : Store) (c : Change) → IsSoundFile hash s c →
     (spares : List ℕ) × IsFreeList s spares × HasOneRole s c spares
 roles_are_one hash s c h = (
   h.spares,

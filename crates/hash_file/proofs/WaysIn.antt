@@ -7,8 +7,8 @@ use Rattle.bucket_page.specs.declared.record_key.RecordKey.{RecordKey}
 use Rattle.hash_file.specs.Store.{Store, entry_at, next_at}
 use Rattle.hash_file.specs.Chain.{chain}
 use Rattle.hash_file.specs.Change.{Change, Drained, owned, aside}
-use Rattle.hash_file.specs.Search.{Leads}
-use Rattle.hash_file.specs.Sound.{IsSound, HasEntry}
+use Rattle.hash_file.specs.Search.{PageLeads}
+use Rattle.hash_file.specs.Sound.{IsSoundFile, HasEntry}
 use Rattle.hash_file.specs.Looks.{HasNoWayIn}
 use Rattle.hash_file.proofs.Roles.{live_not_owned, numbered_positive}
 
@@ -28,7 +28,7 @@ links_on next (z ∷ zs) x e y l c = elim (contains_cases z y zs c) [
     at_head [] k = inr k
     at_head (w ∷ ys) k = inl (subst (Contains (z ∷ w ∷ ys)) (sym k.0) (contains_tail z w (w ∷ ys) (contains_head w ys)))
 
-pub no_way_in : (hash : RecordKey → ℕ) (s : Store) (left right : ℕ) → IsSound hash s (Drained left right) →
+pub no_way_in : (hash : RecordKey → ℕ) (s : Store) (left right : ℕ) → IsSoundFile hash s (Drained left right) →
     HasNoWayIn s right
 no_way_in hash s left right h = record {
   entries = λ i within. named i (h.entries i within);
@@ -46,8 +46,8 @@ no_way_in hash s left right h = record {
     named i (inl b) = live (entry_at s i) b.0
     named i (inr off) = absurd off
 
-pub owned_leads_nowhere : (hash : RecordKey → ℕ) (s : Store) (c : Change) (n k : ℕ) → IsSound hash s c →
-    Contains (owned c) n → (Contains (aside c) n → ⊥) → Leads s c n k → ⊥
+pub owned_leads_nowhere : (hash : RecordKey → ℕ) (s : Store) (c : Change) (n k : ℕ) → IsSoundFile hash s c →
+    Contains (owned c) n → (Contains (aside c) n → ⊥) → PageLeads s c n k → ⊥
 owned_leads_nowhere hash s c n k h own out l = elim l.stands [
   | inl on ↦ live_not_owned hash s c (chain s) h n n on own refl
   | inr off ↦ out off

@@ -15,12 +15,12 @@ use Rattle.bucket_page.proofs.KeyLaws.{same_is}
 use Rattle.hash_file.specs.Store.{Store, page_at, is_bucket, bucket_of, bucket_at, range_of, range_at, records_at, next_at}
 use Rattle.hash_file.specs.Chain.{chain, contents, pairs_on, IsBucketOf, IsBucketOn, IsPlaced}
 use Rattle.hash_file.specs.Change.{Change, Quiet, Taken, Filled, Linked, Absorbed, Buried, Drained, Freed, owned, busy, lost}
-use Rattle.hash_file.specs.Search.{LeadsOn}
+use Rattle.hash_file.specs.Search.{PageLeadsOn}
 use Rattle.hash_file.specs.Phases.{HasPhase}
-use Rattle.hash_file.specs.Sound.{IsSoundOn, IsSound}
-use Rattle.hash_file.specs.Changes.{Write, MayWrite, key_of, value_after, written, write_record}
+use Rattle.hash_file.specs.Sound.{IsSoundOn, IsSoundFile}
+use Rattle.hash_file.specs.Changes.{RecordWrite, MayWrite, key_of, value_after, records_after, write_record}
 use Rattle.hash_file.specs.Kept.{HasShapeOf, LengthensWays}
-use Rattle.hash_file.specs.Laws.{WritesRecord}
+use Rattle.hash_file.specs.Laws.{KeepsOtherRecords}
 use Rattle.directory.specs.declared.header.Header.{Header}
 use Rattle.bucket_page.specs.Dividing.{upper_half}
 use Rattle.hash_file.proofs.Lists.{contains_is}
@@ -84,13 +84,13 @@ phase_written hash s t (Freed right) ns n head others shape idle own p =
     others right (λ is. own (contains_is [] is)) ∙ p
     ∙ sym (ap (λ (x : Header). kinds.Free x.first_free) head)
 
-module _ (hash : RecordKey → ℕ) (s : Store) (c : Change) (n : ℕ) (w : Write) (h : IsSound hash s c)
+module _ (hash : RecordKey → ℕ) (s : Store) (c : Change) (n : ℕ) (w : RecordWrite) (h : IsSoundFile hash s c)
     (b : IsBucketOf s (hash (key_of w)) n) (idle : Contains (busy c) n → ⊥) (may : MayWrite w (records_at s n)) where
   abbrev ns : List ℕ
   ns = chain s
 
   abbrev new : Bucket
-  new = record (bucket_at s n) { records = written w (records_at s n) }
+  new = record (bucket_at s n) { records = records_after w (records_at s n) }
 
   abbrev t : Store
   t = write_record n w s
@@ -111,7 +111,7 @@ module _ (hash : RecordKey → ℕ) (s : Store) (c : Change) (n : ℕ) (w : Writ
     | inr apart ↦ shape_of_page s t m (other m apart)
   ]
 
-  records_here : records_at t n ≡ written w (records_at s n)
+  records_here : records_at t n ≡ records_after w (records_at s n)
   records_here = ap (λ (p : PageKind). (bucket_of p).records) here
 
   -- the written record has the pseudokey of its key
@@ -179,14 +179,14 @@ module _ (hash : RecordKey → ℕ) (s : Store) (c : Change) (n : ℕ) (w : Writ
           apart (bucket_unique s ns (hash (key_of w)) m n h.chained at_m' b))
       by_test apart false same rest = rest
 
-  pub writes_record : WritesRecord hash s c t w
+  pub writes_record : KeepsOtherRecords hash s c t w
   writes_record = record {
     sound = sound_by hash t c ns sound_on;
     shapes = shape;
     chain = is;
     contents = λ key. ap (λ (ms : List ℕ). lookup key (pairs_on t ms)) is
         ∙ looked_up key (bucket_found s ns (hash key) h.chained);
-    leads = λ m k l. subst (λ (ms : List ℕ). LeadsOn t c ms m k) (sym is) (record {
+    leads = λ m k l. subst (λ (ms : List ℕ). PageLeadsOn t c ms m k) (sym is) (record {
       stands = l.stands;
       reaches = omega (arith, l.reaches, reach_same s t m (shape m) (λ dead. shape (next_at s m)));
     });

@@ -6,11 +6,11 @@ use Rattle.bucket_page.specs.declared.record_key.RecordKey.{RecordKey}
 use Rattle.bucket_page.specs.Keys.{is_same, is_below}
 use Rattle.bucket_page.specs.Records.{Pair, is_above, ascend_from, ascend, lookup}
 use Rattle.bucket_page.specs.Changes.{inserted, replaced, removed}
-use Rattle.bucket_page.proofs.Zeros.{both_true}
+use Rattle.fields.proofs.Tests.{both_true}
 use Rattle.bucket_page.proofs.KeyLaws.{same_is}
 use Rattle.bucket_page.proofs.OrderLaws.{ascends_with, ascend_lower}
 use Rattle.bucket_page.proofs.LookupLaws.{lookup_inserted, lookup_replaced, lookup_removed}
-use Rattle.hash_file.specs.Changes.{Write, Put, Replace, Remove, key_of, value_after, written, MayWrite}
+use Rattle.hash_file.specs.Changes.{RecordWrite, Put, Replace, Remove, key_of, value_after, records_after, MayWrite}
 
 -- ---- what holds of each record
 
@@ -42,8 +42,8 @@ module _ (P : Pair → Type 0) where
       by_test false rest = All-cons P q (removed key qs) (All-head P q qs h) rest
 
   -- of a written record what holds of its key
-  pub all_written : (w : Write) (ps : List Pair) → ((p : Pair) → p.key ≡ key_of w → P p) → All P ps →
-      All P (written w ps)
+  pub all_written : (w : RecordWrite) (ps : List Pair) → ((p : Pair) → p.key ≡ key_of w → P p) → All P ps →
+      All P (records_after w ps)
   all_written (Put p) ps mine h = all_inserted p ps (mine p refl) h
   all_written (Replace p) ps mine h = all_replaced p ps (mine p refl) h
   all_written (Remove key) ps mine h = all_removed key ps h
@@ -81,15 +81,15 @@ ascend_removed low key (q ∷ qs) h =
     by_test true first without rest = without
     by_test false first without rest = rw first rest
 
-pub ascend_written : (w : Write) (ps : List Pair) → MayWrite w ps → ascend ps ≡ true → ascend (written w ps) ≡ true
+pub ascend_written : (w : RecordWrite) (ps : List Pair) → MayWrite w ps → ascend ps ≡ true → ascend (records_after w ps) ≡ true
 ascend_written (Put p) ps may h = ascends_with None p ps refl h may
 ascend_written (Replace p) ps may h = ascend_replaced None p ps h
 ascend_written (Remove key) ps may h = ascend_removed None key ps h
 
 -- ---- what is looked up
 
-pub lookup_written : (w : Write) (key : RecordKey) (ps : List Pair) → MayWrite w ps → ascend ps ≡ true →
-    lookup key (written w ps) ≡ cond (is_same (key_of w) key) (value_after w) (lookup key ps)
+pub lookup_written : (w : RecordWrite) (key : RecordKey) (ps : List Pair) → MayWrite w ps → ascend ps ≡ true →
+    lookup key (records_after w ps) ≡ cond (is_same (key_of w) key) (value_after w) (lookup key ps)
 lookup_written (Put p) key ps may h = lookup_inserted key p ps
 lookup_written (Replace p) key ps may h = lookup_replaced key p ps may
 lookup_written (Remove gone) key ps may h = lookup_removed key gone None ps h

@@ -24,34 +24,34 @@ with_header h s = record s { header = h }
 -- ---- a record
 
 -- one record is put, replaced or removed
-pub data Write : Type 0 where
-  Put : Pair → Write
-  Replace : Pair → Write
-  Remove : RecordKey → Write
+pub data RecordWrite : Type 0 where
+  Put : Pair → RecordWrite
+  Replace : Pair → RecordWrite
+  Remove : RecordKey → RecordWrite
 
-abbrev pub key_of : Write → RecordKey
+abbrev pub key_of : RecordWrite → RecordKey
 key_of (Put p) = p.key
 key_of (Replace p) = p.key
 key_of (Remove key) = key
 
-abbrev pub value_after : Write → Option (List ℕ)
+abbrev pub value_after : RecordWrite → Option (List ℕ)
 value_after (Put p) = Some p.value
 value_after (Replace p) = Some p.value
 value_after (Remove key) = None
 
-abbrev pub written : Write → List Pair → List Pair
-written (Put p) ps = inserted p ps
-written (Replace p) ps = replaced p ps
-written (Remove key) ps = removed key ps
+abbrev pub records_after : RecordWrite → List Pair → List Pair
+records_after (Put p) ps = inserted p ps
+records_after (Replace p) ps = replaced p ps
+records_after (Remove key) ps = removed key ps
 
 -- what is put was absent, what is replaced was there
-abbrev pub MayWrite : Write → List Pair → Type 0
+abbrev pub MayWrite : RecordWrite → List Pair → Type 0
 MayWrite (Put p) ps = lookup p.key ps ≡ None
 MayWrite (Replace p) ps = IsSome (lookup p.key ps)
 MayWrite (Remove key) ps = Unit {0}
 
-abbrev pub write_record : ℕ → Write → Store → Store
-write_record n w s = with_bucket n (record (bucket_at s n) { records = written w (records_at s n) }) s
+abbrev pub write_record : ℕ → RecordWrite → Store → Store
+write_record n w s = with_bucket n (record (bucket_at s n) { records = records_after w (records_at s n) }) s
 
 -- ---- a split
 
@@ -83,7 +83,7 @@ write_old hash old new s = with_bucket old (lower_half hash new (bucket_at s old
 abbrev pub retarget : ℕ → Range → ℕ → Store → Store
 retarget page r n s = record s {
   entries = mapped_from 0 (λ (i e : ℕ). if page_of i == page
-      && is_in_range s.header.depth (record { local_depth = r.depth; pattern = r.pattern }) i
+      && is_in_range s.header.depth r i
       then n else e) s.entries;
 }
 

@@ -9,7 +9,7 @@ use Rattle.bucket_page.specs.Records.{Pair, pair}
 use Rattle.hash_file.specs.Store.{Store, page_at, records_at}
 use Rattle.hash_file.specs.Chain.{chain}
 use Rattle.hash_file.specs.Change.{Quiet, Taken, Filled, Linked, Absorbed, Buried, Drained, Freed}
-use Rattle.hash_file.specs.Sound.{IsSound}
+use Rattle.hash_file.specs.Sound.{IsSoundFile}
 use Rattle.hash_file.specs.Changes.{Put, write_record, take_page, copy_directory, raise_depth, write_new, write_old, retarget, set_counts, split_counts, merge_counts, write_left, write_tombstone, write_free, link_free, lower_depth}
 
 abbrev pub number_of : RecordKey → ℕ
@@ -141,16 +141,16 @@ pub record FreedPageTakenAgain : Type 0 where
 -- ---- and all of them are sound, each in its phase
 
 pub record AreSound : Type 0 where
-  pub first : IsSound number_of first Quiet
-  pub doubled : IsSound number_of doubled (Taken 258)
-  pub filled : IsSound number_of filled (Filled 257 258)
-  pub linked : IsSound number_of linked (Linked 257 258 whole_range)
-  pub retargeted : IsSound number_of retargeted (Linked 257 258 whole_range)
-  pub split : IsSound number_of split Quiet
-  pub with_3 : IsSound number_of with_3 Quiet
-  pub absorbed : IsSound number_of absorbed (Absorbed 257 258 whole_range)
-  pub buried : IsSound number_of buried (Buried 257 258 whole_range)
-  pub drained : IsSound number_of drained (Drained 257 258)
-  pub freed : IsSound number_of freed (Freed 258)
-  pub merged_whole : IsSound number_of merged_whole Quiet
-  pub halved : IsSound number_of halved Quiet
+  pub first : IsSoundFile number_of first Quiet
+  pub doubled : IsSoundFile number_of doubled (Taken 258)
+  pub filled : IsSoundFile number_of filled (Filled 257 258)
+  pub linked : IsSoundFile number_of linked (Linked 257 258 whole_range)
+  pub retargeted : IsSoundFile number_of retargeted (Linked 257 258 whole_range)
+  pub split : IsSoundFile number_of split Quiet
+  pub with_3 : IsSoundFile number_of with_3 Quiet
+  pub absorbed : IsSoundFile number_of absorbed (Absorbed 257 258 whole_range)
+  pub buried : IsSoundFile number_of buried (Buried 257 258 whole_range)
+  pub drained : IsSoundFile number_of drained (Drained 257 258)
+  pub freed : IsSoundFile number_of freed (Freed 258)
+  pub merged_whole : IsSoundFile number_of merged_whole Quiet
+  pub halved : IsSoundFile number_of halved Quiet

@@ -7,7 +7,7 @@ use Rattle.bucket_page.specs.Records.{lookup}
 use Rattle.hash_file.specs.Store.{Store, page_at, entry_at, count_at, bucket_at, records_at}
 use Rattle.hash_file.specs.Chain.{contents, IsPlaced}
 use Rattle.hash_file.specs.Change.{Quiet}
-use Rattle.hash_file.specs.Sound.{HasLayout, IsSound}
+use Rattle.hash_file.specs.Sound.{HasLayout, IsSoundFile}
 
 -- the page of the next number, 0 behind the last
 abbrev pub follower : Store → ℕ → ℕ
@@ -27,7 +27,7 @@ pub record IsNew (hash : RecordKey → ℕ) (s : Store) : Type 0 where
 
 -- such a file is sound, and holds the records of its bucket
 pub record IsSoundWithRecords (hash : RecordKey → ℕ) (s : Store) : Type 0 where
-  pub sound : IsSound hash s Quiet
+  pub sound : IsSoundFile hash s Quiet
   pub contents : (key : RecordKey) → contents s key ≡ lookup key (records_at s s.layout.root)
 
 abbrev pub NewFilesAreSound : Type 0

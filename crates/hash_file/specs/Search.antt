@@ -13,14 +13,14 @@ abbrev pub reach : Store → ℕ → ℕ
 reach s n = if has_bucket s n then start_of (range_at s n) else start_of (range_at s (next_at s n))
 
 -- from page n next links lead to the bucket of pseudokey k, where this list is the chain
-pub record LeadsOn (s : Store) (c : Change) (ns : List ℕ) (n k : ℕ) : Type 0 where
+pub record PageLeadsOn (s : Store) (c : Change) (ns : List ℕ) (n k : ℕ) : Type 0 where
   -- a live bucket, or the page that a merge took off the chain
   pub stands : Contains ns n ⊎ Contains (aside c) n
   -- that does not begin behind the pseudokey
   pub reaches : reach s n ≤ position_of k
 
-abbrev pub Leads : Store → Change → ℕ → ℕ → Type 0
-Leads s c n k = LeadsOn s c (chain s) n k
+abbrev pub PageLeads : Store → Change → ℕ → ℕ → Type 0
+PageLeads s c n k = PageLeadsOn s c (chain s) n k
 
 -- the hops from page n to the bucket of k: one for each bucket that begins on the way, and one off a tombstone
 abbrev pub distance_on : Store → List ℕ → ℕ → ℕ → ℕ
@@ -33,5 +33,5 @@ distance s n k = distance_on s (chain s) n k
 
 -- the page that a page names leads on, and is one hop nearer
 pub record IsNearer (s : Store) (c : Change) (ns : List ℕ) (n k : ℕ) : Type 0 where
-  pub leads : LeadsOn s c ns (next_at s n) k
+  pub leads : PageLeadsOn s c ns (next_at s n) k
   pub nearer : distance_on s ns n k ≡ suc (distance_on s ns (next_at s n) k)

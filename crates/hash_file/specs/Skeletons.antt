@@ -36,7 +36,7 @@ abbrev pub NamesBuckets : Store → List ℕ → Type 0
 NamesBuckets s ns = (i : ℕ) → i < 2 ^ s.header.depth → IsBucketOn s ns i (entry_at s i)
 
 -- page n goes on with a chain that has reached this position, and expects this page
-pub record GoesOn (s : Store) (n reached expected : ℕ) : Type 0 where
+pub record ExtendsChain (s : Store) (n reached expected : ℕ) : Type 0 where
   pub live : has_bucket s n ≡ true
   pub comes : n ≡ expected
   pub shallow : (bucket_at s n).depth ≤ s.header.depth

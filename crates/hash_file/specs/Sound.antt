@@ -54,8 +54,8 @@ pub record IsSoundOn (hash : RecordKey → ℕ) (s : Store) (c : Change) (ns : L
   pub phase : HasPhase hash s ns c
 
 -- a file is sound in this phase of a structure change
-abbrev pub IsSound : (RecordKey → ℕ) → Store → Change → Type 0
-IsSound hash s c = IsSoundOn hash s c (chain s)
+abbrev pub IsSoundFile : (RecordKey → ℕ) → Store → Change → Type 0
+IsSoundFile hash s c = IsSoundOn hash s c (chain s)
 
 -- the directory is exact: each entry is the bucket of its index, each count the number of buckets of its depth
 pub record IsExact (s : Store) : Type 0 where

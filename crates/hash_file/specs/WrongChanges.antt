@@ -6,13 +6,13 @@ use Rattle.bucket_page.specs.Records.{Pair}
 use Rattle.bucket_page.specs.Dividing.{with_bit, joined, upper_half}
 use Rattle.hash_file.specs.Store.{Store, bucket_at, records_at}
 use Rattle.hash_file.specs.Change.{Change, Quiet, Taken, Linked, Buried, Freed}
-use Rattle.hash_file.specs.Sound.{IsSound}
+use Rattle.hash_file.specs.Sound.{IsSoundFile}
 use Rattle.hash_file.specs.Changes.{with_bucket, take_page, raise_depth, write_old, set_counts, split_counts, write_left, write_tombstone, write_free, link_free, lower_depth}
 use Rattle.hash_file.specs.Kept.{KeepsContents}
 use Rattle.hash_file.specs.Examples.{number_of, put, first, doubled, linked, retargeted, split, with_3, with_4, with_6, filled_again, buried, drained}
 
 abbrev IsUnsound : Store → Change → Type 0
-IsUnsound s c = IsSound number_of s c → ⊥
+IsUnsound s c = IsSoundFile number_of s c → ⊥
 
 abbrev LosesContents : Store → Store → Type 0
 LosesContents old new = KeepsContents old new → ⊥

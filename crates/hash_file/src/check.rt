@@ -3,7 +3,7 @@
 ghost use Rattle.std.specs.Prelude.{◌≡◌, ◌≤◌, ◌<◌, ◌^◌, ◌↔◌, [], IsTrue, length};
 ghost use Rattle.positions.specs.Ranges.{Covers};
 ghost use Rattle.hash_file.specs.Chain.{IsBucketOn, IsChain};
-ghost use Rattle.hash_file.specs.Skeletons.{GoesOn, NamesBuckets, skeleton};
+ghost use Rattle.hash_file.specs.Skeletons.{ExtendsChain, NamesBuckets, skeleton};
 
 use crate::page::Page;
 use positions::{POSITIONS, PSEUDOKEY_BITS, Range};
@@ -28,7 +28,7 @@ pub fn is_chain(root: u32, depth: u8, pages: &[Page], chain: &[u32]) -> bool
 
 /// Whether a page goes on with a chain that has reached a position, and expects a page.
 fn goes_on(depth: u8, pages: &[Page], number: u32, reached: u64, expected: u32) -> bool
-    ensures { IsTrue result ↔ GoesOn (skeleton 0 depth [] pages.now) number reached expected }
+    ensures { IsTrue result ↔ ExtendsChain (skeleton 0 depth [] pages.now) number reached expected }
 {
     let page = Page::on(pages, number);
     let range = page.shape().range;

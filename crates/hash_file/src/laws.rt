@@ -6,7 +6,7 @@ ghost use Rattle.hash_file.specs.Hops.{NoHopMore, OneHopAtMost};
 ghost use Rattle.hash_file.specs.Laws.{CopyDirectoryKeeps, LinkFreeKeeps, LowerDepthKeeps, RaiseDepthKeeps, RetargetKeepsMerge, RetargetKeepsSplit, SetCountsKeepsMerge, SetCountsKeepsSplit, TakePageKeeps, WriteFreeKeeps, WriteLeftKeeps, WriteNewKeeps, WriteOldKeeps, WriteRecordIsOneRecord, WriteTombstoneKeeps};
 ghost use Rattle.hash_file.specs.Looks.{DrainedHasNoWayIn, EntriesLead, HopsLeadOn, LooksAnswer, OwnedLeadsNowhere, StaleDepthsLead};
 ghost use Rattle.hash_file.specs.New.{NewFilesAreSound};
-ghost use Rattle.hash_file.specs.Words.{ChainIsMet, ChainIsWellFormed, ContentsArePairs, LeadingIsStandingBefore, QuietIsExact, RolesAreOne};
+ghost use Rattle.hash_file.specs.Words.{ChainIsMet, ChainIsWellFormed, ContentsArePairs, FilesAreWellFormed, LeadingIsStandingBefore, QuietIsExact, RightPagesLead, RolesAreOne, WaysAreShort};
 ghost use Rattle.hash_file.specs.WrongChanges.{WrongChanges};
 
 /// Pages that follow one another from the root as a chain are all that next links lead to from there.
@@ -23,6 +23,24 @@ pub fn a_chain_is_well_formed()
 /// Each page from the root on is live, or on the free list, or owned by the change: one of these, and once.
 pub fn each_page_has_one_role()
     ensures { RolesAreOne }
+{}
+
+/// A sound file is well formed: its chain, the one role of each page, the place of each record, and keys of which no two
+/// are the same.
+pub fn a_sound_file_is_well_formed()
+    ensures { FilesAreWellFormed }
+{}
+
+/// The chain is no longer than there are pages from the root on, and no way to a bucket has more hops than the chain
+/// has buckets.
+pub fn no_way_is_longer_than_the_chain()
+    ensures { WaysAreShort }
+{}
+
+/// The right page of a merge leads, from WriteLeft on, to what is in its own range or behind the left page; from
+/// Tombstone on to all that the left page leads to (Ellis 1983).
+pub fn the_right_page_leads_on()
+    ensures { RightPagesLead }
 {}
 
 /// While no change is under way each entry is the bucket of its index, and each count the number of buckets of its

@@ -2,14 +2,8 @@
 
 #![tactic(auto)]
 
-mod command_line;
-
 use clap::error::ErrorKind;
-use command_line::{Task, read_command_line};
-use directory::LEAST_PAGES;
-use msgq_cli::{Ending, Output, new_file, print_fault, run_file, serve};
-use page_device::MAX_PAGES;
-use queue_model::NoMemory;
+use msgq_cli::{Output, Task, new_file, print_fault, read_command_line, run_file, serve};
 use std::io;
 use std::io::BufWriter;
 use std::process::ExitCode;
@@ -20,24 +14,20 @@ fn main(rt: HostRuntime) -> ExitCode {
         return without_memory(&rt);
     };
     let mut output = Output::new(writer);
+    let mut errors = rt.stderr();
     let Some(words) = words(&rt) else {
         return without_memory(&rt);
     };
     let ending = match read_command_line(alloc, words.as_slice()) {
-        Ok(Task::Serve) => serve(alloc, &mut rt.reader(), &mut output),
-        Ok(Task::New { file, pages }) => {
-            new_file(&rt, file, pages.clamp(LEAST_PAGES, MAX_PAGES), &mut output)
-        }
-        Ok(Task::Run { file, script }) => run_file(&rt, file, script, &mut output),
+        Ok(Task::Serve) => serve(alloc, &mut rt.reader(), &mut output, &mut errors),
+        Ok(Task::New { file, pages }) => new_file(&rt, file, pages, &mut output, &mut errors),
+        Ok(Task::Run { file, script }) => run_file(&rt, file, script, &mut output, &mut errors),
         Err(error) if error.kind() == ErrorKind::OutOfMemory => return without_memory(&rt),
         Err(error) => {
             let _ = error.print(&rt);
             return ExitCode::from(u8::try_from(error.exit_code()).unwrap_or(2));
         }
     };
-    if let Ending::WrongLine(line) = ending {
-        let _ = eprintln!(rt; "script line {line}");
-    }
     output.flush();
     ExitCode::from(ending.status(output.has_refused()))
 }
@@ -50,6 +40,6 @@ fn words(rt: &HostRuntime) -> Option<Vec<String>> {
 /// Ends where there is no memory to begin with.
 fn without_memory(rt: &HostRuntime) -> ExitCode {
     let mut output = Output::new(io::writer(rt));
-    print_fault(NoMemory::NUMBER, &mut output);
+    print_fault(faults::NO_MEMORY, &mut output);
     ExitCode::FAILURE
 }

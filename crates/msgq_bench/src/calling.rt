@@ -4,7 +4,7 @@ use page_device::MemDevice;
 use queue_model::{Body, Call, Caller, GetArguments, ReceiveArguments, SendArguments};
 use record_file::{CloseFault, OpenFault, format};
 use std::alloc::{AllocError, Global};
-use xsi_calls::{CallFault, OneCaller, Served};
+use one_caller::{CallFault, OneCaller, Served};
 
 /// Who calls.
 const CALLER: Caller = Caller {

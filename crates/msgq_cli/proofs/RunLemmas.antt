@@ -15,15 +15,15 @@ use Rattle.queue_model.specs.declared.call.SetArguments.{SetArguments}
 use Rattle.queue_model.specs.declared.caller.Caller.{Caller}
 use Rattle.queue_model.specs.declared.errno.Errno.{Errno}
 use Rattle.queue_model.specs.declared.errno.Errno.TheVariants.{EACCES, EAGAIN, EINVAL, ENOENT, ENOMSG, EPERM}
-use Rattle.queue_model.specs.declared.limits.TheConstants.{MAX_BODY, MAX_QBYTES}
+use Rattle.limits.specs.declared.TheConstants.{MAX_BODY, MAX_QBYTES}
 use Rattle.queue_model.specs.declared.permissions.Access.TheVariants.{Read, Write}
 use Rattle.queue_model.specs.declared.message.Message.{Message}
 use Rattle.queue_model.specs.declared.queue.Queue.{Queue}
-use Rattle.xsi_calls.specs.Serving.{Tells}
-use Rattle.xsi_calls.specs.declared.served.Served.{Served}
-use Rattle.xsi_calls.specs.declared.served.Served.TheVariants as served
-use Rattle.xsi_calls.specs.declared.fault.CallFault.{CallFault}
-use Rattle.xsi_calls.specs.declared.fault.CallFault.TheVariants as fault
+use Rattle.one_caller.specs.Serving.{Tells}
+use Rattle.one_caller.specs.declared.served.Served.{Served}
+use Rattle.one_caller.specs.declared.served.Served.TheVariants as served
+use Rattle.one_caller.specs.declared.fault.CallFault.{CallFault}
+use Rattle.one_caller.specs.declared.fault.CallFault.TheVariants as fault
 use Rattle.msgq_cli.specs.Answers.{reply_text}
 use Rattle.msgq_cli.specs.Outputs.{OutputState, Prints}
 use Rattle.msgq_cli.specs.Runs.{stop, IsReplied, AreReplied, printed, is_fault, ending_of, IsPrinted, IsRun}

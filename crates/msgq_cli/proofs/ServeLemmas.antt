@@ -1,5 +1,5 @@
 -- Files opened, run on and closed.
-use Rattle.std.proofs.Common.{◌≡◌, ◌⊎◌, inl, inr, ℕ, ◌<◌, ◌+◌, List, refl, arith}
+use Rattle.std.proofs.Common.{◌≡◌, ◌⊎◌, inl, inr, ℕ, ◌<◌, ◌≤◌, List, refl, arith}
 use Rattle.std.specs.Bool.{⊤}
 use Rattle.page_device.specs.Device.{HasRisen, MOST_FAULTS}
 use Rattle.page_device.specs.Fault.{number_of}
@@ -30,10 +30,10 @@ IsRun-weaker script s H I old new ending weaker run = record {
   ends = run.ends;
 }
 
--- a device whose count of faults rose has failed
-pub has_failed : (old new : ℕ) → HasRisen old new → 0 < new
-has_failed old new (inl more) = omega arith
-has_failed old new (inr most) = rw most (omega arith)
+-- a count that rose since a later call rose since an earlier one
+pub risen_since : (first old new : ℕ) → first ≤ old → HasRisen old new → HasRisen first new
+risen_since first old new later (inl more) = inl (omega (arith, later))
+risen_since first old new later (inr most) = inr most
 
 -- a device in memory does not fail
 pub never_fails : (old : ℕ) → HasRisen old 0 → ⊥
@@ -50,19 +50,19 @@ no_memory device.NoMemory may failed = refl
 
 -- a file in memory is run on, or there is no memory for it
 pub RunsNew-memory : (script : Parts) (s : State) (IsLeft : State → Type 0) (old new : OutputState) (ending : Ending)
-    → RunsOn script s IsLeft 0 old new ending → IsRun script s (λ t. ⊤) old new ending ⊎ IsFaultAlone 60 old new ending
+    → RunsOn script s IsLeft 0 0 old new ending → IsRun script s (λ t. ⊤) old new ending ⊎ IsFaultAlone 60 old new ending
 RunsNew-memory script s IsLeft old new ending (inl run) =
     inl (IsRun-weaker script s IsLeft (λ t. ⊤) old new ending (λ t held. tt) run)
 RunsNew-memory script s IsLeft old new ending (inr (inl alone)) = inr alone
-RunsNew-memory script s IsLeft old new ending (inr (inr (failed, which))) = absurd (omega (arith, failed))
+RunsNew-memory script s IsLeft old new ending (inr (inr (failed, which))) = absurd (never_fails 0 failed)
 
 -- the file of a system is refused by its device or for want of memory alone, where there is a frame
 pub refused_alone : (script : Parts) (s : State) (IsLeft : State → Type 0) (was faults : ℕ) (old new : OutputState)
     (ending : Ending) (fault : OpenFault) → IsOfMachine fault → HasCauseToRefuse was faults fault
     → (fault ≡ opens.TooFewFrames → ⊥) → IsFaultAlone (open_faults.number_of fault) old new ending
-    → RunsOn script s IsLeft faults old new ending
+    → RunsOn script s IsLeft was faults old new ending
 refused_alone script s IsLeft was faults old new ending opens.Device may cause frames alone =
-    inr (inr (has_failed was faults cause, inl alone))
+    inr (inr (cause, inl alone))
 refused_alone script s IsLeft was faults old new ending opens.BadDigest may cause frames alone = absurd may
 refused_alone script s IsLeft was faults old new ending opens.PastEnd may cause frames alone = absurd may
 refused_alone script s IsLeft was faults old new ending opens.TooFewFrames may cause frames alone = absurd (frames refl)

@@ -9,5 +9,6 @@ pub mod Runs
 pub mod Scripts
 pub mod Serves
 pub mod Serving
+pub mod Tasks
 pub mod Texts
 pub mod Words

@@ -1,24 +1,33 @@
 -- What is printed where a script is run on a file, and what that leaves. docs/SCRIPTS.md, "Runs".
-use Rattle.std.specs.Prelude.{◌≡◌, ◌⊎◌, ℕ, ◌<◌, Bool, IsTrue, List, Option, Some, None, Result, Ok, Err, ⊤}
+use Rattle.std.specs.Prelude.{◌≡◌, ◌⊎◌, ℕ, Bool, IsTrue, List, Option, Some, None, Result, Ok, Err, ⊤}
+use Rattle.std.specs.declared.io.ErrorKind.{ErrorKind}
+use Rattle.std.specs.declared.io.ErrorKind.TheVariants.{OutOfMemory}
+use Rattle.faults.specs.declared.TheConstants.{DEVICE, NO_MEMORY}
+use Rattle.page_device.specs.Device.{HasRisen}
 use Rattle.queue_model.specs.State.{State}
-use Rattle.xsi_calls.specs.Filing.{IsFileOf}
-use Rattle.xsi_calls.specs.Laws.{no_queues}
+use Rattle.one_caller.specs.Filing.{IsFileOf}
+use Rattle.one_caller.specs.Laws.{no_queues}
 use Rattle.msgq_cli.specs.Answers.{fault_text, made_text}
 use Rattle.msgq_cli.specs.Outputs.{OutputState, Prints}
-use Rattle.msgq_cli.specs.Runs.{IsRun}
+use Rattle.msgq_cli.specs.Runs.{IsPrinted, IsRun}
 use Rattle.msgq_cli.specs.Scripts.{Parts, script_of}
 use Rattle.record_file.specs.Files.{IsNewFile}
 use Rattle.msgq_cli.specs.declared.script.ScriptError.{ScriptError}
 use Rattle.msgq_cli.specs.declared.script.ScriptError.TheVariants as errors
-use Rattle.msgq_cli.specs.declared.serving.ReadFault.{ReadFault}
-use Rattle.msgq_cli.specs.declared.serving.ReadFault.TheVariants as read
 use Rattle.msgq_cli.specs.declared.ending.Ending.{Ending}
-use Rattle.msgq_cli.specs.declared.ending.Ending.TheVariants.{Done, Faulty, WrongLine}
+use Rattle.msgq_cli.specs.declared.ending.Ending.TheVariants.{Done, Faulty, Failed, WrongLine}
+
+-- a run ends by a fault of this number that no line met
+abbrev pub EndsBy : ℕ → Ending → Type 0
+EndsBy fault Done = ⊥
+EndsBy fault Faulty = ⊥
+EndsBy fault (Failed failure) = failure.fault ≡ fault
+EndsBy fault (WrongLine line) = ⊥
 
 -- a fault that no line met is printed, and nothing else
 pub record IsFaultAlone (fault : ℕ) (old new : OutputState) (ending : Ending) : Type 0 where
   pub prints : Prints old new (fault_text fault)
-  pub ends : ending ≡ Faulty
+  pub ends : EndsBy fault ending
 
 -- a file of so many pages is told to be made
 pub record IsMade (pages : ℕ) (old new : OutputState) (ending : Ending) : Type 0 where
@@ -26,7 +35,8 @@ pub record IsMade (pages : ℕ) (old new : OutputState) (ending : Ending) : Type
   pub ends : ending ≡ Done
 
 -- a script was run from s, and then a fault was printed
-pub record IsRunAndFault (script : Parts) (s : State) (fault : ℕ) (old new : OutputState) (ending : Ending) : Type 0 where
+pub record IsRunAndFault (script : Parts) (s : State) (fault : ℕ) (old new : OutputState) (ending : Ending)
+    : Type 0 where
   pub run_to : OutputState
   pub run_ending : Ending
   pub run : IsRun script s (λ t. ⊤) old run_to run_ending
@@ -37,16 +47,38 @@ abbrev pub IsKept : Bool → List (List ℕ) → State → Type 0
 IsKept honest content s = IsTrue honest → IsFileOf s content
 
 -- a script was run on a file of s, and the file is one of the system that it left; or there was no memory to
--- open the file; or the device failed, when the file was opened or when it was closed
-abbrev pub RunsOn : Parts → State → (State → Type 0) → ℕ → OutputState → OutputState → Ending → Type 0
-RunsOn script s IsLeft faults old new ending =
+-- open the file; or a transfer failed since the device had failed so often, at the opening or at the closing
+abbrev pub RunsOn : Parts → State → (State → Type 0) → ℕ → ℕ → OutputState → OutputState → Ending → Type 0
+RunsOn script s IsLeft was faults old new ending =
     IsRun script s IsLeft old new ending
-    ⊎ IsFaultAlone 60 old new ending
-    ⊎ ((0 < faults) × (IsFaultAlone 20 old new ending ⊎ IsRunAndFault script s 20 old new ending))
+    ⊎ IsFaultAlone NO_MEMORY old new ending
+    ⊎ (HasRisen was faults × (IsFaultAlone DEVICE old new ending ⊎ IsRunAndFault script s DEVICE old new ending))
+
+-- a line was printed for each line of a script, and then a fault
+pub record IsPrintedAndFault (script : Parts) (fault : ℕ) (old new : OutputState) (ending : Ending) : Type 0 where
+  pub run_to : OutputState
+  pub run_ending : Ending
+  pub lines : IsPrinted script old run_to run_ending
+  pub alone : IsFaultAlone fault run_to new ending
+
+-- what is printed of a script on any file: a line for each of its lines, or these and one fault, or one fault alone
+abbrev pub PrintsRun : Parts → OutputState → OutputState → Ending → Type 0
+PrintsRun script old new ending =
+    IsPrinted script old new ending
+    ⊎ ((fault : ℕ) × IsPrintedAndFault script fault old new ending)
+    ⊎ ((fault : ℕ) × IsFaultAlone fault old new ending)
+
+-- what is printed of a script in a file: that of some script; or nothing, where a line of it is wrong; or one
+-- fault alone
+abbrev pub RunsFile : OutputState → OutputState → Ending → Type 0
+RunsFile old new ending =
+    ((script : Parts) × PrintsRun script old new ending)
+    ⊎ ((line : ℕ) × (ending ≡ WrongLine line) × (new ≡ old))
+    ⊎ ((fault : ℕ) × IsFaultAlone fault old new ending)
 
 -- from the empty system a script is run, unless there is no memory to make its file
 abbrev pub RunsNew : Parts → OutputState → OutputState → Ending → Type 0
-RunsNew script old new ending = IsRun script no_queues (λ t. ⊤) old new ending ⊎ IsFaultAlone 60 old new ending
+RunsNew script old new ending = IsRun script no_queues (λ t. ⊤) old new ending ⊎ IsFaultAlone NO_MEMORY old new ending
 
 -- a wrong script is told by its first wrong line, and nothing is run
 abbrev pub RunsScript : Result Parts ℕ → OutputState → OutputState → Ending → Type 0
@@ -55,7 +87,7 @@ RunsScript (Err line) old new ending = (ending ≡ WrongLine line) × (new ≡ o
 
 -- a text is run as the script that it spells, unless there is no memory to read it
 abbrev pub RunsText : List ℕ → OutputState → OutputState → Ending → Type 0
-RunsText text old new ending = RunsScript (script_of text) old new ending ⊎ IsFaultAlone 60 old new ending
+RunsText text old new ending = RunsScript (script_of text) old new ending ⊎ IsFaultAlone NO_MEMORY old new ending
 
 -- the bytes of a reader, where they are known
 abbrev pub AreKnownAs : Option (List ℕ) → List ℕ → Type 0
@@ -66,26 +98,26 @@ AreKnownAs (Some known) bytes = bytes ≡ known
 abbrev pub RunsInput : Option (List ℕ) → OutputState → OutputState → Ending → Type 0
 RunsInput known old new ending =
     ((text : List ℕ) × AreKnownAs known text × RunsText text old new ending)
-    ⊎ IsFaultAlone 60 old new ending
-    ⊎ IsFaultAlone 20 old new ending
+    ⊎ IsFaultAlone NO_MEMORY old new ending
+    ⊎ IsFaultAlone DEVICE old new ending
 
 -- what is told where there is no script
 abbrev pub IsRefused : ScriptError → OutputState → OutputState → Ending → Type 0
 IsRefused (errors.WrongLine line) old new ending = (ending ≡ WrongLine line) × (new ≡ old)
-IsRefused errors.NoMemory old new ending = IsFaultAlone 60 old new ending
+IsRefused errors.NoMemory old new ending = IsFaultAlone NO_MEMORY old new ending
 
--- the number that is printed where a text is not read
-abbrev pub read_number_of : ReadFault → ℕ
-read_number_of read.NoMemory = 60
-read_number_of read.Device = 20
+-- the number that is printed where a text is not read: want of memory is told from the rest
+abbrev pub read_fault_of : ErrorKind → ℕ
+read_fault_of OutOfMemory = NO_MEMORY
+read_fault_of _ = DEVICE
 
 -- a file is told to be made, or one fault is told
 abbrev pub IsMadeOrFault : ℕ → OutputState → OutputState → Ending → Type 0
 IsMadeOrFault pages old new ending = IsMade pages old new ending ⊎ ((fault : ℕ) × IsFaultAlone fault old new ending)
 
--- the file was made; or there was no memory for its pages, or the device failed
-abbrev pub Makes : ℕ → List (List ℕ) → ℕ → OutputState → OutputState → Ending → Type 0
-Makes pages content faults old new ending =
+-- the file was made; or there was no memory for its pages; or a transfer failed since the device had failed so often
+abbrev pub Makes : ℕ → List (List ℕ) → ℕ → ℕ → OutputState → OutputState → Ending → Type 0
+Makes pages content was faults old new ending =
     (IsMade pages old new ending × IsNewFile pages content)
-    ⊎ IsFaultAlone 60 old new ending
-    ⊎ ((0 < faults) × IsFaultAlone 20 old new ending)
+    ⊎ IsFaultAlone NO_MEMORY old new ending
+    ⊎ (HasRisen was faults × IsFaultAlone DEVICE old new ending)

@@ -1,9 +1,9 @@
 -- What is replied to a call that was made.
 use Rattle.std.specs.Prelude.{Result, Ok, Err}
-use Rattle.xsi_calls.specs.declared.served.Served.{Served}
-use Rattle.xsi_calls.specs.declared.served.Served.TheVariants.{Answer, Waits}
-use Rattle.xsi_calls.specs.declared.fault.CallFault.{CallFault}
-use Rattle.xsi_calls.specs.Fault.{number_of}
+use Rattle.one_caller.specs.declared.served.Served.{Served}
+use Rattle.one_caller.specs.declared.served.Served.TheVariants.{Answer, Waits}
+use Rattle.one_caller.specs.declared.fault.CallFault.{CallFault}
+use Rattle.one_caller.specs.Fault.{number_of}
 use Rattle.msgq_cli.specs.declared.reply.Reply.{Reply}
 use Rattle.msgq_cli.specs.declared.reply.Reply.TheVariants.{Answered, Failed}
 

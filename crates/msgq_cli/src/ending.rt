@@ -10,10 +10,34 @@ use crate::reply::Reply;
 pub enum Ending {
     /// No fault was printed.
     Done,
-    /// A fault was printed.
+    /// A fault was printed behind the number of a line, and no other.
     Faulty,
+    /// A fault that no line met was printed.
+    Failed(Failure),
     /// The script's line of this number is wrong, and nothing was run.
     WrongLine(u64),
+}
+
+/// A fault that no line met.
+#[derive(Clone, Copy, Debug, PartialEq, Eq)]
+pub struct Failure {
+    /// What was being done.
+    pub stage: Stage,
+    /// The number that was printed.
+    pub fault: u8,
+}
+
+/// What is done around the lines of a script.
+#[derive(Clone, Copy, Debug, PartialEq, Eq)]
+pub enum Stage {
+    /// The script is read.
+    Reading,
+    /// A file is made.
+    Making,
+    /// The file is opened.
+    Opening,
+    /// The file is closed.
+    Closing,
 }
 
 impl Ending {
@@ -24,7 +48,7 @@ impl Ending {
     {
         match self {
             Ending::WrongLine(_) => 2,
-            Ending::Faulty => 1,
+            Ending::Faulty | Ending::Failed(_) => 1,
             Ending::Done => u8::from(refused),
         }
     }

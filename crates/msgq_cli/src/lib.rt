@@ -4,8 +4,12 @@
 #![tactic(auto)]
 
 mod command;
+mod command_line;
+mod complaint;
 mod ending;
+mod files;
 mod line;
+mod misread;
 mod numbers;
 mod options;
 mod output;
@@ -15,25 +19,16 @@ mod reply;
 mod runs;
 mod script;
 mod serving;
-mod subcommands;
 mod words;
 
 pub use command::{Command, DEFAULT_MODE};
-pub use ending::Ending;
+pub use command_line::{Task, read_command_line};
+pub use ending::{Ending, Failure, Stage};
+pub use files::{STANDARD_INPUT, new_file, new_on, run_file};
 pub use line::{Line, SeatIds};
 pub use numbers::SEATS;
 pub use output::Output;
 pub use reply::{Reply, print_fault, print_info, print_made};
 pub use runs::run;
 pub use script::{Script, ScriptError, read_script};
-pub use serving::{MEMORY_PAGES, MOST_FRAMES, run_on, serve};
-pub use subcommands::{new_file, new_on, run_file};
-
-#[cfg(test)]
-mod file_tests;
-#[cfg(test)]
-mod run_tests;
-#[cfg(test)]
-mod tests;
-#[cfg(test)]
-mod trial;
+pub use serving::{MEMORY_PAGES, MOST_FRAMES, run_on, serve, serve_text};

@@ -62,7 +62,7 @@ pub(crate) fn read_content(alloc: Global, number: u64, line: &[u8]) -> Result<Co
 }
 
 /// A line without its end.
-fn text(line: &[u8]) -> Option<&[u8]>
+pub(crate) fn text(line: &[u8]) -> Option<&[u8]>
     ensures { option_copied result ≡ text_of line.now }
 {
     match line.split_last() {
@@ -73,7 +73,7 @@ fn text(line: &[u8]) -> Option<&[u8]>
 }
 
 /// Whether all bytes are below 128.
-fn is_ascii(text: &[u8]) -> bool
+pub(crate) fn is_ascii(text: &[u8]) -> bool
     ensures { result ≡ list_all (λ byte. nat_lt byte 128) text.now }
 {
     text.iter().all(|byte| *byte < 128)

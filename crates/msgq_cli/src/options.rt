@@ -33,7 +33,7 @@ impl Options {
     }
 
     /// No options.
-    fn none() -> Options
+    pub(crate) fn none() -> Options
         ensures { result ≡ no_options }
     {
         Options {
@@ -48,7 +48,7 @@ impl Options {
     }
 
     /// One option more, which none of these repeats.
-    fn with(self, word: &[u8]) -> Option<Options>
+    pub(crate) fn with(self, word: &[u8]) -> Option<Options>
         ensures { result ≡ with_option self word.now }
     {
         if is_word(word, b"create") && !self.create {

@@ -2,27 +2,26 @@
 
 ghost use Rattle.std.specs.Prelude.{◌≡◌, ◌↔◌, IsTrue};
 ghost use Rattle.queue_model.specs.State.{State};
-ghost use Rattle.xsi_calls.specs.Serving.{Holds};
+ghost use Rattle.one_caller.specs.Serving.{Holds};
 ghost use Rattle.msgq_cli.specs.Runs.{IsPrinted, IsReplied, IsRun};
 ghost use Rattle.msgq_cli.specs.Serving.{reply_to};
-ghost use Rattle.msgq_cli.specs.declared.command.Command.TheVariants as command;
 
 use crate::command::Command;
 use crate::ending::Ending;
 use crate::output::Output;
 use crate::reply::Reply;
 use crate::script::Script;
+use one_caller::{CallFault, OneCaller, Served};
 use page_device::PageDevice;
-use queue_model::{Call, Caller};
+use queue_model::Caller;
 use std::alloc::Global;
 use std::io::Write;
-use xsi_calls::{CallFault, OneCaller, Served};
 
-/// Serves the lines of a script one after the other, and prints what each is replied.
+/// Runs the lines of a script one after the other, and prints what each is replied.
 ///
 /// Each call is answered by the rules (docs/QUEUES.md, "Calls") in the system that the lines before
 /// it left; before the first that would wait the system is stopped. Fault 50 or 60 leaves the system.
-/// Where the output refuses a write the lines are served all the same.
+/// Where the output refuses a write the lines are run all the same.
 pub fn run<D: PageDevice, W: Write>(
     alloc: Global,
     script: &Script,
@@ -32,45 +31,35 @@ pub fn run<D: PageDevice, W: Write>(
     ensures served { (s : State) → Holds caller.old s →
         IsRun script.now s (Holds caller.new) output.old output.new result }
     ensures lines { IsPrinted script.now output.old output.new result }
+    ensures faults { caller.new.file.faults ≡ caller.old.file.faults }
 {
     let mut ending = Ending::Done;
     for line in script.lines() {
-        let reply = serve_command(alloc, script.caller(line.seat), &line.command, caller);
+        let reply = reply(alloc, script.caller(line.seat), &line.command, caller);
         reply.print(line.number, output);
         ending = ending.after(&reply);
     }
     ending
 }
 
-/// Serves a command.
-fn serve_command<D: PageDevice>(
+/// What a command is replied. Where its call would wait, the system is stopped and the call is made again.
+fn reply<D: PageDevice>(
     alloc: Global,
     seated: Caller,
     command: &Command,
     caller: &mut OneCaller<D>,
 ) -> Reply
-    ensures { (s : State) → Holds caller.old s →
+    ensures replied { (s : State) → Holds caller.old s →
         (t : State) × IsReplied seated command.now s result t × Holds caller.new t }
+    ensures faults { caller.new.file.faults ≡ caller.old.file.faults }
 {
-    match command {
-        Command::Call(call) => serve_call(alloc, seated, call, caller),
+    let call = match command {
+        Command::Call(call) => call,
         Command::Stop => {
             caller.stop();
-            Reply::Stopped
+            return Reply::Stopped;
         }
-    }
-}
-
-/// Serves a call. Where it would wait, the system is stopped and the call is made again.
-fn serve_call<D: PageDevice>(
-    alloc: Global,
-    seated: Caller,
-    call: &Call,
-    caller: &mut OneCaller<D>,
-) -> Reply
-    ensures { (s : State) → Holds caller.old s →
-        (t : State) × IsReplied seated (command.Call call.now) s result t × Holds caller.new t }
-{
+    };
     let first = caller.call(alloc, seated, call);
     if !waits(&first) {
         return reply_to(first);

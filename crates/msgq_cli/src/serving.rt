@@ -1,42 +1,77 @@
 //! Scripts served on files.
 
-ghost use Rattle.std.specs.Prelude.{◌≡◌, ◌⊎◌, IfOk, IfErr, IsTrue, ◌≤◌};
+ghost use Rattle.std.specs.Prelude.{◌≡◌, ℕ, ◌≤◌, IfOk, IsTrue};
+ghost use Rattle.std.specs.IoError.{error_kind};
 ghost use Rattle.queue_model.specs.State.{State};
-ghost use Rattle.xsi_calls.specs.Filing.{IsFileOf};
-ghost use Rattle.xsi_calls.specs.Serving.{Holds, restarted};
-ghost use Rattle.msgq_cli.specs.Serves.{AreKnownAs, IsFaultAlone, IsKept, IsRefused, RunsInput};
-ghost use Rattle.msgq_cli.specs.Serves.{RunsNew, RunsOn, RunsText, read_number_of};
+ghost use Rattle.one_caller.specs.Filing.{IsFileOf};
+ghost use Rattle.one_caller.specs.Serving.{Holds, restarted};
+ghost use Rattle.msgq_cli.specs.Serves.{AreKnownAs, IsFaultAlone, IsKept, IsRefused, PrintsRun};
+ghost use Rattle.msgq_cli.specs.Serves.{RunsInput, RunsOn, RunsText, read_fault_of};
 
-use crate::ending::Ending;
+use crate::complaint::{complain, complain_of, complain_of_line};
+use crate::ending::{Ending, Failure, Stage};
 use crate::output::Output;
 use crate::reply::print_fault;
 use crate::runs::run;
 use crate::script::{Script, ScriptError, read_script};
-use page_device::{DeviceFault, MemDevice, PageDevice};
-use queue_model::NoMemory;
+use one_caller::{OneCaller, a_new_file_is_that_of_no_queue};
+use page_device::{MemDevice, PageDevice};
 use record_file::format;
 use std::alloc::Global;
 use std::io;
 use std::io::{ErrorKind, Read, Write};
-use xsi_calls::{OneCaller, a_new_file_is_that_of_no_queue};
 
 /// How many pages the file in memory has on which a script of standard input is run.
 pub const MEMORY_PAGES: u32 = 352;
+
+/// What its faults are told of.
+const MEMORY: &str = "the file in memory";
 
 /// A file has as many frames as pages, up to this number.
 pub const MOST_FRAMES: usize = 16_384;
 
 /// Runs the script that a reader gives on a new file in memory, from the empty system.
 ///
-/// A wrong script runs nothing. Fault 60 alone where there is no memory to read the script or to make the
-/// file, fault 20 alone where the reader fails otherwise.
-pub fn serve<R: Read, W: Write>(alloc: Global, reader: &mut R, output: &mut Output<W>) -> Ending
+/// As `serve_text`, and where the reader fails otherwise than for want of memory fault 20 alone.
+pub fn serve<R: Read, W: Write, E: Write>(
+    alloc: Global,
+    reader: &mut R,
+    output: &mut Output<W>,
+    errors: &mut E,
+) -> Ending
     ensures { RunsInput (R.remaining reader.old) output.old output.new result }
 {
     match read_text(alloc, reader) {
-        Ok(text) => serve_text(alloc, text.as_slice(), output),
-        Err(fault) => fail(fault.number(), output),
+        Ok(text) => serve_text(alloc, text.as_slice(), output, errors),
+        Err(error) => unread("standard input", &error, output, errors),
     }
+}
+
+/// Runs a text as a script on a new file in memory, from the empty system.
+///
+/// A wrong script runs nothing. Fault 60 alone where there is no memory to read the script or to make the file.
+pub fn serve_text<W: Write, E: Write>(
+    alloc: Global,
+    text: &[u8],
+    output: &mut Output<W>,
+    errors: &mut E,
+) -> Ending
+    ensures { RunsText text.now output.old output.new result }
+{
+    let script = match read_script(alloc, text) {
+        Ok(script) => script,
+        Err(error) => return refuse(alloc, error, text, output, errors),
+    };
+    let mut device = MemDevice::new(alloc);
+    if let Err(fault) = format(&mut device, MEMORY_PAGES) {
+        let ending = fail(Stage::Making, fault.number(), output);
+        complain_of(MEMORY, ending, errors);
+        return ending;
+    }
+    a_new_file_is_that_of_no_queue();
+    let ending = run_on(alloc, device, &script, output).1;
+    complain_of(MEMORY, ending, errors);
+    ending
 }
 
 /// Runs a script on the file of a device, and closes the file.
@@ -44,20 +79,24 @@ pub fn serve<R: Read, W: Write>(alloc: Global, reader: &mut R, output: &mut Outp
 /// Where the device is honest and its pages are a file of a system, the script is run from that system, and the
 /// file is one of the system that it leaves; fault 60 alone where there is no memory to open it. The device
 /// may fail when the file is opened, then fault 20 stands alone, or when it is closed, then behind the answers.
+///
+/// Of any device: a line is printed for each line of the script, and one fault behind them where the file is not
+/// closed well; or one fault alone.
 pub fn run_on<D: PageDevice, W: Write>(
     alloc: Global,
     device: D,
     script: &Script,
     output: &mut Output<W>,
 ) -> (D, Ending)
-    ensures { (s : State) → IsTrue (D.is_honest device) → IsFileOf s (D.content device) →
+    ensures served { (s : State) → IsTrue (D.is_honest device) → IsFileOf s (D.content device) →
         RunsOn script.now (restarted s) (IsKept (D.is_honest result.0) (D.content result.0))
-        (D.fault_count result.0) output.old output.new result.1 }
+        (D.fault_count device) (D.fault_count result.0) output.old output.new result.1 }
+    ensures lines { PrintsRun script.now output.old output.new result.1 }
 {
     let frames = (device.pages() as usize).clamp(1, MOST_FRAMES);
     match OneCaller::open(alloc, device, frames) {
         Ok(caller) => run_open(alloc, caller, script, output),
-        Err((device, fault)) => (device, fail(fault.number(), output)),
+        Err((device, fault)) => (device, fail(Stage::Opening, fault.number(), output)),
     }
 }
 
@@ -68,96 +107,78 @@ fn run_open<D: PageDevice, W: Write>(
     script: &Script,
     output: &mut Output<W>,
 ) -> (D, Ending)
-    ensures { (s : State) → Holds caller s →
+    ensures served { (was : ℕ) (s : State) → Holds caller s → was ≤ caller.file.faults →
         RunsOn script.now s (IsKept (D.is_honest result.0) (D.content result.0))
-        (D.fault_count result.0) output.old output.new result.1 }
+        was (D.fault_count result.0) output.old output.new result.1 }
+    ensures lines { PrintsRun script.now output.old output.new result.1 }
 {
     let mut caller = caller;
     let ending = run(alloc, script, &mut caller, output);
     match caller.close() {
         Ok(device) => (device, ending),
-        Err((device, fault)) => (device, fail(fault.number(), output)),
+        Err((device, fault)) => (device, fail(Stage::Closing, fault.number(), output)),
     }
 }
 
-/// Runs a text as a script.
-fn serve_text<W: Write>(alloc: Global, text: &[u8], output: &mut Output<W>) -> Ending
-    ensures { RunsText text.now output.old output.new result }
-{
-    match read_script(alloc, text) {
-        Ok(script) => serve_script(alloc, &script, output),
-        Err(error) => refuse(error, output),
-    }
-}
-
-/// How a program ends that has no script.
-pub(crate) fn refuse<W: Write>(error: ScriptError, output: &mut Output<W>) -> Ending
+/// Ends a run whose script is not read.
+pub(crate) fn refuse<W: Write, E: Write>(
+    alloc: Global,
+    error: ScriptError,
+    text: &[u8],
+    output: &mut Output<W>,
+    errors: &mut E,
+) -> Ending
     ensures { IsRefused error output.old output.new result }
 {
     match error {
-        ScriptError::WrongLine { line } => Ending::WrongLine(line),
-        ScriptError::NoMemory => fail(NoMemory::NUMBER, output),
-    }
-}
-
-/// Runs a script on a new file in memory.
-fn serve_script<W: Write>(alloc: Global, script: &Script, output: &mut Output<W>) -> Ending
-    ensures { RunsNew script.now output.old output.new result }
-{
-    let mut device = MemDevice::new(alloc);
-    match format(&mut device, MEMORY_PAGES) {
-        Ok(()) => {}
-        Err(fault) => return fail(fault.number(), output),
-    }
-    a_new_file_is_that_of_no_queue();
-    run_on(alloc, device, script, output).1
-}
-
-/// Why a text is not read.
-#[derive(Clone, Copy, Debug, PartialEq, Eq)]
-pub(crate) enum ReadFault {
-    /// There is no memory for it.
-    NoMemory,
-    /// The reader failed.
-    Device,
-}
-
-impl ReadFault {
-    /// What an error means for what is read.
-    pub(crate) fn of(error: &io::Error) -> ReadFault {
-        if error.kind() == ErrorKind::OutOfMemory {
-            ReadFault::NoMemory
-        } else {
-            ReadFault::Device
+        ScriptError::WrongLine { line } => {
+            complain_of_line(alloc, text, line, errors);
+            Ending::WrongLine(line)
         }
-    }
-
-    /// The number that is printed.
-    pub(crate) fn number(self) -> u8
-        ensures { result ≡ read_number_of self }
-    {
-        match self {
-            ReadFault::NoMemory => NoMemory::NUMBER,
-            ReadFault::Device => DeviceFault::Device.number(),
+        ScriptError::NoMemory => {
+            let ending = fail(Stage::Reading, faults::NO_MEMORY, output);
+            complain_of("the script", ending, errors);
+            ending
         }
     }
 }
 
 /// All that a reader gives.
-pub(crate) fn read_text<R: Read>(alloc: Global, reader: &mut R) -> Result<Vec<u8>, ReadFault>
+pub(crate) fn read_text<R: Read>(alloc: Global, reader: &mut R) -> io::Result<Vec<u8>>
     ensures { IfOk result (λ text. AreKnownAs (R.remaining reader.old) text.items) }
 {
     let mut text = Vec::new(alloc);
-    match reader.read_to_end(&mut text) {
-        Ok(_) => Ok(text),
-        Err(error) => Err(ReadFault::of(&error)),
+    reader.read_to_end(&mut text)?;
+    Ok(text)
+}
+
+/// Ends a run of whose script the system refused to open or read the file.
+pub(crate) fn unread<W: Write, E: Write>(
+    name: &str,
+    error: &io::Error,
+    output: &mut Output<W>,
+    errors: &mut E,
+) -> Ending
+    ensures { IsFaultAlone (read_fault_of (error_kind error.now)) output.old output.new result }
+{
+    complain(name, "it can't be read", error, errors);
+    fail(Stage::Reading, read_fault(error.kind()), output)
+}
+
+/// The number of an error of a reader: 60 for want of memory, and 20 else.
+fn read_fault(kind: ErrorKind) -> u8
+    ensures { result ≡ read_fault_of kind }
+{
+    match kind {
+        ErrorKind::OutOfMemory => faults::NO_MEMORY,
+        _ => faults::DEVICE,
     }
 }
 
 /// Prints a fault that no line met.
-pub(crate) fn fail<W: Write>(fault: u8, output: &mut Output<W>) -> Ending
+pub(crate) fn fail<W: Write>(stage: Stage, fault: u8, output: &mut Output<W>) -> Ending
     ensures { IsFaultAlone fault output.old output.new result }
 {
     print_fault(fault, output);
-    Ending::Faulty
+    Ending::Failed(Failure { stage, fault })
 }

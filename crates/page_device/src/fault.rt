@@ -32,11 +32,11 @@ impl DeviceFault {
         ensures { result ≡ number_of self }
     {
         match self {
-            DeviceFault::Device => 20,
-            DeviceFault::BadDigest => 21,
-            DeviceFault::PastEnd => 22,
-            DeviceFault::DeviceFull => 23,
-            DeviceFault::NoMemory => 60,
+            DeviceFault::Device => faults::DEVICE,
+            DeviceFault::BadDigest => faults::BAD_DIGEST,
+            DeviceFault::PastEnd => faults::PAST_END,
+            DeviceFault::DeviceFull => faults::DEVICE_FULL,
+            DeviceFault::NoMemory => faults::NO_MEMORY,
         }
     }
 }

@@ -1,12 +1,13 @@
 //! A device one of whose transfers fails, for trials.
-ghost use Rattle.std.specs.Prelude.{◌≡◌, ◌↔◌, ◌+◌, ◌-◌, min, IsTrue, if◌then◌else◌};
-ghost use Rattle.page_device.specs.Device.{MOST_FAULTS};
+ghost use Rattle.std.specs.Prelude.{◌≡◌, ◌↔◌, ◌≤◌, ◌<◌, ◌+◌, ◌-◌, [], ◌∷◌, ◌++◌, min, length, Some, slice_get, slice_set, IsTrue, OnOk, OnErr, IsErrOf, if◌then◌else◌};
+ghost use Rattle.page_device.specs.Device.{DiffersAtMostAt, HasCause, MayMeetTheEnd, MayBeFull, MayOnlyFail, MOST_FAULTS};
 
 use crate::device::PageDevice;
 use crate::fault::DeviceFault;
 use crate::page::{MAX_PAGES, Page};
 
-/// A device that passes its transfers on to another, but for one that fails.
+/// A device that passes its transfers on to another, but for one that fails, of which the other
+/// never hears. The promises of a call are those of every device, and `call`: how it was counted.
 ///
 /// Transfers are reads, writes, extensions and syncs, counted from 1. A call that is refused as
 /// past the end or as full transfers nothing, and is not counted.
@@ -57,8 +58,7 @@ fn is_due(left: &mut u64, failed: &mut u64) -> bool
 }
 
 impl<D: PageDevice> PageDevice for FaultyDevice<D> {
-    ghost use Rattle.std.specs.Prelude.{◌+◌, min};
-    ghost use Rattle.page_device.specs.Device.{MOST_FAULTS};
+    ghost use Rattle.page_device.specs.Faulty.{inner_of, count_of, Calls};
 
     ghost is_honest = { λ f. D.is_honest f.inner };
 
@@ -66,7 +66,7 @@ impl<D: PageDevice> PageDevice for FaultyDevice<D> {
 
     ghost is_synced = { λ f. D.is_synced f.inner };
 
-    ghost fault_count = { λ f. min (D.fault_count f.inner + f.failed) MOST_FAULTS };
+    ghost fault_count = { λ f. count_of D.fault_count f };
 
     fn pages(&self) -> u32 {
         self.inner.pages()
@@ -76,7 +76,16 @@ impl<D: PageDevice> PageDevice for FaultyDevice<D> {
         self.inner.faults().saturating_add(self.failed)
     }
 
-    fn read(&mut self, page: u32, into: &mut Page) -> Result<(), DeviceFault> {
+    fn read(&mut self, page: u32, into: &mut Page) -> Result<(), DeviceFault>
+        ensures ok { IsTrue (D.is_honest (inner_of self.old)) →
+            OnOk result (slice_get (D.content (inner_of self.old)) page ≡ Some into.new) }
+        ensures past { IsErrOf result DeviceFault.PastEnd ↔
+            (length (D.content (inner_of self.old)) ≤ page) }
+        ensures same { D.content (inner_of self.new) ≡ D.content (inner_of self.old) }
+        ensures honest { D.is_honest (inner_of self.new) ≡ D.is_honest (inner_of self.old) }
+        ensures call { Calls MayMeetTheEnd D.fault_count
+            (length (D.content (inner_of self.old)) ≤ page) self.old self.new result }
+    {
         if page >= self.inner.pages() {
             return Err(DeviceFault::PastEnd);
         }
@@ -86,7 +95,18 @@ impl<D: PageDevice> PageDevice for FaultyDevice<D> {
         self.inner.read(page, into)
     }
 
-    fn write(&mut self, page: u32, bytes: &Page) -> Result<(), DeviceFault> {
+    fn write(&mut self, page: u32, bytes: &Page) -> Result<(), DeviceFault>
+        ensures ok { IsTrue (D.is_honest (inner_of self.old)) →
+            OnOk result (D.content (inner_of self.new) ≡
+            slice_set (D.content (inner_of self.old)) page bytes.now) }
+        ensures past { IsErrOf result DeviceFault.PastEnd ↔
+            (length (D.content (inner_of self.old)) ≤ page) }
+        ensures others { DiffersAtMostAt page
+            (D.content (inner_of self.old)) (D.content (inner_of self.new)) }
+        ensures honest { D.is_honest (inner_of self.new) ≡ D.is_honest (inner_of self.old) }
+        ensures call { Calls MayMeetTheEnd D.fault_count
+            (length (D.content (inner_of self.old)) ≤ page) self.old self.new result }
+    {
         if page >= self.inner.pages() {
             return Err(DeviceFault::PastEnd);
         }
@@ -96,7 +116,19 @@ impl<D: PageDevice> PageDevice for FaultyDevice<D> {
         self.inner.write(page, bytes)
     }
 
-    fn extend(&mut self, bytes: &Page) -> Result<(), DeviceFault> {
+    fn extend(&mut self, bytes: &Page) -> Result<(), DeviceFault>
+        ensures ok { IsTrue (D.is_honest (inner_of self.old)) →
+            OnOk result (D.content (inner_of self.new) ≡
+            D.content (inner_of self.old) ++ bytes.now ∷ []) }
+        ensures grows { OnOk result (length (D.content (inner_of self.new)) ≡
+            length (D.content (inner_of self.old)) + 1) }
+        ensures full { IsErrOf result DeviceFault.DeviceFull ↔
+            (MAX_PAGES ≤ length (D.content (inner_of self.old))) }
+        ensures err { OnErr result (D.content (inner_of self.new) ≡ D.content (inner_of self.old)) }
+        ensures honest { D.is_honest (inner_of self.new) ≡ D.is_honest (inner_of self.old) }
+        ensures call { Calls MayBeFull D.fault_count
+            (MAX_PAGES ≤ length (D.content (inner_of self.old))) self.old self.new result }
+    {
         if self.inner.pages() >= MAX_PAGES {
             return Err(DeviceFault::DeviceFull);
         }
@@ -106,7 +138,13 @@ impl<D: PageDevice> PageDevice for FaultyDevice<D> {
         self.inner.extend(bytes)
     }
 
-    fn sync(&mut self) -> Result<(), DeviceFault> {
+    fn sync(&mut self) -> Result<(), DeviceFault>
+        ensures ok { IsTrue (D.is_honest (inner_of self.old)) →
+            OnOk result (IsTrue (D.is_synced (inner_of self.new))) }
+        ensures same { D.content (inner_of self.new) ≡ D.content (inner_of self.old) }
+        ensures honest { D.is_honest (inner_of self.new) ≡ D.is_honest (inner_of self.old) }
+        ensures call { Calls MayOnlyFail D.fault_count ⊥ self.old self.new result }
+    {
         if is_due(&mut self.left, &mut self.failed) {
             return Err(DeviceFault::Device);
         }

@@ -19,6 +19,3 @@ pub use memory::MemDevice;
 pub use page::{DIGEST_BYTES, MAX_PAGES, PAGE_BYTES, PAYLOAD_BYTES, Page, Payload};
 pub use page_file::{PageFile, SystemFile};
 pub use sealed::{seal, unseal, unseal_into};
-
-#[cfg(test)]
-mod tests;

@@ -7,14 +7,13 @@ mod grant;
 mod laws;
 mod lock;
 mod lock_table;
-mod no_memory;
 mod row;
 
+pub use faults::NoMemory;
 pub use grant::Grant;
 pub use laws::{changes_are_local, names_differ};
 pub use lock::{Lock, LockKind, LockName};
 pub use lock_table::{LockTable, MAX_SEATS};
-pub use no_memory::NoMemory;
 pub use row::MAX_LOCKS;
 
 #[cfg(test)]

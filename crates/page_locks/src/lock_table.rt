@@ -7,8 +7,8 @@ ghost use Rattle.page_locks.specs.Table.{IsSeat, Opposes, IsOpposed, IsFree, IsL
 
 use crate::grant::Grant;
 use crate::lock::{Lock, LockKind, LockName};
-use crate::no_memory::NoMemory;
 use crate::row::{MAX_LOCKS, Row};
+use faults::NoMemory;
 use std::alloc::Global;
 use std::marker::Model;
 

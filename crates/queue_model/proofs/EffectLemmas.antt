@@ -3,26 +3,14 @@ use Rattle.std.proofs.Common.{◌≡◌, ℕ, ◌+◌, Bool, true, false, [], �
 use Rattle.std.specs.Prelude.{if◌then◌else◌, nat_lt, nat_le, int_lt, ◌==◌, ◌||◌, ◌&&◌, ◌≢◌, position, slice_set, slice_index_or, not}
 use Rattle.std.specs.List.{find, remove}
 use Rattle.std.proofs.lemmas.List.{get_or_default}
-use Rattle.queue_model.specs.declared.answer.Answer.{Answer}
-use Rattle.queue_model.specs.declared.answer.Answer.TheVariants.{Id, Sent, Received, Info, Done, Refused}
-use Rattle.queue_model.specs.declared.call.Call.{Call}
-use Rattle.queue_model.specs.declared.call.Call.TheVariants.{Get, Send, Receive, Stat, Set, Remove}
-use Rattle.queue_model.specs.declared.call.GetArguments.{GetArguments}
-use Rattle.queue_model.specs.declared.call.ReceiveArguments.{ReceiveArguments}
-use Rattle.queue_model.specs.declared.call.SendArguments.{SendArguments}
-use Rattle.queue_model.specs.declared.call.SetArguments.{SetArguments}
-use Rattle.queue_model.specs.declared.caller.Caller.{Caller}
-use Rattle.queue_model.specs.declared.errno.Errno.{Errno}
+use Rattle.queue_model.proofs.Words.{Answer, Id, Sent, Received, Info, Done, Refused, Call, Get, Send, Receive, Stat, Set, Remove, GetArguments, ReceiveArguments, SendArguments, SetArguments, Caller, Errno, Message, Queue, State}
 use Rattle.queue_model.specs.declared.errno.Errno.TheVariants.{EAGAIN, EEXIST, EIDRM, EINTR, EINVAL, ENOENT, ENOMSG, ENOSPC, EACCES, EPERM, E2BIG}
-use Rattle.queue_model.specs.declared.limits.TheConstants.{MAX_QUEUES, MAX_BODY, MAX_QBYTES, END_OF_IDS}
-use Rattle.queue_model.specs.declared.message.Message.{Message}
+use Rattle.limits.specs.declared.TheConstants.{MAX_QUEUES, MAX_BODY, MAX_QBYTES, END_OF_IDS}
 use Rattle.queue_model.specs.declared.permissions.Access.TheVariants.{Read, Write}
-use Rattle.queue_model.specs.declared.queue.Queue.{Queue}
 use Rattle.queue_model.specs.Access.{lacks_access, is_owner}
 use Rattle.queue_model.specs.Places.{IsPlaceOf, IsFreshKey}
 use Rattle.queue_model.specs.Rules.{Outcome, outcome, refuse, put_off, on_queue, on_found, has_id, has_key, with_queue, without_queue, new_queue, create, get_found, get_by, lacks_room, with_message, send_to, cut_at, without_message, receive_found, receive_from, stat_of, info_of, raises, with_settings, set_to, remove_from}
 use Rattle.queue_model.specs.Selection.{selected, is_too_long}
-use Rattle.queue_model.specs.State.{State}
 use Rattle.queue_model.proofs.PlaceLemmas.{IsPlaceOf-position, IsNoId-position}
 
 -- a queue of the system, and where it stands
@@ -217,7 +205,8 @@ Effect-send c x a s t at =
           | inl (_, refused) ↦ Effect-refuse c (Send x) EACCES a s t refused
           | inr (_, more) ↦ elim (by_test (lacks_room (length x.body) q)
               (put_off x.nowait EAGAIN s) _ (Some (a, t)) more) [
-                | inl (_, put) ↦ let r = refused_put_off x.nowait EAGAIN s a t put in Effect-refuse c (Send x) r.0 a s t r.1
+                | inl (_, put) ↦
+                    let r = refused_put_off x.nowait EAGAIN s a t put in Effect-refuse c (Send x) r.0 a s t r.1
                 | inr (room, done) ↦ accepted valid place q stands room done
               ]
         ]
@@ -300,7 +289,12 @@ Effect-set c x a s t at =
                       queues = slice_set s.queues i
                           (with_settings x q);
                     }) stands.place_of.first in
-                    inr (record { place = place; q = q; small = small; changes = record { stands = stands; after = after } })
+                    inr (record {
+                      place = place;
+                      q = q;
+                      small = small;
+                      changes = record { stands = stands; after = after };
+                    })
               ]
         ]
 

@@ -2,20 +2,9 @@
 use Rattle.std.proofs.Common.{◌≡◌, ℕ, ◌<◌, List, [], ◌∷◌, Option, Some, None, inl, inr, arith, refl, sym, ◌∙◌, subst}
 use Rattle.std.specs.List.{All}
 use Rattle.std.proofs.lemmas.List.Elements.{All-nil, All-cons, All-push, All-set}
-use Rattle.queue_model.specs.declared.answer.Answer.{Answer}
-use Rattle.queue_model.specs.declared.answer.Answer.TheVariants.{Id, Sent, Received, Info, Done, Refused}
-use Rattle.queue_model.specs.declared.call.Call.{Call}
-use Rattle.queue_model.specs.declared.call.Call.TheVariants.{Get, Send, Receive, Stat, Set, Remove}
-use Rattle.queue_model.specs.declared.call.ReceiveArguments.{ReceiveArguments}
-use Rattle.queue_model.specs.declared.call.SendArguments.{SendArguments}
-use Rattle.queue_model.specs.declared.call.SetArguments.{SetArguments}
-use Rattle.queue_model.specs.declared.caller.Caller.{Caller}
-use Rattle.queue_model.specs.declared.entry.Entry.{Entry}
-use Rattle.queue_model.specs.declared.entry.Entry.TheVariants.{Decided, Stopped}
-use Rattle.queue_model.specs.declared.queue.Queue.{Queue}
+use Rattle.queue_model.proofs.Words.{Answer, Id, Sent, Received, Info, Done, Refused, Call, Get, Send, Receive, Stat, Set, Remove, ReceiveArguments, SendArguments, SetArguments, Caller, Entry, Decided, Stopped, Queue, State}
 use Rattle.queue_model.specs.Journal.{Leads, LeadsAlong, caller_at, outcome_for}
 use Rattle.queue_model.specs.Rules.{new_queue, with_message, without_message, with_settings}
-use Rattle.queue_model.specs.State.{State}
 use Rattle.queue_model.proofs.EffectLemmas.{Effect, Effect-outcome, Changes}
 use Rattle.queue_model.proofs.ListLemmas.{All-remove}
 

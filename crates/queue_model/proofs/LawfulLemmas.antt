@@ -9,25 +9,13 @@ use Rattle.std.proofs.lemmas.List.Quantifiers.{all_pairs_push, all_pairs_remove}
 use Rattle.std.proofs.lemmas.List.Sums.{sum_by-remove, sum_by-append}
 use Rattle.std.proofs.lemmas.List.{length-append}
 use Rattle.std.proofs.Math.Seq.{map-set_same}
-use Rattle.queue_model.specs.declared.limits.TheConstants.{MAX_QUEUES, MAX_MESSAGES, MAX_BODY, MAX_QBYTES, END_OF_IDS, END_OF_SERIALS}
-use Rattle.queue_model.specs.declared.answer.Answer.{Answer}
-use Rattle.queue_model.specs.declared.answer.Answer.TheVariants.{Id, Sent, Received, Info, Done, Refused}
-use Rattle.queue_model.specs.declared.call.Call.{Call}
-use Rattle.queue_model.specs.declared.call.Call.TheVariants.{Get, Send, Receive, Stat, Set, Remove}
-use Rattle.queue_model.specs.declared.call.SendArguments.{SendArguments}
-use Rattle.queue_model.specs.declared.call.SetArguments.{SetArguments}
-use Rattle.queue_model.specs.declared.entry.Entry.{Entry}
-use Rattle.queue_model.specs.declared.entry.Entry.TheVariants.{Decided, Stopped}
+use Rattle.limits.specs.declared.TheConstants.{MAX_QUEUES, MAX_MESSAGES, MAX_BODY, MAX_QBYTES, END_OF_IDS, END_OF_SERIALS}
+use Rattle.queue_model.proofs.Words.{Answer, Id, Sent, Received, Info, Done, Refused, Call, Get, Send, Receive, Stat, Set, Remove, SendArguments, SetArguments, Entry, Decided, Stopped, GetArguments, Caller, Message, Queue, State}
 use Rattle.queue_model.specs.Journal.{Leads, LeadsAlong, caller_at, outcome_for}
-use Rattle.queue_model.specs.declared.call.GetArguments.{GetArguments}
-use Rattle.queue_model.specs.declared.caller.Caller.{Caller}
-use Rattle.queue_model.specs.declared.message.Message.{Message}
-use Rattle.queue_model.specs.declared.queue.Queue.{Queue}
 use Rattle.queue_model.specs.Lawful.{IsLawful, IsLawfulQueue, IsLawfulMessage, AreKeysApart}
 use Rattle.queue_model.specs.Places.{IsFreshKey}
 use Rattle.queue_model.specs.Rules.{new_queue, has_key, is_key, lacks_room, with_message, without_message, with_settings}
 use Rattle.queue_model.specs.Selection.{total_bytes, selects}
-use Rattle.queue_model.specs.State.{State}
 use Rattle.std.proofs.lemmas.Int.{ints}
 use Rattle.std.proofs.lemmas.Option.{slice_get_within}
 use Rattle.std.proofs.lemmas.List.Folds.{find_at}

@@ -7,3 +7,4 @@ pub mod LowestLemmas
 pub mod EffectLemmas
 pub mod HoldsLemmas
 pub mod OrderLemmas
+pub mod Words

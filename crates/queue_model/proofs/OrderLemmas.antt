@@ -9,20 +9,12 @@ use Rattle.std.proofs.lemmas.List.Elements.{All-push}
 use Rattle.std.proofs.lemmas.List.Folds.{find_at}
 use Rattle.std.proofs.lemmas.List.Sums.{fails_before_first}
 use Rattle.std.proofs.lemmas.Option.{slice_get_within, get_or_from_slice_get}
-use Rattle.queue_model.specs.declared.answer.Answer.TheVariants.{Sent, Received, Done}
-use Rattle.queue_model.specs.declared.call.Call.TheVariants.{Send, Receive, Remove}
-use Rattle.queue_model.specs.declared.call.ReceiveArguments.{ReceiveArguments}
-use Rattle.queue_model.specs.declared.caller.Caller.{Caller}
-use Rattle.queue_model.specs.declared.entry.Entry.{Entry}
-use Rattle.queue_model.specs.declared.entry.Entry.TheVariants.{Decided}
-use Rattle.queue_model.specs.declared.message.Message.{Message}
-use Rattle.queue_model.specs.declared.queue.Queue.{Queue}
+use Rattle.queue_model.proofs.Words.{Sent, Received, Done, Send, Receive, Remove, ReceiveArguments, Caller, Entry, Decided, Message, Queue, State}
 use Rattle.queue_model.specs.Journal.{Leads, LeadsAlong, caller_at, outcome_for}
 use Rattle.queue_model.specs.Lawful.{IsLawful, IsLawfulQueue}
 use Rattle.queue_model.specs.Order.{Takes, Puts, IsEarliest, IsFollowed, IsGone, IsInOrder, IsFifo}
 use Rattle.queue_model.specs.Rules.{without_message, cut_at}
 use Rattle.queue_model.specs.Selection.{selects, selected, has_type, lowest_type}
-use Rattle.queue_model.specs.State.{State}
 use Rattle.queue_model.proofs.EffectLemmas.{Effect-outcome, Stands, Changes, Gives, Accepts, Removes}
 use Rattle.queue_model.proofs.HoldsLemmas.{Holds, Lasts, never_later}
 use Rattle.queue_model.proofs.JournalLemmas.{after-Leads}

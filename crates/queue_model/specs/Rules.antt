@@ -1,6 +1,6 @@
 -- What each call is answered and how it changes the system. Refusals are tested in the order written.
 -- docs/QUEUES.md, "Calls"; POSIX.1-2017, msgget(), msgsnd(), msgrcv(), msgctl().
-use Rattle.std.specs.Prelude.{ℕ, ◌+◌, nat_lt, nat_le, ◌==◌, Bool, false, not, ◌&&◌, ◌||◌, pos, int_lt, [], ◌∷◌, ◌++◌, length, take, Option, Some, None, if◌then◌else◌, slice_set}
+use Rattle.std.specs.Prelude.{◌≡◌, ⊤, ℕ, ◌+◌, nat_lt, nat_le, ◌==◌, Bool, false, not, ◌&&◌, ◌||◌, pos, int_lt, [], ◌∷◌, ◌++◌, length, take, Option, Some, None, if◌then◌else◌, slice_set}
 use Rattle.std.specs.List.{find, position_or_len, remove}
 use Rattle.queue_model.specs.declared.answer.Answer.{Answer}
 use Rattle.queue_model.specs.declared.answer.Answer.TheVariants.{Id, Sent, Received, Info, Done, Refused}
@@ -14,7 +14,7 @@ use Rattle.queue_model.specs.declared.call.SetArguments.{SetArguments}
 use Rattle.queue_model.specs.declared.caller.Caller.{Caller}
 use Rattle.queue_model.specs.declared.errno.Errno.{Errno}
 use Rattle.queue_model.specs.declared.errno.Errno.TheVariants.{E2BIG, EAGAIN, EEXIST, EIDRM, EINTR, EINVAL, ENOENT, ENOMSG, ENOSPC, EACCES, EPERM}
-use Rattle.queue_model.specs.declared.limits.TheConstants.{MAX_QUEUES, MAX_MESSAGES, MAX_BODY, MAX_QBYTES, DEFAULT_QBYTES, END_OF_IDS, END_OF_SERIALS, SUPERUSER}
+use Rattle.limits.specs.declared.TheConstants.{MAX_QUEUES, MAX_MESSAGES, MAX_BODY, MAX_QBYTES, DEFAULT_QBYTES, END_OF_IDS, END_OF_SERIALS, SUPERUSER}
 use Rattle.queue_model.specs.declared.message.Message.{Message}
 use Rattle.queue_model.specs.declared.permissions.Access.TheVariants.{Read, Write}
 use Rattle.queue_model.specs.declared.queue.Queue.{Queue}
@@ -217,6 +217,17 @@ outcome c (Receive a) s = outcome_of_receive c a s
 outcome c (Stat id) s = outcome_of_stat c id s
 outcome c (Set a) s = outcome_of_set c a s
 outcome c (Remove id) s = outcome_of_remove c id s
+
+-- Memory
+
+-- an answer that tells of something new on the system: the next id, or a message
+abbrev pub AddsTo : State → Answer → Type 0
+AddsTo s (Id id) = id ≡ s.next_id
+AddsTo s (Sent serial) = ⊤
+AddsTo s (Received m) = ⊥
+AddsTo s (Info i) = ⊥
+AddsTo s Done = ⊥
+AddsTo s (Refused e) = ⊥
 
 -- Counts
 

@@ -2,7 +2,7 @@
 
 ghost use Rattle.std.specs.Prelude.{◌≡◌, ◌<◌, ◌^◌, length, take, IfOk};
 
-use crate::no_memory::NoMemory;
+use faults::NoMemory;
 use std::alloc::Global;
 use std::marker::Model;
 

@@ -3,7 +3,7 @@
 ghost use Rattle.std.specs.Prelude.{◌≡◌, IfOk};
 
 use crate::body::Body;
-use crate::no_memory::NoMemory;
+use faults::NoMemory;
 
 /// What `msgget` is given.
 #[derive(Clone, Copy, Debug, PartialEq)]

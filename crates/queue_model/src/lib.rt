@@ -10,9 +10,7 @@ mod caller;
 mod entry;
 mod errno;
 mod laws;
-mod limits;
 mod message;
-mod no_memory;
 mod permissions;
 mod queue;
 mod system;
@@ -23,6 +21,7 @@ pub use call::{Call, GetArguments, ReceiveArguments, SendArguments, SetArguments
 pub use caller::Caller;
 pub use entry::Entry;
 pub use errno::Errno;
+pub use faults::NoMemory;
 pub use laws::{
     a_journal_determines_its_system, a_journal_grows_by_an_entry, a_lowest_type_is_selected,
     journals_are_first_in_first_out, journals_keep_systems_lawful, refusals_leave_the_system,
@@ -32,12 +31,6 @@ pub use limits::{
     MODES, SUPERUSER,
 };
 pub use message::{Message, Messages};
-pub use no_memory::NoMemory;
 pub use permissions::{Access, Permissions};
 pub use queue::Queue;
 pub use system::{Applied, System};
-
-#[cfg(test)]
-mod tests;
-#[cfg(test)]
-mod trial;

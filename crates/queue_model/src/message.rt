@@ -7,7 +7,7 @@ ghost use Rattle.queue_model.specs.Selection.{is_too_long};
 
 use crate::body::Body;
 use crate::call::ReceiveArguments;
-use crate::no_memory::NoMemory;
+use faults::NoMemory;
 use std::alloc::Global;
 use std::marker::Model;
 

@@ -8,10 +8,10 @@ ghost use Rattle.queue_model.specs.Lawful.{IsLawfulQueue};
 use crate::answer::QueueInfo;
 use crate::call::{GetArguments, ReceiveArguments, SendArguments, SetArguments};
 use crate::caller::Caller;
-use crate::limits::{DEFAULT_QBYTES, END_OF_SERIALS, MAX_BODY, MAX_MESSAGES, MAX_QBYTES};
 use crate::message::{Message, Messages};
-use crate::no_memory::NoMemory;
 use crate::permissions::Permissions;
+use faults::NoMemory;
+use limits::{DEFAULT_QBYTES, END_OF_SERIALS, MAX_BODY, MAX_MESSAGES, MAX_QBYTES};
 use std::alloc::Global;
 
 /// A queue. Its `qnum` is the number of its messages, its `cbytes` the bytes that they have together.
@@ -68,7 +68,7 @@ impl Queue {
         ensures { result ≡ lacks_room length self.now }
     {
         self.messages.total_bytes() + length > self.qbytes as usize
-            || self.messages.len() == MAX_MESSAGES
+            || self.messages.len() == MAX_MESSAGES as usize
             || self.next_serial == END_OF_SERIALS
     }
 

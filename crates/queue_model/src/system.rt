@@ -2,20 +2,20 @@
 
 ghost use Rattle.std.specs.Prelude.{◌≡◌, ◌≤◌, ◌<◌, ◌^◌, ℕ, [], length, map, position, slice_get, Some, None, true, false, IfOk, IfErr, IfSome, IfNone, option_map};
 ghost use Rattle.std.specs.List.{sum_by, find};
-ghost use Rattle.queue_model.specs.Applied.{Meets};
+ghost use Rattle.queue_model.specs.Applied.{Meets, applied_of};
 ghost use Rattle.queue_model.specs.Lawful.{IsLawful};
 ghost use Rattle.queue_model.specs.Found.{IsFoundAt};
 ghost use Rattle.queue_model.specs.Places.{IsPlaceOf, IsNoId, IsFreshKey};
-ghost use Rattle.queue_model.specs.Rules.{outcome, outcome_of_get, outcome_of_send, outcome_of_receive, outcome_of_stat, outcome_of_set, outcome_of_remove, create, refuse, put_off, has_id, has_key, info_of, messages_of};
+ghost use Rattle.queue_model.specs.Rules.{outcome, outcome_of_get, outcome_of_send, outcome_of_receive, outcome_of_stat, outcome_of_set, outcome_of_remove, create, put_off, has_id, has_key, info_of, messages_of};
 
 use crate::answer::{Answer, QueueInfo};
 use crate::call::{Call, GetArguments, ReceiveArguments, SendArguments, SetArguments};
 use crate::caller::Caller;
 use crate::errno::Errno;
-use crate::limits::{END_OF_IDS, MAX_BODY, MAX_QBYTES, MAX_QUEUES, SUPERUSER};
-use crate::no_memory::NoMemory;
 use crate::permissions::Access;
 use crate::queue::Queue;
+use faults::NoMemory;
+use limits::{END_OF_IDS, MAX_BODY, MAX_QBYTES, MAX_QUEUES, SUPERUSER};
 use std::alloc::Global;
 use std::marker::Model;
 
@@ -26,7 +26,7 @@ pub enum Applied {
     Answer(Answer),
     /// It has to wait, and nothing changed.
     Waits,
-    /// A growth was refused, and nothing changed.
+    /// A queue or a message would be new, its growth was refused, and nothing changed.
     NoMemory,
 }
 
@@ -99,17 +99,22 @@ impl System {
     }
 
     /// Makes a call of this caller by the rules (docs/QUEUES.md, "Calls"): the answer and the new system are
-    /// its outcome, and it waits exactly where it has none.
+    /// its outcome, and it waits exactly where it has none. Memory is wanting only to a call whose outcome
+    /// is a new queue or a message more.
     pub fn apply(&mut self, caller: Caller, call: &Call) -> Applied
         ensures { Meets result (outcome caller call.now self.old) self.old self.new }
     {
-        match call {
+        let became = match call {
             Call::Get(arguments) => self.get(caller, arguments),
             Call::Send(arguments) => self.send(caller, arguments),
             Call::Receive(arguments) => self.receive(caller, arguments),
             Call::Stat { id } => self.stat(caller, *id),
             Call::Set(arguments) => self.set(caller, arguments),
             Call::Remove { id } => self.remove(caller, *id),
+        };
+        match became {
+            Ok(applied) => applied,
+            Err(errno) => Applied::Answer(Answer::Refused(errno)),
         }
     }
 
@@ -136,78 +141,75 @@ impl System {
         })
     }
 
-    fn get(&mut self, caller: Caller, arguments: &GetArguments) -> Applied
-        ensures { Meets result (outcome_of_get caller arguments.now self.old) self.old self.new }
+    fn get(&mut self, caller: Caller, arguments: &GetArguments) -> Result<Applied, Errno>
+        ensures { Meets (applied_of result)
+            (outcome_of_get caller arguments.now self.old) self.old self.new }
     {
         let Some(key) = arguments.key else {
             return self.create(caller, arguments);
         };
         let Some(place) = self.place_of_key(key) else {
             if !arguments.create {
-                return refused(Errno::ENOENT);
+                return Err(Errno::ENOENT);
             }
             return self.create(caller, arguments);
         };
         if arguments.create && arguments.excl {
-            return refused(Errno::EEXIST);
+            return Err(Errno::EEXIST);
         }
-        Applied::Answer(Answer::Id(self.queues[place].id))
+        Ok(Applied::Answer(Answer::Id(self.queues[place].id)))
     }
 
-    fn create(&mut self, caller: Caller, arguments: &GetArguments) -> Applied
+    fn create(&mut self, caller: Caller, arguments: &GetArguments) -> Result<Applied, Errno>
         requires { IsFreshKey arguments.now.key self.old }
-        ensures { Meets result (create caller arguments.now self.old) self.old self.new }
+        ensures { Meets (applied_of result)
+            (create caller arguments.now self.old) self.old self.new }
     {
-        if self.queues() == MAX_QUEUES || self.next_id == END_OF_IDS {
-            return refused(Errno::ENOSPC);
+        if self.queues() == MAX_QUEUES as usize || self.next_id == END_OF_IDS {
+            return Err(Errno::ENOSPC);
         }
         let alloc: Global = *self.queues.allocator();
         let id = self.next_id;
         let Ok(()) = self.queues.push(Queue::new(alloc, id, caller, arguments)) else {
-            return Applied::NoMemory;
+            return Ok(Applied::NoMemory);
         };
         self.next_id += 1;
-        Applied::Answer(Answer::Id(id))
+        Ok(Applied::Answer(Answer::Id(id)))
     }
 
-    fn send(&mut self, caller: Caller, arguments: &SendArguments) -> Applied
-        ensures { Meets result (outcome_of_send caller arguments.now self.old) self.old self.new }
+    fn send(&mut self, caller: Caller, arguments: &SendArguments) -> Result<Applied, Errno>
+        ensures { Meets (applied_of result)
+            (outcome_of_send caller arguments.now self.old) self.old self.new }
     {
         if arguments.mtype < 1 || arguments.body.len() > MAX_BODY {
-            return refused(Errno::EINVAL);
+            return Err(Errno::EINVAL);
         }
-        let place = match self.place_of(arguments.id) {
-            Ok(place) => place,
-            Err(errno) => return refused(errno),
-        };
+        let place = self.place_of(arguments.id)?;
         if self.queues[place]
             .permissions
             .keeps_out(Access::Write, caller)
         {
-            return refused(Errno::EACCES);
+            return Err(Errno::EACCES);
         }
         if self.queues[place].lacks_room(arguments.body.len()) {
             return self.put_off(arguments.nowait, Errno::EAGAIN);
         }
         let Ok(serial) = self.queues[place].accept(caller.pid, arguments) else {
-            return Applied::NoMemory;
+            return Ok(Applied::NoMemory);
         };
-        Applied::Answer(Answer::Sent(serial))
+        Ok(Applied::Answer(Answer::Sent(serial)))
     }
 
-    fn receive(&mut self, caller: Caller, arguments: &ReceiveArguments) -> Applied
-        ensures { Meets result
+    fn receive(&mut self, caller: Caller, arguments: &ReceiveArguments) -> Result<Applied, Errno>
+        ensures { Meets (applied_of result)
             (outcome_of_receive caller arguments.now self.old) self.old self.new }
     {
-        let place = match self.place_of(arguments.id) {
-            Ok(place) => place,
-            Err(errno) => return refused(errno),
-        };
+        let place = self.place_of(arguments.id)?;
         if self.queues[place]
             .permissions
             .keeps_out(Access::Read, caller)
         {
-            return refused(Errno::EACCES);
+            return Err(Errno::EACCES);
         }
         let Some(first) = self.queues[place].messages.selected(arguments.mtype) else {
             return self.put_off(arguments.nowait, Errno::ENOMSG);
@@ -217,60 +219,53 @@ impl System {
             .get(first)
             .is_too_long(arguments)
         {
-            return refused(Errno::E2BIG);
+            return Err(Errno::E2BIG);
         }
         let message = self.queues[place].give(caller.pid, first, arguments);
-        Applied::Answer(Answer::Received(message))
+        Ok(Applied::Answer(Answer::Received(message)))
     }
 
-    fn stat(&self, caller: Caller, id: u32) -> Applied
-        ensures { Meets result (outcome_of_stat caller id self.now) self.now self.now }
+    fn stat(&self, caller: Caller, id: u32) -> Result<Applied, Errno>
+        ensures { Meets (applied_of result) (outcome_of_stat caller id self.now) self.now self.now }
     {
-        let place = match self.place_of(id) {
-            Ok(place) => place,
-            Err(errno) => return refused(errno),
-        };
+        let place = self.place_of(id)?;
         if self.queues[place]
             .permissions
             .keeps_out(Access::Read, caller)
         {
-            return refused(Errno::EACCES);
+            return Err(Errno::EACCES);
         }
-        Applied::Answer(Answer::Info(self.queues[place].info()))
+        Ok(Applied::Answer(Answer::Info(self.queues[place].info())))
     }
 
-    fn set(&mut self, caller: Caller, arguments: &SetArguments) -> Applied
-        ensures { Meets result (outcome_of_set caller arguments.now self.old) self.old self.new }
+    fn set(&mut self, caller: Caller, arguments: &SetArguments) -> Result<Applied, Errno>
+        ensures { Meets (applied_of result)
+            (outcome_of_set caller arguments.now self.old) self.old self.new }
     {
         if arguments.qbytes > MAX_QBYTES {
-            return refused(Errno::EINVAL);
+            return Err(Errno::EINVAL);
         }
-        let place = match self.place_of(arguments.id) {
-            Ok(place) => place,
-            Err(errno) => return refused(errno),
-        };
+        let place = self.place_of(arguments.id)?;
         if !self.queues[place].permissions.is_owned_by(caller) {
-            return refused(Errno::EPERM);
+            return Err(Errno::EPERM);
         }
         if arguments.qbytes > self.queues[place].qbytes && caller.uid != SUPERUSER {
-            return refused(Errno::EPERM);
+            return Err(Errno::EPERM);
         }
         self.queues[place].set(arguments);
-        Applied::Answer(Answer::Done)
+        Ok(Applied::Answer(Answer::Done))
     }
 
-    fn remove(&mut self, caller: Caller, id: u32) -> Applied
-        ensures { Meets result (outcome_of_remove caller id self.old) self.old self.new }
+    fn remove(&mut self, caller: Caller, id: u32) -> Result<Applied, Errno>
+        ensures { Meets (applied_of result)
+            (outcome_of_remove caller id self.old) self.old self.new }
     {
-        let place = match self.place_of(id) {
-            Ok(place) => place,
-            Err(errno) => return refused(errno),
-        };
+        let place = self.place_of(id)?;
         if !self.queues[place].permissions.is_owned_by(caller) {
-            return refused(Errno::EPERM);
+            return Err(Errno::EPERM);
         }
         let _removed = self.queues.remove(place);
-        Applied::Answer(Answer::Done)
+        Ok(Applied::Answer(Answer::Done))
     }
 
     /// The place of the queue of an id, or why there is none.
@@ -293,24 +288,17 @@ impl System {
     }
 
     /// What a call is answered that can't be done now.
-    fn put_off(&self, nowait: bool, errno: Errno) -> Applied
-        ensures { Meets result (put_off nowait errno self.now) self.now self.now }
+    fn put_off(&self, nowait: bool, errno: Errno) -> Result<Applied, Errno>
+        ensures { Meets (applied_of result) (put_off nowait errno self.now) self.now self.now }
     {
         if nowait {
-            refused(errno)
+            Err(errno)
         } else if self.stopped {
-            refused(Errno::EINTR)
+            Err(Errno::EINTR)
         } else {
-            Applied::Waits
+            Ok(Applied::Waits)
         }
     }
-}
-
-/// A refusal.
-fn refused(errno: Errno) -> Applied
-    ensures { result ≡ Applied.Answer (Answer.Refused errno) }
-{
-    Applied::Answer(Answer::Refused(errno))
 }
 
 /// The place of the first queue with an id.

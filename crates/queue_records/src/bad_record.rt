@@ -1,7 +1,9 @@
 //! Why bytes are no record.
 
 ghost use Rattle.std.specs.Prelude.{◌≡◌};
+ghost use Rattle.faults.specs.declared.TheConstants.{BAD_RECORD};
 
+use faults::BAD_RECORD;
 use thiserror::Error;
 
 /// The key and the value are not the spelling of a record in range.
@@ -10,13 +12,10 @@ use thiserror::Error;
 pub struct BadRecord;
 
 impl BadRecord {
-    /// The number of this fault.
-    pub const NUMBER: u8 = 43;
-
     /// The number of this fault, as docs/FAULTS.md lists it.
     pub fn number(self) -> u8
-        ensures { result ≡ BadRecord.NUMBER }
+        ensures { result ≡ BAD_RECORD }
     {
-        BadRecord::NUMBER
+        BAD_RECORD
     }
 }

@@ -8,11 +8,12 @@ ghost use Rattle.queue_records.specs.Records.{FitsCounter, Spells};
 ghost use Rattle.queue_records.specs.Spelling.{counter_bytes, counter_key};
 
 use crate::bad_record::BadRecord;
-use crate::field::{four_at, four_fits};
+use crate::field::four_fits;
 use crate::layout::{COUNTER, COUNTER_BYTES};
-use crate::limits::MAX_QUEUES;
 use crate::value::Value;
 use bucket_page::RecordKey;
+use fields::four_at;
+use limits::MAX_QUEUES;
 
 /// Which ids were given out, and how many queues are alive. A file has one such record.
 #[derive(Clone, Copy, Debug, PartialEq, Eq)]

@@ -2,40 +2,13 @@
 
 ghost use Rattle.std.specs.Prelude.{◌≡◌, ◌+◌, ◌≤◌, length, IfSome, FitsSigned};
 ghost use Rattle.std.specs.Int.{w64};
-ghost use Rattle.bucket_page.specs.Numbers.{two_at, four_at, eight_at};
+ghost use Rattle.fields.specs.Numbers.{eight_at};
 ghost use Rattle.queue_records.specs.Fields.{serial_number, type_number, type_link_number, serial_of, type_of, type_link_of};
 ghost use Rattle.queue_records.specs.Reading.{is_id, is_serial_link, is_type_link};
 ghost use Rattle.queue_records.specs.Records.{FitsFour, FitsEight};
 
-use crate::limits::END_OF_IDS;
-use byteorder::{BigEndian, ByteOrder};
-
-/// The number in the two bytes from `at` on.
-#[tactic(auto, unfolding(bucket_page::specs::Numbers::two_at))]
-pub fn two_at(bytes: &[u8], at: usize) -> u16
-    requires { at + 2 ≤ length bytes.now }
-    ensures { result ≡ two_at at bytes.now }
-{
-    BigEndian::read_u16(&bytes[at..])
-}
-
-/// The number in the four bytes from `at` on.
-#[tactic(auto, unfolding(bucket_page::specs::Numbers::four_at))]
-pub fn four_at(bytes: &[u8], at: usize) -> u32
-    requires { at + 4 ≤ length bytes.now }
-    ensures { result ≡ four_at at bytes.now }
-{
-    BigEndian::read_u32(&bytes[at..])
-}
-
-/// The number in the eight bytes from `at` on.
-#[tactic(auto, unfolding(bucket_page::specs::Numbers::eight_at))]
-pub fn eight_at(bytes: &[u8], at: usize) -> u64
-    requires { at + 8 ≤ length bytes.now }
-    ensures { result ≡ eight_at at bytes.now }
-{
-    BigEndian::read_u64(&bytes[at..])
-}
+use fields::eight_at;
+use limits::END_OF_IDS;
 
 /// The serial in the eight bytes from `at` on, where there is one.
 pub fn serial_at(bytes: &[u8], at: usize) -> Option<u64>

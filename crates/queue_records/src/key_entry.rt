@@ -8,10 +8,11 @@ ghost use Rattle.queue_records.specs.Records.{FitsKey, Spells};
 ghost use Rattle.queue_records.specs.Spelling.{key_bytes, key_key};
 
 use crate::bad_record::BadRecord;
-use crate::field::{four_at, four_fits, is_id};
+use crate::field::{four_fits, is_id};
 use crate::layout::{KEY, KEY_BYTES};
 use crate::value::Value;
 use bucket_page::RecordKey;
+use fields::four_at;
 
 /// Which queue a key has. A private queue has no such record.
 #[derive(Clone, Copy, Debug, PartialEq, Eq)]

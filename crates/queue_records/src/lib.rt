@@ -10,7 +10,6 @@ mod key_entry;
 mod keys;
 mod laws;
 mod layout;
-mod limits;
 mod links;
 mod message_entry;
 mod queue_entry;
@@ -33,6 +32,3 @@ pub use queue_entry::QueueEntry;
 pub use record::Record;
 pub use type_entry::TypeEntry;
 pub use value::Value;
-
-#[cfg(test)]
-mod tests;

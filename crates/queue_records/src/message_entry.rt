@@ -10,13 +10,14 @@ ghost use Rattle.queue_records.specs.Spelling.{message_bytes, message_key};
 use crate::bad_record::BadRecord;
 use crate::body::Body;
 use crate::field::{
-    eight_at, eight_fits, four_at, four_fits, is_id, is_serial_link, serial_at, serial_fits,
-    serial_number, type_fits, type_number, type_of,
+    eight_fits, four_fits, is_id, is_serial_link, serial_at, serial_fits, serial_number, type_fits,
+    type_number, type_of,
 };
 use crate::layout::{MESSAGE, MESSAGE_BYTES};
-use crate::limits::MAX_BODY;
 use crate::value::Value;
 use bucket_page::RecordKey;
+use fields::{eight_at, four_at};
+use limits::MAX_BODY;
 
 /// A message on a queue. The messages of a queue are a list, and so are those of each of its types.
 #[derive(Debug, Drop, PartialEq)]

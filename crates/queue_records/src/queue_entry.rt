@@ -1,7 +1,7 @@
 //! The record of a queue.
 
 ghost use Rattle.std.specs.Prelude.{◌≡◌, length, slice_index, IfSome, IfOk, Ok};
-ghost use Rattle.bucket_page.specs.Numbers.{four_at};
+ghost use Rattle.fields.specs.Numbers.{four_at};
 ghost use Rattle.queue_records.specs.declared.record.Record.TheVariants as records;
 ghost use Rattle.queue_records.specs.Fields.{given_key, key_flag, key_number};
 ghost use Rattle.queue_records.specs.Range.{IsQueueInRange};
@@ -11,13 +11,14 @@ ghost use Rattle.queue_records.specs.Spelling.{queue_bytes, queue_key};
 
 use crate::bad_record::BadRecord;
 use crate::field::{
-    eight_at, eight_fits, four_at, four_fits, is_id, is_serial_link, is_type_link, serial_at,
-    serial_fits, serial_number, two_at, type_link_at, type_link_fits, type_link_number,
+    eight_fits, four_fits, is_id, is_serial_link, is_type_link, serial_at, serial_fits,
+    serial_number, type_link_at, type_link_fits, type_link_number,
 };
 use crate::layout::{QUEUE, QUEUE_BYTES};
-use crate::limits::{MAX_MESSAGES, MAX_QBYTES, MODES};
 use crate::value::Value;
 use bucket_page::RecordKey;
+use fields::{eight_at, four_at, two_at};
+use limits::{MAX_MESSAGES, MAX_QBYTES, MODES};
 
 /// A queue, without its messages.
 #[derive(Clone, Copy, Debug, PartialEq, Eq)]

@@ -9,12 +9,13 @@ ghost use Rattle.queue_records.specs.Spelling.{type_bytes, type_key};
 
 use crate::bad_record::BadRecord;
 use crate::field::{
-    eight_at, eight_fits, is_id, is_type_link, type_fits, type_link_at, type_link_fits,
-    type_link_number, type_number, type_of,
+    eight_fits, is_id, is_type_link, type_fits, type_link_at, type_link_fits, type_link_number,
+    type_number, type_of,
 };
 use crate::layout::{TYPE, TYPE_BYTES};
 use crate::value::Value;
 use bucket_page::RecordKey;
+use fields::eight_at;
 
 /// A type of which a message stands on a queue. The messages of a type are a list, and so are the
 /// types of a queue, in ascending order.

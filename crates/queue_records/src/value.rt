@@ -1,11 +1,11 @@
 //! The bytes of a record's value, in a buffer of fixed size.
 
 ghost use Rattle.std.specs.Prelude.{◌≡◌, ◌≤◌, ◌+◌, [], ◌∷◌, ◌++◌, length};
-ghost use Rattle.bucket_page.specs.Numbers.{two, four, eight};
+ghost use Rattle.fields.specs.Numbers.{two, four, eight};
 
 use crate::layout::MAX_VALUE_BYTES;
 use arrayvec::ArrayVec;
-use byteorder::{BigEndian, ByteOrder};
+use fields::{write_eight, write_four, write_two};
 use std::marker::Model;
 
 /// The bytes of a record's value, which contracts see as a list. It takes no memory beside itself.
@@ -57,38 +57,35 @@ impl Value {
     }
 
     /// Puts the two bytes of a number last.
-    #[tactic(auto, unfolding(bucket_page::specs::Numbers::two))]
     pub(crate) fn put_two(&mut self, number: u16)
         requires { length self.old + 2 ≤ MAX_VALUE_BYTES }
         ensures value { self.new ≡ self.old ++ two number }
         ensures len { length self.new ≡ length self.old + 2 }
     {
         let mut bytes = [0; 2];
-        BigEndian::write_u16(&mut bytes, number);
+        write_two(&mut bytes, number);
         self.put_all(&bytes);
     }
 
     /// Puts the four bytes of a number last.
-    #[tactic(auto, unfolding(bucket_page::specs::Numbers::four))]
     pub(crate) fn put_four(&mut self, number: u32)
         requires { length self.old + 4 ≤ MAX_VALUE_BYTES }
         ensures value { self.new ≡ self.old ++ four number }
         ensures len { length self.new ≡ length self.old + 4 }
     {
         let mut bytes = [0; 4];
-        BigEndian::write_u32(&mut bytes, number);
+        write_four(&mut bytes, number);
         self.put_all(&bytes);
     }
 
     /// Puts the eight bytes of a number last.
-    #[tactic(auto, unfolding(bucket_page::specs::Numbers::eight))]
     pub(crate) fn put_eight(&mut self, number: u64)
         requires { length self.old + 8 ≤ MAX_VALUE_BYTES }
         ensures value { self.new ≡ self.old ++ eight number }
         ensures len { length self.new ≡ length self.old + 8 }
     {
         let mut bytes = [0; 8];
-        BigEndian::write_u64(&mut bytes, number);
+        write_eight(&mut bytes, number);
         self.put_all(&bytes);
     }
 

@@ -7,18 +7,18 @@ use Rattle.std.proofs.Math.Seq.{get_or-append_seam}
 use Rattle.page_device.specs.Sealed.{IsSealed, payload_of}
 use Rattle.page_device.specs.declared.fault.DeviceFault.{DeviceFault}
 use Rattle.page_device.specs.declared.page.TheConstants.{MAX_PAGES}
-use Rattle.directory.specs.declared.layout.TheConstants.{FIRST_DIRECTORY_PAGE, LEAST_PAGES, ROOT_PAGE}
+use Rattle.directory.specs.declared.layout.TheConstants.{FIRST_DIRECTORY_PAGE, LEAST_PAGES, PAGE_ENTRIES, ROOT_PAGE}
 use Rattle.bucket_page.specs.declared.change.DoesNotFit.{DoesNotFit}
-use Rattle.bucket_page.specs.declared.layout.TheConstants.{PAGE_ENTRIES, RECORD_HEAD_BYTES, ROOM_BYTES}
+use Rattle.bucket_page.specs.declared.layout.TheConstants.{RECORD_HEAD_BYTES, ROOM_BYTES}
 use Rattle.bucket_page.specs.declared.record_key.RecordKey.{RecordKey}
 use Rattle.bucket_page.specs.Bucket.{Bucket, bucket}
 use Rattle.bucket_page.specs.Changes.{Changes, SpellsBucket, inserted}
 use Rattle.bucket_page.specs.Keys.{key_bytes}
-use Rattle.bucket_page.specs.Numbers.{four, two}
+use Rattle.fields.specs.Numbers.{four, two}
 use Rattle.bucket_page.specs.Reading.{bucket_at, records_at}
 use Rattle.bucket_page.specs.Records.{pair, pair_bytes, record_bytes}
 use Rattle.bucket_page.specs.Spelling.{IsBucket}
-use Rattle.bucket_page.proofs.Fields.{length-four, length-two}
+use Rattle.fields.proofs.NumberLaws.{length-four, length-two}
 use Rattle.bucket_page.proofs.KeyLaws.{length-key}
 use Rattle.queue_records.specs.Spelling.{counter_bytes, counter_key}
 use Rattle.record_file.specs.Files.{IsNewFile, entries_on, new_counter, new_page, new_records, root_bucket}

@@ -1,5 +1,6 @@
 -- The numbers of faults.
 use Rattle.std.specs.Prelude.{ℕ}
+use Rattle.faults.specs.declared.TheConstants.{BAD_DIGEST, BAD_HEADER, BAD_VERSION, DEVICE, FAILED, NO_MEMORY, PAST_END, TOO_FEW_FRAMES}
 use Rattle.directory.specs.declared.read.HeaderFault.{HeaderFault}
 use Rattle.directory.specs.declared.read.HeaderFault.TheVariants as headers
 use Rattle.record_file.specs.declared.fault.OpenFault.{OpenFault}
@@ -9,17 +10,17 @@ use Rattle.record_file.specs.declared.fault.CloseFault.TheVariants as closes
 
 -- the number that a program prints for a fault
 abbrev pub number_of : OpenFault → ℕ
-number_of opens.Device = 20
-number_of opens.BadDigest = 21
-number_of opens.PastEnd = 22
-number_of opens.TooFewFrames = 30
-number_of opens.BadHeader = 41
-number_of opens.BadVersion = 42
-number_of opens.NoMemory = 60
+number_of opens.Device = DEVICE
+number_of opens.BadDigest = BAD_DIGEST
+number_of opens.PastEnd = PAST_END
+number_of opens.TooFewFrames = TOO_FEW_FRAMES
+number_of opens.BadHeader = BAD_HEADER
+number_of opens.BadVersion = BAD_VERSION
+number_of opens.NoMemory = NO_MEMORY
 
 abbrev pub close_number_of : CloseFault → ℕ
-close_number_of closes.Device = 20
-close_number_of closes.Failed = 62
+close_number_of closes.Device = DEVICE
+close_number_of closes.Failed = FAILED
 
 -- what a header that is refused means for its file
 abbrev pub fault_of : HeaderFault → OpenFault

@@ -5,10 +5,9 @@ use Rattle.page_device.specs.Sealed.{IsSealed, payload_of}
 use Rattle.page_device.specs.declared.page.TheConstants.{MAX_PAGES}
 use Rattle.page_device.specs.declared.fault.DeviceFault.{DeviceFault}
 use Rattle.page_device.specs.declared.fault.DeviceFault.TheVariants.{Device, BadDigest, PastEnd, DeviceFull, NoMemory}
-use Rattle.directory.specs.declared.layout.TheConstants.{FIRST_DIRECTORY_PAGE, LEAST_PAGES, LOCAL_DEPTHS, ROOT_PAGE}
+use Rattle.directory.specs.declared.layout.TheConstants.{FIRST_DIRECTORY_PAGE, LEAST_PAGES, LOCAL_DEPTHS, PAGE_ENTRIES, ROOT_PAGE}
 use Rattle.directory.specs.declared.header.Header.{Header}
 use Rattle.directory.specs.Spelling.{header_bytes}
-use Rattle.bucket_page.specs.declared.layout.TheConstants.{PAGE_ENTRIES}
 use Rattle.bucket_page.specs.declared.page.PageKind.TheVariants as kinds
 use Rattle.bucket_page.specs.Bucket.{Bucket, bucket}
 use Rattle.bucket_page.specs.Records.{Pair, pair}

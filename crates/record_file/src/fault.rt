@@ -38,13 +38,13 @@ impl OpenFault {
         ensures { result ≡ number_of self }
     {
         match self {
-            OpenFault::Device => 20,
-            OpenFault::BadDigest => 21,
-            OpenFault::PastEnd => 22,
-            OpenFault::TooFewFrames => 30,
-            OpenFault::BadHeader => 41,
-            OpenFault::BadVersion => 42,
-            OpenFault::NoMemory => 60,
+            OpenFault::Device => faults::DEVICE,
+            OpenFault::BadDigest => faults::BAD_DIGEST,
+            OpenFault::PastEnd => faults::PAST_END,
+            OpenFault::TooFewFrames => faults::TOO_FEW_FRAMES,
+            OpenFault::BadHeader => faults::BAD_HEADER,
+            OpenFault::BadVersion => faults::BAD_VERSION,
+            OpenFault::NoMemory => faults::NO_MEMORY,
         }
     }
 
@@ -76,8 +76,8 @@ impl CloseFault {
         ensures { result ≡ close_number_of self }
     {
         match self {
-            CloseFault::Device => 20,
-            CloseFault::Failed => 62,
+            CloseFault::Device => faults::DEVICE,
+            CloseFault::Failed => faults::FAILED,
         }
     }
 }

@@ -12,6 +12,3 @@ pub use fault::{CloseFault, OpenFault};
 pub use laws::{a_file_is_closed_as_one, a_file_is_never_refused, a_file_opens_with_its_records};
 pub use new_file::format;
 pub use one_bucket::OneBucket;
-
-#[cfg(test)]
-mod tests;

@@ -4,11 +4,15 @@ ghost use Rattle.std.specs.Prelude.{◌≡◌, ◌+◌, ◌<◌, ◌≤◌, [], 
 ghost use Rattle.page_device.specs.Device.{HasCause};
 ghost use Rattle.page_device.specs.declared.page.TheConstants.{MAX_PAGES};
 ghost use Rattle.directory.specs.declared.layout.TheConstants.{LEAST_PAGES};
-ghost use Rattle.bucket_page.specs.Changes.{SpellsBucket, SpellsDirectory};
+ghost use Rattle.directory.specs.Pages.{SpellsDirectory};
+ghost use Rattle.bucket_page.specs.Changes.{SpellsBucket};
 ghost use Rattle.record_file.specs.Files.{IsNewFile, MayNotFormat, entries_on, file_header, free_behind, new_page, new_records, root_bucket};
 
-use bucket_page::{PAGE_ENTRIES, put, write_bucket, write_directory, write_free};
-use directory::{FIRST_DIRECTORY_PAGE, Header, LOCAL_DEPTHS, ROOT_PAGE, write_header};
+use bucket_page::{put, write_bucket, write_free};
+use directory::{
+    FIRST_DIRECTORY_PAGE, Header, LOCAL_DEPTHS, PAGE_ENTRIES, ROOT_PAGE, write_directory,
+    write_header,
+};
 use page_device::{DeviceFault, PAYLOAD_BYTES, PageDevice, Payload, seal};
 use queue_records::{Counter, Value};
 

@@ -3,7 +3,7 @@
 //! Its directory has depth 0, where entry 0 is that of each pseudokey. So no pseudokey is computed: a
 //! record can stand on no other page.
 
-ghost use Rattle.std.specs.Prelude.{◌≡◌, ◌≢◌, ◌↔◌, ◌+◌, ◌<◌, true, false, length, Some, None, IsTrue, IsErr, IsErrAnd, IsSome, IfSome, IfNone, IfOk, IfErr, OnOk, OnErr};
+ghost use Rattle.std.specs.Prelude.{◌≡◌, ◌≢◌, ◌↔◌, ◌+◌, ◌<◌, ◌≤◌, true, false, length, Some, None, IsTrue, IsErr, IsErrAnd, IsSome, IfSome, IfNone, IfOk, IfErr, OnOk, OnErr};
 ghost use Rattle.bucket_page.specs.declared.layout.TheConstants.{RECORD_HEAD_BYTES, ROOM_BYTES};
 ghost use Rattle.bucket_page.specs.Changes.{HasValueOf, inserted, removed, replaced};
 ghost use Rattle.bucket_page.specs.Records.{ascend, lookup, pair, record_bytes};
@@ -48,7 +48,8 @@ impl<D: PageDevice> OneBucket<D> {
     /// refusal gives the device back.
     pub fn open(alloc: Global, device: D, frames: usize) -> Result<OneBucket<D>, (D, OpenFault)>
         ensures ok { IsTrue (D.is_honest device) → IfOk result (Shows (D.content device)) }
-        ensures honest { IfOk result (λ file. file.honest ≡ D.is_honest device) }
+        ensures honest { IfOk result (λ file. (file.honest ≡ D.is_honest device)
+            × (D.fault_count device ≤ file.faults)) }
         ensures few { IsErrAnd result (λ refusal. refusal.1 ≡ OpenFault.TooFewFrames) ↔
             (frames ≡ 0) }
         ensures refused { IsTrue (D.is_honest device) →

@@ -10,9 +10,9 @@ use Rattle.positions.proofs.RangeLaws.{covers_truncated}
 use Rattle.bucket_page.specs.declared.record_key.RecordKey.{RecordKey}
 use Rattle.hash_file.specs.Store.{Store, entry_at, has_bucket, range_at, next_at}
 use Rattle.hash_file.specs.Chain.{chain, IsChain, IsBucketOn}
-use Rattle.hash_file.specs.Search.{reach, Leads, distance}
+use Rattle.hash_file.specs.Search.{reach, PageLeads, distance}
 use Rattle.hash_file.specs.Change.{Quiet}
-use Rattle.hash_file.specs.Sound.{IsSound}
+use Rattle.hash_file.specs.Sound.{IsSoundFile}
 use Rattle.hash_file.specs.Looks.{Answers}
 use Rattle.hash_file.proofs.Chains.{bucket_found, has_position}
 use Rattle.hash_file.proofs.Ties.{quiet_exact}
@@ -20,7 +20,7 @@ use Rattle.hash_file.proofs.Searches.{bucket_leads, entries_lead, stale_depths_l
 use Rattle.step_rules.specs.declared.kind.Kind.{Kind}
 use Rattle.step_rules.specs.World.{World}
 use Rattle.step_rules.specs.Sound.{IsSoundWorld}
-use Rattle.step_rules.specs.Known.{Deep, Holds}
+use Rattle.step_rules.specs.Known.{Deep, IsKnown}
 use Rattle.step_rules.specs.Ways.{hops_added, hops_between, KindParts}
 use Rattle.step_rules.proofs.KindLemmas.{kind_keeps}
 use Rattle.step_rules.proofs.OwnLemmas.{low_bits_below}
@@ -97,7 +97,7 @@ kind_parts kind hash seat other old new d k sound does apart there =
         )
 
 pub entry_is_near : (hash : RecordKey → ℕ) (seat : ℕ) (w : World) (d k : ℕ) → IsSoundWorld hash w →
-    Holds seat w (Deep d) → distance w.store (entry_at w.store (k % 2 ^ d)) k ≤ hops_between w.store d k + 1
+    IsKnown seat w (Deep d) → distance w.store (entry_at w.store (k % 2 ^ d)) k ≤ hops_between w.store d k + 1
 entry_is_near hash seat w d k sound deep =
     let i : ℕ = k % 2 ^ d in
     let e : ℕ = entry_at w.store i in
@@ -114,16 +114,16 @@ entry_is_near hash seat w d k sound deep =
 
 -- while no change is under way the entry is the bucket of the low bits
 pub entry_is_there : (hash : RecordKey → ℕ) (seat : ℕ) (w : World) (d k : ℕ) → IsSoundWorld hash w →
-    Holds seat w (Deep d) → w.change ≡ Quiet →
+    IsKnown seat w (Deep d) → w.change ≡ Quiet →
     distance w.store (entry_at w.store (k % 2 ^ d)) k ≤ hops_between w.store d k
 entry_is_there hash seat w d k sound deep quiet =
     let i : ℕ = k % 2 ^ d in
-    let exact = quiet_exact hash w.store (subst (IsSound hash w.store) quiet sound.file) in
+    let exact = quiet_exact hash w.store (subst (IsSoundFile hash w.store) quiet sound.file) in
     let named = exact.entries i (low_bits_below k d w.store.header.depth deep.1) in
     omega (arith, way_from w.store (entry_at w.store i) i k sound.file.chained named)
 
 pub hop_is_nearer : (hash : RecordKey → ℕ) (w : World) (page k : ℕ) → IsSoundWorld hash w →
-    Leads w.store w.change page k → (Answers w.store page k → ⊥) →
+    PageLeads w.store w.change page k → (Answers w.store page k → ⊥) →
     distance w.store page k ≡ suc (distance w.store (next_at w.store page) k)
 hop_is_nearer hash w page k sound leads other =
     (hops_lead_on hash w.store w.change (chain w.store) page k sound.file leads other).nearer

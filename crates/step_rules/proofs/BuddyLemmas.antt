@@ -10,7 +10,7 @@ use Rattle.positions.proofs.BuddyLaws.{lower_buddies, upper_buddies, buddy_depth
 use Rattle.bucket_page.specs.declared.record_key.RecordKey.{RecordKey}
 use Rattle.hash_file.specs.Store.{range_at, next_at}
 use Rattle.hash_file.specs.Chain.{chain, IsBucketOf}
-use Rattle.hash_file.specs.Search.{Leads, distance}
+use Rattle.hash_file.specs.Search.{PageLeads, distance}
 use Rattle.hash_file.specs.Looks.{Answers}
 use Rattle.hash_file.proofs.Chains.{chain_valid}
 use Rattle.hash_file.proofs.Searches.{hops_lead_on}
@@ -19,7 +19,7 @@ use Rattle.step_rules.specs.Sound.{IsSoundWorld}
 use Rattle.step_rules.specs.Learns.{IsFoundAsBuddy}
 
 pub hop_goes_elsewhere : (hash : RecordKey → ℕ) (w : World) (page k : ℕ) → IsSoundWorld hash w →
-    Leads w.store w.change page k → (Answers w.store page k → ⊥) → next_at w.store page ≢ page
+    PageLeads w.store w.change page k → (Answers w.store page k → ⊥) → next_at w.store page ≢ page
 hop_goes_elsewhere hash w page k sound leads other same =
     let near = (hops_lead_on hash w.store w.change (chain w.store) page k sound.file leads other).nearer in
     omega (arith, near, ap (λ (n : ℕ). distance w.store n k) same)

@@ -1,6 +1,6 @@
 -- A change of the file by the seat that may write the directory keeps the world sound, and leaves the others what
 -- they know, where the file stays sound and the change does to pages what it may.
-use Rattle.std.proofs.Common.{◌≡◌, ◌≢◌, ◌≤◌, ◌⊎◌, ℕ, List, Bool, true, false, if◌then◌else◌, Option, refl, sym, ap, ◌∙◌, subst, inl, inr, arith}
+use Rattle.std.proofs.Common.{◌≡◌, ◌≢◌, ◌≤◌, ◌⊎◌, ℕ, Bool, true, false, if◌then◌else◌, refl, sym, ◌∙◌, subst, inl, inr, arith}
 use Rattle.std.proofs.lemmas.Bool.{cases_eq, true≢false}
 use Rattle.std.specs.List.{Contains}
 use Rattle.positions.specs.Positions.{position_of}
@@ -12,15 +12,13 @@ use Rattle.page_locks.proofs.WriterLemmas.{one_writer}
 use Rattle.hash_file.specs.Store.{Store, page_at, has_bucket, range_at, next_at}
 use Rattle.hash_file.specs.Chain.{chain}
 use Rattle.hash_file.specs.Change.{Change, aside, busy, owned}
-use Rattle.hash_file.specs.Search.{reach, Leads}
-use Rattle.hash_file.specs.Sound.{IsSound}
-use Rattle.hash_file.specs.Kept.{KeepsContents, Keeps}
+use Rattle.hash_file.specs.Search.{reach, PageLeads}
+use Rattle.hash_file.specs.Sound.{IsSoundFile}
+use Rattle.hash_file.specs.Kept.{KeepsContents, KeepsFile}
 use Rattle.hash_file.proofs.Roles.{live_not_owned}
 use Rattle.step_rules.specs.World.{World, gone_on, IsHeld, MayAim, IsReached}
 use Rattle.step_rules.specs.Sound.{IsSoundWorld}
-use Rattle.queue_records.specs.Spelling.{counter_key}
-use Rattle.step_rules.specs.Ids.{next_in, queue_record, HasKeyIn, KeepsIds}
-use Rattle.step_rules.specs.PageSteps.{Changes}
+use Rattle.step_rules.specs.PageSteps.{Restructures}
 use Rattle.step_rules.specs.Does.{KeepsOthers}
 use Rattle.step_rules.proofs.LockLemmas.{IsHeld-writer}
 
@@ -39,7 +37,7 @@ reach_led : (s : Store) (n : ℕ) → reach s n ≡ position_of (first_led s n)
 reach_led s n = position_led (has_bucket s n) (range_at s n).pattern (range_at s (next_at s n)).pattern
 
 -- a page that leads somewhere, leads somewhere where it leads on as it did
-pub stands_led : (s t : Store) (c d : Change) (n : ℕ) → ((k : ℕ) → Leads s c n k → Leads t d n k) →
+pub stands_led : (s t : Store) (c d : Change) (n : ℕ) → ((k : ℕ) → PageLeads s c n k → PageLeads t d n k) →
     Contains (chain s) n ⊎ Contains (aside c) n → Contains (chain t) n ⊎ Contains (aside d) n
 stands_led s t c d n leads stands =
     (leads (first_led s n) (record { stands = stands; reaches = omega (arith, reach_led s n) })).stands
@@ -55,19 +53,11 @@ pub other_page : (hash : RecordKey → ℕ) (w : World) (i j m n : ℕ) → IsSo
 other_page hash w i j m n sound apart mine theirs same =
     other_writer hash w i j (Page m) sound apart mine (subst (λ (x : ℕ). IsWriter w.locks j (Page x)) (sym same) theirs)
 
--- where the file holds what it held, ids and keys of queues stay
-pub KeepsIds-kept : (seat : ℕ) (old new : World) → KeepsContents old.store new.store → KeepsIds seat old new
-KeepsIds-kept seat old new same = record {
-  next = inl (ap next_in (same counter_key));
-  keys = λ id key below has.
-      subst (λ (value : Option (List ℕ)). HasKeyIn value id key) (sym (same (queue_record id))) has;
-}
-
 -- what such a change has to keep
 pub record Fits (hash : RecordKey → ℕ) (seat : ℕ) (old : World) (t : Store) (d : Change) : Type 0 where
-  pub file : IsSound hash t d
+  pub file : IsSoundFile hash t d
   pub contents : KeepsContents old.store t
-  pub leads : (i n k : ℕ) → i ≢ seat → MayAim old.locks i n → Leads old.store old.change n k → Leads t d n k
+  pub leads : (i n k : ℕ) → i ≢ seat → MayAim old.locks i n → PageLeads old.store old.change n k → PageLeads t d n k
   pub pages : (i n : ℕ) → i ≢ seat → IsWriter old.locks i (Page n) → page_at t n ≡ page_at old.store n
   pub not_aside : (i n : ℕ) → i ≢ seat → IsWriter old.locks i (Page n) → Contains (chain old.store) n →
       Contains (aside d) n → ⊥
@@ -118,24 +108,23 @@ module _ (hash : RecordKey → ℕ) (seat : ℕ) (old : World) (sound : IsSoundW
       leads = fits.leads;
       depth = fits.depth;
       records = λ key free. fits.contents key;
-      ids = KeepsIds-kept seat old changed fits.contents;
     };
   }
 
 -- ---- a step by the rules of one kind
 module _ (hash : RecordKey → ℕ) (seat : ℕ) (old new : World) (sound : IsSoundWorld hash old) (c : Change)
     (t : Store) (d : Change)
-    (changes : Changes seat c t d old new) where
+    (changes : Restructures seat c t d old new) where
   -- the file is sound in the phase that the kind asks for
-  pub file : IsSound hash old.store c
-  file = subst (IsSound hash old.store) changes.phase sound.file
+  pub file : IsSoundFile hash old.store c
+  file = subst (IsSoundFile hash old.store) changes.phase sound.file
 
   pub close : Fits hash seat old t d → KeepsOthers hash seat old new
   close fits = subst (KeepsOthers hash seat old) (sym changes.is)
       (KeepsOthers-change hash seat old sound changes.leader t d fits)
 
   -- where the change keeps all leading, it is left to say what it does to pages
-  pub close_kept : Keeps hash old.store c t d →
+  pub close_kept : KeepsFile hash old.store c t d →
       ((i n : ℕ) → i ≢ seat → IsWriter old.locks i (Page n) → page_at t n ≡ page_at old.store n) →
       ((i n : ℕ) → i ≢ seat → IsWriter old.locks i (Page n) → Contains (chain old.store) n → Contains (aside d) n → ⊥) →
       ((i : ℕ) → i ≢ seat → IsHeld old.locks i Directory → old.store.header.depth ≤ t.header.depth) →
@@ -146,7 +135,7 @@ module _ (hash : RecordKey → ℕ) (seat : ℕ) (old new : World) (sound : IsSo
     file = keeps.sound;
     contents = keeps.contents;
     leads = λ i n k apart aim leads.
-        keeps.leads n k (subst (λ (e : Change). Leads old.store e n k) changes.phase leads);
+        keeps.leads n k (subst (λ (e : Change). PageLeads old.store e n k) changes.phase leads);
     pages = pages;
     not_aside = aside_free;
     depth = depth;

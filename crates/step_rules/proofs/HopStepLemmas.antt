@@ -13,13 +13,13 @@ use Rattle.page_locks.proofs.WriterLemmas.{held-kept}
 use Rattle.hash_file.specs.Chain.{chain}
 use Rattle.hash_file.specs.Change.{busy}
 use Rattle.hash_file.specs.Store.{next_at}
-use Rattle.hash_file.specs.Search.{Leads}
+use Rattle.hash_file.specs.Search.{PageLeads}
 use Rattle.hash_file.specs.Looks.{Answers}
 use Rattle.hash_file.proofs.Searches.{hops_lead_on}
 use Rattle.step_rules.specs.World.{World, with_locks, IsReached}
 use Rattle.step_rules.specs.Sound.{IsSoundWorld}
 use Rattle.step_rules.specs.Leaves.{Leaves}
-use Rattle.step_rules.specs.LockSteps.{Grants, Releases, GoesOn, Hops}
+use Rattle.step_rules.specs.LockSteps.{Grants, Releases, MovesOn, Hops}
 use Rattle.step_rules.specs.Does.{KeepsOthers}
 use Rattle.step_rules.proofs.LockLemmas.{IsHeld-some, IsHeld-same, held-granted}
 use Rattle.step_rules.proofs.LockStepLemmas.{Leaves-locks, KeepsOthers-same, KeepsOthers-grant, KeepsOthers-release}
@@ -27,8 +27,8 @@ use Rattle.step_rules.proofs.LockStepLemmas.{Leaves-locks, KeepsOthers-same, Kee
 -- ---- a hop: one page granted, and the other given back
 module _ (hash : RecordKey → ℕ) (seat : ℕ) (old new : World) (sound : IsSoundWorld hash old) (page k : ℕ)
     (kind : LockKind)
-    (had : held old.locks seat (Page page) ≡ Some kind) (leads : Leads old.store old.change page k)
-    (other : Answers old.store page k → ⊥) (g : GoesOn page kind seat old new) where
+    (had : held old.locks seat (Page page) ≡ Some kind) (leads : PageLeads old.store old.change page k)
+    (other : Answers old.store page k → ⊥) (g : MovesOn page kind seat old new) where
   abbrev further : LockName
   further = Page (next_at old.store page)
 

@@ -1,5 +1,5 @@
 -- Each kind of step, and schedules of steps.
-use Rattle.std.proofs.Common.{◌≡◌, ℕ, [], ◌∷◌, List, refl, sym, subst, inl, inr}
+use Rattle.std.proofs.Common.{◌≡◌, ℕ, refl, sym, subst, inl, inr}
 use Rattle.positions.specs.Ranges.{upper_half_of}
 use Rattle.bucket_page.specs.declared.record_key.RecordKey.{RecordKey}
 use Rattle.hash_file.specs.Store.{Store, range_at}
@@ -16,11 +16,9 @@ use Rattle.step_rules.specs.declared.kind.Kind.{Kind}
 use Rattle.step_rules.specs.declared.kind.Kind.TheVariants.{Grant, Release, ReadDepth, ReadEntry, Look, Hop, WriteRecord, Decide, TakePage, CopyDirectory, RaiseDepth, WriteNew, WriteOld, Retarget, SetCounts, WriteLeft, Tombstone, Convert, WriteFree, LinkFree, LowerDepth}
 use Rattle.step_rules.specs.World.{World}
 use Rattle.step_rules.specs.Sound.{IsSoundWorld}
-use Rattle.step_rules.specs.Known.{Known, Holds}
 use Rattle.step_rules.specs.LockSteps.{Hops}
-use Rattle.step_rules.specs.PageSteps.{Changes, Retargets, SetsCounts}
-use Rattle.step_rules.specs.Laws.{KindKeeps, KindKeepsContents, Move, LeadAlong, StandsStill}
-use Rattle.step_rules.proofs.KnownLemmas.{Holds-kept}
+use Rattle.step_rules.specs.PageSteps.{Restructures, Retargets, SetsCounts}
+use Rattle.step_rules.specs.Laws.{KindKeeps, KindKeepsContents}
 use Rattle.step_rules.proofs.LockStepLemmas.{KeepsOthers-same, KeepsOthers-grant, KeepsOthers-release, KeepsOthers-convert}
 use Rattle.step_rules.proofs.HopStepLemmas.{KeepsOthers-hop}
 use Rattle.step_rules.proofs.ChangeLemmas.{file}
@@ -65,7 +63,7 @@ module _ (hash : RecordKey → ℕ) (seat : ℕ) (old new : World) (sound : IsSo
   ]
 
   -- by the law of its change
-  changed : (c : Change) (t : Store) (d : Change) → Changes seat c t d old new → KeepsContents old.store t →
+  changed : (c : Change) (t : Store) (d : Change) → Restructures seat c t d old new → KeepsContents old.store t →
       KeepsContents old.store new.store
   changed c t d changes keeps = subst (λ (w : World). KeepsContents old.store w.store) (sym changes.is) keeps
 
@@ -173,19 +171,3 @@ kind_keeps_contents LowerDepth hash seat old new sound other does =
     changed hash seat old new sound Quiet t Quiet does.changes
     (lower_depth_keeps hash old.store
     (file hash seat old new sound Quiet t Quiet does.changes) does.deep does.unused).contents
-
--- ---- schedules
-
-pub schedules_keep_sound : (hash : RecordKey → ℕ) (moves : List Move) (old new : World) → IsSoundWorld hash old →
-    LeadAlong hash moves old new → IsSoundWorld hash new
-schedules_keep_sound hash [] old new sound is = subst (IsSoundWorld hash) (sym is) sound
-schedules_keep_sound hash (move ∷ moves) old new sound (next, does, rest) =
-    schedules_keep_sound hash moves next new (kind_keeps move.kind hash move.seat old next sound does).sound rest
-
-pub schedules_keep_knowledge : (hash : RecordKey → ℕ) (moves : List Move) (old new : World) (i : ℕ) (fact : Known) →
-    IsSoundWorld hash old → LeadAlong hash moves old new → StandsStill i moves → Holds i old fact → Holds i new fact
-schedules_keep_knowledge hash [] old new i fact sound is still h = subst (λ (w : World). Holds i w fact) (sym is) h
-schedules_keep_knowledge hash (move ∷ moves) old new i fact sound (next, does, rest) still h =
-    let keeps = kind_keeps move.kind hash move.seat old next sound does in
-    schedules_keep_knowledge hash moves next new i fact keeps.sound rest still.1
-    (Holds-kept hash i move.seat old next still.0 sound keeps.leaves fact h)

@@ -1,19 +1,24 @@
 -- What a seat knows is kept by what another seat's step leaves.
-use Rattle.std.proofs.Common.{◌≡◌, ◌≢◌, ◌⊎◌, ℕ, suc, ◌<◌, ◌≤◌, nat_lt, Some, IsSome, List, [], ◌∷◌, sym, ap, ◌∙◌, subst, inl, inr, arith}
-use Rattle.std.proofs.lemmas.Bool.{cases_lt, lt-ltb, le-ltb, true≢false}
+use Rattle.std.proofs.Common.{◌≡◌, ◌≢◌, ℕ, true, Some, IsSome, List, [], ◌∷◌, sym, ap, ◌∙◌, subst, inl, inr, arith}
+use Rattle.std.proofs.lemmas.Bool.{true≢false}
+use Rattle.positions.specs.Ranges.{Covers}
+use Rattle.bucket_page.specs.declared.page.PageKind.{PageKind}
+use Rattle.bucket_page.specs.Records.{lookup}
+use Rattle.bucket_page.specs.Changes.{HasValueOf}
+use Rattle.hash_file.specs.Store.{Store, page_at, is_bucket, bucket_of, range_of}
 use Rattle.bucket_page.specs.declared.record_key.RecordKey.{RecordKey}
 use Rattle.page_locks.specs.declared.lock.Lock.{Lock}
 use Rattle.page_locks.specs.declared.lock.LockKind.TheVariants.{Exclusive}
 use Rattle.page_locks.specs.declared.lock.LockName.{LockName}
-use Rattle.page_locks.specs.declared.lock.LockName.TheVariants.{Queue, Directory, Page}
+use Rattle.page_locks.specs.declared.lock.LockName.TheVariants.{Directory, Page}
 use Rattle.page_locks.specs.Locks.{kind_of}
 use Rattle.page_locks.specs.Table.{held, IsPairwiseCompatible}
 use Rattle.page_locks.specs.Writers.{may_write, IsWriter}
 use Rattle.page_locks.proofs.WriterLemmas.{one_writer, exclusive_alone}
 use Rattle.step_rules.specs.World.{World, IsHeld, MayAim, guard_of}
-use Rattle.step_rules.specs.Ids.{next_id, GivesOut}
+use Rattle.step_rules.specs.Pages.{PageFact, Covering, Lacking, Having, Using, Being, IsOf, used_of, sort_of}
 use Rattle.step_rules.specs.Sound.{IsSoundWorld}
-use Rattle.step_rules.specs.Known.{Known, Deep, LeadsTo, Shows, Live, Built, Told, Given, Keyed, Holds, AllHold, Knows}
+use Rattle.step_rules.specs.Known.{Known, Deep, LeadsTo, OnPage, Live, Built, Told, IsKnown, AllKnown}
 use Rattle.step_rules.specs.Leaves.{Leaves}
 use Rattle.step_rules.proofs.StructureLemmas.{IsSo-kept}
 
@@ -23,14 +28,15 @@ pub not_exclusive : (w : World) (i j : ℕ) (name : LockName) → IsPairwiseComp
 not_exclusive w i j name pairs apart mine theirs =
     true≢false (sym (subst IsSome (exclusive_alone w.locks pairs j i name apart theirs) mine))
 
--- another number than n is below n just where it is below the one after n
-below_next : (m n : ℕ) → m ≢ n → nat_lt m (suc n) ≡ nat_lt m n
-below_next m n other = elim (cases_lt m n) [
-  | inl below ↦ lt-ltb m (suc n) (omega (arith, below)) ∙ sym (lt-ltb m n below)
-  | inr above ↦
-      let further : suc n ≤ m = omega (arith, above, other) in
-      le-ltb m (suc n) further ∙ sym (le-ltb m n above)
-]
+-- what is so of a page is so while it stands as it is
+pub IsOf-kept : (s t : Store) (n : ℕ) → page_at t n ≡ page_at s n → (fact : PageFact) → IsOf s n fact → IsOf t n fact
+IsOf-kept s t n same (Covering k) is = subst (λ (p : PageKind). (is_bucket p ≡ true) × Covers (range_of (bucket_of p)) k) (sym same) is
+IsOf-kept s t n same (Lacking key) is =
+    ap (λ (p : PageKind). lookup key (bucket_of p).records) same ∙ is
+IsOf-kept s t n same (Having key bytes) is =
+    subst (λ (p : PageKind). HasValueOf bytes key (bucket_of p).records) (sym same) is
+IsOf-kept s t n same (Using bytes) is = ap (λ (p : PageKind). used_of (bucket_of p)) same ∙ is
+IsOf-kept s t n same (Being sort) is = ap sort_of same ∙ is
 
 module _ (hash : RecordKey → ℕ) (i j : ℕ) (old new : World) (apart : i ≢ j) (sound : IsSoundWorld hash old)
     (leaves : Leaves j old new) where
@@ -54,43 +60,19 @@ module _ (hash : RecordKey → ℕ) (i j : ℕ) (old new : World) (apart : i ≢
   other_structure : IsWriter old.locks i Directory → IsWriter old.locks j Directory → ⊥
   other_structure mine theirs = apart (one_writer old.locks Directory sound.lawful.pairs i j mine theirs)
 
-  pub Holds-kept : (fact : Known) → Holds i old fact → Holds i new fact
-  Holds-kept (Deep depth) h = (IsHeld-kept Directory h.0, omega (arith, h.1, leaves.depth i apart h.0))
-  Holds-kept (LeadsTo page pseudokey) h = (MayAim-kept page h.0, leaves.leads i page pseudokey apart h.0 h.1)
-  Holds-kept (Shows page kind) h = (IsWriter-kept (Page page) h.0, leaves.pages i page apart h.0 ∙ h.1)
-  Holds-kept (Live page) h = (IsWriter-kept (Page page) h.0, leaves.live i page apart h.0 h.1)
-  Holds-kept (Built fact) h =
+  pub IsKnown-kept : (fact : Known) → IsKnown i old fact → IsKnown i new fact
+  IsKnown-kept (Deep depth) h = (IsHeld-kept Directory h.0, omega (arith, h.1, leaves.depth i apart h.0))
+  IsKnown-kept (LeadsTo page pseudokey) h = (MayAim-kept page h.0, leaves.leads i page pseudokey apart h.0 h.1)
+  IsKnown-kept (OnPage page fact) h =
+      (IsWriter-kept (Page page) h.0, IsOf-kept old.store new.store page (leaves.pages i page apart h.0) fact h.1)
+  IsKnown-kept (Live page) h = (IsWriter-kept (Page page) h.0, leaves.live i page apart h.0 h.1)
+  IsKnown-kept (Built fact) h =
       (IsWriter-kept Directory h.0, IsSo-kept old new (leaves.structure (other_structure h.0)) fact h.1)
-  Holds-kept (Told key value) h = (
+  IsKnown-kept (Told key value) h = (
     IsHeld-kept (guard_of key) h.0,
     leaves.records key (not_exclusive old i j (guard_of key) sound.lawful.pairs apart h.0) ∙ h.1,
   )
-  Holds-kept (Given id given) h =
-      (IsHeld-kept (Queue id) h.0, still_given leaves.ids.next)
-    where
-      -- the id is not the one that another seat gives out, since that seat holds its queue
-      still_given : (next_id new.store ≡ next_id old.store) ⊎ GivesOut j old new → nat_lt id (next_id new.store) ≡ given
-      still_given (inl same) = ap (nat_lt id) same ∙ h.1
-      still_given (inr gives) =
-          ap (nat_lt id) gives.next
-          ∙ below_next id (next_id old.store)
-          (λ e. not_exclusive old i j (Queue id) sound.lawful.pairs apart h.0
-          (ap (λ (n : ℕ). held old.locks j (Queue n)) e ∙ gives.owned))
-          ∙ h.1
-  Holds-kept (Keyed id key) h = (tt, (still_below leaves.ids.next, leaves.ids.keys id key h.1.0 h.1.1))
-    where
-      still_below : (next_id new.store ≡ next_id old.store) ⊎ GivesOut j old new → id < next_id new.store
-      still_below (inl same) = omega (arith, same, h.1.0)
-      still_below (inr gives) = omega (arith, gives.next, h.1.0)
 
-  pub AllHold-kept : (facts : List Known) → AllHold i old facts → AllHold i new facts
-  AllHold-kept [] h = tt
-  AllHold-kept (fact ∷ facts) h = (Holds-kept fact h.0, AllHold-kept facts h.1)
-
-  -- the facts of a seat at its place stand through a step of another seat
-  pub Knows-kept : (locks : List Lock) (facts : List Known) → Knows i locks facts old → Knows i locks facts new
-  Knows-kept locks facts knows = record {
-    seated = (knows.seated.0, omega (arith, knows.seated.1, leaves.seats));
-    row_is = leaves.rows i apart ∙ knows.row_is;
-    all = AllHold-kept facts knows.all;
-  }
+  pub AllKnown-kept : (facts : List Known) → AllKnown i old facts → AllKnown i new facts
+  AllKnown-kept [] h = tt
+  AllKnown-kept (fact ∷ facts) h = (IsKnown-kept fact h.0, AllKnown-kept facts h.1)

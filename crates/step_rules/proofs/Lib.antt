@@ -9,6 +9,8 @@ pub mod SplitStepLemmas
 pub mod MergeStepLemmas
 pub mod OwnLemmas
 pub mod KindLemmas
+pub mod TurnLemmas
+pub mod ScheduleLemmas
 pub mod RestLemmas
 pub mod MachineLemmas
 pub mod OnePageLemmas
@@ -16,3 +18,5 @@ pub mod BuddyLemmas
 pub mod WayLemmas
 pub mod BoundLemmas
 pub mod WalkLemmas
+pub mod AnswerLemmas
+pub mod RoomLemmas

@@ -41,7 +41,6 @@ Leaves-locks seat w t seats rows = record {
   leads = λ i n k apart aim leads. leads;
   depth = λ i apart there. omega arith;
   records = λ key free. refl;
-  ids = record { next = inl refl; keys = λ id key below has. has };
 }
 
 pub KeepsOthers-same : (hash : RecordKey → ℕ) (seat : ℕ) (old new : World) → IsSoundWorld hash old → new ≡ old →

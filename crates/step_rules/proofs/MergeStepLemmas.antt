@@ -14,7 +14,7 @@ use Rattle.page_locks.specs.Writers.{IsWriter}
 use Rattle.hash_file.specs.Store.{Store, bucket_at}
 use Rattle.hash_file.specs.Change.{Change, Quiet, Linked, Absorbed, Buried, Drained, Freed}
 use Rattle.hash_file.specs.Changes.{retarget, set_counts, split_counts, merge_counts, write_left, write_tombstone, write_free, link_free, lower_depth}
-use Rattle.hash_file.specs.Search.{Leads}
+use Rattle.hash_file.specs.Search.{PageLeads}
 use Rattle.hash_file.proofs.Frames.{page_other}
 use Rattle.hash_file.proofs.TakePage.{link_free_keeps}
 use Rattle.hash_file.proofs.Merging.{write_left_keeps}
@@ -23,7 +23,7 @@ use Rattle.hash_file.proofs.Doubling.{lower_depth_keeps}
 use Rattle.hash_file.proofs.Retargeting.{retarget_keeps_split, retarget_keeps_merge, set_counts_keeps_split, set_counts_keeps_merge}
 use Rattle.step_rules.specs.World.{World, MayAim}
 use Rattle.step_rules.specs.Sound.{IsSoundWorld}
-use Rattle.step_rules.specs.PageSteps.{Changes, Retargets, CountsSplit, CountsMerge, SetsCounts, WritesLeft, WritesTombstone, WritesFree, LinksFree, LowersDepth}
+use Rattle.step_rules.specs.PageSteps.{Restructures, Retargets, CountsSplit, CountsMerge, SetsCounts, WritesLeft, WritesTombstone, WritesFree, LinksFree, LowersDepth}
 use Rattle.step_rules.specs.Does.{KeepsOthers}
 use Rattle.step_rules.proofs.LockLemmas.{IsWriter-exclusive}
 use Rattle.step_rules.proofs.KnownLemmas.{not_exclusive}
@@ -32,7 +32,7 @@ use Rattle.step_rules.proofs.ChangeLemmas.{other_page, close, close_kept, not_li
 module _ (hash : RecordKey → ℕ) (seat : ℕ) (old new : World) (sound : IsSoundWorld hash old) where
   -- ---- a split or a merge
   retarget_split : (lower upper page : ℕ) (whole : Range) →
-      Changes seat (Linked lower upper whole) (retarget page (upper_half_of whole) upper old.store)
+      Restructures seat (Linked lower upper whole) (retarget page (upper_half_of whole) upper old.store)
       (Linked lower upper whole) old new →
       KeepsOthers hash seat old new
   retarget_split lower upper page whole changes =
@@ -46,7 +46,7 @@ module _ (hash : RecordKey → ℕ) (seat : ℕ) (old new : World) (sound : IsSo
       (λ n there on. absurd (contains_none n there))
 
   retarget_merge : (lower upper page : ℕ) (whole : Range) →
-      Changes seat (Buried lower upper whole) (retarget page (upper_half_of whole) lower old.store)
+      Restructures seat (Buried lower upper whole) (retarget page (upper_half_of whole) lower old.store)
       (Buried lower upper whole) old new →
       KeepsOthers hash seat old new
   retarget_merge lower upper page whole changes =
@@ -166,7 +166,7 @@ module _ (hash : RecordKey → ℕ) (seat : ℕ) (old new : World) (sound : IsSo
           file = frees.sound;
           contents = frees.contents;
           leads = λ i n k apart aim leads. frees.leads n k (nobody i n apart aim)
-              (subst (λ (e : Change). Leads old.store e n k) does.changes.phase leads);
+              (subst (λ (e : Change). PageLeads old.store e n k) does.changes.phase leads);
           pages = λ i n apart w. page_other old.store does.right n (kinds.Free old.store.header.first_free)
               (other_page hash old i seat n does.right sound apart w
               (IsWriter-exclusive old.locks seat (Page does.right) does.drained));

@@ -14,13 +14,13 @@ use Rattle.page_locks.specs.Writers.{ChangesOnly}
 use Rattle.page_locks.proofs.ChangeLemmas.{ChangesOnly-grant, ChangesOnly-release, ChangesOnly-convert}
 use Rattle.hash_file.specs.Store.{Store, entry_at, bucket_at, records_at, range_at}
 use Rattle.hash_file.specs.Change.{Change, Quiet, Taken, Filled, Linked, Absorbed, Buried, Drained, Freed}
-use Rattle.hash_file.specs.Changes.{written, write_record, mapped_from, take_page, copy_directory, raise_depth, write_new, write_old, retarget, set_counts, split_counts, merge_counts, write_left, write_tombstone, write_free, link_free, lower_depth}
+use Rattle.hash_file.specs.Changes.{records_after, write_record, mapped_from, take_page, copy_directory, raise_depth, write_new, write_old, retarget, set_counts, split_counts, merge_counts, write_left, write_tombstone, write_free, link_free, lower_depth}
 use Rattle.hash_file.proofs.Headed.{length-mapped, mapped_first}
 use Rattle.step_rules.specs.declared.kind.Kind.{Kind}
 use Rattle.step_rules.specs.declared.kind.Kind.TheVariants.{Grant, Release, ReadDepth, ReadEntry, Look, Hop, WriteRecord, Decide, TakePage, CopyDirectory, RaiseDepth, WriteNew, WriteOld, Retarget, SetCounts, WriteLeft, Tombstone, Convert, WriteFree, LinkFree, LowerDepth}
 use Rattle.step_rules.specs.World.{World, with_locks, with_store, gone_on}
 use Rattle.step_rules.specs.LockSteps.{Hops}
-use Rattle.step_rules.specs.PageSteps.{Changes, Retargets, SetsCounts}
+use Rattle.step_rules.specs.PageSteps.{Restructures, Retargets, SetsCounts}
 use Rattle.step_rules.specs.OnePage.{WritesHeader, WritesEntries, WritesPage, ChangesLocks, KindChangesLittle}
 
 -- an entry stays where the page is another's, whatever else is asked of it
@@ -55,7 +55,7 @@ told P new next is p = subst P (sym is) p
 
 module _ (seat : ℕ) (old new : World) where
   -- a step of one who may write the directory leaves the locks
-  by_change : (P : Store → Type 0) (c : Change) (t : Store) (d : Change) → Changes seat c t d old new → P t →
+  by_change : (P : Store → Type 0) (c : Change) (t : Store) (d : Change) → Restructures seat c t d old new → P t →
       P new.store × (new.locks ≡ old.locks)
   by_change P c t d changes p =
       told (λ (w : World). P w.store × (w.locks ≡ old.locks)) new (gone_on t d old) changes.is (p, refl)
@@ -64,7 +64,7 @@ module _ (seat : ℕ) (old new : World) where
   retargets does =
       let r = upper_half_of does.whole in
       let asks : ℕ → Bool =
-      is_in_range old.store.header.depth (record { local_depth = r.depth; pattern = r.pattern }) in
+      is_in_range old.store.header.depth r in
       elim does.changes [
         | inl split ↦ by_change (WritesEntries old.store) (Linked does.lower does.upper does.whole)
             (retarget does.page r does.upper old.store) (Linked does.lower does.upper does.whole) split
@@ -130,7 +130,7 @@ kind_changes_little Decide hash seat old new does = (ap (λ (w : World). w.store
 kind_changes_little Hop hash seat old new does = hops seat old new does
 kind_changes_little WriteRecord hash seat old new does =
     let b : Bucket =
-    record (bucket_at old.store does.page) { records = written does.write (records_at old.store does.page) } in
+    record (bucket_at old.store does.page) { records = records_after does.write (records_at old.store does.page) } in
     told (λ (w : World). WritesPage old.store w.store × (w.locks ≡ old.locks)) new
     (with_store (write_record does.page does.write old.store) old) does.is
     ((does.page, kinds.Bucket b, refl), refl)

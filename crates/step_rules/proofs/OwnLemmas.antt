@@ -11,30 +11,30 @@ use Rattle.bucket_page.specs.declared.page.PageKind.TheVariants as kinds
 use Rattle.bucket_page.specs.Records.{lookup}
 use Rattle.page_locks.specs.declared.lock.LockKind.{LockKind}
 use Rattle.page_locks.specs.declared.lock.LockName.{LockName}
-use Rattle.page_locks.specs.declared.lock.LockName.TheVariants.{Queue, Directory, Page}
-use Rattle.page_locks.specs.Table.{Table, held, with_lock}
+use Rattle.page_locks.specs.declared.lock.LockName.TheVariants.{Directory, Page}
+use Rattle.page_locks.specs.Table.{Table, row_of, held, with_lock}
 use Rattle.page_locks.specs.Writers.{may_write, IsWriter, HasNoWriter}
 use Rattle.page_locks.proofs.ChangeLemmas.{held-grant}
 use Rattle.page_locks.proofs.WriterLemmas.{HasNoWriter-free}
 use Rattle.hash_file.specs.Store.{Store, is_bucket, page_at, entry_at, next_at, records_at, range_at}
 use Rattle.hash_file.specs.Chain.{chain, IsBucketOf}
 use Rattle.hash_file.specs.Change.{Change, Quiet, Taken, Filled, Linked, Absorbed, Buried, Drained, Freed, aside, busy}
-use Rattle.hash_file.specs.Search.{Leads}
+use Rattle.hash_file.specs.Search.{PageLeads}
 use Rattle.hash_file.specs.Looks.{Answers}
 use Rattle.hash_file.specs.Phases.{HasPhase, IsBuried, IsDrained}
-use Rattle.hash_file.specs.Sound.{IsSound}
+use Rattle.hash_file.specs.Sound.{IsSoundFile}
 use Rattle.hash_file.proofs.Searches.{entries_lead, stale_depths_lead, looks_answer, hops_lead_on}
 use Rattle.hash_file.proofs.Ties.{quiet_exact}
 use Rattle.hash_file.proofs.Roles.{live_not_owned}
 use Rattle.step_rules.specs.World.{World, with_locks, IsHeld, MayAim, guard_of}
 use Rattle.step_rules.specs.Sound.{IsSoundWorld}
 use Rattle.step_rules.specs.Structure.{InPhase, HasDepth, BucketOf}
-use Rattle.step_rules.specs.Known.{Known, Deep, LeadsTo, Shows, Live, Built, Told, Given, Keyed, HasAnchor, Holds}
-use Rattle.step_rules.specs.LockSteps.{Grants, GoesOn}
+use Rattle.step_rules.specs.Known.{Known, Deep, LeadsTo, OnPage, Live, Built, Told, HasAnchor, IsKnown}
+use Rattle.step_rules.specs.LockSteps.{Grants, MovesOn}
 use Rattle.step_rules.specs.PageSteps.{WritesFree, LinksFree}
 use Rattle.step_rules.proofs.LockLemmas.{IsHeld-writer, IsHeld-same, IsWriter-same, held-granted}
 use Rattle.step_rules.proofs.LockStepLemmas.{none_busy}
-use Rattle.step_rules.proofs.KnownLemmas.{not_exclusive}
+use Rattle.step_rules.proofs.KnownLemmas.{not_exclusive, IsOf-kept}
 use Rattle.step_rules.proofs.ChangeLemmas.{other_writer}
 use Rattle.step_rules.proofs.StructureLemmas.{IsSo-kept}
 
@@ -45,7 +45,7 @@ pub low_bits_below : (k d depth : ℕ) → d ≤ depth → k % 2 ^ d < 2 ^ depth
 low_bits_below k d depth shallow = omega (arith, mod_below k (2 ^ d) (pow_pos d), pow_mono {i = d} {j = depth} shallow)
 
 pub entry_read_leads : (hash : RecordKey → ℕ) (seat : ℕ) (w : World) (d k : ℕ) → IsSoundWorld hash w →
-    Holds seat w (Deep d) → Holds seat w (LeadsTo (entry_at w.store (k % 2 ^ d)) k)
+    IsKnown seat w (Deep d) → IsKnown seat w (LeadsTo (entry_at w.store (k % 2 ^ d)) k)
 entry_read_leads hash seat w d k sound deep =
     let i : ℕ = k % 2 ^ d in
     let entry = entries_lead hash w.store w.change (chain w.store) (entry_at w.store i) i sound.file
@@ -53,16 +53,16 @@ entry_read_leads hash seat w d k sound deep =
     (inl deep.0, stale_depths_lead w.store w.change (entry_at w.store i) k d entry.leads)
 
 pub look_tells : (hash : RecordKey → ℕ) (seat : ℕ) (w : World) (page : ℕ) (key : RecordKey) → IsSoundWorld hash w →
-    Holds seat w (LeadsTo page (hash key)) → Answers w.store page (hash key) → IsHeld w.locks seat (guard_of key) →
-    Holds seat w (Told key (lookup key (records_at w.store page)))
+    IsKnown seat w (LeadsTo page (hash key)) → Answers w.store page (hash key) → IsHeld w.locks seat (guard_of key) →
+    IsKnown seat w (Told key (lookup key (records_at w.store page)))
 look_tells hash seat w page key sound leads answers there =
     (there, looks_answer hash w.store w.change (chain w.store) page key sound.file leads.1 answers)
 
 pub hop_is_led_on : (hash : RecordKey → ℕ) (seat : ℕ) (old new : World) (page k : ℕ) (kind : LockKind) →
-    IsSoundWorld hash old → Leads old.store old.change page k → (Answers old.store page k → ⊥) →
-    GoesOn page kind seat old new → Leads new.store new.change (next_at old.store page) k
+    IsSoundWorld hash old → PageLeads old.store old.change page k → (Answers old.store page k → ⊥) →
+    MovesOn page kind seat old new → PageLeads new.store new.change (next_at old.store page) k
 hop_is_led_on hash seat old new page k kind sound leads other g =
-    subst (λ (w : World). Leads w.store w.change (next_at old.store page) k) (sym g.is)
+    subst (λ (w : World). PageLeads w.store w.change (next_at old.store page) k) (sym g.is)
     (hops_lead_on hash old.store old.change (chain old.store) page k sound.file leads other).leads
 
 -- ---- a page that a seat may write
@@ -107,7 +107,7 @@ module _ (hash : RecordKey → ℕ) (seat : ℕ) (w : World) (page k : ℕ) (sou
       ]
   not_off (Freed right) is answers off = contains_none page off
 
-  pub owned_answer_is_live : Holds seat w (LeadsTo page k) → Answers w.store page k → Holds seat w (Live page)
+  pub owned_answer_is_live : IsKnown seat w (LeadsTo page k) → Answers w.store page k → IsKnown seat w (Live page)
   owned_answer_is_live leads answers = (
     owned,
     elim leads.1.stands [
@@ -120,7 +120,7 @@ module _ (hash : RecordKey → ℕ) (seat : ℕ) (w : World) (page k : ℕ) (sou
 
 pub directory_is_quiet : (hash : RecordKey → ℕ) (seat : ℕ) (old new : World) (g : Grants seat old new) →
     IsSoundWorld hash old → g.name ≡ Directory → may_write (Some g.kind) ≡ true →
-    Holds seat new (Built (InPhase Quiet))
+    IsKnown seat new (Built (InPhase Quiet))
 directory_is_quiet hash seat old new g sound name may =
     let now : held (with_lock old.locks seat g.name g.kind) seat g.name ≡ Some g.kind =
     held-grant old.locks seat g.seated g.name g.kind g.fresh in
@@ -128,16 +128,16 @@ directory_is_quiet hash seat old new g sound name may =
     ap (λ (n : LockName). may_write (held (with_lock old.locks seat g.name g.kind) seat n)) (sym name)
     ∙ ap may_write now ∙ may in
     let none = HasNoWriter-free old.locks seat g.name g.kind may (ap may_write g.fresh) g.free in
-    subst (λ (w : World). Holds seat w (Built (InPhase Quiet))) (sym g.is)
+    subst (λ (w : World). IsKnown seat w (Built (InPhase Quiet))) (sym g.is)
     (owned, sound.led (subst (HasNoWriter old.locks) name none))
 
 pub entry_is_bucket : (hash : RecordKey → ℕ) (seat : ℕ) (w : World) (d k : ℕ) → IsSoundWorld hash w →
-    Holds seat w (Built (InPhase Quiet)) → Holds seat w (Built (HasDepth d)) →
-    Holds seat w (Built (BucketOf k (entry_at w.store (k % 2 ^ d))))
+    IsKnown seat w (Built (InPhase Quiet)) → IsKnown seat w (Built (HasDepth d)) →
+    IsKnown seat w (Built (BucketOf k (entry_at w.store (k % 2 ^ d))))
 entry_is_bucket hash seat w d k sound quiet deep =
     let i : ℕ = k % 2 ^ d in
     let within : i < 2 ^ w.store.header.depth = low_bits_below k d w.store.header.depth (omega (arith, deep.1)) in
-    let file : IsSound hash w.store Quiet = subst (IsSound hash w.store) quiet.1 sound.file in
+    let file : IsSoundFile hash w.store Quiet = subst (IsSoundFile hash w.store) quiet.1 sound.file in
     let named : IsBucketOf w.store i (entry_at w.store i) = (quiet_exact hash w.store file).entries i within in
     let shallow : (range_at w.store (entry_at w.store i)).depth ≤ d =
     omega (arith, file.chained.shallow (entry_at w.store i) named.0, deep.1) in
@@ -145,11 +145,11 @@ entry_is_bucket hash seat w d k sound quiet deep =
 
 -- ---- its own locks
 
-pub own_locks_keep : (seat : ℕ) (w : World) (t : Table) (fact : Known) → Holds seat w fact → HasAnchor t seat fact →
-    Holds seat (with_locks t w) fact
+pub own_locks_keep : (seat : ℕ) (w : World) (t : Table) (fact : Known) → IsKnown seat w fact → HasAnchor (row_of t seat) fact →
+    IsKnown seat (with_locks t w) fact
 own_locks_keep seat w t (Deep depth) h anchor = (anchor, h.1)
 own_locks_keep seat w t (LeadsTo page k) h anchor = (anchor, h.1)
-own_locks_keep seat w t (Shows page kind) h anchor = (anchor, h.1)
+own_locks_keep seat w t (OnPage page of) h anchor = (anchor, IsOf-kept w.store w.store page refl of h.1)
 own_locks_keep seat w t (Live page) h anchor = (anchor, h.1)
 own_locks_keep seat w t (Built fact) h anchor = (
   anchor,
@@ -162,8 +162,6 @@ own_locks_keep seat w t (Built fact) h anchor = (
   }) fact h.1,
 )
 own_locks_keep seat w t (Told key value) h anchor = (anchor, h.1)
-own_locks_keep seat w t (Given id given) h anchor = (anchor, h.1)
-own_locks_keep seat w t (Keyed id key) h anchor = (anchor, h.1)
 
 module _ (seat : ℕ) (old : World) (new : World) (g : Grants seat old new) where
   abbrev granted : Table
@@ -177,19 +175,17 @@ module _ (seat : ℕ) (old : World) (new : World) (g : Grants seat old new) wher
   owned_still name w = IsWriter-same old.locks granted seat name
       (held-granted old.locks seat g.seated g.name g.kind seat name g.fresh (IsHeld-writer old.locks seat name w)) w
 
-  anchored : (fact : Known) → HasAnchor old.locks seat fact → HasAnchor granted seat fact
+  anchored : (fact : Known) → HasAnchor (row_of old.locks seat) fact → HasAnchor (row_of granted seat) fact
   anchored (Deep depth) a = held_still Directory a
   anchored (LeadsTo page k) (inl a) = inl (held_still Directory a)
   anchored (LeadsTo page k) (inr a) = inr (held_still (Page page) a)
-  anchored (Shows page kind) a = owned_still (Page page) a
+  anchored (OnPage page of) a = owned_still (Page page) a
   anchored (Live page) a = owned_still (Page page) a
   anchored (Built fact) a = owned_still Directory a
   anchored (Told key value) a = held_still (guard_of key) a
-  anchored (Given id given) a = held_still (Queue id) a
-  anchored (Keyed id key) a = tt
 
-  pub own_grant_keeps : (fact : Known) → Holds seat old fact → Holds seat new fact
-  own_grant_keeps fact h = subst (λ (w : World). Holds seat w fact) (sym g.is)
+  pub own_grant_keeps : (fact : Known) → IsKnown seat old fact → IsKnown seat new fact
+  own_grant_keeps fact h = subst (λ (w : World). IsKnown seat w fact) (sym g.is)
       (own_locks_keep seat old granted fact h (anchored fact h.0))
 
 -- ---- a page that is freed
@@ -209,7 +205,7 @@ module _ (hash : RecordKey → ℕ) (seat other : ℕ) (old new : World) (sound 
       | inr w ↦ other_writer hash old other seat Directory sound apart w does.changes.leader
       | inl (inl on) ↦
           live_not_owned hash old.store (Freed does.right) (chain old.store)
-          (subst (IsSound hash old.store) does.changes.phase sound.file) does.right does.right on
+          (subst (IsSoundFile hash old.store) does.changes.phase sound.file) does.right does.right on
           (contains_head does.right []) refl
       | inl (inr off) ↦ contains_none does.right
           (subst (λ (c : Change). Contains (aside c) does.right) does.changes.phase off)

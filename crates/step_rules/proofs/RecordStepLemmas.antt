@@ -16,7 +16,7 @@ use Rattle.page_locks.specs.Writers.{IsWriter}
 use Rattle.hash_file.specs.Store.{Store, is_bucket, bucket_of, page_at, bucket_at, records_at}
 use Rattle.hash_file.specs.Chain.{chain, contents}
 use Rattle.hash_file.specs.Change.{busy, aside}
-use Rattle.hash_file.specs.Changes.{key_of, value_after, written, write_record}
+use Rattle.hash_file.specs.Changes.{RecordWrite, key_of, value_after, records_after, write_record}
 use Rattle.hash_file.specs.Kept.{ChangesRecord}
 use Rattle.hash_file.specs.Laws as laws
 use Rattle.hash_file.proofs.Frames.{page_other, page_same}
@@ -25,9 +25,9 @@ use Rattle.hash_file.proofs.WriteRecord.{writes_record}
 use Rattle.step_rules.specs.World.{World, guard_of}
 use Rattle.step_rules.specs.Sound.{IsSoundWorld}
 use Rattle.step_rules.specs.Structure.{bare}
-use Rattle.step_rules.specs.Ids.{KeepsIds}
 use Rattle.step_rules.specs.PageSteps.{WritesRecord}
 use Rattle.step_rules.specs.Does.{KeepsOthers}
+use Rattle.step_rules.specs.Turns.{WritesJust}
 use Rattle.step_rules.proofs.StructureLemmas.{chain-same}
 use Rattle.step_rules.proofs.ChangeLemmas.{stands_led, other_writer, other_page}
 use Rattle.step_rules.proofs.LockStepLemmas.{none_busy}
@@ -58,7 +58,7 @@ module _ (hash : RecordKey → ℕ) (seat : ℕ) (old : World) (sound : IsSoundW
         | inr apart ↦ other_writer hash old by.0 seat (Page does.page) sound apart by.1.page_too does.page_owned
       ]
 
-  law : laws.WritesRecord hash s old.change t does.write
+  law : laws.KeepsOtherRecords hash s old.change t does.write
   law = writes_record hash s old.change does.page does.write sound.file does.home idle does.may
 
   within : does.page < length s.pages
@@ -70,13 +70,13 @@ module _ (hash : RecordKey → ℕ) (seat : ℕ) (old : World) (sound : IsSoundW
     | inl here ↦
         ap (λ (m : ℕ). bare (page_at t m)) here
         ∙ ap bare (page_same s does.page (kinds.Bucket written_here) within)
-        ∙ bare-records (page_at s does.page) (written does.write (records_at s does.page))
+        ∙ bare-records (page_at s does.page) (records_after does.write (records_at s does.page))
         (sound.file.chained.buckets does.page does.home.0)
         ∙ ap (λ (m : ℕ). bare (page_at s m)) (sym here)
   ]
     where
       written_here : Bucket
-      written_here = record (bucket_at s does.page) { records = written does.write (records_at s does.page) }
+      written_here = record (bucket_at s does.page) { records = records_after does.write (records_at s does.page) }
 
   same_chain : chain t ≡ chain s
   same_chain = chain-same s t.pages same_bare
@@ -109,7 +109,7 @@ module _ (hash : RecordKey → ℕ) (seat : ℕ) (old : World) (sound : IsSoundW
       seats = refl;
       rows = λ i apart. refl;
       pages = λ i n apart w. page_other s does.page n
-          (kinds.Bucket (record (bucket_at s does.page) { records = written does.write (records_at s does.page) }))
+          (kinds.Bucket (record (bucket_at s does.page) { records = records_after does.write (records_at s does.page) }))
           (other_page hash old i seat n does.page sound apart w does.page_owned);
       live = λ i n apart w on. subst (λ (ns : List ℕ). Contains ns n) (sym same_chain) on;
       structure = λ no_writer. record {
@@ -122,9 +122,14 @@ module _ (hash : RecordKey → ℕ) (seat : ℕ) (old : World) (sound : IsSoundW
       leads = λ i n k apart aim leads. law.leads n k leads;
       depth = λ i apart there. omega arith;
       records = others;
-      ids = subst (KeepsIds seat old) does.is does.ids;
     };
   })
 
   pub changes_record : ChangesRecord does.write old.store new.store
   changes_record = subst (λ (w : World). ChangesRecord does.write old.store w.store) (sym does.is) law.contents
+
+pub changes_just : (hash : RecordKey → ℕ) (seat : ℕ) (write : RecordWrite) (old new : World) → IsSoundWorld hash old →
+    WritesJust hash write seat old new → ChangesRecord write old.store new.store
+changes_just hash seat write old new sound does =
+    subst (λ (w : RecordWrite). ChangesRecord w old.store new.store) does.write_is
+    (changes_record hash seat old sound new does.writes)

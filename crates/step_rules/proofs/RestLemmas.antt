@@ -10,7 +10,7 @@ use Rattle.page_locks.proofs.WriterLemmas.{HasNoWriter-at_rest}
 use Rattle.positions.proofs.MemberLaws.{contains_none}
 use Rattle.hash_file.specs.Store.{Store}
 use Rattle.hash_file.specs.Change.{Quiet}
-use Rattle.hash_file.specs.Sound.{IsSound}
+use Rattle.hash_file.specs.Sound.{IsSoundFile}
 use Rattle.step_rules.specs.World.{World}
 use Rattle.step_rules.specs.Sound.{IsSoundWorld}
 use Rattle.step_rules.specs.Laws.{IsAtRest}
@@ -19,7 +19,7 @@ use Rattle.step_rules.proofs.LockLemmas.{none_is_not_some}
 none_held : (t : Table) (seat : ℕ) (name : LockName) → IsAtRest t → held t seat name ≡ None
 none_held t seat name rest = ap (λ (row : List Lock). kind_of row name) (rest seat)
 
-pub rest_is_sound : (hash : RecordKey → ℕ) (s : Store) (t : Table) → IsSound hash s Quiet → IsLawful t → IsAtRest t →
+pub rest_is_sound : (hash : RecordKey → ℕ) (s : Store) (t : Table) → IsSoundFile hash s Quiet → IsLawful t → IsAtRest t →
     IsSoundWorld hash (record { store = s; locks = t; change = Quiet })
 rest_is_sound hash s t sound lawful rest = record {
   file = sound;
@@ -30,6 +30,6 @@ rest_is_sound hash s t sound lawful rest = record {
 }
 
 pub rest_is_quiet : (hash : RecordKey → ℕ) (w : World) → IsSoundWorld hash w → IsAtRest w.locks →
-    IsSound hash w.store Quiet
+    IsSoundFile hash w.store Quiet
 rest_is_quiet hash w sound rest =
-    subst (IsSound hash w.store) (sound.led (HasNoWriter-at_rest w.locks Directory rest)) sound.file
+    subst (IsSoundFile hash w.store) (sound.led (HasNoWriter-at_rest w.locks Directory rest)) sound.file

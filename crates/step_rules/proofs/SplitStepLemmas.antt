@@ -11,7 +11,7 @@ use Rattle.hash_file.specs.Store.{Store, bucket_at, range_at}
 use Rattle.hash_file.specs.Chain.{chain}
 use Rattle.hash_file.specs.Change.{Change, Quiet, Taken, Filled, Linked, aside}
 use Rattle.hash_file.specs.Changes.{take_page, copy_directory, raise_depth, write_new, write_old}
-use Rattle.hash_file.specs.Sound.{IsSound}
+use Rattle.hash_file.specs.Sound.{IsSoundFile}
 use Rattle.hash_file.proofs.Frames.{page_other}
 use Rattle.hash_file.proofs.TakePage.{take_page_keeps}
 use Rattle.hash_file.proofs.OffChain.{write_new_keeps}
@@ -67,7 +67,7 @@ module _ (hash : RecordKey → ℕ) (seat : ℕ) (old new : World) (sound : IsSo
     | inr too ↦ other_writer hash old i seat Directory sound apart too leader
     | inl (inl on) ↦
         live_not_owned hash old.store (Taken taken) (chain old.store)
-        (subst (IsSound hash old.store) phase sound.file) n taken on (contains_head taken []) same
+        (subst (IsSoundFile hash old.store) phase sound.file) n taken on (contains_head taken []) same
     | inl (inr off) ↦ contains_none n (subst (λ (c : Change). Contains (aside c) n) phase off)
   ]
 

@@ -12,7 +12,7 @@ use Rattle.bucket_page.specs.declared.page.PageKind.TheVariants as kinds
 use Rattle.hash_file.specs.Store.{Store, is_bucket, bucket_of, range_of, page_at, entry_at, has_bucket, range_at, next_at}
 use Rattle.hash_file.specs.Chain.{chain}
 use Rattle.hash_file.specs.Change.{Change, aside}
-use Rattle.hash_file.specs.Search.{reach, Leads, distance_on, distance}
+use Rattle.hash_file.specs.Search.{reach, PageLeads, distance_on, distance}
 use Rattle.step_rules.specs.World.{World}
 use Rattle.step_rules.specs.Structure.{bare, KeepsStructure, Structural, InPhase, HasDepth, HasFirstFree, HasCount, Names, Copied, Retargeted, Shaped, OnChain, BucketOf, Near, IsSo}
 
@@ -84,8 +84,8 @@ module _ (old new : World) (keeps : KeepsStructure old new) where
   begun-kept : (ns : List ℕ) (p : ℕ) → begun (range_at new.store) ns p ≡ begun (range_at old.store) ns p
   begun-kept ns p = begun_same (range_at old.store) (range_at new.store) ns p (λ n on. ap start_of (range_at-kept n))
 
-  pub Leads-kept : (n k : ℕ) → Leads old.store old.change n k → Leads new.store new.change n k
-  Leads-kept n k leads = record {
+  pub PageLeads-kept : (n k : ℕ) → PageLeads old.store old.change n k → PageLeads new.store new.change n k
+  PageLeads-kept n k leads = record {
     stands = elim leads.stands [
       | inl on ↦ inl (subst (λ (ns : List ℕ). Contains ns n) (sym keeps.chain) on)
       | inr off ↦ inr (subst (λ (c : Change). Contains (aside c) n) (sym keeps.change) off)
@@ -130,6 +130,6 @@ module _ (old new : World) (keeps : KeepsStructure old new) where
     subst (λ (r : Range). Covers r pseudokey) (sym (range_at-kept page)) so.1,
   )
   IsSo-kept (Near page pseudokey) so = record {
-    leads = Leads-kept page pseudokey so.leads;
+    leads = PageLeads-kept page pseudokey so.leads;
     near = rw (distance-kept page pseudokey) so.near;
   }

@@ -5,25 +5,26 @@ use Rattle.bucket_page.specs.declared.record_key.RecordKey.{RecordKey}
 use Rattle.hash_file.specs.Store.{Store, range_at}
 use Rattle.hash_file.specs.Change.{Change, Quiet, Taken, Filled, Linked, Absorbed, Buried, Drained, Freed}
 use Rattle.hash_file.specs.Changes.{take_page, copy_directory, raise_depth, write_new, write_old, retarget, set_counts, split_counts, merge_counts, write_left, write_tombstone, write_free, link_free, lower_depth}
-use Rattle.hash_file.specs.Search.{Leads, distance}
+use Rattle.hash_file.specs.Search.{PageLeads, distance}
 use Rattle.hash_file.proofs.Hops.{one_hop_at_most, no_hop_more}
 use Rattle.step_rules.specs.declared.kind.Kind.{Kind}
 use Rattle.step_rules.specs.declared.kind.Kind.TheVariants.{Grant, Release, ReadDepth, ReadEntry, Look, Hop, WriteRecord, Decide, TakePage, CopyDirectory, RaiseDepth, WriteNew, WriteOld, Retarget, SetCounts, WriteLeft, Tombstone, Convert, WriteFree, LinkFree, LowerDepth}
 use Rattle.step_rules.specs.World.{World, MayAim}
 use Rattle.step_rules.specs.Sound.{IsSoundWorld}
-use Rattle.step_rules.specs.Known.{LeadsTo, Holds}
+use Rattle.step_rules.specs.Known.{LeadsTo, IsKnown}
 use Rattle.step_rules.specs.LockSteps.{Hops}
-use Rattle.step_rules.specs.PageSteps.{Changes, Retargets, SetsCounts}
+use Rattle.step_rules.specs.PageSteps.{Restructures, Retargets, SetsCounts}
 use Rattle.step_rules.specs.Laws.{Move, LeadAlong, StandsStill}
 use Rattle.step_rules.specs.Ways.{KindLengthens, all_hops_added}
 use Rattle.step_rules.proofs.ChangeLemmas.{file}
-use Rattle.step_rules.proofs.KnownLemmas.{Holds-kept}
+use Rattle.step_rules.proofs.KnownLemmas.{IsKnown-kept}
 use Rattle.step_rules.proofs.KindLemmas.{kind_keeps}
+use Rattle.step_rules.proofs.TurnLemmas.{is_of_its_kind}
 use Rattle.step_rules.proofs.OwnLemmas.{frees_nobodys}
 use Rattle.step_rules.proofs.RecordStepLemmas.{idle}
 
 module _ (hash : RecordKey → ℕ) (seat i : ℕ) (old new : World) (page k : ℕ) (sound : IsSoundWorld hash old)
-    (apart : i ≢ seat) (aim : MayAim old.locks i page) (leads : Leads old.store old.change page k) where
+    (apart : i ≢ seat) (aim : MayAim old.locks i page) (leads : PageLeads old.store old.change page k) where
   before : ℕ
   before = distance old.store page k
 
@@ -40,13 +41,13 @@ module _ (hash : RecordKey → ℕ) (seat i : ℕ) (old new : World) (page k : �
         (omega arith)
   ]
 
-  by_change : (c : Change) (t : Store) (d : Change) (h : ℕ) → Changes seat c t d old new →
+  by_change : (c : Change) (t : Store) (d : Change) (h : ℕ) → Restructures seat c t d old new →
       distance t page k ≤ distance old.store page k + h → distance new.store page k ≤ distance old.store page k + h
   by_change c t d h changes short =
       subst (λ (w : World). distance w.store page k ≤ distance old.store page k + h) (sym changes.is) short
 
-  led : (c : Change) (t : Store) (d : Change) → Changes seat c t d old new → Leads old.store c page k
-  led c t d changes = subst (λ (e : Change). Leads old.store e page k) changes.phase leads
+  led : (c : Change) (t : Store) (d : Change) → Restructures seat c t d old new → PageLeads old.store c page k
+  led c t d changes = subst (λ (e : Change). PageLeads old.store e page k) changes.phase leads
 
   retargets : Retargets seat old new → distance new.store page k ≤ distance old.store page k + 0
   retargets does = elim does.changes [
@@ -161,13 +162,14 @@ kind_lengthens LowerDepth hash seat i old new page k sound does apart aim leads 
     does.changes (omega (arith, no_hop_more.headed old.store t.header t.entries page k))
 
 pub schedules_lengthen : (hash : RecordKey → ℕ) (moves : List Move) (old new : World) (i page k : ℕ) →
-    IsSoundWorld hash old → LeadAlong hash moves old new → StandsStill i moves → Holds i old (LeadsTo page k) →
+    IsSoundWorld hash old → LeadAlong hash moves old new → StandsStill i moves → IsKnown i old (LeadsTo page k) →
     distance new.store page k ≤ distance old.store page k + all_hops_added moves
 schedules_lengthen hash [] old new i page k sound is still h =
     subst (λ (w : World). distance w.store page k ≤ distance old.store page k + 0) (sym is) (omega arith)
 schedules_lengthen hash (move ∷ moves) old new i page k sound (next, does, rest) still h =
-    let keeps = kind_keeps move.kind hash move.seat old next sound does in
-    let now = Holds-kept hash i move.seat old next still.0 sound keeps.leaves (LeadsTo page k) h in
-    let first = kind_lengthens move.kind hash move.seat i old next page k sound does still.0 h.0 h.1 in
+    let kind_does = is_of_its_kind hash move.seat old next move.turn move.kind does in
+    let keeps = kind_keeps move.kind hash move.seat old next sound kind_does in
+    let now = IsKnown-kept hash i move.seat old next still.0 sound keeps.leaves (LeadsTo page k) h in
+    let first = kind_lengthens move.kind hash move.seat i old next page k sound kind_does still.0 h.0 h.1 in
     let then = schedules_lengthen hash moves next new i page k keeps.sound rest still.1 now in
     omega (arith, first, then)

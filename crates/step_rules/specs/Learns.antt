@@ -1,69 +1,70 @@
 -- What a seat learns by a step of its own, each on the contract of a function of src/learns.rt.
 -- docs/STEPS.md, "Search", "Merge" and "What a seat may know".
-use Rattle.std.specs.Prelude.{ℕ, ◌≡◌, ◌≢◌, ◌≤◌, ◌%◌, ◌^◌, true, false, Some}
+use Rattle.std.specs.Prelude.{ℕ, ◌≡◌, ◌≢◌, ◌≤◌, ◌⊎◌, ◌%◌, ◌^◌, true, false, Some, List}
 use Rattle.std.specs.List.{Contains}
 use Rattle.positions.specs.Ranges.{AreHalvesOf, is_lower, parent_of, buddy_of}
 use Rattle.bucket_page.specs.declared.record_key.RecordKey.{RecordKey}
 use Rattle.bucket_page.specs.Records.{lookup}
 use Rattle.page_locks.specs.declared.lock.LockKind.{LockKind}
+use Rattle.page_locks.specs.declared.lock.LockKind.TheVariants.{Exclusive}
 use Rattle.page_locks.specs.declared.lock.LockName.TheVariants.{Directory, Page}
-use Rattle.page_locks.specs.Table.{Table}
+use Rattle.page_locks.specs.Table.{Table, row_of, held}
 use Rattle.page_locks.specs.Writers.{may_write, IsWriter}
-use Rattle.hash_file.specs.Store.{Store, entry_at, next_at, records_at, range_at}
+use Rattle.hash_file.specs.Store.{Store, entry_at, next_at, records_at, bucket_at, range_at}
 use Rattle.hash_file.specs.Chain.{chain, IsBucketOf}
 use Rattle.hash_file.specs.Change.{Quiet}
-use Rattle.hash_file.specs.Search.{Leads}
+use Rattle.hash_file.specs.Search.{PageLeads}
 use Rattle.hash_file.specs.Looks.{Answers}
 use Rattle.step_rules.specs.World.{World, with_locks, IsHeld, MayAim, guard_of}
 use Rattle.step_rules.specs.Sound.{IsSoundWorld}
 use Rattle.step_rules.specs.Structure.{InPhase, HasDepth, BucketOf}
-use Rattle.step_rules.specs.Known.{Known, Deep, LeadsTo, Live, Built, Told, HasAnchor, Holds}
-use Rattle.step_rules.specs.LockSteps.{Grants, GoesOn}
+use Rattle.step_rules.specs.Known.{Known, Deep, LeadsTo, Live, Built, Told, HasAnchor, IsKnown}
+use Rattle.step_rules.specs.LockSteps.{Grants, Releases, MovesOn}
 use Rattle.step_rules.specs.PageSteps.{WritesFree, LinksFree}
 
 -- an entry found by the depth that was read, however old, leads to the pseudokey
 abbrev pub EntryReadLeads : Type 0
 EntryReadLeads = (hash : RecordKey → ℕ) (seat : ℕ) (w : World) (depth k : ℕ) → IsSoundWorld hash w →
-    Holds seat w (Deep depth) → Holds seat w (LeadsTo (entry_at w.store (k % 2 ^ depth)) k)
+    IsKnown seat w (Deep depth) → IsKnown seat w (LeadsTo (entry_at w.store (k % 2 ^ depth)) k)
 
 -- a page that answers has of the key what the file holds
 abbrev pub LookTells : Type 0
 LookTells = (hash : RecordKey → ℕ) (seat : ℕ) (w : World) (page : ℕ) (key : RecordKey) → IsSoundWorld hash w →
-    Holds seat w (LeadsTo page (hash key)) → Answers w.store page (hash key) → IsHeld w.locks seat (guard_of key) →
-    Holds seat w (Told key (lookup key (records_at w.store page)))
+    IsKnown seat w (LeadsTo page (hash key)) → Answers w.store page (hash key) → IsHeld w.locks seat (guard_of key) →
+    IsKnown seat w (Told key (lookup key (records_at w.store page)))
 
 -- a page that does not answer names one that leads to the pseudokey, when it is granted
 abbrev pub HopLeadsOn : Type 0
 HopLeadsOn = (hash : RecordKey → ℕ) (seat : ℕ) (old new : World) (page k : ℕ) (kind : LockKind) →
-    IsSoundWorld hash old → Leads old.store old.change page k → (Answers old.store page k → ⊥) →
-    GoesOn page kind seat old new → Leads new.store new.change (next_at old.store page) k
+    IsSoundWorld hash old → PageLeads old.store old.change page k → (Answers old.store page k → ⊥) →
+    MovesOn page kind seat old new → PageLeads new.store new.change (next_at old.store page) k
 
 -- who may write a page that leads to a pseudokey and answers for it, between changes of its own, holds the live bucket
 abbrev pub OwnedAnswerIsLive : Type 0
 OwnedAnswerIsLive = (hash : RecordKey → ℕ) (seat : ℕ) (w : World) (page k : ℕ) → IsSoundWorld hash w →
-    Holds seat w (LeadsTo page k) → IsWriter w.locks seat (Page page) →
-    (IsWriter w.locks seat Directory → w.change ≡ Quiet) → Answers w.store page k → Holds seat w (Live page)
+    IsKnown seat w (LeadsTo page k) → IsWriter w.locks seat (Page page) →
+    (IsWriter w.locks seat Directory → w.change ≡ Quiet) → Answers w.store page k → IsKnown seat w (Live page)
 
 -- who is granted the directory so that it may write it finds no change under way
 abbrev pub DirectoryIsQuiet : Type 0
 DirectoryIsQuiet = (hash : RecordKey → ℕ) (seat : ℕ) (old new : World) (g : Grants seat old new) →
-    IsSoundWorld hash old → g.name ≡ Directory → may_write (Some g.kind) ≡ true → Holds seat new (Built (InPhase Quiet))
+    IsSoundWorld hash old → g.name ≡ Directory → may_write (Some g.kind) ≡ true → IsKnown seat new (Built (InPhase Quiet))
 
 -- and by the depth then read, each entry is the bucket of the pseudokey
 abbrev pub EntryIsBucket : Type 0
 EntryIsBucket = (hash : RecordKey → ℕ) (seat : ℕ) (w : World) (depth k : ℕ) → IsSoundWorld hash w →
-    Holds seat w (Built (InPhase Quiet)) → Holds seat w (Built (HasDepth depth)) →
-    Holds seat w (Built (BucketOf k (entry_at w.store (k % 2 ^ depth))))
+    IsKnown seat w (Built (InPhase Quiet)) → IsKnown seat w (Built (HasDepth depth)) →
+    IsKnown seat w (Built (BucketOf k (entry_at w.store (k % 2 ^ depth))))
 
 -- a seat keeps through its own change of locks what it knows under a lock that it still has
 abbrev pub OwnLocksKeep : Type 0
-OwnLocksKeep = (seat : ℕ) (w : World) (t : Table) (fact : Known) → Holds seat w fact → HasAnchor t seat fact →
-    Holds seat (with_locks t w) fact
+OwnLocksKeep = (seat : ℕ) (w : World) (t : Table) (fact : Known) → IsKnown seat w fact → HasAnchor (row_of t seat) fact →
+    IsKnown seat (with_locks t w) fact
 
 -- and through a grant everything
 abbrev pub OwnGrantKeeps : Type 0
-OwnGrantKeeps = (seat : ℕ) (old new : World) (fact : Known) → Grants seat old new → Holds seat old fact →
-    Holds seat new fact
+OwnGrantKeeps = (seat : ℕ) (old new : World) (fact : Known) → Grants seat old new → IsKnown seat old fact →
+    IsKnown seat new fact
 
 -- no other seat holds, or may aim at, a page that is being freed
 abbrev pub FreesNobodysPage : Type 0
@@ -78,7 +79,11 @@ LinksNobodysPage = (hash : RecordKey → ℕ) (seat other : ℕ) (old new : Worl
 -- a page that leads to a pseudokey and does not answer for it names another page than itself
 abbrev pub HopGoesElsewhere : Type 0
 HopGoesElsewhere = (hash : RecordKey → ℕ) (w : World) (page k : ℕ) → IsSoundWorld hash w →
-    Leads w.store w.change page k → (Answers w.store page k → ⊥) → next_at w.store page ≢ page
+    PageLeads w.store w.change page k → (Answers w.store page k → ⊥) → next_at w.store page ≢ page
+
+-- page n is of these, and a bucket of this depth
+abbrev pub IsLiveOn : Store → List ℕ → ℕ → ℕ → Type 0
+IsLiveOn s ns depth n = Contains ns n × ((bucket_at s n).depth ≡ depth)
 
 -- the bucket that has the turned pattern of page x is another page, and no less deep; where it is as deep, it is the
 -- other half of what both were
@@ -94,3 +99,9 @@ abbrev pub BuddyIsOtherHalf : Type 0
 BuddyIsOtherHalf = (hash : RecordKey → ℕ) (w : World) (x y : ℕ) → IsSoundWorld hash w →
     Contains (chain w.store) x → 1 ≤ (range_at w.store x).depth →
     IsBucketOf w.store (buddy_of (range_at w.store x)).pattern y → IsFoundAsBuddy w.store x y
+
+-- who gives the directory back from an exclusive lock leaves it no depth, or a bucket as deep as it
+abbrev pub DirectoryIsHalved : Type 0
+DirectoryIsHalved = (hash : RecordKey → ℕ) (seat : ℕ) (old new : World) (r : Releases seat old new) →
+    IsSoundWorld hash old → r.name ≡ Directory → held old.locks seat Directory ≡ Some Exclusive →
+    (old.store.header.depth ≡ 0) ⊎ ((n : ℕ) × IsLiveOn old.store (chain old.store) old.store.header.depth n)

@@ -8,9 +8,8 @@ use Rattle.page_locks.specs.Table.{row_of, held}
 use Rattle.page_locks.specs.Writers.{IsWriter}
 use Rattle.hash_file.specs.Store.{page_at}
 use Rattle.hash_file.specs.Chain.{chain, contents}
-use Rattle.hash_file.specs.Search.{Leads}
+use Rattle.hash_file.specs.Search.{PageLeads}
 use Rattle.step_rules.specs.World.{World, IsHeld, MayAim, guard_of}
-use Rattle.step_rules.specs.Ids.{KeepsIds}
 use Rattle.step_rules.specs.Structure.{KeepsStructure}
 
 pub record Leaves (seat : ℕ) (old new : World) : Type 0 where
@@ -28,12 +27,10 @@ pub record Leaves (seat : ℕ) (old new : World) : Type 0 where
   pub structure : (IsWriter old.locks seat Directory → ⊥) → KeepsStructure old new
   -- a page on which another seat may stand leads where it led
   pub leads : (i n k : ℕ) → i ≢ seat → MayAim old.locks i n →
-      Leads old.store old.change n k → Leads new.store new.change n k
+      PageLeads old.store old.change n k → PageLeads new.store new.change n k
   -- beside another seat in the directory the depth does not fall
   pub depth : (i : ℕ) → i ≢ seat → IsHeld old.locks i Directory →
       old.store.header.depth ≤ new.store.header.depth
   -- a record of which the seat does not hold the name exclusively is as it was
   pub records : (key : RecordKey) → held old.locks seat (guard_of key) ≢ Some Exclusive →
       contents new.store key ≡ contents old.store key
-  -- ids that were given out stay so, and so do the keys of queues
-  pub ids : KeepsIds seat old new

@@ -1,5 +1,5 @@
 -- The kinds of step that change locks alone, or nothing. docs/STEPS.md, "The kinds of step".
-use Rattle.std.specs.Prelude.{ℕ, ◌≡◌, ◌<◌, ◌⊎◌, length, Some, None}
+use Rattle.std.specs.Prelude.{ℕ, ◌≡◌, ◌≢◌, ◌<◌, ◌⊎◌, length, Some, None}
 use Rattle.std.specs.List.{Contains}
 use Rattle.page_locks.specs.declared.lock.LockKind.{LockKind}
 use Rattle.page_locks.specs.declared.lock.LockKind.TheVariants.{Selective, Exclusive}
@@ -8,10 +8,10 @@ use Rattle.page_locks.specs.declared.lock.LockName.TheVariants.{Directory, Page}
 use Rattle.page_locks.specs.declared.row.TheConstants.{MAX_LOCKS}
 use Rattle.page_locks.specs.Table.{IsSeat, IsFree, row_of, held, with_lock, without_lock, with_kind}
 use Rattle.page_locks.specs.Writers.{IsWriter}
-use Rattle.hash_file.specs.Store.{next_at}
-use Rattle.hash_file.specs.Change.{Quiet, busy}
+use Rattle.hash_file.specs.Store.{count_at, next_at}
+use Rattle.hash_file.specs.Change.{Quiet, Drained, busy}
 use Rattle.hash_file.specs.Looks.{Answers}
-use Rattle.hash_file.specs.Search.{Leads}
+use Rattle.hash_file.specs.Search.{PageLeads}
 use Rattle.step_rules.specs.World.{World, with_locks, IsHeld, IsReached}
 
 -- a lock is granted; a page that is locked leads somewhere
@@ -25,10 +25,13 @@ pub record Grants (seat : ℕ) (old new : World) : Type 0 where
   pub aimed : (page : ℕ) → name ≡ Page page → IsReached old page
   pub is : new ≡ with_locks (with_lock old.locks seat name kind) old
 
--- who may write the directory gives it back last, when no change is under way
+-- who may write the directory gives it back last, when no change is under way; who has it alone gives it back where
+-- it has no depth, or a bucket has its depth
 pub record IsDone (seat : ℕ) (w : World) : Type 0 where
   pub quiet : w.change ≡ Quiet
   pub bare : (page : ℕ) → held w.locks seat (Page page) ≡ None
+  pub halved : held w.locks seat Directory ≡ Some Exclusive →
+      (w.store.header.depth ≡ 0) ⊎ (count_at w.store w.store.header.depth ≢ 0)
 
 -- a lock is given back, and no page of which the change under way still speaks
 pub record Releases (seat : ℕ) (old new : World) : Type 0 where
@@ -51,7 +54,7 @@ pub record LooksAt (seat : ℕ) (old new : World) : Type 0 where
   pub reads : Reads (Page page) seat old new
 
 -- the seat is granted the page that its page names, in the same kind, and gives its page back
-pub record GoesOn (page : ℕ) (kind : LockKind) (seat : ℕ) (old new : World) : Type 0 where
+pub record MovesOn (page : ℕ) (kind : LockKind) (seat : ℕ) (old new : World) : Type 0 where
   pub seated : IsSeat old.locks seat
   pub room : length (row_of old.locks seat) < MAX_LOCKS
   pub fresh : held old.locks seat (Page (next_at old.store page)) ≡ None
@@ -66,13 +69,16 @@ pub record Hops (seat : ℕ) (old new : World) : Type 0 where
   pub pseudokey : ℕ
   pub kind : LockKind
   pub had : held old.locks seat (Page page) ≡ Some kind
-  pub leads : Leads old.store old.change page pseudokey
+  pub leads : PageLeads old.store old.change page pseudokey
   pub hops : (Answers old.store page pseudokey × (new ≡ old))
-      ⊎ ((Answers old.store page pseudokey → ⊥) × GoesOn page kind seat old new)
+      ⊎ ((Answers old.store page pseudokey → ⊥) × MovesOn page kind seat old new)
 
--- the directory's lock becomes exclusive
+-- the directory's lock becomes exclusive, once no entry and no link names the page that a merge took aside
 pub record Converts (seat : ℕ) (old new : World) : Type 0 where
   pub seated : IsSeat old.locks seat
+  pub left : ℕ
+  pub right : ℕ
+  pub drained : old.change ≡ Drained left right
   pub had : held old.locks seat Directory ≡ Some Selective
   pub free : IsFree old.locks seat Directory Exclusive
   pub is : new ≡ with_locks (with_kind old.locks seat Directory Exclusive) old

@@ -6,7 +6,7 @@ use Rattle.page_locks.specs.declared.lock.LockName.TheVariants.{Directory, Page}
 use Rattle.page_locks.specs.Table.{Table, IsLawful}
 use Rattle.page_locks.specs.Writers.{IsWriter, HasNoWriter}
 use Rattle.hash_file.specs.Change.{Quiet, busy}
-use Rattle.hash_file.specs.Sound.{IsSound}
+use Rattle.hash_file.specs.Sound.{IsSoundFile}
 use Rattle.step_rules.specs.World.{World, IsHeld, IsReached}
 
 -- the seat that may change the structure, and so a page that it holds
@@ -16,7 +16,7 @@ pub record IsWrittenBy (t : Table) (seat page : ℕ) : Type 0 where
 
 pub record IsSoundWorld (hash : RecordKey → ℕ) (w : World) : Type 0 where
   -- the file is sound in the phase of the change under way
-  pub file : IsSound hash w.store w.change
+  pub file : IsSoundFile hash w.store w.change
   -- what seats hold goes together
   pub lawful : IsLawful w.locks
   -- a change is under way only while a seat may write the directory

@@ -9,8 +9,8 @@ use Rattle.bucket_page.specs.declared.page.PageKind.TheVariants as kinds
 use Rattle.directory.specs.Entries.{page_of}
 use Rattle.hash_file.specs.Store.{Store, page_at, entry_at, count_at, has_bucket, range_at, next_at}
 use Rattle.hash_file.specs.Chain.{chain, IsBucketOf}
-use Rattle.hash_file.specs.Change.{Change}
-use Rattle.hash_file.specs.Search.{Leads, distance}
+use Rattle.hash_file.specs.Change.{Change, Linked, Buried}
+use Rattle.hash_file.specs.Search.{PageLeads, distance}
 use Rattle.step_rules.specs.World.{World}
 
 -- a page without its records
@@ -36,7 +36,7 @@ pub record HasShape (s : Store) (page : ℕ) (range : Range) (next : ℕ) : Type
 
 -- the page leads to the pseudokey, in one hop at most
 pub record IsNear (w : World) (page pseudokey : ℕ) : Type 0 where
-  pub leads : Leads w.store w.change page pseudokey
+  pub leads : PageLeads w.store w.change page pseudokey
   pub near : distance w.store page pseudokey ≤ 1
 
 -- the directory pages before this one have the upper entries of a directory that doubles
@@ -48,6 +48,25 @@ IsCopiedBefore s page = (i : ℕ) → i < 2 ^ s.header.depth → page_of (i + 2 
 abbrev pub IsRetargetedBefore : Store → Range → ℕ → ℕ → Type 0
 IsRetargetedBefore s range n page = (i : ℕ) → i < 2 ^ s.header.depth → Covers range i → page_of i < page →
     entry_at s i ≡ n
+
+-- an entry of the upper half of a directory that doubles stands on the page
+pub record HasUpperEntry (s : Store) (page : ℕ) : Type 0 where
+  pub entry : ℕ
+  pub below : entry < 2 ^ s.header.depth
+  pub there : page_of (entry + 2 ^ s.header.depth) ≡ page
+
+-- an entry of the range stands on the page
+pub record HasEntryOf (s : Store) (range : Range) (page : ℕ) : Type 0 where
+  pub entry : ℕ
+  pub below : entry < 2 ^ s.header.depth
+  pub covered : Covers range entry
+  pub there : page_of entry ≡ page
+
+-- the page that entries of the upper range come to name
+abbrev pub target_of : Change → ℕ
+target_of (Linked old new whole) = new
+target_of (Buried left right whole) = left
+target_of change = 0
 
 pub data Structural : Type 0 where
   InPhase : (change : Change) → Structural

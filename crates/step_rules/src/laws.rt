@@ -2,18 +2,21 @@
 
 ghost use Rattle.step_rules.specs.declared.kind.Kind.{Kind};
 ghost use Rattle.step_rules.specs.OnePage.{KindChangesLittle};
-ghost use Rattle.step_rules.specs.Walks.{SearchHopsLittle};
+ghost use Rattle.step_rules.specs.Rooms.{NoPageIsFree, NoRoomIsSeen, NoRoomIsStuck, TurnedAwayIsStuck};
+ghost use Rattle.step_rules.specs.Walks.{SearchesGoOn, SearchHopsLittle};
 ghost use Rattle.step_rules.specs.Ways.{KindLengthens, SchedulesLengthen, DepthIsExact, KindParts, EntryIsNear, HopIsNearer};
-ghost use Rattle.step_rules.specs.Laws.{OthersKnow, KindKeeps, KindKeepsContents, WriteChangesOneRecord, SchedulesKeepSound, SchedulesKeepKnowledge, RestIsSound, RestIsQuiet};
+ghost use Rattle.step_rules.specs.Laws.{OthersKnow, KindKeeps, TurnKeeps, TurnIsOfItsKind, KindKeepsContents, WriteChangesOneRecord, SchedulesKeepSound, SchedulesKeepKnowledge, RestIsSound, RestIsQuiet};
 
 /// What a seat knows is still so after a step of another seat, by what that step leaves.
 pub fn others_keep_what_they_know()
     ensures { OthersKnow }
 {}
 
-/// A step of any kind keeps the world sound, and leaves the others what they know.
+/// A step of any kind keeps the world sound, and leaves the others what they know; so does one that is tied to its turn.
 pub fn each_kind_leaves_what_others_know()
-    ensures { (kind : Kind) → KindKeeps kind }
+    ensures kinds { (kind : Kind) → KindKeeps kind }
+    ensures turns { (kind : Kind) → TurnKeeps kind }
+    ensures tied { (kind : Kind) → TurnIsOfItsKind kind }
 {}
 
 /// A step changes what the file holds only where it writes a record, and then that one record.
@@ -36,15 +39,31 @@ pub fn two_kinds_lengthen_a_way_by_a_hop()
     ensures schedule { SchedulesLengthen }
 {}
 
-/// In every schedule a search makes no more hops than there were WriteOld and Tombstone steps of other seats since it
-/// read the depth, and one besides where a change was under way as it read its entry. For by that depth no bucket is on the
-/// way, the entry is late by one at most, each such step adds one at most, and each hop comes one nearer.
+/// The walk of a search to the bucket of its pseudokey goes on by each step of its own and of the others. So in every
+/// schedule it has made no more hops, at any time, than one more than there were WriteOld and Tombstone steps of other
+/// seats since it was granted the directory, and none where no change was under way in all that time. For by the depth
+/// that it read no bucket is on the way, the entry is late by one at most, each such step adds one at most, and each hop
+/// comes one nearer.
 pub fn a_search_hops_once_more_at_most()
-    ensures search { SearchHopsLittle }
+    ensures walk { SearchesGoOn }
+    ensures few { SearchHopsLittle }
     ensures depth { DepthIsExact }
     ensures parts { (kind : Kind) → KindParts kind }
     ensures entry { EntryIsNear }
     ensures hop { HopIsNearer }
+{}
+
+/// Where a record has no room it can't be put, and no split begins that makes room for it; a seat sees it by what it
+/// knows of its page and the directory. Where the list of free pages is empty each page is live or owned by a change.
+pub fn no_room_is_neither_put_nor_split()
+    ensures seen { NoRoomIsSeen }
+    ensures stuck { NoRoomIsStuck }
+    ensures free { NoPageIsFree }
+{}
+
+/// Where a Delete may turn away from its merge no merge can be made.
+pub fn a_merge_that_is_turned_away_from_can_not_be_made()
+    ensures { TurnedAwayIsStuck }
 {}
 
 /// Where no seat holds a lock the world is sound exactly where the file is, with no change under way. So schedules may

@@ -1,6 +1,7 @@
 //! What a seat learns by a step of its own. Each law stands on the contract of a function that does nothing.
 
-ghost use Rattle.step_rules.specs.Learns.{EntryReadLeads, LookTells, HopLeadsOn, HopGoesElsewhere, OwnedAnswerIsLive, DirectoryIsQuiet, EntryIsBucket, BuddyIsOtherHalf, OwnLocksKeep, OwnGrantKeeps, FreesNobodysPage, LinksNobodysPage};
+ghost use Rattle.step_rules.specs.Answering.{LookMayTell};
+ghost use Rattle.step_rules.specs.Learns.{DirectoryIsHalved, EntryReadLeads, LookTells, HopLeadsOn, HopGoesElsewhere, OwnedAnswerIsLive, DirectoryIsQuiet, EntryIsBucket, BuddyIsOtherHalf, OwnLocksKeep, OwnGrantKeeps, FreesNobodysPage, LinksNobodysPage};
 
 /// A search that reads an entry by a depth that has grown since still has a page that leads to its pseudokey.
 pub fn an_entry_that_was_read_leads()
@@ -9,7 +10,8 @@ pub fn an_entry_that_was_read_leads()
 
 /// A look at a page that leads to a key's pseudokey and answers for it tells what the file holds at the key.
 pub fn a_look_tells_what_the_file_holds()
-    ensures { LookTells }
+    ensures knows { LookTells }
+    ensures tells { LookMayTell }
 {}
 
 /// The page that a hop is granted leads to the pseudokey, and is another than the one that it gives back.
@@ -28,6 +30,11 @@ pub fn an_owned_page_that_answers_is_live()
 pub fn an_owned_directory_is_exact()
     ensures quiet { DirectoryIsQuiet }
     ensures entry { EntryIsBucket }
+{}
+
+/// A directory that is given back from an exclusive lock has no depth, or a live bucket is as deep (Fagin et al. 1979).
+pub fn a_directory_is_halved_before_it_is_given_back()
+    ensures { DirectoryIsHalved }
 {}
 
 /// The bucket that has a bucket's pattern with its last bit turned is its buddy, if it is as deep: together they are

@@ -7,19 +7,16 @@ mod laws;
 mod learns;
 mod progress;
 
-pub use kind::Kind;
+pub use kind::{Kind, MERGED_BYTES};
 pub use laws::{
-    a_search_hops_once_more_at_most, a_step_changes_one_page_and_one_lock_at_most,
+    a_merge_that_is_turned_away_from_can_not_be_made, a_search_hops_once_more_at_most, a_step_changes_one_page_and_one_lock_at_most,
     a_world_at_rest_is_a_quiet_file, each_kind_leaves_what_others_know,
-    every_schedule_keeps_what_is_known, only_a_written_record_changes_what_the_file_holds,
+    every_schedule_keeps_what_is_known, no_room_is_neither_put_nor_split, only_a_written_record_changes_what_the_file_holds,
     others_keep_what_they_know, two_kinds_lengthen_a_way_by_a_hop,
 };
 pub use learns::{
-    a_buddy_is_the_other_half, a_freed_page_is_nobodys, a_hop_is_led_on,
+    a_buddy_is_the_other_half, a_directory_is_halved_before_it_is_given_back, a_freed_page_is_nobodys, a_hop_is_led_on,
     a_look_tells_what_the_file_holds, an_entry_that_was_read_leads, an_owned_directory_is_exact,
     an_owned_page_that_answers_is_live, own_locks_keep_what_is_known,
 };
 pub use progress::Progress;
-
-#[cfg(test)]
-mod tests;

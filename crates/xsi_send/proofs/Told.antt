@@ -16,7 +16,7 @@ use Rattle.queue_model.specs.Lawful.{IsLawful, IsLawfulQueue, IsLawfulMessage}
 use Rattle.queue_model.specs.Rules.{has_id}
 use Rattle.queue_model.specs.State.{State}
 use Rattle.queue_model.proofs.ListLemmas.{find-Some}
-use Rattle.queue_records.specs.declared.limits.TheConstants.{MAX_BODY}
+use Rattle.limits.specs.declared.TheConstants.{MAX_BODY}
 use Rattle.queue_records.specs.declared.queue_entry.QueueEntry.{QueueEntry}
 use Rattle.queue_records.specs.declared.record.Record.{Record}
 use Rattle.queue_records.specs.declared.record.Record.TheVariants as records

@@ -10,7 +10,7 @@ use Rattle.bucket_page.specs.Keys.{is_same}
 use Rattle.bucket_page.proofs.KeyLaws.{same_is}
 use Rattle.queue_model.specs.declared.call.GetArguments.{GetArguments}
 use Rattle.queue_model.specs.declared.caller.Caller.{Caller}
-use Rattle.queue_model.specs.declared.limits.TheConstants.{MAX_QUEUES, END_OF_IDS}
+use Rattle.limits.specs.declared.TheConstants.{MAX_QUEUES, END_OF_IDS}
 use Rattle.queue_model.specs.declared.queue.Queue.{Queue}
 use Rattle.queue_model.specs.Lawful.{IsLawful}
 use Rattle.queue_model.specs.Places.{IsFreshKey}

@@ -6,7 +6,7 @@ use Rattle.queue_model.specs.declared.call.Call.TheVariants.{Stat, Set, Remove}
 use Rattle.queue_model.specs.declared.call.SetArguments.{SetArguments}
 use Rattle.queue_model.specs.declared.caller.Caller.{Caller}
 use Rattle.queue_model.specs.declared.errno.Errno.TheVariants.{EACCES, EINVAL, EPERM}
-use Rattle.queue_model.specs.declared.limits.TheConstants.{MAX_QBYTES, SUPERUSER}
+use Rattle.limits.specs.declared.TheConstants.{MAX_QBYTES, SUPERUSER}
 use Rattle.queue_model.specs.declared.permissions.Access.TheVariants.{Read}
 use Rattle.queue_model.specs.Access.{is_owner, lacks_access}
 use Rattle.queue_model.specs.Rules.{Outcome, outcome, on_queue, info_of, raises, refuse, remove_from, set_to, stat_of, without_queue}

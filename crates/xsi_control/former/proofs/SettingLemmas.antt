@@ -11,7 +11,7 @@ use Rattle.bucket_page.specs.declared.record_key.RecordKey.{RecordKey}
 use Rattle.bucket_page.specs.Keys.{is_same}
 use Rattle.bucket_page.proofs.KeyLaws.{same_is}
 use Rattle.queue_model.specs.declared.call.SetArguments.{SetArguments}
-use Rattle.queue_model.specs.declared.limits.TheConstants.{MAX_QBYTES}
+use Rattle.limits.specs.declared.TheConstants.{MAX_QBYTES}
 use Rattle.queue_model.specs.declared.queue.Queue.{Queue}
 use Rattle.queue_model.specs.Lawful.{IsLawful}
 use Rattle.queue_model.specs.Rules.{has_id, has_key, with_settings}

@@ -3,7 +3,7 @@
 use Rattle.std.specs.Prelude.{nat_lt, Option, None, if◌then◌else◌}
 use Rattle.bucket_page.specs.declared.record_key.RecordKey.{RecordKey}
 use Rattle.queue_model.specs.declared.call.SetArguments.{SetArguments}
-use Rattle.queue_model.specs.declared.limits.TheConstants.{MAX_QBYTES}
+use Rattle.limits.specs.declared.TheConstants.{MAX_QBYTES}
 use Rattle.queue_model.specs.declared.permissions.Permissions.{Permissions}
 use Rattle.queue_model.specs.declared.queue.Queue.{Queue}
 use Rattle.queue_model.specs.Access.{changed}

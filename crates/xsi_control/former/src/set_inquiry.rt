@@ -2,7 +2,7 @@
 
 ghost use Rattle.std.specs.Prelude.{◌≡◌, ◌≤◌, ◌==◌, ◌&&◌, nat_lt, not};
 ghost use Rattle.queue_model.specs.declared.call.Call.TheVariants as calls;
-ghost use Rattle.queue_model.specs.declared.limits.TheConstants.{MAX_QBYTES, SUPERUSER};
+ghost use Rattle.limits.specs.declared.TheConstants.{MAX_QBYTES, SUPERUSER};
 ghost use Rattle.queue_model.specs.State.{State};
 ghost use Rattle.type_chains.specs.RecordOf.{record_of};
 ghost use Rattle.xsi_control.specs.Setting.{entry_with_settings, with_settings_in};

@@ -1,6 +1,6 @@
 use Rattle.std.proofs.Common.{◌∙◌, ◌-◌, sym, ap}
 use Rattle.directory.specs.Entries.{page_of}
-use Rattle.directory.proofs.PageLaws.{lower_half}
+use Rattle.directory.proofs.HalfLaws.{lower_half}
 use Rattle.directory.proofs.entries.lower_page.Goals as goal
 
 -- the first entries of the two pages are half a directory apart

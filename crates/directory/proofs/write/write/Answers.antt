@@ -1,5 +1,7 @@
-use Rattle.std.proofs.Common.{◌≡◌, ◌∙◌, ◌++◌, length, ap, arith}
-use Rattle.directory.specs.Numbers.{zeros}
+use Rattle.std.proofs.Common.{◌≡◌, ◌-◌, ◌∙◌, ◌++◌, length, ap, arith}
+use Rattle.page_device.specs.declared.page.TheConstants.{PAYLOAD_BYTES}
+use Rattle.directory.specs.declared.layout.TheConstants.{HEADER_BYTES}
+use Rattle.fields.specs.Numbers.{zeros}
 use Rattle.directory.proofs.HeaderLaws.{four_written}
 use Rattle.directory.proofs.write.write.Goals as goal
 
@@ -11,6 +13,6 @@ returns c =
     let d = c.split_at_mut-pages.ensures.back_len in
     let e = c.split_at_mut-first_free.ensures.back_len in
     let f = c.split_at_mut-counts.ensures.back_len in
-    let long : length c.split_at_mut-counts.result.1.now ≡ 3972 = omega (arith, a, b, d, e, f, c.requires) in
+    let long : length c.split_at_mut-counts.result.1.now ≡ PAYLOAD_BYTES - HEADER_BYTES = omega (arith, a, b, d, e, f, c.requires) in
     let rest = c.blank.ensures ∙ ap zeros long in
     λ i. head i ++ (c.copy_from_slice.ensures.after i ++ (c.write_four.ensures i ++ (c.write_four-2.ensures i ++ (c.write_numbers.ensures i ++ rest i))))

@@ -1,21 +1,21 @@
 use Rattle.std.proofs.Common.{◌≡◌, inl, inr}
 use Rattle.record_file.specs.declared.fault.CloseFault.TheVariants.{Device}
-use Rattle.msgq_cli.proofs.ServeLemmas.{IsRun-weaker, has_failed}
+use Rattle.msgq_cli.proofs.ServeLemmas.{IsRun-weaker, risen_since}
 use Rattle.msgq_cli.proofs.serving.run_open.Goals as goal
 
 -- what the caller held is in the file that was closed
-pub returns-in-Ok : goal.returns-in-Ok
-returns-in-Ok g c = λ s held.
+pub returns-in-Ok-clause-served : goal.returns-in-Ok-clause-served
+returns-in-Ok-clause-served g c = λ was s held later.
     inl (IsRun-weaker _ s _ _ _ _ _ (λ t holds. c.in-Ok.ensures.ok t holds) (c.run-ending.ensures.served s held))
 
 -- the device failed, since the caller held a system
-pub returns-in-Err : goal.returns-in-Err
-returns-in-Err g c = λ s held.
+pub returns-in-Err-clause-served : goal.returns-in-Err-clause-served
+returns-in-Err-clause-served g c = λ was s held later.
     let run = c.run-ending.ensures.served s held in
     let failed : c.in-Err.fault ≡ Device = c.in-Err.ensures.held run.left run.held in
     let alone = rw (c.number.ensures, failed) at c.fail.ensures in
     inr (inr (
-      has_failed _ _ (c.in-Err.ensures.cause failed),
+      risen_since was _ _ (rw c.run-ending.ensures.faults later) (c.in-Err.ensures.cause failed),
       inr (record {
         run_to = c.run-ending.new.output;
         run_ending = c.run-ending.result;
@@ -23,3 +23,17 @@ returns-in-Err g c = λ s held.
         alone = alone;
       }),
     ))
+
+pub returns-in-Ok-clause-lines : goal.returns-in-Ok-clause-lines
+returns-in-Ok-clause-lines g c = inl c.run-ending.ensures.lines
+
+pub returns-in-Err-clause-lines : goal.returns-in-Err-clause-lines
+returns-in-Err-clause-lines g c = inr (inl (
+  _,
+  record {
+    run_to = c.run-ending.new.output;
+    run_ending = c.run-ending.result;
+    lines = c.run-ending.ensures.lines;
+    alone = c.fail.ensures;
+  },
+))

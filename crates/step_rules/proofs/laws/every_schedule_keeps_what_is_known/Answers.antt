@@ -1,4 +1,4 @@
-use Rattle.step_rules.proofs.KindLemmas.{schedules_keep_sound, schedules_keep_knowledge}
+use Rattle.step_rules.proofs.ScheduleLemmas.{schedules_keep_sound, schedules_keep_knowledge}
 use Rattle.step_rules.proofs.laws.every_schedule_keeps_what_is_known.Goals as goal
 
 pub returns : goal.returns

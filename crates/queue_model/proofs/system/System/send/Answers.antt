@@ -6,8 +6,8 @@ use Rattle.queue_model.proofs.system.System.send.Goals as goal
 -- the queue keeps its id and key
 pub invariant_of-self-2 : goal.invariant_of-self-2
 invariant_of-self-2 c =
-    let after = c.in-Ok-accept.ensures.ok in
+    let after = c.in-Ok.ensures.ok in
     let old = c.index_mut.result.now in
-    IsLawful-set _ c.in-Ok.place old _ (sym c.index_mut.ensures.value) (ap (λ (q : Queue). q.id) after)
+    IsLawful-set _ c.in_ok-place.place old _ (sym c.index_mut.ensures.value) (ap (λ (q : Queue). q.id) after)
     (ap (λ (q : Queue). q.key) after)
-    c.in-Ok-accept.ensures.lawful c.self.invariant
+    c.in-Ok.ensures.lawful c.self.invariant

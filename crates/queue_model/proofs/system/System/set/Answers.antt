@@ -8,6 +8,6 @@ pub invariant_of-self : goal.invariant_of-self
 invariant_of-self c =
     let after = c.set.ensures.after in
     let old = c.index_mut.result.now in
-    IsLawful-set _ c.in-Ok.place old _ (sym c.index_mut.ensures.value) (ap (λ (q : Queue). q.id) after)
+    IsLawful-set _ c.in_ok-place.place old _ (sym c.index_mut.ensures.value) (ap (λ (q : Queue). q.id) after)
     (ap (λ (q : Queue). q.key) after)
     c.set.ensures.lawful c.self.invariant

@@ -1,7 +1,7 @@
 use Rattle.std.proofs.Common.{◌≡◌, [], ◌∷◌, ◌++◌, List, ap, arith, ◌∙◌, false}
 use Rattle.std.specs.Prelude.{nat_lt}
 use Rattle.std.proofs.lemmas.Bool.Decides.{nat_tests}
-use Rattle.queue_model.specs.declared.limits.TheConstants.{MAX_QBYTES}
+use Rattle.limits.specs.declared.TheConstants.{MAX_QBYTES}
 use Rattle.queue_records.specs.declared.queue_entry.QueueEntry.{QueueEntry}
 use Rattle.queue_records.specs.declared.record.Record.TheVariants as records
 use Rattle.xsi_control.specs.Setting.{entry_with_settings}

@@ -3,7 +3,7 @@ use Rattle.std.specs.Prelude.{nat_lt}
 use Rattle.std.proofs.lemmas.Bool.Decides.{nat_tests}
 use Rattle.queue_model.specs.declared.call.Call.TheVariants as calls
 use Rattle.queue_model.specs.declared.errno.Errno.TheVariants.{EINVAL, EPERM}
-use Rattle.queue_model.specs.declared.limits.TheConstants.{MAX_QBYTES}
+use Rattle.limits.specs.declared.TheConstants.{MAX_QBYTES}
 use Rattle.queue_model.specs.declared.permissions.Permissions.{Permissions}
 use Rattle.queue_model.specs.Access.{is_owner}
 use Rattle.queue_model.specs.Rules.{set_to}

@@ -1,0 +1,48 @@
+//! Command lines, and the exit status of those that are wrong.
+
+use msgq_cli::{Task, read_command_line};
+use std::process::Abort;
+use std::test::Fail;
+
+/// Reads a command line, which has to ask for this, or to be wrong: then the program ends with 2.
+fn reads<R: Abort + AllocGlobal>(rt: &R, line: &str, wanted: Option<Task>) -> Result<(), Fail> {
+    let alloc = rt.alloc();
+    let mut words = Vec::new(alloc);
+    for word in line.split(' ') {
+        words.push(word.to_string(alloc)?)?;
+    }
+    match read_command_line(alloc, words.as_slice()) {
+        Ok(task) => assert!(rt; Some(task) == wanted, "{line}"),
+        Err(error) => {
+            assert_eq!(rt; error.exit_code(), 2, "{line}");
+            assert!(rt; wanted.is_none(), "{line}");
+        }
+    }
+    Ok(())
+}
+
+#[test]
+fn each_command_line_is_read_or_wrong(rt: HostRuntime) -> Result<(), Fail> {
+    let new = |pages| Some(Task::New { file: "q", pages });
+    let run = |script| Some(Task::Run { file: "q", script });
+    reads(&rt, "msgq", Some(Task::Serve))?;
+    reads(&rt, "msgq new q 258", new(258))?;
+    reads(&rt, "msgq new q 065536", new(65_536))?;
+    reads(&rt, "msgq run q s", run("s"))?;
+    reads(&rt, "msgq run q -", run("-"))?;
+    for line in [
+        "msgq new q 257",
+        "msgq new q 65537",
+        "msgq new q +300",
+        "msgq new q -300",
+        "msgq new q 4294967554",
+        "msgq new q 300x",
+        "msgq new q",
+        "msgq new q 300 300",
+        "msgq run q",
+        "msgq go",
+    ] {
+        reads(&rt, line, None)?;
+    }
+    Ok(())
+}

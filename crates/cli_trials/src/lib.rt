@@ -1,0 +1,14 @@
+//! Tests of the public calls of `msgq_cli`, which are proved here alone and not with that crate once more.
+
+#![tactic(auto)]
+
+#[cfg(test)]
+mod command_line_tests;
+#[cfg(test)]
+mod file_tests;
+#[cfg(test)]
+mod script_tests;
+#[cfg(test)]
+mod serving_tests;
+#[cfg(test)]
+mod trial;

@@ -1,0 +1,292 @@
+//! Scripts and the lines of answers, typed from their grammar.
+
+use msgq_cli::{Command, Line, Output, Reply, ScriptError, print_info, read_script};
+use queue_model::{
+    Answer, Body, Call, Caller, Errno, GetArguments, Message, Permissions, QueueInfo,
+    ReceiveArguments, SendArguments, SetArguments,
+};
+use std::alloc::Global;
+use std::process::Abort;
+use std::test::Fail;
+
+/// Lines of which each is wrong by itself.
+const WRONG: &str = "1
+ \t
+0 stop
+65 stop
+-1 stop
++1 stop
+one stop
+4294967297 stop
+stop
+1 go
+1 STOP
+1 stop 1
+1\x0bstop
+1 get
+1 get x
+1 get 4294967296
+1 get +1
+1 get 7 creat
+1 get 7 create create
+1 get 7 excl excl
+1 get 7 mode=66
+1 get 7 mode=0666
+1 get 7 mode=668
+1 get 7 mode=600 mode=600
+1 get 7 nowait
+1 snd 1 1
+1 snd 1 1 6
+1 snd 1 1 6g
+1 snd 1 1 --
+1 snd 1 +1 61
+1 snd 1 - 61
+1 snd 1 9223372036854775808 61
+1 snd 1 -9223372036854775809 61
+1 snd 1 1 61 noerror
+1 snd 1 1 61 nowait nowait
+1 rcv 1 10
+1 rcv 1 -1 0
+1 rcv 1 10 0 create
+1 rcv 1 10 0 noerror noerror
+1 stat
+1 stat 1 1
+1 set 1
+1 set 1 5 uid=
+1 set 1 5 uid=+1
+1 set 1 5 gid=1 gid=1
+1 set 1 5 excl
+1 rm
+1 rm x
+ids 1 2
+ids 1 2 3 4
+ids 65 0 0
+ids 1 x 0
+# \u{e9}
+1 stop\r";
+
+/// Reads a script that is wrong from this line on.
+fn is_wrong(rt: &impl Abort, alloc: Global, bytes: &[u8], line: u64) -> Result<(), ScriptError> {
+    match read_script(alloc, bytes) {
+        Err(ScriptError::NoMemory) => Err(ScriptError::NoMemory),
+        other => {
+            let named = other.err() == Some(ScriptError::WrongLine { line });
+            assert!(rt; named, "line {line}");
+            Ok(())
+        }
+    }
+}
+
+#[test]
+fn each_wrong_line_is_named(rt: HostRuntime) -> Result<(), Fail> {
+    let alloc = rt.alloc();
+    for line in WRONG.split('\n') {
+        let text = format!(in alloc; "#\n\n{line}")?;
+        is_wrong(&rt, alloc, text.as_bytes(), 3)?;
+    }
+    is_wrong(&rt, alloc, b"1 stop\n#\xff\n1 go", 2)?;
+    is_wrong(&rt, alloc, b"#\r\n\r", 2)?;
+    is_wrong(&rt, alloc, b"1 stop\nids 1 0 0\n", 2)?;
+    is_wrong(&rt, alloc, b"ids 1 0 0\nids 2 0 0\nids 1 0 0\n1 stop\n", 3)?;
+    Ok(())
+}
+
+/// The script that the next test reads.
+const SCRIPT: &[u8] = b"# a \x01 comment\r\r\n\r\nids 1 100 10\nids 03 0 4294967295\n\
+    1 get 7 create\n1 snd 1 5 61\r\n1 rcv 1 10 0\n2 rcv 1 10 -9223372036854775808 noerror nowait\n\
+    4 set 1 30000 uid=200\n\t1  get private mode=640 excl \n\
+    01 snd 007 -0 - nowait\n1 snd 1 1 aBC0\n1 stat 4294967295\n\n64 rm 0\n1 stop";
+
+#[test]
+fn each_command_is_read(rt: HostRuntime) -> Result<(), Fail> {
+    let alloc = rt.alloc();
+    let script = read_script(alloc, SCRIPT)?;
+    let mut wanted = Vec::new(alloc);
+    let get = |key, create, excl, mode, moment| Call::Get(GetArguments {
+        key,
+        create,
+        excl,
+        mode,
+        moment,
+    });
+    let receive = |mtype, nowait, noerror, moment| {
+        Call::Receive(ReceiveArguments {
+            id: 1,
+            size: 10,
+            mtype,
+            nowait,
+            noerror,
+            moment,
+        })
+    };
+    let send = |id, mtype, body, nowait, moment| {
+        Call::Send(SendArguments {
+            id,
+            mtype,
+            body: Body::new(body),
+            nowait,
+            moment,
+        })
+    };
+    let set = SetArguments {
+        id: 1,
+        qbytes: 30_000,
+        uid: Some(200),
+        gid: None,
+        mode: None,
+        moment: 9,
+    };
+    wanted.push((5, 1, get(Some(7), true, false, 0o666, 5)))?;
+    wanted.push((6, 1, send(1, 5, b"a".to_vec(alloc)?, false, 6)))?;
+    wanted.push((7, 1, receive(0, false, false, 7)))?;
+    wanted.push((8, 2, receive(i64::MIN, true, true, 8)))?;
+    wanted.push((9, 4, Call::Set(set)))?;
+    wanted.push((10, 1, get(None, false, true, 0o640, 10)))?;
+    wanted.push((11, 1, send(7, 0, Vec::new(alloc), true, 11)))?;
+    wanted.push((12, 1, send(1, 1, b"\xab\xc0".to_vec(alloc)?, false, 12)))?;
+    wanted.push((13, 1, Call::Stat { id: 4_294_967_295 }))?;
+    wanted.push((15, 64, Call::Remove { id: 0 }))?;
+    let lines = script.lines();
+    assert_eq!(rt; lines.len(), 11);
+    for ((number, seat, call), line) in wanted.into_iter().zip(lines) {
+        let wanted = Line {
+            number,
+            seat,
+            command: Command::Call(call),
+        };
+        assert!(rt; *line == wanted, "line {number}");
+    }
+    let stop = Line {
+        number: 16,
+        seat: 1,
+        command: Command::Stop,
+    };
+    assert!(rt; lines[10] == stop);
+    assert_eq!(rt; script.greatest_seat(), 64);
+    assert_eq!(rt;
+        script.caller(1),
+        Caller {
+            pid: 1,
+            uid: 100,
+            gid: 10
+        }
+    );
+    assert_eq!(rt;
+        script.caller(3),
+        Caller {
+            pid: 3,
+            uid: 0,
+            gid: 4_294_967_295
+        }
+    );
+    assert_eq!(rt;
+        script.caller(64),
+        Caller {
+            pid: 64,
+            uid: 0,
+            gid: 0
+        }
+    );
+    Ok(())
+}
+
+#[test]
+fn an_empty_script_has_seat_1(rt: HostRuntime) -> Result<(), Fail> {
+    let script = read_script(rt.alloc(), b"ids 5 1 1\n# nothing")?;
+    script.keeps_seats();
+    assert!(rt; script.lines().is_empty());
+    assert_eq!(rt; script.greatest_seat(), 1);
+    Ok(())
+}
+
+#[test]
+fn each_reply_is_printed(rt: HostRuntime) -> Result<(), Fail> {
+    let alloc = rt.alloc();
+    let message = |serial, mtype, bytes| Message {
+        serial,
+        sender: 1,
+        mtype,
+        bytes: Body::new(bytes),
+    };
+    let permissions = Permissions {
+        uid: 200,
+        gid: 10,
+        cuid: 100,
+        cgid: 10,
+        mode: 0o600,
+    };
+    let info = QueueInfo {
+        id: 1,
+        key: Some(7),
+        qnum: 2,
+        cbytes: 2,
+        qbytes: 30_000,
+        lspid: 2,
+        lrpid: 2,
+        stime: 16,
+        rtime: 7,
+        ctime: 14,
+        permissions,
+    };
+    let root = Permissions {
+        uid: 0,
+        gid: 0,
+        cuid: 0,
+        cgid: 0,
+        mode: 0o006,
+    };
+    let private = QueueInfo {
+        key: None,
+        permissions: root,
+        ..info
+    };
+    let received = Answer::Received(message(1, 5, b"a".to_vec(alloc)?));
+    let emptied = Answer::Received(message(2, i64::MAX, Vec::new(alloc)));
+    let table = [
+        (5, Reply::Answered(Answer::Id(1)), "5 id 1\n"),
+        (
+            6,
+            Reply::Answered(Answer::Sent(u64::MAX)),
+            "6 sent 18446744073709551615\n",
+        ),
+        (3, Reply::Answered(received), "3 received 1 1 5 61\n"),
+        (
+            4,
+            Reply::Answered(emptied),
+            "4 received 2 1 9223372036854775807 -\n",
+        ),
+        (
+            17,
+            Reply::Answered(Answer::Info(info)),
+            "17 info 1 7 2 2 30000 2 2 16 7 14 200 10 100 10 600\n",
+        ),
+        (
+            18,
+            Reply::Answered(Answer::Info(private)),
+            "18 info 1 private 2 2 30000 2 2 16 7 14 0 0 0 0 006\n",
+        ),
+        (12, Reply::Answered(Answer::Done), "12 done\n"),
+        (
+            9,
+            Reply::Answered(Answer::Refused(Errno::EACCES)),
+            "9 refused EACCES\n",
+        ),
+        (16, Reply::Stopped, "16 done\n"),
+        (5, Reply::Failed(50), "5 fault 50\n"),
+    ];
+    for (number, reply, wanted) in &table {
+        let mut output = Output::new(Vec::new(alloc));
+        reply.print(*number, &mut output);
+        assert!(rt;
+            output.into_writer().as_slice() == wanted.as_bytes(),
+            "{wanted}"
+        );
+    }
+    let mut output = Output::new(Vec::new(alloc));
+    print_info(&info, &mut output);
+    assert!(rt;
+        output.into_writer().as_slice()
+            == b"info 1 7 2 2 30000 2 2 16 7 14 200 10 100 10 600\n".as_slice()
+    );
+    Ok(())
+}

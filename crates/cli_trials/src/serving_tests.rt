@@ -1,0 +1,118 @@
+//! Readers and writers that fail, and what is said of wrong scripts.
+
+use crate::trial::{Refusing, printed};
+use msgq_cli::{Ending, Failure, Output, Stage, print_made, serve, serve_text};
+use std::io;
+use std::io::{ErrorKind, Read};
+use std::test::Fail;
+
+/// A reader that gives a script's first line and then fails.
+#[derive(Drop)]
+struct Failing {
+    begun: bool,
+    kind: ErrorKind,
+}
+
+impl Read for Failing {
+    fn read(&mut self, buf: &mut [u8]) -> io::Result<usize> {
+        if self.begun || buf.len() < 7 {
+            return Err(io::Error::from(self.kind));
+        }
+        self.begun = true;
+        buf[..7].copy_from_slice(b"1 stop\n");
+        Ok(7)
+    }
+}
+
+#[test]
+fn a_reader_that_fails_runs_nothing(rt: HostRuntime) -> Result<(), Fail> {
+    let alloc = rt.alloc();
+    for (kind, wanted, fault) in [
+        (ErrorKind::Other, "fault 20\n", 20),
+        (ErrorKind::OutOfMemory, "fault 60\n", 60),
+    ] {
+        let mut reader = Failing { begun: false, kind };
+        let mut output = Output::new(Vec::new(alloc));
+        let mut errors = Vec::new(alloc);
+        let ended = serve(alloc, &mut reader, &mut output, &mut errors);
+        let stage = Stage::Reading;
+        assert_eq!(rt; ended, Ending::Failed(Failure { stage, fault }));
+        assert!(rt; printed(output).as_slice() == wanted.as_bytes(), "{wanted}");
+        let named = errors
+            .as_slice()
+            .starts_with(b"msgq: standard input: it can't be read: ");
+        assert!(rt; named, "{wanted}");
+    }
+    Ok(())
+}
+
+/// The lines are run all the same, and nothing is written behind what was refused. So the exit status is 1 where
+/// standard output is closed.
+#[test]
+fn a_writer_that_refuses_makes_the_status_1(rt: HostRuntime) -> Result<(), Fail> {
+    let alloc = rt.alloc();
+    let mut reader = b"1 get 7 create\n1 snd 1 1 61\n1 get 7\n".as_slice();
+    let mut output = Output::new(Refusing::new(alloc, 9));
+    let mut errors = Vec::new(alloc);
+    let ending = serve(alloc, &mut reader, &mut output, &mut errors);
+    assert_eq!(rt; ending, Ending::Done);
+    assert!(rt; output.has_refused());
+    assert_eq!(rt; ending.status(output.has_refused()), 1);
+    print_made(258, &mut output);
+    output.flush();
+    assert!(rt; output.into_writer().into_taken().as_slice() == b"1 id 1\n2 ".as_slice());
+    Ok(())
+}
+
+/// A wrong line, the word of it that is named, and the beginning of what could stand there.
+const MISTAKES: [(&str, &str, &str); 17] = [
+    ("stop", "stop", "SEAT, a number from 1 to 64, or ids"),
+    ("65 stop", "65", "SEAT, a number"),
+    ("1", "the end of the line", "a command: get"),
+    (
+        "1 go",
+        "go",
+        "a command: get, snd, rcv, stat, set, rm or stop",
+    ),
+    (" \t", "a line of blanks", "a seat and its command"),
+    ("# \u{e9}", "a byte from 128 on", "ASCII text"),
+    ("1 stop\r", "a CR at the end of the script", "LF"),
+    (
+        "1 get x",
+        "x",
+        "KEY, a number from 0 to 4294967295, or private",
+    ),
+    ("1 get 7 nowait", "nowait", "create, excl, mode=OOO"),
+    ("1 get 7 excl excl", "excl", "create, excl, mode=OOO"),
+    (
+        "1 snd 1 0x1 61",
+        "0x1",
+        "TYPE, a number from -9223372036854775808",
+    ),
+    ("1 snd 1 1 6g", "6g", "HEX, an even number"),
+    ("1 rcv 1 10", "the end of the line", "TYPE, a number"),
+    ("1 stat 1 1", "1", "nothing more"),
+    ("1 set 1 5 mode=8", "mode=8", "uid=N, gid=N, mode=OOO"),
+    ("ids 1 2", "the end of the line", "GID, a number"),
+    ("1 \u{1b}[2J", "?[2J", "a command: get"),
+];
+
+#[test]
+fn the_wrong_word_of_a_line_is_named(rt: HostRuntime) -> Result<(), Fail> {
+    let alloc = rt.alloc();
+    for (line, found, could) in MISTAKES {
+        let text = format!(in alloc; "1 stop\n{line}")?;
+        let mut output = Output::new(Vec::new(alloc));
+        let mut errors = Vec::new(alloc);
+        let ending = serve_text(alloc, text.as_bytes(), &mut output, &mut errors);
+        assert_eq!(rt; ending, Ending::WrongLine(2), "{line}");
+        assert_eq!(rt; ending.status(false), 2);
+        assert!(rt; printed(output).is_empty(), "{line}");
+        let said = String::from_utf8(errors)?;
+        let wanted = format!(in alloc;
+            "script line 2\n  not understood: {found}\n  could stand there: {could}"
+        )?;
+        assert!(rt; said.starts_with(wanted.as_str()), "{line}: {said}");
+    }
+    Ok(())
+}

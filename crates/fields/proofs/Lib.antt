@@ -1,0 +1,5 @@
+pub mod ListLaws
+pub mod NumberLaws
+pub mod Tests
+pub mod WrittenLaws
+pub mod ZeroLaws

@@ -1,0 +1,115 @@
+//! Rows worked by hand that no script shows: limits that a file reaches late, copies, and what waits.
+
+use crate::trial::{ROOT, became, get, gives, receive, send};
+use queue_model::{Answer, Applied, Body, Call, Entry, Errno, Message, NoMemory, System};
+use std::alloc::{AllocError, Global};
+use std::test::Fail;
+
+/// The first message of process 1, as it is given.
+fn first(alloc: Global, text: &[u8]) -> Result<Answer, AllocError> {
+    Ok(Answer::Received(Message {
+        serial: 1,
+        sender: 1,
+        mtype: 1,
+        bytes: Body::new(text.to_vec(alloc)?),
+    }))
+}
+
+#[test]
+fn empty_bodies_fill_a_queue_at_1024(rt: HostRuntime) -> Result<(), Fail> {
+    let mut system = System::empty(rt.alloc());
+    gives(&rt, &mut system, &get(Some(7)), Answer::Id(1));
+    let empty = send(rt.alloc(), b"")?;
+    gives(&rt, &mut system, &empty, Answer::Sent(1));
+    gives(&rt, &mut system, &receive(false), first(rt.alloc(), b"")?);
+    for serial in 2..1026u64 {
+        gives(&rt, &mut system, &empty, Answer::Sent(serial));
+    }
+    gives(&rt, &mut system, &empty, Answer::Refused(Errno::EAGAIN));
+    Ok(())
+}
+
+#[test]
+fn at_most_256_queues_are_alive(rt: HostRuntime) {
+    let mut system = System::empty(rt.alloc());
+    let private = get(None);
+    for id in 1..257u32 {
+        gives(&rt, &mut system, &private, Answer::Id(id));
+    }
+    for (call, want) in [
+        (get(None), Answer::Refused(Errno::ENOSPC)),
+        (Call::Remove { id: 300 }, Answer::Refused(Errno::EINVAL)),
+        (Call::Remove { id: 1 }, Answer::Done),
+        (get(None), Answer::Id(257)),
+    ] {
+        gives(&rt, &mut system, &call, want);
+    }
+    assert_eq!(rt; system.queues(), 256);
+}
+
+#[test]
+fn a_call_that_waits_changes_nothing_and_is_interrupted_once_stopped(
+    rt: HostRuntime,
+) -> Result<(), Fail> {
+    let mut system = System::empty(rt.alloc());
+    gives(&rt, &mut system, &get(Some(7)), Answer::Id(1));
+    let waits = receive(false);
+    assert!(rt; became(&rt, &mut system, &waits) == Applied::Waits);
+    gives(&rt, &mut system, &send(rt.alloc(), b"a")?, Answer::Sent(1));
+    gives(&rt, &mut system, &waits, first(rt.alloc(), b"a")?);
+    system.stop();
+    gives(&rt, &mut system, &waits, Answer::Refused(Errno::EINTR));
+    gives(
+        &rt,
+        &mut system,
+        &receive(true),
+        Answer::Refused(Errno::ENOMSG),
+    );
+    assert_eq!(rt; system.messages(), 0);
+    Ok(())
+}
+
+#[test]
+fn copies_are_equal_and_change_apart(rt: HostRuntime) -> Result<(), Fail> {
+    let mut system = System::empty(rt.alloc());
+    gives(&rt, &mut system, &get(Some(7)), Answer::Id(1));
+    gives(&rt, &mut system, &send(rt.alloc(), b"a")?, Answer::Sent(1));
+    let mut copy = system.try_copy()?;
+    assert!(rt; copy.info(0) == system.info(0));
+    assert!(rt; copy.apply(ROOT, &receive(true)) == Applied::Answer(first(rt.alloc(), b"a")?));
+    assert_eq!(rt; (system.messages(), copy.messages()), (1, 0));
+    for (call, answer) in [
+        (send(rt.alloc(), b"a")?, Answer::Sent(1)),
+        (receive(true), first(rt.alloc(), b"a")?),
+    ] {
+        let entry = Entry::Decided {
+            seat: 64,
+            call,
+            answer,
+        };
+        assert!(rt; entry.try_copy()? == entry);
+    }
+    assert!(rt; Entry::Stopped.try_copy()? == Entry::Stopped);
+    Ok(())
+}
+
+#[test]
+fn refusals_have_numbers_and_names(rt: HostRuntime) {
+    for (errno, number, name) in [
+        (Errno::E2BIG, 1, "E2BIG"),
+        (Errno::EAGAIN, 2, "EAGAIN"),
+        (Errno::EEXIST, 3, "EEXIST"),
+        (Errno::EIDRM, 4, "EIDRM"),
+        (Errno::EINTR, 5, "EINTR"),
+        (Errno::EINVAL, 6, "EINVAL"),
+        (Errno::ENOENT, 7, "ENOENT"),
+        (Errno::ENOMSG, 8, "ENOMSG"),
+        (Errno::ENOSPC, 9, "ENOSPC"),
+        (Errno::EACCES, 10, "EACCES"),
+        (Errno::EPERM, 11, "EPERM"),
+    ] {
+        assert_eq!(rt; errno.number(), number);
+        assert_eq!(rt; errno.name(), name);
+    }
+    assert_eq!(rt; NoMemory.number(), 60);
+}

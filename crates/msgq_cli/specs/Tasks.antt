@@ -1,0 +1,26 @@
+-- What a command line asks for. docs/SCRIPTS.md, "Runs".
+use Rattle.std.specs.Prelude.{ℕ, ◌≤◌, ◌&&◌, nat_le, List, Option, Some, None, ⊤, if◌then◌else◌}
+use Rattle.page_device.specs.declared.page.TheConstants.{MAX_PAGES}
+use Rattle.directory.specs.declared.layout.TheConstants.{LEAST_PAGES}
+use Rattle.msgq_cli.specs.Numbers.{number_of}
+use Rattle.msgq_cli.specs.Reading.{◌>>=◌}
+use Rattle.msgq_cli.specs.declared.command_line.Task.{Task}
+use Rattle.msgq_cli.specs.declared.command_line.Task.TheVariants.{Serve, New, Run}
+
+-- a file can have so many pages
+pub record IsFileSize (pages : ℕ) : Type 0 where
+  pub least : LEAST_PAGES ≤ pages
+  pub most : pages ≤ MAX_PAGES
+
+-- the number of pages that a word asks for: decimal digits alone, and a number within the limits
+abbrev pub within_limits : ℕ → Option ℕ
+within_limits pages = if nat_le LEAST_PAGES pages && nat_le pages MAX_PAGES then Some pages else None
+
+abbrev pub pages_of : List ℕ → Option ℕ
+pages_of word = number_of word >>= within_limits
+
+-- where a file is to be made, it can have the pages asked for
+abbrev pub HasPages : Task → Type 0
+HasPages Serve = ⊤
+HasPages (New file pages) = IsFileSize pages
+HasPages (Run file script) = ⊤

@@ -1,0 +1,128 @@
+//! The command line.
+
+ghost use Rattle.std.specs.Prelude.{◌≡◌, IfOk, IfSome};
+ghost use Rattle.msgq_cli.specs.Tasks.{HasPages, IsFileSize, pages_of};
+
+use crate::numbers::number;
+use clap::error::ErrorKind;
+use clap::{Arg, ArgAction, Command, Error};
+use directory::LEAST_PAGES;
+use page_device::MAX_PAGES;
+use std::alloc::{AllocError, Global};
+
+/// What the command line asks for.
+#[derive(Debug, Drop, PartialEq)]
+pub enum Task<'a> {
+    /// The script of standard input, on a new file in memory.
+    Serve,
+    /// A new file.
+    New {
+        /// Where it is made.
+        file: &'a str,
+        /// How many pages it has.
+        pages: u32,
+    },
+    /// A script, on a file.
+    Run {
+        /// The file.
+        file: &'a str,
+        /// The script.
+        script: &'a str,
+    },
+}
+
+/// Names of arguments.
+const FILE: &str = "FILE";
+
+const PAGES: &str = "PAGES";
+
+const SCRIPT: &str = "SCRIPT";
+
+/// Behind the help of the program.
+const ENDING: &str = "\
+Without a subcommand, the script of standard input is run on a new file of 352 pages in memory.
+
+Printed on standard output: for each line of a script that has a command its number and the answer,
+'refused NAME' or 'fault N'. A fault that no line met is 'fault N' alone, and standard error says why.
+
+Exit status:
+  0  every line was answered or refused; help and version
+  1  a fault was printed, or standard output refused a write
+  2  the command line or the script is wrong, and nothing was run; standard error says what is wrong
+
+Scripts: docs/SCRIPTS.md, with examples in examples/. Faults: docs/FAULTS.md.";
+
+/// Behind the help of `new`.
+const NEW_PRINTS: &str = "\
+Prints 'made PAGES'; 'fault 20' where FILE exists or the system refuses to make it.
+Exit status 0, 1 where a fault was printed or standard output refused a write, 2 where the command line is wrong.";
+
+/// Behind the help of `run`.
+const RUN_PRINTS: &str = "\
+Prints the number and the answer of each line; 'fault 20' alone where SCRIPT can't be read, 'fault N' alone where
+FILE is not opened, 'fault N' behind the answers where FILE is not closed well.
+Exit status 0, 1 where a fault was printed or standard output refused a write, 2 where the command line or SCRIPT is
+wrong: then nothing was run, and standard error says 'script line N' and what stands there.";
+
+/// What is wrong with a PAGES that is no number of pages.
+const WRONG_PAGES: &str = "PAGES is a decimal number from 258 to 65536, without a sign";
+
+/// Reads the words of a command line, of which the first names the program.
+///
+/// A number of pages is one that a file can have.
+pub fn read_command_line<'a>(alloc: Global, words: &'a [String]) -> Result<Task<'a>, Error>
+    ensures { IfOk result HasPages }
+{
+    let matches = command(alloc)?.try_get_matches_from(words)?;
+    let Some((name, arguments)) = matches.subcommand() else {
+        return Ok(Task::Serve);
+    };
+    let file = arguments.get_str(FILE).unwrap_or("");
+    if name == "run" {
+        let script = arguments.get_str(SCRIPT).unwrap_or("");
+        return Ok(Task::Run { file, script });
+    }
+    match pages(arguments.get_str(PAGES).unwrap_or("").as_bytes()) {
+        Some(pages) => Ok(Task::New { file, pages }),
+        None => Err(command(alloc)?.error(ErrorKind::ValueValidation, WRONG_PAGES)?),
+    }
+}
+
+/// The number of pages that a word asks for, where a file can have so many.
+fn pages(word: &[u8]) -> Option<u32>
+    ensures value { result ≡ pages_of word.now }
+    ensures within { IfSome result IsFileSize }
+{
+    let pages = number(word)?;
+    if LEAST_PAGES <= pages && pages <= MAX_PAGES {
+        Some(pages)
+    } else {
+        None
+    }
+}
+
+/// What the command line may say.
+fn command<'a>(alloc: Global) -> Result<Command<'a>, AllocError> {
+    let new = Command::new(alloc, "new")
+        .about("Makes a file of message queues")
+        .after_help(NEW_PRINTS)
+        .arg(argument(alloc, FILE).help("Where it is made; there may be nothing"))?
+        .arg(argument(alloc, PAGES).help("How many pages of 4,096 bytes it has: 258 to 65,536"))?;
+    let run = Command::new(alloc, "run")
+        .about("Runs a script on a file of message queues")
+        .after_help(RUN_PRINTS)
+        .arg(argument(alloc, FILE).help("The file"))?
+        .arg(argument(alloc, SCRIPT).help("The script, or - for that of standard input"))?;
+    Command::new(alloc, "msgq")
+        .version("0.1.0")
+        .about("Message queues (XSI, POSIX.1-2017) kept in one file")
+        .after_help(ENDING)
+        .disable_help_subcommand(true)
+        .subcommand(new)?
+        .subcommand(run)
+}
+
+/// An argument that has to be given.
+fn argument<'a>(alloc: Global, name: &'a str) -> Arg<'a> {
+    Arg::new(alloc, name).required(true).action(ArgAction::Set)
+}

@@ -1,0 +1,92 @@
+//! What standard error says of a run that does not go as it was asked. No claim rests on these words.
+
+use crate::ending::{Ending, Failure, Stage};
+use crate::misread::{Found, mistake_in};
+use std::alloc::Global;
+use std::fmt::Display;
+use std::io;
+use std::io::Write;
+
+/// Of a longer word the beginning is shown.
+const MOST_SHOWN: usize = 64;
+
+/// `msgq: FILE: what: why`.
+pub(crate) fn complain<E: Write, D: Display + Drop>(
+    file: &str,
+    what: &str,
+    why: D,
+    errors: &mut E,
+) {
+    let _ = writeln!(errors, "msgq: {file}: {what}: {why}");
+}
+
+/// Says of a run on a file that ended by a fault that no line met what this was.
+pub(crate) fn complain_of<E: Write>(file: &str, ending: Ending, errors: &mut E) {
+    if let Ending::Failed(failure) = ending {
+        complain(file, what(failure.stage), why(failure), errors);
+    }
+}
+
+/// What could not be done.
+fn what(stage: Stage) -> &'static str {
+    match stage {
+        Stage::Reading => "it can't be read",
+        Stage::Making => "it can't be made",
+        Stage::Opening => "it can't be opened",
+        Stage::Closing => "it can't be closed",
+    }
+}
+
+/// What a fault says that the system has no words for (docs/FAULTS.md).
+pub(crate) fn why(failure: Failure) -> &'static str {
+    match failure.fault {
+        faults::DEVICE => "it is no file, or the system failed to read or write it",
+        faults::BAD_DIGEST => "page 0 was changed: its digest is wrong",
+        faults::PAST_END => "it is cut: it has fewer pages than its header says, or a part of one",
+        faults::BAD_HEADER => "it is no file of message queues, or has more pages than its header says",
+        faults::BAD_VERSION => "it is a file of another version",
+        faults::NO_MEMORY => "there is no memory",
+        faults::FAILED => "the page of its records was changed, or holds what no queues have",
+        _ => "it has another form",
+    }
+}
+
+/// `script line N`, and below it what was not understood and what could stand there.
+pub(crate) fn complain_of_line<E: Write>(alloc: Global, text: &[u8], line: u64, errors: &mut E) {
+    let _ = writeln!(errors, "script line {line}");
+    let Ok(mistake) = mistake_in(alloc, line_at(text, line)) else {
+        return;
+    };
+    let _ = match mistake.found {
+        Found::Word(word) => print_word(word, errors),
+        Found::Other(text) => writeln!(errors, "  not understood: {text}"),
+    };
+    let _ = writeln!(errors, "  could stand there: {}", mistake.could);
+}
+
+/// Shows a word. What a terminal could take for a command of its own is shown as `?`.
+fn print_word<E: Write>(word: &[u8], errors: &mut E) -> io::Result<()> {
+    errors.write_all(b"  not understood: ")?;
+    for byte in word.iter().take(MOST_SHOWN) {
+        let shown = if byte.is_ascii_graphic() { *byte } else { b'?' };
+        errors.write_all(&[shown])?;
+    }
+    let end = if word.len() > MOST_SHOWN {
+        "..\n"
+    } else {
+        "\n"
+    };
+    errors.write_all(end.as_bytes())
+}
+
+/// A line of a text; lines count from 1.
+fn line_at(text: &[u8], line: u64) -> &[u8] {
+    let mut number = 0u64;
+    for bytes in text.split_inclusive(|&byte| byte == b'\n') {
+        number = number.saturating_add(1);
+        if number == line {
+            return bytes;
+        }
+    }
+    b""
+}

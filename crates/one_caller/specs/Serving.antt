@@ -1,0 +1,47 @@
+-- What a call tells where a file holds a system.
+-- docs/QUEUES.md, "Calls"; docs/FAULTS.md.
+use Rattle.std.specs.Prelude.{◌≡◌, Bool, true, false, Some, None, Result, Ok, Err}
+use Rattle.queue_model.specs.declared.call.Call.{Call}
+use Rattle.queue_model.specs.declared.caller.Caller.{Caller}
+use Rattle.queue_model.specs.Rules.{outcome}
+use Rattle.queue_model.specs.State.{State}
+use Rattle.record_file.specs.OneBucket.{OneBucketState}
+use Rattle.type_chains.specs.RecordOf.{record_of}
+use Rattle.one_caller.specs.declared.fault.CallFault.{CallFault}
+use Rattle.one_caller.specs.declared.fault.CallFault.TheVariants.{NoRoom, NoMemory, Failed}
+use Rattle.one_caller.specs.declared.served.Served.{Served}
+use Rattle.one_caller.specs.declared.served.Served.TheVariants.{Answer, Waits}
+use Rattle.one_caller.specs.Filing.{HoldsRecords}
+use Rattle.xsi_inquiry.specs.Telling.{IsFiled}
+
+-- the open file, whether the system is stopped, and whether a call met records of no system
+pub record CallerState : Type 0 where
+  pub file : OneBucketState
+  pub stopped : Bool
+  pub failed : Bool
+
+-- the caller holds a system that records can spell: its file has the system's records
+pub record Holds (c : CallerState) (s : State) : Type 0 where
+  pub filed : IsFiled s
+  pub sound : c.failed ≡ false
+  pub stopped : s.stopped ≡ c.stopped
+  pub file : HoldsRecords (record_of s) c.file
+
+-- what a call tells where the file held s; H says which system it holds afterwards
+abbrev pub Tells : Caller → Call → State → Result Served CallFault → (State → Type 0) → Type 0
+Tells c call s (Ok (Answer a)) H = (t : State) × (outcome c call s ≡ Some (a, t)) × H t
+Tells c call s (Ok Waits) H = (outcome c call s ≡ None) × H s
+Tells c call s (Err NoRoom) H = H s
+Tells c call s (Err NoMemory) H = H s
+Tells c call s (Err Failed) H = ⊥
+
+-- the system with the stop mark cleared
+abbrev pub restarted : State → State
+restarted s = record s { stopped = false }
+
+-- whether a call met records of no system
+abbrev pub fails : Result Served CallFault → Bool
+fails (Ok served) = false
+fails (Err NoRoom) = false
+fails (Err NoMemory) = false
+fails (Err Failed) = true
