@@ -1,6 +1,6 @@
 -- What new links make of a record.
 -- docs/STEPS.md, "What a call writes".
-use Rattle.std.specs.Prelude.{◌≡◌, ℕ, ℤ, Option, Some, None, IfSome, ⊤, unwrap_or}
+use Rattle.std.specs.Prelude.{◌≡◌, Option, Some, None, IfSome, ⊤, unwrap_or}
 use Rattle.queue_records.specs.declared.links.Link.{Link}
 use Rattle.queue_records.specs.declared.links.Link.TheVariants.{Stays, Ends, LeadsTo}
 use Rattle.queue_records.specs.declared.links.Links.{Links}

@@ -1,5 +1,5 @@
 -- Plans in order, of which each write makes the record that is wanted, and all else stands as it is wanted.
-use Rattle.std.proofs.Common.{◌≡◌, ℕ, Bool, true, false, cond, List, [], ◌∷◌, Option, Some, None, inl, inr, refl, sym, ap, ◌∙◌, subst, arith}
+use Rattle.std.proofs.Common.{◌≡◌, ℕ, Bool, true, false, List, [], ◌∷◌, Option, Some, None, inl, inr, refl, sym, ap, ◌∙◌, subst, arith}
 use Rattle.std.specs.Prelude.{◌==◌, ◌&&◌, option_map, unwrap_or, IfSome, IsSome}
 use Rattle.std.specs.List.{All}
 use Rattle.std.proofs.lemmas.Bool.{eqb-true}
@@ -20,7 +20,7 @@ use Rattle.type_chains.proofs.Tests.{key_is, mapped}
 use Rattle.xsi_inquiry.specs.declared.write.Write.{Write}
 use Rattle.xsi_inquiry.specs.declared.write.Write.TheVariants.{Replace, Relink, Delete}
 use Rattle.xsi_inquiry.specs.Owning.{Ascend, IsBefore, deletion_rank, kind_rank, write_rank}
-use Rattle.xsi_inquiry.specs.Writing.{AreAbsent, CanAllBe, CanBe, HasRange, Leads, Plan, Records, inserted, key_written, planned, turned, value_length, with_at, writes_of, written, written_by}
+use Rattle.xsi_inquiry.specs.Writing.{AreAbsent, CanAllBe, CanBe, HasRange, Leads, Plan, Records, inserted, key_written, turned, value_length, with_at, writes_of, written, written_by}
 
 pub same_keys : (a b : RecordKey) → is_same a b ≡ true → a ≡ b
 same_keys a b same =

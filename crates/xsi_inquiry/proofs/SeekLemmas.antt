@@ -16,13 +16,11 @@ use Rattle.type_chains.specs.RecordOf.{record_of}
 use Rattle.type_chains.proofs.Cases.{found_id}
 use Rattle.type_chains.proofs.Elements.{image_has}
 use Rattle.type_chains.proofs.Tests.{mapped}
-use Rattle.queue_records.specs.declared.counter.Counter.{Counter}
-use Rattle.type_chains.specs.Entries.{counter_of}
 use Rattle.xsi_inquiry.specs.declared.sought.Sought.TheVariants.{Unread, Absent, Found, Refused}
 use Rattle.bucket_page.specs.declared.record_key.RecordKey.{RecordKey}
 use Rattle.xsi_inquiry.specs.declared.sought.Sought.{Sought}
 use Rattle.xsi_inquiry.specs.declared.wanted.Wanted.{Wanted}
-use Rattle.xsi_inquiry.specs.declared.wanted.Wanted.TheVariants.{At, Given}
+use Rattle.xsi_inquiry.specs.declared.wanted.Wanted.TheVariants.{Given}
 use Rattle.xsi_inquiry.specs.Agreeing.{AgreeOnId}
 use Rattle.xsi_inquiry.proofs.AgreeLemmas.{same_queue_record}
 use Rattle.xsi_inquiry.specs.Seeking.{IsEntryOf, Tells, refusal, sought_next}

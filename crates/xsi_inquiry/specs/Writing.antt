@@ -1,6 +1,6 @@
 -- Records at their keys, and what writes make of them.
 -- docs/STEPS.md, "What a call writes".
-use Rattle.std.specs.Prelude.{◌≡◌, ℕ, ◌≤◌, List, [], ◌∷◌, length, Option, Some, None, IfSome, IsSome, ⊤, if◌then◌else◌}
+use Rattle.std.specs.Prelude.{◌≡◌, ℕ, ◌≤◌, List, [], ◌∷◌, length, Option, Some, None, IsSome, ⊤, if◌then◌else◌}
 use Rattle.std.specs.List.{All}
 use Rattle.std.specs.Option.{option_map}
 use Rattle.bucket_page.specs.declared.record_key.RecordKey.{RecordKey}
