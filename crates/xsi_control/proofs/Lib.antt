@@ -1,1 +1,2 @@
+pub mod SettingLemmas
 pub mod StatLemmas
