@@ -35,6 +35,7 @@ use Rattle.xsi_inquiry.specs.declared.verdict.Verdict.TheVariants as verdicts
 use Rattle.xsi_inquiry.specs.declared.write.Write.{Write}
 use Rattle.xsi_inquiry.specs.declared.write.Write.TheVariants.{Replace}
 use Rattle.xsi_inquiry.specs.Deciding.{IsAnswered}
+use Rattle.xsi_inquiry.specs.Owning.{IsBefore}
 use Rattle.xsi_inquiry.specs.Seeking.{IsEntryOf}
 use Rattle.xsi_inquiry.specs.Telling.{IsFiled}
 use Rattle.xsi_inquiry.specs.Writing.{Leads, Plan, key_written, nothing, value_length}
@@ -141,10 +142,11 @@ module _ (c : Caller) (a : SetArguments) (s : State) (e : QueueEntry) (is : IsEn
         outcome = outcome;
         leads = set_leads lawful;
         own = record {
-          trials = All-nil _;
+          trials = All-nil (λ (r : Record). Contains (names.Queue a.id ∷ []) (guard_of (key_of r)));
           writes = All-cons (λ (w : Write). Contains (names.Queue a.id ∷ []) (guard_of (key_written w))) its_write []
-              (0, omega arith, ap names.Queue (sym is.its_id)) (All-nil _);
+              (0, omega arith, ap names.Queue (sym is.its_id))
+              (All-nil (λ (w : Write). Contains (names.Queue a.id ∷ []) (guard_of (key_written w))));
         };
         idle = λ never. absurd never;
-        ordered = record { trials = tt; writes = (All-nil _, tt) };
+        ordered = record { trials = tt; writes = (All-nil (IsBefore its_write), tt) };
       })

@@ -23,7 +23,7 @@ impl Inquiry for SetInquiry {
     ghost use Rattle.page_locks.specs.declared.lock.LockName.TheVariants as names;
     ghost use Rattle.queue_model.specs.declared.call.Call.TheVariants as calls;
     ghost use Rattle.xsi_inquiry.specs.Seeking.{Tells, reads_left};
-    ghost use Rattle.xsi_control.specs.Asked.{few_of_set, set_asks, set_asks_given};
+    ghost use Rattle.xsi_control.specs.SetAsked.{few_of_set, set_asks, set_asks_given};
     ghost use Rattle.xsi_control.specs.Setting.{set_decided, set_plan, set_wanted};
 
     type Arguments = SetArguments;

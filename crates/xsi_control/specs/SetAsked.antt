@@ -24,8 +24,6 @@ at_none t found key is = absurd cc
 given_none : (t : State) (given : Bool) → IsToldGiven t None given
 given_none t given id is = absurd cc
 
--- ---- Set
-
 pub set_asks : (a : SetArguments) (sought : Sought) (s t : State) (found : Option Record) → AgreeOnId a.id s t →
     IsTold s (set_wanted a sought) found → IsTold t (set_wanted a sought) found
 set_asks a sought s t found agrees told = by (nat_lt MAX_QBYTES a.qbytes) told
