@@ -4,4 +4,5 @@ pub mod OneRecord
 pub mod PartsLaws
 pub mod RangeLaws
 pub mod ReadingLaws
+pub mod RelinkLaws
 pub mod SpellingLaws

@@ -1,6 +1,7 @@
 -- What new links make of a record.
 -- docs/STEPS.md, "What a call writes".
-use Rattle.std.specs.Prelude.{◌≡◌, Option, Some, None, IfSome, ⊤, unwrap_or}
+use Rattle.std.specs.Prelude.{◌≡◌, ℕ, Option, Some, None, IfSome, ⊤, unwrap_or}
+use Rattle.queue_records.specs.declared.layout.TheConstants.{MESSAGE_BYTES, TYPE_BYTES}
 use Rattle.queue_records.specs.declared.links.Link.{Link}
 use Rattle.queue_records.specs.declared.links.Link.TheVariants.{Stays, Ends, LeadsTo}
 use Rattle.queue_records.specs.declared.links.Links.{Links}
@@ -53,6 +54,11 @@ relinked (links.Type l) (records.Message m) = records.Message m
 abbrev pub HasSuch : Links → Option Record → Type 0
 HasSuch (links.Message l) found = (m : MessageEntry) × (found ≡ Some (records.Message m))
 HasSuch (links.Type l) found = (t : TypeEntry) × (found ≡ Some (records.Type t))
+
+-- the links of such a record stand among so many bytes at the front of its value
+abbrev pub linked_bytes : Links → ℕ
+linked_bytes (links.Message l) = MESSAGE_BYTES
+linked_bytes (links.Type l) = TYPE_BYTES
 
 -- ---- limits
 
