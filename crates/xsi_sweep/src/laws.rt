@@ -1,0 +1,18 @@
+//! Laws of a sweep. Each stands on the contract of a function that does nothing.
+
+ghost use Rattle.xsi_sweep.specs.Laws.{BeginsWhole, EndsBehindTheLast, HasFewTurns};
+
+/// Before the first turn each record stands as the system has it.
+pub fn a_sweep_begins_with_all()
+    ensures { BeginsWhole }
+{}
+
+/// No message is left just where as many were swept as stood on the queue.
+pub fn a_sweep_ends_behind_the_last()
+    ensures { EndsBehindTheLast }
+{}
+
+/// As many turns follow one another at most as messages stand on a queue at most.
+pub fn a_sweep_has_few_turns()
+    ensures { HasFewTurns }
+{}
