@@ -1,11 +1,10 @@
 -- What a payload that passes all tests says is spelled by it.
-use Rattle.std.proofs.Common.{◌≡◌, ℕ, ◌+◌, ◌-◌, ◌≤◌, Bool, true, false, cond, ◌||◌, eqb, List, [], ◌∷◌, ◌++◌, length, take, drop, Option, Some, None, Result, Err, refl, sym, ap, subst, ◌∙◌, arith}
+use Rattle.std.proofs.Common.{◌≡◌, ℕ, ◌-◌, ◌≤◌, Bool, true, false, cond, ◌||◌, eqb, List, [], ◌∷◌, ◌++◌, length, take, drop, Option, Some, None, Result, Err, refl, sym, ap, subst, ◌∙◌, arith}
 use Rattle.std.specs.Prelude.{IfOk}
 use Rattle.std.proofs.lemmas.Bool.{eqb-true, leb-true, ltb-true}
 use Rattle.std.proofs.lemmas.List.{take-append-drop, length-take, length-drop}
 use Rattle.bucket_page.specs.declared.layout.TheConstants.{BUCKET, LINK_BYTES, ROOM_BYTES}
 use Rattle.page_device.specs.declared.page.TheConstants.{PAYLOAD_BYTES}
-use Rattle.directory.specs.declared.layout.TheConstants.{DIRECTORY}
 use Rattle.bucket_page.specs.declared.page.Malformed.{Malformed}
 use Rattle.bucket_page.specs.declared.page.Malformed.TheVariants as faults
 use Rattle.bucket_page.specs.declared.page.PageKind.{PageKind}
@@ -18,7 +17,7 @@ use Rattle.bucket_page.specs.Reading.{kind_at, depth_at, count_at, used_at, area
 use Rattle.fields.specs.Numbers.{is_zero}
 use Rattle.fields.proofs.Tests.{both_true}
 use Rattle.fields.proofs.ZeroLaws.{zeros_at, zeros_of}
-use Rattle.fields.proofs.NumberLaws.{IsBytes, IsBytes-drop, IsBytes-take, past, two_takes, four_takes, four_small}
+use Rattle.fields.proofs.NumberLaws.{IsBytes, IsBytes-drop, IsBytes-take, two_takes, four_takes, four_small}
 use Rattle.bucket_page.proofs.RecordLaws.{records_take}
 use Rattle.directory.proofs.PageLaws.{directory_takes}
 use Rattle.bucket_page.proofs.HeadLaws.{head_parts}

@@ -15,7 +15,7 @@ mod splice;
 mod view;
 mod write;
 
-pub use change::{DoesNotFit, put, remove, replace};
+pub use change::{DoesNotFit, put, remove, replace, replace_front};
 pub use divide::{cut, join, write_lower_half, write_upper_half};
 pub use layout::{RECORD_HEAD_BYTES, ROOM_BYTES};
 pub use page::{Malformed, PageKind, bucket_of, read_page};

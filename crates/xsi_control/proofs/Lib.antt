@@ -1,14 +1,4 @@
-pub mod FindLemmas
-pub mod KindLemmas
-pub mod LengthLemmas
-pub mod SettingLemmas
 pub mod CreatingLemmas
-pub mod SweptLemmas
-pub mod RemovingLemmas
-pub mod RemovedLemmas
-pub mod TakingLemmas
-pub mod DecidingLemmas
-pub mod LastLemmas
-pub mod TurnLemmas
-pub mod EntryLemmas
-pub mod SweepLemmas
+pub mod ReadingLemmas
+pub mod SettingLemmas
+pub mod StatLemmas

@@ -1,0 +1,6 @@
+pub mod Asked
+pub mod Asking
+pub mod Knowing
+pub mod Laws
+pub mod Removing
+pub mod Turns
