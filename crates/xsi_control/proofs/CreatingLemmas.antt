@@ -65,10 +65,16 @@ module _ (c : Caller) (a : GetArguments) (s : State) (lawful : IsLawful s) (fres
   all_absent (Some k) given =
       (none_there, (ap (option_map (λ (q : Queue). records.Key (key_entry k q))) (fresh k given), tt))
 
-  all_new : (key : Option ℕ) → a.key ≡ key → All (IsNew (record_of s) (record_of t)) (its_trials key)
-  all_new None given = All-cons (IsNew (record_of s) (record_of t)) its_record [] (queue_then c a s lawful fresh few more) (All-nil _)
-  all_new (Some k) given = All-cons (IsNew (record_of s) (record_of t)) its_record (its_key k ∷ []) (queue_then c a s lawful fresh few more)
-      (All-cons (IsNew (record_of s) (record_of t)) (its_key k) [] (key_then c a s lawful fresh few more k given) (All-nil _))
+  abbrev IsMade : Record → Type 0
+  IsMade = IsNew (record_of s) (record_of (with_new_queue c a s))
+
+  queue_made : IsNew (record_of s) (record_of t) its_record
+  queue_made = queue_then c a s lawful fresh few more
+
+  all_new : (key : Option ℕ) → a.key ≡ key → All IsMade (its_trials key)
+  all_new None given = All-cons IsMade its_record [] queue_made (All-nil IsMade)
+  all_new (Some k) given = All-cons IsMade its_record (its_key k ∷ []) queue_made
+      (All-cons IsMade (its_key k) [] (key_then c a s lawful fresh few more k given) (All-nil IsMade))
 
   is_other : (key : Option ℕ) → a.key ≡ key → (at : RecordKey) → All (MissesRecord at) (its_trials key) →
       Misses at (Replace its_counter) → IsOther a.key s.next_id at
@@ -101,7 +107,7 @@ module _ (c : Caller) (a : GetArguments) (s : State) (lawful : IsLawful s) (fres
   held key = key_names key ++ names.Counter ∷ names.Queue s.next_id ∷ []
 
   abbrev IsHeld : Option ℕ → Record → Type 0
-  IsHeld key r = Contains (key_names key ++ names.Counter ∷ names.Queue s.next_id ∷ []) (guard_of (key_of r))
+  IsHeld key r = Contains (held key) (guard_of (key_of r))
 
   all_held : (key : Option ℕ) → All (IsHeld key) (its_trials key)
   all_held None = All-cons (IsHeld None) its_record [] (1, omega arith, refl) (All-nil _)

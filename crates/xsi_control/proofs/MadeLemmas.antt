@@ -73,7 +73,8 @@ module _ (c : Caller) (a : GetArguments) (s : State) (lawful : IsLawful s) (fres
   its_key key = records.Key (record { key = key; id = s.next_id })
 
   pub then_lawful : IsLawful t
-  then_lawful = IsLawful-create s c a (λ full. omega (arith, few, full)) (λ last. omega (arith, more, last)) fresh lawful
+  then_lawful =
+      IsLawful-create s c a (λ full. omega (arith, few, full)) (λ last. omega (arith, more, last)) fresh lawful
 
   -- no queue has the next id
   pub unused : find (has_id s.next_id) s.queues ≡ None
