@@ -80,7 +80,8 @@ impl Inquiry for RemoveInquiry {
     ghost asks = { λ id i names s t found covered agrees told.
         stage_asks id i.stage names s t found covered agrees told };
 
-    ghost asks_given = { λ id i names s t given agrees told. given_at id i.stage s t given agrees.asked told };
+    ghost asks_given = { λ id i names s t given agrees told.
+        given_at id i.stage s t given agrees.asked told };
 
     ghost few = { λ id i. few_at id i.stage };
 
