@@ -1,1 +1,4 @@
+pub mod CreatingLemmas
+pub mod ReadingLemmas
+pub mod SettingLemmas
 pub mod StatLemmas
