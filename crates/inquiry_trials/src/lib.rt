@@ -6,6 +6,8 @@
 #[cfg(test)]
 mod asked;
 #[cfg(test)]
+mod controls;
+#[cfg(test)]
 mod receives;
 #[cfg(test)]
 mod records;
