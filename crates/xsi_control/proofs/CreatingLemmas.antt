@@ -5,7 +5,7 @@ use Rattle.std.specs.List.{All, Contains}
 use Rattle.std.proofs.lemmas.Bool.Decides.{nat_tests}
 use Rattle.std.proofs.lemmas.List.Elements.{All-cons, All-head, All-nil, All-tail}
 use Rattle.bucket_page.specs.Keys.{is_same}
-use Rattle.bucket_page.proofs.Zeros.{both_true}
+use Rattle.fields.proofs.Tests.{both_true}
 use Rattle.page_locks.specs.declared.lock.LockName.TheVariants as names
 use Rattle.queue_model.specs.declared.answer.Answer.TheVariants as answers
 use Rattle.queue_records.specs.declared.record.Record.TheVariants as records

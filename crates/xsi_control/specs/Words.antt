@@ -11,7 +11,7 @@ pub use Rattle.queue_model.specs.declared.call.SetArguments.{SetArguments}
 pub use Rattle.queue_model.specs.declared.caller.Caller.{Caller}
 pub use Rattle.queue_model.specs.declared.errno.Errno.{Errno}
 pub use Rattle.queue_model.specs.declared.errno.Errno.TheVariants.{EEXIST, EINVAL, ENOENT, ENOSPC, EPERM}
-pub use Rattle.queue_model.specs.declared.limits.TheConstants.{END_OF_IDS, MAX_QBYTES, MAX_QUEUES, SUPERUSER}
+pub use Rattle.limits.specs.declared.TheConstants.{END_OF_IDS, MAX_QBYTES, MAX_QUEUES, SUPERUSER}
 pub use Rattle.queue_model.specs.declared.queue.Queue.{Queue}
 pub use Rattle.queue_records.specs.Keys.{guard_of, key_of_key, key_of_queue}
 pub use Rattle.queue_records.specs.Spelling.{counter_key, key_of}

@@ -4,7 +4,7 @@ use Rattle.std.specs.Prelude.{◌==◌, ◌&&◌, ◌||◌, option_and_then, opt
 use Rattle.std.specs.List.{Contains, find, list_any}
 use Rattle.std.proofs.lemmas.Bool.{eqb-true}
 use Rattle.std.proofs.lemmas.Option.{slice_get_within}
-use Rattle.bucket_page.proofs.Zeros.{both_true}
+use Rattle.fields.proofs.Tests.{both_true}
 use Rattle.queue_model.proofs.ListLemmas.{find-Some}
 use Rattle.queue_records.specs.declared.record.Record.TheVariants as records
 use Rattle.type_chains.proofs.Limits.{lawful_queue}

@@ -10,7 +10,7 @@ pub use Rattle.queue_model.specs.declared.answer.Answer.TheVariants.{Done, Id, I
 pub use Rattle.queue_model.specs.declared.call.Call.{Call}
 pub use Rattle.queue_model.specs.declared.call.Call.TheVariants.{Get, Receive, Remove, Send, Set, Stat}
 pub use Rattle.queue_model.specs.declared.caller.Caller.{Caller}
-pub use Rattle.queue_model.specs.declared.limits.TheConstants.{MAX_MESSAGES}
+pub use Rattle.limits.specs.declared.TheConstants.{MAX_MESSAGES}
 pub use Rattle.queue_model.specs.declared.message.Message.{Message}
 pub use Rattle.queue_model.specs.declared.queue.Queue.{Queue}
 pub use Rattle.queue_records.specs.Fields.{type_number}
