@@ -9,33 +9,37 @@ use std::test::Fail;
 use xsi_control::{GetInquiry, SetInquiry, StatInquiry};
 use xsi_inquiry::{Decision, Inquiry, Room, Verdict, Write};
 
-const CREATOR: Caller = Caller {
+/// Who made queue 1.
+pub const CREATOR: Caller = Caller {
     pid: 1,
     uid: 21,
     gid: 22,
 };
 
-const STRANGER: Caller = Caller {
+/// Who owns nothing of it.
+pub const STRANGER: Caller = Caller {
     pid: 2,
     uid: 31,
     gid: 32,
 };
 
 /// Queue 1 as it is made by its creator with key 7 and mode 01640, of which nine bits count.
-const MADE: QueueEntry = QueueEntry {
+pub const MADE: QueueEntry = QueueEntry {
     ctime: 1,
     mode: 0o640,
     ..crate::records::EMPTY
 };
 
-fn counter(next_id: u32, queues_alive: u32) -> Record<'static> {
+/// The Counter.
+pub fn counter(next_id: u32, queues_alive: u32) -> Record<'static> {
     Record::Counter(Counter {
         next_id,
         queues_alive,
     })
 }
 
-fn no_room(alloc: Global) -> Result<Room, Fail> {
+/// Room for a call that receives nothing.
+pub fn no_room(alloc: Global) -> Result<Room, Fail> {
     Ok(Room::new(alloc, &Call::Stat { id: 1 })?)
 }
 

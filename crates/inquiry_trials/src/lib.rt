@@ -13,3 +13,5 @@ mod receives;
 mod records;
 #[cfg(test)]
 mod sends;
+#[cfg(test)]
+mod sweeps;
