@@ -1,4 +1,5 @@
 pub mod CreatingLemmas
+pub mod MadeLemmas
 pub mod ReadingLemmas
 pub mod SettingLemmas
 pub mod StatLemmas

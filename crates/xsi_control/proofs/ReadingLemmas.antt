@@ -2,24 +2,12 @@
 use Rattle.std.proofs.Common.{◌≡◌, ℕ, Bool, true, false, Option, Some, None, refl, sym, ap, ◌∙◌, subst}
 use Rattle.std.specs.Prelude.{IsSome, option_map, if◌then◌else◌}
 use Rattle.std.specs.List.{find}
-use Rattle.queue_model.specs.declared.call.GetArguments.{GetArguments}
-use Rattle.queue_model.specs.declared.caller.Caller.{Caller}
-use Rattle.queue_model.specs.declared.errno.Errno.TheVariants.{ENOENT}
-use Rattle.queue_model.specs.declared.queue.Queue.{Queue}
-use Rattle.queue_model.specs.Places.{IsFreshKey}
-use Rattle.queue_model.specs.Rules.{create, get_by, get_found, has_key, outcome_of_get, refuse}
-use Rattle.queue_model.specs.State.{State}
-use Rattle.queue_records.specs.declared.counter.Counter.{Counter}
 use Rattle.queue_records.specs.declared.key_entry.KeyEntry.{KeyEntry}
-use Rattle.queue_records.specs.declared.record.Record.{Record}
 use Rattle.queue_records.specs.declared.record.Record.TheVariants as records
-use Rattle.queue_records.specs.Keys.{key_of_key}
-use Rattle.queue_records.specs.Spelling.{counter_key}
-use Rattle.type_chains.specs.Entries.{counter_of, key_entry}
 use Rattle.type_chains.proofs.Tests.{mapped}
 use Rattle.xsi_inquiry.specs.declared.wanted.Wanted.TheVariants.{At}
-use Rattle.xsi_inquiry.specs.Telling.{IsTold}
 use Rattle.xsi_control.specs.Getting.{KnowsOfGet, absent_or_counted, id_found, key_wanted}
+use Rattle.xsi_control.specs.Words.{GetArguments, Caller, ENOENT, Queue, IsFreshKey, create, get_by, get_found, has_key, outcome_of_get, refuse, State, Counter, Record, key_of_key, counter_key, counter_of, key_entry, IsTold}
 
 -- ---- the Counter always stands
 

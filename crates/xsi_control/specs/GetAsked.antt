@@ -1,30 +1,15 @@
 -- What a Get asks for is under its key's name or the Counter's, and it writes little.
 use Rattle.std.proofs.Common.{◌≡◌, ℕ, ◌≤◌, Bool, List, ◌∷◌, length, Option, Some, None, refl, ap, ◌∙◌, subst, arith}
 use Rattle.std.specs.Prelude.{option_map}
-use Rattle.bucket_page.specs.declared.record_key.RecordKey.{RecordKey}
-use Rattle.page_locks.specs.declared.lock.LockName.{LockName}
-use Rattle.queue_model.specs.declared.call.Call.TheVariants.{Get}
-use Rattle.queue_model.specs.declared.call.GetArguments.{GetArguments}
-use Rattle.queue_model.specs.declared.caller.Caller.{Caller}
-use Rattle.queue_model.specs.declared.queue.Queue.{Queue}
-use Rattle.queue_model.specs.Rules.{new_queue}
-use Rattle.queue_model.specs.State.{State}
-use Rattle.queue_records.specs.declared.counter.Counter.{Counter}
-use Rattle.queue_records.specs.declared.record.Record.{Record}
 use Rattle.queue_records.specs.declared.record.Record.TheVariants as records
-use Rattle.queue_records.specs.Keys.{key_of_key}
-use Rattle.queue_records.specs.Spelling.{counter_key}
-use Rattle.type_chains.specs.Entries.{key_entry, queue_entry}
-use Rattle.type_chains.specs.RecordOf.{record_of}
 use Rattle.xsi_inquiry.specs.declared.wanted.Wanted.TheVariants.{At}
 use Rattle.xsi_inquiry.specs.declared.write.TheConstants.{MAX_TRIALS}
 use Rattle.xsi_inquiry.specs.Agreeing.{AgreeOnCounter, AgreeOnKey, AgreesFor, IsCovered}
-use Rattle.xsi_inquiry.specs.Telling.{IsTold, IsToldGiven}
-use Rattle.xsi_inquiry.specs.Writing.{IsSmall}
 use Rattle.xsi_inquiry.proofs.DecisionLemmas.{small_none}
 use Rattle.xsi_control.specs.declared.get_inquiry.Getting.{Getting}
 use Rattle.xsi_control.specs.declared.get_inquiry.Getting.TheVariants.{AtKey, Found, Absent, AtCounter, Counted}
 use Rattle.xsi_control.specs.Getting.{get_plan, get_wanted, key_made, key_wanted, one_more, plan_made}
+use Rattle.xsi_control.specs.Words.{RecordKey, LockName, Get, GetArguments, Caller, Queue, new_queue, State, Counter, Record, key_of_key, counter_key, key_entry, queue_entry, record_of, IsTold, IsToldGiven, IsSmall}
 
 at_none : (t : State) (found : Option Record) → IsTold t None found
 at_none t found key is = absurd cc

@@ -1,22 +1,9 @@
 -- What a Get asks for and knows at each stage, which names it holds, what it decides, and what it writes.
 -- docs/QUEUES.md, "Calls"; docs/STEPS.md, "What a call reads".
 use Rattle.std.specs.Prelude.{◌≡◌, ℕ, ◌+◌, nat_lt, Bool, ◌&&◌, IsSome, List, [], ◌∷◌, ◌++◌, Option, Some, None, Result, Ok, Err, if◌then◌else◌}
-use Rattle.page_locks.specs.declared.lock.LockName.{LockName}
 use Rattle.page_locks.specs.declared.lock.LockName.TheVariants as names
 use Rattle.queue_model.specs.declared.answer.Answer.TheVariants.{Id}
-use Rattle.queue_model.specs.declared.call.GetArguments.{GetArguments}
-use Rattle.queue_model.specs.declared.caller.Caller.{Caller}
-use Rattle.queue_model.specs.declared.errno.Errno.TheVariants.{EEXIST, ENOENT, ENOSPC}
-use Rattle.limits.specs.declared.TheConstants.{END_OF_IDS, MAX_QUEUES}
-use Rattle.queue_model.specs.Places.{IsFreshKey}
-use Rattle.queue_model.specs.Rules.{Outcome, create, new_queue, outcome_of_get, refuse}
-use Rattle.queue_model.specs.State.{State}
-use Rattle.queue_records.specs.declared.counter.Counter.{Counter}
-use Rattle.queue_records.specs.declared.record.Record.{Record}
 use Rattle.queue_records.specs.declared.record.Record.TheVariants as records
-use Rattle.queue_records.specs.Keys.{key_of_key}
-use Rattle.queue_records.specs.Spelling.{counter_key}
-use Rattle.type_chains.specs.Entries.{counter_of, queue_entry}
 use Rattle.xsi_inquiry.specs.declared.decision.Decision.{Decision}
 use Rattle.xsi_inquiry.specs.declared.decision.Decision.TheVariants.{Answers}
 use Rattle.xsi_inquiry.specs.declared.inquiry.NotASystem.{NotASystem}
@@ -24,10 +11,9 @@ use Rattle.xsi_inquiry.specs.declared.verdict.Verdict.TheVariants as verdicts
 use Rattle.xsi_inquiry.specs.declared.wanted.Wanted.{Wanted}
 use Rattle.xsi_inquiry.specs.declared.wanted.Wanted.TheVariants.{At}
 use Rattle.xsi_inquiry.specs.declared.write.Write.TheVariants.{Replace}
-use Rattle.xsi_inquiry.specs.Deciding.{refuses}
-use Rattle.xsi_inquiry.specs.Writing.{Plan, nothing}
 use Rattle.xsi_control.specs.declared.get_inquiry.Getting.{Getting}
 use Rattle.xsi_control.specs.declared.get_inquiry.Getting.TheVariants.{AtKey, Found, Absent, AtCounter, Counted}
+use Rattle.xsi_control.specs.Words.{LockName, GetArguments, Caller, EEXIST, ENOENT, ENOSPC, END_OF_IDS, MAX_QUEUES, IsFreshKey, Outcome, create, new_queue, outcome_of_get, refuse, State, Counter, Record, key_of_key, counter_key, counter_of, queue_entry, refuses, Plan, nothing}
 
 -- ---- what it asks for
 

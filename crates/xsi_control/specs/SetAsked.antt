@@ -1,22 +1,13 @@
 -- What a Set asks for is that of its own queue, and it writes little.
 use Rattle.std.proofs.Common.{Bool, true, false, cond, Option, None, arith}
 use Rattle.std.specs.Prelude.{nat_lt, Result, Ok, Err}
-use Rattle.queue_model.specs.declared.call.SetArguments.{SetArguments}
-use Rattle.queue_model.specs.declared.caller.Caller.{Caller}
-use Rattle.queue_model.specs.declared.errno.Errno.{Errno}
-use Rattle.limits.specs.declared.TheConstants.{MAX_QBYTES}
-use Rattle.queue_model.specs.State.{State}
-use Rattle.queue_records.specs.declared.queue_entry.QueueEntry.{QueueEntry}
-use Rattle.queue_records.specs.declared.record.Record.{Record}
 use Rattle.xsi_inquiry.specs.declared.sought.Sought.{Sought}
 use Rattle.xsi_inquiry.specs.declared.sought.Sought.TheVariants.{Unread, Absent, Found, Refused}
 use Rattle.xsi_inquiry.specs.Agreeing.{AgreeOnId}
-use Rattle.xsi_inquiry.specs.Seeking.{sought_next}
-use Rattle.xsi_inquiry.specs.Telling.{IsTold, IsToldGiven}
-use Rattle.xsi_inquiry.specs.Writing.{IsSmall, nothing}
 use Rattle.xsi_inquiry.proofs.DecisionLemmas.{small_none}
 use Rattle.xsi_inquiry.proofs.SeekLemmas.{given_asks, sought_asks, sought_given}
 use Rattle.xsi_control.specs.Setting.{plan_by, plan_on, set_entry, set_plan, set_wanted}
+use Rattle.xsi_control.specs.Words.{SetArguments, Caller, Errno, MAX_QBYTES, State, QueueEntry, Record, sought_next, IsTold, IsToldGiven, IsSmall, nothing}
 
 at_none : (t : State) (found : Option Record) → IsTold t None found
 at_none t found key is = absurd cc

@@ -1,14 +1,8 @@
 -- What a Set asks for, decides and writes.
 -- docs/QUEUES.md, "Calls"; docs/STEPS.md, "What a call reads".
 use Rattle.std.specs.Prelude.{ℕ, ◌==◌, nat_lt, Bool, not, ◌&&◌, [], ◌∷◌, Option, Some, None, Result, Ok, Err, if◌then◌else◌}
-use Rattle.queue_model.specs.declared.call.SetArguments.{SetArguments}
-use Rattle.queue_model.specs.declared.caller.Caller.{Caller}
-use Rattle.queue_model.specs.declared.errno.Errno.{Errno}
-use Rattle.queue_model.specs.declared.errno.Errno.TheVariants.{EINVAL, EPERM}
-use Rattle.limits.specs.declared.TheConstants.{MAX_QBYTES, SUPERUSER}
 use Rattle.queue_model.specs.declared.permissions.Permissions.{Permissions}
 use Rattle.queue_model.specs.Access.{changed, is_owner}
-use Rattle.queue_records.specs.declared.queue_entry.QueueEntry.{QueueEntry}
 use Rattle.queue_records.specs.declared.record.Record.TheVariants as records
 use Rattle.type_chains.specs.Reading.{permissions_in}
 use Rattle.xsi_inquiry.specs.declared.decision.Decision.{Decision}
@@ -19,9 +13,7 @@ use Rattle.xsi_inquiry.specs.declared.sought.Sought.TheVariants.{Unread, Absent,
 use Rattle.xsi_inquiry.specs.declared.verdict.Verdict.TheVariants as verdicts
 use Rattle.xsi_inquiry.specs.declared.wanted.Wanted.{Wanted}
 use Rattle.xsi_inquiry.specs.declared.write.Write.TheVariants.{Replace}
-use Rattle.xsi_inquiry.specs.Deciding.{refuses}
-use Rattle.xsi_inquiry.specs.Seeking.{sought_next}
-use Rattle.xsi_inquiry.specs.Writing.{Plan, nothing}
+use Rattle.xsi_control.specs.Words.{SetArguments, Caller, Errno, EINVAL, EPERM, MAX_QBYTES, SUPERUSER, QueueEntry, refuses, sought_next, Plan, nothing}
 
 -- nothing is read for a limit that no queue may have
 abbrev pub set_wanted : SetArguments → Sought → Option Wanted

@@ -28,8 +28,8 @@ pub enum Getting {
     Counted(Counter),
 }
 
-/// A Get (POSIX.1-2017, `msgget()`). It reads the Key, where it has a key, and the Counter where a queue is to be made. It
-/// holds its key, and to make a queue the Counter and the queue of the next id too.
+/// A Get (POSIX.1-2017, `msgget()`). It reads the Key, where it has a key, and the Counter where a queue is to be made.
+/// It holds its key, and to make a queue the Counter and the queue of the next id too.
 #[derive(Clone, Copy, Debug)]
 pub struct GetInquiry {
     caller: Caller,

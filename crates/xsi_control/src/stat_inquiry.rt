@@ -5,8 +5,8 @@ use queue_records::Record;
 use type_chains::{info_in, permissions_in};
 use xsi_inquiry::{Decision, Inquiry, NotASystem, Room, Sought, Verdict, Wanted, Write};
 
-/// A Stat (POSIX.1-2017, `msgctl()` with `IPC_STAT`). It is given an id. It reads the Queue; where there is none, it asks
-/// whether the id was given out.
+/// A Stat (POSIX.1-2017, `msgctl()` with `IPC_STAT`). It is given an id. It reads the Queue; where there is none, it
+/// asks whether the id was given out.
 #[derive(Clone, Copy, Debug)]
 pub struct StatInquiry {
     caller: Caller,
