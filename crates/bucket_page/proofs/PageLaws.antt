@@ -13,7 +13,7 @@ use Rattle.fields.specs.Numbers.{four, zeros, four_at}
 use Rattle.bucket_page.specs.Records.{record_bytes, pairs_of, fills, ascend}
 use Rattle.bucket_page.specs.Bucket.{Bucket}
 use Rattle.bucket_page.specs.Spelling.{head_of, bucket_bytes, link_bytes, bytes_of, IsBucket, IsPage, Spells}
-use Rattle.bucket_page.specs.Reading.{count_at, used_at, area, after_area, bucket_at, page_at, bucket_fault, directory_fault, link_fault, fault_of, reading, answer}
+use Rattle.bucket_page.specs.Reading.{count_at, used_at, area, after_area, bucket_at, page_at, bucket_fault, link_fault, fault_of, reading, answer}
 use Rattle.fields.specs.Numbers.{is_zero}
 use Rattle.fields.proofs.ZeroLaws.{zeros_again, length-zeros}
 use Rattle.fields.proofs.NumberLaws.{after_part, four_again, length-four}

@@ -1,5 +1,5 @@
 -- What an open file shows where its root bucket changes.
-use Rattle.std.proofs.Common.{◌≡◌, refl, ◌∙◌, sym, ap, subst, ℕ, zero, suc, ◌<◌, Some, List, [], ◌∷◌, Option, slice_get, slice_index_or, slice_set}
+use Rattle.std.proofs.Common.{◌≡◌, refl, ◌∙◌, sym, ap, subst, ℕ, zero, suc, Some, List, [], ◌∷◌, Option, slice_get, slice_index_or, slice_set}
 use Rattle.std.proofs.Common.{Result, Ok, Err, OnOk, OnErr}
 use Rattle.std.proofs.lemmas.List.{get_or-set_same, set-get_or}
 use Rattle.std.proofs.lemmas.Option.{get_or_from_slice_get, slice_get_within}
