@@ -50,7 +50,7 @@ head_takes bytes long all kind blank =
     head_first bytes (omega (arith, long)) ∙ (λ i. kind i ∷ depth_at bytes ∷ count i)
     ∙ sym (head_parts (head_at bytes) (drop 16 bytes))
 
-bucket_takes : (bytes : List ℕ) → length bytes ≡ 4064 → IsBytes bytes → kind_at bytes ≡ BUCKET
+bucket_takes : (bytes : List ℕ) → length bytes ≡ PAYLOAD_BYTES → IsBytes bytes → kind_at bytes ≡ BUCKET
     → bucket_fault bytes ≡ None → Spells (kinds.Bucket (bucket_at bytes)) bytes
 bucket_takes bytes long all kind passes =
     let depth = passed _ _ _ passes in
@@ -95,7 +95,7 @@ bucket_takes bytes long all kind passes =
     }
 
 -- four bytes from place 4 on, between zeros
-link_takes : (kind : ℕ) (bytes : List ℕ) → length bytes ≡ 4064 → IsBytes bytes → kind_at bytes ≡ kind
+link_takes : (kind : ℕ) (bytes : List ℕ) → length bytes ≡ PAYLOAD_BYTES → IsBytes bytes → kind_at bytes ≡ kind
     → link_fault bytes ≡ None → bytes ≡ link_bytes kind (four_at 4 bytes)
 link_takes kind bytes long all is passes =
     let blanks = both_true _ _ (passed _ _ _ passes).0 in
@@ -108,7 +108,7 @@ link_takes kind bytes long all is passes =
     ∙ ap (λ (xs : List ℕ). four (four_at 4 bytes) ++ xs) back) in
     kind_first bytes (omega (arith, long)) ∙ (λ i. is i ∷ parts i)
 
-page_takes : (bytes : List ℕ) → length bytes ≡ 4064 → IsBytes bytes → fault_of bytes ≡ None
+page_takes : (bytes : List ℕ) → length bytes ≡ PAYLOAD_BYTES → IsBytes bytes → fault_of bytes ≡ None
     → Spells (page_at bytes) bytes
 page_takes bytes long all passes = by_kind (eqb (kind_at bytes) 3) (eqb (kind_at bytes) 2) (eqb (kind_at bytes) 4)
     (eqb (kind_at bytes) 5) refl refl refl refl passes
@@ -142,7 +142,7 @@ answered None page bytes spells = spells refl
 answered (Some m) page bytes spells = tt
 
 -- what is read is spelled
-pub is_spelled : (bytes : List ℕ) (r : Result PageKind Malformed) → length bytes ≡ 4064 → IsBytes bytes
+pub is_spelled : (bytes : List ℕ) (r : Result PageKind Malformed) → length bytes ≡ PAYLOAD_BYTES → IsBytes bytes
     → r ≡ reading bytes → IfOk r (λ page. Spells page bytes)
 is_spelled bytes r long all is =
     subst (λ (x : Result PageKind Malformed). IfOk x (λ page. Spells page bytes)) (sym is)

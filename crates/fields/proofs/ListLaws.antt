@@ -1,9 +1,9 @@
 -- Numbers of four bytes, one behind the other: read from their bytes, spelled by them, and one of them written.
-use Rattle.std.proofs.Common.{◌≡◌, ℕ, zero, suc, ◌+◌, ◌*◌, ◌<◌, ◌^◌, List, [], ◌∷◌, ◌++◌, length, take, drop, get_or, slice_index, slice_set, append_assoc, refl, sym, ap, ◌∙◌, arith}
+use Rattle.std.proofs.Common.{◌≡◌, ℕ, zero, suc, ◌+◌, ◌*◌, ◌<◌, ◌^◌, List, [], ◌∷◌, ◌++◌, length, drop, get_or, slice_index, slice_set, refl, sym, ap, ◌∙◌, arith}
 use Rattle.std.specs.List.{AllByRecursion}
-use Rattle.std.proofs.lemmas.List.{drop_at, take_at, drop-drop, length-append, length-drop, length-set, nil_from_length}
+use Rattle.std.proofs.lemmas.List.{drop_at, drop-drop, length-append, length-drop, nil_from_length}
 use Rattle.byteorder.specs.Endian.{big_number, IsRead}
-use Rattle.fields.specs.Numbers.{four, four_at, numbers_bytes, numbers_of, overwritten}
+use Rattle.fields.specs.Numbers.{four, four_at, numbers_bytes, numbers_of}
 use Rattle.fields.proofs.NumberLaws.{IsBytes, IsBytes-drop, length-four, four_takes, four_again, four_small}
 
 four_at-past : (at n : ℕ) (bytes : List ℕ) → four_at at (drop n bytes) ≡ four_at (n + at) bytes

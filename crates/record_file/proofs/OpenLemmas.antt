@@ -1,6 +1,6 @@
 -- What an open file shows of its pages, and what it leaves of them.
-use Rattle.std.proofs.Common.{◌≡◌, refl, ◌∙◌, sym, ap, subst, ◌↔◌, ◌⊎◌, inl, inr, ℕ, ◌<◌, ◌≤◌, ◌+◌, Bool, true, false, IsTrue, List, [], Option, Some, None, Ok, Err, Result, arith}
-use Rattle.std.proofs.Common.{map, slice_get, slice_index_or, nat_eq, eq-eqb}
+use Rattle.std.proofs.Common.{◌≡◌, refl, ◌∙◌, sym, ap, subst, ◌↔◌, inl, inr, ℕ, ◌≤◌, ◌+◌, Bool, true, false, IsTrue, List, [], Option, Some, None, Ok, Err, Result, arith}
+use Rattle.std.proofs.Common.{slice_get, slice_index_or, nat_eq, eq-eqb}
 use Rattle.std.proofs.Math.ListN.{get_or, get_or-map}
 use Rattle.std.proofs.lemmas.Bool.{eqb-true}
 use Rattle.std.proofs.lemmas.Option.{get_or_from_slice_get}
@@ -12,7 +12,7 @@ use Rattle.bucket_page.specs.declared.page.Malformed.{Malformed}
 use Rattle.bucket_page.specs.declared.page.PageKind.{PageKind}
 use Rattle.bucket_page.specs.Bucket.{Bucket, bucket}
 use Rattle.bucket_page.specs.Changes.{SpellsBucket}
-use Rattle.bucket_page.specs.Reading.{bucket_at, records_at}
+use Rattle.bucket_page.specs.Reading.{records_at}
 use Rattle.bucket_page.specs.Records.{Pair}
 use Rattle.record_file.specs.Files.{root_bucket}
 use Rattle.record_file.specs.Opening.{HasHeader, page_at, payload_at}

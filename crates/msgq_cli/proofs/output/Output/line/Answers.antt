@@ -12,8 +12,7 @@ loop-word-preserved g c =
     let below : i < length c.in-Some.rest.now = search rules in
     let word = c.word-in-loop-word.ensures in
     Prints-spaced c.word.new.self c.loop-word.self c.put-in-loop-word.new.self c.word-in-loop-word.new.self text_of
-    c.in-Some.rest.now i _
-    below c.loop-word.invariant c.put-in-loop-word.ensures word
+    c.in-Some.rest.now i _ below c.loop-word.invariant c.put-in-loop-word.ensures word
 
 pub returns : goal.returns
 returns g c =
@@ -23,5 +22,4 @@ returns g c =
     let words = rw all at c.loop-word.invariant in
     rw parts
     (Prints-line c.args.self.now c.word.new.self c.loop-word.self c.put-2.new.self text_of c.in-Some.first.now
-    c.in-Some.rest.now
-    c.word.ensures words c.put-2.ensures)
+    c.in-Some.rest.now c.word.ensures words c.put-2.ensures)

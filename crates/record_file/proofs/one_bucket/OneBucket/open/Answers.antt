@@ -1,12 +1,6 @@
 -- What the pool has pinned is what the device has.
-use Rattle.std.proofs.Common.{◌≡◌, ◌∙◌, refl, ap, subst, sym, true, IsTrue, Some, slice_get, slice_index_or, []}
-use Rattle.std.proofs.lemmas.Option.{get_or_from_slice_get}
-use Rattle.directory.specs.declared.layout.TheConstants.{ROOT_PAGE}
-use Rattle.buffer_pool.specs.Pool.{PoolState, payloads_of}
-use Rattle.bucket_page.specs.Reading.{records_at}
-use Rattle.bucket_page.specs.Records.{Pair}
-use Rattle.record_file.specs.Opening.{payload_at}
-use Rattle.record_file.specs.OneBucket.{IsPinnedRoot, IsRoot}
+use Rattle.std.proofs.Common.{◌∙◌, refl, ap, subst, sym, IsTrue}
+use Rattle.buffer_pool.specs.Pool.{PoolState}
 use Rattle.record_file.proofs.OpenLemmas.{opened_images, opened_seals, not_root, pinned_root, shows_broken, shows_pinned, false_not_true}
 use Rattle.record_file.proofs.one_bucket.OneBucket.open.Goals as goal
 

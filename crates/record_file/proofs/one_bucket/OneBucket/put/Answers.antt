@@ -1,9 +1,8 @@
 -- The root page's bucket changes in place, or stays where the record does not fit.
-use Rattle.std.proofs.Common.{◌≡◌, ◌+◌, ◌<◌, ◌↔◌, IsErr, None, length, subst}
+use Rattle.std.proofs.Common.{◌≡◌, None, subst}
 use Rattle.std.proofs.lemmas.Result.{on_err_weaker, on_ok_weaker}
-use Rattle.bucket_page.specs.declared.layout.TheConstants.{RECORD_HEAD_BYTES, ROOM_BYTES}
 use Rattle.bucket_page.specs.Changes.{inserted}
-use Rattle.bucket_page.specs.Records.{lookup, record_bytes}
+use Rattle.bucket_page.specs.Records.{lookup}
 use Rattle.record_file.proofs.BucketLemmas.{open_root, stores, stores_either, stores_same}
 use Rattle.record_file.proofs.one_bucket.OneBucket.put.Goals as goal
 
