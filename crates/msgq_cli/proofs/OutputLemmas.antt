@@ -5,7 +5,7 @@ use Rattle.std.proofs.KnownBytes.{Appends-nil, Appends-trans, Appends-kept}
 use Rattle.std.specs.Io.KnownBytes.{Appends, Keeps}
 use Rattle.hex.specs.Hex.{encode_with}
 use Rattle.msgq_cli.specs.Answers.{line_of}
-use Rattle.msgq_cli.specs.Outputs.{OutputState, Takes, TakesBeginning, Prints, PrintsOn}
+use Rattle.msgq_cli.specs.Outputs.{OutputState, Takes, Prints, PrintsOn}
 
 -- a writer took the beginning of a text, and the rest is left
 pub record IsTaking (old now : Option (List ℕ)) (text rest : List ℕ) : Type 0 where

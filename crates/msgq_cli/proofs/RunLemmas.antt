@@ -1,7 +1,7 @@
 -- The lines of a script served one after the other.
-use Rattle.std.proofs.Common.{◌≡◌, ◌≢◌, ◌⊎◌, inl, inr, ℕ, Bool, true, false, List, [], ◌∷◌, ◌++◌, Option, Some, None, is_some, not, Result, Ok, Err, if◌then◌else◌, refl, sym, ap, ◌∙◌, subst, append_assoc, append-nil, rules, ◌||◌, ◌==◌, nat_le, nat_lt, int_lt, pos, length, length-append, arith}
+use Rattle.std.proofs.Common.{◌≡◌, ◌≢◌, inl, inr, ℕ, Bool, true, false, List, [], ◌∷◌, ◌++◌, Option, Some, None, is_some, not, Result, Ok, Err, if◌then◌else◌, refl, sym, ap, ◌∙◌, subst, append_assoc, append-nil, rules, ◌||◌, ◌==◌, nat_le, nat_lt, int_lt, pos, length, length-append, arith}
 use Rattle.std.specs.List.{find, list_any}
-use Rattle.msgq_cli.proofs.ModelWords.{lacks_access, is_owner, with_settings, Outcome, outcome, refuse, put_off, on_found, on_queue, has_id, has_key, get_found, get_by, create, lacks_room, send_to, receive_found, receive_from, stat_of, set_to, remove_from, raises, with_queue, with_message, selected, is_too_long, State, Call, Get, Send, Receive, Stat, Set, Remove, GetArguments, SendArguments, ReceiveArguments, SetArguments, Caller, Errno, EACCES, EAGAIN, EINVAL, ENOENT, ENOMSG, EPERM, Read, Write, Message, Queue}
+use Rattle.msgq_cli.proofs.ModelWords.{lacks_access, is_owner, with_settings, Outcome, outcome, refuse, put_off, on_found, on_queue, has_id, has_key, get_found, get_by, create, lacks_room, send_to, receive_found, receive_from, stat_of, set_to, remove_from, raises, with_queue, selected, State, Call, Get, Send, Receive, Stat, Set, Remove, GetArguments, SendArguments, ReceiveArguments, SetArguments, Caller, Errno, EACCES, EAGAIN, EINVAL, ENOENT, ENOMSG, EPERM, Read, Write, Message, Queue}
 use Rattle.queue_model.specs.declared.answer.Answer.TheVariants as answer
 use Rattle.limits.specs.declared.TheConstants.{MAX_BODY, MAX_QBYTES}
 use Rattle.one_caller.specs.Serving.{Tells}
@@ -12,7 +12,7 @@ use Rattle.one_caller.specs.declared.fault.CallFault.TheVariants as fault
 use Rattle.msgq_cli.specs.Answers.{reply_text}
 use Rattle.msgq_cli.specs.Outputs.{OutputState, Prints}
 use Rattle.msgq_cli.specs.Runs.{stop, IsReplied, AreReplied, printed, is_fault, ending_of, IsPrinted, IsRun}
-use Rattle.msgq_cli.specs.Scripts.{Parts, caller_of}
+use Rattle.msgq_cli.specs.Scripts.{caller_of}
 use Rattle.msgq_cli.specs.Serving.{reply_to}
 use Rattle.msgq_cli.specs.declared.command.Command.TheVariants as command
 use Rattle.msgq_cli.specs.declared.ending.Ending.{Ending}

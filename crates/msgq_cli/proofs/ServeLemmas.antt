@@ -1,7 +1,7 @@
 -- Files opened, run on and closed.
-use Rattle.std.proofs.Common.{◌≡◌, ◌⊎◌, inl, inr, ℕ, ◌<◌, ◌≤◌, List, refl, arith}
+use Rattle.std.proofs.Common.{◌≡◌, ◌⊎◌, inl, inr, ℕ, ◌≤◌, refl, arith}
 use Rattle.std.specs.Bool.{⊤}
-use Rattle.page_device.specs.Device.{HasRisen, MOST_FAULTS}
+use Rattle.page_device.specs.Device.{HasRisen}
 use Rattle.page_device.specs.Fault.{number_of}
 use Rattle.page_device.specs.declared.fault.DeviceFault.{DeviceFault}
 use Rattle.page_device.specs.declared.fault.DeviceFault.TheVariants as device
@@ -15,7 +15,7 @@ use Rattle.record_file.specs.Opening.{HasCauseToRefuse}
 use Rattle.msgq_cli.specs.Outputs.{OutputState}
 use Rattle.msgq_cli.specs.Runs.{IsRun}
 use Rattle.msgq_cli.specs.Scripts.{Parts}
-use Rattle.msgq_cli.specs.Serves.{IsFaultAlone, RunsNew, RunsOn}
+use Rattle.msgq_cli.specs.Serves.{IsFaultAlone, RunsOn}
 use Rattle.msgq_cli.specs.declared.ending.Ending.{Ending}
 
 -- a run whose caller's file was closed, or is looked at no more

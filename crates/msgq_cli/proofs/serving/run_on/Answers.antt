@@ -1,4 +1,4 @@
-use Rattle.std.proofs.Common.{◌≡◌, inr, arith}
+use Rattle.std.proofs.Common.{inr, arith}
 use Rattle.std.proofs.lemmas.Int.{clamps}
 use Rattle.msgq_cli.proofs.ServeLemmas.{refused_alone}
 use Rattle.one_caller.specs.Serving.{restarted}
