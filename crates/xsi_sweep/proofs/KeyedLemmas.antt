@@ -6,24 +6,13 @@ use Rattle.std.proofs.lemmas.Bool.{eqb-true}
 use Rattle.std.proofs.lemmas.Bool.Decides.{nat_tests}
 use Rattle.std.proofs.lemmas.List.Folds.{find_at}
 use Rattle.std.proofs.lemmas.Option.{slice_get-get_or}
-use Rattle.queue_model.specs.declared.answer.Answer.{Answer}
-use Rattle.queue_model.specs.declared.answer.Answer.TheVariants.{Id, Sent, Received, Info, Done, Refused}
-use Rattle.queue_model.specs.declared.call.Call.{Call}
-use Rattle.queue_model.specs.declared.call.Call.TheVariants.{Get, Send, Receive, Stat, Set, Remove}
-use Rattle.queue_model.specs.declared.caller.Caller.{Caller}
-use Rattle.queue_model.specs.declared.queue.Queue.{Queue}
-use Rattle.queue_model.specs.Rules.{has_id, outcome, with_message, with_settings, without_message}
-use Rattle.queue_model.specs.State.{State}
 use Rattle.queue_model.proofs.EffectLemmas.{Changes, Effect, Effect-outcome, Stands}
 use Rattle.queue_model.proofs.ListLemmas.{find-Some}
-use Rattle.queue_records.specs.declared.queue_entry.QueueEntry.{QueueEntry}
-use Rattle.type_chains.specs.Others.{queue_of}
 use Rattle.type_chains.proofs.Cases.{found_id}
 use Rattle.type_chains.proofs.Elements.{image_has}
 use Rattle.type_chains.proofs.OneQueueChanged.{found_new}
-use Rattle.xsi_inquiry.specs.Seeking.{IsEntryOf, IsKeyed}
-use Rattle.xsi_inquiry.specs.Telling.{IsFiled}
 use Rattle.xsi_inquiry.proofs.OthersLemmas.{agrees_by_others}
+use Rattle.xsi_sweep.specs.Words.{Answer, Id, Sent, Received, Info, Done, Refused, Call, Get, Send, Receive, Stat, Set, Remove, Caller, Queue, has_id, outcome, with_message, with_settings, without_message, State, QueueEntry, queue_of, IsEntryOf, IsKeyed, IsFiled}
 use Rattle.xsi_sweep.proofs.RemovingLemmas.{gone}
 
 -- the queue found has the key that its Queue tells
@@ -49,7 +38,8 @@ module _ (id : ℕ) (key : Option ℕ) (s t : State) (filed : IsFiled s) (keyed 
       find_at (has_id id) s.queues ∙ ap (slice_get s.queues) stands.place_of.first
       ∙ slice_get-get_or s.queues place q stands.place_of.within ∙ ap Some (stands.is_it q)
 
-  changed : (place : ℕ) (q new : Queue) → Changes id s place q new t → new.id ≡ q.id → new.key ≡ q.key → IsKeyed id key t
+  changed : (place : ℕ) (q new : Queue) → Changes id s place q new t → new.id ≡ q.id → new.key ≡ q.key →
+      IsKeyed id key t
   changed place q new did same_id same_key =
       let found = found_at place q did.stands in
       let now = ap (λ (x : State). find (has_id id) x.queues) did.after

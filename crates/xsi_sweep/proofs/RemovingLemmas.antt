@@ -8,34 +8,14 @@ use Rattle.std.proofs.lemmas.List.Edits.{length-remove}
 use Rattle.std.proofs.lemmas.List.Elements.{All-nil, All-cons, All-head, All-tail}
 use Rattle.std.proofs.lemmas.List.Folds.{find_at}
 use Rattle.std.proofs.lemmas.Option.{slice_get_within}
-use Rattle.bucket_page.specs.declared.record_key.RecordKey.{RecordKey}
-use Rattle.bucket_page.specs.Keys.{is_same}
-use Rattle.queue_model.specs.declared.message.Message.{Message}
-use Rattle.queue_model.specs.declared.queue.Queue.{Queue}
-use Rattle.queue_model.specs.Lawful.{IsLawful, AreKeysApart}
-use Rattle.queue_model.specs.Rules.{has_id, has_key, is_key, without_queue}
-use Rattle.queue_model.specs.State.{State}
 use Rattle.queue_model.proofs.LawfulLemmas.{IsLawful-remove}
 use Rattle.queue_model.proofs.ListLemmas.{find-Some}
-use Rattle.queue_records.specs.declared.counter.Counter.{Counter}
-use Rattle.queue_records.specs.declared.layout.TheConstants.{TYPE, MESSAGE}
-use Rattle.queue_records.specs.declared.record.Record.{Record}
 use Rattle.queue_records.specs.declared.record.Record.TheVariants as records
-use Rattle.queue_records.specs.Keys.{guard_of, key_of_key, key_of_queue}
-use Rattle.queue_records.specs.Range.{IsInRange}
-use Rattle.queue_records.specs.Spelling.{key_of}
 use Rattle.queue_records.proofs.Lengths.{length-counter}
-use Rattle.type_chains.specs.Entries.{counter_of, key_entry, queue_entry}
-use Rattle.type_chains.specs.RecordOf.{has_serial, type_record, message_record, record_of}
 use Rattle.type_chains.proofs.Limits.{in_range}
 use Rattle.type_chains.proofs.Unique.{PassesOnce, find_one, key_has, pairs_unmap}
-use Rattle.xsi_inquiry.specs.declared.write.Write.{Write}
-use Rattle.xsi_inquiry.specs.declared.write.Write.TheVariants.{Replace, Delete}
-use Rattle.xsi_inquiry.specs.Owning.{Ascend, IsBefore}
-use Rattle.xsi_inquiry.specs.Sweeping.{swept, has_type_number}
-use Rattle.xsi_inquiry.specs.Telling.{IsFiled}
-use Rattle.xsi_inquiry.specs.Writing.{Leads, Plan, Records, key_written, value_length, writes_of}
 use Rattle.xsi_inquiry.proofs.LeadLemmas.{Fills, IsNew, Misses, leads_by}
+use Rattle.xsi_sweep.specs.Words.{RecordKey, is_same, Message, Queue, IsLawful, AreKeysApart, has_id, has_key, is_key, without_queue, State, Counter, TYPE, MESSAGE, Record, guard_of, key_of_key, key_of_queue, IsInRange, key_of, counter_of, key_entry, queue_entry, has_serial, type_record, message_record, record_of, Write, Replace, Delete, Ascend, IsBefore, swept, has_type_number, IsFiled, Leads, Plan, Records, key_written, value_length, writes_of}
 use Rattle.xsi_sweep.specs.Knowing.{one_less}
 use Rattle.xsi_sweep.specs.Removing.{key_deletion, names_of}
 use Rattle.xsi_sweep.proofs.FindLemmas.{find_removed, find_removed_other, not_true}

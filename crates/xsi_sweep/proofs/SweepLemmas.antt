@@ -4,26 +4,14 @@ use Rattle.std.specs.Prelude.{◌==◌, ◌&&◌, ◌||◌, option_and_then, opt
 use Rattle.std.specs.List.{Contains, find, list_any}
 use Rattle.std.proofs.lemmas.Bool.{eqb-true}
 use Rattle.std.proofs.lemmas.Option.{slice_get_within}
-use Rattle.bucket_page.specs.declared.record_key.RecordKey.{RecordKey}
 use Rattle.fields.proofs.Tests.{both_true}
-use Rattle.queue_model.specs.declared.message.Message.{Message}
-use Rattle.limits.specs.declared.TheConstants.{MAX_MESSAGES}
-use Rattle.queue_model.specs.declared.queue.Queue.{Queue}
-use Rattle.queue_model.specs.Rules.{has_id}
-use Rattle.queue_model.specs.State.{State}
 use Rattle.queue_model.proofs.ListLemmas.{find-Some}
-use Rattle.queue_records.specs.declared.layout.TheConstants.{TYPE, MESSAGE}
-use Rattle.queue_records.specs.declared.record.Record.{Record}
 use Rattle.queue_records.specs.declared.record.Record.TheVariants as records
-use Rattle.type_chains.specs.Entries.{message_entry, type_entry}
-use Rattle.type_chains.specs.Lists.{types}
-use Rattle.type_chains.specs.RecordOf.{at_queue_of, has_number, has_serial, message_record, record_of, type_record}
 use Rattle.type_chains.proofs.Limits.{lawful_queue}
 use Rattle.type_chains.proofs.Members.{head_or_tail}
 use Rattle.type_chains.proofs.Pairs.{all_of}
 use Rattle.type_chains.proofs.TypesStand.{are_types_of}
-use Rattle.xsi_inquiry.specs.Sweeping.{has_type_number, message_left, swept, type_left}
-use Rattle.xsi_inquiry.specs.Telling.{IsFiled}
+use Rattle.xsi_sweep.specs.Words.{RecordKey, Message, MAX_MESSAGES, Queue, has_id, State, TYPE, MESSAGE, Record, message_entry, type_entry, types, at_queue_of, has_number, has_serial, message_record, record_of, type_record, has_type_number, message_left, swept, type_left, IsFiled}
 use Rattle.xsi_sweep.specs.declared.turn.Turn.{Turn}
 use Rattle.xsi_sweep.specs.Turns.{IsAtTurn}
 use Rattle.xsi_sweep.proofs.FindLemmas.{none_passes}

@@ -6,40 +6,16 @@ use Rattle.std.proofs.lemmas.Bool.{eqb-true}
 use Rattle.std.proofs.lemmas.Bool.Decides.{Decides-eqb, Decides-int_eq, nat_tests}
 use Rattle.std.proofs.lemmas.List.Elements.{All-contains, All-cons, All-drop, All-head, All-nil, All-tail, All-weaker, Contains-append_left, Contains-append_right}
 use Rattle.std.proofs.lemmas.List.Folds.{list_any_none}
-use Rattle.bucket_page.specs.declared.record_key.RecordKey.{RecordKey}
-use Rattle.bucket_page.specs.Keys.{is_same}
 use Rattle.page_locks.specs.declared.lock.LockName.TheVariants as names
-use Rattle.queue_model.specs.declared.message.Message.{Message}
-use Rattle.queue_model.specs.declared.queue.Queue.{Queue}
-use Rattle.queue_model.specs.Lawful.{IsLawfulMessage, IsLawfulQueue}
-use Rattle.queue_model.specs.Rules.{has_id}
-use Rattle.queue_model.specs.State.{State}
 use Rattle.queue_model.proofs.ListLemmas.{find-Some}
-use Rattle.queue_records.specs.declared.layout.TheConstants.{TYPE, MESSAGE}
-use Rattle.queue_records.specs.declared.message_entry.MessageEntry.{MessageEntry}
-use Rattle.queue_records.specs.declared.record.Record.{Record}
 use Rattle.queue_records.specs.declared.record.Record.TheVariants as records
-use Rattle.queue_records.specs.Fields.{type_number}
-use Rattle.queue_records.specs.Keys.{guard_of, key_of_message, key_of_type}
-use Rattle.queue_records.specs.Range.{IsInRange}
-use Rattle.queue_records.specs.Spelling.{key_of}
-use Rattle.type_chains.specs.Entries.{message_entry, queue_entry, type_entry}
-use Rattle.type_chains.specs.Image.{key_records, message_records, queue_records, type_records}
-use Rattle.type_chains.specs.Lists.{is_of_type, serials, types}
-use Rattle.type_chains.specs.Neighbours.{first_of}
-use Rattle.type_chains.specs.RecordOf.{has_serial, message_record, type_record}
 use Rattle.type_chains.proofs.Cases.{found_id}
 use Rattle.type_chains.proofs.Images.{queue_has}
 use Rattle.type_chains.proofs.Limits.{in_range, lawful_queue}
 use Rattle.type_chains.proofs.Members.{contains_tail, in_map}
 use Rattle.type_chains.proofs.TypesStand.{are_types_of}
-use Rattle.xsi_inquiry.specs.declared.write.Write.{Write}
-use Rattle.xsi_inquiry.specs.declared.write.Write.TheVariants.{Delete}
-use Rattle.xsi_inquiry.specs.Owning.{Ascend, IsBefore}
-use Rattle.xsi_inquiry.specs.Sweeping.{IsTurn, has_type_number, swept}
-use Rattle.xsi_inquiry.specs.Telling.{IsFiled}
-use Rattle.xsi_inquiry.specs.Writing.{Leads, Plan, Records, key_written, writes_of}
 use Rattle.xsi_inquiry.proofs.LeadLemmas.{Fills, IsNew, Misses, leads_by}
+use Rattle.xsi_sweep.specs.Words.{RecordKey, is_same, Message, Queue, IsLawfulMessage, IsLawfulQueue, has_id, State, TYPE, MESSAGE, MessageEntry, Record, type_number, guard_of, key_of_message, key_of_type, IsInRange, key_of, message_entry, queue_entry, type_entry, key_records, message_records, queue_records, type_records, is_of_type, serials, types, first_of, has_serial, message_record, type_record, Write, Delete, Ascend, IsBefore, IsTurn, has_type_number, swept, IsFiled, Leads, Plan, Records, key_written, writes_of}
 use Rattle.xsi_sweep.specs.declared.turn.Turn.{Turn}
 use Rattle.xsi_sweep.specs.Turns.{IsAtTurn, last_by, read_of, turn_plan, type_deletion}
 use Rattle.xsi_sweep.proofs.PlaceLemmas.{any_alike, at_place, drop_at, first_left, left_at, none_behind, pairs_behind, place_of_serial, same_number, some_behind}
@@ -327,7 +303,8 @@ is_message count q s t filed turn r told =
     (message_entry q m, cc)
 
 -- and what is made of it is the turn
-pub turn_taken : (count : ℕ) (q : Queue) (s : State) (t : Turn) → IsFiled s → IsAtTurn count q s t → (e : MessageEntry) →
+pub turn_taken : (count : ℕ) (q : Queue) (s : State) (t : Turn) → IsFiled s → IsAtTurn count q s t →
+    (e : MessageEntry) →
     Some (records.Message e) ≡ swept t.id count s (key_of_message t.id t.serial) →
     IsTurn t.id count q s (read_of e).next (turn_plan (record t { read = Some (read_of e) }))
 turn_taken count q s t filed turn e told =

@@ -4,3 +4,4 @@ pub mod Knowing
 pub mod Laws
 pub mod Removing
 pub mod Turns
+pub mod Words

@@ -1,10 +1,13 @@
 //! A Remove as it asks for records.
 
-ghost use Rattle.std.specs.Prelude.{◌≡◌, ℕ, IfSome};
+ghost use Rattle.std.specs.Prelude.{◌≡◌, ℕ, IfSome, None, Option};
+ghost use Rattle.std.specs.List.{Contains};
+ghost use Rattle.page_locks.specs.declared.lock.LockName.{LockName};
 ghost use Rattle.queue_model.specs.State.{State};
 ghost use Rattle.xsi_inquiry.specs.Rooms.{Roomful};
 ghost use Rattle.xsi_inquiry.specs.Seeking.{IsKeyed};
 ghost use Rattle.xsi_sweep.specs.Asking.{key_at};
+ghost use Rattle.xsi_sweep.specs.Removing.{names_of};
 
 use crate::stage::Stage;
 use queue_model::Caller;
@@ -37,6 +40,17 @@ impl RemoveInquiry {
                 None,
         }
     }
+
+    /// Where it decides, all names under which it writes are those of the key that it knew between its phases.
+    pub fn keeps_to_its_names(&self)
+        ensures { (id : ℕ) (key : Option ℕ) (room : Roomful) (s : State) →
+            ⟦<RemoveInquiry as Inquiry>⟧.wanted id self.now ≡ None → IsKeyed id key s →
+            ⟦<RemoveInquiry as Inquiry>⟧.Knows id self.now room s → (name : LockName) →
+            Contains (⟦<RemoveInquiry as Inquiry>⟧.locked id self.now) name →
+            Contains (names_of id key) name }
+    {
+        let _ = self;
+    }
 }
 
 impl Inquiry for RemoveInquiry {
@@ -63,9 +77,11 @@ impl Inquiry for RemoveInquiry {
 
     ghost plan = { λ id i. plan_at id i.stage };
 
-    ghost asks = { λ id i names s t found covered agrees told. stage_asks id i.stage names s t found covered agrees told };
+    ghost asks = { λ id i names s t found covered agrees told.
+        stage_asks id i.stage names s t found covered agrees told };
 
-    ghost asks_given = { λ id i names s t given agrees told. given_at id i.stage s t given agrees.asked told };
+    ghost asks_given = { λ id i names s t given agrees told.
+        given_at id i.stage s t given agrees.asked told };
 
     ghost few = { λ id i. few_at id i.stage };
 
