@@ -3,6 +3,7 @@ use Rattle.std.proofs.Common.{◌++◌, cond, ℕ, ◌+◌, ◌≤◌, length, r
 use Rattle.std.proofs.lemmas.List.{length-append}
 use Rattle.std.proofs.lemmas.List.Concat.{flat_map-append}
 use Rattle.bucket_page.specs.declared.record_key.RecordKey.{RecordKey}
+use Rattle.bucket_page.specs.declared.layout.TheConstants.{RECORD_HEAD_BYTES, ROOM_BYTES}
 use Rattle.bucket_page.specs.Keys.{is_same, is_below}
 use Rattle.bucket_page.specs.Records.{Pair, pair, is_above, pair_bytes, ascend_from, ascend, lookup, record_bytes}
 use Rattle.bucket_page.specs.Changes.{below, inserted, replaced, removed}
@@ -44,9 +45,9 @@ lookup_on key p ps qs same is test other h =
 -- a record below the key is counted
 pub below_step : (key : RecordKey) (p : Pair) (ps qs : List Pair) (at total : ℕ) (r : Bool) → qs ≡ p ∷ ps
     → r ≡ is_below p.key key → r ≡ true
-    → at + length (record_bytes qs) ≤ 4048 → at + length (record_bytes (below key qs)) ≡ total
-    → (at + (15 + length p.value) + length (record_bytes ps) ≤ 4048)
-    × (at + (15 + length p.value) + length (record_bytes (below key ps)) ≡ total)
+    → at + length (record_bytes qs) ≤ ROOM_BYTES → at + length (record_bytes (below key qs)) ≡ total
+    → (at + (RECORD_HEAD_BYTES + length p.value) + length (record_bytes ps) ≤ ROOM_BYTES)
+    × (at + (RECORD_HEAD_BYTES + length p.value) + length (record_bytes (below key ps)) ≡ total)
 below_step key p ps qs at total r is test under room so-far =
     let all = length-cons p ps in
     let len : length (record_bytes qs) ≡ length (record_bytes (p ∷ ps)) =

@@ -13,7 +13,7 @@ use Rattle.fields.specs.Numbers.{four, zeros, four_at}
 use Rattle.bucket_page.specs.Records.{record_bytes, pairs_of, fills, ascend}
 use Rattle.bucket_page.specs.Bucket.{Bucket}
 use Rattle.bucket_page.specs.Spelling.{head_of, bucket_bytes, link_bytes, bytes_of, IsBucket, IsPage, Spells}
-use Rattle.bucket_page.specs.Reading.{count_at, used_at, area, after_area, bucket_at, page_at, bucket_fault, directory_fault, link_fault, fault_of, reading, answer}
+use Rattle.bucket_page.specs.Reading.{count_at, used_at, area, after_area, bucket_at, page_at, bucket_fault, link_fault, fault_of, reading, answer}
 use Rattle.fields.specs.Numbers.{is_zero}
 use Rattle.fields.proofs.ZeroLaws.{zeros_again, length-zeros}
 use Rattle.fields.proofs.NumberLaws.{after_part, four_again, length-four}
@@ -69,7 +69,8 @@ link_again kind page small =
     let bytes : List ℕ = link_bytes kind page in
     let tail : List ℕ = four page ++ zeros (PAYLOAD_BYTES - LINK_BYTES) in
     let at4 : drop 4 bytes ≡ tail = after_part 1 3 bytes (zeros 3) tail refl (length-zeros 3) in
-    let at8 : drop LINK_BYTES bytes ≡ zeros (PAYLOAD_BYTES - LINK_BYTES) = after_part 4 4 bytes (four page) (zeros (PAYLOAD_BYTES - LINK_BYTES)) at4 (length-four page) in
+    let at8 : drop LINK_BYTES bytes ≡ zeros (PAYLOAD_BYTES - LINK_BYTES) =
+    after_part 4 4 bytes (four page) (zeros (PAYLOAD_BYTES - LINK_BYTES)) at4 (length-four page) in
     let front : is_zero (take 3 (drop 1 bytes)) ≡ true =
     rw (take_at (zeros 3) tail 3 (length-zeros 3)) (zeros_again 3) in
     let back : is_zero (drop LINK_BYTES bytes) ≡ true = rw at8 (zeros_again (PAYLOAD_BYTES - LINK_BYTES)) in

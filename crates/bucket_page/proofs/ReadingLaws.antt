@@ -1,11 +1,10 @@
 -- What a payload that passes all tests says is spelled by it.
-use Rattle.std.proofs.Common.{◌≡◌, ℕ, ◌+◌, ◌-◌, ◌≤◌, Bool, true, false, cond, ◌||◌, eqb, List, [], ◌∷◌, ◌++◌, length, take, drop, Option, Some, None, Result, Err, refl, sym, ap, subst, ◌∙◌, arith}
+use Rattle.std.proofs.Common.{◌≡◌, ℕ, ◌-◌, ◌≤◌, Bool, true, false, cond, ◌||◌, eqb, List, [], ◌∷◌, ◌++◌, length, take, drop, Option, Some, None, Result, Err, refl, sym, ap, subst, ◌∙◌, arith}
 use Rattle.std.specs.Prelude.{IfOk}
 use Rattle.std.proofs.lemmas.Bool.{eqb-true, leb-true, ltb-true}
 use Rattle.std.proofs.lemmas.List.{take-append-drop, length-take, length-drop}
 use Rattle.bucket_page.specs.declared.layout.TheConstants.{BUCKET, LINK_BYTES, ROOM_BYTES}
 use Rattle.page_device.specs.declared.page.TheConstants.{PAYLOAD_BYTES}
-use Rattle.directory.specs.declared.layout.TheConstants.{DIRECTORY}
 use Rattle.bucket_page.specs.declared.page.Malformed.{Malformed}
 use Rattle.bucket_page.specs.declared.page.Malformed.TheVariants as faults
 use Rattle.bucket_page.specs.declared.page.PageKind.{PageKind}
@@ -18,7 +17,7 @@ use Rattle.bucket_page.specs.Reading.{kind_at, depth_at, count_at, used_at, area
 use Rattle.fields.specs.Numbers.{is_zero}
 use Rattle.fields.proofs.Tests.{both_true}
 use Rattle.fields.proofs.ZeroLaws.{zeros_at, zeros_of}
-use Rattle.fields.proofs.NumberLaws.{IsBytes, IsBytes-drop, IsBytes-take, past, two_takes, four_takes, four_small}
+use Rattle.fields.proofs.NumberLaws.{IsBytes, IsBytes-drop, IsBytes-take, two_takes, four_takes, four_small}
 use Rattle.bucket_page.proofs.RecordLaws.{records_take}
 use Rattle.directory.proofs.PageLaws.{directory_takes}
 use Rattle.bucket_page.proofs.HeadLaws.{head_parts}
@@ -51,7 +50,7 @@ head_takes bytes long all kind blank =
     head_first bytes (omega (arith, long)) ∙ (λ i. kind i ∷ depth_at bytes ∷ count i)
     ∙ sym (head_parts (head_at bytes) (drop 16 bytes))
 
-bucket_takes : (bytes : List ℕ) → length bytes ≡ 4064 → IsBytes bytes → kind_at bytes ≡ BUCKET
+bucket_takes : (bytes : List ℕ) → length bytes ≡ PAYLOAD_BYTES → IsBytes bytes → kind_at bytes ≡ BUCKET
     → bucket_fault bytes ≡ None → Spells (kinds.Bucket (bucket_at bytes)) bytes
 bucket_takes bytes long all kind passes =
     let depth = passed _ _ _ passes in
@@ -96,19 +95,20 @@ bucket_takes bytes long all kind passes =
     }
 
 -- four bytes from place 4 on, between zeros
-link_takes : (kind : ℕ) (bytes : List ℕ) → length bytes ≡ 4064 → IsBytes bytes → kind_at bytes ≡ kind
+link_takes : (kind : ℕ) (bytes : List ℕ) → length bytes ≡ PAYLOAD_BYTES → IsBytes bytes → kind_at bytes ≡ kind
     → link_fault bytes ≡ None → bytes ≡ link_bytes kind (four_at 4 bytes)
 link_takes kind bytes long all is passes =
     let blanks = both_true _ _ (passed _ _ _ passes).0 in
     let front = zeros_at 1 3 bytes (omega (arith, long)) blanks.0 in
     let page = four_takes 4 bytes (omega (arith, long)) all in
-    let back : drop LINK_BYTES bytes ≡ zeros (PAYLOAD_BYTES - LINK_BYTES) = zeros_of (PAYLOAD_BYTES - LINK_BYTES) (drop LINK_BYTES bytes) (omega (arith, long, length-drop LINK_BYTES bytes))
+    let back : drop LINK_BYTES bytes ≡ zeros (PAYLOAD_BYTES - LINK_BYTES) =
+    zeros_of (PAYLOAD_BYTES - LINK_BYTES) (drop LINK_BYTES bytes) (omega (arith, long, length-drop LINK_BYTES bytes))
     blanks.1 in
     let parts = front ∙ ap (λ (xs : List ℕ). zeros 3 ++ xs) (page
     ∙ ap (λ (xs : List ℕ). four (four_at 4 bytes) ++ xs) back) in
     kind_first bytes (omega (arith, long)) ∙ (λ i. is i ∷ parts i)
 
-page_takes : (bytes : List ℕ) → length bytes ≡ 4064 → IsBytes bytes → fault_of bytes ≡ None
+page_takes : (bytes : List ℕ) → length bytes ≡ PAYLOAD_BYTES → IsBytes bytes → fault_of bytes ≡ None
     → Spells (page_at bytes) bytes
 page_takes bytes long all passes = by_kind (eqb (kind_at bytes) 3) (eqb (kind_at bytes) 2) (eqb (kind_at bytes) 4)
     (eqb (kind_at bytes) 5) refl refl refl refl passes
@@ -142,7 +142,7 @@ answered None page bytes spells = spells refl
 answered (Some m) page bytes spells = tt
 
 -- what is read is spelled
-pub is_spelled : (bytes : List ℕ) (r : Result PageKind Malformed) → length bytes ≡ 4064 → IsBytes bytes
+pub is_spelled : (bytes : List ℕ) (r : Result PageKind Malformed) → length bytes ≡ PAYLOAD_BYTES → IsBytes bytes
     → r ≡ reading bytes → IfOk r (λ page. Spells page bytes)
 is_spelled bytes r long all is =
     subst (λ (x : Result PageKind Malformed). IfOk x (λ page. Spells page bytes)) (sym is)

@@ -1,8 +1,7 @@
 -- Bytes of records with some put in or taken out.
 use Rattle.std.proofs.Common.{◌≡◌, ℕ, ◌+◌, ◌-◌, ◌≤◌, List, ◌++◌, length, take, drop, refl, sym, ap, ◌∙◌, append_assoc, arith}
 use Rattle.std.proofs.lemmas.List.{take_at, drop_at, drop-drop, drop-take, length-append, length-take, length-drop, take-take}
-use Rattle.std.proofs.Math.Seq.{take-append-add, drop-append-add}
-use Rattle.fields.specs.Numbers.{zeros, overwritten}
+use Rattle.fields.specs.Numbers.{zeros}
 use Rattle.bucket_page.specs.Spelling.{padded}
 use Rattle.bucket_page.specs.Changes.{inserted_at, taken_out}
 use Rattle.fields.proofs.ZeroLaws.{drop-zeros, zeros-zeros}

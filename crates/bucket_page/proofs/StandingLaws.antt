@@ -1,9 +1,9 @@
 -- A record that stands in a bucket's payload is replaced or taken out.
 use Rattle.std.proofs.Common.{◌≡◌, ◌&&◌, ℕ, ◌+◌, ◌-◌, ◌≤◌, Bool, true, Option, Some, None, List, [], ◌∷◌, ◌++◌, length, take, drop, refl, sym, ap, subst, ◌∙◌, append_assoc, arith}
-use Rattle.std.specs.Prelude.{IsSome}
+use Rattle.std.specs.Prelude.{IsSome, unwrap_or}
 use Rattle.std.specs.Option.{option_map}
 use Rattle.std.specs.List.{AllByRecursion}
-use Rattle.std.proofs.lemmas.List.{drop_at, length-append}
+use Rattle.std.proofs.lemmas.List.{drop_at, length-append, length-drop, length-take, take-append-drop}
 use Rattle.std.proofs.lemmas.List.Concat.{flat_map-append}
 use Rattle.bucket_page.specs.declared.layout.TheConstants.{ROOM_BYTES}
 use Rattle.bucket_page.specs.declared.head.Head.{Head}
@@ -13,7 +13,7 @@ use Rattle.bucket_page.specs.Keys.{key_bytes}
 use Rattle.bucket_page.specs.Records.{Pair, pair, is_above, ascend_from, IsPair, pair_bytes, record_bytes, ascend, lookup}
 use Rattle.bucket_page.specs.Spelling.{head_bytes, padded}
 use Rattle.bucket_page.specs.Reading.{count_at, used_at, head_at, bucket_at, records_at}
-use Rattle.bucket_page.specs.Changes.{SpellsBucket, IsBucketPage, Changes, below, replaced, removed, taken_out}
+use Rattle.bucket_page.specs.Changes.{SpellsBucket, IsBucketPage, Changes, below, fronted, replaced, removed, taken_out, value_of_key}
 use Rattle.fields.proofs.NumberLaws.{two_again, length-two}
 use Rattle.bucket_page.proofs.KeyLaws.{length-key}
 use Rattle.bucket_page.proofs.Steps.{length-pair}
@@ -219,6 +219,55 @@ replace_makes bytes value new front back body key at it stand same at-is front-i
     (sym (among.replaced new))
     (remade bytes front body (head_at bytes) (lower ++ pair key new ∷ upper) it all (omega (arith, len, says.room))
     order head (front-is ∙ says.front) is)
+
+-- ---- replaced in part
+
+-- the first bytes of what stands between others are written over
+over_front : (f v b front : List ℕ) (at : ℕ) → length f ≡ at → length front ≤ length v
+    → overwritten (f ++ (v ++ b)) at front ≡ overwritten (f ++ (v ++ b)) at (front ++ drop (length front) v)
+over_front f v b front at is long =
+    let n : ℕ = length front in
+    let parts : f ++ (v ++ b) ≡ f ++ (take n v ++ (drop n v ++ b)) =
+    ap (λ (xs : List ℕ). f ++ xs) (ap (λ (xs : List ℕ). xs ++ b) (sym (take-append-drop n v)) ∙ append_assoc (take n v) (drop n v) b) in
+    let taken : length (take n v) ≡ n = let t = length-take n v in omega (arith, t, long) in
+    let same : length v ≡ length (front ++ drop n v) =
+    let a = length-append front (drop n v) in let d = length-drop n v in omega (arith, a, d, long) in
+    ap (λ (xs : List ℕ). overwritten xs at front) parts
+    ∙ written_between f (take n v) front (drop n v ++ b) at is taken
+    ∙ ap (λ (xs : List ℕ). f ++ xs) (sym (append_assoc front (drop n v) b))
+    ∙ sym (written_between f v (front ++ drop n v) b at is same)
+
+pub some_with : (o : Option (List ℕ)) → IsSome o → o ≡ Some (unwrap_or o [])
+some_with None is = absurd cc
+some_with (Some value) is = refl
+
+pub front_makes : (bytes first front back body : List ℕ) (key : RecordKey) (at : ℕ) → IsBucketPage bytes
+    → IsSome (lookup key (records_at bytes)) → length first ≤ length (value_of_key key (records_at bytes))
+    → at ≡ length (record_bytes (below key (records_at bytes))) → front ≡ take 16 bytes → back ≡ drop 16 bytes
+    → body ≡ overwritten back (at + 15) first
+    → Changes (fronted key first) bytes (front ++ body)
+front_makes bytes first front back body key at it there long at-is front-is back-is body-is =
+    let says = opened bytes it in
+    let ps : List Pair = records_at bytes in
+    let value : List ℕ = value_of_key key ps in
+    let stand = stands bytes value key it (some_with (lookup key ps) there) in
+    let f : List ℕ = record_bytes (below key ps) in
+    let u : List ℕ = record_bytes (behind key ps) in
+    let k : List ℕ = key_bytes key in
+    let t : List ℕ = two (length value) in
+    let z : List ℕ = zeros (ROOM_BYTES - length (f ++ ((t ++ (k ++ value)) ++ u))) in
+    let head : length (f ++ (t ++ k)) ≡ at + 15 =
+    omega (arith, length-append f (t ++ k), length-append t k, length-two (length value), length-key key, at-is) in
+    let is : back ≡ (f ++ (t ++ k)) ++ (value ++ (u ++ z)) =
+    back-is ∙ says.back ∙ ap (padded ROOM_BYTES) stand.parts ∙ spread f t k value u z in
+    let new : List ℕ = first ++ drop (length first) value in
+    let same : length value ≡ length new =
+    let a = length-append first (drop (length first) value) in let d = length-drop (length first) value in
+    omega (arith, a, d, long) in
+    replace_makes bytes value new front back body key at it stand same at-is front-is back-is
+    (body-is ∙ ap (λ (xs : List ℕ). overwritten xs (at + 15) first) is
+    ∙ over_front (f ++ (t ++ k)) value (u ++ z) first (at + 15) head long
+    ∙ ap (λ (xs : List ℕ). overwritten xs (at + 15) new) (sym is))
 
 -- ---- removed
 

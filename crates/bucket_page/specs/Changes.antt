@@ -1,11 +1,11 @@
 -- Changes of a bucket's records: those of a set of pairs that is listed in the order of its keys.
-use Rattle.std.specs.Prelude.{◌≡◌, ℕ, ◌+◌, ◌-◌, true, Some, List, [], ◌∷◌, ◌++◌, length, take, drop, if◌then◌else◌}
+use Rattle.std.specs.Prelude.{◌≡◌, ℕ, ◌+◌, ◌-◌, true, Some, List, [], ◌∷◌, ◌++◌, length, take, drop, unwrap_or, if◌then◌else◌}
 use Rattle.std.specs.Option.{option_map}
 use Rattle.bucket_page.specs.declared.record_key.RecordKey.{RecordKey}
 use Rattle.bucket_page.specs.declared.page.PageKind.TheVariants as kinds
 use Rattle.fields.specs.Numbers.{zeros}
 use Rattle.bucket_page.specs.Keys.{is_same, is_below}
-use Rattle.bucket_page.specs.Records.{Pair, record_bytes, ascend, lookup}
+use Rattle.bucket_page.specs.Records.{Pair, pair, record_bytes, ascend, lookup}
 use Rattle.bucket_page.specs.Bucket.{Bucket}
 use Rattle.bucket_page.specs.Spelling.{Spells}
 use Rattle.bucket_page.specs.Reading.{bucket_at, records_at}
@@ -19,6 +19,14 @@ inserted p (q ∷ qs) = if is_below q.key p.key then q ∷ inserted p qs else p 
 abbrev pub replaced : Pair → List Pair → List Pair
 replaced p [] = []
 replaced p (q ∷ qs) = if is_same q.key p.key then p ∷ qs else q ∷ replaced p qs
+
+-- the value of a key, which has no byte where the key has none
+abbrev pub value_of_key : RecordKey → List Pair → List ℕ
+value_of_key key ps = unwrap_or (lookup key ps) []
+
+-- the value of a key has these bytes at its front, and is as it was behind them
+abbrev pub fronted : RecordKey → List ℕ → List Pair → List Pair
+fronted key front ps = replaced (pair key (front ++ drop (length front) (value_of_key key ps))) ps
 
 -- the pair of a key is gone
 abbrev pub removed : RecordKey → List Pair → List Pair

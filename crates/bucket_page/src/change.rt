@@ -3,7 +3,7 @@
 ghost use Rattle.std.specs.Prelude.{[], ◌∷◌, ◌++◌, true, ◌≡◌, ◌↔◌, ◌+◌, ◌<◌, ◌≤◌, IsErr, IsSome, OnErr, OnOk, Some, None, length};
 ghost use Rattle.bucket_page.specs.Records.{ascend, pair, lookup, record_bytes};
 ghost use Rattle.bucket_page.specs.Reading.{records_at, used_at};
-ghost use Rattle.bucket_page.specs.Changes.{Appends, Changes, InsertsAt, HasValueOf, IsBucketPage, below, inserted, removed, replaced};
+ghost use Rattle.bucket_page.specs.Changes.{Appends, Changes, InsertsAt, HasValueOf, IsBucketPage, below, fronted, inserted, removed, replaced, value_of_key};
 
 use crate::head::Head;
 use crate::layout::{RECORD_HEAD_BYTES, ROOM_BYTES};
@@ -74,6 +74,18 @@ pub fn replace(payload: &mut Payload, key: &RecordKey, value: &[u8])
     set_bytes(body, at + RECORD_HEAD_BYTES, value);
 }
 
+/// Replaces the first bytes of the value of a key that the bucket has. The others stay where they are.
+pub fn replace_front(payload: &mut Payload, key: &RecordKey, front: &[u8])
+    requires bucket { IsBucketPage payload.old }
+    requires there { IsSome (lookup key.now (records_at payload.old)) }
+    requires long { length front.now ≤ length (value_of_key key.now (records_at payload.old)) }
+    ensures ok { Changes (fronted key.now front.now) payload.old payload.new }
+{
+    let at = place(payload, key);
+    let (_, body) = payload.split_at_mut(HEAD_BYTES);
+    set_bytes(body, at + RECORD_HEAD_BYTES, front);
+}
+
 /// Takes the record of a key that the bucket has.
 pub fn remove(payload: &mut Payload, key: &RecordKey)
     requires bucket { IsBucketPage payload.old }
@@ -102,7 +114,7 @@ fn insert_record(payload: &mut Payload, at: usize, key: &RecordKey, value: &[u8]
     requires room { used_at payload.old + (RECORD_HEAD_BYTES + length value.now) ≤ ROOM_BYTES }
     ensures { InsertsAt at (pair key.now value.now) payload.old payload.new }
 {
-    key.is_in_range();
+    key.fits_bytes();
     let head = Head::read(payload);
     let used = head.used as usize;
     let (front, body) = payload.split_at_mut(HEAD_BYTES);

@@ -15,7 +15,7 @@ mod splice;
 mod view;
 mod write;
 
-pub use change::{DoesNotFit, put, remove, replace};
+pub use change::{DoesNotFit, put, remove, replace, replace_front};
 pub use divide::{cut, join, write_lower_half, write_upper_half};
 pub use layout::{BUCKET, FREE, RECORD_HEAD_BYTES, ROOM_BYTES, TOMBSTONE};
 pub use page::{Malformed, PageKind, bucket_of, link_of, read_page};
@@ -24,6 +24,3 @@ pub use record_key::{KEY_BYTES, RecordKey};
 pub use records::{Record, Records};
 pub use view::BucketView;
 pub use write::{write_bucket, write_free, write_tombstone};
-
-#[cfg(test)]
-mod tests;

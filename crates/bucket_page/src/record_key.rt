@@ -23,7 +23,7 @@ impl RecordKey {
         ensures value { result ≡ key_bytes self }
         ensures back { key_at result ≡ self }
     {
-        self.is_in_range();
+        self.fits_bytes();
         let mut bytes = [0; KEY_BYTES];
         write_key(&mut bytes, &self);
         bytes
@@ -50,7 +50,7 @@ impl RecordKey {
     }
 
     /// The numbers of each key fit their bytes.
-    pub fn is_in_range(self)
+    pub fn fits_bytes(self)
         ensures { IsKey self }
     {
         let RecordKey {

@@ -1,8 +1,8 @@
 //! Scripts run on files that are not as they should be, and on files of the system.
 
-use crate::trial::printed;
+use crate::trial::{buffered, printed, unbuffered};
 use directory::LEAST_PAGES;
-use msgq_cli::{Ending, Failure, Output, Stage, new_file, new_on, read_script, run_file, run_on};
+use msgq_cli::{Ending, Failure, Stage, new_file, new_on, read_script, run_file, run_on};
 use page_device::{FaultyDevice, MemDevice, PAGE_BYTES, PageDevice, seal, unseal};
 use std::alloc::Global;
 use std::fs;
@@ -13,7 +13,7 @@ use std::test::Fail;
 
 /// A new file in memory, as small as there are.
 fn new_device(alloc: Global) -> MemDevice {
-    let mut output = Output::new(Vec::new(alloc));
+    let mut output = unbuffered(alloc, Vec::new(alloc));
     new_on(MemDevice::new(alloc), LEAST_PAGES, &mut output).0
 }
 
@@ -27,7 +27,7 @@ fn fails<R: Abort + AllocGlobal, D: PageDevice + Drop>(
 ) -> Result<(), Fail> {
     let alloc = rt.alloc();
     let script = read_script(alloc, b"1 get 7 create\n1 snd 1 5 61\n")?;
-    let mut output = Output::new(Vec::new(alloc));
+    let mut output = buffered(alloc)?;
     let (_device, ended) = run_on(alloc, device, &script, &mut output);
     let told = String::from_utf8(printed(output))?;
     assert_eq!(rt; told.as_str(), wanted);
@@ -100,7 +100,7 @@ fn makes<R: Abort + AllocGlobal + Files<File = File>>(
     wanted: &str,
     errors: &str,
 ) -> Result<(), Fail> {
-    let mut output = Output::new(Vec::new(rt.alloc()));
+    let mut output = buffered(rt.alloc())?;
     let mut said = Vec::new(rt.alloc());
     let ended = new_file(rt, path, 258, &mut output, &mut said);
     assert!(rt; (ended == Ending::Done) == errors.is_empty());
@@ -119,7 +119,7 @@ fn runs<R: Abort + AllocGlobal + Files<File = File> + Input>(
     wanted: &str,
     errors: &str,
 ) -> Result<(), Fail> {
-    let mut output = Output::new(Vec::new(rt.alloc()));
+    let mut output = buffered(rt.alloc())?;
     let mut said = Vec::new(rt.alloc());
     let ended = run_file(rt, file, script, &mut output, &mut said);
     assert!(rt;

@@ -1,6 +1,7 @@
 //! Scripts and the lines of answers, typed from their grammar.
 
-use msgq_cli::{Command, Line, Output, Reply, ScriptError, print_info, read_script};
+use crate::trial::{buffered, printed};
+use msgq_cli::{Command, Line, Reply, ScriptError, print_info, read_script};
 use queue_model::{
     Answer, Body, Call, Caller, Errno, GetArguments, Message, Permissions, QueueInfo,
     ReceiveArguments, SendArguments, SetArguments,
@@ -275,17 +276,14 @@ fn each_reply_is_printed(rt: HostRuntime) -> Result<(), Fail> {
         (5, Reply::Failed(50), "5 fault 50\n"),
     ];
     for (number, reply, wanted) in &table {
-        let mut output = Output::new(Vec::new(alloc));
+        let mut output = buffered(alloc)?;
         reply.print(*number, &mut output);
-        assert!(rt;
-            output.into_writer().as_slice() == wanted.as_bytes(),
-            "{wanted}"
-        );
+        assert!(rt; printed(output).as_slice() == wanted.as_bytes(), "{wanted}");
     }
-    let mut output = Output::new(Vec::new(alloc));
+    let mut output = buffered(alloc)?;
     print_info(&info, &mut output);
     assert!(rt;
-        output.into_writer().as_slice()
+        printed(output).as_slice()
             == b"info 1 7 2 2 30000 2 2 16 7 14 200 10 100 10 600\n".as_slice()
     );
     Ok(())

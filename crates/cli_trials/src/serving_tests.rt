@@ -1,7 +1,7 @@
 //! Readers and writers that fail, and what is said of wrong scripts.
 
-use crate::trial::{Refusing, printed};
-use msgq_cli::{Ending, Failure, Output, Stage, print_made, serve, serve_text};
+use crate::trial::{Refusing, buffered, printed, unbuffered};
+use msgq_cli::{Ending, Failure, Stage, print_made, serve, serve_text};
 use std::io;
 use std::io::{ErrorKind, Read};
 use std::test::Fail;
@@ -32,7 +32,7 @@ fn a_reader_that_fails_runs_nothing(rt: HostRuntime) -> Result<(), Fail> {
         (ErrorKind::OutOfMemory, "fault 60\n", 60),
     ] {
         let mut reader = Failing { begun: false, kind };
-        let mut output = Output::new(Vec::new(alloc));
+        let mut output = buffered(alloc)?;
         let mut errors = Vec::new(alloc);
         let ended = serve(alloc, &mut reader, &mut output, &mut errors);
         let stage = Stage::Reading;
@@ -52,7 +52,7 @@ fn a_reader_that_fails_runs_nothing(rt: HostRuntime) -> Result<(), Fail> {
 fn a_writer_that_refuses_makes_the_status_1(rt: HostRuntime) -> Result<(), Fail> {
     let alloc = rt.alloc();
     let mut reader = b"1 get 7 create\n1 snd 1 1 61\n1 get 7\n".as_slice();
-    let mut output = Output::new(Refusing::new(alloc, 9));
+    let mut output = unbuffered(alloc, Refusing::new(alloc, 9));
     let mut errors = Vec::new(alloc);
     let ending = serve(alloc, &mut reader, &mut output, &mut errors);
     assert_eq!(rt; ending, Ending::Done);
@@ -102,7 +102,7 @@ fn the_wrong_word_of_a_line_is_named(rt: HostRuntime) -> Result<(), Fail> {
     let alloc = rt.alloc();
     for (line, found, could) in MISTAKES {
         let text = format!(in alloc; "1 stop\n{line}")?;
-        let mut output = Output::new(Vec::new(alloc));
+        let mut output = buffered(alloc)?;
         let mut errors = Vec::new(alloc);
         let ending = serve_text(alloc, text.as_bytes(), &mut output, &mut errors);
         assert_eq!(rt; ending, Ending::WrongLine(2), "{line}");

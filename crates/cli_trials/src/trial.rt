@@ -3,10 +3,25 @@
 use msgq_cli::Output;
 use std::alloc::Global;
 use std::io;
-use std::io::{ErrorKind, Write};
+use std::io::{BufWriter, ErrorKind, Write};
 
-/// What an output holds.
+/// An output that hands on what is printed once it is flushed.
+pub fn buffered(alloc: Global) -> io::Result<Output<Vec<u8>>> {
+    Ok(Output::new(BufWriter::new(alloc, Vec::new(alloc))?))
+}
+
+/// An output that hands on each write.
+pub fn unbuffered<W: Write + Drop>(alloc: Global, writer: W) -> Output<W> {
+    let Ok(writer) = BufWriter::with_capacity(alloc, 0, writer) else {
+        unreachable!()
+    };
+    Output::new(writer)
+}
+
+/// What was printed.
 pub fn printed(output: Output<Vec<u8>>) -> Vec<u8> {
+    let mut output = output;
+    output.flush();
     output.into_writer()
 }
 

@@ -1,5 +1,5 @@
 -- The page on which the lower half's entries stand, where the directory doubles.
-use Rattle.std.proofs.Common.{◌≡◌, ℕ, ◌+◌, ◌-◌, ◌*◌, ◌/◌, ◌^◌, ◌<◌, ◌≤◌, true, leb, ltb, refl, sym, ap, ◌∙◌, arith, ◌⊎◌, inl, inr}
+use Rattle.std.proofs.Common.{◌≡◌, ℕ, ◌+◌, ◌-◌, ◌*◌, ◌/◌, ◌^◌, ◌<◌, ◌≤◌, true, leb, ltb, sym, ap, ◌∙◌, arith, ◌⊎◌, inl, inr}
 use Rattle.std.proofs.lemmas.Bool.{cases_lt, leb-true, ltb-true}
 use Rattle.std.proofs.lemmas.Nat.{pow-add}
 use Rattle.std.proofs.Math.Nat.{add-mul-div_right, div-eq_of_lt, mod-lt, pow-le-pow_right}
@@ -52,4 +52,5 @@ lower_half i page depth on upper =
     let to : i < 2 * 2 ^ depth = ltb-true _ _ both.1 in
     let low : slot_of i < 512 = mod-lt i (omega arith) in
     ap (λ (k : ℕ). page_of (k - 2 ^ depth)) (sym place)
-    ∙ ap (λ (k : ℕ). 1 + k) (half_back (page - 1) (slot_of i) depth low (omega (arith, place, from)) (omega (arith, place, to)))
+    ∙ ap (λ (k : ℕ). 1 + k)
+    (half_back (page - 1) (slot_of i) depth low (omega (arith, place, from)) (omega (arith, place, to)))

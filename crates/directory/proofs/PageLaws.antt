@@ -1,5 +1,5 @@
 -- A page of the directory: its entries are read from their bytes and spelled by them, and one of them is written.
-use Rattle.std.proofs.Common.{◌≡◌, ◌≢◌, ℕ, ◌+◌, ◌-◌, ◌*◌, ◌<◌, ◌≤◌, ◌^◌, true, List, [], ◌∷◌, ◌++◌, length, take, drop, get_or, slice_index, slice_set, refl, sym, ap, ◌∙◌, arith}
+use Rattle.std.proofs.Common.{◌≡◌, ◌≢◌, ℕ, ◌-◌, ◌*◌, ◌<◌, ◌≤◌, ◌^◌, true, List, [], ◌∷◌, ◌++◌, length, take, drop, get_or, slice_index, slice_set, refl, sym, ap, ◌∙◌, arith}
 use Rattle.std.specs.List.{AllByRecursion}
 use Rattle.std.proofs.lemmas.List.{take_at, drop_at, get_or-set_other, get_or-set_same, length-drop, length-set, length-take, nil_from_length, take-append-drop}
 use Rattle.page_device.specs.declared.page.TheConstants.{PAYLOAD_BYTES}
@@ -52,7 +52,8 @@ directory_again es is =
     let bytes : List ℕ = directory_bytes es in
     let tail : List ℕ = numbers_bytes es ++ zeros BEHIND in
     let long : length (numbers_bytes es) ≡ ENTRIES_BYTES = omega (arith, length-numbers es, is.number) in
-    let rest : drop HEAD_BYTES bytes ≡ tail = after_part 1 BEFORE bytes (zeros BEFORE) tail refl (length-zeros BEFORE) in
+    let rest : drop HEAD_BYTES bytes ≡ tail =
+    after_part 1 BEFORE bytes (zeros BEFORE) tail refl (length-zeros BEFORE) in
     let front : is_zero (take BEFORE (drop 1 bytes)) ≡ true =
     rw (take_at (zeros BEFORE) tail BEFORE (length-zeros BEFORE)) (zeros_again BEFORE) in
     let inside : entries_area bytes ≡ numbers_bytes es =

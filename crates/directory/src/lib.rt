@@ -20,6 +20,3 @@ pub use layout::{
 pub use page::{DirectoryView, directory_of, read_entries, write_directory};
 pub use read::{HeaderFault, header_of, read_header};
 pub use write::write_header;
-
-#[cfg(test)]
-mod tests;

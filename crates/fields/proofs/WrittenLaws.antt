@@ -33,7 +33,8 @@ pub number_written : (ns rest : List ℕ) (slot number : ℕ) → slot < length 
 number_written [] rest slot number within = absurd (omega (arith, within))
 number_written (n ∷ ns) rest zero number within =
     ap (λ (xs : List ℕ). overwritten xs 0 (four number)) (append_assoc (four n) (numbers_bytes ns) rest)
-    ∙ written_between [] (four n) (four number) (numbers_bytes ns ++ rest) 0 refl (length-four n ∙ sym (length-four number))
+    ∙ written_between [] (four n) (four number) (numbers_bytes ns ++ rest) 0 refl
+    (length-four n ∙ sym (length-four number))
     ∙ sym (append_assoc (four number) (numbers_bytes ns) rest)
 number_written (n ∷ ns) rest (suc slot) number within =
     let next : 4 * suc slot ≡ length (four n) + 4 * slot = omega (arith, length-four n) in

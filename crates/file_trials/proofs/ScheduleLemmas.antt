@@ -39,91 +39,129 @@ allowed = (
                 (world first (beside_queue (in_directory Selective ++ on_page 257 Selective)) (on_page 257 Read) Quiet),
                 turn_8,
                 (
-                  (world first (beside_queue (in_directory Selective ++ on_page 257 Selective)) (on_page 257 Read) Quiet),
+                  (world first (beside_queue (in_directory Selective ++ on_page 257 Selective)) (on_page 257 Read)
+                      Quiet),
                   turn_9,
                   (
-                    (world taken (beside_queue (in_directory Selective ++ on_page 257 Selective)) (on_page 257 Read) (Taken 258)),
+                    (world taken (beside_queue (in_directory Selective ++ on_page 257 Selective)) (on_page 257 Read)
+                        (Taken 258)),
                     turn_10,
                     (
-                      (world copied (beside_queue (in_directory Selective ++ on_page 257 Selective)) (on_page 257 Read) (Taken 258)),
+                      (world copied (beside_queue (in_directory Selective ++ on_page 257 Selective))
+                          (on_page 257 Read) (Taken 258)),
                       turn_11,
                       (
-                        (world raised (beside_queue (in_directory Selective ++ on_page 257 Selective)) (on_page 257 Read) (Taken 258)),
+                        (world raised (beside_queue (in_directory Selective ++ on_page 257 Selective))
+                            (on_page 257 Read) (Taken 258)),
                         turn_12,
                         (
-                          (world filled (beside_queue (in_directory Selective ++ on_page 257 Selective)) (on_page 257 Read) (Filled 257 258)),
+                          (world filled (beside_queue (in_directory Selective ++ on_page 257 Selective))
+                              (on_page 257 Read) (Filled 257 258)),
                           turn_13,
                           (
-                            (world linked (beside_queue (in_directory Selective ++ on_page 257 Selective)) (on_page 257 Read) (Linked 257 258 whole_range)),
+                            (world linked (beside_queue (in_directory Selective ++ on_page 257 Selective))
+                                (on_page 257 Read) (Linked 257 258 whole_range)),
                             turn_14,
                             (
-                              (world linked (beside_queue (in_directory Selective ++ on_page 257 Selective)) (on_page 258 Read) (Linked 257 258 whole_range)),
+                              (world linked (beside_queue (in_directory Selective ++ on_page 257 Selective))
+                                  (on_page 258 Read) (Linked 257 258 whole_range)),
                               turn_15,
                               (
-                                (world retargeted (beside_queue (in_directory Selective ++ on_page 257 Selective)) (on_page 258 Read) (Linked 257 258 whole_range)),
+                                (world retargeted (beside_queue (in_directory Selective ++ on_page 257 Selective))
+                                    (on_page 258 Read) (Linked 257 258 whole_range)),
                                 turn_16,
                                 (
-                                  (world split (beside_queue (in_directory Selective ++ on_page 257 Selective)) (on_page 258 Read) Quiet),
+                                  (world split (beside_queue (in_directory Selective ++ on_page 257 Selective))
+                                      (on_page 258 Read) Quiet),
                                   turn_17,
                                   (
-                                    (world split (beside_queue (in_directory Selective ++ on_page 257 Selective)) [] Quiet),
+                                    (world split (beside_queue (in_directory Selective ++ on_page 257 Selective)) []
+                                        Quiet),
                                     turn_18,
                                     (
-                                      (world split (beside_queue (in_directory Selective ++ on_page 258 Selective)) [] Quiet),
+                                      (world split (beside_queue (in_directory Selective ++ on_page 258 Selective))
+                                          [] Quiet),
                                       turn_19,
                                       (
-                                        (world with_third (beside_queue (in_directory Selective ++ on_page 258 Selective)) [] Quiet),
+                                        (world with_third (beside_queue
+                                            (in_directory Selective ++ on_page 258 Selective)) [] Quiet),
                                         turn_20,
                                         (
-                                          (world with_third (beside_queue (in_directory Selective ++ on_page 258 Selective)) [] Quiet),
+                                          (world with_third (beside_queue
+                                              (in_directory Selective ++ on_page 258 Selective)) [] Quiet),
                                           turn_21,
                                           (
-                                            (world without_first (beside_queue (in_directory Selective ++ on_page 258 Selective)) [] Quiet),
+                                            (world without_first (beside_queue
+                                                (in_directory Selective ++ on_page 258 Selective)) [] Quiet),
                                             turn_22,
                                             (
                                               (world without_first (beside_queue (in_directory Selective)) [] Quiet),
                                               turn_23,
                                               (
-                                                (world without_first (beside_queue (in_directory Selective ++ on_page 257 Selective)) [] Quiet),
+                                                (world without_first (beside_queue
+                                                    (in_directory Selective ++ on_page 257 Selective)) [] Quiet),
                                                 turn_24,
                                                 (
-                                                  (world without_first (beside_queue (in_directory Selective ++ on_page 257 Selective ++ on_page 258 Selective)) [] Quiet),
+                                                  (world without_first (beside_queue
+                                                      (in_directory Selective ++ on_page 257 Selective ++ on_page 258
+                                                      Selective)) [] Quiet),
                                                   turn_25,
                                                   (
-                                                    (world absorbed (beside_queue (in_directory Selective ++ on_page 257 Selective ++ on_page 258 Selective)) [] (Absorbed 257 258 whole_range)),
+                                                    (world absorbed (beside_queue
+                                                        (in_directory Selective ++ on_page 257 Selective ++ on_page
+                                                        258 Selective)) [] (Absorbed 257 258 whole_range)),
                                                     turn_26,
                                                     (
-                                                      (world buried (beside_queue (in_directory Selective ++ on_page 257 Selective ++ on_page 258 Selective)) [] (Buried 257 258 whole_range)),
+                                                      (world buried (beside_queue
+                                                          (in_directory Selective ++ on_page 257 Selective ++ on_page
+                                                          258 Selective)) [] (Buried 257 258 whole_range)),
                                                       turn_27,
                                                       (
-                                                        (world named (beside_queue (in_directory Selective ++ on_page 257 Selective ++ on_page 258 Selective)) [] (Buried 257 258 whole_range)),
+                                                        (world named (beside_queue
+                                                            (in_directory Selective ++ on_page 257 Selective ++
+                                                            on_page 258 Selective)) [] (Buried 257 258 whole_range)),
                                                         turn_28,
                                                         (
-                                                          (world drained (beside_queue (in_directory Selective ++ on_page 257 Selective ++ on_page 258 Selective)) [] (Drained 257 258)),
+                                                          (world drained (beside_queue
+                                                              (in_directory Selective ++ on_page 257 Selective ++
+                                                              on_page 258 Selective)) [] (Drained 257 258)),
                                                           turn_29,
                                                           (
-                                                            (world drained (beside_queue (in_directory Selective ++ on_page 257 Selective)) [] (Drained 257 258)),
+                                                            (world drained (beside_queue
+                                                                (in_directory Selective ++ on_page 257 Selective)) []
+                                                                (Drained 257 258)),
                                                             turn_30,
                                                             (
-                                                              (world drained (beside_queue (in_directory Selective)) [] (Drained 257 258)),
+                                                              (world drained (beside_queue (in_directory Selective))
+                                                                  [] (Drained 257 258)),
                                                               turn_31,
                                                               (
-                                                                (world drained (beside_queue (in_directory Exclusive)) [] (Drained 257 258)),
+                                                                (world drained (beside_queue
+                                                                    (in_directory Exclusive)) [] (Drained 257 258)),
                                                                 turn_32,
                                                                 (
-                                                                  (world drained (beside_queue (in_directory Exclusive ++ on_page 258 Exclusive)) [] (Drained 257 258)),
+                                                                  (world drained (beside_queue
+                                                                      (in_directory Exclusive ++ on_page 258
+                                                                      Exclusive)) [] (Drained 257 258)),
                                                                   turn_33,
                                                                   (
-                                                                    (world freed (beside_queue (in_directory Exclusive ++ on_page 258 Exclusive)) [] (Freed 258)),
+                                                                    (world freed (beside_queue
+                                                                        (in_directory Exclusive ++ on_page 258
+                                                                        Exclusive)) [] (Freed 258)),
                                                                     turn_34,
                                                                     (
-                                                                      (world merged (beside_queue (in_directory Exclusive ++ on_page 258 Exclusive)) [] Quiet),
+                                                                      (world merged (beside_queue
+                                                                          (in_directory Exclusive ++ on_page 258
+                                                                          Exclusive)) [] Quiet),
                                                                       turn_35,
                                                                       (
-                                                                        (world halved (beside_queue (in_directory Exclusive ++ on_page 258 Exclusive)) [] Quiet),
+                                                                        (world halved (beside_queue
+                                                                            (in_directory Exclusive ++ on_page 258
+                                                                            Exclusive)) [] Quiet),
                                                                         turn_36,
                                                                         (
-                                                                          (world halved (beside_queue (in_directory Exclusive)) [] Quiet),
+                                                                          (world halved (beside_queue
+                                                                              (in_directory Exclusive)) [] Quiet),
                                                                           turn_37,
                                                                           (
                                                                             (world halved (beside_queue []) [] Quiet),

@@ -32,31 +32,38 @@ turn_3 = record { had = refl; is = refl }
 pub turn_4 : DoesTied number_of (asks (ForLock (Page 257) Read)) steps.Grant 2
     (world first [] (in_directory Read) Quiet)
     (world first [] (in_directory Read ++ on_page 257 Read) Quiet)
-turn_4 = grants_two first [] (in_directory Read) Quiet (Page 257) Read (omega arith) refl refl (only_page (world first [] (in_directory Read) Quiet) 257 (inl (on first (257 ∷ []) 257 chain_first root_alone)))
+turn_4 = grants_two first [] (in_directory Read) Quiet (Page 257) Read (omega arith) refl refl
+    (only_page (world first [] (in_directory Read) Quiet) 257 (inl (on first (257 ∷ []) 257 chain_first root_alone)))
     (page_may 257 Read 2 (world first [] (in_directory Read) Quiet) refl (λ x. absurd cc))
 
 pub turn_5 : DoesTied number_of no_ask steps.Release 2
     (world first [] (in_directory Read ++ on_page 257 Read) Quiet)
     (world first [] (on_page 257 Read) Quiet)
-turn_5 = releases_two first [] (in_directory Read ++ on_page 257 Read) Quiet Directory refl (λ page there. contains_none page there) (λ w. absurd cc)
+turn_5 = releases_two first [] (in_directory Read ++ on_page 257 Read) Quiet Directory refl
+    (λ page there. contains_none page there) (λ w. absurd cc)
 
 pub turn_6 : DoesTied number_of (asks (ForLock (Queue 0) Exclusive)) steps.Grant 1
     (world first [] (on_page 257 Read) Quiet)
     (world first (beside_queue []) (on_page 257 Read) Quiet)
-turn_6 = grants_one first [] (on_page 257 Read) Quiet (Queue 0) Exclusive (omega arith) refl refl (λ page same. absurd cc)
+turn_6 = grants_one first [] (on_page 257 Read) Quiet (Queue 0) Exclusive (omega arith) refl refl
+    (λ page same. absurd cc)
     queue_may
 
 pub turn_7 : DoesTied number_of (asks (ForLock Directory Selective)) steps.Grant 1
     (world first (beside_queue []) (on_page 257 Read) Quiet)
     (world first (beside_queue (in_directory Selective)) (on_page 257 Read) Quiet)
-turn_7 = grants_one first (beside_queue []) (on_page 257 Read) Quiet Directory Selective (omega arith) refl refl (λ page same. absurd cc)
+turn_7 = grants_one first (beside_queue []) (on_page 257 Read) Quiet Directory Selective (omega arith) refl refl
+    (λ page same. absurd cc)
     (directory_may 1 Selective (world first (beside_queue []) (on_page 257 Read) Quiet) (λ x. absurd cc) (λ n. refl))
 
 pub turn_8 : DoesTied number_of (asks (ForLock (Page 257) Selective)) steps.Grant 1
     (world first (beside_queue (in_directory Selective)) (on_page 257 Read) Quiet)
     (world first (beside_queue (in_directory Selective ++ on_page 257 Selective)) (on_page 257 Read) Quiet)
-turn_8 = grants_one first (beside_queue (in_directory Selective)) (on_page 257 Read) Quiet (Page 257) Selective (omega arith) refl refl (only_page (world first (beside_queue (in_directory Selective)) (on_page 257 Read) Quiet) 257 (inl (on first (257 ∷ []) 257 chain_first root_alone)))
-    (page_may 257 Selective 1 (world first (beside_queue (in_directory Selective)) (on_page 257 Read) Quiet) refl (λ x. absurd cc))
+turn_8 = grants_one first (beside_queue (in_directory Selective)) (on_page 257 Read) Quiet (Page 257) Selective
+    (omega arith) refl refl (only_page (world first (beside_queue (in_directory Selective)) (on_page 257 Read) Quiet)
+    257 (inl (on first (257 ∷ []) 257 chain_first root_alone)))
+    (page_may 257 Selective 1 (world first (beside_queue (in_directory Selective)) (on_page 257 Read) Quiet) refl
+    (λ x. absurd cc))
 
 pub turn_9 : DoesTied number_of no_ask steps.Look 1
     (world first (beside_queue (in_directory Selective ++ on_page 257 Selective)) (on_page 257 Read) Quiet)
@@ -67,7 +74,11 @@ pub turn_10 : DoesTied number_of insert steps.TakePage 1
     (world first (beside_queue (in_directory Selective ++ on_page 257 Selective)) (on_page 257 Read) Quiet)
     (world taken (beside_queue (in_directory Selective ++ on_page 257 Selective)) (on_page 257 Read) (Taken 258))
 turn_10 = (
-  record { some_free = λ none. absurd (omega (arith, none)); changes = record { leader = refl; phase = refl; is = refl } },
+  record {
+    some_free = λ none. absurd (omega (arith, none));
+    changes = record
+        { leader = refl; phase = refl; is = refl };
+  },
   record { page = 257; owned = refl; lacks = lacks_at lacks_first; shallow = omega arith; is = tt },
 )
 
@@ -89,7 +100,13 @@ pub turn_12 : DoesTied number_of insert steps.RaiseDepth 1
     (world copied (beside_queue (in_directory Selective ++ on_page 257 Selective)) (on_page 257 Read) (Taken 258))
     (world raised (beside_queue (in_directory Selective ++ on_page 257 Selective)) (on_page 257 Read) (Taken 258))
 turn_12 = (
-  record { taken = 258; room = omega arith; copied = copied_all; changes = record { leader = refl; phase = refl; is = refl } },
+  record {
+    taken = 258;
+    room = omega arith;
+    copied = copied_all;
+    changes = record
+        { leader = refl; phase = refl; is = refl };
+  },
   record { page = 257; owned = refl; lacks = lacks_at lacks_copied; shallow = omega arith; is = refl },
 )
 
@@ -110,12 +127,21 @@ turn_13 = (
 
 pub turn_14 : DoesTied number_of insert steps.WriteOld 1
     (world filled (beside_queue (in_directory Selective ++ on_page 257 Selective)) (on_page 257 Read) (Filled 257 258))
-    (world linked (beside_queue (in_directory Selective ++ on_page 257 Selective)) (on_page 257 Read) (Linked 257 258 whole_range))
-turn_14 = record { split = 257; filled = 258; owned = refl; changes = record { leader = refl; phase = refl; is = refl } }
+    (world linked (beside_queue (in_directory Selective ++ on_page 257 Selective)) (on_page 257 Read)
+    (Linked 257 258 whole_range))
+turn_14 = record {
+  split = 257;
+  filled = 258;
+  owned = refl;
+  changes = record
+      { leader = refl; phase = refl; is = refl };
+}
 
 pub turn_15 : DoesTied number_of (asks (HopFrom 257 1)) steps.Hop 2
-    (world linked (beside_queue (in_directory Selective ++ on_page 257 Selective)) (on_page 257 Read) (Linked 257 258 whole_range))
-    (world linked (beside_queue (in_directory Selective ++ on_page 257 Selective)) (on_page 258 Read) (Linked 257 258 whole_range))
+    (world linked (beside_queue (in_directory Selective ++ on_page 257 Selective)) (on_page 257 Read)
+    (Linked 257 258 whole_range))
+    (world linked (beside_queue (in_directory Selective ++ on_page 257 Selective)) (on_page 258 Read)
+    (Linked 257 258 whole_range))
 turn_15 = record {
   hops = record {
     page = 257;
@@ -132,7 +158,8 @@ turn_15 = record {
         seated = (omega arith, omega arith);
         room = omega arith;
         fresh = refl;
-        free = beside_two (beside_queue (in_directory Selective ++ on_page 257 Selective)) (on_page 257 Read) (Page 258) Read refl;
+        free = beside_two (beside_queue (in_directory Selective ++ on_page 257 Selective)) (on_page 257 Read)
+            (Page 258) Read refl;
         idle = λ w there. contains_none 257 there;
         is = refl;
       },
@@ -143,8 +170,10 @@ turn_15 = record {
 }
 
 pub turn_16 : DoesTied number_of insert steps.Retarget 1
-    (world linked (beside_queue (in_directory Selective ++ on_page 257 Selective)) (on_page 258 Read) (Linked 257 258 whole_range))
-    (world retargeted (beside_queue (in_directory Selective ++ on_page 257 Selective)) (on_page 258 Read) (Linked 257 258 whole_range))
+    (world linked (beside_queue (in_directory Selective ++ on_page 257 Selective)) (on_page 258 Read)
+    (Linked 257 258 whole_range))
+    (world retargeted (beside_queue (in_directory Selective ++ on_page 257 Selective)) (on_page 258 Read)
+    (Linked 257 258 whole_range))
 turn_16 = record {
   lower = 257;
   upper = 258;
@@ -156,7 +185,8 @@ turn_16 = record {
 }
 
 pub turn_17 : DoesTied number_of insert steps.SetCounts 1
-    (world retargeted (beside_queue (in_directory Selective ++ on_page 257 Selective)) (on_page 258 Read) (Linked 257 258 whole_range))
+    (world retargeted (beside_queue (in_directory Selective ++ on_page 257 Selective)) (on_page 258 Read)
+    (Linked 257 258 whole_range))
     (world split (beside_queue (in_directory Selective ++ on_page 257 Selective)) (on_page 258 Read) Quiet)
 turn_17 = record {
   lower = 257;
@@ -168,7 +198,8 @@ turn_17 = record {
 pub turn_18 : DoesTied number_of no_ask steps.Release 2
     (world split (beside_queue (in_directory Selective ++ on_page 257 Selective)) (on_page 258 Read) Quiet)
     (world split (beside_queue (in_directory Selective ++ on_page 257 Selective)) [] Quiet)
-turn_18 = releases_two split (beside_queue (in_directory Selective ++ on_page 257 Selective)) (on_page 258 Read) Quiet (Page 258) refl (λ page there. contains_none page there) (λ w. absurd cc)
+turn_18 = releases_two split (beside_queue (in_directory Selective ++ on_page 257 Selective)) (on_page 258 Read)
+    Quiet (Page 258) refl (λ page there. contains_none page there) (λ w. absurd cc)
 
 pub turn_19 : DoesTied number_of (asks (HopFrom 257 3)) steps.Hop 1
     (world split (beside_queue (in_directory Selective ++ on_page 257 Selective)) [] Quiet)

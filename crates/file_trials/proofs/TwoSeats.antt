@@ -26,14 +26,16 @@ use Rattle.file_trials.specs.Schedule.{record_of, first, third, taken, copied, r
 
 -- ---- two seats
 
-pub beside_one : (one two : List Lock) (name : LockName) (kind : LockKind) → is_against kind (kind_of two name) ≡ false →
+pub beside_one : (one two : List Lock) (name : LockName) (kind : LockKind) → is_against kind (kind_of two name) ≡
+    false →
     IsFree (one ∷ two ∷ []) 1 name kind
 beside_one one two name kind ok zero apart = refl
 beside_one one two name kind ok (suc zero) apart = absurd (apart refl)
 beside_one one two name kind ok (suc (suc zero)) apart = ok
 beside_one one two name kind ok (suc (suc (suc n))) apart = refl
 
-pub beside_two : (one two : List Lock) (name : LockName) (kind : LockKind) → is_against kind (kind_of one name) ≡ false →
+pub beside_two : (one two : List Lock) (name : LockName) (kind : LockKind) → is_against kind (kind_of one name) ≡
+    false →
     IsFree (one ∷ two ∷ []) 2 name kind
 beside_two one two name kind ok zero apart = refl
 beside_two one two name kind ok (suc zero) apart = ok
@@ -98,7 +100,13 @@ pub used_one : (n a : ℕ) → length (record_bytes (record_of n a ∷ [])) ≡ 
 used_one n a = omega (arith, length-cons (record_of n a) [], length-replicate {A = ℕ} a 0)
 
 pub used_two : (m a n b : ℕ) → length (record_bytes (record_of m a ∷ record_of n b ∷ [])) ≡ 30 + (a + b)
-used_two m a n b = omega (arith, length-cons (record_of m a) (record_of n b ∷ []), used_one n b, length-replicate {A = ℕ} a 0)
+used_two m a n b = omega (
+  arith,
+  length-cons (record_of m a) (record_of n b ∷ []),
+  used_one n b,
+  length-replicate
+      {A = ℕ} a 0,
+)
 
 -- ---- grants and releases
 
@@ -181,7 +189,8 @@ unfolding is_below
 lacks_first = record {
   home = (on first (257 ∷ []) 257 chain_first root_alone, refl);
   absent = refl;
-  full = (let used : used_on first 257 ≡ 4030 = used_two 0 1000 1 3000 in let size : size_of third ≡ 215 = size_is 3 200 in omega (arith, used, size));
+  full = (let used : used_on first 257 ≡ 4030 = used_two 0 1000 1 3000 in let size : size_of third ≡ 215 = size_is 3
+      200 in omega (arith, used, size));
 }
 
 pub lacks_taken : IsRoot taken
@@ -189,7 +198,8 @@ unfolding is_below
 lacks_taken = record {
   home = (on taken (257 ∷ []) 257 chain_taken root_alone, refl);
   absent = refl;
-  full = (let used : used_on taken 257 ≡ 4030 = used_two 0 1000 1 3000 in let size : size_of third ≡ 215 = size_is 3 200 in omega (arith, used, size));
+  full = (let used : used_on taken 257 ≡ 4030 = used_two 0 1000 1 3000 in let size : size_of third ≡ 215 = size_is 3
+      200 in omega (arith, used, size));
 }
 
 pub lacks_copied : IsRoot copied
@@ -197,7 +207,8 @@ unfolding is_below
 lacks_copied = record {
   home = (on copied (257 ∷ []) 257 chain_copied root_alone, refl);
   absent = refl;
-  full = (let used : used_on copied 257 ≡ 4030 = used_two 0 1000 1 3000 in let size : size_of third ≡ 215 = size_is 3 200 in omega (arith, used, size));
+  full = (let used : used_on copied 257 ≡ 4030 = used_two 0 1000 1 3000 in let size : size_of third ≡ 215 = size_is 3
+      200 in omega (arith, used, size));
 }
 
 pub lacks_raised : IsRoot raised
@@ -205,7 +216,8 @@ unfolding is_below
 lacks_raised = record {
   home = (on raised (257 ∷ []) 257 chain_raised root_alone, refl);
   absent = refl;
-  full = (let used : used_on raised 257 ≡ 4030 = used_two 0 1000 1 3000 in let size : size_of third ≡ 215 = size_is 3 200 in omega (arith, used, size));
+  full = (let used : used_on raised 257 ≡ 4030 = used_two 0 1000 1 3000 in let size : size_of third ≡ 215 = size_is 3
+      200 in omega (arith, used, size));
 }
 
 -- no directory page stands before the first
@@ -231,7 +243,8 @@ pub even : (k : ℕ) → k % 2 ^ 1 ≡ 1 → k % 2 ^ 1 ≡ 0 → ⊥
 even k odd covers = omega (arith, odd, covers)
 
 -- what a page lacks it lacks whatever is locked
-pub lacks_at : {s : Store} {one two : List Lock} {c : Change} → IsRoot s → LacksRoom number_of third 257 (world s one two c)
+pub lacks_at : {s : Store} {one two : List Lock} {c : Change} → IsRoot s → LacksRoom number_of third 257
+    (world s one two c)
 lacks_at l = record { home = l.home; absent = l.absent; full = l.full }
 
 pub queue_may : MayBeGranted (Queue 0) Exclusive 1 (world first [] (on_page 257 Read) Quiet)
@@ -242,7 +255,8 @@ queue_may = record {
   last = λ page same x. absurd cc;
 }
 
-pub last_may : MayBeGranted (Page 258) Exclusive 1 (world drained (beside_queue (in_directory Exclusive)) [] (Drained 257 258))
+pub last_may : MayBeGranted (Page 258) Exclusive 1 (world drained (beside_queue (in_directory Exclusive)) []
+    (Drained 257 258))
 last_may = record {
   ordered = λ other there. last_rank other;
   shared = λ same x. absurd cc;

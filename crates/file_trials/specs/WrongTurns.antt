@@ -57,7 +57,8 @@ pub record WrongTurns : Type 0 where
   pub answered_without_a_lock : (value : Option (List ℕ)) → IsAnswerOf number_of 2 258 (key 1) value (standing 257) → ⊥
   pub answered_elsewhere : (value : Option (List ℕ)) → IsAnswerOf number_of 2 257 (key 1) value (standing 257) → ⊥
   -- an absent record is removed, one is replaced by another length, or put where there is no room
-  pub removes_nothing : (new : World) → Refused (writing (Remove (key 5))) (Moved steps.WriteRecord) 1 (alone first Quiet) new
+  pub removes_nothing : (new : World) → Refused (writing (Remove (key 5))) (Moved steps.WriteRecord) 1
+      (alone first Quiet) new
   pub replaced_by_another_length : (new : World) →
       Refused (writing (Replace (record_of 0 10))) (Moved steps.WriteRecord) 1 (alone first Quiet) new
   pub put_without_room : (new : World) → Refused insert (Moved steps.WriteRecord) 1 (alone first Quiet) new
@@ -67,7 +68,8 @@ pub record WrongTurns : Type 0 where
   -- two buckets with too many bytes are merged
   pub merges_large_buckets : (new : World) → Refused delete (Moved steps.WriteLeft) 1 (both with_third) new
   -- a bucket is split that has room, and the directory doubles though it tells the halves apart
-  pub splits_with_room : (new : World) → Refused (writing (Put (record_of 3 1))) (Moved steps.TakePage) 1 (alone first Quiet) new
+  pub splits_with_room : (new : World) → Refused (writing (Put (record_of 3 1))) (Moved steps.TakePage) 1
+      (alone first Quiet) new
   pub doubles_again : (new : World) → Refused insert (Moved steps.RaiseDepth) 1 (alone raised (Taken 258)) new
   -- a page is copied or retargeted that has no entries
   pub copies_the_header : (seat : ℕ) (old new : World) (does : CopiesDirectory seat old new) → does.page ≡ 0 → ⊥

@@ -60,12 +60,14 @@ pub record IsChainTo (s : Store) (ns : List ℕ) (reached expected : ℕ) : Type
 
 -- for this it is all one where the chain begins
 pub with_root : (root depth : ℕ) (ps : List Page) (n reached expected : ℕ) →
-    ExtendsChain (skeleton 0 depth [] ps) n reached expected → ExtendsChain (skeleton root depth [] ps) n reached expected
+    ExtendsChain (skeleton 0 depth [] ps) n reached expected → ExtendsChain (skeleton root depth [] ps) n reached
+    expected
 with_root root depth ps n reached expected g =
     record { live = g.live; comes = g.comes; shallow = g.shallow; tile = g.tile }
 
 pub without_root : (root depth : ℕ) (ps : List Page) (n reached expected : ℕ) →
-    ExtendsChain (skeleton root depth [] ps) n reached expected → ExtendsChain (skeleton 0 depth [] ps) n reached expected
+    ExtendsChain (skeleton root depth [] ps) n reached expected → ExtendsChain (skeleton 0 depth [] ps) n reached
+    expected
 without_root root depth ps n reached expected g =
     record { live = g.live; comes = g.comes; shallow = g.shallow; tile = g.tile }
 

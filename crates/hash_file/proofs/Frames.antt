@@ -26,7 +26,8 @@ use Rattle.hash_file.proofs.Lists.{how_many_same}
 
 -- ---- closing
 
-pub sound_by : (hash : RecordKey → ℕ) (t : Store) (d : Change) (ms : List ℕ) → IsSoundOn hash t d ms → IsSoundFile hash t d
+pub sound_by : (hash : RecordKey → ℕ) (t : Store) (d : Change) (ms : List ℕ) → IsSoundOn hash t d ms → IsSoundFile
+    hash t d
 sound_by hash t d ms h =
     subst (λ (ns : List ℕ). IsSoundOn hash t d ns) (sym (chain_is t ms h.layout h.chained)) h
 

@@ -35,7 +35,8 @@ use Rattle.hash_file.proofs.Roles.{thrice, numbered, numbered_positive, live_not
 use Rattle.hash_file.proofs.Frames.{shape_of_page, reach_same, page_other, page_same, spared_same, numbered_same, layout_same, keeps_by, ways_by}
 use Rattle.hash_file.proofs.Halves.{bit_set, bit_clear, range_lower, range_upper, placed_lower, placed_upper, look_lower, look_upper}
 
-module _ (hash : RecordKey → ℕ) (s : Store) (old new : ℕ) (h : IsSoundFile hash s (Filled old new)) (front back : List ℕ)
+module _ (hash : RecordKey → ℕ) (s : Store) (old new : ℕ) (h : IsSoundFile hash s (Filled old new))
+    (front back : List ℕ)
     (is : chain s ≡ front ++ old ∷ back) where
   abbrev c : Change
   c = Filled old new

@@ -37,9 +37,13 @@ fn words(rt: &HostRuntime) -> Option<Vec<String>> {
     std::env::args(rt).ok()?.collect(rt.alloc()).ok()
 }
 
-/// Ends where there is no memory to begin with.
+/// Ends where there is no memory to begin with. A buffer of no byte takes none.
 fn without_memory(rt: &HostRuntime) -> ExitCode {
-    let mut output = Output::new(io::writer(rt));
+    let Ok(writer) = BufWriter::with_capacity(rt.alloc(), 0, io::writer(rt)) else {
+        unreachable!()
+    };
+    let mut output = Output::new(writer);
     print_fault(faults::NO_MEMORY, &mut output);
+    output.flush();
     ExitCode::FAILURE
 }

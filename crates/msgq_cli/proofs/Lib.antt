@@ -1,3 +1,4 @@
+pub mod ModelWords
 pub mod NumberLemmas
 pub mod CommandLemmas
 pub mod OutputLemmas

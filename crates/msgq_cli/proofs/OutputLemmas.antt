@@ -5,7 +5,7 @@ use Rattle.std.proofs.KnownBytes.{Appends-nil, Appends-trans, Appends-kept}
 use Rattle.std.specs.Io.KnownBytes.{Appends, Keeps}
 use Rattle.hex.specs.Hex.{encode_with}
 use Rattle.msgq_cli.specs.Answers.{line_of}
-use Rattle.msgq_cli.specs.Outputs.{OutputState, Takes, TakesBeginning, Prints, PrintsOn}
+use Rattle.msgq_cli.specs.Outputs.{OutputState, Takes, Prints, PrintsOn}
 
 -- a writer took the beginning of a text, and the rest is left
 pub record IsTaking (old now : Option (List ℕ)) (text rest : List ℕ) : Type 0 where
@@ -32,7 +32,11 @@ IsTaking-more old mid new text rest n before more = record {
 pub IsTaking-kept : (old mid new : Option (List ℕ)) (text rest : List ℕ) → IsTaking old mid text rest → Keeps mid new
     → IsTaking old new text rest
 IsTaking-kept old mid new text rest before kept =
-    record { taken = before.taken; parts = before.parts; appends = Appends-kept old mid new before.taken before.appends kept }
+    record {
+      taken = before.taken;
+      parts = before.parts;
+      appends = Appends-kept old mid new before.taken before.appends kept;
+    }
 
 pub Takes-all : (old new : Option (List ℕ)) (text rest : List ℕ) → IsTaking old new text rest → rest ≡ []
     → Takes false old new text
@@ -52,7 +56,8 @@ Prints-nil o = by_refused o.refused refl
     by_refused false is = subst (λ r. Takes r o.known o.known []) (sym is) (Appends-nil o.known)
 
 -- a writer takes two texts, one after the other
-Takes-then : (r : Bool) (a b c : Option (List ℕ)) (xs ys : List ℕ) → Takes false a b xs → Takes r b c ys → Takes r a c (xs ++ ys)
+Takes-then : (r : Bool) (a b c : Option (List ℕ)) (xs ys : List ℕ) → Takes false a b xs → Takes r b c ys →
+    Takes r a c (xs ++ ys)
 Takes-then false a b c xs ys first then_ = Appends-trans a b c xs ys first then_
 Takes-then true a b c xs ys first then_ = record {
   taken = xs ++ then_.taken;
@@ -82,13 +87,15 @@ Prints-then a b c xs ys first second = by_start a.refused refl first
 
     by_start : (r : Bool) → a.refused ≡ r → PrintsOn r a b xs → PrintsOn r a c (xs ++ ys)
     by_start false is goes = by_middle b.refused refl goes second
-    by_start true is same = stays (subst (λ r. PrintsOn r b c ys) (ap (λ (o : OutputState). o.refused) same ∙ is) second)
+    by_start true is same =
+        stays (subst (λ r. PrintsOn r b c ys) (ap (λ (o : OutputState). o.refused) same ∙ is) second)
       where
         stays : c ≡ b → c ≡ a
         stays kept = kept ∙ same
 
 -- digits of bytes, one byte after the other
-pub encode-append : (digits xs ys : List ℕ) → encode_with digits (xs ++ ys) ≡ encode_with digits xs ++ encode_with digits ys
+pub encode-append : (digits xs ys : List ℕ) →
+    encode_with digits (xs ++ ys) ≡ encode_with digits xs ++ encode_with digits ys
 unfolding encode_with
 encode-append digits [] ys = refl
 encode-append digits (x ∷ xs) ys =
@@ -105,7 +112,8 @@ pub Prints-digits : (a b c : OutputState) (digits bytes : List ℕ) (i : ℕ) (d
     → Prints a c (encode_with digits (take (i + 1) bytes))
 Prints-digits a b c digits bytes i d below before more =
     subst (Prints a c)
-    (sym (ap (λ l. encode_with digits l) (take_more bytes i d below) ∙ encode-append digits (take i bytes) (get_or bytes i d ∷ [])))
+    (sym (ap (λ l. encode_with digits l) (take_more bytes i d below)
+    ∙ encode-append digits (take i bytes) (get_or bytes i d ∷ [])))
     (Prints-then a b c _ _ before more)
 
 -- words with a space (32) before each
@@ -114,7 +122,8 @@ spaced [] = []
 spaced (word ∷ words) = 32 ∷ word ++ spaced words
 
 -- a line is its first word and then words behind spaces, and an LF (10)
-pub line_of-spaced : (word : List ℕ) (words : List (List ℕ)) → line_of (word ∷ words) ≡ word ++ (spaced words ++ 10 ∷ [])
+pub line_of-spaced : (word : List ℕ) (words : List (List ℕ)) →
+    line_of (word ∷ words) ≡ word ++ (spaced words ++ 10 ∷ [])
 line_of-spaced word [] = refl
 line_of-spaced word (next ∷ words) = ap (λ l. word ++ 32 ∷ l)
     (line_of-spaced next words ∙ sym (append_assoc next (spaced words) (10 ∷ [])))
@@ -125,11 +134,13 @@ spaced-append (x ∷ xs) ys =
     ap (λ l. 32 ∷ x ++ l) (spaced-append xs ys) ∙ ap (λ l. 32 ∷ l) (sym (append_assoc x (spaced xs) (spaced ys)))
 
 -- one word more
-pub Prints-spaced : {X : Type 0} (a b c d : OutputState) (text : X → List ℕ) (words : List X) (i : ℕ) (x : X) → i < length words
+pub Prints-spaced : {X : Type 0} (a b c d : OutputState) (text : X → List ℕ) (words : List X) (i : ℕ) (x : X) →
+    i < length words
     → Prints a b (spaced (map text (take i words))) → Prints b c (32 ∷ []) → Prints c d (text (get_or words i x))
     → Prints a d (spaced (map text (take (i + 1) words)))
 Prints-spaced a b c d text words i x below before space word =
-    let more : spaced (map text (take (i + 1) words)) ≡ spaced (map text (take i words)) ++ (32 ∷ text (get_or words i x)) =
+    let more :
+    spaced (map text (take (i + 1) words)) ≡ spaced (map text (take i words)) ++ (32 ∷ text (get_or words i x)) =
     ap (λ l. spaced (map text l)) (take_more words i x below)
     ∙ ap spaced (map-append text (take i words) (get_or words i x ∷ []))
     ∙ spaced-append (map text (take i words)) (text (get_or words i x) ∷ [])
@@ -137,7 +148,9 @@ Prints-spaced a b c d text words i x below before space word =
     subst (Prints a d) (sym more) (Prints-then a b d _ _ before (Prints-then b c d _ _ space word))
 
 -- the whole line
-pub Prints-line : {X : Type 0} (a b c d : OutputState) (text : X → List ℕ) (first : X) (rest : List X) → Prints a b (text first)
+pub Prints-line : {X : Type 0} (a b c d : OutputState) (text : X → List ℕ) (first : X) (rest : List X) →
+    Prints a b (text first)
     → Prints b c (spaced (map text rest)) → Prints c d (10 ∷ []) → Prints a d (line_of (map text (first ∷ rest)))
-Prints-line a b c d text first rest word words end = subst (Prints a d) (sym (line_of-spaced (text first) (map text rest)))
+Prints-line a b c d text first rest word words end =
+    subst (Prints a d) (sym (line_of-spaced (text first) (map text rest)))
     (Prints-then a b d _ _ word (Prints-then b c d _ _ words end))

@@ -1,24 +1,9 @@
 -- The lines of a script served one after the other.
-use Rattle.std.proofs.Common.{◌≡◌, ◌≢◌, ◌⊎◌, inl, inr, ℕ, Bool, true, false, List, [], ◌∷◌, ◌++◌, Option, Some, None, is_some, not, Result, Ok, Err, if◌then◌else◌, refl, sym, ap, ◌∙◌, subst, append_assoc, append-nil, rules, ◌||◌, ◌==◌, nat_le, nat_lt, int_lt, pos, length, length-append, arith}
+use Rattle.std.proofs.Common.{◌≡◌, ◌≢◌, inl, inr, ℕ, Bool, true, false, List, [], ◌∷◌, ◌++◌, Option, Some, None, is_some, not, Result, Ok, Err, if◌then◌else◌, refl, sym, ap, ◌∙◌, subst, append_assoc, append-nil, rules, ◌||◌, ◌==◌, nat_le, nat_lt, int_lt, pos, length, length-append, arith}
 use Rattle.std.specs.List.{find, list_any}
-use Rattle.queue_model.specs.Access.{lacks_access, is_owner}
-use Rattle.queue_model.specs.Rules.{with_settings, Outcome, outcome, refuse, put_off, on_found, on_queue, has_id, has_key, get_found, get_by, create, lacks_room, send_to, receive_found, receive_from, stat_of, set_to, remove_from, raises, with_queue, with_message}
-use Rattle.queue_model.specs.Selection.{selected, is_too_long}
-use Rattle.queue_model.specs.State.{State}
-use Rattle.queue_model.specs.declared.call.Call.{Call}
-use Rattle.queue_model.specs.declared.call.Call.TheVariants.{Get, Send, Receive, Stat, Set, Remove}
-use Rattle.queue_model.specs.declared.call.GetArguments.{GetArguments}
-use Rattle.queue_model.specs.declared.call.SendArguments.{SendArguments}
-use Rattle.queue_model.specs.declared.call.ReceiveArguments.{ReceiveArguments}
+use Rattle.msgq_cli.proofs.ModelWords.{lacks_access, is_owner, with_settings, Outcome, outcome, refuse, put_off, on_found, on_queue, has_id, has_key, get_found, get_by, create, lacks_room, send_to, receive_found, receive_from, stat_of, set_to, remove_from, raises, with_queue, selected, State, Call, Get, Send, Receive, Stat, Set, Remove, GetArguments, SendArguments, ReceiveArguments, SetArguments, Caller, Errno, EACCES, EAGAIN, EINVAL, ENOENT, ENOMSG, EPERM, Read, Write, Message, Queue}
 use Rattle.queue_model.specs.declared.answer.Answer.TheVariants as answer
-use Rattle.queue_model.specs.declared.call.SetArguments.{SetArguments}
-use Rattle.queue_model.specs.declared.caller.Caller.{Caller}
-use Rattle.queue_model.specs.declared.errno.Errno.{Errno}
-use Rattle.queue_model.specs.declared.errno.Errno.TheVariants.{EACCES, EAGAIN, EINVAL, ENOENT, ENOMSG, EPERM}
 use Rattle.limits.specs.declared.TheConstants.{MAX_BODY, MAX_QBYTES}
-use Rattle.queue_model.specs.declared.permissions.Access.TheVariants.{Read, Write}
-use Rattle.queue_model.specs.declared.message.Message.{Message}
-use Rattle.queue_model.specs.declared.queue.Queue.{Queue}
 use Rattle.one_caller.specs.Serving.{Tells}
 use Rattle.one_caller.specs.declared.served.Served.{Served}
 use Rattle.one_caller.specs.declared.served.Served.TheVariants as served
@@ -27,7 +12,7 @@ use Rattle.one_caller.specs.declared.fault.CallFault.TheVariants as fault
 use Rattle.msgq_cli.specs.Answers.{reply_text}
 use Rattle.msgq_cli.specs.Outputs.{OutputState, Prints}
 use Rattle.msgq_cli.specs.Runs.{stop, IsReplied, AreReplied, printed, is_fault, ending_of, IsPrinted, IsRun}
-use Rattle.msgq_cli.specs.Scripts.{Parts, caller_of}
+use Rattle.msgq_cli.specs.Scripts.{caller_of}
 use Rattle.msgq_cli.specs.Serving.{reply_to}
 use Rattle.msgq_cli.specs.declared.command.Command.TheVariants as command
 use Rattle.msgq_cli.specs.declared.ending.Ending.{Ending}
@@ -51,7 +36,8 @@ found None s act acts = refl
 found (Some q) s act acts = acts q
 
 on : (id : ℕ) (s : State) (act : Queue → Outcome) → ((q : Queue) → IsAnswered (act q)) → IsAnswered (on_queue id s act)
-on id s act acts = either (id == 0 || nat_le s.next_id id) (refuse EINVAL s) (on_found (find (has_id id) s.queues) s act)
+on id s act acts =
+    either (id == 0 || nat_le s.next_id id) (refuse EINVAL s) (on_found (find (has_id id) s.queues) s act)
     refl (found (find (has_id id) s.queues) s act acts)
 
 -- a stopped system puts no call off
@@ -79,7 +65,8 @@ found_message : (m : Option Message) (c : Caller) (a : ReceiveArguments) (s : St
 found_message None c a s q stopped = put a.nowait ENOMSG s stopped
 found_message (Some m) c a s q stopped = search (rules, either)
 
-received : (c : Caller) (a : ReceiveArguments) (s : State) (q : Queue) → s.stopped ≡ true → IsAnswered (receive_from c a s q)
+received : (c : Caller) (a : ReceiveArguments) (s : State) (q : Queue) → s.stopped ≡ true →
+    IsAnswered (receive_from c a s q)
 received c a s q stopped = either (lacks_access Read c q.permissions) (refuse EACCES s) _ refl
     (found_message (selected a.mtype q.messages) c a s q stopped)
 
@@ -88,7 +75,8 @@ told c s q = search (rules, either)
 
 set : (c : Caller) (a : SetArguments) (s : State) (q : Queue) → IsAnswered (set_to c a s q)
 set c a s q = either (not (is_owner c q.permissions)) (refuse EPERM s) _ refl
-    (either (raises c a.qbytes q) (refuse EPERM s) (Some (answer.Done, with_queue a.id (with_settings a q) s)) refl refl)
+    (either (raises c a.qbytes q) (refuse EPERM s) (Some (answer.Done, with_queue a.id (with_settings a q) s)) refl
+    refl)
 
 removed : (c : Caller) (id : ℕ) (s : State) (q : Queue) → IsAnswered (remove_from c id s q)
 removed c id s q = search (rules, either)
@@ -97,7 +85,8 @@ removed c id s q = search (rules, either)
 answered : (c : Caller) (call : Call) (s : State) → s.stopped ≡ true → IsAnswered (outcome c call s)
 answered c (Get a) s stopped = got_by a.key c a s
 answered c (Send a) s stopped =
-    either (int_lt a.mtype (pos 1) || nat_lt MAX_BODY (length a.body)) (refuse EINVAL s) (on_queue a.id s (send_to c a s)) refl
+    either (int_lt a.mtype (pos 1) || nat_lt MAX_BODY (length a.body)) (refuse EINVAL s)
+    (on_queue a.id s (send_to c a s)) refl
     (on a.id s (send_to c a s) (λ q. sent c a s q stopped))
 answered c (Receive a) s stopped = on a.id s (receive_from c a s) (λ q. received c a s q stopped)
 answered c (Stat id) s stopped = on id s (stat_of c s) (λ q. told c s q)
@@ -122,7 +111,7 @@ pub Leaves-first : (c : Caller) (call : Call) (s : State) (H : State → Type 0)
 Leaves-first c call s H (Ok (served.Answer a)) goes (t, is, held) = (t, (s, inl refl, is), held)
 Leaves-first c call s H (Ok served.Waits) goes told = absurd (goes refl)
 Leaves-first c call s H (Err fault.NoRoom) goes held = (s, (s, inl refl, (inl refl, refl)), held)
-Leaves-first c call s H (Err fault.NoMemory) goes held = (s, (s, inl refl, (inr refl, refl)), held)
+Leaves-first c call s H (Err fault.NoMemory) goes (receive, held) = (s, (s, inl refl, (inr refl, refl)), held)
 Leaves-first c call s H (Err fault.Failed) goes told = absurd told
 
 -- a call that waited is replied once the system is stopped
@@ -131,11 +120,13 @@ pub Leaves-stopped : (c : Caller) (call : Call) (s : State) (H : State → Type 
 Leaves-stopped c call s H (Ok (served.Answer a)) waits (t, is, held) = (t, (stop s, inr (waits, refl), is), held)
 Leaves-stopped c call s H (Ok served.Waits) waits (again, held) = absurd (never_waits c call (stop s) refl again)
 Leaves-stopped c call s H (Err fault.NoRoom) waits held = (stop s, (stop s, inr (waits, refl), (inl refl, refl)), held)
-Leaves-stopped c call s H (Err fault.NoMemory) waits held = (stop s, (stop s, inr (waits, refl), (inr refl, refl)), held)
+Leaves-stopped c call s H (Err fault.NoMemory) waits (receive, held) =
+    (stop s, (stop s, inr (waits, refl), (inr refl, refl)), held)
 Leaves-stopped c call s H (Err fault.Failed) waits told = absurd told
 
 -- one line more
-AreReplied-push : (ids : List SeatIds) (lines : List Line) (s t u : State) (replies : List Reply) (line : Line) (reply : Reply)
+AreReplied-push : (ids : List SeatIds) (lines : List Line) (s t u : State) (replies : List Reply) (line : Line)
+    (reply : Reply)
     → AreReplied ids lines s replies t → IsReplied (caller_of line.seat ids) line.command t reply u
     → AreReplied ids (lines ++ line ∷ []) s (replies ++ reply ∷ []) u
 AreReplied-push ids [] s t u [] line reply same is =
@@ -145,7 +136,8 @@ AreReplied-push ids (l ∷ ls) s t u [] line reply replied is = absurd replied
 AreReplied-push ids (l ∷ ls) s t u (r ∷ rs) line reply (next, first, rest) is =
     (next, first, AreReplied-push ids ls next t u rs line reply rest is)
 
-as_many : (ids : List SeatIds) (lines : List Line) (s t : State) (replies : List Reply) → AreReplied ids lines s replies t
+as_many : (ids : List SeatIds) (lines : List Line) (s t : State) (replies : List Reply) →
+    AreReplied ids lines s replies t
     → length replies ≡ length lines
 as_many ids [] s t [] replied = refl
 as_many ids [] s t (r ∷ rs) replied = absurd replied
@@ -186,8 +178,9 @@ pub IsPrinted-start : (ids : List SeatIds) (o : OutputState) → IsPrinted (reco
 IsPrinted-start ids o = record { replies = []; as_many = refl; prints = Prints-nil o; ends = refl }
 
 -- one line more was printed
-pub IsPrinted-push : (ids : List SeatIds) (lines : List Line) (a b c : OutputState) (before after : Ending) (line : Line)
-    (reply : Reply) → IsPrinted (record { ids = ids; lines = lines }) a b before → Prints b c (reply_text line.number reply)
+pub IsPrinted-push : (ids : List SeatIds) (lines : List Line) (a b c : OutputState) (before after : Ending)
+    (line : Line) (reply : Reply) → IsPrinted (record { ids = ids; lines = lines }) a b before →
+    Prints b c (reply_text line.number reply)
     → after ≡ (if is_fault reply then Faulty else before)
     → IsPrinted (record { ids = ids; lines = lines ++ line ∷ [] }) a c after
 IsPrinted-push ids lines a b c before after line reply told prints ends =

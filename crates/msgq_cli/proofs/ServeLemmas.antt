@@ -1,7 +1,7 @@
 -- Files opened, run on and closed.
-use Rattle.std.proofs.Common.{◌≡◌, ◌⊎◌, inl, inr, ℕ, ◌<◌, ◌≤◌, List, refl, arith}
+use Rattle.std.proofs.Common.{◌≡◌, ◌⊎◌, inl, inr, ℕ, ◌≤◌, refl, arith}
 use Rattle.std.specs.Bool.{⊤}
-use Rattle.page_device.specs.Device.{HasRisen, MOST_FAULTS}
+use Rattle.page_device.specs.Device.{HasRisen}
 use Rattle.page_device.specs.Fault.{number_of}
 use Rattle.page_device.specs.declared.fault.DeviceFault.{DeviceFault}
 use Rattle.page_device.specs.declared.fault.DeviceFault.TheVariants as device
@@ -15,7 +15,7 @@ use Rattle.record_file.specs.Opening.{HasCauseToRefuse}
 use Rattle.msgq_cli.specs.Outputs.{OutputState}
 use Rattle.msgq_cli.specs.Runs.{IsRun}
 use Rattle.msgq_cli.specs.Scripts.{Parts}
-use Rattle.msgq_cli.specs.Serves.{IsFaultAlone, RunsNew, RunsOn}
+use Rattle.msgq_cli.specs.Serves.{IsFaultAlone, RunsOn}
 use Rattle.msgq_cli.specs.declared.ending.Ending.{Ending}
 
 -- a run whose caller's file was closed, or is looked at no more
@@ -41,7 +41,8 @@ never_fails old (inl less) = absurd (omega arith)
 never_fails old (inr most) = absurd (omega arith)
 
 -- what the making of a file in memory tells is want of memory
-pub no_memory : (fault : DeviceFault) → MayNotFormat fault → (fault ≡ device.Device → HasRisen 0 0) → number_of fault ≡ 60
+pub no_memory : (fault : DeviceFault) → MayNotFormat fault → (fault ≡ device.Device → HasRisen 0 0) →
+    number_of fault ≡ 60
 no_memory device.Device may failed = absurd (never_fails 0 (failed refl))
 no_memory device.BadDigest may failed = absurd may
 no_memory device.PastEnd may failed = absurd may
@@ -50,7 +51,8 @@ no_memory device.NoMemory may failed = refl
 
 -- a file in memory is run on, or there is no memory for it
 pub RunsNew-memory : (script : Parts) (s : State) (IsLeft : State → Type 0) (old new : OutputState) (ending : Ending)
-    → RunsOn script s IsLeft 0 0 old new ending → IsRun script s (λ t. ⊤) old new ending ⊎ IsFaultAlone 60 old new ending
+    → RunsOn script s IsLeft 0 0 old new ending
+    → IsRun script s (λ t. ⊤) old new ending ⊎ IsFaultAlone 60 old new ending
 RunsNew-memory script s IsLeft old new ending (inl run) =
     inl (IsRun-weaker script s IsLeft (λ t. ⊤) old new ending (λ t held. tt) run)
 RunsNew-memory script s IsLeft old new ending (inr (inl alone)) = inr alone

@@ -2,10 +2,12 @@
 use Rattle.std.specs.Prelude.{◌≡◌, ℕ, Bool, true, false, List, ◌++◌, Option}
 use Rattle.std.specs.Io.KnownBytes.{Appends}
 
--- whether the writer has refused a write, and the bytes that it holds, where they are known
+-- whether a write was refused; the bytes that the writer and the buffer before it hold, and those that the writer
+-- holds, where they are known
 pub record OutputState : Type 0 where
   pub refused : Bool
   pub known : Option (List ℕ)
+  pub handed : Option (List ℕ)
 
 -- the writer took the beginning of a text
 pub record TakesBeginning (old new : Option (List ℕ)) (text : List ℕ) : Type 0 where

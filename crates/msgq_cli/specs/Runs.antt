@@ -71,7 +71,8 @@ pub record IsPrinted (script : Parts) (old new : OutputState) (ending : Ending) 
 
 -- a script was run from the system s: its lines were replied one after the other, the replies were printed,
 -- and what held s now holds the system that they left
-pub record IsRun (script : Parts) (s : State) (Holds : State → Type 0) (old new : OutputState) (ending : Ending) : Type 0 where
+pub record IsRun (script : Parts) (s : State) (Holds : State → Type 0) (old new : OutputState) (ending : Ending)
+    : Type 0 where
   pub replies : List Reply
   pub left : State
   pub replied : AreReplied script.ids script.lines s replies left

@@ -43,7 +43,8 @@ pub(crate) fn why(failure: Failure) -> &'static str {
         faults::DEVICE => "it is no file, or the system failed to read or write it",
         faults::BAD_DIGEST => "page 0 was changed: its digest is wrong",
         faults::PAST_END => "it is cut: it has fewer pages than its header says, or a part of one",
-        faults::BAD_HEADER => "it is no file of message queues, or has more pages than its header says",
+        faults::BAD_HEADER =>
+            "it is no file of message queues, or has more pages than its header says",
         faults::BAD_VERSION => "it is a file of another version",
         faults::NO_MEMORY => "there is no memory",
         faults::FAILED => "the page of its records was changed, or holds what no queues have",

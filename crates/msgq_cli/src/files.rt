@@ -36,7 +36,7 @@ pub fn new_file<R, F, W, E>(
 where
     R: Files<File = F>,
     F: Read + Write + Seek + OpenFile + Drop,
-    W: Write,
+    W: Write + Drop,
     E: Write,
     requires least { LEAST_PAGES ≤ pages }
     requires most { pages ≤ MAX_PAGES }
@@ -59,7 +59,11 @@ where
 }
 
 /// Makes a file of so many pages on a device without pages.
-pub fn new_on<D: PageDevice, W: Write>(device: D, pages: u32, output: &mut Output<W>) -> (D, Ending)
+pub fn new_on<D: PageDevice, W: Write + Drop>(
+    device: D,
+    pages: u32,
+    output: &mut Output<W>,
+) -> (D, Ending)
     requires empty { D.content device ≡ [] }
     requires least { LEAST_PAGES ≤ pages }
     requires most { pages ≤ MAX_PAGES }
@@ -93,7 +97,7 @@ pub fn run_file<R, F, W, E>(
 where
     R: Files<File = F> + AllocGlobal + Input,
     F: Read + Write + Seek + OpenFile + Drop,
-    W: Write,
+    W: Write + Drop,
     E: Write,
     ensures { RunsFile output.old output.new result }
 {

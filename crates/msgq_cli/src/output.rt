@@ -1,31 +1,39 @@
 //! Where answers are printed.
 
 ghost use Rattle.std.specs.Prelude.{◌≡◌, false, []};
+ghost use Rattle.std.specs.Io.Buffered.{writer_contents, writer_inner};
 ghost use Rattle.msgq_cli.specs.Outputs.{Prints, Takes};
 
-use std::io::{ErrorKind, Write};
+use std::io::{BufWriter, ErrorKind, Write};
 use std::marker::Model;
 
-/// Where answers are printed. A contract sees whether its writer has refused a write, and the bytes
-/// that the writer holds.
+/// Where answers are printed: to a writer, through a buffer. A contract sees whether a write was refused, the bytes that
+/// both hold, and those that the writer holds.
 #[derive(Drop)]
-pub struct Output<W: Write> {
-    writer: W,
+pub struct Output<W: Write + Drop> {
+    writer: BufWriter<W>,
     refused: bool,
 }
 
-impl<W: Write> Model for Output<W> {
+impl<W: Write + Drop> Model for Output<W> {
+    ghost use Rattle.std.specs.Io.Buffered.{writer_contents, writer_inner};
     ghost use Rattle.msgq_cli.specs.Outputs.{OutputState};
 
     ghost Value = { OutputState };
 
-    ghost view = { λ o. record { refused = o.refused; known = W.contents o.writer } };
+    ghost view = { λ o. record {
+      refused = o.refused;
+      known = writer_contents W.contents o.writer;
+      handed = W.contents (writer_inner o.writer);
+    } };
 }
 
-impl<W: Write> Output<W> {
+impl<W: Write + Drop> Output<W> {
     /// What is printed goes to this writer.
-    pub fn new(writer: W) -> Output<W>
-        ensures { result ≡ record { refused = false; known = W.contents writer } }
+    pub fn new(writer: BufWriter<W>) -> Output<W>
+        ensures refused { result.refused ≡ false }
+        ensures known { result.known ≡ writer_contents W.contents writer }
+        ensures handed { result.handed ≡ W.contents (writer_inner writer) }
     {
         Output {
             writer,
@@ -33,27 +41,28 @@ impl<W: Write> Output<W> {
         }
     }
 
-    /// Whether the writer has refused a write. Once it has, nothing more is written.
+    /// Whether a write was refused. Once one was, nothing more is printed.
     pub fn has_refused(&self) -> bool
         ensures { result ≡ self.now.refused }
     {
         self.refused
     }
 
-    /// Brings what was printed to where the writer writes.
+    /// Hands on to the writer all that was printed, unless a write was or is refused.
     pub fn flush(&mut self)
-        ensures { Prints self.old self.new [] }
+        ensures same { Prints self.old self.new [] }
+        ensures handed { self.new.refused ≡ false → self.new.handed ≡ self.new.known }
     {
         if !self.refused {
             self.refused = self.writer.flush().is_err();
         }
     }
 
-    /// The writer, which holds what it took.
+    /// The writer, with what was handed on to it. What was not is left out.
     pub fn into_writer(self) -> W
-        ensures { W.contents result ≡ self.known }
+        ensures { W.contents result ≡ self.handed }
     {
-        self.writer
+        self.writer.into_parts().0
     }
 
     /// Prints a text.

@@ -28,7 +28,7 @@ pub(crate) enum PrintedWord<'a> {
     Mode(u16),
 }
 
-impl<W: Write> Output<W> {
+impl<W: Write + Drop> Output<W> {
     /// Prints words with a space between each two, and an LF behind them.
     pub(crate) fn line(&mut self, words: &[PrintedWord<'_>])
         ensures { Prints self.old self.new (line_of (map text_of words.now)) }

@@ -33,7 +33,7 @@ impl Reply {
     }
 
     /// Prints the line for the script's line of this number.
-    pub fn print<W: Write>(&self, number: u64, output: &mut Output<W>)
+    pub fn print<W: Write + Drop>(&self, number: u64, output: &mut Output<W>)
         ensures { Prints output.old output.new (reply_text number self.now) }
     {
         match self {
@@ -51,14 +51,14 @@ impl Reply {
 }
 
 /// Prints the state of a queue that no line asked about.
-pub fn print_info<W: Write>(info: &QueueInfo, output: &mut Output<W>)
+pub fn print_info<W: Write + Drop>(info: &QueueInfo, output: &mut Output<W>)
     ensures { Prints output.old output.new (info_text info.now) }
 {
     output.line(&words_of_info(info));
 }
 
 /// Prints a fault that no line met.
-pub fn print_fault<W: Write>(fault: u8, output: &mut Output<W>)
+pub fn print_fault<W: Write + Drop>(fault: u8, output: &mut Output<W>)
     ensures { Prints output.old output.new (fault_text fault) }
 {
     output.line(&[
@@ -68,7 +68,7 @@ pub fn print_fault<W: Write>(fault: u8, output: &mut Output<W>)
 }
 
 /// Prints of how many pages a file was made.
-pub fn print_made<W: Write>(pages: u32, output: &mut Output<W>)
+pub fn print_made<W: Write + Drop>(pages: u32, output: &mut Output<W>)
     ensures { Prints output.old output.new (made_text pages) }
 {
     output.line(&[
@@ -78,7 +78,7 @@ pub fn print_made<W: Write>(pages: u32, output: &mut Output<W>)
 }
 
 /// Prints an answer behind the number of its line.
-fn print_answer<W: Write>(number: u64, answer: &Answer, output: &mut Output<W>)
+fn print_answer<W: Write + Drop>(number: u64, answer: &Answer, output: &mut Output<W>)
     ensures { Prints output.old output.new
         (line_of (decimal number ∷ answer_words answer.now)) }
 {
@@ -109,7 +109,7 @@ fn print_answer<W: Write>(number: u64, answer: &Answer, output: &mut Output<W>)
 }
 
 /// Prints a message that was received, behind the number of its line.
-fn print_message<W: Write>(number: u64, message: &Message, output: &mut Output<W>)
+fn print_message<W: Write + Drop>(number: u64, message: &Message, output: &mut Output<W>)
     ensures { Prints output.old output.new
         (line_of (decimal number ∷ message_words message.now)) }
 {

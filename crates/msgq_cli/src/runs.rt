@@ -22,7 +22,7 @@ use std::io::Write;
 /// Each call is answered by the rules (docs/QUEUES.md, "Calls") in the system that the lines before
 /// it left; before the first that would wait the system is stopped. Fault 50 or 60 leaves the system.
 /// Where the output refuses a write the lines are run all the same.
-pub fn run<D: PageDevice, W: Write>(
+pub fn run<D: PageDevice, W: Write + Drop>(
     alloc: Global,
     script: &Script,
     caller: &mut OneCaller<D>,

@@ -33,7 +33,7 @@ pub const MOST_FRAMES: usize = 16_384;
 /// Runs the script that a reader gives on a new file in memory, from the empty system.
 ///
 /// As `serve_text`, and where the reader fails otherwise than for want of memory fault 20 alone.
-pub fn serve<R: Read, W: Write, E: Write>(
+pub fn serve<R: Read, W: Write + Drop, E: Write>(
     alloc: Global,
     reader: &mut R,
     output: &mut Output<W>,
@@ -50,7 +50,7 @@ pub fn serve<R: Read, W: Write, E: Write>(
 /// Runs a text as a script on a new file in memory, from the empty system.
 ///
 /// A wrong script runs nothing. Fault 60 alone where there is no memory to read the script or to make the file.
-pub fn serve_text<W: Write, E: Write>(
+pub fn serve_text<W: Write + Drop, E: Write>(
     alloc: Global,
     text: &[u8],
     output: &mut Output<W>,
@@ -82,7 +82,7 @@ pub fn serve_text<W: Write, E: Write>(
 ///
 /// Of any device: a line is printed for each line of the script, and one fault behind them where the file is not
 /// closed well; or one fault alone.
-pub fn run_on<D: PageDevice, W: Write>(
+pub fn run_on<D: PageDevice, W: Write + Drop>(
     alloc: Global,
     device: D,
     script: &Script,
@@ -101,7 +101,7 @@ pub fn run_on<D: PageDevice, W: Write>(
 }
 
 /// Runs a script on a file that was opened, and closes it.
-fn run_open<D: PageDevice, W: Write>(
+fn run_open<D: PageDevice, W: Write + Drop>(
     alloc: Global,
     caller: OneCaller<D>,
     script: &Script,
@@ -121,7 +121,7 @@ fn run_open<D: PageDevice, W: Write>(
 }
 
 /// Ends a run whose script is not read.
-pub(crate) fn refuse<W: Write, E: Write>(
+pub(crate) fn refuse<W: Write + Drop, E: Write>(
     alloc: Global,
     error: ScriptError,
     text: &[u8],
@@ -153,7 +153,7 @@ pub(crate) fn read_text<R: Read>(alloc: Global, reader: &mut R) -> io::Result<Ve
 }
 
 /// Ends a run of whose script the system refused to open or read the file.
-pub(crate) fn unread<W: Write, E: Write>(
+pub(crate) fn unread<W: Write + Drop, E: Write>(
     name: &str,
     error: &io::Error,
     output: &mut Output<W>,
@@ -176,7 +176,7 @@ fn read_fault(kind: ErrorKind) -> u8
 }
 
 /// Prints a fault that no line met.
-pub(crate) fn fail<W: Write>(stage: Stage, fault: u8, output: &mut Output<W>) -> Ending
+pub(crate) fn fail<W: Write + Drop>(stage: Stage, fault: u8, output: &mut Output<W>) -> Ending
     ensures { IsFaultAlone fault output.old output.new result }
 {
     print_fault(fault, output);

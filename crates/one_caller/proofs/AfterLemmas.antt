@@ -1,5 +1,5 @@
 -- The system after a call.
-use Rattle.std.proofs.Common.{◌≡◌, Bool, Some, inl, inr, ap}
+use Rattle.std.proofs.Common.{◌≡◌, Some, inl, inr, ap}
 use Rattle.queue_model.specs.declared.answer.Answer.{Answer}
 use Rattle.queue_model.specs.declared.answer.Answer.TheVariants.{Id, Sent, Received, Info, Done, Refused}
 use Rattle.queue_model.specs.declared.call.Call.{Call}

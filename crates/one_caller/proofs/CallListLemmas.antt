@@ -19,7 +19,7 @@ pub Tells-weaker : (c : Caller) (call : Call) (s : State) (result : Result Serve
 Tells-weaker c call s (Ok (Answer a)) G H follows (t, outcome, held) = (t, outcome, follows t held)
 Tells-weaker c call s (Ok Waits) G H follows (outcome, held) = (outcome, follows s held)
 Tells-weaker c call s (Err NoRoom) G H follows held = follows s held
-Tells-weaker c call s (Err NoMemory) G H follows held = follows s held
+Tells-weaker c call s (Err NoMemory) G H follows (receive, held) = (receive, follows s held)
 Tells-weaker c call s (Err Failed) G H follows never = absurd never
 
 pub AreServed-push : (calls : List Asked) (s : State) (told : List (Result Served CallFault)) (G H : State → Type 0)

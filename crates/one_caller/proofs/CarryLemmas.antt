@@ -1,5 +1,5 @@
 -- Plans carried out record by record.
-use Rattle.std.proofs.Common.{◌≡◌, refl, ◌∙◌, sym, ap, subst, ℕ, List, [], ◌∷◌, Option, Some, None, IsSome}
+use Rattle.std.proofs.Common.{◌≡◌, refl, ◌∙◌, sym, ap, subst, ◌≤◌, List, [], ◌∷◌, length, slice_get, Option, Some, None, IsSome, arith}
 use Rattle.std.proofs.Common.{Result, Ok, Err, IsOk, OnOk, cond, Bool, true, false}
 use Rattle.std.specs.List.{All}
 use Rattle.std.specs.Option.{option_map}
@@ -9,6 +9,7 @@ use Rattle.bucket_page.specs.Keys.{is_same}
 use Rattle.bucket_page.specs.Records.{Pair}
 use Rattle.bucket_page.proofs.KeyLaws.{same_is}
 use Rattle.queue_records.specs.declared.record.Record.{Record}
+use Rattle.queue_records.specs.declared.links.Links.{Links}
 use Rattle.queue_records.specs.Range.{IsInRange}
 use Rattle.queue_records.specs.Spelling.{key_of, value_of}
 use Rattle.record_file.specs.OneBucket.{OneBucketState}
@@ -18,12 +19,10 @@ use Rattle.one_caller.specs.Carrying.{Carries}
 use Rattle.one_caller.specs.Filing.{ChangesRecords, HasValues}
 use Rattle.one_caller.proofs.ChangeLemmas.{same_self}
 use Rattle.xsi_inquiry.specs.declared.inquiry.NotASystem.{NotASystem}
-use Rattle.xsi_inquiry.specs.declared.decision.Trials.{Trials}
-use Rattle.xsi_inquiry.specs.declared.decision.Trials.TheVariants as trials
 use Rattle.xsi_inquiry.specs.declared.write.Write.{Write}
-use Rattle.xsi_inquiry.specs.declared.write.Write.TheVariants.{Replace, Delete}
+use Rattle.xsi_inquiry.specs.declared.write.Write.TheVariants.{Replace, Relink, Delete}
 use Rattle.xsi_inquiry.specs.Telling.{Gives}
-use Rattle.xsi_inquiry.specs.Writing.{AreAbsent, CanAllBe, CanBe, HasRange, Records, inserted, trials_of, with_at, written, written_by}
+use Rattle.xsi_inquiry.specs.Writing.{AreAbsent, CanAllBe, CanBe, HasRange, Records, inserted, with_at, written, written_by}
 
 -- what is at each key the same has the same values
 pub same_values : (old new : Records) (ps : List Pair) → ((key : RecordKey) → old key ≡ new key) → HasValues old ps
@@ -76,6 +75,17 @@ deletes w key r ps qs is ok can_be records has =
     subst (λ (v : Write). CanBe v records → HasRange v → Gives r (λ _. HasValues (written_by v records) qs)) (sym is)
     (λ can range. gives_from _ r (can_be records has can) (ok records has))
 
+-- a write sets links
+pub relinks : {E : Type 0} (w : Write) (key : RecordKey) (links : Links) (r : Result (Unit {0}) E) (ps qs : List Pair)
+    → w ≡ Relink key links
+    → ((records : Records) → HasValues records ps → CanBe (Relink key links) records
+    → Gives r (λ _. HasValues (written_by (Relink key links) records) qs))
+    → (records : Records) → HasValues records ps → CanBe w records → HasRange w
+    → Gives r (λ _. HasValues (written_by w records) qs)
+relinks w key links r ps qs is ok records has =
+    subst (λ (v : Write). CanBe v records → HasRange v → Gives r (λ _. HasValues (written_by v records) qs)) (sym is)
+    (λ can range. ok records has can)
+
 -- one more is written
 pub remains_less : (w : Write) (ws rest : List Write) (target : Records) (ps qs : List Pair) → ws ≡ w ∷ rest
     → Remains ws target ps
@@ -91,19 +101,65 @@ remains_less w ws rest target ps qs is left wrote =
       leads = it.leads;
     }
 
+-- the next can be written
+pub refused_less : (w : Write) (ws rest : List Write) (target : Records) (ps : List Pair) → ws ≡ w ∷ rest
+    → Remains ws target ps
+    → ((records : Records) → HasValues records ps → CanBe w records → HasRange w → ⊥) → ⊥
+refused_less w ws rest target ps is left refused =
+    let it = subst (λ vs. Remains vs target ps) is left in
+    refused it.now it.values it.can.0 (All-head HasRange w rest it.in_range)
+
 -- ---- insertions on trial
 
+-- the records, as they are asked for one by one
+pub none_of : (ts : List Record) → slice_get ts 0 ≡ None → ts ≡ []
+none_of [] is = refl
+none_of (t ∷ ts) is = absurd cc
+
+pub one_of : (ts : List Record) (a : Record) → slice_get ts 0 ≡ Some a → slice_get ts 1 ≡ None → ts ≡ a ∷ []
+one_of [] a is none = absurd cc
+one_of (t ∷ []) a is none = let same : t ≡ a = cc in ap (λ x. x ∷ []) same
+one_of (t ∷ u ∷ ts) a is none = absurd cc
+
+pub two_of : (ts : List Record) (a b : Record) → slice_get ts 0 ≡ Some a → slice_get ts 1 ≡ Some b → length ts ≤ 2
+    → ts ≡ a ∷ b ∷ []
+two_of [] a b is other few = absurd cc
+two_of (t ∷ []) a b is other few = absurd cc
+two_of (t ∷ u ∷ []) a b is other few =
+    let first : t ≡ a = cc in
+    let second : u ≡ b = cc in
+    λ i. first i ∷ second i ∷ []
+two_of (t ∷ u ∷ v ∷ ts) a b is other few = absurd (omega (arith, few))
+
 -- one record
-pub one_carried : (t : Trials) (first : Record) (r : Result (Unit {0}) CallFault) (ps : List Pair) (file : OneBucketState)
-    → t ≡ trials.One first
+pub one_carried : (ts : List Record) (first : Record) (r : Result (Unit {0}) CallFault) (ps : List Pair)
+    (file : OneBucketState) → ts ≡ first ∷ []
     → ((records : Records) → HasValues records ps → records (key_of first) ≡ None → IsInRange first
     → Carries records (with_at (key_of first) (Some first) records) r file)
-    → (records : Records) → HasValues records ps → AreAbsent (trials_of t) records → All IsInRange (trials_of t)
-    → Carries records (inserted (trials_of t) records) r file
-one_carried t first r ps file is carried records has =
-    subst (λ (u : Trials). AreAbsent (trials_of u) records → All IsInRange (trials_of u)
-    → Carries records (inserted (trials_of u) records) r file) (sym is)
+    → (records : Records) → HasValues records ps → AreAbsent ts records → All IsInRange ts
+    → Carries records (inserted ts records) r file
+one_carried ts first r ps file is carried records has =
+    subst (λ us. AreAbsent us records → All IsInRange us → Carries records (inserted us records) r file) (sym is)
     (λ absent range. carried records has absent.0 (All-head IsInRange first [] range))
+
+-- the first of some does not fit
+pub first_refused : (ts : List Record) (a : Record) (fault : CallFault) (ps : List Pair) (file : OneBucketState)
+    → slice_get ts 0 ≡ Some a
+    → ((records : Records) → HasValues records ps → records (key_of a) ≡ None → IsInRange a
+    → Carries records (with_at (key_of a) (Some a) records) (Err fault) file)
+    → (records : Records) → HasValues records ps → AreAbsent ts records → All IsInRange ts
+    → Carries records (inserted ts records) (Err fault) file
+first_refused [] a fault ps file is carried records has = absurd cc
+first_refused (t ∷ ts) a fault ps file is carried records has =
+    let same : t ≡ a = cc in
+    λ absent range. again fault (carried records has (subst (λ x. records (key_of x) ≡ None) same absent.0)
+    (subst IsInRange same (All-head IsInRange t ts range)))
+  where
+    again : (f : CallFault) → Carries records (with_at (key_of a) (Some a) records) (Err f) file
+        → Carries records (inserted (t ∷ ts) records) (Err f) file
+    again NoRoom values = values
+    again NoMemory never = never
+    again Failed never = never
 
 -- the first of two was inserted: what the second asks for
 pub record IsBetween (a b : Record) (records : Records) (ps : List Pair) : Type 0 where
@@ -112,14 +168,13 @@ pub record IsBetween (a b : Record) (records : Records) (ps : List Pair) : Type 
   pub absent : with_at (key_of a) (Some a) records (key_of b) ≡ None
   pub in_range : IsInRange b
 
-pub first_of_two : (t : Trials) (a b : Record) (ps qs : List Pair) → t ≡ trials.Two a b
+pub first_of_two : (ts : List Record) (a b : Record) (ps qs : List Pair) → ts ≡ a ∷ b ∷ []
     → ((records : Records) → HasValues records ps → records (key_of a) ≡ None → IsInRange a
     → HasValues (with_at (key_of a) (Some a) records) qs)
-    → (records : Records) → HasValues records ps → AreAbsent (trials_of t) records → All IsInRange (trials_of t)
+    → (records : Records) → HasValues records ps → AreAbsent ts records → All IsInRange ts
     → IsBetween a b records qs
-first_of_two t a b ps qs is inserts records has =
-    subst (λ (u : Trials). AreAbsent (trials_of u) records → All IsInRange (trials_of u) → IsBetween a b records qs)
-    (sym is)
+first_of_two ts a b ps qs is inserts records has =
+    subst (λ us. AreAbsent us records → All IsInRange us → IsBetween a b records qs) (sym is)
     (λ absent range. record {
       absent_first = absent.0;
       values = inserts records has absent.0 (All-head IsInRange a (b ∷ []) range);
@@ -127,10 +182,10 @@ first_of_two t a b ps qs is inserts records has =
       in_range = All-head IsInRange b [] (All-tail IsInRange a (b ∷ []) range);
     })
 
-pub both_inserted : (t : Trials) (a b : Record) (records : Records) (ps : List Pair) → t ≡ trials.Two a b
+pub both_inserted : (ts : List Record) (a b : Record) (records : Records) (ps : List Pair) → ts ≡ a ∷ b ∷ []
     → HasValues (with_at (key_of b) (Some b) (with_at (key_of a) (Some a) records)) ps
-    → HasValues (inserted (trials_of t) records) ps
-both_inserted t a b records ps is has = subst (λ (u : Trials). HasValues (inserted (trials_of u) records) ps) (sym is) has
+    → HasValues (inserted ts records) ps
+both_inserted ts a b records ps is has = subst (λ us. HasValues (inserted us records) ps) (sym is) has
 
 -- both of two
 abbrev pub both_in : Record → Record → Records → Records
@@ -167,3 +222,14 @@ pub record IsWritten (all rest : List Write) (old now : OneBucketState) : Type 0
 
 pub no_error : (e : NotASystem) → IsOk {T = Unit {0}} (Err e) → ⊥
 no_error e ok = cc
+
+-- one more was written
+pub written_more : (all ws rest : List Write) (w : Write) (old mid now : OneBucketState) → ws ≡ w ∷ rest
+    → IsWritten all ws old mid → ChangesRecords mid now
+    → ((records : Records) → HasValues records mid.records → CanBe w records → HasRange w
+    → HasValues (written_by w records) now.records) → IsWritten all rest old now
+written_more all ws rest w old mid now is so_far same wrote = record {
+  same = same ∙ ap (λ (file : OneBucketState). record file { records = now.records }) so_far.same;
+  remains = λ records has can range. remains_less w ws rest (written all records) mid.records now.records is
+      (so_far.remains records has can range) wrote;
+}

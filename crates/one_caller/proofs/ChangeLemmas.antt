@@ -1,19 +1,25 @@
 -- One record changes in a file.
-use Rattle.std.proofs.Common.{◌≡◌, refl, ◌∙◌, sym, ap, subst, ℕ, Bool, true, false, cond, List, length, Option, Some, None, IsSome}
-use Rattle.std.proofs.Common.{Result, Ok, Err, eq-eqb}
+use Rattle.std.proofs.Common.{◌≡◌, refl, ◌∙◌, sym, ap, subst, ℕ, Bool, true, false, cond, List, [], ◌++◌, length, take, drop, Option, Some, None, IsSome}
+use Rattle.std.proofs.Common.{eq-eqb}
 use Rattle.std.specs.Option.{option_map}
+use Rattle.std.specs.Prelude.{unwrap_or}
+use Rattle.std.proofs.lemmas.List.{take-append-drop}
 use Rattle.bucket_page.specs.declared.record_key.RecordKey.{RecordKey}
-use Rattle.bucket_page.specs.Changes.{HasValueOf, inserted, removed, replaced}
+use Rattle.bucket_page.specs.Changes.{fronted, inserted, removed, replaced, value_of_key}
 use Rattle.bucket_page.specs.Keys.{is_same}
 use Rattle.bucket_page.specs.Records.{Pair, ascend, lookup, pair}
 use Rattle.bucket_page.proofs.KeyLaws.{same_is}
 use Rattle.bucket_page.proofs.LookupLaws.{lookup_inserted, lookup_removed, lookup_replaced}
 use Rattle.queue_records.specs.declared.record.Record.{Record}
+use Rattle.queue_records.specs.declared.links.Links.{Links}
+use Rattle.queue_records.specs.declared.links.Links.TheVariants as kinds
+use Rattle.queue_records.specs.declared.record.Record.TheVariants as records
+use Rattle.queue_records.specs.Relinking.{HasSuch, relinked}
 use Rattle.queue_records.specs.Spelling.{key_of, value_of}
 use Rattle.record_file.specs.OneBucket.{OneBucketState}
 use Rattle.one_caller.specs.Filing.{HasValues}
-use Rattle.xsi_inquiry.specs.Writing.{CanBe, Records, value_length, with_at}
-use Rattle.xsi_inquiry.specs.declared.write.Write.TheVariants.{Replace, Delete}
+use Rattle.xsi_inquiry.specs.Writing.{CanBe, Records, with_at, written_by}
+use Rattle.xsi_inquiry.specs.declared.write.Write.TheVariants.{Relink}
 
 -- ---- keys
 
@@ -96,3 +102,43 @@ pub removed_has : (records : Records) (old new : OneBucketState) (key : RecordKe
 removed_has records old new key order made has =
     subst (HasValues (with_at key None records)) (sym (ap (λ (file : OneBucketState). file.records) made))
     (has_removed records old.records key order has)
+
+-- ---- links
+
+-- the record that has such links
+pub record IsSuch (links : Links) (found : Option Record) : Type 0 where
+  pub entry : Record
+  pub is : found ≡ Some entry
+  pub such : HasSuch links (Some entry)
+
+pub is_such : (links : Links) (found : Option Record) → HasSuch links found → IsSuch links found
+is_such (kinds.Message l) found (m, is) = record { entry = records.Message m; is = is; such = (m, refl) }
+is_such (kinds.Type l) found (t, is) = record { entry = records.Type t; is = is; such = (t, refl) }
+
+-- its value stands
+pub value_stands : (found : Records) (ps : List Pair) (key : RecordKey) (links : Links) (value : Option (List ℕ))
+    (it : IsSuch links (found key)) → HasValues found ps → lookup key ps ≡ value → value ≡ Some (value_of it.entry)
+value_stands found ps key links value it has here = sym here ∙ has key ∙ ap (option_map value_of) it.is
+
+-- links were set at the front of its value
+pub relinked_has : (found : Records) (old new : OneBucketState) (key : RecordKey) (links : Links)
+    (value front : List ℕ) (n : ℕ) → length front ≡ n → lookup key old.records ≡ Some value
+    → ((r : Record) (rest : List ℕ) → HasSuch links (Some r) → take n value ++ rest ≡ value_of r
+    → front ++ rest ≡ value_of (relinked links r))
+    → new ≡ record old { records = fronted key front old.records } → HasValues found old.records
+    → CanBe (Relink key links) found → HasValues (written_by (Relink key links) found) new.records
+relinked_has found old new key links value front n len here set made has can =
+    let it = is_such links (found key) can in
+    let same = value_stands found old.records key links (Some value) it has here in
+    let whole : value ≡ value_of it.entry = cc in
+    let ps = old.records in
+    let behind : front ++ drop (length front) (value_of_key key ps) ≡ value_of (relinked links it.entry) =
+    (λ i. front ++ drop (len i) (unwrap_or (here i) []))
+    ∙ set it.entry (drop n value) it.such (take-append-drop n value ∙ whole) in
+    let changed : new.records ≡ replaced (pair key (value_of (relinked links it.entry))) ps =
+    ap (λ (file : OneBucketState). file.records) made ∙ ap (λ v. replaced (pair key v) ps) behind in
+    subst (HasValues (written_by (Relink key links) found)) (sym changed)
+    (has_with found ps (replaced (pair key (value_of (relinked links it.entry))) ps) key
+    (option_map (relinked links) (found key)) (Some (value_of (relinked links it.entry)))
+    (sym (ap (λ o. option_map value_of (option_map (relinked links) o)) it.is)) has
+    (λ k. lookup_replaced k (pair key (value_of (relinked links it.entry))) ps (subst IsSome (sym here) refl)))

@@ -1,12 +1,8 @@
 -- The records of a system without queues.
-use Rattle.std.proofs.Common.{◌≡◌, refl, ◌∙◌, sym, ap, ℕ, ◌<◌, ◌≤◌, Bool, true, false, cond, List, Option, Some, None, arith}
+use Rattle.std.proofs.Common.{◌≡◌, refl, ◌∙◌, sym, ap, ℕ, ◌<◌, ◌≤◌, Bool, true, false, cond, Option, Some, None, arith}
 use Rattle.std.specs.Prelude.{◌==◌, ◌&&◌}
 use Rattle.std.specs.Option.{option_map}
 use Rattle.std.proofs.lemmas.List.Elements.{All-nil}
-use Rattle.bucket_page.specs.declared.record_key.RecordKey.{RecordKey}
-use Rattle.bucket_page.specs.Keys.{is_same}
-use Rattle.bucket_page.specs.Records.{lookup}
-use Rattle.queue_model.specs.declared.queue.Queue.{Queue}
 use Rattle.queue_model.specs.Lawful.{AreKeysApart, IsLawfulQueue}
 use Rattle.queue_records.specs.declared.layout.TheConstants.{COUNTER, KEY, QUEUE, TYPE, MESSAGE}
 use Rattle.queue_records.specs.declared.record.Record.{Record}

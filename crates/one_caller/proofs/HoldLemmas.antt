@@ -1,13 +1,8 @@
 -- A caller holds a system: when it is opened, behind a call, and when it is closed.
-use Rattle.std.proofs.Common.{◌≡◌, refl, ◌∙◌, sym, ap, subst, ℕ, Bool, true, false, List, [], ◌∷◌, Option, Some, None, Result, Ok, Err, IfOk, IsTrue}
-use Rattle.bucket_page.specs.declared.record_key.RecordKey.{RecordKey}
-use Rattle.bucket_page.specs.Records.{Pair, lookup}
+use Rattle.std.proofs.Common.{◌≡◌, refl, ◌∙◌, sym, subst, ℕ, Bool, true, false, List, Result, Ok, Err, IfOk, IsTrue}
 use Rattle.queue_model.specs.declared.call.Call.{Call}
 use Rattle.queue_model.specs.declared.caller.Caller.{Caller}
-use Rattle.queue_model.specs.Lawful.{IsLawful}
 use Rattle.queue_model.specs.State.{State}
-use Rattle.record_file.specs.Files.{IsFile}
-use Rattle.record_file.specs.Laws.{IsOpenFile}
 use Rattle.record_file.specs.OneBucket.{Leaves, OneBucketState, Shows, device_in}
 use Rattle.record_file.specs.declared.fault.CloseFault.{CloseFault}
 use Rattle.record_file.proofs.FileLaws.{closes, opens}
@@ -124,7 +119,7 @@ module _ (c : Caller) (call : Call) (old new : CallerState) (s : State) (caller 
   )
   held_after (Ok Waits) sound told = (told.0, left sound told.1)
   held_after (Err NoRoom) sound told = left sound told
-  held_after (Err NoMemory) sound told = left sound told
+  held_after (Err NoMemory) sound told = (told.0, left sound told.1)
   held_after (Err Failed) sound told = told
 
 -- ---- closed

@@ -1,19 +1,24 @@
 -- A record is read from its value.
-use Rattle.std.proofs.Common.{◌≡◌, refl, ◌∙◌, sym, ap, subst, ℕ, List, Option, Some, None, Result, Ok, Err}
+use Rattle.std.proofs.Common.{◌≡◌, refl, ◌∙◌, sym, ap, subst, ℕ, List, Option, Some, None, Result, Ok, Err, Bool, nat_lt}
 use Rattle.std.specs.Option.{option_map}
 use Rattle.bucket_page.specs.declared.record_key.RecordKey.{RecordKey}
 use Rattle.bucket_page.specs.Records.{Pair}
-use Rattle.queue_model.specs.declared.call.Call.{Call}
 use Rattle.queue_model.specs.declared.caller.Caller.{Caller}
 use Rattle.queue_model.specs.State.{State}
 use Rattle.queue_records.specs.declared.bad_record.BadRecord.{BadRecord}
 use Rattle.queue_records.specs.declared.record.Record.{Record}
 use Rattle.queue_records.specs.Records.{Spells}
-use Rattle.queue_records.specs.Spelling.{value_of}
+use Rattle.queue_records.specs.Spelling.{counter_key, value_of}
+use Rattle.type_chains.specs.Entries.{counter_of}
+use Rattle.queue_records.specs.declared.counter.Counter.{Counter}
+use Rattle.queue_records.specs.declared.record.Record.TheVariants as records
 use Rattle.type_chains.specs.RecordOf.{record_of}
 use Rattle.type_chains.proofs.Spelled.{spelled}
 use Rattle.one_caller.specs.Filing.{AreAmong, HasValues}
-use Rattle.xsi_inquiry.specs.Telling.{IsFiled, IsTold}
+use Rattle.xsi_inquiry.specs.Rooms.{Roomful}
+use Rattle.xsi_inquiry.specs.Telling.{IsFiled, IsTold, IsToldGiven}
+use Rattle.xsi_inquiry.specs.declared.wanted.Wanted.{Wanted}
+use Rattle.xsi_inquiry.specs.declared.wanted.Wanted.TheVariants.{At, Given}
 use Rattle.xsi_inquiry.specs.Writing.{Records}
 
 -- the record at a key, which the value spells
@@ -58,15 +63,37 @@ read_err s records key value r fault filed among is only at =
 -- ---- a call that asks
 
 -- what it was told so far
-pub record IsAsked {I : Type 0} (caller : I → Caller) (call : I → Call) (Knows : I → State → Type 0) (first now : I)
-    (ps : List Pair) : Type 0 where
+pub record IsAsked {I : Type 0} (caller : I → Caller) (Knows : I → Roomful → State → Type 0) (first now : I)
+    (before room : Roomful) (ps : List Pair) : Type 0 where
   pub caller_is : caller now ≡ caller first
-  pub call_is : call now ≡ call first
-  pub knows : (s : State) → IsFiled s → HasValues (record_of s) ps → Knows first s → Knows now s
+  pub knows : (s : State) → IsFiled s → HasValues (record_of s) ps → Knows first before s → Knows now room s
 
-pub told_at : (s : State) (wanted asked : Option RecordKey) (key : RecordKey) (found : Option Record) → asked ≡ wanted
-    → asked ≡ Some key → found ≡ record_of s key → IsTold s wanted found
+pub told_at : (s : State) (wanted asked : Option Wanted) (key : RecordKey) (found : Option Record) → asked ≡ wanted
+    → asked ≡ Some (At key) → found ≡ record_of s key → IsTold s wanted found
 told_at s wanted asked key found is some here other at =
-    let same : ◌≡◌ {A = Option RecordKey} (Some key) (Some other) = sym some ∙ is ∙ at in
+    let same : ◌≡◌ {A = Option Wanted} (Some (At key)) (Some (At other)) = sym some ∙ is ∙ at in
     let same_key : key ≡ other = cc in
     here ∙ ap (record_of s) same_key
+
+pub given_so : (s : State) (wanted asked : Option Wanted) (id : ℕ) (given : Bool) → asked ≡ wanted
+    → asked ≡ Some (Given id) → given ≡ nat_lt id s.next_id → IsToldGiven s wanted given
+given_so s wanted asked id given is some here other at =
+    let same : ◌≡◌ {A = Option Wanted} (Some (Given id)) (Some (Given other)) = sym some ∙ is ∙ at in
+    let same_id : id ≡ other = cc in
+    here ∙ ap (λ n. nat_lt n s.next_id) same_id
+
+-- ---- the Counter
+
+pub none_stands : (s : State) (found : Option Record) → found ≡ record_of s counter_key → found ≡ None → ⊥
+none_stands s found is none =
+    let clash : ◌≡◌ {A = Option Record} None (Some (records.Counter (counter_of s))) = sym none ∙ is in
+    absurd cc
+
+pub counter_found : (s : State) (found : Option Record) (r : Record) → found ≡ record_of s counter_key → found ≡ Some r →
+    r ≡ records.Counter (counter_of s)
+counter_found s found r is some =
+    let same : ◌≡◌ {A = Option Record} (Some r) (Some (records.Counter (counter_of s))) = sym some ∙ is in
+    cc
+
+pub counter_is : (a b : Counter) → records.Counter a ≡ records.Counter b → a ≡ b
+counter_is a b same = cc

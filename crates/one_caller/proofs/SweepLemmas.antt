@@ -1,63 +1,45 @@
 -- Messages are swept turn by turn.
-use Rattle.std.proofs.Common.{of_z, to_z, ◌≡◌, refl, ◌∙◌, sym, ap, subst, ℕ, ◌+◌, ◌≤◌, ◌<◌, Bool, true, false, cond, List, length, Option, Some, None, slice_get, Result, Ok, Err, arith}
+use Rattle.std.proofs.Common.{◌≡◌, refl, ◌∙◌, sym, ap, subst, ℕ, zero, suc, ◌+◌, ◌≤◌, Bool, true, false, cond, List, [], ◌∷◌, length, drop, Option, Some, None, slice_index_or, Result, arith}
 use Rattle.std.proofs.lemmas.Bool.Decides.{nat_tests}
-use Rattle.std.specs.List.{All, find, list_any}
+use Rattle.std.specs.List.{find, list_any}
 use Rattle.std.specs.Prelude.{◌==◌, ◌&&◌, option_and_then}
 use Rattle.bucket_page.specs.declared.record_key.RecordKey.{RecordKey}
-use Rattle.std.specs.Prelude.{FitsSigned}
-use Rattle.std.specs.Int.{w64}
-use Rattle.std.proofs.lemmas.Int.{to_z-of_z}
 use Rattle.std.proofs.lemmas.List.Elements.{All-contains}
-use Rattle.std.proofs.lemmas.List.{length-map}
-use Rattle.std.proofs.lemmas.Option.{slice_get_within}
 use Rattle.bucket_page.specs.Records.{Pair}
 use Rattle.queue_model.specs.declared.message.Message.{Message}
 use Rattle.queue_model.specs.declared.queue.Queue.{Queue}
 use Rattle.queue_model.specs.Lawful.{IsLawfulQueue}
 use Rattle.queue_model.specs.Rules.{has_id}
 use Rattle.queue_model.specs.State.{State}
-use Rattle.queue_records.specs.declared.layout.TheConstants.{TYPE, MESSAGE}
-use Rattle.queue_records.specs.declared.message_entry.MessageEntry.{MessageEntry}
-use Rattle.queue_records.specs.declared.record.Record.{Record}
-use Rattle.queue_records.specs.declared.record.Record.TheVariants as records
-use Rattle.queue_records.specs.declared.type_entry.TypeEntry.{TypeEntry}
-use Rattle.record_file.specs.OneBucket.{OneBucketState}
 use Rattle.queue_model.proofs.ListLemmas.{find-Some}
-use Rattle.queue_records.specs.Fields.{type_number}
-use Rattle.type_chains.specs.Fits.{HasFittingMessage, HasFittingQueue}
+use Rattle.queue_records.specs.declared.layout.TheConstants.{TYPE, MESSAGE}
+use Rattle.queue_records.specs.declared.record.Record.{Record}
+use Rattle.queue_records.specs.Keys.{key_of_message}
+use Rattle.record_file.specs.OneBucket.{OneBucketState}
 use Rattle.type_chains.specs.Lists.{serials}
 use Rattle.type_chains.specs.Neighbours.{first_of}
 use Rattle.type_chains.specs.RecordOf.{record_of, at_queue_of, has_serial, message_record, type_record}
 use Rattle.one_caller.specs.Filing.{AreAmong, ChangesRecords, HasValues}
-use Rattle.one_caller.specs.Sweeping.{IsSweptTo, LeadsOn}
-use Rattle.one_caller.proofs.CarryLemmas.{same_values}
-use Rattle.xsi_control.specs.Turns.{DeletesOf, IsRead, IsTurnOf, key_of_message, key_of_type}
-use Rattle.xsi_control.proofs.LastLemmas.{at_place}
-use Rattle.xsi_control.proofs.SweepLemmas.{begins_whole, ends_behind}
-use Rattle.xsi_inquiry.specs.declared.decision.Plan.{Plan}
-use Rattle.xsi_inquiry.specs.declared.decision.Trials.{Trials}
-use Rattle.xsi_inquiry.specs.declared.decision.Trials.TheVariants as trials
-use Rattle.xsi_inquiry.specs.Sweeping.{swept, unswept, has_type_number, type_left, message_left}
+use Rattle.one_caller.specs.Sweeping.{IsSweptTo}
+use Rattle.one_caller.proofs.CarryLemmas.{IsWritten, Remains, same_values}
+use Rattle.xsi_inquiry.specs.declared.write.Write.{Write}
+use Rattle.xsi_inquiry.specs.Sweeping.{IsTurn, swept, unswept, has_type_number, type_left, message_left}
 use Rattle.xsi_inquiry.specs.Telling.{Gives, IsFiled}
-use Rattle.xsi_inquiry.specs.Writing.{CanAllBe, HasRange, Leads, Records, inserted, trials_of, written}
+use Rattle.xsi_inquiry.specs.Writing.{CanAllBe, Leads, Plan, Records, inserted, somes, written, writes_of}
+use Rattle.xsi_sweep.specs.declared.turn.MessageRead.{MessageRead}
+use Rattle.xsi_sweep.specs.declared.turn.Turn.{Turn}
+use Rattle.xsi_sweep.specs.Turns.{IsAtTurn, begun_turn, turn_plan, turn_slots}
+use Rattle.xsi_sweep.proofs.SweepLemmas.{begins_whole}
 
 -- a plan without trials is carried out by its writes
-pub written_plan : {E : Type 0} (p : Plan) (old new : Records) (r : Result (Unit {0}) E) (ps qs : List Pair) → Leads p old new
-    → p.trials ≡ trials.None → HasValues old ps
-    → ((records : Records) → HasValues records ps → CanAllBe p.writes records → All HasRange p.writes
-    → Gives r (λ _. HasValues (written p.writes records) qs)) → Gives r (λ _. HasValues new qs)
-written_plan p old new r ps qs leads none has wrote = done r (wrote old has can leads.in_range)
-  where
-    can : CanAllBe p.writes old
-    can = subst (λ (t : Trials). CanAllBe p.writes (inserted (trials_of t) old)) none leads.can
+pub can_write : (p : Plan) (old new : Records) → p.trials ≡ [] → Leads p old new → CanAllBe (writes_of p) old
+can_write p old new none leads =
+    subst (λ ts. CanAllBe (writes_of p) (inserted ts old)) none leads.can
 
-    leads_on : (key : RecordKey) → written p.writes old key ≡ new key
-    leads_on key = ap (λ (t : Trials). written p.writes (inserted (trials_of t) old) key) (sym none) ∙ leads.leads key
-
-    done : {E : Type 0} (r : Result (Unit {0}) E) → Gives r (λ _. HasValues (written p.writes old) qs)
-        → Gives r (λ _. HasValues new qs)
-    done (Ok it) values = same_values (written p.writes old) new qs leads_on values
-    done (Err e) values = values
+pub writes_lead : (p : Plan) (old new : Records) → p.trials ≡ [] → Leads p old new
+    → (key : RecordKey) → written (writes_of p) old key ≡ new key
+writes_lead p old new none leads key =
+    ap (λ ts. written (writes_of p) (inserted ts old) key) (sym none) ∙ leads.leads key
 
 -- ---- what is left is as it was
 
@@ -94,6 +76,81 @@ swept_among id count s key r is =
         (λ q. left_of (list_any (has_serial key.number) (unswept count q)) (message_record key.number q) r) left
     by_type false false type-test message-test left = left
 
+-- ---- a turn
+
+-- it is told its Message
+pub turn_read : {E : Type 0} (id serial count : ℕ) (s : State) (q : Queue) (t : Turn) (found : Option Record)
+    (next : Option ℕ) (p : Plan) (r : Result (Unit {0}) E) → t ≡ begun_turn id serial
+    → find (has_id id) s.queues ≡ Some q → first_of (serials (unswept count q)) ≡ Some serial
+    → found ≡ swept id count s (key_of_message id serial)
+    → (IsAtTurn count q s t → found ≡ swept t.id count s (key_of_message t.id t.serial)
+    → Gives r (λ _. IsTurn t.id count q s next p)) → Gives r (λ _. IsTurn id count q s next p)
+turn_read id serial count s q t found next p r is alive first stands told =
+    subst (λ (u : Turn). (IsAtTurn count q s u → found ≡ swept u.id count s (key_of_message u.id u.serial)
+    → Gives r (λ _. IsTurn u.id count q s next p)) → Gives r (λ _. IsTurn id count q s next p)) (sym is)
+    (λ tells. tells (record { alive = alive; first = first }) stands) told
+
+-- slots are written one after the other
+some_at : (os : List (Option Write)) (slot : ℕ) (w : Write) → slice_index_or os slot None ≡ Some w
+    → somes (drop slot os) ≡ w ∷ somes (drop (suc slot) os)
+some_at [] zero w is = absurd cc
+some_at [] (suc slot) w is = absurd cc
+some_at (None ∷ os) zero w is = absurd cc
+some_at (Some v ∷ os) zero w is = let same : v ≡ w = cc in ap (λ x. x ∷ somes os) same
+some_at (o ∷ os) (suc slot) w is = some_at os slot w is
+
+none_at : (os : List (Option Write)) (slot : ℕ) → slice_index_or os slot None ≡ None
+    → somes (drop slot os) ≡ somes (drop (suc slot) os)
+none_at [] zero is = refl
+none_at [] (suc slot) is = refl
+none_at (None ∷ os) zero is = refl
+none_at (Some v ∷ os) zero is = absurd cc
+none_at (o ∷ os) (suc slot) is = none_at os slot is
+
+pub slot_some : (os : List (Option Write)) (slot : ℕ) (w : Write) → slice_index_or os slot None ≡ Some w
+    → somes (drop slot os) ≡ w ∷ somes (drop (slot + 1) os)
+slot_some os slot w is =
+    let next : suc slot ≡ slot + 1 = omega arith in some_at os slot w is ∙ ap (λ n. w ∷ somes (drop n os)) next
+
+pub slot_none : (os : List (Option Write)) (slot : ℕ) → slice_index_or os slot None ≡ None
+    → somes (drop slot os) ≡ somes (drop (slot + 1) os)
+slot_none os slot is =
+    let next : suc slot ≡ slot + 1 = omega arith in none_at os slot is ∙ ap (λ n. somes (drop n os)) next
+
+-- a turn has two slots at most
+pub turn_ends : (t : Turn) (slot : ℕ) → 7 ≤ slot → somes (drop slot (turn_plan t).slots) ≡ []
+turn_ends t slot all = by_read t.read slot all
+  where
+    by_read : (read : Option MessageRead) (n : ℕ) → 7 ≤ n → somes (drop n (turn_slots t.id t.serial read)) ≡ []
+    by_read None zero all = refl
+    by_read None (suc n) all = refl
+    by_read (Some m) zero all = absurd (omega (arith, all))
+    by_read (Some m) (suc zero) all = absurd (omega (arith, all))
+    by_read (Some m) (suc (suc zero)) all = refl
+    by_read (Some m) (suc (suc (suc n))) all = refl
+
+-- what a turn writes leads on
+pub turn_remains : (id count : ℕ) (q : Queue) (s : State) (next : Option ℕ) (p : Plan) (rest : List Write)
+    (old now : OneBucketState) → IsTurn id count q s next p → IsWritten (writes_of p) rest old now
+    → HasValues (swept id count s) old.records → Remains rest (swept id (count + 1) s) now.records
+turn_remains id count q s next p rest old now turn wrote has =
+    let before = swept id count s in
+    let it = wrote.remains before has (can_write p before (swept id (count + 1) s) turn.no_trials turn.leads)
+    turn.leads.in_range in
+    record {
+      now = it.now;
+      values = it.values;
+      can = it.can;
+      in_range = it.in_range;
+      leads = λ key. it.leads key ∙ writes_lead p before (swept id (count + 1) s) turn.no_trials turn.leads key;
+    }
+
+pub none_remains : (target : Records) (rest : List Write) (ps : List Pair) → rest ≡ [] → Remains rest target ps
+    → HasValues target ps
+none_remains target rest ps is left =
+    let it = subst (λ ws. Remains ws target ps) is left in
+    same_values it.now target ps it.leads it.values
+
 -- ---- the loop over the turns
 
 -- so many messages were swept
@@ -112,73 +169,26 @@ begins id first old = record {
   };
 }
 
--- the last was swept
+-- where none is left, all were swept
+none_left : (ms : List Message) (count : ℕ) → count ≤ length ms → first_of (serials (drop count ms)) ≡ None
+    → count ≡ length ms
+none_left [] count within none = omega (arith, within)
+none_left (m ∷ ms) zero within none = absurd cc
+none_left (m ∷ ms) (suc count) within none = ap suc (none_left ms count (omega (arith, within)) none)
+
 pub ends : (id count : ℕ) (s : State) (q : Queue) (ps : List Pair) → IsSweptTo id count s q ps None
     → HasValues (swept id (length q.messages) s) ps
 ends id count s q ps it =
-    subst (λ n. HasValues (swept id n s) ps) ((ends_behind count q.messages it.within).0 (sym it.next_is)) it.values
+    subst (λ n. HasValues (swept id n s) ps) (none_left q.messages count it.within (sym it.next_is)) it.values
 
--- one more was swept
-pub turn_within : (ms : List Message) (place serial : ℕ) → slice_get (serials ms) place ≡ Some serial
-    → place + 1 ≤ length ms
-turn_within ms place serial at =
-    let inside = slice_get_within (serials ms) place serial at in
-    let many = length-map ms (λ (m : Message). m.serial) in omega arith
-
--- ---- what a turn reads
-
--- its Message is found
-pub message_found : (id place : ℕ) (s : State) (q : Queue) (serial : ℕ) (found : Option Record) (m : Option MessageEntry)
-    (it : IsRead id place s q serial) → found ≡ swept id place s (key_of_message id serial)
-    → ((e : MessageEntry) → found ≡ Some (records.Message e) → m ≡ Some e) → m ≡ Some it.message
-message_found id place s q serial found m it here only = only it.message (here ∙ it.message_stands)
-
--- and the Type of its type
-pub type_found : (id place : ℕ) (s : State) (q : Queue) (serial : ℕ) (key : RecordKey) (found : Option Record)
-    (t : Option TypeEntry) (it : IsRead id place s q serial) → key ≡ key_of_type id it.message.mtype
-    → found ≡ swept id place s key
-    → ((e : TypeEntry) → found ≡ Some (records.Type e) → t ≡ Some e) → t ≡ Some it.of_type
-type_found id place s q serial key found t it key-is here only =
-    only it.of_type (here ∙ ap (swept id place s) key-is ∙ it.type_stands)
-
-pub some_same : {X : Type 0} {o : Option X} (x y : X) → o ≡ Some x → o ≡ Some y → x ≡ y
-some_same {X} x y one other =
-    let same : ◌≡◌ {A = Option X} (Some x) (Some y) = sym one ∙ other in
-    cc
-
--- a turn leads on
-pub leads_on : (id place : ℕ) (s : State) (q : Queue) (serial : ℕ) (e : MessageEntry) (t : TypeEntry) (p : Plan)
-    (it : IsRead id place s q serial) → e ≡ it.message → t ≡ it.of_type
-    → (IsTurnOf id place s e t → Leads p (swept id place s) (swept id (place + 1) s))
-    → (e.id ≡ id → t.id ≡ id → DeletesOf id p)
-    → LeadsOn id place s q (record { plan = p; behind = e.next })
-leads_on id place s q serial e t p it e-is t-is leads own = record {
-  behind = ap (λ (x : MessageEntry). x.next) e-is ∙ it.next;
-  no_trials = (own (ap (λ (x : MessageEntry). x.id) e-is ∙ it.message_own)
-      (ap (λ (x : TypeEntry). x.id) t-is ∙ it.type_own)).no_trials;
-  leads = leads (subst (λ x. IsTurnOf id place s x t) (sym e-is) (subst (λ y. IsTurnOf id place s it.message y) (sym t-is)
-      it.turn));
-}
-
--- the type of what is read has eight bytes
-type_fits : (id place : ℕ) (s : State) (q : Queue) (serial : ℕ) (it : IsRead id place s q serial) → IsFiled s
-    → FitsSigned w64 it.message.mtype
-type_fits id place s q serial it filed =
-    let turn = it.turn in
-    let queue = All-contains HasFittingQueue s.queues turn.queue filed.fits
-    (find-Some (has_id id) s.queues turn.queue turn.alive).1 in
-    let message = All-contains HasFittingMessage turn.queue.messages turn.message queue.messages
-    (at_place turn.queue.messages place turn.message turn.stands) in
-    subst (FitsSigned w64) (sym (ap (λ (e : MessageEntry). e.mtype) turn.its_entry)) message.mtype
-
-pub type_key_is : (id place : ℕ) (s : State) (q : Queue) (serial : ℕ) (it : IsRead id place s q serial) (e : MessageEntry)
-    (number : ℕ) → IsFiled s → e ≡ it.message → number ≡ type_number (to_z w64 (of_z w64 e.mtype))
-    → ◌≡◌ {A = RecordKey} (record { kind = TYPE; queue = id; number = number }) (key_of_type id it.message.mtype)
-type_key_is id place s q serial it e number filed same is =
-    let fits = subst (FitsSigned w64) (sym (ap (λ (x : MessageEntry). x.mtype) same)) (type_fits id place s q serial it filed)
-    in
-    ap (λ (n : ℕ). record { kind = TYPE; queue = id; number = n })
-    (is ∙ ap type_number (to_z-of_z w64 e.mtype fits) ∙ ap (λ (x : MessageEntry). type_number x.mtype) same)
+-- where one is left, one more can be swept
+pub turn_within : (ms : List Message) (count serial : ℕ) → first_of (serials (drop count ms)) ≡ Some serial
+    → count + 1 ≤ length ms
+turn_within [] zero serial first = absurd cc
+turn_within [] (suc count) serial first = absurd cc
+turn_within (m ∷ ms) zero serial first = omega arith
+turn_within (m ∷ ms) (suc count) serial first =
+    let it = turn_within ms count serial first in omega (arith, it)
 
 -- no queue has more messages than turns are taken
 pub few_messages : (id : ℕ) (s : State) (q : Queue) → IsFiled s → find (has_id id) s.queues ≡ Some q

@@ -1,6 +1,7 @@
 -- What a call tells where a file holds a system.
 -- docs/QUEUES.md, "Calls"; docs/FAULTS.md.
-use Rattle.std.specs.Prelude.{◌≡◌, Bool, true, false, Some, None, Result, Ok, Err}
+use Rattle.std.specs.Prelude.{◌≡◌, Bool, true, false, Option, Some, None, Result, Ok, Err}
+use Rattle.queue_model.specs.declared.answer.Answer as answers
 use Rattle.queue_model.specs.declared.call.Call.{Call}
 use Rattle.queue_model.specs.declared.caller.Caller.{Caller}
 use Rattle.queue_model.specs.Rules.{outcome}
@@ -12,6 +13,8 @@ use Rattle.one_caller.specs.declared.fault.CallFault.TheVariants.{NoRoom, NoMemo
 use Rattle.one_caller.specs.declared.served.Served.{Served}
 use Rattle.one_caller.specs.declared.served.Served.TheVariants.{Answer, Waits}
 use Rattle.one_caller.specs.Filing.{HoldsRecords}
+use Rattle.xsi_inquiry.specs.Deciding.{waits_or_ends}
+use Rattle.xsi_inquiry.specs.Rooms.{IsReceive}
 use Rattle.xsi_inquiry.specs.Telling.{IsFiled}
 
 -- the open file, whether the system is stopped, and whether a call met records of no system
@@ -27,13 +30,23 @@ pub record Holds (c : CallerState) (s : State) : Type 0 where
   pub stopped : s.stopped ≡ c.stopped
   pub file : HoldsRecords (record_of s) c.file
 
+-- what a fault tells where the file held s: it holds s still; only a Receive is in want of memory
+abbrev pub ChangesNothing : Call → State → CallFault → (State → Type 0) → Type 0
+ChangesNothing call s NoRoom H = H s
+ChangesNothing call s NoMemory H = IsReceive call × H s
+ChangesNothing call s Failed H = ⊥
+
 -- what a call tells where the file held s; H says which system it holds afterwards
 abbrev pub Tells : Caller → Call → State → Result Served CallFault → (State → Type 0) → Type 0
 Tells c call s (Ok (Answer a)) H = (t : State) × (outcome c call s ≡ Some (a, t)) × H t
 Tells c call s (Ok Waits) H = (outcome c call s ≡ None) × H s
-Tells c call s (Err NoRoom) H = H s
-Tells c call s (Err NoMemory) H = H s
-Tells c call s (Err Failed) H = ⊥
+Tells c call s (Err fault) H = ChangesNothing call s fault H
+
+-- what a call is answered, or that it is put off; whether it waits then or ends, the stop mark says
+abbrev pub Decided : Caller → Call → State → Result (Option answers.Answer) CallFault → (State → Type 0) → Type 0
+Decided c call s (Ok (Some a)) H = (t : State) × (outcome c call s ≡ Some (a, t)) × H t
+Decided c call s (Ok None) H = (outcome c call s ≡ waits_or_ends s) × H s
+Decided c call s (Err fault) H = ChangesNothing call s fault H
 
 -- the system with the stop mark cleared
 abbrev pub restarted : State → State

@@ -1,6 +1,6 @@
 //! What a call is told.
 
-ghost use Rattle.std.specs.Prelude.{◌≡◌, None, OnOk};
+ghost use Rattle.std.specs.Prelude.{◌≡◌, None, OnOk, nat_lt};
 ghost use Rattle.queue_model.specs.State.{State};
 ghost use Rattle.type_chains.specs.RecordOf.{record_of};
 ghost use Rattle.one_caller.specs.Filing.{AreAmong, HasValues};
@@ -9,32 +9,48 @@ ghost use Rattle.xsi_inquiry.specs.Writing.{Records};
 
 use bucket_page::RecordKey;
 use page_device::PageDevice;
-use queue_records::Record;
+use queue_records::{Record, counter_key};
 use record_file::OneBucket;
-use xsi_inquiry::{Inquiry, NotASystem};
+use xsi_inquiry::{Inquiry, NotASystem, Room, Wanted, counter_in};
 
-/// Tells a call all that it asks for.
+/// Tells a call all that it asks for. Nobody else changes the file, so its Counter tells whether an id was given out.
 pub fn ask<D: PageDevice, I: Inquiry>(
     file: &OneBucket<D>,
     inquiry: &mut I,
+    arguments: &I::Arguments,
+    room: &mut Room,
 ) -> Result<(), NotASystem>
     ensures told { (s : State) → IsFiled s → HasValues (record_of s) file.now.records →
-        I.Knows inquiry.old s → Gives result (λ _. I.Knows inquiry.new s) }
-    ensures ready { OnOk result (I.wanted inquiry.new ≡ None) }
+        I.Knows arguments.now inquiry.old room.old s →
+        Gives result (λ _. I.Knows arguments.now inquiry.new room.new s) }
+    ensures ready { OnOk result (I.wanted arguments.now inquiry.new ≡ None) }
     ensures caller { I.caller inquiry.new ≡ I.caller inquiry.old }
-    ensures call { I.call inquiry.new ≡ I.call inquiry.old }
 {
-    while let Some(key) = inquiry.wants() {
-        let found = match record_at(file, &key) {
-            Ok(found) => found,
-            Err(fault) => return Err(fault),
-        };
-        match inquiry.take(found) {
-            Ok(()) => {}
-            Err(fault) => return Err(fault),
+    while let Some(wanted) = inquiry.wants(arguments) {
+        match wanted {
+            Wanted::At(key) => {
+                let found = record_at(file, &key)?;
+                inquiry.take(arguments, found, room)?;
+            }
+            Wanted::Given(id) => {
+                let given = given_at(file, id)?;
+                inquiry.take_given(arguments, given)?;
+            }
         }
     }
     Ok(())
+}
+
+/// Whether an id is below the next id, by the Counter.
+fn given_at<D: PageDevice>(file: &OneBucket<D>, id: u32) -> Result<bool, NotASystem>
+    ensures { (s : State) → IsFiled s → HasValues (record_of s) file.now.records →
+        Gives result (λ given. given ≡ nat_lt id s.next_id) }
+{
+    let Some(found) = record_at(file, &counter_key())? else {
+        return Err(NotASystem);
+    };
+    let counter = counter_in(found)?;
+    Ok(id < counter.next_id)
 }
 
 /// The record at a key, lent by the page, or none.

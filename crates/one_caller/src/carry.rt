@@ -6,78 +6,94 @@ ghost use Rattle.queue_records.specs.Range.{IsInRange};
 ghost use Rattle.one_caller.specs.Carrying.{Carries};
 ghost use Rattle.one_caller.specs.Filing.{ChangesRecords, HasValues};
 ghost use Rattle.xsi_inquiry.specs.Telling.{Gives};
-ghost use Rattle.xsi_inquiry.specs.Writing.{AreAbsent, CanAllBe, CanBe, HasRange, Leads, Records, inserted, trials_of, written, written_by};
+ghost use Rattle.xsi_inquiry.specs.Writing.{AreAbsent, CanAllBe, CanBe, HasRange, Leads, Records, inserted, writes_of, written, written_by};
 
-use crate::change::{delete, insert, replace};
+use crate::change::{delete, insert, relink, replace};
 use crate::fault::CallFault;
 use page_device::PageDevice;
 use record_file::OneBucket;
-use xsi_inquiry::{NotASystem, Plan, Trials, Write};
+use xsi_inquiry::{Inquiry, NotASystem, Write, next_write};
 
-/// Carries out a plan. Where a record does not fit, those inserted before it are deleted again.
-pub fn carry<D: PageDevice>(file: &mut OneBucket<D>, plan: &Plan<'_>) -> Result<(), CallFault>
+/// Carries out what a call decided. Where a record does not fit, those inserted before it are deleted again.
+pub fn carry<D: PageDevice, I: Inquiry>(
+    file: &mut OneBucket<D>,
+    inquiry: &I,
+    arguments: &I::Arguments,
+) -> Result<(), CallFault>
     requires { file.old.broken ≡ false }
-    ensures ok { (old new : Records) → HasValues old file.old.records → Leads plan.now old new →
-        Carries old new result file.new }
+    ensures ok { (old new : Records) → HasValues old file.old.records →
+        Leads (I.plan arguments.now inquiry.now) old new → Carries old new result file.new }
     ensures same { ChangesRecords file.old file.new }
 {
-    match insert_all(file, &plan.trials) {
+    match insert_all(file, inquiry, arguments) {
         Ok(()) => {}
         Err(fault) => return Err(fault),
     }
-    match write_all(file, plan.writes.as_slice()) {
+    match write_all(file, inquiry, arguments) {
         Ok(()) => Ok(()),
         Err(_) => Err(CallFault::Failed),
     }
 }
 
 /// Inserts records on trial.
-fn insert_all<D: PageDevice>(file: &mut OneBucket<D>, trials: &Trials<'_>) -> Result<(), CallFault>
+fn insert_all<D: PageDevice, I: Inquiry>(
+    file: &mut OneBucket<D>,
+    inquiry: &I,
+    arguments: &I::Arguments,
+) -> Result<(), CallFault>
     requires { file.old.broken ≡ false }
     ensures ok { (records : Records) → HasValues records file.old.records →
-        AreAbsent (trials_of trials.now) records → All IsInRange (trials_of trials.now) →
-        Carries records (inserted (trials_of trials.now) records) result file.new }
+        AreAbsent (I.plan arguments.now inquiry.now).trials records →
+        All IsInRange (I.plan arguments.now inquiry.now).trials →
+        Carries records (inserted (I.plan arguments.now inquiry.now).trials records) result
+        file.new }
     ensures same { ChangesRecords file.old file.new }
 {
-    match trials {
-        Trials::None => Ok(()),
-        Trials::One(first) => insert(file, first),
-        Trials::Two(first, second) => {
-            match insert(file, first) {
-                Ok(()) => {}
-                Err(fault) => return Err(fault),
-            }
-            let Err(fault) = insert(file, second) else {
-                return Ok(());
-            };
-            match delete(file, &first.key()) {
-                Ok(()) => Err(fault),
-                Err(_) => Err(CallFault::Failed),
-            }
-        }
+    let Some(first) = inquiry.trial(arguments, 0) else {
+        return Ok(());
+    };
+    match insert(file, &first) {
+        Ok(()) => {}
+        Err(fault) => return Err(fault),
+    }
+    let Some(second) = inquiry.trial(arguments, 1) else {
+        return Ok(());
+    };
+    let Err(fault) = insert(file, &second) else {
+        return Ok(());
+    };
+    match delete(file, &first.key()) {
+        Ok(()) => Err(fault),
+        Err(_) => Err(CallFault::Failed),
     }
 }
 
-/// Replaces and deletes records, in this order.
-pub fn write_all<D: PageDevice>(
+/// Carries out the writes that follow a decision, in the order of their slots.
+pub fn write_all<D: PageDevice, I: Inquiry>(
     file: &mut OneBucket<D>,
-    writes: &[Write<'_>],
+    inquiry: &I,
+    arguments: &I::Arguments,
 ) -> Result<(), NotASystem>
     ensures ok { (records : Records) → HasValues records file.old.records →
-        CanAllBe writes.now records → All HasRange writes.now →
-        Gives result (λ _. HasValues (written writes.now records) file.new.records) }
+        CanAllBe (writes_of (I.plan arguments.now inquiry.now)) records →
+        All HasRange (writes_of (I.plan arguments.now inquiry.now)) →
+        Gives result (λ _. HasValues
+        (written (writes_of (I.plan arguments.now inquiry.now)) records) file.new.records) }
     ensures same { ChangesRecords file.old file.new }
 {
-    for write in writes {
-        match write_one(file, write) {
+    let mut from = 0;
+    while let Some((slot, write)) = next_write(inquiry, arguments, from) {
+        match write_one(file, &write) {
             Ok(()) => {}
             Err(fault) => return Err(fault),
         }
+        from = slot + 1;
     }
     Ok(())
 }
 
-fn write_one<D: PageDevice>(file: &mut OneBucket<D>, write: &Write<'_>) -> Result<(), NotASystem>
+/// Carries out a write.
+pub fn write_one<D: PageDevice>(file: &mut OneBucket<D>, write: &Write) -> Result<(), NotASystem>
     ensures ok { (records : Records) → HasValues records file.old.records →
         CanBe write.now records → HasRange write.now →
         Gives result (λ _. HasValues (written_by write.now records) file.new.records) }
@@ -85,6 +101,7 @@ fn write_one<D: PageDevice>(file: &mut OneBucket<D>, write: &Write<'_>) -> Resul
 {
     match write {
         Write::Replace(entry) => replace(file, entry),
+        Write::Relink(key, links) => relink(file, key, links),
         Write::Delete(key) => delete(file, key),
     }
 }

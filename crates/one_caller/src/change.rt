@@ -5,13 +5,14 @@ ghost use Rattle.queue_records.specs.Range.{IsInRange};
 ghost use Rattle.queue_records.specs.Spelling.{key_of};
 ghost use Rattle.one_caller.specs.Carrying.{Carries};
 ghost use Rattle.one_caller.specs.Filing.{ChangesRecords, HasValues};
-ghost use Rattle.xsi_inquiry.specs.Writing.{CanBe, Records, with_at};
-ghost use Rattle.xsi_inquiry.specs.declared.write.Write.TheVariants.{Replace, Delete};
+ghost use Rattle.xsi_inquiry.specs.Telling.{Gives};
+ghost use Rattle.xsi_inquiry.specs.Writing.{CanBe, Records, with_at, written_by};
+ghost use Rattle.xsi_inquiry.specs.declared.write.Write.TheVariants.{Replace, Relink, Delete};
 
 use crate::fault::CallFault;
 use bucket_page::RecordKey;
 use page_device::PageDevice;
-use queue_records::{Record, Value};
+use queue_records::{Links, MESSAGE_BYTES, Record, Value};
 use record_file::OneBucket;
 use xsi_inquiry::NotASystem;
 
@@ -58,6 +59,32 @@ pub fn replace<D: PageDevice>(file: &mut OneBucket<D>, entry: &Record<'_>) -> Re
         return Err(NotASystem);
     }
     file.replace(&key, value.as_slice());
+    Ok(())
+}
+
+/// Gives the Message or the Type of a key these links, in its place on the page. The rest of its value stays.
+pub fn relink<D: PageDevice>(
+    file: &mut OneBucket<D>,
+    key: &RecordKey,
+    links: &Links,
+) -> Result<(), NotASystem>
+    ensures ok { (records : Records) → HasValues records file.old.records →
+        CanBe (Relink key.now links.now) records → Gives result (λ _. HasValues
+        (written_by (Relink key.now links.now) records) file.new.records) }
+    ensures same { ChangesRecords file.old file.new }
+{
+    let length = links.front_bytes();
+    let Some(value) = file.find(key) else {
+        return Err(NotASystem);
+    };
+    if value.len() < length {
+        return Err(NotASystem);
+    }
+    let mut front = [0; MESSAGE_BYTES];
+    let front = &mut front[..length];
+    front.copy_from_slice(&value[..length]);
+    queue_records::relink(front, links);
+    file.replace_front(key, front);
     Ok(())
 }
 

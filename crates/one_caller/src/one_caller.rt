@@ -7,21 +7,24 @@ ghost use Rattle.record_file.specs.Laws.{IsOfMachine};
 ghost use Rattle.record_file.specs.Opening.{HasCauseToRefuse};
 ghost use Rattle.type_chains.specs.RecordOf.{record_of};
 ghost use Rattle.one_caller.specs.Filing.{ChangesRecords, HasValues, IsFileOf};
-ghost use Rattle.one_caller.specs.Serving.{Holds, Tells, fails, restarted};
+ghost use Rattle.one_caller.specs.Serving.{Decided, Holds, Tells, fails, restarted};
+ghost use Rattle.xsi_inquiry.specs.Rooms.{HasRoom};
 ghost use Rattle.xsi_inquiry.specs.Telling.{IsFiled};
 
 use crate::fault::CallFault;
 use crate::serve::serve;
 use crate::served::Served;
 use page_device::PageDevice;
-use queue_model::{Call, Caller};
+use queue_model::{Answer, Call, Caller, Errno};
 use record_file::{CloseFault, OneBucket, OpenFault};
 use std::alloc::Global;
 use std::marker::Model;
 use type_chains::{a_callers_numbers_fit, a_calls_numbers_fit};
-use xsi_control::{GetInquiry, RemoveInquiry, SetInquiry, StatInquiry};
+use xsi_control::{GetInquiry, SetInquiry, StatInquiry};
+use xsi_inquiry::Room;
 use xsi_receive::ReceiveInquiry;
 use xsi_send::SendInquiry;
+use xsi_sweep::RemoveInquiry;
 
 /// Serves calls one at a time over a file of which all records stand in the root bucket. It reads records and never
 /// keeps a system. It is to be closed.
@@ -71,7 +74,7 @@ impl<D: PageDevice> OneCaller<D> {
 
     /// Serves a call of a caller. Where the file holds a system, the call is answered with its outcome by the rules, and
     /// the file holds the system after it; or the call has to wait, which changes nothing; or there is no room for a
-    /// record, or no memory for the answer, which changes nothing either.
+    /// record, or no memory for the message that a Receive is to be given, which changes nothing either.
     ///
     /// `Failed` where the records are not those of a system, and from then on for each call.
     pub fn call(&mut self, alloc: Global, caller: Caller, call: &Call) -> Result<Served, CallFault>
@@ -136,7 +139,8 @@ fn fails(served: &Result<Served, CallFault>) -> bool
     }
 }
 
-/// Answers a call from the records of a file.
+/// Answers a call from the records of a file. Room for its answer is taken first; a call that is put off waits, or ends
+/// with EINTR once the system is stopped.
 fn answer<D: PageDevice>(
     file: &mut OneBucket<D>,
     stopped: bool,
@@ -150,24 +154,38 @@ fn answer<D: PageDevice>(
         Tells caller call.now s result (λ t. HasValues (record_of t) file.new.records) }
     ensures same { ChangesRecords file.old file.new }
 {
+    let Ok(room) = Room::new(alloc, call) else {
+        return Err(CallFault::NoMemory);
+    };
+    match serve_any(file, caller, call, room) {
+        Ok(Some(answer)) => Ok(Served::Answer(answer)),
+        Ok(None) if stopped => Ok(Served::Answer(Answer::Refused(Errno::EINTR))),
+        Ok(None) => Ok(Served::Waits),
+        Err(fault) => Err(fault),
+    }
+}
+
+/// Serves a call by the inquiry of its kind.
+fn serve_any<D: PageDevice>(
+    file: &mut OneBucket<D>,
+    caller: Caller,
+    call: &Call,
+    room: Room,
+) -> Result<Option<Answer>, CallFault>
+    requires whole { file.old.broken ≡ false }
+    requires room { HasRoom call.now room }
+    ensures decided { (s : State) → IsFiled s → HasValues (record_of s) file.old.records →
+        Decided caller call.now s result (λ t. HasValues (record_of t) file.new.records) }
+    ensures same { ChangesRecords file.old file.new }
+{
     match call {
-        Call::Get(arguments) => {
-            let inquiry = GetInquiry::new(caller, *arguments);
-            serve(file, stopped, alloc, call, inquiry)
-        }
-        Call::Stat { id } => serve(file, stopped, alloc, call, StatInquiry::new(caller, *id)),
-        Call::Set(arguments) => {
-            let inquiry = SetInquiry::new(caller, *arguments);
-            serve(file, stopped, alloc, call, inquiry)
-        }
-        Call::Remove { id } => serve(file, stopped, alloc, call, RemoveInquiry::new(caller, *id)),
-        Call::Send(arguments) => {
-            let inquiry = SendInquiry::new(caller, arguments);
-            serve(file, stopped, alloc, call, inquiry)
-        }
+        Call::Get(arguments) => serve::<D, GetInquiry>(file, caller, call, arguments, room),
+        Call::Send(arguments) => serve::<D, SendInquiry>(file, caller, call, arguments, room),
         Call::Receive(arguments) => {
-            let inquiry = ReceiveInquiry::new(caller, *arguments);
-            serve(file, stopped, alloc, call, inquiry)
+            serve::<D, ReceiveInquiry>(file, caller, call, arguments, room)
         }
+        Call::Stat { id } => serve::<D, StatInquiry>(file, caller, call, id, room),
+        Call::Set(arguments) => serve::<D, SetInquiry>(file, caller, call, arguments, room),
+        Call::Remove { id } => serve::<D, RemoveInquiry>(file, caller, call, id, room),
     }
 }

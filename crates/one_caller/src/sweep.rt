@@ -1,36 +1,26 @@
 //! The turns of a Remove: the messages of its queue go one by one, from the first on.
 
-ghost use Rattle.std.specs.Prelude.{◌≡◌, ◌+◌, ℕ, Some, length, slice_get};
+ghost use Rattle.std.specs.Prelude.{◌≡◌, ◌+◌, ℕ, Some, length};
 ghost use Rattle.std.specs.List.{find};
 ghost use Rattle.queue_model.specs.Rules.{has_id};
 ghost use Rattle.queue_model.specs.State.{State};
 ghost use Rattle.queue_model.specs.declared.queue.Queue.{Queue};
-ghost use Rattle.queue_records.specs.declared.message_entry.MessageEntry.{MessageEntry};
-ghost use Rattle.queue_records.specs.declared.record.Record.TheVariants as records;
-ghost use Rattle.queue_records.specs.declared.type_entry.TypeEntry.{TypeEntry};
 ghost use Rattle.type_chains.specs.Lists.{serials};
 ghost use Rattle.type_chains.specs.Neighbours.{first_of};
 ghost use Rattle.type_chains.specs.RecordOf.{record_of};
 ghost use Rattle.one_caller.specs.Filing.{ChangesRecords, HasValues};
-ghost use Rattle.one_caller.specs.Sweeping.{IsSweptTo, LeadsOn};
-ghost use Rattle.xsi_inquiry.specs.Sweeping.{swept};
+ghost use Rattle.one_caller.specs.Sweeping.{IsSweptTo};
+ghost use Rattle.xsi_inquiry.specs.Sweeping.{IsTurn, swept, unswept};
 ghost use Rattle.xsi_inquiry.specs.Telling.{Gives, IsFiled};
+ghost use Rattle.xsi_sweep.specs.Turns.{turn_next, turn_plan};
 
 use crate::ask::record_at;
-use crate::carry::write_all;
-use bucket_page::RecordKey;
+use crate::carry::write_one;
 use page_device::PageDevice;
-use queue_records::{MAX_MESSAGES, MESSAGE, MessageEntry, Record, TYPE, TypeEntry};
+use queue_records::{MAX_MESSAGES, message_key};
 use record_file::OneBucket;
-use xsi_control::plan_remove_turn;
-use xsi_inquiry::{NotASystem, Plan};
-
-/// What is done in a turn, and the serial of the next one.
-#[derive(Debug, Drop)]
-pub struct Turn<'a> {
-    pub plan: Plan<'a>,
-    pub behind: Option<u64>,
-}
+use xsi_inquiry::{MAX_WRITES, NotASystem};
+use xsi_sweep::Turn;
 
 /// Sweeps the messages of the queue of an id, of which this is the first.
 pub fn sweep<D: PageDevice>(
@@ -63,81 +53,47 @@ fn sweep_one<D: PageDevice>(
     id: u32,
     serial: u64,
 ) -> Result<Option<u64>, NotASystem>
-    ensures ok { (s : State) (q : Queue) (place : ℕ) → IsFiled s →
-        find (has_id id) s.queues ≡ Some q → slice_get (serials q.messages) place ≡ Some serial →
-        HasValues (swept id place s) file.old.records →
-        Gives result (IsSweptTo id (place + 1) s q file.new.records) }
+    ensures ok { (s : State) (q : Queue) (count : ℕ) → IsFiled s →
+        find (has_id id) s.queues ≡ Some q →
+        first_of (serials (unswept count q)) ≡ Some serial →
+        HasValues (swept id count s) file.old.records →
+        Gives result (IsSweptTo id (count + 1) s q file.new.records) }
     ensures same { ChangesRecords file.old file.new }
 {
-    let turn = match plan_turn(file, id, serial) {
+    let turn = match read_turn(file, id, serial) {
         Ok(turn) => turn,
         Err(fault) => return Err(fault),
     };
-    match write_all(file, turn.plan.writes.as_slice()) {
-        Ok(()) => Ok(turn.behind),
-        Err(fault) => Err(fault),
+    for slot in 0..MAX_WRITES {
+        if let Some(write) = turn.write(slot) {
+            match write_one(file, &write) {
+                Ok(()) => {}
+                Err(fault) => return Err(fault),
+            }
+        }
     }
+    Ok(turn.next())
 }
 
-/// Reads what the turn of a serial deletes.
-fn plan_turn<'a, D: PageDevice>(
+/// Reads what the turn of a serial needs.
+fn read_turn<D: PageDevice>(
     file: &OneBucket<D>,
     id: u32,
     serial: u64,
-) -> Result<Turn<'a>, NotASystem>
-    ensures { (s : State) (q : Queue) (place : ℕ) → IsFiled s →
-        find (has_id id) s.queues ≡ Some q → slice_get (serials q.messages) place ≡ Some serial →
-        HasValues (swept id place s) file.now.records →
-        Gives result (LeadsOn id place s q) }
+) -> Result<Turn, NotASystem>
+    ensures { (s : State) (q : Queue) (count : ℕ) → IsFiled s →
+        find (has_id id) s.queues ≡ Some q →
+        first_of (serials (unswept count q)) ≡ Some serial →
+        HasValues (swept id count s) file.now.records →
+        Gives result (λ turn. IsTurn id count q s (turn_next turn) (turn_plan turn)) }
 {
-    let key = RecordKey {
-        kind: MESSAGE,
-        queue: id,
-        number: serial,
-    };
-    let found = match record_at(file, &key) {
+    let mut turn = Turn::new(id, serial);
+    let found = match record_at(file, &message_key(id, serial)) {
         Ok(found) => found,
         Err(fault) => return Err(fault),
     };
-    let Some(message) = message_in(found) else {
-        return Err(NotASystem);
-    };
-    let key_of_type = RecordKey {
-        kind: TYPE,
-        queue: id,
-        number: message.mtype.cast_unsigned(),
-    };
-    let of_type = match record_at(file, &key_of_type) {
-        Ok(found) => found,
-        Err(fault) => return Err(fault),
-    };
-    let Some(of_type) = type_in(of_type) else {
-        return Err(NotASystem);
-    };
-    Ok(Turn {
-        plan: plan_remove_turn(&message, &of_type),
-        behind: message.next,
-    })
-}
-
-/// The Message that was found.
-fn message_in(found: Option<Record<'_>>) -> Option<MessageEntry<'_>>
-    ensures { (message : MessageEntry) →
-        found.entry ≡ Some (records.Message message) → result ≡ Some message }
-{
-    match found {
-        Some(Record::Message(message)) => Some(message),
-        _ => None,
-    }
-}
-
-/// The Type that was found.
-fn type_in(found: Option<Record<'_>>) -> Option<TypeEntry>
-    ensures { (of_type : TypeEntry) →
-        found.entry ≡ Some (records.Type of_type) → result ≡ Some of_type }
-{
-    match found {
-        Some(Record::Type(of_type)) => Some(of_type),
-        _ => None,
+    match turn.take(found) {
+        Ok(()) => Ok(turn),
+        Err(fault) => Err(fault),
     }
 }

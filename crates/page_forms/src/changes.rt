@@ -4,7 +4,7 @@ ghost use Rattle.std.specs.Prelude.{◌≡◌, ◌↔◌, ℕ, ◌+◌, ◌<◌,
 ghost use Rattle.page_device.specs.declared.page.TheConstants.{MAX_PAGES};
 ghost use Rattle.bucket_page.specs.declared.layout.TheConstants.{RECORD_HEAD_BYTES, ROOM_BYTES};
 ghost use Rattle.bucket_page.specs.declared.page.PageKind.TheVariants as kinds;
-ghost use Rattle.bucket_page.specs.Changes.{Changes, HasValueOf, IsBucketPage, inserted, removed, replaced};
+ghost use Rattle.bucket_page.specs.Changes.{Changes, HasValueOf, IsBucketPage, fronted, inserted, removed, replaced, value_of_key};
 ghost use Rattle.bucket_page.specs.Reading.{records_at};
 ghost use Rattle.bucket_page.specs.Records.{lookup, pair, record_bytes};
 ghost use Rattle.bucket_page.specs.Spelling.{Spells};
@@ -14,7 +14,7 @@ ghost use Rattle.directory.specs.Pages.{IsDirectoryPage};
 ghost use Rattle.directory.specs.Spelling.{Spells as SpellsHeader};
 
 use crate::file_page::FilePage;
-use bucket_page::{DoesNotFit, RecordKey, put, remove, replace, write_free, write_tombstone};
+use bucket_page::{DoesNotFit, RecordKey, put, remove, replace, replace_front, write_free, write_tombstone};
 use directory::{Header, copy_upper, retarget, write_header};
 use positions::Range;
 
@@ -38,6 +38,16 @@ impl FilePage {
         ensures { Changes (replaced (pair key.now value.now)) self.old self.new }
     {
         replace(&mut self.payload, key, value);
+    }
+
+    /// Replaces the first bytes of the value of a key that the bucket has. The others stay where they are.
+    pub fn replace_front(&mut self, key: &RecordKey, front: &[u8])
+        requires bucket { IsBucketPage self.old }
+        requires there { IsSome (lookup key.now (records_at self.old)) }
+        requires long { length front.now ≤ length (value_of_key key.now (records_at self.old)) }
+        ensures { Changes (fronted key.now front.now) self.old self.new }
+    {
+        replace_front(&mut self.payload, key, front);
     }
 
     /// Takes the record of a key that the bucket has.

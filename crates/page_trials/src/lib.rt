@@ -6,7 +6,11 @@
 #[cfg(test)]
 mod bucket;
 #[cfg(test)]
+mod buckets;
+#[cfg(test)]
 mod devices;
+#[cfg(test)]
+mod directories;
 #[cfg(test)]
 mod files;
 #[cfg(test)]

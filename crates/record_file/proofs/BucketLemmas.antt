@@ -1,5 +1,5 @@
 -- What an open file shows where its root bucket changes.
-use Rattle.std.proofs.Common.{◌≡◌, refl, ◌∙◌, sym, ap, subst, ℕ, zero, suc, ◌<◌, Some, List, [], ◌∷◌, Option, slice_get, slice_index_or, slice_set}
+use Rattle.std.proofs.Common.{◌≡◌, refl, ◌∙◌, sym, ap, subst, ℕ, zero, suc, Some, List, [], ◌∷◌, Option, slice_get, slice_index_or, slice_set}
 use Rattle.std.proofs.Common.{Result, Ok, Err, OnOk, OnErr}
 use Rattle.std.proofs.lemmas.List.{get_or-set_same, set-get_or}
 use Rattle.std.proofs.lemmas.Option.{get_or_from_slice_get, slice_get_within}
@@ -147,7 +147,8 @@ stores_same pool {root} {page} {old} {new} {now} view is whole was same =
     }
 
 -- it changed, or has the payload that it had
-pub stores_either : {T E : Type 0} (r : Result T E) (pool : PoolState) {root : Option ℕ} {page : ℕ} {old : List ℕ} (new : List ℕ)
+pub stores_either : {T E : Type 0} (r : Result T E) (pool : PoolState) {root : Option ℕ} {page : ℕ} {old : List ℕ}
+    (new : List ℕ)
     {now : OneBucketState}
     → shown pool root ≡ now → root ≡ Some page → IsKept pool root → slice_get pool.images page ≡ Some old
     → (change : List Pair → List Pair) → OnOk r (Changes change old new) → OnErr r (new ≡ old)

@@ -1,29 +1,28 @@
 -- A file is opened, changed and closed.
-use Rattle.std.proofs.Common.{◌≡◌, refl, ◌∙◌, sym, ap, subst, ◌⊎◌, inl, inr, ℕ, zero, suc, ◌+◌, ◌<◌, ◌≤◌, ◌^◌, ◌==◌, Bool, true, false, List, [], ◌∷◌, ◌++◌}
-use Rattle.std.proofs.Common.{length, map, replicate, slice_index_or, slice_set, arith, if◌then◌else◌, nat_lt, Ok, Err, Result}
+use Rattle.std.proofs.Common.{◌≡◌, refl, ◌∙◌, sym, ap, subst, ◌⊎◌, inl, inr, ℕ, zero, suc, ◌+◌, ◌-◌, ◌<◌, ◌≤◌, ◌^◌, ◌==◌, Bool, true, false, List, []}
+use Rattle.std.proofs.Common.{length, replicate, slice_index_or, arith, if◌then◌else◌, Ok, Err, Result}
 use Rattle.std.specs.List.{AllByRecursion}
 use Rattle.std.proofs.lemmas.Bool.{cases_eq, ne_eqb}
 use Rattle.std.proofs.lemmas.List.{get_or-set_same, get_or-set_other, length-set, length-map, same_lists, get_or_default}
+use Rattle.page_device.specs.declared.page.TheConstants.{MAX_PAGES}
 use Rattle.page_device.specs.Pages.{first_pages}
-use Rattle.page_device.specs.Sealed.{IsSealed, payload_of}
+use Rattle.page_device.specs.Sealed.{payload_of}
 use Rattle.page_device.proofs.PagesLemmas.{first_pages_length, first_pages_at}
 use Rattle.buffer_pool.specs.Pool.{payloads_of}
 use Rattle.buffer_pool.proofs.ImagesLemmas.{payload_at as payload_there}
-use Rattle.directory.specs.declared.layout.TheConstants.{ROOT_PAGE}
+use Rattle.directory.specs.declared.layout.TheConstants.{LEAST_PAGES, LOCAL_DEPTHS, ROOT_PAGE}
 use Rattle.directory.specs.declared.header.Header.{Header}
 use Rattle.directory.specs.declared.read.HeaderFault.{HeaderFault}
-use Rattle.directory.specs.Spelling.{IsHeader, FitsBytes, header_bytes}
+use Rattle.directory.specs.Spelling.{IsHeader}
 use Rattle.directory.specs.Reading.{reading}
 use Rattle.directory.proofs.HeaderLaws.{spelled_reads}
-use Rattle.bucket_page.specs.Bucket.{Bucket}
 use Rattle.bucket_page.specs.Records.{Pair}
-use Rattle.bucket_page.specs.Spelling.{IsBucket}
 use Rattle.record_file.specs.declared.fault.OpenFault.{OpenFault}
 use Rattle.record_file.specs.declared.fault.OpenFault.TheVariants.{Device, BadDigest, PastEnd, TooFewFrames, BadHeader, BadVersion, NoMemory}
-use Rattle.record_file.specs.Files.{IsFile, file_header, file_page, free_behind, root_bucket}
-use Rattle.record_file.specs.Opening.{MayRefuse, payload_at, page_at}
-use Rattle.record_file.specs.OneBucket.{OneBucketState, Shows, Leaves, IsRoot, without_root}
-use Rattle.record_file.specs.Laws.{IsOpenFile, IsOfMachine, IsNeverRefused, OpensWith, OpensAFile, ClosesAFile}
+use Rattle.record_file.specs.Files.{IsFile, file_header, file_page, free_behind}
+use Rattle.record_file.specs.Opening.{MayRefuse, payload_at}
+use Rattle.record_file.specs.OneBucket.{IsRoot, without_root}
+use Rattle.record_file.specs.Laws.{IsOfMachine, IsNeverRefused, OpensAFile, ClosesAFile}
 
 -- ---- the header
 
@@ -31,14 +30,14 @@ all_zero : (n : ℕ) → AllByRecursion (λ (k : ℕ). k < 2 ^ 32) (replicate n 
 all_zero zero = tt
 all_zero (suc n) = (omega arith, all_zero n)
 
-free_small : (pages page : ℕ) → page < 65536 → free_behind pages page < 2 ^ 32
+free_small : (pages page : ℕ) → page < MAX_PAGES → free_behind pages page < 2 ^ 32
 free_small pages page small = at (page + 1 == pages)
   where
     at : (b : Bool) → (if b then 0 else page + 1) < 2 ^ 32
     at true = omega arith
     at false = omega arith
 
-header_is : (pages : ℕ) → 258 ≤ pages → pages ≤ 65536 → IsHeader (file_header pages)
+header_is : (pages : ℕ) → LEAST_PAGES ≤ pages → pages ≤ MAX_PAGES → IsHeader (file_header pages)
 header_is pages least most = record {
   depth = omega arith;
   least = least;
@@ -47,7 +46,7 @@ header_is pages least most = record {
     pages = omega arith;
     first_free = free_small pages ROOT_PAGE (omega arith);
     local_depths = refl;
-    counts = (omega arith, all_zero 17);
+    counts = (omega arith, all_zero (LOCAL_DEPTHS - 1));
   };
 }
 
@@ -114,7 +113,8 @@ same_others : (xs ys : List (List ℕ)) → length xs ≡ length ys
     → ((n : ℕ) → n < length xs → (n ≡ ROOT_PAGE → ⊥) → slice_index_or xs n [] ≡ slice_index_or ys n [])
     → without_root xs ≡ without_root ys
 same_others xs ys size same =
-    same_lists (without_root xs) (without_root ys) (length-set xs ROOT_PAGE [] ∙ size ∙ sym (length-set ys ROOT_PAGE []))
+    same_lists (without_root xs) (without_root ys)
+    (length-set xs ROOT_PAGE [] ∙ size ∙ sym (length-set ys ROOT_PAGE []))
     (λ n d within. at n d (subst (λ m. n < m) (length-set xs ROOT_PAGE []) within) (cases_eq n ROOT_PAGE))
   where
     at : (n : ℕ) (d : List ℕ) → n < length xs → (n ≡ ROOT_PAGE) ⊎ (n ≡ ROOT_PAGE → ⊥)

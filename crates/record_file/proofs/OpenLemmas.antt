@@ -18,7 +18,7 @@ use Rattle.buffer_pool.specs.Pool.{IsAtRest, IsCrowded, MayNotPin, PoolState, Ke
 use Rattle.directory.specs.declared.layout.TheConstants.{LEAST_PAGES, ROOT_PAGE}
 use Rattle.bucket_page.specs.Bucket.{Bucket, bucket}
 use Rattle.bucket_page.specs.Changes.{SpellsBucket}
-use Rattle.bucket_page.specs.Reading.{bucket_at, records_at}
+use Rattle.bucket_page.specs.Reading.{records_at}
 use Rattle.bucket_page.specs.Records.{Pair}
 use Rattle.record_file.specs.Files.{root_bucket}
 use Rattle.record_file.specs.Opening.{HasHeader, page_at, payload_at}
@@ -34,7 +34,8 @@ risen_after old mid new before (inl more) = inl (omega arith)
 risen_after old mid new before (inr most) = inr most
 
 -- the root page's payload among those of all pages
-pub payload_among : (content : List (List ℕ)) → slice_index_or (payloads_of content) ROOT_PAGE [] ≡ payload_at content ROOT_PAGE
+pub payload_among : (content : List (List ℕ)) →
+    slice_index_or (payloads_of content) ROOT_PAGE [] ≡ payload_at content ROOT_PAGE
 payload_among content = get_or-map payload_of content ROOT_PAGE []
 
 -- ---- the test of the root page

@@ -5,7 +5,7 @@
 
 ghost use Rattle.std.specs.Prelude.{◌≡◌, ◌≢◌, ◌↔◌, ◌+◌, ◌<◌, ◌≤◌, true, false, length, Some, None, IsTrue, IsErr, IsErrAnd, IsSome, IfSome, IfNone, IfOk, IfErr, OnOk, OnErr};
 ghost use Rattle.bucket_page.specs.declared.layout.TheConstants.{RECORD_HEAD_BYTES, ROOM_BYTES};
-ghost use Rattle.bucket_page.specs.Changes.{HasValueOf, inserted, removed, replaced};
+ghost use Rattle.bucket_page.specs.Changes.{HasValueOf, fronted, inserted, removed, replaced, value_of_key};
 ghost use Rattle.bucket_page.specs.Records.{ascend, lookup, pair, record_bytes};
 ghost use Rattle.bucket_page.specs.Reading.{records_at};
 ghost use Rattle.record_file.specs.Opening.{HasCauseToRefuse, MayRefuse};
@@ -141,6 +141,18 @@ impl<D: PageDevice> OneBucket<D> {
     {
         let Some(root) = &self.root else { return };
         self.pool.image_mut(root).replace(key, value);
+    }
+
+    /// Replaces the first bytes of the value of a key. The others stay where they are.
+    pub fn replace_front(&mut self, key: &RecordKey, front: &[u8])
+        requires there { IsSome (lookup key.now self.old.records) }
+        requires long { length front.now ≤ length (value_of_key key.now self.old.records) }
+        ensures { self.new ≡ record self.old {
+          records = fronted key.now front.now self.old.records;
+        } }
+    {
+        let Some(root) = &self.root else { return };
+        self.pool.image_mut(root).replace_front(key, front);
     }
 
     /// Takes the record of a key that has one.

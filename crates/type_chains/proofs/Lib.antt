@@ -12,5 +12,6 @@ pub mod TypesStand
 pub mod Read
 pub mod Spelled
 pub mod OneQueue
+pub mod OneQueueChanged
 pub mod Sends
 pub mod Fitting

@@ -2,16 +2,15 @@
 -- docs/QUEUES.md, "Calls"; docs/FORMAT.md, "Records".
 use Rattle.std.specs.Prelude.{◌≡◌, ℕ, ◌+◌, ◌==◌, nat_lt, Bool, ◌||◌, Some, None}
 use Rattle.std.specs.List.{find}
-use Rattle.bucket_page.specs.declared.record_key.RecordKey.{RecordKey}
 use Rattle.queue_model.specs.declared.answer.QueueInfo.{QueueInfo}
 use Rattle.limits.specs.declared.TheConstants.{MAX_MESSAGES, END_OF_SERIALS}
 use Rattle.queue_model.specs.declared.permissions.Permissions.{Permissions}
 use Rattle.queue_model.specs.declared.queue.Queue.{Queue}
 use Rattle.queue_model.specs.Rules.{has_id, lacks_room, info_of}
 use Rattle.queue_model.specs.State.{State}
-use Rattle.queue_records.specs.declared.layout.TheConstants.{QUEUE}
 use Rattle.queue_records.specs.declared.queue_entry.QueueEntry.{QueueEntry}
 use Rattle.queue_records.specs.declared.record.Record.TheVariants as records
+pub use Rattle.queue_records.specs.Keys.{key_of_queue}
 use Rattle.type_chains.specs.RecordOf.{record_of}
 
 -- owner, creator and mode
@@ -45,10 +44,6 @@ pub record TellsOf (e : QueueEntry) (q : Queue) : Type 0 where
   -- the serial that a message sent now gets
   pub serial : e.next_serial ≡ q.next_serial
   pub info : info_in e ≡ info_of q
-
--- the key of the Queue of an id
-abbrev pub key_of_queue : ℕ → RecordKey
-key_of_queue id = record { kind = QUEUE; queue = id; number = 0 }
 
 -- the record at an id's key, or that there is none, tells of the queue of that id
 pub record IsReadable (s : State) (id : ℕ) : Type 0 where

@@ -4,6 +4,7 @@
 
 mod fits;
 mod laws;
+mod reading;
 
 pub use fits::{a_callers_numbers_fit, a_calls_numbers_fit};
 pub use laws::{
@@ -13,3 +14,4 @@ pub use laws::{
     records_of_the_image_have_distinct_keys, the_image_is_the_records_at_their_keys,
     the_types_are_those_of_the_messages,
 };
+pub use reading::{info_in, lacks_room_in, permissions_in};

@@ -1,199 +1,175 @@
--- A new queue, with the next id.
-use Rattle.std.proofs.Common.{◌≡◌, ℕ, ◌+◌, ◌<◌, ◌≤◌, true, false, List, [], ◌∷◌, length, Option, Some, None, refl, sym, ap, ◌∙◌, arith}
-use Rattle.std.specs.Prelude.{◌==◌, ◌&&◌, option_map, option_and_then}
-use Rattle.std.specs.List.{All, find}
-use Rattle.std.proofs.lemmas.Bool.Decides.{Decides-eqb, nat_tests}
-use Rattle.std.proofs.lemmas.List.{length-append}
-use Rattle.std.proofs.lemmas.List.Elements.{All-nil, All-cons}
-use Rattle.bucket_page.specs.declared.record_key.RecordKey.{RecordKey}
+-- A Get makes a queue: its Queue and its Key are inserted, then the Counter counts it.
+use Rattle.std.proofs.Common.{◌≡◌, ℕ, ◌+◌, ◌<◌, false, List, [], ◌∷◌, ◌++◌, length, Option, Some, None, refl, sym, ap, ◌∙◌, subst, arith}
+use Rattle.std.specs.Prelude.{◌==◌, ◌&&◌, nat_lt, option_map}
+use Rattle.std.specs.List.{All, Contains}
+use Rattle.std.proofs.lemmas.Bool.Decides.{nat_tests}
+use Rattle.std.proofs.lemmas.List.Elements.{All-cons, All-head, All-nil, All-tail}
 use Rattle.bucket_page.specs.Keys.{is_same}
-use Rattle.bucket_page.proofs.KeyLaws.{same_is}
-use Rattle.queue_model.specs.declared.call.GetArguments.{GetArguments}
-use Rattle.queue_model.specs.declared.caller.Caller.{Caller}
-use Rattle.limits.specs.declared.TheConstants.{MAX_QUEUES, END_OF_IDS}
-use Rattle.queue_model.specs.declared.queue.Queue.{Queue}
-use Rattle.queue_model.specs.Lawful.{IsLawful}
-use Rattle.queue_model.specs.Places.{IsFreshKey}
-use Rattle.queue_model.specs.Rules.{has_id, has_key, is_key, new_queue}
-use Rattle.queue_model.specs.State.{State}
-use Rattle.queue_model.proofs.LawfulLemmas.{IsLawful-create}
-use Rattle.queue_records.specs.declared.counter.Counter.{Counter}
-use Rattle.queue_records.specs.declared.record.Record.{Record}
+use Rattle.fields.proofs.Tests.{both_true}
+use Rattle.page_locks.specs.declared.lock.LockName.TheVariants as names
+use Rattle.queue_model.specs.declared.answer.Answer.TheVariants as answers
 use Rattle.queue_records.specs.declared.record.Record.TheVariants as records
-use Rattle.queue_records.specs.Range.{IsInRange}
-use Rattle.queue_records.specs.Spelling.{key_of}
-use Rattle.type_chains.specs.Entries.{counter_of, key_entry, queue_entry}
-use Rattle.type_chains.specs.RecordOf.{type_record, message_record, record_of}
-use Rattle.type_chains.proofs.Elements.{image_has}
+use Rattle.queue_records.proofs.Lengths.{length-counter}
 use Rattle.type_chains.proofs.Limits.{in_range}
-use Rattle.type_chains.proofs.Pairs.{all_of}
-use Rattle.type_chains.proofs.Unique.{key_has}
-use Rattle.xsi_inquiry.specs.declared.decision.Plan.{Plan}
-use Rattle.xsi_inquiry.specs.declared.decision.Trials.{Trials}
-use Rattle.xsi_inquiry.specs.declared.decision.Trials.TheVariants as trials
+use Rattle.type_chains.proofs.Tests.{by_guard}
+use Rattle.xsi_inquiry.specs.declared.verdict.Verdict.TheVariants as verdicts
 use Rattle.xsi_inquiry.specs.declared.write.Write.{Write}
 use Rattle.xsi_inquiry.specs.declared.write.Write.TheVariants.{Replace}
-use Rattle.xsi_inquiry.specs.Writing.{Leads, HasRange, value_length}
-use Rattle.xsi_control.specs.Getting.{with_new_queue}
-use Rattle.xsi_control.proofs.FindLemmas.{find_push_new, find_push_alike, none_passes}
-use Rattle.xsi_control.proofs.KindLemmas.{HasSame, same_record, by_test, alike}
-use Rattle.xsi_control.proofs.LengthLemmas.{length-counter}
+use Rattle.xsi_inquiry.specs.Owning.{AscendOnTrial, trial_rank}
+use Rattle.xsi_inquiry.proofs.LeadLemmas.{Fills, IsNew, Misses, MissesRecord, leads_by}
+use Rattle.xsi_control.specs.declared.get_inquiry.Getting.TheVariants.{Counted}
+use Rattle.xsi_control.specs.Getting.{IsToMake, get_locked, get_plan, key_made, key_names, made_names, one_more, plan_made, with_new_queue}
+use Rattle.xsi_control.specs.Words.{RecordKey, LockName, Get, GetArguments, Caller, END_OF_IDS, MAX_QUEUES, Queue, IsLawful, IsFreshKey, create, new_queue, outcome, State, Counter, Record, guard_of, key_of, counter_of, key_entry, queue_entry, record_of, IsAnswered, IsFiled, AreAbsent, Leads, key_written, key_of_key}
+use Rattle.xsi_control.proofs.MadeLemmas.{IsOther, counter_then, key_then, next_of, others_same, queue_then, then_lawful, unused}
 
--- what is inserted on trial: the Queue, and the Key where there is one
-abbrev pub trials_with : Option ℕ → Queue → Trials
-trials_with None q = trials.One (records.Queue (queue_entry q))
-trials_with (Some key) q = trials.Two (records.Queue (queue_entry q)) (records.Key (key_entry key q))
+-- ---- the Counter leaves a place and an id
 
--- the Counter with one queue more
-abbrev pub one_more : Counter → Record
-one_more n = records.Counter (record { next_id = n.next_id + 1; queues_alive = n.queues_alive + 1 })
+record IsLeft (n m : Counter) : Type 0 where
+  few : n.queues_alive < MAX_QUEUES
+  more : n.next_id < END_OF_IDS
+  next : m ≡ next_of n
 
-abbrev pub create_plan : Option ℕ → Queue → Counter → Plan
-create_plan key q n = record { trials = trials_with key q; writes = Replace (one_more n) ∷ [] }
+is_left : (n m : Counter) → one_more n ≡ Some m → IsLeft n m
+is_left n m is =
+    let (both, next) = by_guard (nat_lt n.queues_alive MAX_QUEUES && nat_lt n.next_id END_OF_IDS) (Some (next_of n)) m
+    is in
+    let (few, more) = both_true (nat_lt n.queues_alive MAX_QUEUES) (nat_lt n.next_id END_OF_IDS) both in
+    record { few = grind (arith, nat_tests, few); more = grind (arith, nat_tests, more); next = cc }
+
+-- ---- a queue is made
 
 module _ (c : Caller) (a : GetArguments) (s : State) (lawful : IsLawful s) (fresh : IsFreshKey a.key s)
     (few : length s.queues < MAX_QUEUES) (more : s.next_id < END_OF_IDS) where
-  abbrev new : Queue
-  new = new_queue s.next_id c a
-
   abbrev t : State
   t = with_new_queue c a s
 
-  abbrev new_record : Record
-  new_record = records.Queue (queue_entry new)
+  abbrev its_record : Record
+  its_record = records.Queue (queue_entry (new_queue s.next_id c a))
 
-  abbrev new_counter : Record
-  new_counter = one_more (counter_of s)
+  abbrev its_counter : Record
+  its_counter = records.Counter (next_of (counter_of s))
 
-  then_lawful : IsLawful t
-  then_lawful =
-      IsLawful-create s c a (λ full. omega (arith, few, full)) (λ last. omega (arith, more, last)) fresh lawful
+  abbrev its_key : ℕ → Record
+  its_key key = records.Key (record { key = key; id = s.next_id })
 
-  -- no queue has the next id
-  unused : find (has_id s.next_id) s.queues ≡ None
-  unused = none_passes (has_id s.next_id) s.queues (all_of (λ (q : Queue). has_id s.next_id q ≡ true → ⊥) s.queues
-      (λ q stands passes.
-      let given = image_has (λ (q : Queue). q.id) (λ (id : ℕ). (1 ≤ id) × (id < s.next_id)) s.queues q
-      lawful.ids_given stands in
-      let same : q.id ≡ s.next_id = grind (arith, nat_tests, passes) in
-      omega (arith, given.1, same)))
+  abbrev its_trials : Option ℕ → List Record
+  its_trials key = records.Queue (queue_entry (new_queue s.next_id c a)) ∷ key_made s.next_id key
 
-  self : (n : ℕ) → (n == n) ≡ true
-  self n = (Decides-eqb n n).1 refl
+  -- ---- what is inserted
 
-  counter_then : record_of t (key_of new_counter) ≡ Some new_counter
-  counter_then = ap (λ (n : ℕ). Some (records.Counter (record { next_id = s.next_id + 1; queues_alive = n })))
-      (length-append s.queues (new ∷ []))
+  none_there : record_of s (key_of its_record) ≡ None
+  none_there = ap (option_map (λ (q : Queue). records.Queue (queue_entry q))) (unused c a s lawful fresh few more)
 
-  queue_then : record_of t (key_of new_record) ≡ Some new_record
-  queue_then = ap (option_map (λ (q : Queue). records.Queue (queue_entry q)))
-      (find_push_new (has_id s.next_id) s.queues new unused (self s.next_id))
+  all_absent : (key : Option ℕ) → a.key ≡ key → AreAbsent (its_trials key) (record_of s)
+  all_absent None given = (none_there, tt)
+  all_absent (Some k) given =
+      (none_there, (ap (option_map (λ (q : Queue). records.Key (key_entry k q))) (fresh k given), tt))
 
-  key_then : (key : ℕ) → a.key ≡ Some key →
-      record_of t (key_of (records.Key (key_entry key new))) ≡ Some (records.Key (key_entry key new))
-  key_then key given =
-      let has : has_key key new ≡ true = ap (is_key key) given ∙ self key in
-      ap (option_map (λ (q : Queue). records.Key (key_entry key q)))
-      (find_push_new (has_key key) s.queues new (fresh key given) has)
+  abbrev IsMade : Record → Type 0
+  IsMade = IsNew (record_of s) (record_of (with_new_queue c a s))
 
-  -- the key is not among those that are written
-  pub record IsOther (key : RecordKey) : Type 0 where
-    pub no_counter : is_same key (key_of new_counter) ≡ false
-    pub no_queue : is_same key (key_of new_record) ≡ false
-    pub no_key : (k : ℕ) → a.key ≡ Some k → is_same key (key_of (records.Key (key_entry k new))) ≡ false
+  queue_made : IsNew (record_of s) (record_of t) its_record
+  queue_made = queue_then c a s lawful fresh few more
 
-  others_same : (key : RecordKey) → IsOther key → HasSame s t key
-  others_same key other = record {
-    counter = λ kind. alike (key.queue == 0 && key.number == 0) _ None _ None
-        (λ zeros. absurd (grind (arith, nat_tests, kind, zeros, other.no_counter))) (λ _. refl);
-    of_key = λ kind. alike (key.queue == 0) _ None _ None (λ zeroth. sym (find_push_alike
-        (option_map (λ (q : Queue). records.Key (key_entry key.number q))) (has_key key.number) s.queues new
-        (λ has. let its = key_has key.number a.key has in
-        let apart = other.no_key key.number its in
-        absurd (grind (arith, nat_tests, kind, zeroth, apart))))) (λ _. refl);
-    queue = λ kind. alike (key.number == 0) _ None _ None (λ zeroth. sym (find_push_alike
-        (option_map (λ (q : Queue). records.Queue (queue_entry q))) (has_id key.queue) s.queues new
-        (λ has. absurd (grind (arith, nat_tests, kind, zeroth, has, other.no_queue))))) (λ _. refl);
-    of_type = λ kind. sym (find_push_alike (option_and_then (type_record key.number)) (has_id key.queue) s.queues new
-        (λ has. refl));
-    message = λ kind. sym (find_push_alike (option_and_then (message_record key.number)) (has_id key.queue) s.queues new
-        (λ has. refl));
+  all_new : (key : Option ℕ) → a.key ≡ key → All IsMade (its_trials key)
+  all_new None given = All-cons IsMade its_record [] queue_made (All-nil IsMade)
+  all_new (Some k) given = All-cons IsMade its_record (its_key k ∷ []) queue_made
+      (All-cons IsMade (its_key k) [] (key_then c a s lawful fresh few more k given) (All-nil IsMade))
+
+  is_other : (key : Option ℕ) → a.key ≡ key → (at : RecordKey) → All (MissesRecord at) (its_trials key) →
+      Misses at (Replace its_counter) → IsOther a.key s.next_id at
+  is_other None given at none counter = record {
+    no_counter = counter;
+    no_queue = All-head (MissesRecord at) its_record [] none;
+    no_key = λ k its. let clash : ◌≡◌ {A = Option ℕ} None (Some k) = sym given ∙ its in absurd cc;
+  }
+  is_other (Some key) given at none counter = record {
+    no_counter = counter;
+    no_queue = All-head (MissesRecord at) its_record (its_key key ∷ []) none;
+    no_key = λ k its.
+        let both : ◌≡◌ {A = Option ℕ} (Some key) (Some k) = sym given ∙ its in
+        let one : key ≡ k = cc in
+        let apart = All-head (MissesRecord at) (its_key key) []
+        (All-tail (MissesRecord at) its_record (its_key key ∷ []) none) in
+        subst (λ (n : ℕ). is_same at (key_of_key n) ≡ false) one apart;
   }
 
-  counter_fits : All HasRange (Replace new_counter ∷ [])
-  counter_fits = All-cons HasRange (Replace new_counter) []
-      (in_range t (key_of new_counter) new_counter then_lawful counter_then) (All-nil HasRange)
+  in_order : (key : Option ℕ) → AscendOnTrial (its_trials key)
+  in_order None = (All-nil _, tt)
+  in_order (Some k) = (
+    All-cons (λ (x : Record). trial_rank (key_of its_record) < trial_rank (key_of x)) (its_key k) [] (omega arith)
+        (All-nil _),
+    (All-nil _, tt),
+  )
 
-  queue_fits : IsInRange new_record
-  queue_fits = in_range t (key_of new_record) new_record then_lawful queue_then
+  -- under the key, the Counter and the queue that is made
+  abbrev held : Option ℕ → List LockName
+  held key = key_names key ++ names.Counter ∷ names.Queue s.next_id ∷ []
 
-  absent : record_of s (key_of new_record) ≡ None
-  absent = ap (option_map (λ (q : Queue). records.Queue (queue_entry q))) unused
+  abbrev IsHeld : Option ℕ → Record → Type 0
+  IsHeld key r = Contains (held key) (guard_of (key_of r))
 
-  as_long : Some (value_length (records.Counter (counter_of s))) ≡ Some (value_length new_counter)
-  as_long = ap Some (length-counter (counter_of s)
-      ∙ sym (length-counter (record { next_id = s.next_id + 1; queues_alive = length s.queues + 1 })))
+  all_held : (key : Option ℕ) → All (IsHeld key) (its_trials key)
+  all_held None = All-cons (IsHeld None) its_record [] (1, omega arith, refl) (All-nil _)
+  all_held (Some k) = All-cons (IsHeld (Some k)) its_record (its_key k ∷ []) (2, omega arith, refl)
+      (All-cons (IsHeld (Some k)) (its_key k) [] (0, omega arith, refl) (All-nil _))
 
-  private_leads : a.key ≡ None → Leads (create_plan None new (counter_of s)) (record_of s) (record_of t)
-  private_leads no_key = record {
-    absent = (absent, tt);
-    trials_in_range = All-cons IsInRange new_record [] queue_fits (All-nil IsInRange);
-    can = (as_long, tt);
-    in_range = counter_fits;
-    leads = λ key.
-        by_test (is_same key (key_of new_counter)) (Some new_counter) _ (record_of t key)
-        (λ same. sym (ap (record_of t) (same_is key (key_of new_counter) same) ∙ counter_then))
-        (λ no_counter. by_test (is_same key (key_of new_record)) (Some new_record) (record_of s key) (record_of t key)
-        (λ same. sym (ap (record_of t) (same_is key (key_of new_record) same) ∙ queue_then))
-        (λ no_queue. same_record s t key (others_same key (record {
-          no_counter = no_counter;
-          no_queue = no_queue;
-          no_key = λ k given. let clash : ◌≡◌ {A = Option ℕ} None (Some k) = sym no_key ∙ given in absurd cc;
-        }))));
+  counter_held : (key : Option ℕ) → IsHeld key its_counter
+  counter_held None = (0, omega arith, refl)
+  counter_held (Some k) = (1, omega arith, refl)
+
+  -- ---- the plan
+
+  fills : Fills (record_of s) (record_of t) (Replace its_counter)
+  fills = (
+    counter_then c a s lawful fresh few more,
+    ap Some (length-counter (counter_of s) ∙ sym (length-counter (next_of (counter_of s)))),
+  )
+
+  made_leads : Leads (plan_made c a s.next_id (Some (next_of (counter_of s)))) (record_of s) (record_of t)
+  made_leads = leads_by (record_of s) (record_of t) (plan_made c a s.next_id (Some (next_of (counter_of s))))
+      (all_absent a.key refl) (all_new a.key refl) (All-nil _, tt)
+      (All-cons (Fills (record_of s) (record_of t)) (Replace its_counter) [] fills (All-nil _))
+      (λ key r at. in_range t key r (then_lawful c a s lawful fresh few more) at)
+      (λ key none misses. others_same c a s lawful fresh few more key (is_other a.key refl key none
+      (All-head (Misses key) (Replace its_counter) [] misses)))
+
+  created : create c a s ≡ Some (answers.Id s.next_id, t)
+  created =
+      let place : (length s.queues == MAX_QUEUES) ≡ false = grind (arith, nat_tests, few) in
+      let id : (s.next_id == END_OF_IDS) ≡ false = grind (arith, nat_tests, more) in
+      rw (place, id) refl
+
+  made_answered : outcome c (Get a) s ≡ create c a s → (bytes : List ℕ) →
+      IsAnswered c (Get a) (held a.key) bytes s (verdicts.Id s.next_id)
+      (plan_made c a s.next_id (Some (next_of (counter_of s))))
+  made_answered makes bytes = record {
+    after = t;
+    outcome = makes ∙ created;
+    leads = made_leads;
+    own = record {
+      trials = all_held a.key;
+      writes = All-cons (λ (w : Write). Contains (held a.key) (guard_of (key_written w))) (Replace its_counter) []
+          (counter_held a.key) (All-nil _);
+    };
+    idle = λ same. let next : s.next_id + 1 ≡ s.next_id = ap (λ (x : State). x.next_id) same in
+        absurd (omega (arith, next));
+    ordered = record { trials = in_order a.key; writes = (All-nil _, tt) };
   }
 
-  keyed_leads : (k : ℕ) → a.key ≡ Some k → Leads (create_plan (Some k) new (counter_of s)) (record_of s) (record_of t)
-  keyed_leads k given =
-      let keyed : Record = records.Key (key_entry k new) in
-      let key_absent = ap (option_map (λ (q : Queue). records.Key (key_entry k q))) (fresh k given) in
-      record {
-        absent = (absent, (key_absent, tt));
-        trials_in_range = All-cons IsInRange new_record (keyed ∷ []) queue_fits (All-cons IsInRange keyed []
-            (in_range t (key_of keyed) keyed then_lawful (key_then k given)) (All-nil IsInRange));
-        can = (as_long, tt);
-        in_range = counter_fits;
-        leads = λ key.
-            by_test (is_same key (key_of new_counter)) (Some new_counter) _ (record_of t key)
-            (λ same. sym (ap (record_of t) (same_is key (key_of new_counter) same) ∙ counter_then))
-            (λ no_counter. by_test (is_same key (key_of keyed)) (Some keyed) _ (record_of t key)
-            (λ same. sym (ap (record_of t) (same_is key (key_of keyed) same) ∙ key_then k given))
-            (λ no_keyed. by_test (is_same key (key_of new_record)) (Some new_record) (record_of s key) (record_of t key)
-            (λ same. sym (ap (record_of t) (same_is key (key_of new_record) same) ∙ queue_then))
-            (λ no_queue. same_record s t key (others_same key (record {
-              no_counter = no_counter;
-              no_queue = no_queue;
-              no_key = λ other its. let both : ◌≡◌ {A = Option ℕ} (Some k) (Some other) = sym given ∙ its in
-                  let one : k ≡ other = cc in
-                  ap (λ (n : ℕ). is_same key (key_of (records.Key (key_entry n new)))) (sym one) ∙ no_keyed;
-            })))));
-      }
+-- ---- by the Counter that was read
 
-  pub create_leads : (key : Option ℕ) → a.key ≡ key →
-      Leads (create_plan key new (counter_of s)) (record_of s) (record_of t)
-  create_leads None is = private_leads is
-  create_leads (Some k) is = keyed_leads k is
-
--- what the counter and the call say is what the system's say
-pub created : (c : Caller) (a : GetArguments) (s : State) (n : Counter) (ts : Trials) (ws : List Write) →
-    IsLawful s → IsFreshKey a.key s → n ≡ counter_of s → n.queues_alive < MAX_QUEUES → n.next_id < END_OF_IDS →
-    ts ≡ trials_with a.key (new_queue n.next_id c a) → ws ≡ Replace (one_more n) ∷ [] →
-    Leads (record { trials = ts; writes = ws }) (record_of s) (record_of (with_new_queue c a s))
-created c a s n ts ws lawful fresh is few more inserted written =
-    let alive : n.queues_alive ≡ length s.queues = ap (λ (x : Counter). x.queues_alive) is in
-    let next : n.next_id ≡ s.next_id = ap (λ (x : Counter). x.next_id) is in
-    let trials_are : ts ≡ trials_with a.key (new_queue s.next_id c a) =
-    inserted ∙ ap (λ (id : ℕ). trials_with a.key (new_queue id c a)) next in
-    let writes_are : ws ≡ Replace (one_more (counter_of s)) ∷ [] =
-    written ∙ ap (λ (x : Counter). Replace (one_more x) ∷ []) is in
-    rw (trials_are, writes_are) (create_leads c a s lawful fresh (omega (arith, few, alive))
-    (omega (arith, more, next)) a.key refl)
+module _ (c : Caller) (a : GetArguments) (s : State) (filed : IsFiled s) (n : Counter)
+    (makes : IsToMake c a s) (is : n ≡ counter_of s) where
+  pub made : (m : Counter) → one_more n ≡ Some m → (bytes : List ℕ) →
+      IsAnswered c (Get a) (get_locked a (Counted n)) bytes s (verdicts.Id n.next_id) (get_plan c a (Counted n))
+  made m some bytes =
+      let left = is_left (counter_of s) m (ap one_more (sym is) ∙ some) in
+      let next : one_more (counter_of s) ≡ Some (next_of (counter_of s)) = ap one_more (sym is) ∙ some
+      ∙ ap (λ (x : Counter). Some x) left.next in
+      subst (λ (x : Counter). IsAnswered c (Get a) (get_locked a (Counted x)) bytes s (verdicts.Id x.next_id)
+      (get_plan c a (Counted x))) (sym is)
+      (subst (λ (o : Option Counter). IsAnswered c (Get a)
+      (key_names a.key ++ names.Counter ∷ made_names s.next_id o) bytes s (verdicts.Id s.next_id)
+      (plan_made c a s.next_id o)) (sym next)
+      (made_answered c a s filed.lawful makes.fresh left.few left.more makes.outcome bytes))

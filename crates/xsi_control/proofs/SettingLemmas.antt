@@ -1,102 +1,132 @@
--- A queue that takes settings.
-use Rattle.std.proofs.Common.{◌≡◌, ℕ, true, false, cond, [], ◌∷◌, Option, Some, None, refl, sym, ap, ◌∙◌, arith}
-use Rattle.std.specs.Prelude.{◌==◌, ◌&&◌, nat_lt, option_map, option_and_then}
-use Rattle.std.specs.List.{find, position_or_len}
+-- A queue that takes settings, and its Queue.
+use Rattle.std.proofs.Common.{◌≡◌, ℕ, Bool, true, false, cond, List, [], ◌∷◌, Some, refl, sym, ap, ◌∙◌, subst, arith}
+use Rattle.std.specs.Prelude.{nat_lt, not, option_map, Result, Ok, Err}
+use Rattle.std.specs.List.{Contains, find}
 use Rattle.std.proofs.lemmas.Bool.Decides.{nat_tests}
-use Rattle.std.proofs.lemmas.List.{length-set}
-use Rattle.std.proofs.lemmas.List.Elements.{All-nil, All-cons}
-use Rattle.std.proofs.lemmas.List.Folds.{find_at}
-use Rattle.std.proofs.lemmas.Option.{get_or_from_slice_get}
-use Rattle.bucket_page.specs.declared.record_key.RecordKey.{RecordKey}
-use Rattle.bucket_page.specs.Keys.{is_same}
-use Rattle.bucket_page.proofs.KeyLaws.{same_is}
-use Rattle.queue_model.specs.declared.call.SetArguments.{SetArguments}
-use Rattle.limits.specs.declared.TheConstants.{MAX_QBYTES}
-use Rattle.queue_model.specs.declared.queue.Queue.{Queue}
-use Rattle.queue_model.specs.Lawful.{IsLawful}
-use Rattle.queue_model.specs.Rules.{has_id, has_key, with_settings}
-use Rattle.queue_model.specs.State.{State}
-use Rattle.queue_model.proofs.LawfulLemmas.{IsLawful-set, IsLawfulQueue-set}
-use Rattle.queue_model.proofs.ListLemmas.{find-Some}
-use Rattle.queue_records.specs.declared.record.Record.{Record}
+use Rattle.std.proofs.lemmas.List.Elements.{All-cons, All-head, All-nil}
+use Rattle.page_locks.specs.declared.lock.LockName.TheVariants as names
+use Rattle.queue_model.specs.declared.answer.Answer.TheVariants as answers
+use Rattle.queue_model.specs.Access.{is_owner}
+use Rattle.queue_model.proofs.EffectLemmas.{Effect-outcome}
+use Rattle.queue_model.proofs.LawfulLemmas.{IsLawful-Effect}
 use Rattle.queue_records.specs.declared.record.Record.TheVariants as records
-use Rattle.queue_records.specs.Spelling.{key_of}
-use Rattle.type_chains.specs.Entries.{key_entry, queue_entry}
-use Rattle.type_chains.specs.RecordOf.{type_record, message_record, record_of}
-use Rattle.type_chains.proofs.Limits.{in_range, lawful_queue}
-use Rattle.xsi_inquiry.specs.declared.decision.Plan.{Plan}
-use Rattle.xsi_inquiry.specs.declared.decision.Trials.TheVariants as trials
+use Rattle.queue_records.proofs.Lengths.{length-queue}
+use Rattle.type_chains.proofs.Limits.{in_range}
+use Rattle.type_chains.proofs.OneQueueChanged.{agree_but, found_new}
+use Rattle.xsi_inquiry.specs.declared.sought.Sought.TheVariants.{Found}
+use Rattle.xsi_inquiry.specs.declared.verdict.Verdict.TheVariants as verdicts
+use Rattle.xsi_inquiry.specs.declared.write.Write.{Write}
 use Rattle.xsi_inquiry.specs.declared.write.Write.TheVariants.{Replace}
-use Rattle.xsi_inquiry.specs.Writing.{Leads, HasRange}
-use Rattle.xsi_control.specs.Setting.{with_settings_in}
-use Rattle.xsi_control.proofs.FindLemmas.{find_set_first, find_set_alike}
-use Rattle.xsi_control.proofs.KindLemmas.{HasSame, same_record, by_test, alike}
-use Rattle.xsi_control.proofs.LengthLemmas.{length-queue}
+use Rattle.xsi_inquiry.specs.Owning.{IsBefore}
+use Rattle.xsi_inquiry.proofs.LeadLemmas.{Fills, Misses, leads_by}
+use Rattle.xsi_control.specs.Setting.{plan_by, set_entry, set_plan}
+use Rattle.xsi_control.specs.Words.{RecordKey, Set, SetArguments, Caller, Errno, EINVAL, EPERM, MAX_QBYTES, Queue, IsLawful, Outcome, has_id, on_queue, outcome, raises, refuse, set_to, with_queue, with_settings, State, QueueEntry, Record, guard_of, key_of, queue_entry, record_of, IsAnswered, IsEntryOf, IsFiled, Leads, Plan, key_written, nothing, value_length}
 
--- the Queue that is written
-abbrev pub queue_with : SetArguments → Queue → Record
-queue_with a q = records.Queue (queue_entry (with_settings a q))
+-- no queue may have such a limit
+pub set_over : (c : Caller) (a : SetArguments) (s : State) → nat_lt MAX_QBYTES a.qbytes ≡ true →
+    outcome c (Set a) s ≡ refuse EINVAL s
+set_over c a s over = rw over refl
 
-abbrev pub set_plan : SetArguments → Queue → Plan
-set_plan a q = record { trials = trials.None; writes = Replace (queue_with a q) ∷ [] }
+pub set_by_id : (c : Caller) (a : SetArguments) (s : State) → nat_lt MAX_QBYTES a.qbytes ≡ false →
+    outcome c (Set a) s ≡ on_queue a.id s (set_to c a s)
+set_by_id c a s small = rw small refl
 
-module _ (a : SetArguments) (s : State) (q : Queue) (lawful : IsLawful s)
-    (found : find (has_id a.id) s.queues ≡ Some q) (its : q.id ≡ a.id)
+module _ (c : Caller) (a : SetArguments) (s : State) (e : QueueEntry) (is : IsEntryOf a.id e s)
     (small : nat_lt MAX_QBYTES a.qbytes ≡ false) where
+  abbrev q : Queue
+  q = is.queue
+
   abbrev new : Queue
-  new = with_settings a q
+  new = with_settings a is.queue
 
   abbrev t : State
-  t = with_settings_in a q s
+  t = with_queue a.id (with_settings a is.queue) s
 
-  abbrev changed_record : Record
-  changed_record = queue_with a q
+  -- what the Queue with the settings, or the refusal, means
+  abbrev Means : Result QueueEntry Errno → Outcome → Type 0
+  Means (Ok x) o = (o ≡ Some (answers.Done, t)) × (x ≡ queue_entry new)
+  Means (Err errno) o = o ≡ refuse errno s
 
-  stays_lawful : IsLawful t
-  stays_lawful =
-      let place = position_or_len (has_id a.id) s.queues in
-      let there = get_or_from_slice_get s.queues place q q (sym (find_at (has_id a.id) s.queues) ∙ found) in
-      let stands = (find-Some (has_id a.id) s.queues q found).1 in
-      IsLawful-set s place q new there refl refl (IsLawfulQueue-set a q small (lawful_queue s lawful q stands)) lawful
+  means : (owns raising : Bool) →
+      Means (cond (not owns) (Err EPERM) (cond raising (Err EPERM) (Ok (queue_entry new))))
+      (cond (not owns) (refuse EPERM s) (cond raising (refuse EPERM s) (Some (answers.Done, t))))
+  means false raising = refl
+  means true true = refl
+  means true false = (refl, refl)
 
-  stood : record_of s (key_of changed_record) ≡ Some (records.Queue (queue_entry q))
-  stood = ap (λ (id : ℕ). option_map (λ (q : Queue). records.Queue (queue_entry q)) (find (has_id id) s.queues)) its
-      ∙ ap (option_map (λ (q : Queue). records.Queue (queue_entry q))) found
+  set_means : (r : Result QueueEntry Errno) → set_entry c a e ≡ r → Means r (outcome c (Set a) s)
+  set_means r at =
+      let on_queue = set_by_id c a s small ∙ is.goes_on (set_to c a s) in
+      subst (λ (o : Outcome). Means r o) (sym on_queue)
+      (subst (λ (x : Result QueueEntry Errno). Means x (set_to c a s q)) (sym (ap (set_entry c a) is.entry) ∙ at)
+      (means (is_owner c q.permissions) (raises c a.qbytes q)))
 
-  stands_then : record_of t (key_of changed_record) ≡ Some changed_record
-  stands_then =
-      let has : has_id a.id new ≡ true = grind (arith, nat_tests, its) in
-      ap (λ (id : ℕ). option_map (λ (q : Queue). records.Queue (queue_entry q)) (find (has_id id) t.queues)) its
-      ∙ ap (option_map (λ (q : Queue). records.Queue (queue_entry q)))
-      (find_set_first (has_id a.id) new s.queues q found has)
+  pub set_refused : (errno : Errno) → set_entry c a e ≡ Err errno → outcome c (Set a) s ≡ refuse errno s
+  set_refused errno at = set_means (Err errno) at
 
-  others_same : (key : RecordKey) → is_same key (key_of changed_record) ≡ false → HasSame s t key
-  others_same key other = record {
-    counter = λ kind. ap (λ (n : ℕ). cond (key.queue == 0 && key.number == 0)
-        (Some (records.Counter (record { next_id = s.next_id; queues_alive = n }))) None)
-        (sym (length-set s.queues (position_or_len (has_id a.id) s.queues) new));
-    of_key = λ kind. ap (λ (o : Option Record). cond (key.queue == 0) o None) (sym (find_set_alike (has_id a.id) new
-        (option_map (λ (q : Queue). records.Key (key_entry key.number q))) (has_key key.number) s.queues q found
-        refl (λ its_key. refl)));
-    queue = λ kind. alike (key.number == 0) _ None _ None (λ zeroth. sym (find_set_alike (has_id a.id) new
-        (option_map (λ (q : Queue). records.Queue (queue_entry q))) (has_id key.queue) s.queues q found
-        refl (λ its_id. absurd (grind (arith, nat_tests, kind, zeroth, its_id, other))))) (λ _. refl);
-    of_type = λ kind. sym (find_set_alike (has_id a.id) new (option_and_then (type_record key.number))
-        (has_id key.queue) s.queues q found refl (λ its_id. refl));
-    message = λ kind. sym (find_set_alike (has_id a.id) new (option_and_then (message_record key.number))
-        (has_id key.queue) s.queues q found refl (λ its_id. refl));
-  }
+  -- a refusal writes nothing
+  pub refused_plan : (errno : Errno) → set_entry c a e ≡ Err errno → set_plan c a (Found e) ≡ nothing
+  refused_plan errno at = rw (small, at) refl
 
-  pub set_leads : Leads (set_plan a q) (record_of s) (record_of t)
-  set_leads = record {
-    absent = tt;
-    trials_in_range = All-nil _;
-    can = (ap (option_map _) stood ∙ ap Some (length-queue (queue_entry q) ∙ sym (length-queue (queue_entry new))), tt);
-    in_range = All-cons HasRange (Replace changed_record) []
-        (in_range t (key_of changed_record) changed_record stays_lawful stands_then)
-        (All-nil HasRange);
-    leads = λ key.
-        by_test (is_same key (key_of changed_record)) (Some changed_record) (record_of s key) (record_of t key)
-        (λ same. sym (ap (record_of t) (same_is key (key_of changed_record) same) ∙ stands_then))
-        (λ other. same_record s t key (others_same key other));
-  }
+  -- ---- the one write
+
+  abbrev its_record : Record
+  its_record = records.Queue (queue_entry new)
+
+  abbrev its_write : Write
+  its_write = Replace its_record
+
+  abbrev its_plan : Plan
+  its_plan = record { trials = []; slots = Some its_write ∷ [] }
+
+  stood : record_of s (key_of its_record) ≡ Some (records.Queue (queue_entry q))
+  stood = ap (λ (id : ℕ). option_map (λ (q : Queue). records.Queue (queue_entry q)) (find (has_id id) s.queues))
+      is.its_id
+      ∙ ap (option_map (λ (q : Queue). records.Queue (queue_entry q))) is.found
+
+  stands_then : record_of t (key_of its_record) ≡ Some its_record
+  stands_then = ap (λ (id : ℕ). option_map (λ (q : Queue). records.Queue (queue_entry q)) (find (has_id id) t.queues))
+      is.its_id
+      ∙ ap (option_map (λ (q : Queue). records.Queue (queue_entry q))) (found_new a.id s q new is.found refl refl)
+
+  fills : Fills (record_of s) (record_of t) its_write
+  fills = (
+    stands_then,
+    ap (option_map value_length) stood ∙ ap Some (length-queue (queue_entry q) ∙ sym (length-queue (queue_entry new))),
+  )
+
+  missed : (key : RecordKey) → Misses key its_write → key.kind ≡ 3 → key.queue ≡ a.id → key.number ≡ 0 → ⊥
+  missed key misses kind queue number =
+      let its = is.its_id in
+      absurd (grind (arith, nat_tests, kind, queue, number, its, misses))
+
+  set_leads : IsLawful t → Leads its_plan (record_of s) (record_of t)
+  set_leads lawful = leads_by (record_of s) (record_of t) its_plan tt (All-nil _) (All-nil _, tt)
+      (All-cons (Fills (record_of s) (record_of t)) its_write [] fills (All-nil _))
+      (λ key r at. in_range t key r lawful at)
+      (λ key none misses. agree_but a.id s q new is.found refl refl key
+      (λ kind queue number. missed key (All-head (Misses key) its_write [] misses) kind queue number)
+      (λ _ _. refl) (λ _ _. refl))
+
+  pub set_answered : IsFiled s → (bytes : List ℕ) (x : QueueEntry) → set_entry c a e ≡ Ok x →
+      IsAnswered c (Set a) (names.Queue a.id ∷ []) bytes s verdicts.Done (set_plan c a (Found e))
+  set_answered filed bytes x at =
+      let (outcome, same) = set_means (Ok x) at in
+      let lawful = IsLawful-Effect c (Set a) answers.Done s t (Effect-outcome c (Set a) answers.Done s t outcome)
+      filed.lawful in
+      let plan_is : set_plan c a (Found e) ≡ its_plan =
+      ap (λ (b : Bool). cond b nothing (plan_by (set_entry c a e))) small
+      ∙ ap plan_by (at ∙ ap (λ (y : QueueEntry). Ok y) same) in
+      rw plan_is (record {
+        after = t;
+        outcome = outcome;
+        leads = set_leads lawful;
+        own = record {
+          trials = All-nil (λ (r : Record). Contains (names.Queue a.id ∷ []) (guard_of (key_of r)));
+          writes = All-cons (λ (w : Write). Contains (names.Queue a.id ∷ []) (guard_of (key_written w))) its_write []
+              (0, omega arith, ap names.Queue (sym is.its_id))
+              (All-nil (λ (w : Write). Contains (names.Queue a.id ∷ []) (guard_of (key_written w))));
+        };
+        idle = λ never. absurd never;
+        ordered = record { trials = tt; writes = (All-nil (IsBefore its_write), tt) };
+      })

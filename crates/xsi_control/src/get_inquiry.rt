@@ -1,106 +1,111 @@
 //! Get.
 
-ghost use Rattle.std.specs.Prelude.{◌≡◌, ◌<◌};
-ghost use Rattle.queue_model.specs.declared.call.Call.TheVariants as calls;
-ghost use Rattle.queue_model.specs.Places.{IsFreshKey};
+ghost use Rattle.std.specs.Prelude.{◌≡◌, slice_get};
 ghost use Rattle.queue_model.specs.Rules.{new_queue};
-ghost use Rattle.queue_model.specs.State.{State};
-ghost use Rattle.type_chains.specs.Entries.{counter_of, queue_entry};
-ghost use Rattle.type_chains.specs.RecordOf.{record_of};
-ghost use Rattle.xsi_control.specs.Getting.{absent_or_making, with_new_queue};
-ghost use Rattle.xsi_inquiry.specs.Telling.{IsFiled};
-ghost use Rattle.xsi_inquiry.specs.Writing.{Leads};
+ghost use Rattle.type_chains.specs.Entries.{queue_entry};
+ghost use Rattle.xsi_control.specs.Getting.{absent_or_counted, made_trials, one_more};
 
-use bucket_page::RecordKey;
 use queue_model::{Caller, DEFAULT_QBYTES, Errno, GetArguments, Permissions};
-use queue_records::{COUNTER, Counter, END_OF_IDS, KEY, KeyEntry, MAX_QUEUES, QueueEntry, Record};
+use queue_records::{
+    Counter, END_OF_IDS, KeyEntry, MAX_QUEUES, QueueEntry, Record, counter_key, key_key,
+};
 use xsi_inquiry::{
-    Decision, Inquiry, NotASystem, Plan, Trials, Verdict, Writes, counter_in, key_in,
+    Decision, Inquiry, NotASystem, Room, Verdict, Wanted, Write, counter_in, key_in,
 };
 
 /// How far a Get has come.
-#[derive(Clone, Copy, Debug, PartialEq)]
-enum Getting {
-    /// The Key of this key is to be read.
-    Unread(u32),
-    /// The queue of the key has this id.
+#[derive(Clone, Copy, Debug)]
+pub enum Getting {
+    /// The Key of its key is to be read.
+    AtKey,
+    /// The queue of its key has this id.
     Found(u32),
-    /// No queue has the key, and none is to be made.
+    /// No queue has its key, and none is to be made.
     Absent,
     /// A queue is to be made. The Counter is to be read.
-    Making,
-    /// A queue is to be made, by this Counter.
+    AtCounter,
+    /// A queue is to be made by this Counter, where it leaves an id and a place.
     Counted(Counter),
 }
 
 /// A Get (POSIX.1-2017, `msgget()`). It reads the Key, where it has a key, and the Counter where a queue is to be made.
-#[derive(Debug, Drop)]
+/// It holds its key, and to make a queue the Counter and the queue of the next id too.
+#[derive(Clone, Copy, Debug)]
 pub struct GetInquiry {
     caller: Caller,
-    arguments: GetArguments,
     getting: Getting,
 }
 
-impl GetInquiry {
-    /// Nothing is read yet.
-    pub fn new(caller: Caller, arguments: GetArguments) -> GetInquiry
-        ensures caller { ⟦<GetInquiry as Inquiry>⟧.caller result ≡ caller }
-        ensures call { ⟦<GetInquiry as Inquiry>⟧.call result ≡ calls.Get arguments }
-        ensures knows { (s : State) → ⟦<GetInquiry as Inquiry>⟧.Knows result s }
-    {
-        let getting = match arguments.key {
-            Some(key) => Getting::Unread(key),
-            None => Getting::Making,
-        };
-        GetInquiry {
-            caller,
-            arguments,
-            getting,
-        }
-    }
-}
+const _: () = prove!(size_of::<GetInquiry>() <= 400);
 
 impl Inquiry for GetInquiry {
     ghost use Rattle.queue_model.specs.declared.call.Call.TheVariants as calls;
-    ghost use Rattle.xsi_control.specs.Getting.{KnowsOfGet, reads_left_of_get, wanted_by_get};
+    ghost use Rattle.xsi_control.specs.GetAsked.{few_of_get, get_asks, get_asks_given};
+    ghost use Rattle.xsi_control.specs.Getting.{KnowsOfGet, get_decided, get_left, get_locked, get_plan, get_wanted};
+
+    type Arguments = GetArguments;
 
     ghost caller = { λ i. i.caller };
 
-    ghost call = { λ i. calls.Get i.arguments };
+    ghost call = { λ a. calls.Get a };
 
-    ghost wanted = { λ i. wanted_by_get i.getting };
+    ghost wanted = { λ a i. get_wanted a i.getting };
 
-    ghost Knows = { λ i s. KnowsOfGet i.caller i.arguments i.getting s };
+    ghost locked = { λ a i. get_locked a i.getting };
 
-    ghost left = { λ i. reads_left_of_get i.getting };
+    ghost Knows = { λ a i room s. KnowsOfGet i.caller a i.getting s };
 
-    fn wants(&self) -> Option<RecordKey> {
+    ghost left = { λ a i. get_left i.getting };
+
+    ghost decided = { λ a i. get_decided a i.getting };
+
+    ghost plan = { λ a i. get_plan i.caller a i.getting };
+
+    ghost asks = { λ a i names s t found covered agrees told.
+        get_asks a i.getting names s t found covered agrees told };
+
+    ghost asks_given = { λ a i names s t given agrees told. get_asks_given a i.getting s t given told };
+
+    ghost few = { λ a i. few_of_get i.caller a i.getting };
+
+    fn begin(by: Caller, arguments: &GetArguments) -> GetInquiry {
+        let getting = match arguments.key {
+            Some(_) => Getting::AtKey,
+            None => Getting::AtCounter,
+        };
+        GetInquiry {
+            caller: by,
+            getting,
+        }
+    }
+
+    fn wants(&self, arguments: &GetArguments) -> Option<Wanted> {
         match self.getting {
-            Getting::Unread(key) => Some(RecordKey {
-                kind: KEY,
-                queue: 0,
-                number: key as u64,
-            }),
-            Getting::Making => Some(RecordKey {
-                kind: COUNTER,
-                queue: 0,
-                number: 0,
-            }),
+            Getting::AtKey => {
+                let key = arguments.key?;
+                Some(Wanted::At(key_key(key)))
+            }
+            Getting::AtCounter => Some(Wanted::At(counter_key())),
             Getting::Found(_) | Getting::Absent | Getting::Counted(_) => None,
         }
     }
 
-    fn take(&mut self, found: Option<Record<'_>>) -> Result<(), NotASystem> {
+    fn take(
+        &mut self,
+        arguments: &GetArguments,
+        found: Option<Record<'_>>,
+        _room: &mut Room,
+    ) -> Result<(), NotASystem> {
         match self.getting {
-            Getting::Unread(_) => {
+            Getting::AtKey => {
                 let Some(entry) = found else {
-                    self.getting = by_create(self.arguments.create);
+                    self.getting = absent_or_counted(arguments.create);
                     return Ok(());
                 };
                 self.getting = Getting::Found(key_in(entry)?.id);
                 Ok(())
             }
-            Getting::Making => {
+            Getting::AtCounter => {
                 let Some(entry) = found else {
                     return Err(NotASystem);
                 };
@@ -111,57 +116,85 @@ impl Inquiry for GetInquiry {
         }
     }
 
-    fn decide(&self, _stopped: bool) -> Result<Decision<'_>, NotASystem> {
-        match self.getting {
-            Getting::Found(_) if self.arguments.create && self.arguments.excl => {
+    fn take_given(&mut self, _arguments: &GetArguments, _given: bool) -> Result<(), NotASystem> {
+        Err(NotASystem)
+    }
+
+    fn decide(&self, arguments: &GetArguments) -> Result<Decision, NotASystem> {
+        match &self.getting {
+            Getting::Found(_) if arguments.create && arguments.excl => {
                 Ok(Decision::refuses(Errno::EEXIST))
             }
-            Getting::Found(id) => Ok(Decision::Answers(Verdict::Id(id), Plan::nothing())),
+            Getting::Found(id) => Ok(Decision::Answers(Verdict::Id(*id))),
             Getting::Absent => Ok(Decision::refuses(Errno::ENOENT)),
+            Getting::Counted(counter) => match one_more(counter) {
+                None => Ok(Decision::refuses(Errno::ENOSPC)),
+                Some(_) => Ok(Decision::Answers(Verdict::Id(counter.next_id))),
+            },
+            Getting::AtKey | Getting::AtCounter => Err(NotASystem),
+        }
+    }
+
+    fn trial<'a>(&self, arguments: &'a GetArguments, place: usize) -> Option<Record<'a>> {
+        match &self.getting {
             Getting::Counted(counter) => {
-                if counter.queues_alive >= MAX_QUEUES || counter.next_id >= END_OF_IDS {
-                    return Ok(Decision::refuses(Errno::ENOSPC));
-                }
-                let plan = plan_create(self.caller, &self.arguments, &counter);
-                Ok(Decision::Answers(Verdict::Id(counter.next_id), plan))
+                one_more(counter)?;
+                made_trial(self.caller, arguments, counter.next_id, place)
             }
-            Getting::Unread(_) | Getting::Making => Err(NotASystem),
+            Getting::AtKey | Getting::Found(_) | Getting::Absent | Getting::AtCounter => None,
+        }
+    }
+
+    fn write(&self, _arguments: &GetArguments, slot: usize) -> Option<Write> {
+        match (slot, &self.getting) {
+            (0, Getting::Counted(counter)) => {
+                Some(Write::Replace(Record::Counter(one_more(counter)?)))
+            }
+            (_, _) => None,
         }
     }
 }
 
 /// Where no queue has the key, one is made if the call says so.
-fn by_create(create: bool) -> Getting
-    ensures { result ≡ absent_or_making create }
+fn absent_or_counted(create: bool) -> Getting
+    ensures { result ≡ absent_or_counted create }
 {
     match create {
-        true => Getting::Making,
+        true => Getting::AtCounter,
         false => Getting::Absent,
     }
 }
 
-/// The records of a new queue with the next id: its Queue and, where it is not private, its Key are inserted on trial;
-/// then the Counter counts it. In every system without such a key, and with this Counter, they lead to the records of
-/// the system with the new queue.
-pub fn plan_create<'a>(caller: Caller, arguments: &GetArguments, counter: &Counter) -> Plan<'a>
-    requires few { counter.now.queues_alive < MAX_QUEUES }
-    requires more { counter.now.next_id < END_OF_IDS }
-    ensures { (s : State) → IsFiled s → IsFreshKey arguments.now.key s →
-        counter.now ≡ counter_of s →
-        Leads result (record_of s) (record_of (with_new_queue caller arguments.now s)) }
+/// The Counter with one queue more, where a place and an id are left.
+fn one_more(counter: &Counter) -> Option<Counter>
+    ensures { result ≡ one_more counter.now }
 {
-    let id = counter.next_id;
-    let queue = Record::Queue(new_entry(id, caller, arguments));
-    let trials = match arguments.key {
-        None => Trials::One(queue),
-        Some(key) => Trials::Two(queue, Record::Key(KeyEntry { key, id })),
-    };
-    let mut writes = Writes::new();
-    writes.replace(Record::Counter(Counter {
-        next_id: id + 1,
+    if counter.queues_alive >= MAX_QUEUES || counter.next_id >= END_OF_IDS {
+        return None;
+    }
+    Some(Counter {
+        next_id: counter.next_id + 1,
         queues_alive: counter.queues_alive + 1,
-    }));
-    Plan { trials, writes }
+    })
+}
+
+/// What is inserted on trial for a queue of this id: its Queue and, where it is not private, its Key.
+fn made_trial<'a>(
+    caller: Caller,
+    arguments: &GetArguments,
+    id: u32,
+    place: usize,
+) -> Option<Record<'a>>
+    ensures { result ≡ slice_get (made_trials caller arguments.now id) place }
+{
+    match place {
+        0 => Some(Record::Queue(new_entry(id, caller, arguments))),
+        1 => {
+            let key = arguments.key?;
+            Some(Record::Key(KeyEntry { key, id }))
+        }
+        _ => None,
+    }
 }
 
 /// The Queue of a new queue.

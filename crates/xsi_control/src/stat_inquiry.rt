@@ -1,102 +1,96 @@
 //! Stat.
 
-ghost use Rattle.std.specs.Prelude.{◌≡◌};
-ghost use Rattle.queue_model.specs.declared.call.Call.TheVariants as calls;
-ghost use Rattle.queue_model.specs.State.{State};
-ghost use Rattle.type_chains.specs.Reading.{info_in, permissions_in};
+use queue_model::{Access, Caller, Errno};
+use queue_records::Record;
+use type_chains::{info_in, permissions_in};
+use xsi_inquiry::{Decision, Inquiry, NotASystem, Room, Sought, Verdict, Wanted, Write};
 
-use bucket_page::RecordKey;
-use queue_model::{Access, Caller, Errno, Permissions, QueueInfo};
-use queue_records::{QueueEntry, Record};
-use xsi_inquiry::{Decision, Inquiry, NotASystem, Plan, Sought, Verdict};
-
-/// A Stat (POSIX.1-2017, `msgctl()` with `IPC_STAT`). It reads the Queue, and the Counter where there is none.
-#[derive(Debug, Drop)]
+/// A Stat (POSIX.1-2017, `msgctl()` with `IPC_STAT`). It is given an id. It reads the Queue; where there is none, it
+/// asks whether the id was given out.
+#[derive(Clone, Copy, Debug)]
 pub struct StatInquiry {
     caller: Caller,
-    id: u32,
     sought: Sought,
 }
 
-impl StatInquiry {
-    /// Nothing is read yet.
-    pub fn new(caller: Caller, id: u32) -> StatInquiry
-        ensures caller { ⟦<StatInquiry as Inquiry>⟧.caller result ≡ caller }
-        ensures call { ⟦<StatInquiry as Inquiry>⟧.call result ≡ calls.Stat id }
-        ensures knows { (s : State) → ⟦<StatInquiry as Inquiry>⟧.Knows result s }
-    {
-        StatInquiry {
-            caller,
-            id,
-            sought: Sought::new(id),
-        }
-    }
-}
+const _: () = prove!(size_of::<StatInquiry>() <= 400);
 
 impl Inquiry for StatInquiry {
+    ghost use Rattle.std.specs.Prelude.{[]};
     ghost use Rattle.queue_model.specs.declared.call.Call.TheVariants as calls;
-    ghost use Rattle.xsi_inquiry.specs.Seeking.{Tells, key_sought, reads_left};
+    ghost use Rattle.xsi_inquiry.specs.Seeking.{Tells, reads_left, sought_next};
+    ghost use Rattle.xsi_inquiry.specs.Writing.{nothing};
+    ghost use Rattle.xsi_inquiry.proofs.DecisionLemmas.{small_none};
+    ghost use Rattle.xsi_inquiry.proofs.SeekLemmas.{given_asks, sought_asks, sought_given};
+    ghost use Rattle.xsi_control.specs.Stating.{stat_decided};
+
+    type Arguments = u32;
 
     ghost caller = { λ i. i.caller };
 
-    ghost call = { λ i. calls.Stat i.id };
+    ghost call = { λ id. calls.Stat id };
 
-    ghost wanted = { λ i. key_sought i.id i.sought };
+    ghost wanted = { λ id i. sought_next id i.sought };
 
-    ghost Knows = { λ i s. Tells i.id i.sought s };
+    ghost locked = { λ id i. [] };
 
-    ghost left = { λ i. reads_left i.sought };
+    ghost Knows = { λ id i room s. Tells id i.sought s };
 
-    fn wants(&self) -> Option<RecordKey> {
-        self.sought.wants(self.id)
+    ghost left = { λ id i. reads_left i.sought };
+
+    ghost decided = { λ id i. stat_decided i.caller i.sought };
+
+    ghost plan = { λ id i. nothing };
+
+    ghost asks = { λ id i names s t found covered agrees told. sought_asks id i.sought s t found agrees.asked told };
+
+    ghost asks_given = { λ id i names s t given agrees told.
+        given_asks (sought_next id i.sought) id s t given agrees.asked (sought_given id i.sought) told };
+
+    ghost few = { λ id i. small_none };
+
+    fn begin(by: Caller, id: &u32) -> StatInquiry {
+        StatInquiry {
+            caller: by,
+            sought: Sought::new(*id),
+        }
     }
 
-    fn take(&mut self, found: Option<Record<'_>>) -> Result<(), NotASystem> {
-        self.sought.take(self.id, found)
+    fn wants(&self, id: &u32) -> Option<Wanted> {
+        self.sought.wants(*id)
     }
 
-    fn decide(&self, _stopped: bool) -> Result<Decision<'_>, NotASystem> {
-        match self.sought {
+    fn take(
+        &mut self,
+        id: &u32,
+        found: Option<Record<'_>>,
+        _room: &mut Room,
+    ) -> Result<(), NotASystem> {
+        self.sought.take(*id, found)
+    }
+
+    fn take_given(&mut self, id: &u32, given: bool) -> Result<(), NotASystem> {
+        self.sought.take_given(*id, given)
+    }
+
+    fn decide(&self, _id: &u32) -> Result<Decision, NotASystem> {
+        match &self.sought {
             Sought::Found(queue) => {
-                if permissions_in(&queue).keeps_out(Access::Read, self.caller) {
+                if permissions_in(queue).keeps_out(Access::Read, self.caller) {
                     return Ok(Decision::refuses(Errno::EACCES));
                 }
-                Ok(Decision::Answers(Verdict::Info(info_in(&queue)), Plan::nothing()))
+                Ok(Decision::Answers(Verdict::Info(info_in(queue))))
             }
-            Sought::Refused(errno) => Ok(Decision::refuses(errno)),
+            Sought::Refused(errno) => Ok(Decision::refuses(*errno)),
             Sought::Unread | Sought::Absent => Err(NotASystem),
         }
     }
-}
 
-/// What Stat tells of a queue.
-fn info_in(queue: &QueueEntry) -> QueueInfo
-    ensures { result ≡ info_in queue.now }
-{
-    QueueInfo {
-        id: queue.id,
-        key: queue.key,
-        qnum: queue.qnum,
-        cbytes: queue.cbytes,
-        qbytes: queue.qbytes,
-        lspid: queue.lspid,
-        lrpid: queue.lrpid,
-        stime: queue.stime,
-        rtime: queue.rtime,
-        ctime: queue.ctime,
-        permissions: permissions_in(queue),
+    fn trial<'a>(&self, _id: &'a u32, _place: usize) -> Option<Record<'a>> {
+        None
     }
-}
 
-/// Owner, creator and mode of a queue.
-pub(crate) fn permissions_in(queue: &QueueEntry) -> Permissions
-    ensures { result ≡ permissions_in queue.now }
-{
-    Permissions {
-        uid: queue.uid,
-        gid: queue.gid,
-        cuid: queue.cuid,
-        cgid: queue.cgid,
-        mode: queue.mode,
+    fn write(&self, _id: &u32, _slot: usize) -> Option<Write> {
+        None
     }
 }

@@ -1,5 +1,5 @@
 -- What the records of a system tell of the queue of an id.
-use Rattle.std.proofs.Common.{◌≡◌, ℕ, ◌<◌, ◌≤◌, Bool, true, false, nat_lt, Option, Some, None, refl, ap, sym, subst, arith}
+use Rattle.std.proofs.Common.{◌≡◌, ℕ, ◌<◌, ◌≤◌, Bool, true, false, nat_lt, Option, Some, None, refl, ap, sym, subst, ◌∙◌, arith}
 use Rattle.std.specs.Prelude.{◌==◌, ◌||◌, nat_le, option_map, Result, Ok, Err}
 use Rattle.std.specs.List.{find}
 use Rattle.queue_model.specs.declared.queue.Queue.{Queue}
@@ -11,16 +11,20 @@ use Rattle.queue_records.specs.declared.queue_entry.QueueEntry.{QueueEntry}
 use Rattle.queue_records.specs.declared.record.Record.{Record}
 use Rattle.queue_records.specs.declared.record.Record.TheVariants as records
 use Rattle.type_chains.specs.Entries.{queue_entry}
-use Rattle.type_chains.specs.Reading.{key_of_queue}
+use Rattle.queue_records.specs.Keys.{key_of_queue}
 use Rattle.type_chains.specs.RecordOf.{record_of}
 use Rattle.type_chains.proofs.Cases.{found_id}
 use Rattle.type_chains.proofs.Elements.{image_has}
 use Rattle.type_chains.proofs.Tests.{mapped}
-use Rattle.queue_records.specs.declared.counter.Counter.{Counter}
-use Rattle.type_chains.specs.Entries.{counter_of}
 use Rattle.xsi_inquiry.specs.declared.sought.Sought.TheVariants.{Unread, Absent, Found, Refused}
-use Rattle.xsi_inquiry.specs.Seeking.{IsEntryOf, Tells, counter_key, key_sought, refusal}
-use Rattle.xsi_inquiry.specs.Telling.{IsFiled, IsTold}
+use Rattle.bucket_page.specs.declared.record_key.RecordKey.{RecordKey}
+use Rattle.xsi_inquiry.specs.declared.sought.Sought.{Sought}
+use Rattle.xsi_inquiry.specs.declared.wanted.Wanted.{Wanted}
+use Rattle.xsi_inquiry.specs.declared.wanted.Wanted.TheVariants.{Given}
+use Rattle.xsi_inquiry.specs.Agreeing.{AgreeOnId}
+use Rattle.xsi_inquiry.proofs.AgreeLemmas.{same_queue_record}
+use Rattle.xsi_inquiry.specs.Seeking.{IsEntryOf, Tells, refusal, sought_next}
+use Rattle.xsi_inquiry.specs.Telling.{IsFiled, IsTold, IsToldGiven}
 
 -- an id that was given out is not refused as unknown
 given : (id : ℕ) (s : State) → 0 < id → id < s.next_id → (id == 0 || nat_le s.next_id id) ≡ false
@@ -31,10 +35,10 @@ given id s above below =
 
 -- where no queue has the id, calls on it are refused by the next id
 pub refused : (id : ℕ) (s : State) → 0 < id → find (has_id id) s.queues ≡ None →
-    (act : Queue → Outcome) → on_queue id s act ≡ refuse (refusal id s.next_id) s
+    (act : Queue → Outcome) → on_queue id s act ≡ refuse (refusal (nat_lt id s.next_id)) s
 refused id s above none act = by (nat_lt id s.next_id) refl
   where
-    by : (b : Bool) → nat_lt id s.next_id ≡ b → on_queue id s act ≡ refuse (refusal id s.next_id) s
+    by : (b : Bool) → nat_lt id s.next_id ≡ b → on_queue id s act ≡ refuse (refusal (nat_lt id s.next_id)) s
     by true e =
         let below : id < s.next_id = grind (arith, e) in
         rw e (rw (given id s above below) (ap (λ q. on_found q s act) none))
@@ -83,43 +87,51 @@ is_queue id s r told = some_mapped (find (has_id id) s.queues) r told
 
 -- ---- what each reading tells
 
-pub absent_told : (id : ℕ) (s : State) → Tells id Unread s → IsTold s (key_sought id Unread) None → Tells id Absent s
+pub absent_told : (id : ℕ) (s : State) → Tells id Unread s → IsTold s (sought_next id Unread) None → Tells id Absent s
 absent_told id s tells told = (tells, none_found id s (told (key_of_queue id) refl))
 
-pub queue_told : (id : ℕ) (s : State) (r : Record) → IsTold s (key_sought id Unread) (Some r) →
+pub queue_told : (id : ℕ) (s : State) (r : Record) → IsTold s (sought_next id Unread) (Some r) →
     (e : QueueEntry) × (r ≡ records.Queue e)
 queue_told id s r told = is_queue id s r (told (key_of_queue id) refl)
 
 pub found_told : (id : ℕ) (s : State) (e : QueueEntry) → IsFiled s →
-    IsTold s (key_sought id Unread) (Some (records.Queue e)) → Tells id (Found e) s
+    IsTold s (sought_next id Unread) (Some (records.Queue e)) → Tells id (Found e) s
 found_told id s e filed told = is_entry id s e filed.lawful (told (key_of_queue id) refl)
 
-pub counter_stands : (id : ℕ) (s : State) → IsTold s (key_sought id Absent) None → ⊥
-counter_stands id s told =
-    let at : None ≡ Some (records.Counter (counter_of s)) = told counter_key refl in
-    absurd cc
-
-pub counter_told : (id : ℕ) (s : State) (r : Record) → IsTold s (key_sought id Absent) (Some r) →
-    r ≡ records.Counter (counter_of s)
-counter_told id s r told =
-    let at : Some r ≡ Some (records.Counter (counter_of s)) = told counter_key refl in
-    cc
-
-pub refused_told : (id : ℕ) (s : State) (c : Counter) → Tells id Absent s →
-    IsTold s (key_sought id Absent) (Some (records.Counter c)) → Tells id (Refused (refusal id c.next_id)) s
-refused_told id s c tells told =
-    let is = counter_told id s (records.Counter c) told in
-    let same : c ≡ counter_of s = cc in
-    let next : c.next_id ≡ s.next_id = ap (λ (x : Counter). x.next_id) same in
-    rw next (refused id s tells.0 tells.1)
+pub refused_told : (id : ℕ) (s : State) (given : Bool) → Tells id Absent s → IsToldGiven s (sought_next id Absent) given →
+    Tells id (Refused (refusal given)) s
+refused_told id s given tells told = rw (told id refl) (refused id s tells.0 tells.1)
 
 pub clash : {T E : Type 0} (r : Result T E) (value : T) → r ≡ Ok value → (e : E) → r ≡ Err e → ⊥
 clash r value ok e err = absurd cc
 
 -- so one that takes each Queue does not refuse
-pub queue_is_taken : {E : Type 0} (id : ℕ) (s : State) (r : Record) → IsTold s (key_sought id Unread) (Some r) →
+pub queue_is_taken : {E : Type 0} (id : ℕ) (s : State) (r : Record) → IsTold s (sought_next id Unread) (Some r) →
     (result : Result QueueEntry E) → ((e : QueueEntry) → r ≡ records.Queue e → result ≡ Ok e) →
     (e : E) → result ≡ Err e → ⊥
 queue_is_taken id s r told result takes e err =
     let (entry, is) = queue_told id s r told in
     clash result entry (takes entry is) e err
+
+-- ---- what is asked is the same in systems that agree on the id
+
+pub sought_asks : (id : ℕ) (sought : Sought) (s t : State) (found : Option Record) → AgreeOnId id s t →
+    IsTold s (sought_next id sought) found → IsTold t (sought_next id sought) found
+sought_asks id Unread s t found agrees told key is =
+    let same : key_of_queue id ≡ key = cc in
+    subst (λ (k : RecordKey). found ≡ record_of t k) same
+    (told (key_of_queue id) refl ∙ same_queue_record id s t agrees)
+sought_asks id Absent s t found agrees told key is = absurd cc
+sought_asks id (Found e) s t found agrees told key is = absurd cc
+sought_asks id (Refused errno) s t found agrees told key is = absurd cc
+
+pub given_asks : (wanted : Option Wanted) (id : ℕ) (s t : State) (given : Bool) → AgreeOnId id s t →
+    ((other : ℕ) → wanted ≡ Some (Given other) → id ≡ other) → IsToldGiven s wanted given → IsToldGiven t wanted given
+given_asks wanted id s t given agrees its told other is =
+    told other is ∙ subst (λ n. nat_lt n s.next_id ≡ nat_lt n t.next_id) (its other is) agrees.given
+
+pub sought_given : (id : ℕ) (sought : Sought) (other : ℕ) → sought_next id sought ≡ Some (Given other) → id ≡ other
+sought_given id Unread other is = absurd cc
+sought_given id Absent other is = cc
+sought_given id (Found e) other is = absurd cc
+sought_given id (Refused errno) other is = absurd cc

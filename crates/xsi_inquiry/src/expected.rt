@@ -1,12 +1,11 @@
 //! The record that a key's kind lets expect.
 
-ghost use Rattle.std.specs.Prelude.{◌≡◌, ◌≤◌, IfOk, Ok, length};
+ghost use Rattle.std.specs.Prelude.{◌≡◌, IfOk, Ok};
 ghost use Rattle.queue_records.specs.declared.message_entry.MessageEntry.{MessageEntry};
 ghost use Rattle.queue_records.specs.declared.record.Record.TheVariants as records;
 
-use crate::held_message::HeldMessage;
 use crate::inquiry::NotASystem;
-use queue_records::{Counter, KeyEntry, MAX_BODY, QueueEntry, Record, TypeEntry};
+use queue_records::{Counter, KeyEntry, MessageEntry, QueueEntry, Record, TypeEntry};
 
 /// The Counter.
 pub fn counter_in(found: Record<'_>) -> Result<Counter, NotASystem>
@@ -16,7 +15,7 @@ pub fn counter_in(found: Record<'_>) -> Result<Counter, NotASystem>
 {
     match found {
         Record::Counter(counter) => Ok(counter),
-        Record::Key(_) | Record::Queue(_) | Record::Type(_) | Record::Message(_) => Err(NotASystem),
+        _ => Err(NotASystem),
     }
 }
 
@@ -27,9 +26,7 @@ pub fn key_in(found: Record<'_>) -> Result<KeyEntry, NotASystem>
 {
     match found {
         Record::Key(key) => Ok(key),
-        Record::Counter(_) | Record::Queue(_) | Record::Type(_) | Record::Message(_) => {
-            Err(NotASystem)
-        }
+        _ => Err(NotASystem),
     }
 }
 
@@ -40,9 +37,7 @@ pub fn queue_in(found: Record<'_>) -> Result<QueueEntry, NotASystem>
 {
     match found {
         Record::Queue(queue) => Ok(queue),
-        Record::Counter(_) | Record::Key(_) | Record::Type(_) | Record::Message(_) => {
-            Err(NotASystem)
-        }
+        _ => Err(NotASystem),
     }
 }
 
@@ -53,25 +48,18 @@ pub fn type_in(found: Record<'_>) -> Result<TypeEntry, NotASystem>
 {
     match found {
         Record::Type(entry) => Ok(entry),
-        Record::Counter(_) | Record::Key(_) | Record::Queue(_) | Record::Message(_) => {
-            Err(NotASystem)
-        }
+        _ => Err(NotASystem),
     }
 }
 
-/// A Message with a body within the limit.
-pub fn message_in(found: Record<'_>) -> Result<HeldMessage, NotASystem>
+/// A Message.
+pub fn message_in<'a>(found: Record<'a>) -> Result<MessageEntry<'a>, NotASystem>
     ensures ok { IfOk result (λ message. found.entry ≡ records.Message message) }
-    ensures only { (message : MessageEntry) → found.entry ≡ records.Message message →
-        length message.body ≤ MAX_BODY → result ≡ Ok message }
+    ensures only { (message : MessageEntry) →
+        found.entry ≡ records.Message message → result ≡ Ok message }
 {
     match found {
-        Record::Message(message) => {
-            if message.body.len() > MAX_BODY {
-                return Err(NotASystem);
-            }
-            Ok(HeldMessage::new(&message))
-        }
-        Record::Counter(_) | Record::Key(_) | Record::Queue(_) | Record::Type(_) => Err(NotASystem),
+        Record::Message(message) => Ok(message),
+        _ => Err(NotASystem),
     }
 }

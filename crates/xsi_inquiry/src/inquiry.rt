@@ -1,15 +1,25 @@
 //! How a call asks for records and decides on them.
 
-ghost use Rattle.std.specs.Prelude.{◌≡◌, ◌<◌, ℕ, Option, None, IsSome, OnOk};
-ghost use Rattle.bucket_page.specs.declared.record_key.RecordKey.{RecordKey};
+ghost use Rattle.std.specs.Prelude.{◌≡◌, ◌<◌, ◌≤◌, ℕ, Bool, List, Option, None, Result, OnErr, OnOk, slice_get, slice_index_or};
+ghost use Rattle.page_locks.specs.declared.lock.LockName.{LockName};
 ghost use Rattle.queue_model.specs.declared.call.Call.{Call};
 ghost use Rattle.queue_model.specs.declared.caller.Caller.{Caller};
 ghost use Rattle.queue_model.specs.State.{State};
+ghost use Rattle.queue_records.specs.declared.record.Record.{Record};
+ghost use Rattle.xsi_inquiry.specs.declared.decision.Decision.{Decision};
+ghost use Rattle.xsi_inquiry.specs.declared.inquiry.NotASystem.{NotASystem};
+ghost use Rattle.xsi_inquiry.specs.declared.wanted.Wanted.{Wanted};
+ghost use Rattle.xsi_inquiry.specs.Agreeing.{AgreesFor, IsCovered};
 ghost use Rattle.xsi_inquiry.specs.Deciding.{Decides};
-ghost use Rattle.xsi_inquiry.specs.Telling.{Gives, IsFiled, IsTold};
+ghost use Rattle.xsi_inquiry.specs.Rooms.{HasRoom, Roomful};
+ghost use Rattle.xsi_inquiry.specs.Telling.{AsksGiven, AsksRecord, Gives, IsFiled, IsTold, IsToldGiven, most_asked};
+ghost use Rattle.xsi_inquiry.specs.Writing.{IsSmall, Plan};
 
 use crate::decision::Decision;
-use bucket_page::RecordKey;
+use crate::room::Room;
+use crate::wanted::Wanted;
+use crate::write::Write;
+use queue_model::Caller;
 use queue_records::Record;
 use thiserror::Error;
 
@@ -18,39 +28,99 @@ use thiserror::Error;
 #[error("the records are not those of a system")]
 pub struct NotASystem;
 
-/// A call that asks for records, one key at a time, and then decides.
+/// A call that asks for records, one at a time, and then decides. What the call was given, and the room for what it
+/// receives, are lent to it each time: it borrows nothing, keeps no body, and takes no memory.
 pub trait Inquiry {
+    /// What the call is given.
+    type Arguments;
+
     /// Who calls.
     ghost caller: { Self → Caller };
 
     /// The call.
-    ghost call: { Self → Call };
+    ghost call: { Self.Arguments → Call };
 
-    /// The key of the record that it asks for next; none where it can decide.
-    ghost wanted: { Self → Option RecordKey };
+    /// What it asks for next; none where it can decide.
+    ghost wanted: { Self.Arguments → Self → Option Wanted };
 
-    /// What it was told are records of a system.
-    ghost Knows: { Self → State → Type 0 };
+    /// The names that it holds Exclusive where it decides.
+    ghost locked: { Self.Arguments → Self → List LockName };
 
-    /// At most as many records are still asked for.
-    ghost left: { Self → ℕ };
+    /// What it was told, and holds in its room, is so of the records of a system.
+    ghost Knows: { Self.Arguments → Self → Roomful → State → Type 0 };
 
-    /// The key that it asks for, or none where it can decide.
-    fn wants(&self) -> Option<RecordKey>
-        ensures { result ≡ wanted self.now };
+    /// At most as many questions are still asked.
+    ghost left: { Self.Arguments → Self → ℕ };
 
-    /// Tells it the record at that key, or that there is none.
-    fn take(&mut self, found: Option<Record<'_>>) -> Result<(), NotASystem>
-        requires { IsSome (wanted self.old) }
-        ensures told { (s : State) → IsFiled s → Knows self.old s →
-            IsTold s (wanted self.old) found.entry → Gives result (λ _. Knows self.new s) }
-        ensures fewer { OnOk result (left self.new < left self.old) }
-        ensures caller { caller self.new ≡ caller self.old }
-        ensures call { call self.new ≡ call self.old };
+    /// What it decides where it asks for nothing more. The stop mark is no part of it.
+    ghost decided: { Self.Arguments → Self → Result Decision NotASystem };
+
+    /// What it writes then.
+    ghost plan: { Self.Arguments → Self → Plan };
+
+    /// Nothing is told yet.
+    fn begin(by: Caller, arguments: &Self::Arguments) -> Self
+        ensures caller { caller result ≡ by }
+        ensures knows { (room : Roomful) (s : State) → HasRoom (call arguments.now) room →
+            Knows arguments.now result room s }
+        ensures few { left arguments.now result ≤ most_asked (call arguments.now) };
+
+    /// What it asks for, or none where it can decide.
+    fn wants(&self, arguments: &Self::Arguments) -> Option<Wanted>
+        ensures { result ≡ wanted arguments.now self.now };
+
+    /// Tells it the record at that key, or that there is none. The bytes of a message that it receives are copied into
+    /// the room. After an error it stands where it stood.
+    fn take(
+        &mut self,
+        arguments: &Self::Arguments,
+        found: Option<Record<'_>>,
+        room: &mut Room,
+    ) -> Result<(), NotASystem>
+        requires { AsksRecord (wanted arguments.now self.old) }
+        ensures told { (s : State) → IsFiled s → Knows arguments.now self.old room.old s →
+            IsTold s (wanted arguments.now self.old) found.entry →
+            Gives result (λ _. Knows arguments.now self.new room.new s) }
+        ensures fewer { OnOk result (left arguments.now self.new < left arguments.now self.old) }
+        ensures err { OnErr result ((self.new ≡ self.old) × (room.new ≡ room.old)) }
+        ensures caller { caller self.new ≡ caller self.old };
+
+    /// Tells it whether that id is below the next id. After an error it stands where it stood.
+    fn take_given(&mut self, arguments: &Self::Arguments, given: bool) -> Result<(), NotASystem>
+        requires { AsksGiven (wanted arguments.now self.old) }
+        ensures told { (room : Roomful) (s : State) → IsFiled s → Knows arguments.now self.old room s →
+            IsToldGiven s (wanted arguments.now self.old) given →
+            Gives result (λ _. Knows arguments.now self.new room s) }
+        ensures fewer { OnOk result (left arguments.now self.new < left arguments.now self.old) }
+        ensures err { OnErr result (self.new ≡ self.old) }
+        ensures caller { caller self.new ≡ caller self.old };
 
     /// The decision, where it asks for nothing more.
-    fn decide(&self, stopped: bool) -> Result<Decision<'_>, NotASystem>
-        requires { wanted self.now ≡ None }
-        ensures { (s : State) → IsFiled s → Knows self.now s → s.stopped ≡ stopped →
-            Gives result (Decides (caller self.now) (call self.now) s) };
+    fn decide(&self, arguments: &Self::Arguments) -> Result<Decision, NotASystem>
+        requires { wanted arguments.now self.now ≡ None }
+        ensures value { result ≡ decided arguments.now self.now }
+        ensures right { (room : Roomful) (s : State) → IsFiled s → Knows arguments.now self.now room s →
+            Gives result (λ decision. Decides (caller self.now) (call arguments.now)
+            (locked arguments.now self.now) room.bytes s decision (plan arguments.now self.now)) };
+
+    /// The record that is inserted on trial at this place, lent by the call; none behind the last. Where one does not
+    /// fit its bucket, those before it are deleted again and the call is the fault 50.
+    fn trial<'a>(&self, arguments: &'a Self::Arguments, place: usize) -> Option<Record<'a>>
+        ensures { result ≡ slice_get (plan arguments.now self.now).trials place };
+
+    /// The write in this slot, where there is one. They follow the decision in the order of their slots.
+    fn write(&self, arguments: &Self::Arguments, slot: usize) -> Option<Write>
+        ensures { result ≡ slice_index_or (plan arguments.now self.now).slots slot None };
+
+    /// What it asks for under names that it holds is the same in systems that agree at them.
+    ghost asks: { (a : Self.Arguments) (i : Self) (names : List LockName) (s t : State) (found : Option Record) →
+        IsCovered names (wanted a i) → AgreesFor (call a) names s t →
+        IsTold s (wanted a i) found → IsTold t (wanted a i) found };
+
+    ghost asks_given: { (a : Self.Arguments) (i : Self) (names : List LockName) (s t : State) (given : Bool) →
+        AgreesFor (call a) names s t →
+        IsToldGiven s (wanted a i) given → IsToldGiven t (wanted a i) given };
+
+    /// It writes little.
+    ghost few: { (a : Self.Arguments) (i : Self) → IsSmall (plan a i) };
 }

@@ -5,16 +5,22 @@
 
 mod decision;
 mod expected;
-mod held_message;
 mod inquiry;
+mod near;
+mod room;
+mod slots;
 mod sought;
 mod verdict;
+mod wanted;
 mod write;
 
-pub use decision::{Decision, Plan, Trials};
+pub use decision::Decision;
 pub use expected::{counter_in, key_in, message_in, queue_in, type_in};
-pub use held_message::HeldMessage;
 pub use inquiry::{Inquiry, NotASystem};
+pub use near::{carry_over, others_leave_an_id, tell, tell_given};
+pub use room::Room;
+pub use slots::next_write;
 pub use sought::Sought;
 pub use verdict::{Taken, Verdict};
-pub use write::{MAX_WRITES, Write, Writes};
+pub use wanted::Wanted;
+pub use write::{MAX_TRIALS, MAX_WRITES, Write};

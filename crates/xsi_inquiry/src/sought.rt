@@ -1,22 +1,22 @@
 //! The queue that a call names, as far as the records that were read tell.
 
-ghost use Rattle.std.specs.Prelude.{◌≡◌, ◌<◌, IsSome, OnOk};
+ghost use Rattle.std.specs.Prelude.{◌≡◌, ◌<◌, OnErr, OnOk};
 ghost use Rattle.queue_model.specs.State.{State};
-ghost use Rattle.xsi_inquiry.specs.Seeking.{Tells, begun, key_sought, reads_left, refusal};
-ghost use Rattle.xsi_inquiry.specs.Telling.{Gives, IsFiled, IsTold};
+ghost use Rattle.xsi_inquiry.specs.Seeking.{IsRefused, Tells, begun, reads_left, refusal, sought_next};
+ghost use Rattle.xsi_inquiry.specs.Telling.{AsksGiven, AsksRecord, Gives, IsFiled, IsTold, IsToldGiven};
 
-use crate::expected::{counter_in, queue_in};
+use crate::expected::queue_in;
 use crate::inquiry::NotASystem;
-use bucket_page::RecordKey;
+use crate::wanted::Wanted;
 use queue_model::Errno;
-use queue_records::{COUNTER, QUEUE, QueueEntry, Record};
+use queue_records::{QueueEntry, Record, queue_key};
 
 /// What is known of the queue of an id.
 #[derive(Clone, Copy, Debug, PartialEq)]
 pub enum Sought {
     /// Its Queue is to be read.
     Unread,
-    /// It has no Queue. The Counter is to be read, which tells whether it ever had one.
+    /// It has no Queue. Whether it ever had one is asked next.
     Absent,
     /// Its Queue.
     Found(QueueEntry),
@@ -36,32 +36,25 @@ impl Sought {
         }
     }
 
-    /// The key of the record to be read next, where there is one.
-    pub fn wants(&self, id: u32) -> Option<RecordKey>
-        ensures { result ≡ key_sought id self.now }
+    /// What is asked next, where there is something to ask.
+    pub fn wants(&self, id: u32) -> Option<Wanted>
+        ensures { result ≡ sought_next id self.now }
     {
         match self {
-            Sought::Unread => Some(RecordKey {
-                kind: QUEUE,
-                queue: id,
-                number: 0,
-            }),
-            Sought::Absent => Some(RecordKey {
-                kind: COUNTER,
-                queue: 0,
-                number: 0,
-            }),
+            Sought::Unread => Some(Wanted::At(queue_key(id))),
+            Sought::Absent => Some(Wanted::Given(id)),
             Sought::Found(_) | Sought::Refused(_) => None,
         }
     }
 
     /// Tells the record at that key, or that there is none.
     pub fn take(&mut self, id: u32, found: Option<Record<'_>>) -> Result<(), NotASystem>
-        requires { IsSome (key_sought id self.old) }
+        requires { AsksRecord (sought_next id self.old) }
         ensures told { (s : State) → IsFiled s → Tells id self.old s →
-            IsTold s (key_sought id self.old) found.entry →
+            IsTold s (sought_next id self.old) found.entry →
             Gives result (λ _. Tells id self.new s) }
         ensures fewer { OnOk result (reads_left self.new < reads_left self.old) }
+        ensures err { OnErr result (self.new ≡ self.old) }
     {
         match *self {
             Sought::Unread => {
@@ -72,24 +65,35 @@ impl Sought {
                 *self = Sought::Found(queue_in(entry)?);
                 Ok(())
             }
+            Sought::Absent | Sought::Found(_) | Sought::Refused(_) => Err(NotASystem),
+        }
+    }
+
+    /// Tells whether the id is below the next id.
+    pub fn take_given(&mut self, id: u32, given: bool) -> Result<(), NotASystem>
+        requires { AsksGiven (sought_next id self.old) }
+        ensures told { (s : State) → IsFiled s → Tells id self.old s →
+            IsToldGiven s (sought_next id self.old) given →
+            Gives result (λ _. Tells id self.new s) }
+        ensures refused { OnOk result (IsRefused self.new) }
+        ensures fewer { OnOk result (reads_left self.new < reads_left self.old) }
+        ensures err { OnErr result (self.new ≡ self.old) }
+    {
+        match *self {
             Sought::Absent => {
-                let Some(entry) = found else {
-                    return Err(NotASystem);
-                };
-                let counter = counter_in(entry)?;
-                *self = Sought::Refused(refusal(id, counter.next_id));
+                *self = Sought::Refused(refusal(given));
                 Ok(())
             }
-            Sought::Found(_) | Sought::Refused(_) => Err(NotASystem),
+            Sought::Unread | Sought::Found(_) | Sought::Refused(_) => Err(NotASystem),
         }
     }
 }
 
-/// How calls on an id without a queue are refused, by the next id.
-fn refusal(id: u32, next_id: u32) -> Errno
-    ensures { result ≡ refusal id next_id }
+/// How calls on an id without a queue are refused: it was given out once, or never.
+fn refusal(given: bool) -> Errno
+    ensures { result ≡ refusal given }
 {
-    if id < next_id {
+    if given {
         return Errno::EIDRM;
     }
     Errno::EINVAL

@@ -1,68 +1,241 @@
--- What a Receive decides on what it knows.
-use Rattle.std.proofs.Common.{◌≡◌, ℕ, Bool, true, false, List, [], ◌∷◌, ◌++◌, Option, Some, None, refl, sym, ap, ◌∙◌, subst}
-use Rattle.std.specs.Prelude.{if◌then◌else◌}
-use Rattle.std.proofs.lemmas.List.{append_assoc}
-use Rattle.bucket_page.specs.declared.record_key.RecordKey.{RecordKey}
-use Rattle.queue_model.specs.declared.call.Call.{Call}
+-- What becomes of a message that is taken, and what is decided then.
+use Rattle.std.proofs.Common.{◌≡◌, ℕ, ℤ, Bool, true, List, [], ◌∷◌, Option, Some, None, refl, sym, ap, ◌∙◌, subst, arith}
+use Rattle.std.specs.Prelude.{◌&&◌, nat_le, option_map}
+use Rattle.std.specs.List.{All, Contains, position_or_len, remove}
+use Rattle.std.proofs.lemmas.List.Elements.{All-nil}
+use Rattle.page_locks.specs.declared.lock.LockName.{LockName}
+use Rattle.page_locks.specs.declared.lock.LockName.TheVariants as names
+use Rattle.queue_model.specs.declared.answer.Answer.TheVariants as answers
 use Rattle.queue_model.specs.declared.call.Call.TheVariants.{Receive}
 use Rattle.queue_model.specs.declared.call.ReceiveArguments.{ReceiveArguments}
 use Rattle.queue_model.specs.declared.caller.Caller.{Caller}
-use Rattle.queue_model.specs.declared.errno.Errno.TheVariants.{EINTR, ENOMSG}
 use Rattle.queue_model.specs.declared.message.Message.{Message}
-use Rattle.queue_model.specs.Rules.{Outcome, outcome, put_off, receive_found, refuse, with_queue, without_message}
+use Rattle.queue_model.specs.declared.queue.Queue.{Queue}
+use Rattle.queue_model.specs.Lawful.{IsLawfulQueue}
+use Rattle.queue_model.specs.Rules.{receive_found, with_queue, without_message}
+use Rattle.queue_model.specs.Selection.{selects}
 use Rattle.queue_model.specs.State.{State}
-use Rattle.queue_records.specs.declared.message_entry.MessageEntry.{MessageEntry}
-use Rattle.queue_records.specs.Spelling.{message_key}
-use Rattle.type_chains.specs.Entries.{message_entry}
-use Rattle.type_chains.specs.RecordOf.{record_of}
-use Rattle.xsi_inquiry.specs.declared.decision.Plan.{Plan}
+use Rattle.queue_records.specs.declared.queue_entry.QueueEntry.{QueueEntry}
+use Rattle.queue_records.specs.declared.type_entry.TypeEntry.{TypeEntry}
+use Rattle.queue_records.specs.declared.record.Record.TheVariants as records
+use Rattle.queue_records.specs.Keys.{guard_of, key_of_message, key_of_type}
+use Rattle.type_chains.specs.Entries.{message_entry, queue_entry, type_entry}
+use Rattle.type_chains.specs.Lists.{serials_of_type, types}
+use Rattle.type_chains.specs.Neighbours.{first_of}
+use Rattle.xsi_inquiry.specs.declared.decision.Decision.TheVariants.{Answers}
 use Rattle.xsi_inquiry.specs.declared.write.Write.{Write}
-use Rattle.xsi_inquiry.specs.declared.write.Write.TheVariants.{Replace, Delete}
+use Rattle.xsi_inquiry.specs.declared.write.Write.TheVariants.{Replace, Relink, Delete}
 use Rattle.xsi_inquiry.specs.Deciding.{Decides, IsAnswered}
-use Rattle.xsi_inquiry.specs.Writing.{Leads}
-use Rattle.xsi_inquiry.proofs.DecisionLemmas.{decides_refused}
-use Rattle.xsi_receive.specs.declared.selection.Selection.{Selection}
-use Rattle.xsi_receive.specs.Giving.{given, puts_off}
-use Rattle.xsi_receive.specs.Places.{KnowsSelection, is_long}
-use Rattle.xsi_receive.specs.Removing.{ends, own_left}
+use Rattle.xsi_inquiry.specs.Rooms.{Roomful}
+use Rattle.xsi_inquiry.specs.Telling.{IsFiled}
+use Rattle.xsi_inquiry.specs.Writing.{key_written}
+use Rattle.xsi_inquiry.proofs.SlotLemmas.{InSlot, somes_all}
+use Rattle.xsi_receive.specs.declared.head.MessageHead.{MessageHead}
+use Rattle.xsi_receive.specs.declared.removal.Removal.{Removal}
+use Rattle.xsi_receive.specs.declared.removal.TypeLeft.{TypeLeft}
+use Rattle.xsi_receive.specs.declared.removal.TypeLeft.TheVariants.{Begins, Goes}
+use Rattle.xsi_receive.specs.Asking.{received}
+use Rattle.xsi_receive.specs.Heads.{head_of}
+use Rattle.xsi_receive.specs.Knowing.{IsItsType, KnowsHead, KnowsRemoval}
+use Rattle.xsi_receive.specs.Removing.{deletion_by, higher_by, is_counted, left_by, lowest_left, next_write, own_by, previous_write, queue_left, removal_plan, slots_of, to_higher, to_lower, to_next, to_previous, where_none}
+use Rattle.xsi_receive.proofs.FirstOfTypeLemmas.{IsTakenAt, taken_at}
+use Rattle.xsi_receive.proofs.FitLemmas.{place_of}
 use Rattle.xsi_receive.proofs.KnowingLemmas.{on_selected}
+use Rattle.xsi_receive.proofs.LeadLemmas.{all_seven, in_order, leads}
+use Rattle.xsi_receive.proofs.MessageLemmas.{next_of_type_is}
+use Rattle.xsi_receive.proofs.QueueLemmas.{counted, fewer_bytes, queue_other_lowest, queue_same_lowest}
+use Rattle.xsi_receive.proofs.StandLemmas.{fine}
+use Rattle.xsi_receive.proofs.TypesLemmas.{its_type_stands}
 
--- a call that is put off
-pub decides_put_off : (c : Caller) (call : Call) (s : State) (nowait stopped : Bool) →
-    outcome c call s ≡ put_off nowait ENOMSG s → s.stopped ≡ stopped → Decides c call s (puts_off nowait stopped)
-decides_put_off c call s true stopped is at = decides_refused c call s ENOMSG is
-decides_put_off c call s false true is at =
-    decides_refused c call s EINTR (is ∙ ap (λ (b : Bool). if b then refuse EINTR s else None) at)
-decides_put_off c call s false false is at =
-    is ∙ ap (λ (b : Bool). if b then refuse EINTR s else None) at
+both_pass : (a b : Bool) → a ≡ true → b ≡ true → (a && b) ≡ true
+both_pass a b one two = rw (one, two) refl
 
--- a message that is given
-pub decides_given : (c : Caller) (a : ReceiveArguments) (s : State) (e : Selection) (known : KnowsSelection c a e s)
-    (p : Plan) → Leads p (record_of s) (record_of (with_queue a.id (without_message c.pid a known.is.its.queue) s)) →
-    IsAnswered c (Receive a) s (given a.size e.message) p
-decides_given c a s e known p leads =
-    let q = known.is.its.queue in
-    let m = known.is.message in
-    let fits : is_long a (message_entry q m) ≡ false = sym (ap (is_long a) known.is.entry) ∙ known.fits in
-    let now = on_selected c a e.queue s known.is.its known.may_read
-    ∙ ap (λ (o : Option Message). receive_found o c a s q) known.is.is_selected
-    ∙ rw fits refl in
-    let whole : IsAnswered c (Receive a) s (given a.size (message_entry q m)) p = record {
-      after = with_queue a.id (without_message c.pid a q) s;
-      outcome = now;
-      leads = leads;
-    } in
-    subst (λ (x : MessageEntry). IsAnswered c (Receive a) s (given a.size x) p) (sym known.is.entry) whole
+lowest_same : (lower higher lowest : Option ℤ) →
+    where_none lower higher lowest ≡ lowest_left (Goes lower higher) lowest
+lowest_same None higher lowest = refl
+lowest_same (Some t) higher lowest = refl
 
--- the writes of a Type that stays
-pub end_some : (ws one two : List Write) (e : Selection) (f : ℕ) (m : MessageEntry) (k : RecordKey) → m ≡ e.message →
-    m.next_of_type ≡ Some f → k ≡ message_key m → one ≡ ws ++ Replace (own_left f e) ∷ [] → two ≡ one ++ Delete k ∷ [] →
-    two ≡ ws ++ ends e.message.next_of_type e
-end_some ws one two e f m k is link key first second =
-    let its = sym (ap (λ (x : MessageEntry). x.next_of_type) is) ∙ link in
-    let keyed = key ∙ ap message_key is in
-    second
-    ∙ ap (λ (vs : List Write). vs ++ Delete k ∷ []) first
-    ∙ append_assoc ws (Replace (own_left f e) ∷ []) (Delete k ∷ [])
-    ∙ ap (λ (x : RecordKey). ws ++ Replace (own_left f e) ∷ Delete x ∷ []) keyed
-    ∙ sym (ap (λ (o : Option ℕ). ws ++ ends o e) its)
+-- ---- what becomes of its queue
+
+module _ (c : Caller) (a : ReceiveArguments) (e : QueueEntry) (m : MessageHead) (t : Option TypeEntry) (room : Roomful)
+    (s : State) (filed : IsFiled s) (known : KnowsHead c a e m t room s) where
+  abbrev q : Queue
+  q = known.selects.its.queue
+
+  abbrev x : Message
+  x = known.selects.message
+
+  abbrev i : ℕ
+  i = position_or_len (selects a.mtype q.messages) q.messages
+
+  its_taken : IsTakenAt x q.messages i
+  its_taken = taken_at a.mtype q.messages x known.selects.is_selected
+
+  lawful : IsLawfulQueue q
+  lawful = fine s filed a.id q known.selects.its.found
+
+  -- the Queue counts the message
+  pub is_counted_here : is_counted e m ≡ true
+  is_counted_here =
+      let body = ap (λ (h : MessageHead). h.bytes) known.entry in
+      let bytes = ap (λ (x : QueueEntry). x.cbytes) known.selects.its.entry in
+      let number = ap (λ (x : QueueEntry). x.qnum) known.selects.its.entry in
+      let fewer = fewer_bytes q lawful c.pid a.moment i x its_taken in
+      let some = counted q lawful c.pid a.moment i x its_taken in
+      let one : nat_le m.bytes e.cbytes ≡ true = grind (arith, body, bytes, fewer) in
+      let two : nat_le 1 e.qnum ≡ true = grind (arith, number, some) in
+      both_pass _ _ one two
+
+  abbrev made : TypeLeft → Removal
+  made left = record { queue = queue_left c.pid a e m left; message = m; type_left = left }
+
+  same_queue : (left : TypeLeft) → queue_left c.pid a e m left
+      ≡ queue_left c.pid a (queue_entry q) (head_of (message_entry q x)) left
+  same_queue left = ap (λ (y : QueueEntry). queue_left c.pid a y m left) known.selects.its.entry
+      ∙ ap (λ (y : MessageHead). queue_left c.pid a (queue_entry q) y left) known.entry
+
+  next_by : m.next_of_type ≡ first_of (serials_of_type x.mtype (remove q.messages i))
+  next_by = ap (λ (h : MessageHead). h.next_of_type) known.entry
+      ∙ next_of_type_is q lawful c.pid a.moment i x its_taken
+
+  -- its Type is not needed, or is still to be read
+  abbrev pub known_alone : KnowsHead c a e m None room s
+  known_alone = record {
+    selects = known.selects;
+    entry = known.entry;
+    mtype = tt;
+    fits = known.fits;
+    bytes = known.bytes;
+  }
+
+  -- a message of its type is left
+  pub begins : (f : ℕ) → m.next_of_type ≡ Some f → KnowsRemoval c a (made (Begins f)) room s
+  begins f some = record {
+    before = e;
+    known = known_alone;
+    queue = same_queue (Begins f)
+        ∙ sym (queue_same_lowest q lawful c.pid a.moment i x its_taken f (sym next_by ∙ some));
+    type_left = ap (λ (o : Option ℕ). left_by o (type_entry q x.mtype)) (sym some);
+  }
+
+  -- it was the last of its type
+  pub goes : m.next_of_type ≡ None → (entry : TypeEntry) → t ≡ Some entry →
+      KnowsRemoval c a (made (Goes entry.lower entry.higher)) room s
+  goes none entry is =
+      let (j, at_j) = place_of (types q.messages) x.mtype (its_type_stands q.messages i x its_taken) in
+      let own : entry ≡ type_entry q x.mtype = subst (λ (o : Option TypeEntry). IsItsType o (type_entry q x.mtype)) is known.mtype in
+      let type_is = type_entry q x.mtype in
+      let lefts : Goes entry.lower entry.higher ≡ Goes type_is.lower type_is.higher =
+      ap (λ (y : TypeEntry). Goes y.lower y.higher) own in
+      record {
+        before = e;
+        known = known_alone;
+        queue = same_queue (Goes entry.lower entry.higher)
+            ∙ ap (queue_left c.pid a (queue_entry q) (head_of (message_entry q x))) lefts
+            ∙ ap (λ (o : Option ℤ). record (queue_left c.pid a (queue_entry q) (head_of (message_entry q x))
+            (Goes type_is.lower type_is.higher)) { lowest = o })
+            (sym (lowest_same type_is.lower type_is.higher (first_of (types q.messages))))
+            ∙ sym (queue_other_lowest q lawful c.pid a.moment i x its_taken (sym next_by ∙ none) j at_j);
+        type_left = lefts ∙ ap (λ (o : Option ℕ). left_by o type_is) (sym none);
+      }
+
+-- ---- the decision
+
+module _ (c : Caller) (a : ReceiveArguments) (r : Removal) (room : Roomful) (s : State) (filed : IsFiled s)
+    (known : KnowsRemoval c a r room s) where
+  abbrev queue : Queue
+  queue = known.known.selects.its.queue
+
+  abbrev message : Message
+  message = known.known.selects.message
+
+  abbrev place : ℕ
+  place = position_or_len (selects a.mtype queue.messages) queue.messages
+
+  abbrev whole : Removal
+  whole = record {
+    queue = queue_entry (without_message c.pid a queue);
+    message = head_of (message_entry queue message);
+    type_left = left_by (message_entry queue message).next_of_type (type_entry queue message.mtype);
+  }
+
+  is_whole : whole ≡ r
+  is_whole =
+      let one = sym known.queue in
+      let two = sym known.known.entry in
+      let three = ap (λ (o : Option ℕ). left_by o (type_entry queue message.mtype))
+      (ap (λ (h : MessageHead). h.next_of_type) two) ∙ sym known.type_left in
+      λ l. record { queue = one l; message = two l; type_left = three l }
+
+  abbrev names_held : List LockName
+  names_held = names.Queue a.id ∷ []
+
+  abbrev IsHis : Write → Type 0
+  IsHis w = Contains names_held (guard_of (key_written w))
+
+  held : (n : ℕ) → n ≡ a.id → Contains names_held (names.Queue n)
+  held n same = (0, omega arith, ap names.Queue (sym same))
+
+  messages_his : (o : Option ℕ) (f : ℕ → Write) → ((n : ℕ) → guard_of (key_written (f n)) ≡ names.Queue a.id) →
+      InSlot IsHis (option_map f o)
+  messages_his None f is = tt
+  messages_his (Some n) f is = subst (Contains names_held) (sym (is n)) (held a.id refl)
+
+  types_his : (o : Option ℤ) (f : ℤ → Write) → ((t : ℤ) → guard_of (key_written (f t)) ≡ names.Queue a.id) →
+      InSlot IsHis (option_map f o)
+  types_his None f is = tt
+  types_his (Some t) f is = subst (Contains names_held) (sym (is t)) (held a.id refl)
+
+  own_his : (mtype : ℤ) (left : TypeLeft) → InSlot IsHis (own_by a.id mtype left)
+  own_his mtype (Begins f) = held a.id refl
+  own_his mtype (Goes lower higher) = types_his lower (λ (t : ℤ). Relink (key_of_type a.id t) (to_higher higher)) (λ t. refl)
+
+  higher_his : (left : TypeLeft) → InSlot IsHis (higher_by a.id left)
+  higher_his (Begins f) = tt
+  higher_his (Goes lower higher) = types_his higher (λ (t : ℤ). Relink (key_of_type a.id t) (to_lower lower)) (λ t. refl)
+
+  deletion_his : (mtype : ℤ) (left : TypeLeft) → InSlot IsHis (deletion_by a.id mtype left)
+  deletion_his mtype (Begins f) = tt
+  deletion_his mtype (Goes lower higher) = held a.id refl
+
+  all_his : All (InSlot IsHis) (slots_of a.id whole)
+  all_his = all_seven IsHis (Some (Replace (records.Queue whole.queue))) (previous_write a.id whole)
+      (next_write a.id whole) (own_by a.id message.mtype whole.type_left) (higher_by a.id whole.type_left)
+      (Some (Delete (key_of_message a.id message.serial))) (deletion_by a.id message.mtype whole.type_left)
+      (held queue.id known.known.selects.its.its_id)
+      (messages_his whole.message.previous
+      (λ (serial : ℕ). Relink (key_of_message a.id serial) (to_next whole.message.next)) (λ n. refl))
+      (messages_his whole.message.next
+      (λ (serial : ℕ). Relink (key_of_message a.id serial) (to_previous whole.message.previous)) (λ n. refl))
+      (own_his message.mtype whole.type_left) (higher_his whole.type_left) (held a.id refl)
+      (deletion_his message.mtype whole.type_left)
+
+  answered : IsAnswered c (Receive a) names_held room.bytes s (received whole) (removal_plan a.id whole)
+  answered =
+      let k = known.known in
+      let taken = taken_at a.mtype queue.messages message k.selects.is_selected in
+      let after = with_queue a.id (without_message c.pid a queue) s in
+      let now = on_selected c a known.before s k.selects.its k.selects.may_read
+      ∙ ap (λ (o : Option Message). receive_found o c a s queue) k.selects.is_selected
+      ∙ rw k.fits refl in
+      record {
+        after = after;
+        outcome = now ∙ ap (λ (bytes : List ℕ). Some (
+          answers.Received (record { serial = message.serial; sender = message.sender; mtype = message.mtype; bytes = bytes }),
+          after,
+        )) (sym k.bytes);
+        leads = leads s filed a.id queue k.selects.its.found k.selects.its.its_id c.pid a.moment place message taken;
+        own = record {
+          trials = All-nil _;
+          writes = somes_all IsHis (slots_of a.id whole) all_his;
+        };
+        idle = λ never. absurd never;
+        ordered = record {
+          trials = tt;
+          writes = in_order s filed a.id queue k.selects.its.found k.selects.its.its_id c.pid a.moment place message taken;
+        };
+      }
+
+  pub decides_taken : Decides c (Receive a) names_held room.bytes s (Answers (received r)) (removal_plan a.id r)
+  decides_taken = subst (λ (x : Removal). IsAnswered c (Receive a) names_held room.bytes s (received x) (removal_plan a.id x))
+      is_whole answered

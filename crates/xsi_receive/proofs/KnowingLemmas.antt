@@ -1,17 +1,19 @@
 -- What a Receive knows by what it was told.
-use Rattle.std.proofs.Common.{◌≡◌, ℕ, zero, suc, ◌<◌, ◌≤◌, ℤ, pos, negsuc, ◌≤ℤ◌, ◌<ℤ◌, Bool, true, false, List, [], ◌∷◌, length, Option, Some, None, ◌⊎◌, inl, inr, refl, sym, ap, ◌∙◌, subst, arith}
-use Rattle.std.specs.Prelude.{Result, Ok, Err, int_lt, is_none, nat_abs, nat_lt, not, ◌&&◌, slice_index}
-use Rattle.std.specs.List.{Contains, find, position_or_len, remove}
-use Rattle.std.proofs.lemmas.Int.{ints}
+use Rattle.std.proofs.Common.{◌≡◌, ℕ, zero, suc, ◌<◌, ◌≤◌, ℤ, pos, negsuc, ◌≤ℤ◌, ◌<ℤ◌, Bool, true, false, List, length, Option, Some, None, ◌⊎◌, inl, inr, refl, sym, ap, ◌∙◌, arith}
+use Rattle.std.specs.Prelude.{IsSome, Result, Ok, Err, int_lt, is_none, nat_abs, take, ◌&&◌, slice_index}
+use Rattle.std.specs.List.{Contains, find, position_or_len}
+use Rattle.std.proofs.lemmas.Int.{ints, clamps}
+use Rattle.std.proofs.lemmas.List.{length-take, take_all}
 use Rattle.queue_model.specs.Access.{lacks_access}
 use Rattle.queue_model.specs.declared.call.Call.TheVariants.{Receive}
 use Rattle.queue_model.specs.declared.call.ReceiveArguments.{ReceiveArguments}
 use Rattle.queue_model.specs.declared.caller.Caller.{Caller}
-use Rattle.queue_model.specs.declared.errno.Errno.TheVariants.{E2BIG, ENOMSG}
+use Rattle.queue_model.specs.declared.errno.Errno.TheVariants.{E2BIG, EINVAL, ENOMSG}
+use Rattle.queue_model.specs.declared.errno.Errno.{Errno}
 use Rattle.queue_model.specs.declared.message.Message.{Message}
 use Rattle.queue_model.specs.declared.permissions.Access.TheVariants.{Read}
 use Rattle.queue_model.specs.declared.queue.Queue.{Queue}
-use Rattle.queue_model.specs.Rules.{Outcome, outcome, put_off, receive_found, receive_from, refuse}
+use Rattle.queue_model.specs.Rules.{outcome, put_off, receive_found, receive_from, refuse}
 use Rattle.queue_model.specs.Selection.{selected, selects}
 use Rattle.queue_model.specs.State.{State}
 use Rattle.queue_model.proofs.ListLemmas.{find-Some}
@@ -20,24 +22,36 @@ use Rattle.queue_records.specs.declared.queue_entry.QueueEntry.{QueueEntry}
 use Rattle.queue_records.specs.declared.record.Record.{Record}
 use Rattle.queue_records.specs.declared.record.Record.TheVariants as records
 use Rattle.queue_records.specs.declared.type_entry.TypeEntry.{TypeEntry}
+use Rattle.queue_records.specs.Keys.{key_of_message, key_of_type}
 use Rattle.type_chains.specs.Entries.{message_entry, queue_entry, type_entry}
-use Rattle.type_chains.specs.Lists.{is_of_type, serials_of_type, types}
+use Rattle.type_chains.specs.Lists.{is_of_type}
 use Rattle.type_chains.specs.Reading.{permissions_in}
 use Rattle.type_chains.specs.RecordOf.{record_of}
-use Rattle.xsi_inquiry.specs.Seeking.{IsEntryOf}
+use Rattle.xsi_inquiry.specs.declared.wanted.Wanted.TheVariants.{At}
+use Rattle.xsi_inquiry.specs.Rooms.{Roomful}
+use Rattle.xsi_inquiry.specs.declared.sought.Sought.{Sought}
+use Rattle.xsi_inquiry.specs.declared.sought.Sought.TheVariants as soughts
+use Rattle.xsi_inquiry.specs.Seeking.{IsEntryOf, begun, sought_next}
 use Rattle.xsi_inquiry.specs.Telling.{IsFiled, IsTold}
 use Rattle.xsi_inquiry.proofs.SeekLemmas.{clash}
-use Rattle.xsi_receive.specs.Knowing.{IsSelection}
-use Rattle.xsi_receive.specs.Places.{KnowsFirst, KnowsMessage, KnowsSelection, KnowsType, SelectsBoth, SelectsMessage, SelectsType, is_long}
-use Rattle.xsi_receive.specs.Reading.{alone, key_of_message, key_of_type}
+use Rattle.xsi_receive.specs.declared.head.MessageHead.{MessageHead}
+use Rattle.xsi_receive.specs.Asking.{is_long, put_off_at}
+use Rattle.xsi_receive.specs.Heads.{head_of}
+use Rattle.xsi_receive.specs.Knowing.{HasRoomFor, KnowsAt, KnowsHead, KnowsSerial, SelectsMessage, SelectsType}
 use Rattle.xsi_receive.proofs.FirstOfTypeLemmas.{serials_of_its_type, taken_at}
-use Rattle.xsi_receive.proofs.SelectingLemmas.{first_none, first_some, lowest_stands, none_of, selects_above, selects_below_in, selects_below_none, selects_below_out, stands_of, type_found}
+use Rattle.xsi_receive.proofs.SelectingLemmas.{first_some, lowest_stands, none_of, nothing_selected, selects_above, selects_below_in, selects_below_none, selects_below_out, stands_of, type_found}
 use Rattle.xsi_receive.proofs.StandLemmas.{message_stands, short, type_absent, type_stands, typed}
 
 above_zero : (t : ℤ) → (t ≤ℤ pos 0 → ⊥) → pos 0 <ℤ t
 above_zero (pos zero) never = absurd (never (omega (arith, ints)))
 above_zero (pos (suc n)) never = omega (arith, ints)
 above_zero (negsuc n) never = absurd (never (omega (arith, ints)))
+
+-- where no message is selected
+pub put_off_known : (c : Caller) (a : ReceiveArguments) (room : Roomful) (s : State) (nowait : Bool) →
+    outcome c (Receive a) s ≡ put_off nowait ENOMSG s → KnowsAt c a (put_off_at nowait) room s
+put_off_known c a room s true is = is
+put_off_known c a room s false is = is
 
 -- ---- once the Queue is read
 
@@ -57,9 +71,12 @@ module _ (c : Caller) (a : ReceiveArguments) (e : QueueEntry) (s : State) (its :
       outcome c (Receive a) s ≡ put_off a.nowait ENOMSG s
   puts_off may none = on_selected may ∙ ap (λ (o : Option Message). receive_found o c a s q) none
 
-  module _ (filed : IsFiled s) (may_in : lacks_access Read c (permissions_in e) ≡ false) where
+  module _ (room : Roomful) (filed : IsFiled s) (may_in : lacks_access Read c (permissions_in e) ≡ false) where
     may : lacks_access Read c q.permissions ≡ false
     may = may_read may_in
+
+    waits : selected a.mtype q.messages ≡ None → KnowsAt c a (put_off_at a.nowait) room s
+    waits none = put_off_known c a room s a.nowait (puts_off may none)
 
     pub knows_above : pos 0 <ℤ a.mtype → SelectsType c a e a.mtype s
     knows_above above = record {
@@ -70,10 +87,10 @@ module _ (c : Caller) (a : ReceiveArguments) (e : QueueEntry) (s : State) (its :
       stands = λ below. absurd (omega (arith, ints, above, below));
     }
 
-    pub knows_none : a.mtype <ℤ pos 0 → e.lowest ≡ None → outcome c (Receive a) s ≡ put_off a.nowait ENOMSG s
+    pub knows_none : a.mtype <ℤ pos 0 → e.lowest ≡ None → KnowsAt c a (put_off_at a.nowait) room s
     knows_none below none =
         let lowest = ap (λ (x : QueueEntry). x.lowest) (sym its.entry) ∙ none in
-        puts_off may (selects_below_none a.mtype q.messages below lowest)
+        waits (selects_below_none a.mtype q.messages below lowest)
 
     lowest_is : (u : ℤ) → e.lowest ≡ Some u → (queue_entry q).lowest ≡ Some u
     lowest_is u some = ap (λ (x : QueueEntry). x.lowest) (sym its.entry) ∙ some
@@ -82,8 +99,8 @@ module _ (c : Caller) (a : ReceiveArguments) (e : QueueEntry) (s : State) (its :
     lowest_typed u some = typed s filed a.id q its.found u (lowest_stands q.messages u (lowest_is u some))
 
     pub knows_out : (u : ℤ) → a.mtype <ℤ pos 0 → e.lowest ≡ Some u → nat_abs a.mtype < nat_abs u →
-        outcome c (Receive a) s ≡ put_off a.nowait ENOMSG s
-    knows_out u below some more = puts_off may
+        KnowsAt c a (put_off_at a.nowait) room s
+    knows_out u below some more = waits
         (selects_below_out a.mtype u q.messages below (lowest_is u some) (lowest_typed u some) more)
 
     pub knows_below : (u : ℤ) → a.mtype <ℤ pos 0 → e.lowest ≡ Some u → nat_abs u ≤ nat_abs a.mtype →
@@ -96,12 +113,10 @@ module _ (c : Caller) (a : ReceiveArguments) (e : QueueEntry) (s : State) (its :
       stands = λ _. lowest_stands q.messages u (lowest_is u some);
     }
 
-    pub knows_empty : a.mtype ≡ pos 0 → e.first ≡ None → outcome c (Receive a) s ≡ put_off a.nowait ENOMSG s
-    knows_empty zero_type none =
-        let first = ap (λ (x : QueueEntry). x.first) (sym its.entry) ∙ none in
-        puts_off may (ap (λ (t : ℤ). selected t q.messages) zero_type ∙ first_none q.messages first)
+    pub knows_empty : e.first ≡ None → KnowsAt c a (put_off_at a.nowait) room s
+    knows_empty none = waits (nothing_selected a.mtype q.messages (ap (λ (x : QueueEntry). x.first) (sym its.entry) ∙ none))
 
-    pub knows_first : (serial : ℕ) → a.mtype ≡ pos 0 → e.first ≡ Some serial → KnowsFirst c a e serial s
+    pub knows_first : (serial : ℕ) → a.mtype ≡ pos 0 → e.first ≡ Some serial → KnowsSerial c a e None serial s
     knows_first serial zero_type some =
         let (m, is, same) = first_some q.messages serial (ap (λ (x : QueueEntry). x.first) (sym its.entry) ∙ some) in
         record {
@@ -112,6 +127,7 @@ module _ (c : Caller) (a : ReceiveArguments) (e : QueueEntry) (s : State) (its :
             is_selected = ap (λ (t : ℤ). selected t q.messages) zero_type ∙ is;
           };
           is_its = same;
+          mtype = tt;
         }
 
 -- whether a type above 0 has no Type
@@ -131,11 +147,11 @@ module _ (c : Caller) (a : ReceiveArguments) (e : QueueEntry) (s : State) (filed
     abbrev taken_of : Queue
     taken_of = known.its.queue
 
-    stands : Contains taken_of.messages known.message
+    pub stands : Contains taken_of.messages known.message
     stands = (find-Some (selects a.mtype taken_of.messages) taken_of.messages known.message known.is_selected).1
 
     pub its_message : (serial : ℕ) → serial ≡ known.message.serial → (found : Option Record) →
-        IsTold s (Some (key_of_message a.id serial)) found →
+        IsTold s (Some (At (key_of_message a.id serial))) found →
         found ≡ Some (records.Message (message_entry taken_of known.message))
     its_message serial same found told =
         told (key_of_message a.id serial) refl
@@ -143,7 +159,7 @@ module _ (c : Caller) (a : ReceiveArguments) (e : QueueEntry) (s : State) (filed
         ∙ message_stands s filed a.id taken_of known.its.found known.message stands
 
     pub its_type : (mtype : ℤ) → mtype ≡ known.message.mtype → (found : Option Record) →
-        IsTold s (Some (key_of_type a.id mtype)) found →
+        IsTold s (Some (At (key_of_type a.id mtype))) found →
         found ≡ Some (records.Type (type_entry taken_of known.message.mtype))
     its_type mtype same found told =
         told (key_of_type a.id mtype) refl
@@ -151,7 +167,7 @@ module _ (c : Caller) (a : ReceiveArguments) (e : QueueEntry) (s : State) (filed
         ∙ type_stands s filed a.id taken_of known.its.found known.message.mtype
         (stands_of taken_of.messages known.message stands)
 
-    pub is_short : length (message_entry taken_of known.message).body ≤ 1024
+    pub is_short : length known.message.bytes ≤ 1024
     is_short = short s filed a.id taken_of known.its.found known.message stands
 
     -- a Type names its first message
@@ -167,7 +183,7 @@ module _ (c : Caller) (a : ReceiveArguments) (e : QueueEntry) (s : State) (filed
     queue = known.its.queue
 
     -- the Type tells which message is taken, or none is
-    pub type_told : (found : Option Record) → IsTold s (Some (key_of_type a.id mtype)) found →
+    pub type_told : (found : Option Record) → IsTold s (Some (At (key_of_type a.id mtype))) found →
         ((selects_it : SelectsMessage c a e s)
         × (found ≡ Some (records.Type (type_entry selects_it.its.queue selects_it.message.mtype))))
         ⊎ ((found ≡ None) × (pos 0 <ℤ a.mtype) × (selected a.mtype queue.messages ≡ None))
@@ -201,115 +217,107 @@ module _ (c : Caller) (a : ReceiveArguments) (e : QueueEntry) (s : State) (filed
                   ∙ ap (λ (t : ℤ). Some (records.Type (type_entry queue t))) (sym its.0),
             )
 
-    pub nothing_of_type : (found : Option Record) → IsTold s (Some (key_of_type a.id mtype)) found → found ≡ None →
-        outcome c (Receive a) s ≡ put_off a.nowait ENOMSG s
-    nothing_of_type found told none = elim (type_told found told) [
+    pub nothing_of_type : (room : Roomful) (found : Option Record) →
+        IsTold s (Some (At (key_of_type a.id mtype))) found → found ≡ None →
+        KnowsAt c a (put_off_at a.nowait) room s
+    nothing_of_type room found told none = elim (type_told found told) [
       | inl (it, some) ↦
           let clash : ◌≡◌ {A = Option Record} None (Some (records.Type (type_entry it.its.queue it.message.mtype))) =
           sym none ∙ some in absurd cc
       | inr (absent, above, empty) ↦
-          on_selected c a e s known.its known.may_read
-          ∙ ap (λ (o : Option Message). receive_found o c a s queue) empty
+          put_off_known c a room s a.nowait (on_selected c a e s known.its known.may_read
+          ∙ ap (λ (o : Option Message). receive_found o c a s queue) empty)
     ]
 
--- ---- once the message is read
+-- ---- what is known once each record is told
 
-module _ (c : Caller) (a : ReceiveArguments) (e : QueueEntry) (t : TypeEntry) (m : MessageEntry) (s : State)
-    (known : SelectsBoth c a e t m s) where
-  pub too_long : is_long a m ≡ true → outcome c (Receive a) s ≡ refuse E2BIG s
-  too_long long =
-      let k = known.selects in
-      let its_long = sym (ap (is_long a) known.entry) ∙ long in
-      on_selected c a e s k.its k.may_read
-      ∙ ap (λ (o : Option Message). receive_found o c a s k.its.queue) k.is_selected
-      ∙ rw its_long refl
-
-  pub may_be_given : is_long a m ≡ false → KnowsSelection c a (alone e t m) s
-  may_be_given fits =
-      let k = known.selects in
-      record {
-        is = record {
-          its = k.its;
-          message = k.message;
-          is_selected = k.is_selected;
-          entry = known.entry;
-          mtype = known.mtype;
-          previous = tt;
-          next = tt;
-          lower = tt;
-          higher = tt;
-        };
-        may_read = k.may_read;
-        fits = fits;
-      }
-
--- ---- what each place knows once it is told
-
-module _ (c : Caller) (a : ReceiveArguments) (s : State) (filed : IsFiled s) (found : Option Record) where
-  -- the first message
-  pub first_found : (e : QueueEntry) (serial : ℕ) → KnowsFirst c a e serial s →
-      IsTold s (Some (key_of_message a.id serial)) found → {E : Type 0} → (result : Result MessageEntry E) →
-      ((m : MessageEntry) → found ≡ Some (records.Message m) → length m.body ≤ 1024 → result ≡ Ok m) → (err : E) →
-      result ≡ Err err → ⊥
-  first_found e serial known told result takes err was =
-      let k = known.selects in
-      let is = its_message c a e s filed k serial known.is_its found told in
-      clash result _ (takes (message_entry k.its.queue k.message) is (is_short c a e s filed k)) err was
-
-  pub first_taken : (e : QueueEntry) (serial : ℕ) (m : MessageEntry) → KnowsFirst c a e serial s →
-      IsTold s (Some (key_of_message a.id serial)) found → found ≡ Some (records.Message m) → KnowsMessage c a e m s
-  first_taken e serial m known told is =
-      let k = known.selects in
-      let both = sym is ∙ its_message c a e s filed k serial known.is_its found told in
-      record { selects = k; entry = cc }
-
-  -- the Type of it
-  pub type_of_first_found : (e : QueueEntry) (m : MessageEntry) → KnowsMessage c a e m s →
-      IsTold s (Some (key_of_type a.id m.mtype)) found → {E : Type 0} → (result : Result TypeEntry E) →
-      ((t : TypeEntry) → found ≡ Some (records.Type t) → result ≡ Ok t) → (err : E) → result ≡ Err err → ⊥
-  type_of_first_found e m known told result takes err was =
-      let k = known.selects in
-      let is = its_type c a e s filed k m.mtype (ap (λ (x : MessageEntry). x.mtype) known.entry) found told in
-      clash result _ (takes (type_entry k.its.queue k.message.mtype) is) err was
-
-  pub type_of_first_taken : (e : QueueEntry) (m : MessageEntry) (t : TypeEntry) → KnowsMessage c a e m s →
-      IsTold s (Some (key_of_type a.id m.mtype)) found → found ≡ Some (records.Type t) → SelectsBoth c a e t m s
-  type_of_first_taken e m t known told is =
-      let k = known.selects in
-      let both = sym is ∙ its_type c a e s filed k m.mtype (ap (λ (x : MessageEntry). x.mtype) known.entry) found told in
-      record { selects = k; mtype = cc; entry = known.entry }
-
+module _ (c : Caller) (a : ReceiveArguments) (s : State) (filed : IsFiled s) (found : Option Record) (e : QueueEntry) where
   -- the Type that is sought
-  pub type_is_found : (e : QueueEntry) (mtype : ℤ) → SelectsType c a e mtype s →
-      IsTold s (Some (key_of_type a.id mtype)) found → (found ≡ None → pos 0 <ℤ a.mtype → ⊥) →
+  pub type_is_found : (mtype : ℤ) → SelectsType c a e mtype s →
+      IsTold s (Some (At (key_of_type a.id mtype))) found → (found ≡ None → pos 0 <ℤ a.mtype → ⊥) →
       {E : Type 0} → (result : Result TypeEntry E) →
       ((t : TypeEntry) → found ≡ Some (records.Type t) → result ≡ Ok t) → (err : E) → result ≡ Err err → ⊥
-  type_is_found e mtype known told some result takes err was = elim (type_told c a e s filed mtype known found told) [
+  type_is_found mtype known told some result takes err was = elim (type_told c a e s filed mtype known found told) [
     | inl (it, is) ↦ clash result _ (takes (type_entry it.its.queue it.message.mtype) is) err was
     | inr (none, above, empty) ↦ some none above
   ]
 
-  pub type_is_taken : (e : QueueEntry) (mtype : ℤ) (t : TypeEntry) → SelectsType c a e mtype s →
-      IsTold s (Some (key_of_type a.id mtype)) found → found ≡ Some (records.Type t) → KnowsType c a e t s
-  type_is_taken e mtype t known told is = elim (type_told c a e s filed mtype known found told) [
-    | inl (it, some) ↦ let both = sym is ∙ some in record { selects = it; entry = cc }
+  pub type_is_taken : (mtype : ℤ) (t : TypeEntry) → SelectsType c a e mtype s →
+      IsTold s (Some (At (key_of_type a.id mtype))) found → found ≡ Some (records.Type t) →
+      KnowsSerial c a e (Some t) t.first s
+  type_is_taken mtype t known told is = elim (type_told c a e s filed mtype known found told) [
+    | inl (it, some) ↦
+        let both = sym is ∙ some in
+        let its : t ≡ type_entry it.its.queue it.message.mtype = cc in
+        record { selects = it; is_its = first_is c a e s filed it t its; mtype = its }
     | inr (none, above, empty) ↦
         let both : ◌≡◌ {A = Option Record} (Some (records.Type t)) None = sym is ∙ none in absurd cc
   ]
 
-  -- the first message of that Type
-  pub first_of_type_found : (e : QueueEntry) (t : TypeEntry) → KnowsType c a e t s →
-      IsTold s (Some (key_of_message a.id t.first)) found → {E : Type 0} → (result : Result MessageEntry E) →
-      ((m : MessageEntry) → found ≡ Some (records.Message m) → length m.body ≤ 1024 → result ≡ Ok m) → (err : E) →
-      result ≡ Err err → ⊥
-  first_of_type_found e t known told result takes err was =
-      let k = known.selects in
-      let is = its_message c a e s filed k t.first (first_is c a e s filed k t known.entry) found told in
-      clash result _ (takes (message_entry k.its.queue k.message) is (is_short c a e s filed k)) err was
+  -- the Message that is taken
+  module _ (entry : Option TypeEntry) (serial : ℕ) (known : KnowsSerial c a e entry serial s)
+      (told : IsTold s (Some (At (key_of_message a.id serial))) found) where
+    it : found ≡ Some (records.Message (message_entry known.selects.its.queue known.selects.message))
+    it = its_message c a e s filed known.selects serial known.is_its found told
 
-  pub first_of_type_taken : (e : QueueEntry) (t : TypeEntry) (m : MessageEntry) → KnowsType c a e t s →
-      IsTold s (Some (key_of_message a.id t.first)) found → found ≡ Some (records.Message m) → SelectsBoth c a e t m s
-  first_of_type_taken e t m known told is =
-      let k = known.selects in
-      let both = sym is ∙ its_message c a e s filed k t.first (first_is c a e s filed k t known.entry) found told in
-      record { selects = k; mtype = known.entry; entry = cc }
+    pub message_is_found : {E : Type 0} → (result : Result MessageEntry E) →
+        ((m : MessageEntry) → found ≡ Some (records.Message m) → result ≡ Ok m) → (err : E) → result ≡ Err err → ⊥
+    message_is_found result takes err was =
+        clash result _ (takes (message_entry known.selects.its.queue known.selects.message) it) err was
+
+    pub message_is : (m : MessageEntry) → found ≡ Some (records.Message m) →
+        m ≡ message_entry known.selects.its.queue known.selects.message
+    message_is m is = let both = sym is ∙ it in cc
+
+    pub too_long : (m : MessageEntry) → found ≡ Some (records.Message m) → is_long a m ≡ true →
+        outcome c (Receive a) s ≡ refuse E2BIG s
+    too_long m is long =
+        let k = known.selects in
+        let its_long = sym (ap (is_long a) (message_is m is)) ∙ long in
+        on_selected c a e s k.its k.may_read
+        ∙ ap (λ (o : Option Message). receive_found o c a s k.its.queue) k.is_selected
+        ∙ rw its_long refl
+
+    -- as many of its bytes as are asked for have room
+    bytes_fit : (room : Roomful) → HasRoomFor a room → (bytes : List ℕ) → length bytes ≤ 1024 →
+        take room.most (take a.size bytes) ≡ take a.size bytes
+    bytes_fit room has bytes few =
+        let long = length-take a.size bytes in
+        take_all room.most (take a.size bytes) (grind (arith, clamps, long, few, has))
+
+    pub message_is_taken : (m : MessageEntry) → found ≡ Some (records.Message m) → is_long a m ≡ false →
+        (room : Roomful) → HasRoomFor a room →
+        KnowsHead c a e (head_of m) entry (record room { bytes = take room.most (take a.size m.body) }) s
+    message_is_taken m is fits room has =
+        let k = known.selects in
+        let same = message_is m is in
+        record {
+          selects = k;
+          entry = ap head_of same;
+          mtype = known.mtype;
+          fits = sym (ap (is_long a) same) ∙ fits;
+          bytes = ap (λ (x : MessageEntry). take room.most (take a.size x.body)) same
+              ∙ bytes_fit room has k.message.bytes (is_short c a e s filed k);
+        }
+
+  -- its Type, where it is the last of it
+  module _ (m : MessageHead) (room : Roomful) (known : KnowsHead c a e m None room s)
+      (told : IsTold s (Some (At (key_of_type a.id m.mtype))) found) where
+    its : found ≡ Some (records.Type (type_entry known.selects.its.queue known.selects.message.mtype))
+    its = its_type c a e s filed known.selects m.mtype (ap (λ (h : MessageHead). h.mtype) known.entry) found told
+
+    pub last_type_is_found : {E : Type 0} → (result : Result TypeEntry E) →
+        ((t : TypeEntry) → found ≡ Some (records.Type t) → result ≡ Ok t) → (err : E) → result ≡ Err err → ⊥
+    last_type_is_found result takes err was =
+        clash result _ (takes (type_entry known.selects.its.queue known.selects.message.mtype) its) err was
+
+    pub last_type_is_taken : (t : TypeEntry) → found ≡ Some (records.Type t) → KnowsHead c a e m (Some t) room s
+    last_type_is_taken t is =
+        let both = sym is ∙ its in
+        record { selects = known.selects; entry = known.entry; mtype = cc; fits = known.fits; bytes = known.bytes }
+
+-- before anything is read the queue is sought, or the call is refused
+pub begun_asks : (id : ℕ) (sought : Sought) → sought ≡ begun id → ((errno : Errno) → sought ≡ soughts.Refused errno → ⊥) →
+    IsSome (sought_next id sought)
+begun_asks zero sought is never = absurd (never EINVAL is)
+begun_asks (suc id) sought is never = rw is refl

@@ -1,53 +1,146 @@
--- All writes of a Receive together.
-use Rattle.std.proofs.Common.{◌≡◌, ℕ, zero, suc, ◌-◌, ◌<◌, ◌≤◌, ℤ, Bool, true, false, List, [], ◌∷◌, ◌++◌, length, Option, Some, None, ◌⊎◌, inl, inr, refl, sym, ap, ◌∙◌, subst, get_or, arith}
-use Rattle.std.specs.Prelude.{◌≢◌, ◌==◌, is_some, option_map, slice_get}
-use Rattle.std.specs.List.{All, Contains, find, position_or_len, remove}
+-- The writes of a Receive lead from the records of a system to those of the system after it.
+use Rattle.std.proofs.Common.{◌≡◌, ℕ, zero, suc, ◌<◌, ◌≤◌, ℤ, pos, negsuc, ◌≤ℤ◌, ◌<ℤ◌, Bool, true, false, List, [], ◌∷◌, Option, Some, None, ◌⊎◌, inl, inr, refl, sym, ap, ◌∙◌, subst, get_or, arith}
+use Rattle.std.specs.Prelude.{◌≢◌, ◌==◌, option_map, slice_get}
+use Rattle.std.specs.List.{All, find, remove}
+use Rattle.std.specs.Ordering.{int_eq}
 use Rattle.std.proofs.lemmas.Bool.{cases_lt, eqb-true}
-use Rattle.std.proofs.lemmas.Bool.Decides.{Decides-eqb, nat_tests}
-use Rattle.std.proofs.lemmas.List.Elements.{All-append, All-cons, All-nil}
-use Rattle.std.proofs.lemmas.Option.{slice_get-get_or, slice_get-map}
+use Rattle.std.proofs.lemmas.Bool.Decides.{Decides-eqb, Decides-int_eq}
+use Rattle.std.proofs.lemmas.Int.{ints}
+use Rattle.std.proofs.lemmas.List.Elements.{All-cons, All-nil}
+use Rattle.std.proofs.lemmas.Option.{get_or_from_slice_get, slice_get-map, slice_get_within}
 use Rattle.bucket_page.specs.declared.record_key.RecordKey.{RecordKey}
-use Rattle.queue_model.specs.declared.call.ReceiveArguments.{ReceiveArguments}
+use Rattle.bucket_page.specs.Keys.{is_same}
 use Rattle.queue_model.specs.declared.message.Message.{Message}
 use Rattle.queue_model.specs.declared.queue.Queue.{Queue}
-use Rattle.queue_model.specs.Rules.{has_id, with_queue, without_message}
-use Rattle.queue_model.specs.Selection.{selects, total_bytes}
+use Rattle.queue_model.specs.Lawful.{IsLawfulQueue}
+use Rattle.queue_model.specs.Rules.{has_id, with_queue}
 use Rattle.queue_model.specs.State.{State}
 use Rattle.queue_model.proofs.ListLemmas.{find-Some}
-use Rattle.queue_records.specs.declared.layout.TheConstants.{QUEUE, TYPE, MESSAGE}
 use Rattle.queue_records.specs.declared.message_entry.MessageEntry.{MessageEntry}
-use Rattle.queue_records.specs.declared.queue_entry.QueueEntry.{QueueEntry}
-use Rattle.queue_records.specs.declared.record.Record.{Record}
 use Rattle.queue_records.specs.declared.record.Record.TheVariants as records
 use Rattle.queue_records.specs.declared.type_entry.TypeEntry.{TypeEntry}
+use Rattle.queue_records.specs.Fields.{type_number}
+use Rattle.queue_records.specs.Keys.{key_of_message, key_of_type}
 use Rattle.type_chains.specs.Entries.{message_entry, queue_entry, type_entry}
 use Rattle.type_chains.specs.Lists.{serials, serials_of_type, types}
-use Rattle.type_chains.specs.Neighbours.{before_place, first_of, last_of}
-use Rattle.type_chains.specs.Reading.{key_of_queue}
-use Rattle.type_chains.specs.RecordOf.{has_serial, record_of}
+use Rattle.type_chains.specs.Neighbours.{before_place, first_of}
+use Rattle.type_chains.specs.RecordOf.{has_number, has_serial, message_record, record_of, type_record}
+use Rattle.type_chains.proofs.Limits.{in_range}
+use Rattle.type_chains.proofs.OneQueueChanged.{agree_but}
 use Rattle.type_chains.proofs.Tests.{key_is}
-use Rattle.xsi_inquiry.specs.declared.decision.Trials.TheVariants as trials
+use Rattle.type_chains.proofs.Unique.{types_ascend}
 use Rattle.xsi_inquiry.specs.declared.write.Write.{Write}
-use Rattle.xsi_inquiry.specs.declared.write.Write.TheVariants.{Replace, Delete}
+use Rattle.xsi_inquiry.specs.declared.write.Write.TheVariants.{Replace, Relink, Delete}
+use Rattle.xsi_inquiry.specs.Owning.{Ascend, IsBefore, write_rank}
 use Rattle.xsi_inquiry.specs.Telling.{IsFiled}
-use Rattle.xsi_inquiry.specs.Writing.{Leads}
-use Rattle.xsi_receive.specs.declared.selection.Selection.{Selection}
-use Rattle.xsi_receive.specs.Knowing.{IsSelection}
-use Rattle.xsi_receive.specs.Reading.{first_unread, key_of_message, missing, unread, where_last}
-use Rattle.xsi_receive.specs.Removing.{ends, replaced, where_none, writes_of}
-use Rattle.xsi_receive.proofs.EndLemmas.{IsEnd, kept_end, key_of_number, last_end, last_replaced}
-use Rattle.xsi_receive.proofs.FirstOfTypeLemmas.{IsTakenAt, taken_at}
-use Rattle.xsi_receive.proofs.MessageLemmas.{entry_later, entry_next, entry_previous, entry_sooner, next_is, next_of_type_is, none_at_its_serial, previous_is, same_at_other_serial, without}
-use Rattle.xsi_receive.proofs.PlanLemmas.{place_of, right_message, right_queue, stands_at}
-use Rattle.xsi_receive.proofs.QueueLemmas.{queue_other_lowest, queue_same_lowest}
-use Rattle.xsi_receive.proofs.RecordLemmas.{own_after, own_before, same_at_other_id, same_at_other_kind}
-use Rattle.xsi_receive.proofs.StandLemmas.{fine, message_read, type_read}
-use Rattle.xsi_receive.proofs.TypeLemmas.{higher_is, lower_is}
+use Rattle.xsi_inquiry.specs.Writing.{Leads, key_written, somes}
+use Rattle.xsi_inquiry.proofs.LeadLemmas.{Fills, Misses, leads_by}
+use Rattle.xsi_inquiry.proofs.SlotLemmas.{InSlot, SlotsAscend, somes_all, somes_ascend, somes_each}
+use Rattle.xsi_receive.specs.declared.removal.Removal.{Removal}
+use Rattle.xsi_receive.specs.declared.removal.TypeLeft.{TypeLeft}
+use Rattle.xsi_receive.specs.declared.removal.TypeLeft.TheVariants.{Begins, Goes}
+use Rattle.xsi_receive.specs.Heads.{head_of}
+use Rattle.xsi_receive.specs.Removing.{deletion_by, higher_by, left_by, next_write, own_by, previous_write, removal_plan, slots_of, to_higher, to_lower, to_next, to_previous, type_deletion}
+use Rattle.xsi_receive.proofs.FirstOfTypeLemmas.{IsTakenAt}
+use Rattle.xsi_receive.proofs.FitLemmas.{found_other, higher_fits, lawful_after, lower_fits, message_goes, next_fits, numbered, own_fits, place_of, previous_fits, queue_fits, stands_at, type_goes}
+use Rattle.xsi_receive.proofs.MessageLemmas.{entry_later, entry_sooner, next_is, next_of_type_is, previous_is, same_at_other_serial, without}
+use Rattle.xsi_receive.proofs.StandLemmas.{fine, typed}
+use Rattle.xsi_receive.proofs.TypeLemmas.{entry_stays, higher_is, lower_is, type_later, type_sooner, types_stay}
 use Rattle.xsi_receive.proofs.TypesLemmas.{its_type_stands}
-use Rattle.xsi_receive.proofs.WriteLemmas.{DeletesLast, IsRight, IsUnderWay, IsWritten, is_later, is_sooner, leads_by}
 
-module _ (s : State) (filed : IsFiled s) (id : ℕ) (q : Queue) (found : find (has_id id) s.queues ≡ Some q) (its : q.id ≡ id)
-    (pid moment i : ℕ) (m : Message) (taken : IsTakenAt m q.messages i) where
+-- ---- slots
+
+put : {X : Type 0} (P : X → Type 0) (o : Option X) (os : List (Option X)) → InSlot P o → All (InSlot P) os →
+    All (InSlot P) (o ∷ os)
+put P o os first rest = All-cons (InSlot P) o os first rest
+
+none_in : {X : Type 0} (P : X → Type 0) → All (InSlot P) []
+none_in P = All-nil (InSlot P)
+
+-- what is so of each of seven slots
+pub all_seven : {X : Type 0} (P : X → Type 0) (a b c d e f g : Option X) → InSlot P a → InSlot P b → InSlot P c → InSlot P d →
+    InSlot P e → InSlot P f → InSlot P g → All (InSlot P) (a ∷ b ∷ c ∷ d ∷ e ∷ f ∷ g ∷ [])
+all_seven P a b c d e f g one two three four five six seven =
+    put P a (b ∷ c ∷ d ∷ e ∷ f ∷ g ∷ []) one
+    (put P b (c ∷ d ∷ e ∷ f ∷ g ∷ []) two
+    (put P c (d ∷ e ∷ f ∷ g ∷ []) three
+    (put P d (e ∷ f ∷ g ∷ []) four
+    (put P e (f ∷ g ∷ []) five
+    (put P f (g ∷ []) six
+    (put P g [] seven (none_in P)))))))
+
+-- the slot writes at this key
+abbrev WritesAt : RecordKey → Option Write → Type 0
+WritesAt key None = ⊥
+WritesAt key (Some w) = key_written w ≡ key
+
+itself : (key : RecordKey) → is_same key key ≡ true
+itself key =
+    let one = (Decides-eqb key.kind key.kind).1 refl in
+    let two = (Decides-eqb key.queue key.queue).1 refl in
+    let three = (Decides-eqb key.number key.number).1 refl in
+    rw (one, two, three) refl
+
+missed : (key : RecordKey) (w : Write) → key_written w ≡ key → Misses key w → ⊥
+missed key w same misses =
+    let clash : true ≡ false = sym (itself key) ∙ ap (is_same key) (sym same) ∙ misses in
+    absurd cc
+
+not_at : (key : RecordKey) (o : Option Write) → InSlot (Misses key) o → WritesAt key o → ⊥
+not_at key None misses at = at
+not_at key (Some w) misses at = missed key w at misses
+
+-- ---- ranks
+
+abbrev HasRank : ℕ → Option Write → Type 0
+HasRank rank o = InSlot (λ (w : Write). write_rank w ≡ rank) o
+
+message_rank : (id : ℕ) (o : Option ℕ) (l : ℕ → Write) → ((serial : ℕ) → write_rank (l serial) ≡ 1) →
+    HasRank 1 (option_map l o)
+message_rank id None l is = tt
+message_rank id (Some serial) l is = is serial
+
+type_rank : (o : Option ℤ) (l : ℤ → Write) → ((t : ℤ) → write_rank (l t) ≡ 2) → HasRank 2 (option_map l o)
+type_rank None l is = tt
+type_rank (Some t) l is = is t
+
+own_rank : (id : ℕ) (mtype : ℤ) (left : TypeLeft) → HasRank 2 (own_by id mtype left)
+own_rank id mtype (Begins first) = refl
+own_rank id mtype (Goes lower higher) = type_rank lower _ (λ t. refl)
+
+higher_rank : (id : ℕ) (left : TypeLeft) → HasRank 2 (higher_by id left)
+higher_rank id (Begins first) = tt
+higher_rank id (Goes lower higher) = type_rank higher _ (λ t. refl)
+
+deletion_rank : (id : ℕ) (mtype : ℤ) (left : TypeLeft) → HasRank 4 (deletion_by id mtype left)
+deletion_rank id mtype (Begins first) = tt
+deletion_rank id mtype (Goes lower higher) = refl
+
+-- a lower rank comes first
+before : (w : Write) (rank more : ℕ) (o : Option Write) → write_rank w ≡ rank → HasRank more o → rank < more →
+    InSlot (IsBefore w) o
+before w rank more None is has less = tt
+before w rank more (Some v) is has less = inl (omega (arith, is, has, less))
+
+-- so is each of the slots where it is so of what stands there
+each : (o : Option Write) (os : List (Option Write)) → ((w : Write) → o ≡ Some w → All (InSlot (IsBefore w)) os) →
+    InSlot (λ (w : Write). All (InSlot (IsBefore w)) os) o
+each None os is = tt
+each (Some w) os is = is w refl
+
+of_rank : (o : Option Write) (rank : ℕ) (w : Write) → HasRank rank o → o ≡ Some w → write_rank w ≡ rank
+of_rank None rank w has is = absurd cc
+of_rank (Some v) rank w has is = let same : v ≡ w = cc in sym (ap write_rank same) ∙ has
+
+-- ---- types by their numbers
+
+numbers_ascend : (t u : ℤ) → pos 1 ≤ℤ t → t <ℤ u → type_number t < type_number u
+numbers_ascend (pos m) (pos k) one less = omega (arith, ints, less)
+numbers_ascend (pos m) (negsuc k) one less = absurd (omega (arith, ints, less))
+numbers_ascend (negsuc m) u one less = absurd (omega (arith, ints, one))
+
+module _ (s : State) (filed : IsFiled s) (id : ℕ) (q : Queue) (found : find (has_id id) s.queues ≡ Some q)
+    (its : q.id ≡ id) (pid moment i : ℕ) (m : Message) (taken : IsTakenAt m q.messages i) where
   abbrev new : Queue
   new = without pid moment i q
 
@@ -55,206 +148,462 @@ module _ (s : State) (filed : IsFiled s) (id : ℕ) (q : Queue) (found : find (h
   after = with_queue id new s
 
   abbrev Right : Write → Type 0
-  Right = IsRight (record_of s) (record_of after)
+  Right w = Fills (record_of s) (record_of after) w
 
   abbrev entry : MessageEntry
   entry = message_entry q m
 
-  -- ---- the Messages beside it
+  abbrev own : TypeEntry
+  own = type_entry q m.mtype
 
-  abbrev previous_write : Option Message → Option Record
-  previous_write o = option_map (λ (p : MessageEntry). records.Message (record p { next = entry.next }))
-      (option_map (message_entry q) o)
+  abbrev left : TypeLeft
+  left = left_by entry.next_of_type own
 
-  abbrev next_write : Option Message → Option Record
-  next_write o = option_map (λ (n : MessageEntry). records.Message (record n { previous = entry.previous }))
-      (option_map (message_entry q) o)
+  abbrev removal : Removal
+  removal = record { queue = queue_entry new; message = head_of entry; type_left = left }
 
-  abbrev previous_writes : List Write
-  previous_writes = replaced (previous_write (before_place q.messages i))
+  abbrev slots : List (Option Write)
+  slots = slots_of id removal
 
-  abbrev next_writes : List Write
-  next_writes = replaced (next_write (slice_get q.messages (suc i)))
+  lawful_queue : IsLawfulQueue q
+  lawful_queue = fine s filed id q found
 
-  previous_right : (l : ℕ) (o : Option Message) → l ≡ i → before_place q.messages l ≡ o →
-      All Right (replaced (previous_write o))
-  previous_right l None here is = All-nil Right
-  previous_right zero (Some n) here is = absurd cc
-  previous_right (suc k) (Some n) here is =
-      All-cons Right (Replace (records.Message (record (message_entry q n) { next = entry.next }))) []
-      (subst (λ (x : MessageEntry). Right (Replace (records.Message x)))
-      (entry_previous q (fine s filed id q found) pid moment i m taken k n is here)
-      (right_message s filed id q found its pid moment i m taken k n is (omega (arith, here)))) (All-nil Right)
+  -- ---- each write fits
 
-  next_right : (o : Option Message) → slice_get q.messages (suc i) ≡ o → All Right (replaced (next_write o))
-  next_right None is = All-nil Right
-  next_right (Some n) is =
-      All-cons Right (Replace (records.Message (record (message_entry q n) { previous = entry.previous }))) []
-      (subst (λ (x : MessageEntry). Right (Replace (records.Message x)))
-      (entry_next q (fine s filed id q found) pid moment i m taken i n is refl)
-      (right_message s filed id q found its pid moment i m taken (suc i) n is (omega arith))) (All-nil Right)
+  previous_slot : InSlot Right (previous_write id removal)
+  previous_slot = previous_fits s filed id q found its pid moment i m taken i refl entry.previous
+      (sym (previous_is q lawful_queue pid moment i m taken))
 
-  -- ---- all writes
+  next_slot : InSlot Right (next_write id removal)
+  next_slot = next_fits s filed id q found its pid moment i m taken entry.next
+      (sym (next_is q lawful_queue pid moment i m taken))
 
-  module _ (ends : List Write) (are_ends : IsEnd s after id m.serial ends) where
-    abbrev all_writes : List Write
-    all_writes = Replace (records.Queue (queue_entry new)) ∷ (previous_writes ++ (next_writes ++ ends))
+  next_by : entry.next_of_type ≡ first_of (serials_of_type m.mtype (remove q.messages i))
+  next_by = next_of_type_is q lawful_queue pid moment i m taken
 
-    all_right : All Right all_writes
-    all_right = All-cons Right (Replace (records.Queue (queue_entry new))) (previous_writes ++ (next_writes ++ ends))
-        (right_queue s filed id q found its pid moment i m taken)
-        (All-append Right previous_writes (next_writes ++ ends)
-        (previous_right i (before_place q.messages i) refl refl)
-        (All-append Right next_writes ends (next_right (slice_get q.messages (suc i)) refl) are_ends.right))
+  its_place : (j : ℕ) × (slice_get (types q.messages) j ≡ Some m.mtype)
+  its_place = place_of (types q.messages) m.mtype (its_type_stands q.messages i m taken)
 
-    deletes_last : DeletesLast all_writes
-    deletes_last = last_replaced (previous_write (before_place q.messages i)) (next_writes ++ ends)
-        (last_replaced (next_write (slice_get q.messages (suc i))) ends are_ends.last)
+  -- those of Types
+  record TypeSlots (t : TypeLeft) : Type 0 where
+    first : InSlot Right (own_by id m.mtype t)
+    second : InSlot Right (higher_by id t)
+    last : InSlot Right (deletion_by id m.mtype t)
 
-    abbrev IsOn : RecordKey → Type 0
-    IsOn key = (record_of s key ≡ record_of after key) ⊎ IsWritten key all_writes
+  type_slots : (o : Option ℕ) → entry.next_of_type ≡ o → TypeSlots (left_by o own)
+  type_slots (Some f) is = record {
+    first = own_fits s filed id q found its pid moment i m taken f (sym next_by ∙ is);
+    second = tt;
+    last = tt;
+  }
+  type_slots None is =
+      let (j, at_j) = its_place in
+      let none = sym next_by ∙ is in
+      record {
+        first = lower_fits s filed id q found its pid moment i m taken none j at_j j refl own.lower
+            (sym (lower_is q pid moment i m taken none j at_j));
+        second = higher_fits s filed id q found its pid moment i m taken none j at_j own.higher
+            (sym (higher_is q pid moment i m taken none j at_j));
+        last = type_goes s filed id q found its pid moment i m taken none j at_j;
+      }
 
-    at_end : (key : RecordKey) → IsWritten key ends → IsWritten key all_writes
-    at_end key there = inr (is_later key previous_writes (next_writes ++ ends) (is_later key next_writes ends there))
+  all_right : All (InSlot Right) slots
+  all_right =
+      let of_types = type_slots entry.next_of_type refl in
+      all_seven Right (Some (Replace (records.Queue (queue_entry new)))) (previous_write id removal)
+      (next_write id removal) (own_by id m.mtype left) (higher_by id left)
+      (Some (Delete (key_of_message id m.serial))) (type_deletion id removal)
+      (queue_fits s filed id q found its pid moment i m taken) previous_slot next_slot of_types.first of_types.second
+      (message_goes s filed id q found its pid moment i m taken) of_types.last
 
-    written_previous : (k : ℕ) (x : Message) (n : ℕ) → slice_get q.messages k ≡ Some x → suc k ≡ i → x.serial ≡ n →
-        IsWritten (key_of_message id n) all_writes
-    written_previous k x n at here number =
-        inr (is_sooner (key_of_message id n) previous_writes (next_writes ++ ends)
-        (subst (λ (o : Option Message). IsWritten (key_of_message id n) (replaced (previous_write o)))
-        (sym (ap (before_place q.messages) (sym here) ∙ at))
-        (inl (ap (λ (y : ℕ). key_of_message y x.serial) its ∙ ap (λ (y : ℕ). key_of_message id y) number))))
+  -- ---- in order
 
-    written_next : (x : Message) (n : ℕ) → slice_get q.messages (suc i) ≡ Some x → x.serial ≡ n →
-        IsWritten (key_of_message id n) all_writes
-    written_next x n at number =
-        inr (is_later (key_of_message id n) previous_writes (next_writes ++ ends)
-        (is_sooner (key_of_message id n) next_writes ends
-        (subst (λ (o : Option Message). IsWritten (key_of_message id n) (replaced (next_write o))) (sym at)
-        (inl (ap (λ (y : ℕ). key_of_message y x.serial) its ∙ ap (λ (y : ℕ). key_of_message id y) number)))))
+  -- the message before it has a lower serial than the one behind it
+  serials_order : (place : ℕ) → place ≡ i → (p n : ℕ) → before_place (serials q.messages) place ≡ Some p →
+      slice_get (serials q.messages) (suc i) ≡ Some n → p < n
+  serials_order zero here p n sooner later = absurd cc
+  serials_order (suc k) here p n sooner later =
+      let (x, at_x, is_x) = numbered q.messages k p sooner in
+      let (y, at_y, is_y) = numbered q.messages (suc i) n later in
+      let within = slice_get_within q.messages (suc i) y at_y in
+      let less = lawful_queue.serials_ascend k (suc i) x (omega (arith, here)) within in
+      let one = ap (λ (z : Message). z.serial) (get_or_from_slice_get q.messages k x x at_x) in
+      let two = ap (λ (z : Message). z.serial) (get_or_from_slice_get q.messages (suc i) y x at_y) in
+      omega (arith, less, one, two, is_x, is_y)
 
-    -- ---- at the keys of Messages
+  messages_order : (w : Write) → previous_write id removal ≡ Some w → InSlot (IsBefore w) (next_write id removal)
+  messages_order w is = by entry.previous entry.next refl refl is
+    where
+      by : (p n : Option ℕ) → entry.previous ≡ p → entry.next ≡ n →
+          option_map (λ (serial : ℕ). Relink (key_of_message id serial) (to_next entry.next)) p ≡ Some w →
+          InSlot (IsBefore w)
+          (option_map (λ (serial : ℕ). Relink (key_of_message id serial) (to_previous entry.previous)) n)
+      by None n was now none = absurd cc
+      by (Some p) None was now some = tt
+      by (Some p) (Some n) was now some =
+          let order = serials_order i refl p n (sym (previous_is q lawful_queue pid moment i m taken) ∙ was)
+          (sym (next_is q lawful_queue pid moment i m taken) ∙ now) in
+          let same : Relink (key_of_message id p) (to_next entry.next) ≡ w = cc in
+          subst (λ (v : Write). IsBefore v (Relink (key_of_message id n) (to_previous entry.previous))) same
+          (inr (refl, order))
 
-    same_at : (n : ℕ) (o : Option Message) → m.serial ≢ n → find (has_serial n) q.messages ≡ o →
-        option_map (λ (x : Message). records.Message (message_entry q x)) o
-        ≡ option_map (λ (x : Message). records.Message (message_entry new x)) o →
-        record_of s (key_of_message id n) ≡ record_of after (key_of_message id n)
-    same_at n o apart was same =
-        let now = same_at_other_serial q (fine s filed id q found) pid moment i m taken n apart ∙ was in
-        own_before s id q new found its refl refl (key_of_message id n) refl refl refl
-        ∙ ap (option_map (λ (x : Message). records.Message (message_entry q x))) was
-        ∙ same
-        ∙ sym (ap (option_map (λ (x : Message). records.Message (message_entry new x))) now)
-        ∙ sym (own_after s id q new found its refl refl (key_of_message id n) refl refl refl)
+  types_order : (j : ℕ) → slice_get (types q.messages) j ≡ Some m.mtype → (place : ℕ) → place ≡ j → (t u : ℤ) →
+      before_place (types q.messages) place ≡ Some t → slice_get (types q.messages) (suc j) ≡ Some u →
+      type_number t < type_number u
+  types_order j at_j zero here t u lower higher = absurd cc
+  types_order j at_j (suc k) here t u lower higher =
+      let within = slice_get_within (types q.messages) (suc j) u higher in
+      let less = types_ascend q.messages k (suc j) t (omega (arith, here)) within in
+      let one = get_or_from_slice_get (types q.messages) k t t lower in
+      let two = get_or_from_slice_get (types q.messages) (suc j) u t higher in
+      let ascends = subst (λ (x : ℤ). x <ℤ u) one (subst (λ (x : ℤ). get_or (types q.messages) k t <ℤ x) two less) in
+      numbers_ascend t u (typed s filed id q found t (stands_at (types q.messages) k t lower)) ascends
 
-    stays_at : (n : ℕ) (x : Message) → m.serial ≢ n → find (has_serial n) q.messages ≡ Some x →
-        message_entry new x ≡ message_entry q x → IsOn (key_of_message id n)
-    stays_at n x apart was same =
-        inl (same_at n (Some x) apart was (ap (λ (e : MessageEntry). Some (records.Message e)) (sym same)))
+  types_in_order : (o : Option ℕ) → entry.next_of_type ≡ o → (w : Write) → own_by id m.mtype (left_by o own) ≡ Some w →
+      InSlot (IsBefore w) (higher_by id (left_by o own))
+  types_in_order (Some f) is w some = tt
+  types_in_order None is w some = by own.lower own.higher refl refl some
+    where
+      by : (l h : Option ℤ) → own.lower ≡ l → own.higher ≡ h →
+          option_map (λ (t : ℤ). Relink (key_of_type id t) (to_higher own.higher)) l ≡ Some w →
+          InSlot (IsBefore w) (option_map (λ (t : ℤ). Relink (key_of_type id t) (to_lower own.lower)) h)
+      by None h was now none = absurd cc
+      by (Some l) None was now some = tt
+      by (Some l) (Some h) was now some =
+          let (j, at_j) = its_place in
+          let none = sym next_by ∙ is in
+          let order = types_order j at_j j refl l h (sym (lower_is q pid moment i m taken none j at_j) ∙ was)
+          (sym (higher_is q pid moment i m taken none j at_j) ∙ now) in
+          let same : Relink (key_of_type id l) (to_higher own.higher) ≡ w = cc in
+          subst (λ (v : Write). IsBefore v (Relink (key_of_type id h) (to_lower own.lower))) same
+          (inr (refl, order))
 
-    other_at : (n k : ℕ) (x : Message) → m.serial ≢ n → find (has_serial n) q.messages ≡ Some x →
-        slice_get q.messages k ≡ Some x → k ≢ i → IsOn (key_of_message id n)
-    other_at n k x apart was at other = elim (cases_lt k i) [
-      | inl below ↦ elim (cases_lt (suc k) i) [
-        | inl far ↦ stays_at n x apart was
-            (entry_sooner q (fine s filed id q found) pid moment i m taken k x at far)
-        | inr near ↦ inr (written_previous k x n at (omega (arith, below, near)) number)
+  abbrev queue_write : Write
+  queue_write = Replace (records.Queue (queue_entry new))
+
+  abbrev message_deletion : Write
+  message_deletion = Delete (key_of_message id m.serial)
+
+  abbrev deletions : List (Option Write)
+  deletions = Some message_deletion ∷ type_deletion id removal ∷ []
+
+  abbrev from_own : List (Option Write)
+  from_own = own_by id m.mtype left ∷ higher_by id left ∷ deletions
+
+  previous_rank : HasRank 1 (previous_write id removal)
+  previous_rank = message_rank id entry.previous
+      (λ (serial : ℕ). Relink (key_of_message id serial) (to_next entry.next)) (λ serial. refl)
+
+  next_rank : HasRank 1 (next_write id removal)
+  next_rank = message_rank id entry.next
+      (λ (serial : ℕ). Relink (key_of_message id serial) (to_previous entry.previous)) (λ serial. refl)
+
+  before_deletions : (w : Write) (rank : ℕ) → write_rank w ≡ rank → rank < 3 → All (InSlot (IsBefore w)) deletions
+  before_deletions w rank is less =
+      put (IsBefore w) (Some message_deletion) (type_deletion id removal ∷ [])
+      (before w rank 3 (Some message_deletion) is refl less)
+      (put (IsBefore w) (type_deletion id removal) []
+      (before w rank 4 (type_deletion id removal) is (deletion_rank id m.mtype left) (omega (arith, less)))
+      (none_in (IsBefore w)))
+
+  before_types : (w : Write) (rank : ℕ) → write_rank w ≡ rank → rank < 2 → All (InSlot (IsBefore w)) from_own
+  before_types w rank is less =
+      put (IsBefore w) (own_by id m.mtype left) (higher_by id left ∷ deletions)
+      (before w rank 2 (own_by id m.mtype left) is (own_rank id m.mtype left) less)
+      (put (IsBefore w) (higher_by id left) deletions
+      (before w rank 2 (higher_by id left) is (higher_rank id left) less)
+      (before_deletions w rank is (omega (arith, less))))
+
+  queue_first : All (InSlot (IsBefore queue_write)) (previous_write id removal ∷ next_write id removal ∷ from_own)
+  queue_first =
+      put (IsBefore queue_write) (previous_write id removal) (next_write id removal ∷ from_own)
+      (before queue_write 0 1 (previous_write id removal) refl previous_rank (omega arith))
+      (put (IsBefore queue_write) (next_write id removal) from_own
+      (before queue_write 0 1 (next_write id removal) refl next_rank (omega arith))
+      (before_types queue_write 0 refl (omega arith)))
+
+  previous_first : (w : Write) → previous_write id removal ≡ Some w →
+      All (InSlot (IsBefore w)) (next_write id removal ∷ from_own)
+  previous_first w is =
+      put (IsBefore w) (next_write id removal) from_own (messages_order w is)
+      (before_types w 1 (of_rank (previous_write id removal) 1 w previous_rank is) (omega arith))
+
+  next_first : (w : Write) → next_write id removal ≡ Some w → All (InSlot (IsBefore w)) from_own
+  next_first w is = before_types w 1 (of_rank (next_write id removal) 1 w next_rank is) (omega arith)
+
+  own_first : (w : Write) → own_by id m.mtype left ≡ Some w → All (InSlot (IsBefore w)) (higher_by id left ∷ deletions)
+  own_first w is =
+      put (IsBefore w) (higher_by id left) deletions (types_in_order entry.next_of_type refl w is)
+      (before_deletions w 2 (of_rank (own_by id m.mtype left) 2 w (own_rank id m.mtype left) is) (omega arith))
+
+  higher_first : (w : Write) → higher_by id left ≡ Some w → All (InSlot (IsBefore w)) deletions
+  higher_first w is =
+      before_deletions w 2 (of_rank (higher_by id left) 2 w (higher_rank id left) is) (omega arith)
+
+  gone_first : All (InSlot (IsBefore message_deletion)) (type_deletion id removal ∷ [])
+  gone_first =
+      put (IsBefore message_deletion) (type_deletion id removal) []
+      (before message_deletion 3 4 (type_deletion id removal) refl (deletion_rank id m.mtype left) (omega arith))
+      (none_in (IsBefore message_deletion))
+
+  ascend : SlotsAscend slots
+  ascend = (
+    queue_first,
+    (
+      each (previous_write id removal) (next_write id removal ∷ from_own) previous_first,
+      (
+        each (next_write id removal) from_own next_first,
+        (
+          each (own_by id m.mtype left) (higher_by id left ∷ deletions) own_first,
+          (
+            each (higher_by id left) deletions higher_first,
+            (gone_first, (each (type_deletion id removal) [] (λ w is. none_in (IsBefore w)), tt)),
+          ),
+        ),
+      ),
+    ),
+  )
+
+  -- ---- at all other keys the records stay
+
+  abbrev MessageStays : ℕ → Type 0
+  MessageStays n = (message_record n q ≡ message_record n new)
+      ⊎ WritesAt (key_of_message id n) (previous_write id removal)
+      ⊎ WritesAt (key_of_message id n) (next_write id removal)
+      ⊎ (m.serial ≡ n)
+
+  same_message : (n : ℕ) (o : Option Message) → m.serial ≢ n → find (has_serial n) q.messages ≡ o →
+      option_map (λ (x : Message). records.Message (message_entry q x)) o
+      ≡ option_map (λ (x : Message). records.Message (message_entry new x)) o →
+      message_record n q ≡ message_record n new
+  same_message n o apart was same =
+      let now = same_at_other_serial q lawful_queue pid moment i m taken n apart ∙ was in
+      ap (option_map (λ (x : Message). records.Message (message_entry q x))) was
+      ∙ same
+      ∙ sym (ap (option_map (λ (x : Message). records.Message (message_entry new x))) now)
+
+  kept_message : (n : ℕ) (x : Message) → m.serial ≢ n → find (has_serial n) q.messages ≡ Some x →
+      message_entry new x ≡ message_entry q x → MessageStays n
+  kept_message n x apart was same =
+      inl (same_message n (Some x) apart was (ap (λ (e : MessageEntry). Some (records.Message e)) (sym same)))
+
+  previous_at : (place : ℕ) → place ≡ i → (x : Message) (n : ℕ) → before_place q.messages place ≡ Some x → x.serial ≡ n →
+      WritesAt (key_of_message id n) (previous_write id removal)
+  previous_at zero here x n at number = absurd cc
+  previous_at (suc k) here x n at number =
+      let link : entry.previous ≡ Some x.serial = previous_is q lawful_queue pid moment i m taken
+      ∙ ap (before_place (serials q.messages)) (sym here)
+      ∙ slice_get-map (λ (y : Message). y.serial) q.messages k ∙ ap (option_map (λ (y : Message). y.serial)) at in
+      subst (λ (o : Option ℕ). WritesAt (key_of_message id n)
+      (option_map (λ (serial : ℕ). Relink (key_of_message id serial) (to_next entry.next)) o)) (sym link)
+      (ap (key_of_message id) number)
+
+  next_at : (x : Message) (n : ℕ) → slice_get q.messages (suc i) ≡ Some x → x.serial ≡ n →
+      WritesAt (key_of_message id n) (next_write id removal)
+  next_at x n at number =
+      let link : entry.next ≡ Some x.serial = next_is q lawful_queue pid moment i m taken
+      ∙ slice_get-map (λ (y : Message). y.serial) q.messages (suc i)
+      ∙ ap (option_map (λ (y : Message). y.serial)) at in
+      subst (λ (o : Option ℕ). WritesAt (key_of_message id n)
+      (option_map (λ (serial : ℕ). Relink (key_of_message id serial) (to_previous entry.previous)) o)) (sym link)
+      (ap (key_of_message id) number)
+
+  other_message : (n k : ℕ) (x : Message) → m.serial ≢ n → find (has_serial n) q.messages ≡ Some x →
+      slice_get q.messages k ≡ Some x → k ≢ i → MessageStays n
+  other_message n k x apart was at other = elim (cases_lt k i) [
+    | inl below ↦ elim (cases_lt (suc k) i) [
+      | inl far ↦ kept_message n x apart was (entry_sooner q lawful_queue pid moment i m taken k x at far)
+      | inr near ↦ inr (inl (previous_at (suc k) (omega (arith, below, near)) x n at number))
+    ]
+    | inr above ↦ past k at other above
+  ]
+    where
+      number : x.serial ≡ n
+      number = eqb-true x.serial n (find-Some (has_serial n) q.messages x was).0
+
+      past : (k : ℕ) → slice_get q.messages k ≡ Some x → k ≢ i → i ≤ k → MessageStays n
+      past zero at other above = absurd (omega (arith, other, above))
+      past (suc k) at other above = elim (cases_lt i k) [
+        | inl far ↦ kept_message n x apart was (entry_later q lawful_queue pid moment i m taken k x at far)
+        | inr near ↦
+            let here : k ≡ i = omega (arith, near, other, above) in
+            inr (inr (inl (next_at x n (ap (λ (y : ℕ). slice_get q.messages (suc y)) (sym here) ∙ at) number)))
+      ]
+
+  at_messages : (n : ℕ) → MessageStays n
+  at_messages n = by (m.serial == n) refl
+    where
+      among : (o : Option Message) → m.serial ≢ n → find (has_serial n) q.messages ≡ o → MessageStays n
+      among None apart was = inl (same_message n None apart was refl)
+      among (Some x) apart was =
+          let passes = find-Some (has_serial n) q.messages x was in
+          let (k, at) = place_of q.messages x passes.1 in
+          let number = eqb-true x.serial n passes.0 in
+          other_message n k x apart was at (λ same.
+          let two : ◌≡◌ {A = Option Message} (Some x) (Some m) = sym at
+          ∙ ap (slice_get q.messages) same ∙ taken.at in
+          let one : x ≡ m = cc in
+          apart (ap (λ (y : Message). y.serial) (sym one) ∙ number))
+
+      by : (b : Bool) → (m.serial == n) ≡ b → MessageStays n
+      by true e = inr (inr (inr (eqb-true m.serial n e)))
+      by false e =
+          let apart : m.serial ≢ n = λ same. let clash : true ≡ false = sym ((Decides-eqb m.serial n).1 same) ∙ e in absurd cc in
+          among (find (has_serial n) q.messages) apart refl
+
+  -- the key of the Type of a number
+  abbrev key_of_number : ℕ → RecordKey
+  key_of_number number = record { kind = 4; queue = id; number = number }
+
+  abbrev TypeStays : ℕ → TypeLeft → Type 0
+  TypeStays n t = (type_record n q ≡ type_record n new)
+      ⊎ WritesAt (key_of_number n) (own_by id m.mtype t)
+      ⊎ WritesAt (key_of_number n) (higher_by id t)
+      ⊎ WritesAt (key_of_number n) (deletion_by id m.mtype t)
+
+  same_type : (n : ℕ) (o : Option ℤ) → find (has_number n) (types q.messages) ≡ o →
+      find (has_number n) (types new.messages) ≡ o →
+      option_map (λ (t : ℤ). records.Type (type_entry q t)) o
+      ≡ option_map (λ (t : ℤ). records.Type (type_entry new t)) o → type_record n q ≡ type_record n new
+  same_type n o was now same =
+      ap (option_map (λ (t : ℤ). records.Type (type_entry q t))) was
+      ∙ same
+      ∙ sym (ap (option_map (λ (t : ℤ). records.Type (type_entry new t))) now)
+
+  -- a message of its type is left
+  begins_at : (f : ℕ) → first_of (serials_of_type m.mtype (remove q.messages i)) ≡ Some f → (n : ℕ) (o : Option ℤ) →
+      find (has_number n) (types q.messages) ≡ o → TypeStays n (Begins f)
+  begins_at f first n None was =
+      inl (same_type n None was (ap (find (has_number n)) (types_stay q pid moment i m taken f first) ∙ was) refl)
+  begins_at f first n (Some t) was = by (int_eq m.mtype t) refl
+    where
+      number : type_number t ≡ n
+      number = eqb-true (type_number t) n (find-Some (has_number n) (types q.messages) t was).0
+
+      by : (b : Bool) → int_eq m.mtype t ≡ b → TypeStays n (Begins f)
+      by true e =
+          let same = (Decides-int_eq m.mtype t).0 e in
+          inr (inl (ap key_of_number (ap type_number same ∙ number)))
+      by false e =
+          let other : m.mtype ≢ t = λ same. let clash : true ≡ false = sym ((Decides-int_eq m.mtype t).1 same) ∙ e in absurd cc in
+          inl (same_type n (Some t) was
+          (ap (find (has_number n)) (types_stay q pid moment i m taken f first) ∙ was)
+          (ap (λ (x : TypeEntry). Some (records.Type x)) (sym (entry_stays q pid moment i m taken f first t other))))
+
+  -- it was the last of its type
+  module _ (none : first_of (serials_of_type m.mtype (remove q.messages i)) ≡ None) (j : ℕ)
+      (at_j : slice_get (types q.messages) j ≡ Some m.mtype) where
+    abbrev GoesAt : ℕ → Type 0
+    GoesAt n = TypeStays n (Goes own.lower own.higher)
+
+    kept_type : (n : ℕ) (t : ℤ) → (type_number m.mtype == n) ≡ false → find (has_number n) (types q.messages) ≡ Some t →
+        type_entry new t ≡ type_entry q t → GoesAt n
+    kept_type n t over was same = inl (same_type n (Some t) was
+        (found_other s filed id q found its pid moment i m taken none j at_j n over ∙ was)
+        (ap (λ (x : TypeEntry). Some (records.Type x)) (sym same)))
+
+    lower_at : (place : ℕ) → place ≡ j → (t : ℤ) (n : ℕ) → before_place (types q.messages) place ≡ Some t →
+        type_number t ≡ n → WritesAt (key_of_number n) (own_by id m.mtype (Goes own.lower own.higher))
+    lower_at place here t n at number =
+        let link = lower_is q pid moment i m taken none j at_j ∙ ap (before_place (types q.messages)) (sym here) ∙ at in
+        subst (λ (o : Option ℤ). WritesAt (key_of_number n)
+        (option_map (λ (t : ℤ). Relink (key_of_type id t) (to_higher own.higher)) o)) (sym link)
+        (ap key_of_number number)
+
+    higher_at : (t : ℤ) (n : ℕ) → slice_get (types q.messages) (suc j) ≡ Some t → type_number t ≡ n →
+        WritesAt (key_of_number n) (higher_by id (Goes own.lower own.higher))
+    higher_at t n at number =
+        let link = higher_is q pid moment i m taken none j at_j ∙ at in
+        subst (λ (o : Option ℤ). WritesAt (key_of_number n)
+        (option_map (λ (t : ℤ). Relink (key_of_type id t) (to_lower own.lower)) o)) (sym link)
+        (ap key_of_number number)
+
+    other_type : (n k : ℕ) (t : ℤ) → (type_number m.mtype == n) ≡ false → find (has_number n) (types q.messages) ≡ Some t →
+        slice_get (types q.messages) k ≡ Some t → k ≢ j → GoesAt n
+    other_type n k t over was at other = elim (cases_lt k j) [
+      | inl below ↦ elim (cases_lt (suc k) j) [
+        | inl far ↦ kept_type n t over was (type_sooner q pid moment i m taken none j at_j k t at far)
+        | inr near ↦ inr (inl (lower_at (suc k) (omega (arith, below, near)) t n at number))
       ]
       | inr above ↦ past k at other above
     ]
       where
-        number : x.serial ≡ n
-        number = eqb-true x.serial n (find-Some (has_serial n) q.messages x was).0
+        number : type_number t ≡ n
+        number = eqb-true (type_number t) n (find-Some (has_number n) (types q.messages) t was).0
 
-        past : (k : ℕ) → slice_get q.messages k ≡ Some x → k ≢ i → i ≤ k → IsOn (key_of_message id n)
+        past : (k : ℕ) → slice_get (types q.messages) k ≡ Some t → k ≢ j → j ≤ k → GoesAt n
         past zero at other above = absurd (omega (arith, other, above))
-        past (suc k) at other above = elim (cases_lt i k) [
-          | inl far ↦ stays_at n x apart was
-              (entry_later q (fine s filed id q found) pid moment i m taken k x at far)
+        past (suc k) at other above = elim (cases_lt j k) [
+          | inl far ↦ kept_type n t over was (type_later q pid moment i m taken none j at_j k t at far)
           | inr near ↦
-              let here : k ≡ i = omega (arith, near, other, above) in
-              inr (written_next x n (ap (λ (y : ℕ). slice_get q.messages (suc y)) (sym here) ∙ at) number)
+              let here : k ≡ j = omega (arith, near, other, above) in
+              inr (inr (inl (higher_at t n (ap (λ (x : ℕ). slice_get (types q.messages) (suc x)) (sym here) ∙ at) number)))
         ]
 
-    at_messages : (n : ℕ) → IsOn (key_of_message id n)
-    at_messages n = by (m.serial == n) refl
+    goes_at : (n : ℕ) → GoesAt n
+    goes_at n = by (type_number m.mtype == n) refl
       where
-        among : (o : Option Message) → m.serial ≢ n → find (has_serial n) q.messages ≡ o → IsOn (key_of_message id n)
-        among None apart was = inl (same_at n None apart was refl)
-        among (Some x) apart was =
-            let passes = find-Some (has_serial n) q.messages x was in
-            let (k, at) = place_of q.messages x passes.1 in
-            let number = eqb-true x.serial n passes.0 in
-            other_at n k x apart was at (λ same.
-            let two : ◌≡◌ {A = Option Message} (Some x) (Some m) = sym at
-            ∙ ap (slice_get q.messages) same ∙ taken.at in
-            let one : x ≡ m = cc in
-            apart (ap (λ (y : Message). y.serial) (sym one) ∙ number))
+        among : (o : Option ℤ) → (type_number m.mtype == n) ≡ false → find (has_number n) (types q.messages) ≡ o → GoesAt n
+        among None over was = inl (same_type n None was
+            (found_other s filed id q found its pid moment i m taken none j at_j n over ∙ was) refl)
+        among (Some t) over was =
+            let passes = find-Some (has_number n) (types q.messages) t was in
+            let (k, at) = place_of (types q.messages) t passes.1 in
+            let number = eqb-true (type_number t) n passes.0 in
+            other_type n k t over was at (λ same.
+            let two : ◌≡◌ {A = Option ℤ} (Some t) (Some m.mtype) = sym at
+            ∙ ap (slice_get (types q.messages)) same ∙ at_j in
+            let one : t ≡ m.mtype = cc in
+            let its_number : type_number m.mtype ≡ n = ap type_number (sym one) ∙ number in
+            let clash : true ≡ false = sym ((Decides-eqb (type_number m.mtype) n).1 its_number) ∙ over in absurd cc)
 
-        by : (b : Bool) → (m.serial == n) ≡ b → IsOn (key_of_message id n)
-        by true e =
-            let number = eqb-true m.serial n e in
-            inr (at_end (key_of_message id n)
-            (subst (λ (y : ℕ). IsWritten (key_of_message id y) ends) number are_ends.gone))
-        by false e =
-            let apart : m.serial ≢ n = λ same. let clash : true ≡ false = sym ((Decides-eqb m.serial n).1 same) ∙ e in absurd cc in
-            among (find (has_serial n) q.messages) apart refl
+        by : (b : Bool) → (type_number m.mtype == n) ≡ b → GoesAt n
+        by true e = inr (inr (inr (ap key_of_number (eqb-true (type_number m.mtype) n e))))
+        by false e = among (find (has_number n) (types q.messages)) e refl
 
-    -- ---- at each key
+  at_types : (o : Option ℕ) → entry.next_of_type ≡ o → (n : ℕ) → TypeStays n (left_by o own)
+  at_types (Some f) is n = begins_at f (sym next_by ∙ is) n (find (has_number n) (types q.messages)) refl
+  at_types None is n = let (j, at_j) = its_place in goes_at (sym next_by ∙ is) j at_j n
 
-    at_types : (n : ℕ) → IsOn (key_of_number id n)
-    at_types n = elim (are_ends.at_types n) [
-      | inl same ↦ inl same
-      | inr there ↦ inr (at_end (key_of_number id n) there)
-    ]
+  -- where nothing is written the record stays
+  module _ (key : RecordKey) (misses : All (InSlot (Misses key)) slots) where
+    here_kind : (n : ℕ) → key.kind ≡ n → key.queue ≡ id → record { kind = n; queue = id; number = key.number } ≡ key
+    here_kind n kind queue = key_is key n id key.number (sym kind) (sym queue) refl
 
-    at_queue : (key : RecordKey) → key.queue ≡ id → key.kind ≡ QUEUE → IsOn key
-    at_queue key here kind = by (key.number == 0) refl
-      where
-        no_counter : (key.kind == 1) ≡ false
-        no_counter = grind (arith, nat_tests, kind)
+    no_queue : key.kind ≡ 3 → key.queue ≡ id → key.number ≡ 0 → ⊥
+    no_queue kind queue number =
+        missed key (Replace (records.Queue (queue_entry new)))
+        (key_is key 3 q.id 0 (sym kind) (its ∙ sym queue) (sym number)) (misses 0 None (omega arith))
 
-        no_key : (key.kind == 2) ≡ false
-        no_key = grind (arith, nat_tests, kind)
+    same_type_record_at : key.kind ≡ 4 → key.queue ≡ id → type_record key.number q ≡ type_record key.number new
+    same_type_record_at kind queue =
+        let it = here_kind 4 kind queue in
+        elim (at_types entry.next_of_type refl key.number) [
+          | inl same ↦ same
+          | inr (inl at) ↦ absurd (not_at key _ (misses 3 None (omega arith)) (subst (λ (k : RecordKey). WritesAt k (own_by id m.mtype left)) it at))
+          | inr (inr (inl at)) ↦ absurd (not_at key _ (misses 4 None (omega arith)) (subst (λ (k : RecordKey). WritesAt k (higher_by id left)) it at))
+          | inr (inr (inr at)) ↦ absurd (not_at key _ (misses 6 None (omega arith)) (subst (λ (k : RecordKey). WritesAt k (deletion_by id m.mtype left)) it at))
+        ]
 
-        its_kind : (key.kind == QUEUE) ≡ true
-        its_kind = (Decides-eqb key.kind QUEUE).1 kind
+    same_message_record_at : key.kind ≡ 5 → key.queue ≡ id → message_record key.number q ≡ message_record key.number new
+    same_message_record_at kind queue =
+        let it = here_kind 5 kind queue in
+        elim (at_messages key.number) [
+          | inl same ↦ same
+          | inr (inl at) ↦ absurd (not_at key _ (misses 1 None (omega arith)) (subst (λ (k : RecordKey). WritesAt k (previous_write id removal)) it at))
+          | inr (inr (inl at)) ↦ absurd (not_at key _ (misses 2 None (omega arith)) (subst (λ (k : RecordKey). WritesAt k (next_write id removal)) it at))
+          | inr (inr (inr number)) ↦ absurd (missed key (Delete (key_of_message id m.serial))
+              (ap (key_of_message id) number ∙ it) (misses 5 None (omega arith)))
+        ]
 
-        by : (b : Bool) → (key.number == 0) ≡ b → IsOn key
-        by true e = inr (inl (key_is key QUEUE q.id 0 (sym kind) (its ∙ sym here) (sym (eqb-true key.number 0 e))))
-        by false e =
-            let was : record_of s key ≡ None = own_before s id q new found its refl refl key here no_counter no_key
-            ∙ rw (its_kind, e) refl in
-            let now : record_of after key ≡ None = own_after s id q new found its refl refl key here no_counter no_key
-            ∙ rw (its_kind, e) refl in
-            inl (was ∙ sym now)
+    stays : record_of s key ≡ record_of after key
+    stays = agree_but id s q new found refl refl key no_queue same_type_record_at same_message_record_at
 
-    under_way : IsUnderWay (record_of s) (record_of after) all_writes
-    under_way key = by_id (key.queue == id) refl
-      where
-        by_message : key.queue ≡ id → (key.kind == QUEUE) ≡ false → (key.kind == TYPE) ≡ false → (b : Bool) →
-            (key.kind == MESSAGE) ≡ b → IsOn key
-        by_message here one two true e =
-            subst IsOn (key_is key MESSAGE id key.number (sym (eqb-true key.kind MESSAGE e)) (sym here) refl)
-            (at_messages key.number)
-        by_message here one two false e = inl (same_at_other_kind s id q new found its refl refl key one two e)
+  pub in_order : Ascend (somes slots)
+  in_order = somes_ascend slots ascend
 
-        by_type : key.queue ≡ id → (key.kind == QUEUE) ≡ false → (b : Bool) → (key.kind == TYPE) ≡ b → IsOn key
-        by_type here one true e =
-            subst IsOn (key_is key TYPE id key.number (sym (eqb-true key.kind TYPE e)) (sym here) refl)
-            (at_types key.number)
-        by_type here one false e = by_message here one e (key.kind == MESSAGE) refl
-
-        by_queue : key.queue ≡ id → (b : Bool) → (key.kind == QUEUE) ≡ b → IsOn key
-        by_queue here true e = at_queue key here (eqb-true key.kind QUEUE e)
-        by_queue here false e = by_type here e (key.kind == TYPE) refl
-
-        by_id : (b : Bool) → (key.queue == id) ≡ b → IsOn key
-        by_id true e = by_queue (eqb-true key.queue id e) (key.kind == QUEUE) refl
-        by_id false e =
-            let apart : key.queue ≢ id = λ same.
-            let clash : true ≡ false = sym ((Decides-eqb key.queue id).1 same) ∙ e in absurd cc in
-            inl (same_at_other_id s id q new found its refl refl key apart)
-
-    pub leads : Leads (record { trials = trials.None; writes = all_writes }) (record_of s) (record_of after)
-    leads = leads_by (record_of s) (record_of after) all_writes all_right deletes_last under_way
+  pub leads : Leads (removal_plan id removal) (record_of s) (record_of after)
+  leads = leads_by (record_of s) (record_of after) (removal_plan id removal) tt (All-nil _) in_order
+      (somes_all Right slots all_right)
+      (λ key r is. in_range after key r (lawful_after s filed id q found its pid moment i m taken) is)
+      (λ key none misses. stays key (somes_each (Misses key) slots misses))

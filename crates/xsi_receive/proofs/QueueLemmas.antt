@@ -1,5 +1,5 @@
 -- The Queue without the message that a receive takes.
-use Rattle.std.proofs.Common.{◌≡◌, ℕ, zero, suc, ◌+◌, ◌-◌, ◌<◌, ◌≤◌, ℤ, List, [], ◌∷◌, length, Option, Some, None, refl, sym, ap, ◌∙◌, get_or, arith}
+use Rattle.std.proofs.Common.{◌≡◌, ℕ, zero, suc, ◌+◌, ◌-◌, ◌<◌, ◌≤◌, ℤ, List, [], ◌∷◌, length, Option, Some, None, refl, sym, ap, ◌∙◌, arith}
 use Rattle.std.specs.Prelude.{slice_get}
 use Rattle.std.specs.List.{remove}
 use Rattle.std.proofs.lemmas.List.{length-map}
@@ -16,7 +16,7 @@ use Rattle.type_chains.specs.Neighbours.{before_place, first_of, last_of}
 use Rattle.xsi_receive.specs.Removing.{where_none}
 use Rattle.xsi_receive.proofs.FirstOfTypeLemmas.{IsTakenAt}
 use Rattle.xsi_receive.proofs.ListLemmas.{first_after, first_left, last_before, last_left}
-use Rattle.xsi_receive.proofs.MessageLemmas.{next_is, next_of_type_is, previous_is, serials_left, without}
+use Rattle.xsi_receive.proofs.MessageLemmas.{next_is, previous_is, serials_left, without}
 use Rattle.xsi_receive.proofs.TypeLemmas.{higher_is, lower_is, types_go, types_stay}
 
 -- ---- both ends of a list without one

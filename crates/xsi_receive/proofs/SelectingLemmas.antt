@@ -1,15 +1,13 @@
 -- Which message the Queue's first serial, its lowest type and a Type name.
-use Rattle.std.proofs.Common.{◌≡◌, ℕ, zero, suc, ◌<◌, ◌≤◌, ℤ, pos, negsuc, ◌≤ℤ◌, ◌<ℤ◌, Bool, true, false, List, [], ◌∷◌, length, Option, Some, None, ◌⊎◌, inl, inr, refl, sym, ap, ◌∙◌, subst, get_or, arith}
-use Rattle.std.specs.Prelude.{◌≢◌, ◌==◌, nat_abs, slice_get}
-use Rattle.std.specs.List.{All, AllPairs, Contains, find}
-use Rattle.std.specs.Ordering.{int_eq}
-use Rattle.std.proofs.lemmas.Bool.{eqb-true}
-use Rattle.std.proofs.lemmas.Bool.Decides.{Decides-eqb, Decides-int_eq}
+use Rattle.std.proofs.Common.{◌≡◌, ℕ, zero, suc, ◌<◌, ◌≤◌, ℤ, pos, negsuc, ◌≤ℤ◌, ◌<ℤ◌, true, false, List, [], ◌∷◌, Option, Some, None, inl, inr, refl, sym, ap, ◌∙◌, subst, arith}
+use Rattle.std.specs.Prelude.{nat_abs}
+use Rattle.std.specs.List.{AllPairs, Contains, find}
+use Rattle.std.proofs.lemmas.Bool.Decides.{Decides-int_eq}
 use Rattle.std.proofs.lemmas.Int.{ints}
 use Rattle.std.proofs.lemmas.List.Elements.{All-contains}
 use Rattle.queue_model.specs.declared.message.Message.{Message}
 use Rattle.queue_model.specs.Laws.{SelectsLowestWithin}
-use Rattle.queue_model.specs.Selection.{selects, selected, IsFirstOfLowest}
+use Rattle.queue_model.specs.Selection.{selects, selected}
 use Rattle.queue_model.proofs.ListLemmas.{find-None-All, find-Some}
 use Rattle.queue_model.proofs.LowestLemmas.{SelectsLowestWithin-selected}
 use Rattle.type_chains.specs.Lists.{is_of_type, serials, types}
@@ -20,9 +18,9 @@ use Rattle.type_chains.proofs.Unique.{pairs_head, types_ascend}
 
 -- ---- the first message
 
-pub first_none : (ms : List Message) → first_of (serials ms) ≡ None → selected (pos zero) ms ≡ None
-first_none [] none = refl
-first_none (m ∷ ms) none = absurd cc
+pub nothing_selected : (t : ℤ) (ms : List Message) → first_of (serials ms) ≡ None → selected t ms ≡ None
+nothing_selected t [] none = refl
+nothing_selected t (m ∷ ms) none = absurd cc
 
 pub first_some : (ms : List Message) (serial : ℕ) → first_of (serials ms) ≡ Some serial →
     (m : Message) × (selected (pos zero) ms ≡ Some m) × (serial ≡ m.serial)

@@ -1,7 +1,7 @@
 -- The records of a queue's messages and types, at their keys.
-use Rattle.std.proofs.Common.{◌≡◌, ℕ, zero, suc, ◌<◌, ◌≤◌, ℤ, pos, negsuc, ◌≤ℤ◌, Bool, true, false, List, [], ◌∷◌, length, Option, Some, None, ◌⊎◌, inl, inr, refl, sym, ap, ◌∙◌, subst, get_or, arith}
-use Rattle.std.specs.Prelude.{◌≢◌, ◌==◌, is_some, option_map, option_and_then}
-use Rattle.std.specs.List.{All, Contains, find}
+use Rattle.std.proofs.Common.{◌≡◌, ℕ, ◌≤◌, ℤ, pos, negsuc, ◌≤ℤ◌, length, Option, Some, None, refl, ap, ◌∙◌, subst, get_or, arith}
+use Rattle.std.specs.Prelude.{option_map, option_and_then}
+use Rattle.std.specs.List.{Contains, find}
 use Rattle.std.proofs.lemmas.Bool.{eqb-true}
 use Rattle.std.proofs.lemmas.Bool.Decides.{Decides-eqb}
 use Rattle.std.proofs.lemmas.Int.{ints}
@@ -12,19 +12,15 @@ use Rattle.queue_model.specs.Lawful.{IsLawfulQueue, IsLawfulMessage}
 use Rattle.queue_model.specs.Rules.{has_id}
 use Rattle.queue_model.specs.State.{State}
 use Rattle.queue_model.proofs.ListLemmas.{find-Some}
-use Rattle.queue_records.specs.declared.message_entry.MessageEntry.{MessageEntry}
-use Rattle.queue_records.specs.declared.record.Record.{Record}
 use Rattle.queue_records.specs.declared.record.Record.TheVariants as records
-use Rattle.queue_records.specs.declared.type_entry.TypeEntry.{TypeEntry}
 use Rattle.queue_records.specs.Fields.{type_number}
-use Rattle.type_chains.specs.Entries.{message_entry, queue_entry, type_entry}
+use Rattle.type_chains.specs.Entries.{message_entry, type_entry}
 use Rattle.type_chains.specs.Lists.{types}
 use Rattle.type_chains.specs.RecordOf.{has_number, has_serial, message_record, record_of, type_record}
 use Rattle.type_chains.proofs.Limits.{all_types, lawful_queue}
 use Rattle.type_chains.proofs.Unique.{find_one, numbers_apart, types_ascend}
 use Rattle.xsi_inquiry.specs.Telling.{IsFiled}
-use Rattle.xsi_receive.specs.Knowing.{IsMessageAt, IsTypeAt}
-use Rattle.xsi_receive.specs.Reading.{key_of_message, key_of_type, unread}
+use Rattle.queue_records.specs.Keys.{key_of_message, key_of_type}
 
 -- types from 1 on have each a number of their own
 pub numbers_differ : (t u : ℤ) → pos 1 ≤ℤ t → pos 1 ≤ℤ u → type_number t ≡ type_number u → t ≡ u
@@ -89,33 +85,3 @@ module _ (s : State) (filed : IsFiled s) (id : ℕ) (q : Queue) (found : find (h
 
   pub short : (n : Message) → Contains q.messages n → length n.bytes ≤ 1024
   short n there = (All-contains (IsLawfulMessage q.next_serial) q.messages n fine.messages_lawful there).short
-
-  -- ---- what was read at links
-
-  pub message_read : (link : Option ℕ) (read : Option MessageEntry) (o : Option Message) →
-      unread (is_some read) link ≡ None → IsMessageAt s id link read → link ≡ option_map (λ (n : Message). n.serial) o →
-      ((n : Message) → o ≡ Some n → Contains q.messages n) → read ≡ option_map (message_entry q) o
-  message_read link None None done at is there = refl
-  message_read None (Some e) o done at is there = absurd at
-  message_read (Some serial) (Some e) None done at is there = absurd cc
-  message_read None None (Some n) done at is there = absurd cc
-  message_read (Some serial) None (Some n) done at is there = absurd cc
-  message_read (Some serial) (Some e) (Some n) done at is there =
-      let same : serial ≡ n.serial = cc in
-      let both = sym at ∙ ap (λ (k : ℕ). record_of s (key_of_message id k)) same ∙ message_stands n (there n refl) in
-      let its : e ≡ message_entry q n = cc in
-      ap Some its
-
-  pub type_read : (link : Option ℤ) (read : Option TypeEntry) (o : Option ℤ) →
-      unread (is_some read) link ≡ None → IsTypeAt s id link read → link ≡ o →
-      ((t : ℤ) → o ≡ Some t → Contains (types q.messages) t) → read ≡ option_map (type_entry q) o
-  type_read link None None done at is there = refl
-  type_read None (Some e) o done at is there = absurd at
-  type_read (Some mtype) (Some e) None done at is there = absurd cc
-  type_read None None (Some t) done at is there = absurd cc
-  type_read (Some mtype) None (Some t) done at is there = absurd cc
-  type_read (Some mtype) (Some e) (Some t) done at is there =
-      let same : mtype ≡ t = cc in
-      let both = sym at ∙ ap (λ (k : ℤ). record_of s (key_of_type id k)) same ∙ type_stands t (there t refl) in
-      let its : e ≡ type_entry q t = cc in
-      ap Some its

@@ -1,5 +1,5 @@
-pub mod Giving
+pub mod Asked
+pub mod Asking
+pub mod Heads
 pub mod Knowing
-pub mod Places
-pub mod Reading
 pub mod Removing

@@ -1,16 +1,13 @@
-//! Receive: what it asks of the records of a queue, and what it writes when it takes a message off its chains.
+//! Receive: the records that it asks for, three at most, and what it decides and writes.
 
 #![tactic(auto)]
 
-mod neighbour;
-mod plan;
-mod receive;
-mod selection;
+mod head;
+mod receive_inquiry;
+mod removal;
+mod stage;
 
-pub use neighbour::Neighbour;
-pub use plan::plan_receive;
-pub use receive::ReceiveInquiry;
-pub use selection::Selection;
-
-#[cfg(test)]
-mod tests;
+pub use head::MessageHead;
+pub use receive_inquiry::ReceiveInquiry;
+pub use removal::{Removal, TypeLeft};
+pub use stage::Stage;

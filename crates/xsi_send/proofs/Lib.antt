@@ -1,9 +1,6 @@
 pub mod Beside
-pub mod Lengths
+pub mod Few
 pub mod Links
-pub mod OneQueueChanged
-pub mod Opening
-pub mod Puts
 pub mod Sent
 pub mod SentBetween
 pub mod SentParts

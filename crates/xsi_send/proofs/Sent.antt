@@ -1,93 +1,118 @@
--- The plan of a Send leads to the records of the system with the message.
-use Rattle.std.proofs.Common.{◌≡◌, ℕ, ◌+◌, ◌<◌, ℤ, pos, ◌≤ℤ◌, ◌<ℤ◌, Bool, true, false, cond, List, [], ◌∷◌, ◌++◌, length, map, Option, Some, None, ◌⊎◌, inl, inr, refl, sym, ap, ◌∙◌, subst, arith}
-use Rattle.std.specs.Prelude.{◌==◌, ◌≢◌, option_map, option_and_then}
-use Rattle.std.specs.List.{All, Contains, filter, find}
-use Rattle.std.proofs.lemmas.Bool.{eqb-true}
-use Rattle.std.proofs.lemmas.Bool.Decides.{Decides-eqb, Decides-int_eq, nat_tests}
-use Rattle.std.proofs.lemmas.Int.{ints}
-use Rattle.std.proofs.lemmas.List.{append-nil}
-use Rattle.std.proofs.lemmas.List.Elements.{All-append, All-cons, All-contains, All-nil, All-weaker, Contains-append_cases, Contains-append_left, Contains-append_right}
-use Rattle.bucket_page.specs.declared.record_key.RecordKey.{RecordKey}
-use Rattle.bucket_page.specs.Keys.{is_same}
-use Rattle.queue_model.specs.declared.answer.Answer.TheVariants.{Sent}
-use Rattle.queue_model.specs.declared.call.Call.TheVariants.{Send}
+-- The plan of a Send leads to the records of the system with the message, in order.
+use Rattle.std.proofs.Common.{◌≡◌, ℕ, ℤ, true, false, cond, List, [], ◌∷◌, Option, Some, None, refl, sym, ap, ◌∙◌, subst}
+use Rattle.std.specs.Prelude.{◌==◌, nat_eq, option_map}
+use Rattle.std.specs.Option.{option_eq}
+use Rattle.std.specs.List.{filter}
+use Rattle.std.proofs.lemmas.Bool.Decides.{Decides-int_eq}
+use Rattle.std.proofs.lemmas.List.Elements.{All-contains, filter_passes}
 use Rattle.queue_model.specs.declared.call.SendArguments.{SendArguments}
 use Rattle.queue_model.specs.declared.caller.Caller.{Caller}
 use Rattle.queue_model.specs.declared.message.Message.{Message}
 use Rattle.queue_model.specs.declared.queue.Queue.{Queue}
-use Rattle.queue_model.specs.Lawful.{IsLawful, IsLawfulQueue, IsLawfulMessage}
-use Rattle.queue_model.specs.Rules.{has_id, with_message, with_queue}
+use Rattle.queue_model.specs.Rules.{with_message, with_queue}
 use Rattle.queue_model.specs.State.{State}
-use Rattle.queue_model.proofs.EffectLemmas.{Effect-outcome}
-use Rattle.queue_model.proofs.LawfulLemmas.{IsLawful-Effect}
-use Rattle.queue_model.proofs.ListLemmas.{find-None, find-Some, position_None}
-use Rattle.queue_records.specs.declared.layout.TheConstants.{QUEUE, TYPE, MESSAGE}
-use Rattle.queue_records.specs.declared.message_entry.MessageEntry.{MessageEntry}
 use Rattle.queue_records.specs.declared.queue_entry.QueueEntry.{QueueEntry}
-use Rattle.queue_records.specs.declared.record.Record.{Record}
+use Rattle.type_chains.specs.Entries.{queue_entry}
+use Rattle.type_chains.specs.Lists.{is_of_type, serials}
+use Rattle.type_chains.specs.Neighbours.{last_of}
+use Rattle.type_chains.specs.RecordOf.{record_of}
+use Rattle.queue_model.specs.declared.answer.Answer.TheVariants.{Sent}
+use Rattle.queue_model.specs.declared.call.Call.TheVariants.{Send}
+use Rattle.page_locks.specs.declared.lock.LockName.TheVariants as names
 use Rattle.queue_records.specs.declared.record.Record.TheVariants as records
-use Rattle.queue_records.specs.declared.type_entry.TypeEntry.{TypeEntry}
-use Rattle.queue_records.specs.Fields.{type_number}
-use Rattle.queue_records.specs.Range.{IsInRange, IsType}
-use Rattle.queue_records.specs.Spelling.{key_of}
-use Rattle.type_chains.specs.Entries.{queue_entry, type_entry, message_entry}
-use Rattle.type_chains.specs.Lists.{serials, serials_of_type, types, is_of_type}
-use Rattle.type_chains.specs.Neighbours.{first_of, last_of}
-use Rattle.type_chains.specs.RecordOf.{has_number, has_serial, type_record, message_record, record_of}
-use Rattle.type_chains.specs.Sending.{message_of, with_one_more, last_message}
-use Rattle.type_chains.proofs.Limits.{all_types, in_range, lawful_queue}
-use Rattle.type_chains.proofs.Members.{contains_tail}
-use Rattle.type_chains.proofs.Pairs.{all_of}
-use Rattle.type_chains.proofs.Sends.{made_of_the_queue}
-use Rattle.type_chains.proofs.Tests.{mapped}
-use Rattle.type_chains.proofs.TypesStand.{are_types_of}
+use Rattle.queue_records.specs.Keys.{key_of_message}
+use Rattle.type_chains.specs.Sending.{last_message}
+use Rattle.xsi_inquiry.specs.declared.verdict.Verdict.TheVariants as verdicts
+use Rattle.xsi_inquiry.specs.Deciding.{IsAnswered}
 use Rattle.xsi_inquiry.specs.declared.write.Write.{Write}
-use Rattle.xsi_inquiry.specs.declared.write.Write.TheVariants.{Replace}
+use Rattle.xsi_inquiry.specs.declared.write.Write.TheVariants.{Relink}
 use Rattle.xsi_inquiry.specs.Telling.{IsFiled}
-use Rattle.xsi_inquiry.specs.Writing.{AreAbsent, Leads, trials_of, value_length}
-use Rattle.xsi_send.specs.declared.reads.SendReads.{SendReads}
-use Rattle.xsi_send.specs.declared.reads.TypePlace.{TypePlace}
-use Rattle.xsi_send.specs.declared.reads.TypePlace.TheVariants.{Standing, Between}
+use Rattle.xsi_inquiry.specs.Writing.{Plan}
+use Rattle.xsi_send.specs.declared.stage.Stage.TheVariants.{Done}
+use Rattle.xsi_send.specs.declared.type_place.TypePlace.{TypePlace}
+use Rattle.xsi_send.specs.declared.type_place.TypePlace.TheVariants.{Standing, Between}
 use Rattle.xsi_send.specs.Knowing.{IsOpen}
-use Rattle.xsi_send.specs.Planning.{linked, new_type, relinked, replaced, sent_plan, sent_writes}
-use Rattle.xsi_send.specs.ReadOf.{AreOf, IsBetween, IsLastOfType, IsPlaceOf, last_message_of}
-use Rattle.xsi_send.proofs.Beside.{contains_at, in_first, in_last}
-use Rattle.xsi_send.proofs.Lengths.{queue_length, type_length, message_length}
-use Rattle.xsi_send.proofs.Links.{is_linked, stays_linked}
-use Rattle.xsi_send.proofs.OneQueueChanged.{agree_but, found_new}
-use Rattle.xsi_send.proofs.Puts.{IsNew, Fills, Misses, MissesRecord, leads_by}
-use Rattle.xsi_send.proofs.Sorted.{less_apart}
-use Rattle.xsi_send.proofs.Told.{has_first, message_stands, of_filter, queue_stands, same_number, stands, type_stands, typed}
-use Rattle.xsi_send.proofs.TypeLinks.{entry_above, entry_below, entry_higher, entry_lower, entry_new, other_entry, same_types, standing_entry, types_after}
-use Rattle.xsi_send.proofs.SentBetween.{leads_between}
-use Rattle.xsi_send.proofs.SentStanding.{leads_standing}
+use Rattle.xsi_send.specs.Places.{IsPlaceOf}
+use Rattle.xsi_send.specs.Planning.{behind_end, higher_write, links_behind, lower_write, new_type, plan_at, type_write}
+use Rattle.xsi_send.proofs.Beside.{in_last, last-map, some_last}
+use Rattle.xsi_send.proofs.SentBetween.{right_between}
+use Rattle.xsi_send.proofs.SentParts.{IsRightPlan, queue_is}
+use Rattle.xsi_send.proofs.SentStanding.{right_standing}
+use Rattle.xsi_send.proofs.Told.{last_typed_there, last_with, of_filter}
 
 module _ (c : Caller) (a : SendArguments) (e : QueueEntry) (s : State) (filed : IsFiled s) (known : IsOpen c a e s)
   where
     abbrev q : Queue
     q = known.queue
 
-    abbrev new : Queue
-    new = with_message c.pid a known.queue
-
     abbrev t : State
     t = with_queue a.id (with_message c.pid a known.queue) s
 
-    pub leads_sent : (reads : SendReads) → AreOf a.mtype reads known.queue →
-        Leads (sent_plan c.pid a reads) (record_of s) (record_of (with_queue a.id (with_message c.pid a known.queue) s))
-    leads_sent reads of =
-        let whole : record { queue = queue_entry q; last = last_message_of q; place = reads.place } ≡ reads =
-        λ i. record { queue = sym of.queue i; last = sym of.last i; place = reads.place } in
-        subst (λ (r : SendReads). Leads (sent_plan c.pid a r) (record_of s) (record_of t)) whole
-        (by reads.place of.place)
-      where
-        by : (place : TypePlace) → IsPlaceOf a.mtype place q →
-            Leads (sent_plan c.pid a (record { queue = queue_entry q; last = last_message_of q; place = place }))
-            (record_of s) (record_of t)
-        by (Standing entry held) is =
-            subst (λ (x : TypeEntry). Leads (sent_plan c.pid a (record {
-              queue = queue_entry q;
-              last = last_message_of q;
-              place = Standing x held;
-            })) (record_of s) (record_of t)) (sym is.entry) (leads_standing c a e s filed known held is.stands is.last)
-        by (Between low high) is = leads_between c a e s filed known low high is
+    -- the plan of a type that stands, by what stands first in it, and by the last serials of the queue and of the type
+    abbrev standing : Option Write → Option ℕ → ℕ → Plan
+    standing first ends serial = record {
+      trials = records.Message (last_message c.pid a (queue_entry q)) ∷ [];
+      slots = first
+          ∷ cond (option_eq nat_eq ends (Some serial)) None
+          (Some (Relink (key_of_message q.id serial) (links_behind q.next_serial false true)))
+          ∷ option_map (λ (end : ℕ). behind_end (queue_entry q) (end == serial) end) ends
+          ∷ Some (type_write a (queue_entry q))
+          ∷ [];
+    }
+
+    abbrev between : Option Write → Option ℤ → Option ℤ → Plan
+    between first low high = record {
+      trials = records.Message (last_message c.pid a (queue_entry q))
+          ∷ records.Type (new_type q.id a.mtype q.next_serial low high) ∷ [];
+      slots = first
+          ∷ option_map (λ (end : ℕ). behind_end (queue_entry q) false end) (last_of (serials q.messages))
+          ∷ option_map (λ (u : ℤ). lower_write a (queue_entry q) u) low
+          ∷ option_map (λ (u : ℤ). higher_write a (queue_entry q) u) high
+          ∷ [];
+    }
+
+    last_serial : (x : Message) → last_of q.messages ≡ Some x → last_of (serials q.messages) ≡ Some x.serial
+    last_serial x last =
+        last-map (λ (m : Message). m.serial) q.messages ∙ ap (option_map (λ (m : Message). m.serial)) last
+
+    right_at : (place : TypePlace) → IsPlaceOf a.mtype place q →
+        IsRightPlan a.id (plan_at c.pid a (Done (queue_entry q) place)) (record_of s) (record_of t)
+    right_at (Standing serial) is =
+        let typed = filter (is_of_type a.mtype) q.messages in
+        let (y, of_type, has) = last_typed_there c a e s filed known is.stands in
+        let kept = in_last typed y of_type in
+        let (x, last) = some_last q.messages y (of_filter (is_of_type a.mtype) q.messages y kept) in
+        let its_type = (Decides-int_eq y.mtype a.mtype).0 (All-contains (λ (m : Message). is_of_type a.mtype m ≡ true)
+        typed y (filter_passes (is_of_type a.mtype) q.messages) kept) in
+        let first = queue_is c a e s filed known in
+        let end = last_serial x last in
+        let serial_is = is.last ∙ sym has in
+        subst (λ (p : Plan). IsRightPlan a.id p (record_of s) (record_of t))
+        (sym (λ i. standing (first i) (end i) (serial_is i)))
+        (right_standing c a e s filed known x y is.stands last of_type its_type (x.serial == y.serial) refl)
+    right_at (Between low high) is =
+        let first = queue_is c a e s filed known in
+        subst (λ (p : Plan). IsRightPlan a.id p (record_of s) (record_of t)) (sym (λ i. between (first i) low high))
+        (right_between c a e s filed known low high is (last_of (serials q.messages)) (last_with q.messages) last_serial)
+
+    pub right_sent : (place : TypePlace) → IsPlaceOf a.mtype place known.queue →
+        IsRightPlan a.id (plan_at c.pid a (Done e place)) (record_of s)
+        (record_of (with_queue a.id (with_message c.pid a known.queue) s))
+    right_sent place is = subst (λ (x : QueueEntry). IsRightPlan a.id (plan_at c.pid a (Done x place)) (record_of s)
+        (record_of t)) (sym known.entry) (right_at place is)
+
+    -- the answer and the plan are those of the call
+    pub answered : (bytes : List ℕ) (place : TypePlace) → IsPlaceOf a.mtype place known.queue →
+        IsAnswered c (Send a) (names.Queue a.id ∷ []) bytes s (verdicts.Sent e.next_serial)
+        (plan_at c.pid a (Done e place))
+    answered bytes place is =
+        let right = right_sent place is in
+        let serial = ap (λ (x : QueueEntry). x.next_serial) known.entry in
+        record {
+          after = t;
+          outcome = known.outcome ∙ ap (λ n. Some (Sent n, t)) (sym serial);
+          leads = right.leads;
+          own = right.own;
+          idle = λ never. absurd never;
+          ordered = right.ordered;
+        }

@@ -1,65 +1,51 @@
 -- The plan of a Send of a type that does not stand on the queue.
-use Rattle.std.proofs.Common.{◌≡◌, ℕ, ◌+◌, ◌<◌, ℤ, pos, ◌≤ℤ◌, ◌<ℤ◌, Bool, true, false, cond, List, [], ◌∷◌, ◌++◌, length, map, Option, Some, None, ◌⊎◌, inl, inr, refl, sym, ap, ◌∙◌, subst, arith}
-use Rattle.std.specs.Prelude.{◌==◌, ◌≢◌, option_map, option_and_then}
-use Rattle.std.specs.List.{All, Contains, filter, find}
+use Rattle.std.proofs.Common.{◌≡◌, ℕ, ◌<◌, ℤ, ◌<ℤ◌, Bool, true, false, List, [], ◌∷◌, ◌++◌, Option, Some, None, ◌⊎◌, inl, inr, refl, sym, ap, ◌∙◌, subst, arith}
+use Rattle.std.specs.Prelude.{option_map, option_and_then}
+use Rattle.std.specs.List.{All, Contains, find}
 use Rattle.std.proofs.lemmas.Bool.{eqb-true}
-use Rattle.std.proofs.lemmas.Bool.Decides.{Decides-eqb, Decides-int_eq, nat_tests}
+use Rattle.std.proofs.lemmas.Bool.Decides.{Decides-int_eq}
 use Rattle.std.proofs.lemmas.Int.{ints}
-use Rattle.std.proofs.lemmas.List.{append-nil}
-use Rattle.std.proofs.lemmas.List.Elements.{All-append, All-cons, All-contains, All-nil, All-weaker, Contains-append_cases, Contains-append_left, Contains-append_right}
+use Rattle.std.proofs.lemmas.List.Elements.{All-cons, All-contains, All-nil, Contains-append_cases, Contains-append_left, Contains-append_right}
 use Rattle.bucket_page.specs.declared.record_key.RecordKey.{RecordKey}
-use Rattle.bucket_page.specs.Keys.{is_same}
-use Rattle.queue_model.specs.declared.answer.Answer.TheVariants.{Sent}
-use Rattle.queue_model.specs.declared.call.Call.TheVariants.{Send}
+use Rattle.page_locks.specs.declared.lock.LockName.TheVariants as names
 use Rattle.queue_model.specs.declared.call.SendArguments.{SendArguments}
 use Rattle.queue_model.specs.declared.caller.Caller.{Caller}
 use Rattle.queue_model.specs.declared.message.Message.{Message}
 use Rattle.queue_model.specs.declared.queue.Queue.{Queue}
-use Rattle.queue_model.specs.Lawful.{IsLawful, IsLawfulQueue, IsLawfulMessage}
-use Rattle.queue_model.specs.Rules.{has_id, with_message, with_queue}
+use Rattle.queue_model.specs.Rules.{with_message, with_queue}
 use Rattle.queue_model.specs.State.{State}
-use Rattle.queue_model.proofs.EffectLemmas.{Effect-outcome}
-use Rattle.queue_model.proofs.LawfulLemmas.{IsLawful-Effect}
-use Rattle.queue_model.proofs.ListLemmas.{find-None, find-Some, position_None}
-use Rattle.queue_records.specs.declared.layout.TheConstants.{QUEUE, TYPE, MESSAGE}
-use Rattle.queue_records.specs.declared.message_entry.MessageEntry.{MessageEntry}
+use Rattle.queue_records.specs.declared.layout.TheConstants.{TYPE}
+use Rattle.queue_records.specs.declared.links.Link.TheVariants.{Stays, LeadsTo}
 use Rattle.queue_records.specs.declared.queue_entry.QueueEntry.{QueueEntry}
 use Rattle.queue_records.specs.declared.record.Record.{Record}
 use Rattle.queue_records.specs.declared.record.Record.TheVariants as records
 use Rattle.queue_records.specs.declared.type_entry.TypeEntry.{TypeEntry}
 use Rattle.queue_records.specs.Fields.{type_number}
-use Rattle.queue_records.specs.Range.{IsInRange, IsType}
+use Rattle.queue_records.specs.Keys.{guard_of}
 use Rattle.queue_records.specs.Spelling.{key_of}
-use Rattle.type_chains.specs.Entries.{queue_entry, type_entry, message_entry}
+use Rattle.type_chains.specs.Entries.{queue_entry, type_entry}
 use Rattle.type_chains.specs.Lists.{serials, serials_of_type, types, is_of_type}
 use Rattle.type_chains.specs.Neighbours.{first_of, last_of}
-use Rattle.type_chains.specs.RecordOf.{has_number, has_serial, type_record, message_record, record_of}
-use Rattle.type_chains.specs.Sending.{message_of, with_one_more, last_message}
-use Rattle.type_chains.proofs.Limits.{all_types, in_range, lawful_queue}
+use Rattle.type_chains.specs.RecordOf.{has_number, record_of, type_record}
+use Rattle.type_chains.specs.Sending.{with_one_more, last_message}
 use Rattle.type_chains.proofs.Members.{contains_tail}
+use Rattle.type_chains.proofs.OneQueueChanged.{agree_but}
 use Rattle.type_chains.proofs.Pairs.{all_of}
-use Rattle.type_chains.proofs.Sends.{made_of_the_queue}
-use Rattle.type_chains.proofs.Tests.{mapped}
-use Rattle.type_chains.proofs.TypesStand.{are_types_of}
 use Rattle.xsi_inquiry.specs.declared.write.Write.{Write}
 use Rattle.xsi_inquiry.specs.declared.write.Write.TheVariants.{Replace}
+use Rattle.xsi_inquiry.specs.Owning.{IsBefore, IsOrdered, trial_rank}
 use Rattle.xsi_inquiry.specs.Telling.{IsFiled}
-use Rattle.xsi_inquiry.specs.Writing.{AreAbsent, Leads, trials_of, value_length}
-use Rattle.xsi_send.specs.declared.reads.SendReads.{SendReads}
-use Rattle.xsi_send.specs.declared.reads.TypePlace.{TypePlace}
-use Rattle.xsi_send.specs.declared.reads.TypePlace.TheVariants.{Standing, Between}
+use Rattle.xsi_inquiry.specs.Writing.{Plan, key_written, somes}
+use Rattle.xsi_inquiry.proofs.LeadLemmas.{IsNew, Fills, Misses, MissesRecord, leads_by}
+use Rattle.xsi_inquiry.proofs.SlotLemmas.{InSlot, somes_all, somes_ascend, somes_each}
 use Rattle.xsi_send.specs.Knowing.{IsOpen}
-use Rattle.xsi_send.specs.Planning.{linked, new_type, relinked, replaced, sent_plan, sent_writes}
-use Rattle.xsi_send.specs.ReadOf.{AreOf, IsBetween, IsLastOfType, IsPlaceOf, last_message_of}
+use Rattle.xsi_send.specs.Places.{IsBetween}
+use Rattle.xsi_send.specs.Planning.{behind_end, higher_write, lower_write, new_type}
 use Rattle.xsi_send.proofs.Beside.{contains_at, in_first, in_last}
-use Rattle.xsi_send.proofs.Lengths.{queue_length, type_length, message_length}
-use Rattle.xsi_send.proofs.Links.{is_linked, stays_linked}
-use Rattle.xsi_send.proofs.OneQueueChanged.{agree_but, found_new}
-use Rattle.xsi_send.proofs.Puts.{IsNew, Fills, Misses, MissesRecord, leads_by}
 use Rattle.xsi_send.proofs.Sorted.{less_apart}
-use Rattle.xsi_send.proofs.Told.{has_first, message_stands, of_filter, queue_stands, same_number, stands, type_stands, typed}
-use Rattle.xsi_send.proofs.TypeLinks.{entry_above, entry_below, entry_higher, entry_lower, entry_new, other_entry, same_types, standing_entry, types_after}
-use Rattle.xsi_send.proofs.SentParts.{all_replaced, empty_filter, fills, find_nothing, find_over, its_stands, kept, last_hit, last_stands, lawful_q, lawful_t, linked_fills, made_same, message_new, messages_same, misses_key, new_in_range, new_stands, no_message, of_type_stands, queue_fills, queue_missed, relinked_fills, relinked_hit, type_fills, types_of_q, types_same}
+use Rattle.xsi_send.proofs.SentParts.{IsRightPlan, each_of, empty_filter, find_nothing, find_over, four, lawful_t, linked_fills, message_hit, message_new, messages_same, mine, misses_key, new_in_range, new_stands, no_message, number_less, of_type_stands, queue_fills, queue_missed, slot_all, type_fills, type_hit, types_of_q, types_same}
+use Rattle.xsi_send.proofs.Told.{same_number, type_stands, typed}
+use Rattle.xsi_send.proofs.TypeLinks.{entry_above, entry_below, entry_higher, entry_lower, entry_new, types_after}
 
 module _ (c : Caller) (a : SendArguments) (e : QueueEntry) (s : State) (filed : IsFiled s) (known : IsOpen c a e s)
   where
@@ -81,36 +67,41 @@ module _ (c : Caller) (a : SendArguments) (e : QueueEntry) (s : State) (filed : 
     abbrev message_trial : Record
     message_trial = records.Message (last_message c.pid a (queue_entry q))
 
-    abbrev queue_write : Write
-    queue_write = Replace (records.Queue (with_one_more c.pid a (queue_entry q)))
+    abbrev queue_record : Write
+    queue_record = Replace (records.Queue (with_one_more c.pid a (queue_entry q)))
 
-    abbrev MissesAll : RecordKey → List Write → Type 0
-    MissesAll key ws = (w : Write) → Contains ws w → Misses key w
+    abbrev under : Write → Type 0
+    under w = Contains (names.Queue a.id ∷ []) (guard_of (key_written w))
 
-    module _ (low high : Option TypeEntry) (between : IsBetween a.mtype low high q) where
-      abbrev around : SendReads
-      around = record { queue = queue_entry q; last = last_message_of q; place = Between low high }
-
+    module _ (low high : Option ℤ) (between : IsBetween a.mtype low high q) (ends : Option ℕ)
+        (end_is : (n : ℕ) → ends ≡ Some n → (x : Message) × (last_of q.messages ≡ Some x) × (x.serial ≡ n))
+        (end_has : (x : Message) → last_of q.messages ≡ Some x → ends ≡ Some x.serial) where
       abbrev entry : TypeEntry
       entry = new_type q.id a.mtype q.next_serial low high
 
-      abbrev lower_of : TypeEntry → Record
-      lower_of e = records.Type (record e { higher = Some a.mtype })
+      abbrev end_write : ℕ → Write
+      end_write n = behind_end (queue_entry q) false n
 
-      abbrev higher_of : TypeEntry → Record
-      higher_of e = records.Type (record e { lower = Some a.mtype })
+      abbrev links : Option Write
+      links = option_map end_write ends
 
-      abbrev lead : List Write
-      lead = Replace (records.Queue (with_one_more c.pid a (queue_entry q))) ∷ []
+      abbrev below_write : ℤ → Write
+      below_write u = lower_write a (queue_entry q) u
 
-      abbrev links : List Write
-      links = relinked a (queue_entry q) (last_message_of q)
+      abbrev above_write : ℤ → Write
+      above_write u = higher_write a (queue_entry q) u
 
-      abbrev lowers : List Write
-      lowers = replaced (option_map lower_of low)
+      abbrev lowers : Option Write
+      lowers = option_map below_write low
 
-      abbrev highers : List Write
-      highers = replaced (option_map higher_of high)
+      abbrev highers : Option Write
+      highers = option_map above_write high
+
+      abbrev slots : List (Option Write)
+      slots = Some queue_record ∷ links ∷ lowers ∷ highers ∷ []
+
+      abbrev plan : Plan
+      plan = record { trials = message_trial ∷ records.Type entry ∷ []; slots = slots }
 
       in_below : (u : ℤ) → Contains between.below u → Contains (types q.messages) u
       in_below u has = subst (λ ts. Contains ts u) (sym between.split) (Contains-append_left between.below between.above
@@ -168,82 +159,69 @@ module _ (c : Caller) (a : SendArguments) (e : QueueEntry) (s : State) (filed : 
           (find_nothing (has_number (type_number a.mtype)) (types q.messages)
           (all_of (λ (u : ℤ). has_number (type_number a.mtype) u ≡ false) (types q.messages) other_number))
 
-      lower_fills : (x : TypeEntry) → low ≡ Some x → Fills old_records new_records (Replace (lower_of x))
-      lower_fills x is =
-          let (u, last, same) = mapped (type_entry q) (last_of between.below) x (sym between.lower ∙ is) in
+      last_low : (u : ℤ) → low ≡ Some u → last_of between.below ≡ Some u
+      last_low u is = sym between.lower ∙ is
+
+      first_high : (u : ℤ) → high ≡ Some u → first_of between.above ≡ Some u
+      first_high u is = sym between.higher ∙ is
+
+      lower_fills : (u : ℤ) → low ≡ Some u → Fills old_records new_records (below_write u)
+      lower_fills u is =
+          let last = last_low u is in
           let has = in_below u (in_last between.below u last) in
-          subst (λ z. Fills old_records new_records (Replace (lower_of z))) same
-          ((type_fills c a e s filed known) u (record (type_entry q u) { higher = Some a.mtype }) (entry_lower c.pid a q
-          low high between u last) has
-          (still_there u has) refl refl)
+          type_fills c a e s filed known u
+          (record { first = None; last = None; lower = Stays; higher = LeadsTo a.mtype })
+          (entry_lower c.pid a q low high between u last) has (still_there u has)
 
-      higher_fills : (x : TypeEntry) → high ≡ Some x → Fills old_records new_records (Replace (higher_of x))
-      higher_fills x is =
-          let (u, first, same) = mapped (type_entry q) (first_of between.above) x (sym between.higher ∙ is) in
+      higher_fills : (u : ℤ) → high ≡ Some u → Fills old_records new_records (above_write u)
+      higher_fills u is =
+          let first = first_high u is in
           let has = in_above u (in_first between.above u first) in
-          subst (λ z. Fills old_records new_records (Replace (higher_of z))) same
-          ((type_fills c a e s filed known) u (record (type_entry q u) { lower = Some a.mtype }) (entry_higher c.pid a q
-          low high between u first) has
-          (still_there u has) refl refl)
+          type_fills c a e s filed known u
+          (record { first = None; last = None; lower = LeadsTo a.mtype; higher = Stays })
+          (entry_higher c.pid a q low high between u first) has (still_there u has)
 
-      every_fill : All (Fills old_records new_records) (sent_writes c.pid a around around.place)
-      every_fill =
-          All-append (Fills old_records new_records) (lead ++ links ++ lowers) highers
-          (All-append (Fills old_records new_records) (lead ++ links) lowers
-          (All-append (Fills old_records new_records) lead links
-          (All-cons (Fills old_records new_records) _ [] (queue_fills c a e s filed known) (All-nil (Fills old_records
-          new_records)))
-          ((relinked_fills c a e s filed known) (last_message_of q) (last_stands c a e s filed known)))
-          (all_replaced (Fills old_records new_records) lower_of low lower_fills))
-          (all_replaced (Fills old_records new_records) higher_of high higher_fills)
+      end_fills : (n : ℕ) → ends ≡ Some n → Fills old_records new_records (end_write n)
+      end_fills n is =
+          let (x, last, same) = end_is n is in
+          let there = in_last q.messages x last in
+          subst (λ (k : ℕ). Fills old_records new_records (end_write k)) same
+          (linked_fills c a e s filed known x there true false (λ _. last) (λ never. absurd cc) (λ never. absurd cc)
+          (λ _ its. apart x.mtype (of_type_stands c a e s filed known x there) its.0))
 
-      -- a neighbour's Type is missed by no write
-      type_hit : (key : RecordKey) (f : TypeEntry → Record) (o : Option TypeEntry) (u : ℤ) →
-          ((w : Write) → Contains (replaced (option_map f o)) w → Misses key w) → o ≡ Some (type_entry q u) →
-          key_of (f (type_entry q u)) ≡ key_of (records.Type (type_entry q u)) →
-          key.kind ≡ TYPE → key.queue ≡ a.id → type_number u ≡ key.number → ⊥
-      type_hit key f o u misses is keyed kind queue number =
-          let w = Replace (f (type_entry q u)) in
-          let has : Contains (replaced (option_map f o)) w =
-          subst (λ (p : Option TypeEntry). Contains (replaced (option_map f p)) w) (sym is) (contains_at [] [] w) in
-          misses_key key (key_of (records.Type (type_entry q u)))
-          (subst (λ (k : RecordKey). is_same key k ≡ false) keyed (misses w has)) kind
-          (queue ∙ sym known.its_id) (sym number)
+      every_fill : All (Fills old_records new_records) (somes slots)
+      every_fill = somes_all (Fills old_records new_records) slots
+          (four (InSlot (Fills old_records new_records)) (Some queue_record) links lowers highers
+          (queue_fills c a e s filed known)
+          (slot_all (Fills old_records new_records) end_write ends end_fills)
+          (slot_all (Fills old_records new_records) below_write low lower_fills)
+          (slot_all (Fills old_records new_records) above_write high higher_fills))
 
-      nothing_else : (key : RecordKey) → All (MissesRecord key) (trials_of (sent_plan c.pid a around).trials) →
-          All (Misses key) (sent_writes c.pid a around around.place) → record_of s key ≡ record_of t key
+      -- what stands in a slot is missed by no write
+      in_slot : {X : Type 0} (P : Write → Type 0) (f : X → Write) (o : Option X) (x : X) → InSlot P (option_map f o) →
+          o ≡ Some x → P (f x)
+      in_slot {X} P f o x all is = subst (λ (p : Option X). InSlot P (option_map f p)) is all
+
+      nothing_else : (key : RecordKey) → All (MissesRecord key) (message_trial ∷ records.Type entry ∷ []) →
+          All (Misses key) (somes slots) → record_of s key ≡ record_of t key
       nothing_else key trials writes =
+          let (no_queue, no_links, no_lowers, no_highers) = each_of (InSlot (Misses key)) (Some queue_record) links
+          lowers highers (somes_each (Misses key) slots writes) in
           agree_but a.id s q new known.found refl refl key
-          ((queue_missed c a e s filed known) key (in_writes queue_write (Contains-append_left (lead ++ links ++ lowers)
-          highers queue_write
-          (Contains-append_left (lead ++ links) lowers queue_write
-          (Contains-append_left lead links queue_write (contains_at [] [] queue_write))))))
-          (λ kind queue. (types_same c a e s filed known) key (between.below ++ a.mtype ∷ between.above) (types_after
-          c.pid a q low high between)
+          (queue_missed c a e s filed known key no_queue)
+          (λ kind queue. types_same c a e s filed known key (between.below ++ a.mtype ∷ between.above)
+          (types_after c.pid a q low high between)
           (find_over (has_number key.number) between.below between.above a.mtype (over kind queue)
           ∙ ap (find (has_number key.number)) (sym between.split))
-          (λ u has number. sym (stays u kind queue number
+          (λ u has number. sym (stays no_lowers no_highers u kind queue number
           (Contains-append_cases between.below between.above u (subst (λ ts. Contains ts u) between.split has)))))
-          (λ kind queue. (messages_same c a e s filed known) key kind queue
+          (λ kind queue. messages_same c a e s filed known key kind queue
           (All-contains (MissesRecord key) (message_trial ∷ records.Type entry ∷ []) message_trial trials
           (contains_at [] (records.Type entry ∷ []) message_trial))
-          (λ x has number last. (last_hit c a e s filed known) key x in_links last kind queue number)
-          (λ x has number mtype last. apart x.mtype ((of_type_stands c a e s filed known) x has) mtype))
+          (λ x has number last. message_hit c a e s filed known key x
+          (in_slot (Misses key) end_write ends x.serial no_links (end_has x last)) kind queue number)
+          (λ x has number mtype last. apart x.mtype (of_type_stands c a e s filed known x has) mtype))
         where
-          in_writes : (w : Write) → Contains (sent_writes c.pid a around around.place) w → Misses key w
-          in_writes w has = All-contains (Misses key) (sent_writes c.pid a around around.place) w writes has
-
-          in_links : MissesAll key links
-          in_links w has = in_writes w (Contains-append_left (lead ++ links ++ lowers) highers w
-              (Contains-append_left (lead ++ links) lowers w (Contains-append_right lead links w has)))
-
-          in_lowers : MissesAll key lowers
-          in_lowers w has = in_writes w (Contains-append_left (lead ++ links ++ lowers) highers w
-              (Contains-append_right (lead ++ links) lowers w has))
-
-          in_highers : MissesAll key highers
-          in_highers w has = in_writes w (Contains-append_right (lead ++ links ++ lowers) highers w has)
-
           over : key.kind ≡ TYPE → key.queue ≡ a.id → has_number key.number a.mtype ≡ false
           over kind queue = by (has_number key.number a.mtype) refl
             where
@@ -254,23 +232,78 @@ module _ (c : Caller) (a : SendArguments) (e : QueueEntry) (s : State) (filed : 
                   (queue ∙ sym known.its_id) (sym (eqb-true (type_number a.mtype) key.number passes)))
               by false passes = refl
 
-          stays : (u : ℤ) → key.kind ≡ TYPE → key.queue ≡ a.id → type_number u ≡ key.number →
+          stays : InSlot (Misses key) lowers → InSlot (Misses key) highers → (u : ℤ) → key.kind ≡ TYPE →
+              key.queue ≡ a.id → type_number u ≡ key.number →
               Contains between.below u ⊎ Contains between.above u → type_entry new u ≡ type_entry q u
-          stays u kind queue number (inl has) = entry_below c.pid a q low high between u has
-              (λ last. type_hit key lower_of low u in_lowers (between.lower ∙ ap (option_map (type_entry q)) last) refl
-              kind
-              queue number)
-          stays u kind queue number (inr has) = entry_above c.pid a q low high between u has
-              (λ first. type_hit key higher_of high u in_highers (between.higher ∙ ap (option_map (type_entry q)) first)
-              refl
-              kind queue number)
+          stays no_lowers no_highers u kind queue number (inl has) = entry_below c.pid a q low high between u has
+              (λ last. type_hit c a e s filed known key u
+              (in_slot (Misses key) below_write low u no_lowers (between.lower ∙ last)) kind queue number)
+          stays no_lowers no_highers u kind queue number (inr has) = entry_above c.pid a q low high between u has
+              (λ first. type_hit c a e s filed known key u
+              (in_slot (Misses key) above_write high u no_highers (between.higher ∙ first)) kind queue number)
 
-      pub leads_between : Leads (sent_plan c.pid a around) (record_of s) (record_of t)
-      leads_between = leads_by old_records new_records (sent_plan c.pid a around) (
-        (no_message c a e s filed known),
-        (no_type, tt),
-      )
-          (All-cons (IsNew old_records new_records) (records.Message (last_message c.pid a (queue_entry q)))
-          (records.Type entry ∷ []) (message_new c a e s filed known)
-          (All-cons (IsNew old_records new_records) (records.Type entry) [] type_new
-          (All-nil (IsNew old_records new_records)))) every_fill (new_in_range c a e s filed known) nothing_else
+      -- the lower type's number is the lesser one
+      types_less : (u v : ℤ) → low ≡ Some u → high ≡ Some v → type_number u < type_number v
+      types_less u v lower higher =
+          let first = in_last between.below u (last_low u lower) in
+          let second = in_first between.above v (first_high v higher) in
+          let one = All-contains (λ (t : ℤ). t <ℤ a.mtype) between.below u between.less first in
+          let two = All-contains (λ (t : ℤ). a.mtype <ℤ t) between.above v between.more second in
+          number_less u v (types_of_q c a e s filed known u (in_below u first)) (omega (arith, ints, one, two))
+
+      ordered : IsOrdered plan
+      ordered =
+          let first_less : 0 < 1 = omega arith in
+          let type_less : 0 < 2 = omega arith in
+          let links_less : 1 < 2 = omega arith in
+          let before = IsBefore queue_record in
+          record {
+            trials = (
+              All-cons (λ (x : Record). trial_rank (key_of message_trial) < trial_rank (key_of x))
+                  (records.Type entry) [] first_less (All-nil _),
+              (All-nil _, tt),
+            );
+            writes = somes_ascend slots (
+              All-cons (InSlot before) links (lowers ∷ highers ∷ []) (slot_all before end_write ends (λ n is. inl first_less))
+                  (All-cons (InSlot before) lowers (highers ∷ [])
+                  (slot_all before below_write low (λ u is. inl type_less))
+                  (All-cons (InSlot before) highers [] (slot_all before above_write high (λ u is. inl type_less))
+                  (All-nil _))),
+              (
+                slot_all (λ (w : Write). All (InSlot (IsBefore w)) (lowers ∷ highers ∷ [])) end_write ends
+                    (λ n is. All-cons (InSlot (IsBefore (end_write n))) lowers (highers ∷ [])
+                    (slot_all (IsBefore (end_write n)) below_write low (λ u at. inl links_less))
+                    (All-cons (InSlot (IsBefore (end_write n))) highers []
+                    (slot_all (IsBefore (end_write n)) above_write high (λ u at. inl links_less)) (All-nil _))),
+                (
+                  slot_all (λ (w : Write). All (InSlot (IsBefore w)) (highers ∷ [])) below_write low
+                      (λ u is. All-cons (InSlot (IsBefore (below_write u))) highers []
+                      (slot_all (IsBefore (below_write u)) above_write high
+                      (λ v at. inr (refl, types_less u v is at))) (All-nil _)),
+                  (slot_all (λ (w : Write). All (InSlot (IsBefore w)) []) above_write high (λ u is. All-nil _), tt),
+                ),
+              ),
+            );
+          }
+
+      pub right_between : IsRightPlan a.id plan (record_of s) (record_of t)
+      right_between = record {
+        leads = leads_by old_records new_records plan (no_message c a e s filed known, (no_type, tt))
+            (All-cons (IsNew old_records new_records) message_trial (records.Type entry ∷ [])
+            (message_new c a e s filed known)
+            (All-cons (IsNew old_records new_records) (records.Type entry) [] type_new (All-nil _)))
+            ordered.writes every_fill (new_in_range c a e s filed known) nothing_else;
+        own = record {
+          trials = All-cons trial_under message_trial (records.Type entry ∷ []) (mine c a e s filed known)
+              (All-cons trial_under (records.Type entry) [] (mine c a e s filed known) (All-nil trial_under));
+          writes = somes_all under slots (four (InSlot under) (Some queue_record) links lowers highers
+              (mine c a e s filed known)
+              (slot_all under end_write ends (λ n is. mine c a e s filed known))
+              (slot_all under below_write low (λ u is. mine c a e s filed known))
+              (slot_all under above_write high (λ u is. mine c a e s filed known)));
+        };
+        ordered = ordered;
+      }
+        where
+          trial_under : Record → Type 0
+          trial_under r = Contains (names.Queue a.id ∷ []) (guard_of (key_of r))

@@ -1,12 +1,12 @@
 -- The records that a Send writes to its queue, and those that it leaves.
-use Rattle.std.proofs.Common.{◌≡◌, ℕ, ◌+◌, ◌<◌, ℤ, pos, ◌≤ℤ◌, ◌<ℤ◌, Bool, true, false, cond, List, [], ◌∷◌, ◌++◌, length, map, Option, Some, None, ◌⊎◌, inl, inr, refl, sym, ap, ◌∙◌, subst, arith}
-use Rattle.std.specs.Prelude.{◌==◌, ◌≢◌, option_map, option_and_then}
-use Rattle.std.specs.List.{All, Contains, filter, find}
+use Rattle.std.proofs.Common.{◌≡◌, ℕ, ◌<◌, ℤ, pos, negsuc, ◌≤ℤ◌, ◌<ℤ◌, Bool, true, false, cond, List, [], ◌∷◌, ◌++◌, length, Option, Some, None, inl, inr, refl, sym, ap, ◌∙◌, subst, arith}
+use Rattle.std.specs.Prelude.{◌==◌, option_map, option_and_then}
+use Rattle.std.specs.List.{All, AllPairs, Contains, filter, find}
 use Rattle.std.proofs.lemmas.Bool.{eqb-true}
-use Rattle.std.proofs.lemmas.Bool.Decides.{Decides-eqb, Decides-int_eq, nat_tests}
+use Rattle.std.proofs.lemmas.Bool.Decides.{Decides-eqb, nat_tests}
 use Rattle.std.proofs.lemmas.Int.{ints}
 use Rattle.std.proofs.lemmas.List.{append-nil}
-use Rattle.std.proofs.lemmas.List.Elements.{All-append, All-cons, All-contains, All-nil, All-weaker, Contains-append_cases, Contains-append_left, Contains-append_right}
+use Rattle.std.proofs.lemmas.List.Elements.{All-cons, All-contains, All-head, All-nil, All-tail, All-weaker, Contains-append_cases, Contains-append_left}
 use Rattle.bucket_page.specs.declared.record_key.RecordKey.{RecordKey}
 use Rattle.bucket_page.specs.Keys.{is_same}
 use Rattle.queue_model.specs.declared.answer.Answer.TheVariants.{Sent}
@@ -31,41 +31,70 @@ use Rattle.queue_records.specs.Fields.{type_number}
 use Rattle.queue_records.specs.Range.{IsInRange, IsType}
 use Rattle.queue_records.specs.Spelling.{key_of}
 use Rattle.type_chains.specs.Entries.{queue_entry, type_entry, message_entry}
-use Rattle.type_chains.specs.Lists.{serials, serials_of_type, types, is_of_type}
-use Rattle.type_chains.specs.Neighbours.{first_of, last_of}
+use Rattle.type_chains.specs.Lists.{types, is_of_type}
+use Rattle.type_chains.specs.Neighbours.{last_of}
 use Rattle.type_chains.specs.RecordOf.{has_number, has_serial, type_record, message_record, record_of}
 use Rattle.type_chains.specs.Sending.{message_of, with_one_more, last_message}
 use Rattle.type_chains.proofs.Limits.{all_types, in_range, lawful_queue}
-use Rattle.type_chains.proofs.Members.{contains_tail}
-use Rattle.type_chains.proofs.Pairs.{all_of}
+use Rattle.type_chains.proofs.Members.{contains_tail, head_or_tail}
 use Rattle.type_chains.proofs.Sends.{made_of_the_queue}
-use Rattle.type_chains.proofs.Tests.{mapped}
 use Rattle.type_chains.proofs.TypesStand.{are_types_of}
 use Rattle.xsi_inquiry.specs.declared.write.Write.{Write}
-use Rattle.xsi_inquiry.specs.declared.write.Write.TheVariants.{Replace}
+use Rattle.xsi_inquiry.specs.declared.write.Write.TheVariants.{Replace, Relink}
 use Rattle.xsi_inquiry.specs.Telling.{IsFiled}
-use Rattle.xsi_inquiry.specs.Writing.{AreAbsent, Leads, trials_of, value_length}
-use Rattle.xsi_send.specs.declared.reads.SendReads.{SendReads}
-use Rattle.xsi_send.specs.declared.reads.TypePlace.{TypePlace}
-use Rattle.xsi_send.specs.declared.reads.TypePlace.TheVariants.{Standing, Between}
+use Rattle.xsi_inquiry.specs.Writing.{Leads, Plan, value_length}
+use Rattle.page_locks.specs.declared.lock.LockName.TheVariants as names
+use Rattle.queue_records.specs.declared.links.Links.TheVariants as links
+use Rattle.queue_records.specs.declared.links.TypeLinks.{TypeLinks}
+use Rattle.queue_records.specs.Keys.{key_of_message, key_of_type}
+use Rattle.queue_records.specs.Relinking.{relinked, with_type_links}
+use Rattle.queue_records.proofs.Lengths.{length-queue}
+use Rattle.xsi_inquiry.specs.Owning.{IsOrdered, IsUnder}
+use Rattle.xsi_inquiry.proofs.SlotLemmas.{InSlot}
 use Rattle.xsi_send.specs.Knowing.{IsOpen}
-use Rattle.xsi_send.specs.Planning.{linked, new_type, relinked, replaced, sent_plan, sent_writes}
-use Rattle.xsi_send.specs.ReadOf.{AreOf, IsBetween, IsLastOfType, IsPlaceOf, last_message_of}
-use Rattle.xsi_send.proofs.Beside.{contains_at, in_first, in_last}
-use Rattle.xsi_send.proofs.Lengths.{queue_length, type_length, message_length}
-use Rattle.xsi_send.proofs.Links.{is_linked, stays_linked}
-use Rattle.xsi_send.proofs.OneQueueChanged.{agree_but, found_new}
-use Rattle.xsi_send.proofs.Puts.{IsNew, Fills, Misses, MissesRecord, leads_by}
-use Rattle.xsi_send.proofs.Sorted.{less_apart}
-use Rattle.xsi_send.proofs.Told.{has_first, message_stands, of_filter, queue_stands, same_number, stands, type_stands, typed}
-use Rattle.xsi_send.proofs.TypeLinks.{entry_above, entry_below, entry_higher, entry_lower, entry_new, other_entry, same_types, standing_entry, types_after}
+use Rattle.xsi_send.specs.Planning.{links_behind, queue_write, takes_more}
+use Rattle.xsi_send.proofs.Beside.{contains_at, split_last}
+use Rattle.xsi_send.proofs.Sorted.{pairs_front}
+use Rattle.xsi_send.proofs.Walked.{more_taken}
+use Rattle.xsi_send.proofs.Links.{is_linked}
+use Rattle.type_chains.proofs.OneQueueChanged.{found_new}
+use Rattle.xsi_inquiry.proofs.LeadLemmas.{IsNew, Fills}
+use Rattle.xsi_send.proofs.Told.{message_stands, queue_stands, stands, type_stands, typed}
 
 -- ---- what is replaced where there is something
 
-pub all_replaced : {X : Type 0} (P : Write → Type 0) (f : X → Record) (o : Option X) →
-    ((x : X) → o ≡ Some x → P (Replace (f x))) → All P (replaced (option_map f o))
-all_replaced P f None each = All-nil P
-all_replaced P f (Some x) each = All-cons P (Replace (f x)) [] (each x refl) (All-nil P)
+pub slot_all : {X : Type 0} (P : Write → Type 0) (f : X → Write) (o : Option X) → ((x : X) → o ≡ Some x → P (f x)) →
+    InSlot P (option_map f o)
+slot_all P f None each = tt
+slot_all P f (Some x) each = each x refl
+
+-- a plan of a call that holds the queue of an id: what it leads to, where it writes, and in which order
+pub record IsRightPlan (id : ℕ) (p : Plan) (old new : RecordKey → Option Record) : Type 0 where
+  pub leads : Leads p old new
+  pub own : IsUnder (names.Queue id ∷ []) p
+  pub ordered : IsOrdered p
+
+-- types from 1 on have numbers in their order
+pub number_less : (t u : ℤ) → pos 1 ≤ℤ t → t <ℤ u → type_number t < type_number u
+number_less (negsuc m) u begun less = absurd (omega (arith, ints, begun))
+number_less (pos m) (negsuc k) begun less = absurd (omega (arith, ints, less))
+number_less (pos m) (pos k) begun less = let it : m < k = omega (arith, ints, less) in it
+
+-- four slots
+pub four : (P : Option Write → Type 0) (a b c d : Option Write) → P a → P b → P c → P d → All P (a ∷ b ∷ c ∷ d ∷ [])
+four P a b c d first second third fourth =
+    All-cons P a (b ∷ c ∷ d ∷ []) first (All-cons P b (c ∷ d ∷ []) second (All-cons P c (d ∷ []) third
+    (All-cons P d [] fourth (All-nil P))))
+
+pub each_of : (P : Option Write → Type 0) (a b c d : Option Write) → All P (a ∷ b ∷ c ∷ d ∷ []) → P a × P b × P c × P d
+each_of P a b c d all =
+    let two = All-tail P a (b ∷ c ∷ d ∷ []) all in
+    let three = All-tail P b (c ∷ d ∷ []) two in (
+      All-head P a (b ∷ c ∷ d ∷ []) all,
+      All-head P b (c ∷ d ∷ []) two,
+      All-head P c (d ∷ []) three,
+      All-head P d [] (All-tail P c (d ∷ []) three),
+    )
 
 -- a record that a write misses is another
 pub misses_key : (key k : RecordKey) → is_same key k ≡ false → key.kind ≡ k.kind → key.queue ≡ k.queue →
@@ -146,8 +175,8 @@ module _ (c : Caller) (a : SendArguments) (e : QueueEntry) (s : State) (filed : 
 
     -- ---- records that are written are new ones
 
-    pub new_in_range : (r : Record) → IsNew old_records new_records r → IsInRange r
-    new_in_range r is = in_range t (key_of r) r lawful_t is
+    pub new_in_range : (key : RecordKey) (r : Record) → new_records key ≡ Some r → IsInRange r
+    new_in_range key r is = in_range t key r lawful_t is
 
     -- a replacement by a record of the new queue that is as long as the one that it replaces
     pub fills : (r x y : Record) → y ≡ r → new_records (key_of y) ≡ Some y → old_records (key_of r) ≡ Some x →
@@ -160,57 +189,72 @@ module _ (c : Caller) (a : SendArguments) (e : QueueEntry) (s : State) (filed : 
     abbrev message_trial : Record
     message_trial = records.Message (last_message c.pid a (queue_entry q))
 
-    abbrev queue_write : Write
-    queue_write = Replace (records.Queue (with_one_more c.pid a (queue_entry q)))
-
     pub queue_fills : Fills old_records new_records (Replace (records.Queue (with_one_more c.pid a (queue_entry q))))
     queue_fills =
         fills (records.Queue (with_one_more c.pid a (queue_entry q))) (records.Queue (queue_entry q))
         (records.Queue (queue_entry new)) (ap records.Queue (made_of_the_queue c.pid a q lawful_q).queue)
         (queue_stands t lawful_t new new_stands) (queue_stands s filed.lawful q its_stands)
-        (queue_length (queue_entry q) ∙ sym (queue_length (with_one_more c.pid a (queue_entry q))))
+        (length-queue (queue_entry q) ∙ sym (length-queue (with_one_more c.pid a (queue_entry q))))
 
     pub message_new : IsNew old_records new_records (records.Message (last_message c.pid a (queue_entry q)))
     message_new = subst (λ x. new_records (key_of (records.Message x)) ≡ Some (records.Message x))
         (made_of_the_queue c.pid a q lawful_q).message
         (message_stands t lawful_t new new_stands m (contains_at q.messages [] m))
 
-    pub linked_fills : (x : Message) → Contains q.messages x →
-        Fills old_records new_records (Replace (records.Message (linked a.mtype q.next_serial (message_entry q x))))
-    linked_fills x there =
-        fills (records.Message (linked a.mtype q.next_serial (message_entry q x))) (records.Message (message_entry q x))
-        (records.Message (message_entry new x)) (ap records.Message (is_linked c.pid a q lawful_q x there))
-        (message_stands t lawful_t new new_stands x (kept x there)) (message_stands s filed.lawful q its_stands x there)
-        (message_length (message_entry q x) ∙ sym (message_length (linked a.mtype q.next_serial (message_entry q x))))
+    -- a Message behind which the new one comes
+    pub linked_fills : (x : Message) → Contains q.messages x → (on_queue of_type : Bool) →
+        (on_queue ≡ true → last_of q.messages ≡ Some x) → (on_queue ≡ false → last_of q.messages ≡ Some x → ⊥) →
+        (of_type ≡ true → (x.mtype ≡ a.mtype) × (last_of (filter (is_of_type a.mtype) q.messages) ≡ Some x)) →
+        (of_type ≡ false → (x.mtype ≡ a.mtype) × (last_of (filter (is_of_type a.mtype) q.messages) ≡ Some x) → ⊥) →
+        Fills old_records new_records (Relink (key_of_message q.id x.serial) (links_behind q.next_serial on_queue of_type))
+    linked_fills x there on_queue of_type last no_last typed no_typed =
+        let turn = option_map (relinked (links_behind q.next_serial on_queue of_type)) in
+        let stood = message_stands s filed.lawful q its_stands x there in
+        let now = message_stands t lawful_t new new_stands x (kept x there) in (
+          (message_entry q x, stood),
+          now ∙ ap (λ (m : MessageEntry). Some (records.Message m))
+              (is_linked c.pid a q lawful_q x there on_queue of_type last no_last typed no_typed)
+              ∙ sym (ap turn stood),
+        )
 
-    pub type_fills : (u : ℤ) (r : TypeEntry) → type_entry new u ≡ r → Contains (types q.messages) u →
-        Contains (types new.messages) u → r.id ≡ q.id → r.mtype ≡ u → Fills old_records new_records (Replace
-        (records.Type r))
-    type_fills u r same there still id mtype =
-        fills (records.Type r) (records.Type (type_entry q u)) (records.Type (type_entry new u)) (ap records.Type same)
-        (type_stands t lawful_t new new_stands u still)
-        (ap (λ (k : RecordKey). old_records k) (keyed id mtype) ∙ type_stands s filed.lawful q its_stands u there)
-        (type_length (type_entry q u) ∙ sym (type_length r))
-      where
-        keyed : r.id ≡ q.id → r.mtype ≡ u → key_of (records.Type r) ≡ key_of (records.Type (type_entry q u))
-        keyed id mtype = λ i. record { kind = TYPE; queue = id i; number = type_number (mtype i) }
+    -- a Type that leads to the new message, or to its type
+    pub type_fills : (u : ℤ) (l : TypeLinks) → type_entry new u ≡ with_type_links l (type_entry q u) →
+        Contains (types q.messages) u → Contains (types new.messages) u →
+        Fills old_records new_records (Relink (key_of_type q.id u) (links.Type l))
+    type_fills u l is there still =
+        let turn = option_map (relinked (links.Type l)) in
+        let stood = type_stands s filed.lawful q its_stands u there in
+        let now = type_stands t lawful_t new new_stands u still in (
+          (type_entry q u, stood),
+          now ∙ ap (λ (r : TypeEntry). Some (records.Type r)) is ∙ sym (ap turn stood),
+        )
 
-    -- a Message that is relinked
-    pub relinked_fills : (o : Option MessageEntry) →
-        ((x : MessageEntry) → o ≡ Some x → (y : Message) × Contains q.messages y × (x ≡ message_entry q y)) →
-        All (Fills old_records new_records) (relinked a (queue_entry q) o)
-    relinked_fills o each = all_replaced (Fills old_records new_records)
-        (λ (m : MessageEntry). records.Message (linked a.mtype q.next_serial m)) o
-        (λ x is. let (y, there, same) = each x is in
-        subst (λ z. Fills old_records new_records (Replace (records.Message (linked a.mtype q.next_serial z))))
-        (sym same)
-        (linked_fills y there))
+    -- each message but the last has a lesser serial
+    pub less_than_last : (x y : Message) → Contains q.messages y → last_of q.messages ≡ Some x →
+        (y.serial ≡ x.serial → ⊥) → y.serial < x.serial
+    less_than_last x y there last apart =
+        let (front, whole) = split_last q.messages x last in
+        let less = pairs_front (λ (m n : Message). m.serial < n.serial) front [] x
+        (subst (λ (ms : List Message). AllPairs (λ (m n : Message). m.serial < n.serial) ms) whole
+        lawful_q.serials_ascend) in
+        elim (Contains-append_cases front (x ∷ []) y (subst (λ (ms : List Message). Contains ms y) whole there)) [
+          | inl first ↦ All-contains (λ (m : Message). m.serial < x.serial) front y less first
+          | inr end ↦ elim (head_or_tail x y [] end) [
+            | inl same ↦ absurd (apart (ap (λ (m : Message). m.serial) (sym same)))
+            | inr (k, within, at) ↦ absurd (omega (arith, within))
+          ]
+        ]
 
-    pub last_stands : (x : MessageEntry) → last_message_of q ≡ Some x →
-        (y : Message) × Contains q.messages y × (x ≡ message_entry q y)
-    last_stands x is =
-        let (y, last, same) = mapped (message_entry q) (last_of q.messages) x is in
-        (y, in_last q.messages y last, sym same)
+    -- what the queue's name guards is the call's own
+    pub mine : Contains (names.Queue a.id ∷ []) (names.Queue q.id)
+    mine = subst (λ (n : ℕ). Contains (names.Queue a.id ∷ []) (names.Queue n)) (sym known.its_id)
+        (contains_at [] [] (names.Queue a.id))
+
+    -- the Queue is written where its counts stay numbers, as they do
+    pub queue_is : queue_write c.pid a (queue_entry q) ≡ Some (Replace (records.Queue (with_one_more c.pid a
+        (queue_entry q))))
+    queue_is = ap (λ (b : Bool). cond b (Some (Replace (records.Queue (with_one_more c.pid a (queue_entry q))))) None)
+        (subst (λ (x : QueueEntry). takes_more (length a.body) x ≡ true) known.entry (more_taken c a e s filed known))
 
     -- ---- keys at which nothing stands yet
 
@@ -243,8 +287,8 @@ module _ (c : Caller) (a : SendArguments) (e : QueueEntry) (s : State) (filed : 
         made_same (has_serial key.number) q.messages (λ (x : Message). records.Message (message_entry q x))
         (λ (x : Message). records.Message (message_entry new x))
         (λ x there passes. let number = eqb-true x.serial key.number passes in
-        ap records.Message (stays_linked c.pid a q lawful_q x there (no_last x there number) (no_last_typed x there
-        number)))
+        ap records.Message (sym (is_linked c.pid a q lawful_q x there false false (λ never. absurd cc)
+        (λ _. no_last x there number) (λ never. absurd cc) (λ _ is. no_last_typed x there number is.0 is.1))))
         ∙ ap (option_map (λ (x : Message). records.Message (message_entry new x)))
         (ap (find (has_serial key.number)) (sym (append-nil q.messages))
         ∙ sym (find_over (has_serial key.number) q.messages [] m (over (q.next_serial == key.number) refl)))
@@ -266,26 +310,16 @@ module _ (c : Caller) (a : SendArguments) (e : QueueEntry) (s : State) (filed : 
         ∙ ap (option_map (λ (u : ℤ). records.Type (type_entry new u)))
         (sym found ∙ ap (find (has_number key.number)) (sym is))
 
-    -- a write among others
-    abbrev MissesAll : RecordKey → List Write → Type 0
-    MissesAll key ws = (w : Write) → Contains ws w → Misses key w
+    -- what is written at the key of a message's Message, or of a type's Type, is missed by no write
+    pub message_hit : (key : RecordKey) (x : Message) → is_same key (key_of_message q.id x.serial) ≡ false →
+        key.kind ≡ MESSAGE → key.queue ≡ a.id → x.serial ≡ key.number → ⊥
+    message_hit key x misses kind queue number =
+        misses_key key (key_of_message q.id x.serial) misses kind (queue ∙ sym known.its_id) (sym number)
 
-    -- the Message of a message that is relinked is missed by no write
-    pub relinked_hit : (key : RecordKey) (o : Option MessageEntry) (x : Message) → MissesAll key (relinked a
-        (queue_entry q) o) →
-        o ≡ Some (message_entry q x) → key.kind ≡ MESSAGE → key.queue ≡ a.id → x.serial ≡ key.number → ⊥
-    relinked_hit key o x misses is kind queue number =
-        let w = Replace (records.Message (linked a.mtype q.next_serial (message_entry q x))) in
-        let there : Contains (relinked a (queue_entry q) o) w =
-        subst (λ (p : Option MessageEntry). Contains (relinked a (queue_entry q) p) w) (sym is) (contains_at [] [] w) in
-        misses_key key (key_of (records.Message (linked a.mtype q.next_serial (message_entry q x))))
-        (misses w there) kind
-        (queue ∙ sym known.its_id) (sym number)
-
-    pub last_hit : (key : RecordKey) (x : Message) → MissesAll key (relinked a (queue_entry q) (last_message_of q)) →
-        last_of q.messages ≡ Some x → key.kind ≡ MESSAGE → key.queue ≡ a.id → x.serial ≡ key.number → ⊥
-    last_hit key x misses is kind queue number =
-        relinked_hit key (last_message_of q) x misses (ap (option_map (message_entry q)) is) kind queue number
+    pub type_hit : (key : RecordKey) (u : ℤ) → is_same key (key_of_type q.id u) ≡ false →
+        key.kind ≡ TYPE → key.queue ≡ a.id → type_number u ≡ key.number → ⊥
+    type_hit key u misses kind queue number =
+        misses_key key (key_of_type q.id u) misses kind (queue ∙ sym known.its_id) (sym number)
 
     pub types_of_q : (u : ℤ) → Contains (types q.messages) u → pos 1 ≤ℤ u
     types_of_q u there = All-contains IsType (types q.messages) u (all_types s filed.lawful q its_stands) there

@@ -1,27 +1,22 @@
 -- What the records at the keys that a Send asks for tell of its queue.
-use Rattle.std.proofs.Common.{of_z, to_z, ◌≡◌, ℕ, suc, ◌-◌, ◌≤◌, ◌<◌, ℤ, pos, negsuc, ◌≤ℤ◌, ◌<ℤ◌, Bool, true, false, List, [], ◌∷◌, ◌++◌, length, map, Option, Some, None, refl, sym, ap, ◌∙◌, subst, arith}
-use Rattle.std.specs.Prelude.{◌≢◌, ◌+◌, ◌^◌, int_lt, nat_lt, slice_index, nat_eq, not, ◌==◌, option_map, option_and_then, FitsSigned}
+use Rattle.std.proofs.Common.{of_z, to_z, ◌≡◌, ℕ, ◌-◌, ◌≤◌, ℤ, pos, negsuc, ◌≤ℤ◌, Bool, List, ◌++◌, length, Option, Some, None, refl, sym, ap, ◌∙◌, subst, arith}
+use Rattle.std.specs.Prelude.{◌≢◌, int_lt, slice_index, option_and_then, FitsSigned, Result, Ok}
 use Rattle.std.specs.Int.{w64}
-use Rattle.std.specs.Option.{option_eq}
-use Rattle.std.specs.List.{All, AllPairs, Contains, filter, find}
+use Rattle.std.specs.List.{All, Contains, filter, find}
 use Rattle.std.proofs.lemmas.Bool.{eqb-true}
 use Rattle.std.proofs.lemmas.Bool.Decides.{Decides-eqb}
 use Rattle.std.proofs.lemmas.Int.{ints, to_z-of_z}
-use Rattle.std.proofs.lemmas.List.{append-nil, append_assoc}
 use Rattle.std.proofs.lemmas.Option.{same_Some, slice_get-get_or}
-use Rattle.std.proofs.lemmas.List.Elements.{Contains-append_left, Contains-append_right, All-nil, All-cons, All-push, All-contains, All-contains_itself, All-filter, All-weaker}
+use Rattle.std.proofs.lemmas.List.Elements.{Contains-append_left, Contains-append_right, All-contains, All-contains_itself, All-filter}
 use Rattle.queue_model.specs.declared.call.SendArguments.{SendArguments}
 use Rattle.queue_model.specs.declared.caller.Caller.{Caller}
-use Rattle.limits.specs.declared.TheConstants.{END_OF_SERIALS}
 use Rattle.queue_model.specs.declared.message.Message.{Message}
 use Rattle.queue_model.specs.declared.queue.Queue.{Queue}
 use Rattle.queue_model.specs.Lawful.{IsLawful, IsLawfulQueue, IsLawfulMessage}
 use Rattle.queue_model.specs.Rules.{has_id}
-use Rattle.queue_model.specs.Selection.{total_bytes}
 use Rattle.queue_model.specs.State.{State}
 use Rattle.queue_model.proofs.ListLemmas.{find-Some}
 use Rattle.limits.specs.declared.TheConstants.{MAX_BODY}
-use Rattle.queue_records.specs.declared.message_entry.MessageEntry.{MessageEntry}
 use Rattle.queue_records.specs.declared.queue_entry.QueueEntry.{QueueEntry}
 use Rattle.queue_records.specs.declared.record.Record.{Record}
 use Rattle.queue_records.specs.declared.record.Record.TheVariants as records
@@ -29,25 +24,22 @@ use Rattle.queue_records.specs.declared.type_entry.TypeEntry.{TypeEntry}
 use Rattle.queue_records.specs.Fields.{type_number}
 use Rattle.queue_records.specs.Range.{IsType}
 use Rattle.queue_records.specs.Spelling.{key_of}
-use Rattle.type_chains.specs.Entries.{queue_entry, type_entry, message_entry, is_same_type}
-use Rattle.type_chains.specs.Fits.{HasFittingMessage, HasFittingQueue}
+use Rattle.type_chains.specs.Entries.{queue_entry, type_entry, message_entry}
 use Rattle.type_chains.specs.Image.{queue_records, key_records, type_records, message_records}
 use Rattle.type_chains.specs.Lists.{serials, serials_of_type, types, is_of_type}
-use Rattle.type_chains.specs.Neighbours.{first_of, last_of, behind}
-use Rattle.type_chains.specs.RecordOf.{has_number, has_serial, type_record, message_record, record_of}
-use Rattle.type_chains.proofs.Elements.{All-types}
+use Rattle.type_chains.specs.Neighbours.{last_of}
+use Rattle.type_chains.specs.RecordOf.{has_number, has_serial, type_record, record_of}
 use Rattle.type_chains.proofs.Images.{queue_has}
 use Rattle.type_chains.proofs.Limits.{all_types, lawful_queue, types_stand}
 use Rattle.type_chains.proofs.Members.{contains_head, contains_tail, in_map}
 use Rattle.type_chains.proofs.Pairs.{all_of}
 use Rattle.type_chains.proofs.Tests.{mapped}
-use Rattle.type_chains.proofs.Unique.{find_one, types_ascend}
+use Rattle.type_chains.proofs.Unique.{find_one}
 use Rattle.xsi_inquiry.specs.Telling.{IsFiled, IsTold}
-use Rattle.xsi_send.specs.Knowing.{IsOpen, message_key_of, type_key_of}
-use Rattle.xsi_send.specs.ReadOf.{IsBetween, IsLastOfType, IsWalked, last_message_of}
-use Rattle.xsi_send.proofs.Beside.{contains_at, in_first, in_last, last-map, last_push}
-use Rattle.xsi_send.proofs.Sorted.{pairs_back}
-use Rattle.xsi_send.proofs.TypeLinks.{higher_is}
+use Rattle.xsi_inquiry.specs.declared.wanted.Wanted.TheVariants.{At}
+use Rattle.queue_records.specs.Keys.{key_of_message, key_of_type}
+use Rattle.xsi_send.specs.Knowing.{IsOpen}
+use Rattle.xsi_send.proofs.Beside.{in_last, last-map}
 
 -- types from 1 on with one number are one
 pub same_number : (t u : ℤ) → pos 1 ≤ℤ t → pos 1 ≤ℤ u → type_number t ≡ type_number u → t ≡ u
@@ -88,22 +80,22 @@ module _ (s : State) (lawful : IsLawful s) (id : ℕ) (q : Queue) (found : find 
   stands = (find-Some (has_id id) s.queues q found).1
 
   pub message_there : (m : Message) → Contains q.messages m →
-      record_of s (message_key_of id m.serial) ≡ Some (records.Message (message_entry q m))
+      record_of s (key_of_message id m.serial) ≡ Some (records.Message (message_entry q m))
   message_there m there =
-      subst (λ (n : ℕ). record_of s (message_key_of n m.serial) ≡ Some (records.Message (message_entry q m))) its
+      subst (λ (n : ℕ). record_of s (key_of_message n m.serial) ≡ Some (records.Message (message_entry q m))) its
       (message_stands s lawful q stands m there)
 
   pub type_there : (t : ℤ) → Contains (types q.messages) t →
-      record_of s (type_key_of id t) ≡ Some (records.Type (type_entry q t))
+      record_of s (key_of_type id t) ≡ Some (records.Type (type_entry q t))
   type_there t there =
-      subst (λ (n : ℕ). record_of s (type_key_of n t) ≡ Some (records.Type (type_entry q t))) its
+      subst (λ (n : ℕ). record_of s (key_of_type n t) ≡ Some (records.Type (type_entry q t))) its
       (type_stands s lawful q stands t there)
 
   pub type_at : (number : ℕ) → record_of s (record { kind = 4; queue = id; number = number }) ≡ type_record number q
   type_at number = ap (option_and_then (type_record number)) found
 
   -- the Type at a type's key is that type's, which stands
-  pub type_found : (t : ℤ) (r : Record) → pos 1 ≤ℤ t → record_of s (type_key_of id t) ≡ Some r →
+  pub type_found : (t : ℤ) (r : Record) → pos 1 ≤ℤ t → record_of s (key_of_type id t) ≡ Some r →
       Contains (types q.messages) t × (r ≡ records.Type (type_entry q t))
   type_found t r typed at =
       let (u, there, is) = mapped (λ (t : ℤ). records.Type (type_entry q t))
@@ -114,11 +106,11 @@ module _ (s : State) (lawful : IsLawful s) (id : ℕ) (q : Queue) (found : find 
       (subst (Contains (types q.messages)) same passes.1, sym is ∙ ap (λ v. records.Type (type_entry q v)) same)
 
   -- where there is none the type does not stand
-  pub type_absent : (t : ℤ) → record_of s (type_key_of id t) ≡ None → All (λ (u : ℤ). u ≢ t) (types q.messages)
+  pub type_absent : (t : ℤ) → record_of s (key_of_type id t) ≡ None → All (λ (u : ℤ). u ≢ t) (types q.messages)
   type_absent t none = all_of (λ (u : ℤ). u ≢ t) (types q.messages) (λ u there same.
       let at = type_there u there in
       let clash : ◌≡◌ {A = Option Record} None (Some (records.Type (type_entry q u))) =
-      sym none ∙ ap (λ v. record_of s (type_key_of id v)) (sym same) ∙ at in
+      sym none ∙ ap (λ v. record_of s (key_of_type id v)) (sym same) ∙ at in
       absurd cc)
 
   pub short_body : (m : Message) → Contains q.messages m → length m.bytes ≤ MAX_BODY
@@ -132,7 +124,7 @@ last_with ms serial last =
     mapped (λ (m : Message). m.serial) (last_of ms) serial (sym (last-map (λ (m : Message). m.serial) ms) ∙ last)
 
 -- serials tell the messages of a lawful queue apart
-serial_tells : {q : Queue} (lawful : IsLawfulQueue q) (m n : Message) → Contains q.messages m → Contains q.messages n →
+pub serial_tells : {q : Queue} (lawful : IsLawfulQueue q) (m n : Message) → Contains q.messages m → Contains q.messages n →
     m.serial ≡ n.serial → m ≡ n
 serial_tells {q} lawful m n first second same =
     let one = by_one m first in
@@ -153,19 +145,6 @@ pub of_filter : {X : Type 0} (p : X → Bool) (xs : List X) (x : X) → Contains
 of_filter p xs x there = All-contains (Contains xs) (filter p xs) x
     (All-filter p (Contains xs) xs (All-contains_itself xs)) there
 
-unmapped : {X Y : Type 0} (f : X → Y) (o : Option X) → option_map f o ≡ None → o ≡ None
-unmapped f None none = refl
-unmapped f (Some x) none = absurd cc
-
--- a test that told a serial to be this one
-pub is_serial : (o : Option ℕ) (n : ℕ) → not (option_eq nat_eq o (Some n)) ≡ false → o ≡ Some n
-is_serial None n test = absurd cc
-is_serial (Some k) n test = by (k == n) refl test
-  where
-    by : (b : Bool) → (k == n) ≡ b → not b ≡ false → Some k ≡ Some n
-    by true same test = ap Some (eqb-true k n same)
-    by false other test = absurd cc
-
 -- types that are told to be one, or one less than the other
 pub same_of_z : (t u : ℤ) → FitsSigned w64 t → FitsSigned w64 u → of_z w64 t ≡ of_z w64 u → t ≡ u
 same_of_z t u first second same = sym (to_z-of_z w64 t first) ∙ ap (to_z w64) same ∙ to_z-of_z w64 u second
@@ -182,20 +161,11 @@ same_found found r x one other = same_Some r x (sym one ∙ other)
 pub never_none : (found : Option Record) (r : Record) → found ≡ Some r → found ≡ None → ⊥
 never_none found r one none = let clash : ◌≡◌ {A = Option Record} None (Some r) = sym none ∙ one in absurd cc
 
-pub same_message : (m n : MessageEntry) → records.Message m ≡ records.Message n → m ≡ n
-same_message m n same = cc
+pub same_ok : {T E : Type 0} (r : Result T E) (x y : T) → r ≡ Ok x → r ≡ Ok y → x ≡ y
+same_ok r x y one other = cc
 
 pub same_type : (m n : TypeEntry) → records.Type m ≡ records.Type n → m ≡ n
 same_type m n same = cc
-
--- without a last serial there is no last message
-pub last_none : (c : Caller) (a : SendArguments) (e : QueueEntry) (s : State) (known : IsOpen c a e s) → e.last ≡ None →
-    None ≡ last_message_of known.queue
-last_none c a e s known none =
-    let q = known.queue in
-    let serial = sym (last-map (λ (m : Message). m.serial) q.messages)
-    ∙ sym (ap (λ (x : QueueEntry). x.last) known.entry) ∙ none in
-    sym (ap (option_map (message_entry q)) (unmapped (λ (m : Message). m.serial) (last_of q.messages) serial))
 
 -- ---- what each record that is asked for tells
 
@@ -207,36 +177,16 @@ module _ (c : Caller) (a : SendArguments) (e : QueueEntry) (s : State) (filed : 
     pub typed : pos 1 ≤ℤ a.mtype
     typed = let t = known.typed in grind (arith, ints, t)
 
-    message_of : (found : Option Record) (m : Message) → Contains known.queue.messages m →
-        IsTold s (Some (message_key_of a.id m.serial)) found →
-        found ≡ Some (records.Message (message_entry known.queue m))
-    message_of found m there told = told (message_key_of a.id m.serial) refl
-        ∙ message_there s filed.lawful a.id q known.found known.its_id m there
-
     -- the queue's last message
     pub last_there : (serial : ℕ) → e.last ≡ Some serial →
         (m : Message) × (last_of known.queue.messages ≡ Some m) × (m.serial ≡ serial)
     last_there serial last = last_with q.messages serial (sym (ap (λ (x : QueueEntry). x.last) known.entry) ∙ last)
 
-    pub last_told : (serial : ℕ) (found : Option Record) → e.last ≡ Some serial →
-        IsTold s (Some (message_key_of a.id serial)) found →
-        (m : Message) × (found ≡ Some (records.Message (message_entry known.queue m)))
-        × (Some (message_entry known.queue m) ≡ last_message_of known.queue)
-        × (length (message_entry known.queue m).body ≤ MAX_BODY)
-    last_told serial found last told =
-        let (m, is, has) = last_there serial last in
-        let there = in_last q.messages m is in (
-          m,
-          message_of found m there (subst (λ n. IsTold s (Some (message_key_of a.id n)) found) (sym has) told),
-          sym (ap (option_map (message_entry q)) is),
-          short_body s filed.lawful a.id q known.found known.its_id m there,
-        )
-
     -- the Type of the message's type
-    pub type_told : (r : Record) → IsTold s (Some (type_key_of a.id a.mtype)) (Some r) →
+    pub type_told : (r : Record) → IsTold s (Some (At (key_of_type a.id a.mtype))) (Some r) →
         Contains (types known.queue.messages) a.mtype × (r ≡ records.Type (type_entry known.queue a.mtype))
     type_told r told = type_found s filed.lawful a.id q known.found known.its_id a.mtype r typed
-        (sym (told (type_key_of a.id a.mtype) refl))
+        (sym (told (key_of_type a.id a.mtype) refl))
 
     -- a type's first message
     pub has_first : Contains (types known.queue.messages) a.mtype →
@@ -254,24 +204,9 @@ module _ (c : Caller) (a : SendArguments) (e : QueueEntry) (s : State) (filed : 
     last_typed_there there = last_with (filter (is_of_type a.mtype) q.messages) (type_entry q a.mtype).last
         (last_in_is (serials_of_type a.mtype q.messages) (has_first there))
 
-    pub last_typed_told : (found : Option Record) → Contains (types known.queue.messages) a.mtype →
-        IsTold s (Some (message_key_of a.id (type_entry known.queue a.mtype).last)) found →
-        (m : Message) × (found ≡ Some (records.Message (message_entry known.queue m)))
-        × IsLastOfType a.mtype (Some (message_entry known.queue m)) known.queue
-        × (length (message_entry known.queue m).body ≤ MAX_BODY)
-    last_typed_told found standing told =
-        let (m, is, has) = last_typed_there standing in
-        let there = of_filter (is_of_type a.mtype) q.messages m (in_last (filter (is_of_type a.mtype) q.messages) m is)
-        in (
-          m,
-          message_of found m there (subst (λ n. IsTold s (Some (message_key_of a.id n)) found) (sym has) told),
-          sym (ap (option_map (message_entry q)) is),
-          short_body s filed.lawful a.id q known.found known.its_id m there,
-        )
-
     -- where the type's last serial is the queue's, so is its last message
     pub last_is_queues : (there : Contains (types known.queue.messages) a.mtype) →
-        e.last ≡ Some (type_entry known.queue a.mtype).last → IsLastOfType a.mtype None known.queue
+        e.last ≡ Some (type_entry known.queue a.mtype).last → last_of (filter (is_of_type a.mtype) known.queue.messages) ≡ last_of known.queue.messages
     last_is_queues standing same =
         let (m, is, has) = last_typed_there standing in
         let (n, last, its) = last_there (type_entry q a.mtype).last same in

@@ -1,53 +1,42 @@
 -- What a Send knows on its way up the types, and that its numbers stay numbers.
-use Rattle.std.proofs.Common.{of_z, to_z, ◌≡◌, ℕ, suc, ◌-◌, ◌≤◌, ◌<◌, ℤ, pos, negsuc, ◌≤ℤ◌, ◌<ℤ◌, Bool, true, false, List, [], ◌∷◌, ◌++◌, length, map, Option, Some, None, refl, sym, ap, ◌∙◌, subst, arith}
-use Rattle.std.specs.Prelude.{◌≢◌, ◌+◌, ◌^◌, int_lt, nat_lt, slice_index, nat_eq, not, ◌==◌, option_map, option_and_then, FitsSigned}
+use Rattle.std.proofs.Common.{◌≡◌, ℕ, ◌≤◌, ◌<◌, ℤ, pos, ◌≤ℤ◌, ◌<ℤ◌, true, false, [], ◌∷◌, ◌++◌, length, Option, Some, None, refl, sym, ap, ◌∙◌, subst, arith}
+use Rattle.std.specs.Prelude.{◌≢◌, ◌+◌, ◌^◌, nat_le, nat_lt, FitsSigned}
 use Rattle.std.specs.Int.{w64}
-use Rattle.std.specs.Option.{option_eq}
-use Rattle.std.specs.List.{All, AllPairs, Contains, filter, find}
-use Rattle.std.proofs.lemmas.Bool.{eqb-true}
-use Rattle.std.proofs.lemmas.Bool.Decides.{Decides-eqb}
-use Rattle.std.proofs.lemmas.Int.{ints, to_z-of_z}
-use Rattle.std.proofs.lemmas.List.{append-nil, append_assoc}
-use Rattle.std.proofs.lemmas.Option.{same_Some, slice_get-get_or}
-use Rattle.std.proofs.lemmas.List.Elements.{Contains-append_left, Contains-append_right, All-nil, All-cons, All-push, All-contains, All-contains_itself, All-filter, All-weaker}
+use Rattle.std.specs.List.{AllPairs, Contains}
+use Rattle.std.proofs.lemmas.Int.{ints}
+use Rattle.std.proofs.lemmas.List.{append-nil, append_assoc, length-append}
+use Rattle.std.proofs.lemmas.List.Elements.{Contains-append_right, All-nil, All-cons, All-push, All-contains, All-weaker}
 use Rattle.queue_model.specs.declared.call.SendArguments.{SendArguments}
 use Rattle.queue_model.specs.declared.caller.Caller.{Caller}
-use Rattle.limits.specs.declared.TheConstants.{END_OF_SERIALS}
+use Rattle.limits.specs.declared.TheConstants.{END_OF_SERIALS, MAX_MESSAGES}
 use Rattle.queue_model.specs.declared.message.Message.{Message}
 use Rattle.queue_model.specs.declared.queue.Queue.{Queue}
-use Rattle.queue_model.specs.Lawful.{IsLawful, IsLawfulQueue, IsLawfulMessage}
-use Rattle.queue_model.specs.Rules.{has_id}
 use Rattle.queue_model.specs.Selection.{total_bytes}
 use Rattle.queue_model.specs.State.{State}
-use Rattle.queue_model.proofs.ListLemmas.{find-Some}
-use Rattle.limits.specs.declared.TheConstants.{MAX_BODY}
-use Rattle.queue_records.specs.declared.message_entry.MessageEntry.{MessageEntry}
 use Rattle.queue_records.specs.declared.queue_entry.QueueEntry.{QueueEntry}
 use Rattle.queue_records.specs.declared.record.Record.{Record}
 use Rattle.queue_records.specs.declared.record.Record.TheVariants as records
-use Rattle.queue_records.specs.declared.type_entry.TypeEntry.{TypeEntry}
-use Rattle.queue_records.specs.Fields.{type_number}
 use Rattle.queue_records.specs.Range.{IsType}
-use Rattle.queue_records.specs.Spelling.{key_of}
-use Rattle.type_chains.specs.Entries.{queue_entry, type_entry, message_entry, is_same_type}
+use Rattle.type_chains.specs.Entries.{type_entry, is_same_type}
 use Rattle.type_chains.specs.Fits.{HasFittingMessage, HasFittingQueue}
-use Rattle.type_chains.specs.Image.{queue_records, key_records, type_records, message_records}
-use Rattle.type_chains.specs.Lists.{serials, serials_of_type, types, is_of_type}
-use Rattle.type_chains.specs.Neighbours.{first_of, last_of, behind}
-use Rattle.type_chains.specs.RecordOf.{has_number, has_serial, type_record, message_record, record_of}
+use Rattle.type_chains.specs.Lists.{types}
+use Rattle.type_chains.specs.Neighbours.{first_of, behind}
+use Rattle.type_chains.specs.RecordOf.{record_of}
 use Rattle.type_chains.proofs.Elements.{All-types}
-use Rattle.type_chains.proofs.Images.{queue_has}
-use Rattle.type_chains.proofs.Limits.{all_types, lawful_queue, types_stand}
-use Rattle.type_chains.proofs.Members.{contains_head, contains_tail, in_map}
-use Rattle.type_chains.proofs.Pairs.{all_of}
-use Rattle.type_chains.proofs.Tests.{mapped}
-use Rattle.type_chains.proofs.Unique.{find_one, types_ascend}
+use Rattle.type_chains.proofs.Limits.{all_types, lawful_queue}
+use Rattle.type_chains.proofs.Members.{contains_tail}
+use Rattle.type_chains.proofs.Unique.{types_ascend}
 use Rattle.xsi_inquiry.specs.Telling.{IsFiled, IsTold}
-use Rattle.xsi_send.specs.Knowing.{IsOpen, message_key_of, type_key_of}
-use Rattle.xsi_send.specs.ReadOf.{IsBetween, IsLastOfType, IsWalked, last_message_of}
-use Rattle.xsi_send.proofs.Beside.{contains_at, no_first, split_first, in_first, in_last, last-map, last_push}
+use Rattle.xsi_inquiry.specs.declared.wanted.Wanted.TheVariants.{At}
+use Rattle.queue_records.specs.Keys.{key_of_type}
+use Rattle.xsi_send.specs.Knowing.{IsOpen}
+use Rattle.xsi_send.specs.declared.stage.Walk.{Walk}
+use Rattle.xsi_send.specs.Planning.{takes_more}
+use Rattle.xsi_send.specs.Places.{IsBetween, IsWalked}
+use Rattle.xsi_send.proofs.Beside.{contains_at, no_first, split_first, in_first, last_push}
 use Rattle.xsi_send.proofs.Sorted.{pairs_back}
 use Rattle.xsi_send.proofs.TypeLinks.{higher_is}
+use Rattle.xsi_send.proofs.Few.{few_types}
 use Rattle.xsi_send.proofs.Told.{stands, type_absent, type_there}
 
 module _ (c : Caller) (a : SendArguments) (e : QueueEntry) (s : State) (filed : IsFiled s) (known : IsOpen c a e s)
@@ -55,37 +44,40 @@ module _ (c : Caller) (a : SendArguments) (e : QueueEntry) (s : State) (filed : 
     abbrev q : Queue
     q = known.queue
 
+    abbrev walk : Option ℤ → ℤ → ℕ → Walk
+    walk low next left = record { queue = e; lower = low; next = next; left = left }
+
     -- ---- on the way up
 
     -- the type that is read next stands
-    pub next_there : (low : Option TypeEntry) (next : ℤ) (walked : IsWalked a.mtype low next known.queue) →
+    pub next_there : (low : Option ℤ) (next : ℤ) (left : ℕ) (walked : IsWalked a.mtype (walk low next left) known.queue) →
         Contains (types known.queue.messages) next
-    next_there low next walked = subst (λ ts. Contains ts next) (sym walked.split) (contains_at walked.walked
+    next_there low next left walked = subst (λ ts. Contains ts next) (sym walked.split) (contains_at walked.walked
         walked.rest next)
 
-    pub next_told : (low : Option TypeEntry) (next : ℤ) (found : Option Record) →
-        IsWalked a.mtype low next known.queue → IsTold s (Some (type_key_of a.id next)) found →
+    pub next_told : (low : Option ℤ) (next : ℤ) (left : ℕ) (found : Option Record) →
+        IsWalked a.mtype (walk low next left) known.queue → IsTold s (Some (At (key_of_type a.id next))) found →
         found ≡ Some (records.Type (type_entry known.queue next))
-    next_told low next found walked told = told (type_key_of a.id next) refl
-        ∙ type_there s filed.lawful a.id q known.found known.its_id next (next_there low next walked)
+    next_told low next left found walked told = told (key_of_type a.id next) refl
+        ∙ type_there s filed.lawful a.id q known.found known.its_id next (next_there low next left walked)
 
-    ascend : (low : Option TypeEntry) (next : ℤ) (walked : IsWalked a.mtype low next known.queue) →
+    ascend : (low : Option ℤ) (next : ℤ) (left : ℕ) (walked : IsWalked a.mtype (walk low next left) known.queue) →
         AllPairs (λ (a b : ℤ). a <ℤ b) (walked.walked ++ next ∷ walked.rest)
-    ascend low next walked = subst (λ ts. AllPairs (λ (a b : ℤ). a <ℤ b) ts) walked.split (types_ascend q.messages)
+    ascend low next left walked = subst (λ ts. AllPairs (λ (a b : ℤ). a <ℤ b) ts) walked.split (types_ascend q.messages)
 
-    pub next_higher : (low : Option TypeEntry) (next : ℤ) (walked : IsWalked a.mtype low next known.queue) →
+    pub next_higher : (low : Option ℤ) (next : ℤ) (left : ℕ) (walked : IsWalked a.mtype (walk low next left) known.queue) →
         (type_entry known.queue next).higher ≡ first_of walked.rest
-    next_higher low next walked = ap (behind (is_same_type next)) walked.split
-        ∙ higher_is walked.walked walked.rest next (ascend low next walked)
+    next_higher low next left walked = ap (behind (is_same_type next)) walked.split
+        ∙ higher_is walked.walked walked.rest next (ascend low next left walked)
 
     -- it is another than the message's
-    pub next_apart : (low : Option TypeEntry) (next : ℤ) → IsWalked a.mtype low next known.queue → next ≢ a.mtype
-    next_apart low next walked = All-contains (λ (t : ℤ). t ≢ a.mtype) (types q.messages) next walked.absent
-        (next_there low next walked)
+    pub next_apart : (low : Option ℤ) (next : ℤ) (left : ℕ) → IsWalked a.mtype (walk low next left) known.queue → next ≢ a.mtype
+    next_apart low next left walked = All-contains (λ (t : ℤ). t ≢ a.mtype) (types q.messages) next walked.absent
+        (next_there low next left walked)
 
     -- the walk begins at the lowest type
-    pub walk_begins : (lowest : ℤ) → e.lowest ≡ Some lowest → record_of s (type_key_of a.id a.mtype) ≡ None →
-        IsWalked a.mtype None lowest known.queue
+    pub walk_begins : (lowest : ℤ) → e.lowest ≡ Some lowest → record_of s (key_of_type a.id a.mtype) ≡ None →
+        IsWalked a.mtype (walk None lowest MAX_MESSAGES) known.queue
     walk_begins lowest is none =
         let (rest, whole) = split_first (types q.messages) lowest (sym (ap (λ (x : QueueEntry). x.lowest) known.entry) ∙
         is) in
@@ -96,7 +88,19 @@ module _ (c : Caller) (a : SendArguments) (e : QueueEntry) (s : State) (filed : 
           less = All-nil (λ (t : ℤ). t <ℤ a.mtype);
           absent = type_absent s filed.lawful a.id q known.found known.its_id a.mtype none;
           lower = refl;
+          count = refl;
         }
+
+    -- more may be read while one stands
+    pub walk_has_left : (low : Option ℤ) (next : ℤ) (left : ℕ) → IsWalked a.mtype (walk low next left) known.queue →
+        left ≡ 0 → ⊥
+    walk_has_left low next left walked none =
+        let few = few_types known.queue.messages in
+        let lawful = lawful_queue s filed.lawful q (stands s filed.lawful a.id q known.found known.its_id) in
+        let many = lawful.few_messages in
+        let whole = ap length walked.split ∙ length-append walked.walked (next ∷ walked.rest) in
+        let count = walked.count in
+        omega (arith, few, many, whole, count, none)
 
     pub lowest_typed : (lowest : ℤ) → e.lowest ≡ Some lowest → pos 1 ≤ℤ lowest
     lowest_typed lowest is =
@@ -120,12 +124,13 @@ module _ (c : Caller) (a : SendArguments) (e : QueueEntry) (s : State) (filed : 
         }
 
     -- the walk goes on
-    pub walk_goes_on : (low : Option TypeEntry) (next higher : ℤ) → IsWalked a.mtype low next known.queue → next <ℤ
+    pub walk_goes_on : (low : Option ℤ) (next : ℤ) (left : ℕ) (higher : ℤ) (fewer : ℕ) → fewer + 1 ≡ left →
+        IsWalked a.mtype (walk low next left) known.queue → next <ℤ
         a.mtype →
         (type_entry known.queue next).higher ≡ Some higher →
-        IsWalked a.mtype (Some (type_entry known.queue next)) higher known.queue
-    walk_goes_on low next higher walked less is =
-        let (rest, whole) = split_first walked.rest higher (sym (next_higher low next walked) ∙ is) in
+        IsWalked a.mtype (walk (Some next) higher fewer) known.queue
+    walk_goes_on low next left higher fewer one walked less is =
+        let (rest, whole) = split_first walked.rest higher (sym (next_higher low next left walked) ∙ is) in
         record {
           walked = walked.walked ++ next ∷ [];
           rest = rest;
@@ -133,38 +138,41 @@ module _ (c : Caller) (a : SendArguments) (e : QueueEntry) (s : State) (filed : 
               ∙ sym (append_assoc walked.walked (next ∷ []) (higher ∷ rest));
           less = All-push (λ (t : ℤ). t <ℤ a.mtype) walked.walked next walked.less less;
           absent = walked.absent;
-          lower = sym (ap (option_map (type_entry q)) (last_push walked.walked next));
+          lower = sym (last_push walked.walked next);
+          count = let longer = length-append walked.walked (next ∷ []) in
+              let before = walked.count in
+              omega (arith, longer, before, one);
         }
 
     -- and further up each time
-    pub walk_ascends : (low : Option TypeEntry) (next higher : ℤ) → IsWalked a.mtype low next known.queue →
+    pub walk_ascends : (low : Option ℤ) (next : ℤ) (left : ℕ) (higher : ℤ) → IsWalked a.mtype (walk low next left) known.queue →
         (type_entry known.queue next).higher ≡ Some higher → next <ℤ higher
-    walk_ascends low next higher walked is =
-        let there = in_first walked.rest higher (sym (next_higher low next walked) ∙ is) in
+    walk_ascends low next left higher walked is =
+        let there = in_first walked.rest higher (sym (next_higher low next left walked) ∙ is) in
         All-contains (λ (t : ℤ). next <ℤ t) walked.rest higher
-        (pairs_back (λ (a b : ℤ). a <ℤ b) walked.walked walked.rest next (ascend low next walked)) there
+        (pairs_back (λ (a b : ℤ). a <ℤ b) walked.walked walked.rest next (ascend low next left walked)) there
 
     -- it ends at a type that is greater
-    pub walk_ends_above : (low : Option TypeEntry) (next : ℤ) → IsWalked a.mtype low next known.queue → a.mtype <ℤ next →
-        IsBetween a.mtype low (Some (type_entry known.queue next)) known.queue
-    walk_ends_above low next walked more = record {
+    pub walk_ends_above : (low : Option ℤ) (next : ℤ) (left : ℕ) → IsWalked a.mtype (walk low next left) known.queue → a.mtype <ℤ next →
+        IsBetween a.mtype low (Some next) known.queue
+    walk_ends_above low next left walked more = record {
       below = walked.walked;
       above = next ∷ walked.rest;
       split = walked.split;
       less = walked.less;
       more = All-cons (λ (t : ℤ). a.mtype <ℤ t) next walked.rest more
           (All-weaker (λ (t : ℤ). next <ℤ t) (λ (t : ℤ). a.mtype <ℤ t) (λ t h. omega (arith, ints, more, h)) walked.rest
-          (pairs_back (λ (a b : ℤ). a <ℤ b) walked.walked walked.rest next (ascend low next walked)));
+          (pairs_back (λ (a b : ℤ). a <ℤ b) walked.walked walked.rest next (ascend low next left walked)));
       lower = walked.lower;
       higher = refl;
     }
 
     -- or behind the highest
-    pub walk_ends_behind : (low : Option TypeEntry) (next : ℤ) → IsWalked a.mtype low next known.queue → next <ℤ a.mtype →
+    pub walk_ends_behind : (low : Option ℤ) (next : ℤ) (left : ℕ) → IsWalked a.mtype (walk low next left) known.queue → next <ℤ a.mtype →
         (type_entry known.queue next).higher ≡ None →
-        IsBetween a.mtype (Some (type_entry known.queue next)) None known.queue
-    walk_ends_behind low next walked less is =
-        let empty = no_first walked.rest (sym (next_higher low next walked) ∙ is) in
+        IsBetween a.mtype (Some next) None known.queue
+    walk_ends_behind low next left walked less is =
+        let empty = no_first walked.rest (sym (next_higher low next left walked) ∙ is) in
         record {
           below = walked.walked ++ next ∷ [];
           above = [];
@@ -172,7 +180,7 @@ module _ (c : Caller) (a : SendArguments) (e : QueueEntry) (s : State) (filed : 
               ∙ sym (append-nil (walked.walked ++ next ∷ []));
           less = All-push (λ (t : ℤ). t <ℤ a.mtype) walked.walked next walked.less less;
           more = All-nil (λ (t : ℤ). a.mtype <ℤ t);
-          lower = sym (ap (option_map (type_entry q)) (last_push walked.walked next));
+          lower = sym (last_push walked.walked next);
           higher = refl;
         }
 
@@ -190,11 +198,11 @@ module _ (c : Caller) (a : SendArguments) (e : QueueEntry) (s : State) (filed : 
     lowest_fits lowest is = type_fits lowest (in_first (types q.messages) lowest
         (sym (ap (λ (x : QueueEntry). x.lowest) known.entry) ∙ is))
 
-    pub higher_fits : (low : Option TypeEntry) (next higher : ℤ) → IsWalked a.mtype low next known.queue →
+    pub higher_fits : (low : Option ℤ) (next : ℤ) (left : ℕ) (higher : ℤ) → IsWalked a.mtype (walk low next left) known.queue →
         (type_entry known.queue next).higher ≡ Some higher → FitsSigned w64 higher
-    higher_fits low next higher walked is = type_fits higher (subst (λ ts. Contains ts higher) (sym walked.split)
+    higher_fits low next left higher walked is = type_fits higher (subst (λ ts. Contains ts higher) (sym walked.split)
         (Contains-append_right walked.walked (next ∷ walked.rest) higher (contains_tail next higher walked.rest
-        (in_first walked.rest higher (sym (next_higher low next walked) ∙ is)))))
+        (in_first walked.rest higher (sym (next_higher low next left walked) ∙ is)))))
 
     -- the Queue's counts stay numbers
     pub numbers_fit : (e.cbytes + length a.body < 2 ^ 32) × (e.qnum + 1 < 2 ^ 32) × (e.next_serial + 1 < 2 ^ 64)
@@ -214,3 +222,12 @@ module _ (c : Caller) (a : SendArguments) (e : QueueEntry) (s : State) (filed : 
               omega (arith, lawful.few_messages),
               omega (arith, more, lawful.serials_end),
             )
+
+    -- so they can be written
+    pub more_taken : takes_more (length a.body) e ≡ true
+    more_taken =
+        let (bytes, number, serial) = numbers_fit in
+        let first : nat_le (e.cbytes + length a.body) 4294967295 ≡ true = grind (arith, bytes) in
+        let second : nat_lt e.qnum 4294967295 ≡ true = grind (arith, number) in
+        let third : nat_lt e.next_serial 18446744073709551615 ≡ true = grind (arith, serial) in
+        rw (first, second, third) refl

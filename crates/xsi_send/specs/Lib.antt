@@ -1,3 +1,4 @@
+pub mod Asked
 pub mod Knowing
 pub mod Planning
-pub mod ReadOf
+pub mod Places

@@ -1,114 +1,166 @@
 //! What a Send writes.
 
-ghost use Rattle.std.specs.Prelude.{◌≡◌, ◌≤◌, ◌+◌, ◌<◌, ◌^◌, ◌++◌, [], ◌∷◌, ℕ, length, Some, IfSome, IsSome, IfOk, IsOk, option_map};
-ghost use Rattle.queue_model.specs.declared.answer.Answer.TheVariants.{Sent};
-ghost use Rattle.queue_model.specs.Rules.{outcome_of_send};
+ghost use Rattle.std.specs.Prelude.{◌≡◌, true, None, length, slice_get, slice_index_or};
 ghost use Rattle.queue_model.specs.Selection.{lesser};
-ghost use Rattle.queue_model.specs.State.{State};
-ghost use Rattle.queue_records.specs.declared.message_entry.MessageEntry.{MessageEntry};
-ghost use Rattle.queue_records.specs.declared.record.Record.TheVariants as records;
-ghost use Rattle.queue_records.specs.declared.type_entry.TypeEntry.{TypeEntry};
-ghost use Rattle.type_chains.specs.RecordOf.{record_of};
 ghost use Rattle.type_chains.specs.Sending.{last_message, with_one_more};
-ghost use Rattle.xsi_inquiry.specs.Telling.{Gives, IsFiled};
-ghost use Rattle.xsi_inquiry.specs.Writing.{Leads};
-ghost use Rattle.xsi_send.specs.Planning.{linked, new_type, relinked, replaced, sent_plan};
-ghost use Rattle.xsi_send.specs.ReadOf.{IsReadOf};
+ghost use Rattle.xsi_send.specs.Planning.{link_if, links_behind, new_type, queue_write, sent_slots, sent_trials, takes_more};
 
-use crate::reads::{SendReads, TypePlace};
-use queue_model::{Caller, SendArguments};
-use queue_records::{Body, MessageEntry, QueueEntry, Record, TypeEntry};
-use xsi_inquiry::{HeldMessage, MAX_WRITES, NotASystem, Plan, Trials, Writes};
+use crate::type_place::TypePlace;
+use queue_model::SendArguments;
+use queue_records::{
+    Body, Link, Links, MessageEntry, MessageLinks, QueueEntry, Record, TypeEntry, TypeLinks,
+    message_key, type_key,
+};
+use xsi_inquiry::Write;
 
-/// The plan of a Send of this caller, from the entries that it read. In every system whose entries those are, and in
-/// which the Send is answered with a serial, it takes the records to those of the system after it. It writes at most
-/// seven records, and refuses counts that no queue has.
-pub fn plan_send<'a>(
-    caller: Caller,
-    arguments: &'a SendArguments,
-    reads: &'a SendReads,
-) -> Result<Plan<'a>, NotASystem>
-    ensures value { IfOk result (λ plan. plan ≡ sent_plan caller.pid arguments.now reads.now) }
-    ensures leads { (s t : State) (serial : ℕ) → IsFiled s → IsReadOf arguments.now reads.now s →
-        outcome_of_send caller arguments.now s ≡ Some (Sent serial, t) →
-        Gives result (λ plan. Leads plan (record_of s) (record_of t)) }
-{
-    let Some(queue) = with_one_more(caller.pid, arguments, &reads.queue) else {
-        return Err(NotASystem);
-    };
-    Ok(plan_of(caller.pid, arguments, reads, queue))
-}
-
-/// The plan that leaves this Queue.
-fn plan_of<'a>(
+/// What is inserted on trial: the Message, then the Type where its type is new.
+pub fn sent_trial<'a>(
     pid: u32,
     arguments: &'a SendArguments,
-    reads: &'a SendReads,
-    queue: QueueEntry,
-) -> Plan<'a>
-    requires { queue ≡ with_one_more pid arguments.now reads.now.queue }
-    ensures { result ≡ sent_plan pid arguments.now reads.now }
+    queue: &QueueEntry,
+    types: TypePlace,
+    place: usize,
+) -> Option<Record<'a>>
+    ensures { result ≡ slice_get (sent_trials pid arguments.now queue.now types) place }
 {
-    let message = last_message(pid, arguments, &reads.queue);
-    let serial = reads.queue.next_serial;
-    let mtype = arguments.mtype;
-    let mut writes = Writes::new();
-    writes.replace(Record::Queue(queue));
-    match &reads.place {
-        TypePlace::Standing(entry, last) => {
-            relink(&mut writes, last, mtype, serial);
-            relink(&mut writes, &reads.last, mtype, serial);
-            writes.replace(Record::Type(TypeEntry {
-                last: serial,
-                ..*entry
-            }));
-            Plan {
-                trials: Trials::One(Record::Message(message)),
-                writes,
-            }
-        }
-        TypePlace::Between(lower, higher) => {
-            relink(&mut writes, &reads.last, mtype, serial);
-            if let Some(entry) = lower {
-                writes.replace(Record::Type(TypeEntry {
-                    higher: Some(mtype),
-                    ..*entry
-                }));
-            }
-            if let Some(entry) = higher {
-                writes.replace(Record::Type(TypeEntry {
-                    lower: Some(mtype),
-                    ..*entry
-                }));
-            }
-            let entry = new_type(reads.queue.id, mtype, serial, lower, higher);
-            Plan {
-                trials: Trials::Two(Record::Message(message), Record::Type(entry)),
-                writes,
-            }
-        }
+    match (place, types) {
+        (0, _) => Some(Record::Message(last_message(pid, arguments, queue))),
+        (1, TypePlace::Between(lower, higher)) => Some(Record::Type(new_type(
+            queue.id,
+            arguments.mtype,
+            queue.next_serial,
+            lower,
+            higher,
+        ))),
+        (_, _) => None,
     }
 }
 
-/// The Queue with one message more, where its counts stay numbers.
-fn with_one_more(pid: u32, arguments: &SendArguments, queue: &QueueEntry) -> Option<QueueEntry>
-    ensures value { IfSome result (λ more. more ≡ with_one_more pid arguments.now queue.now) }
-    ensures some { queue.now.cbytes + length arguments.now.body < 2 ^ 32 →
-        queue.now.qnum + 1 < 2 ^ 32 →
-        queue.now.next_serial + 1 < 2 ^ 64 → IsSome result }
+/// What is written behind the decision: the Queue, then Messages by serial, then Types by type. A Message or a Type gets
+/// new links where it stands.
+pub fn sent_write(
+    pid: u32,
+    arguments: &SendArguments,
+    queue: &QueueEntry,
+    types: TypePlace,
+    slot: usize,
+) -> Option<Write>
+    ensures { result ≡ slice_index_or (sent_slots pid arguments.now queue.now types) slot None }
 {
-    let length = u32::try_from(arguments.body.len()).ok()?;
-    Some(QueueEntry {
-        cbytes: queue.cbytes.checked_add(length)?,
-        qnum: queue.qnum.checked_add(1)?,
+    let id = queue.id;
+    let mtype = arguments.mtype;
+    let serial = queue.next_serial;
+    match (slot, types) {
+        (0, _) => queue_write(pid, arguments, queue),
+        (1, TypePlace::Standing(last)) if queue.last == Some(last) => None,
+        (1, TypePlace::Standing(last)) => Some(Write::Relink(
+            message_key(id, last),
+            links_behind(serial, false, true),
+        )),
+        (2, TypePlace::Standing(last)) => {
+            let end = queue.last?;
+            Some(Write::Relink(
+                message_key(id, end),
+                links_behind(serial, true, end == last),
+            ))
+        }
+        (3, TypePlace::Standing(_)) => Some(Write::Relink(
+            type_key(id, mtype),
+            Links::Type(TypeLinks {
+                first: None,
+                last: Some(serial),
+                lower: Link::Stays,
+                higher: Link::Stays,
+            }),
+        )),
+        (1, TypePlace::Between(..)) => {
+            let end = queue.last?;
+            Some(Write::Relink(message_key(id, end), links_behind(serial, true, false)))
+        }
+        (2, TypePlace::Between(lower, _)) => {
+            let lower = lower?;
+            Some(Write::Relink(
+                type_key(id, lower),
+                Links::Type(TypeLinks {
+                    first: None,
+                    last: None,
+                    lower: Link::Stays,
+                    higher: Link::LeadsTo(mtype),
+                }),
+            ))
+        }
+        (3, TypePlace::Between(_, higher)) => {
+            let higher = higher?;
+            Some(Write::Relink(
+                type_key(id, higher),
+                Links::Type(TypeLinks {
+                    first: None,
+                    last: None,
+                    lower: Link::LeadsTo(mtype),
+                    higher: Link::Stays,
+                }),
+            ))
+        }
+        (_, _) => None,
+    }
+}
+
+/// The links of a Message behind which the message of this serial comes, on the queue or of its type.
+fn links_behind(serial: u64, on_queue: bool, of_type: bool) -> Links
+    ensures { result ≡ links_behind serial on_queue of_type }
+{
+    Links::Message(MessageLinks {
+        previous: Link::Stays,
+        next: link_if(on_queue, serial),
+        next_of_type: link_if(of_type, serial),
+    })
+}
+
+/// A link that leads to the serial, or stays.
+fn link_if(leads: bool, serial: u64) -> Link<u64>
+    ensures { result ≡ link_if leads serial }
+{
+    match leads {
+        true => Link::LeadsTo(serial),
+        false => Link::Stays,
+    }
+}
+
+/// Whether the counts of a Queue stay numbers with one message of this length more.
+pub fn takes_more(length: usize, queue: &QueueEntry) -> bool
+    ensures { result ≡ takes_more length queue.now }
+{
+    (queue.cbytes as usize).saturating_add(length) <= u32::MAX as usize
+        && queue.qnum < u32::MAX
+        && queue.next_serial < u64::MAX
+}
+
+/// The Queue with one message more, where its counts stay numbers.
+fn queue_write(pid: u32, arguments: &SendArguments, queue: &QueueEntry) -> Option<Write>
+    ensures { result ≡ queue_write pid arguments.now queue.now }
+{
+    if !takes_more(arguments.body.len(), queue) {
+        return None;
+    }
+    Some(Write::Replace(Record::Queue(with_one_more(pid, arguments, queue))))
+}
+
+/// The Queue with one message more.
+fn with_one_more(pid: u32, arguments: &SendArguments, queue: &QueueEntry) -> QueueEntry
+    requires { takes_more (length arguments.now.body) queue.now ≡ true }
+    ensures { result ≡ with_one_more pid arguments.now queue.now }
+{
+    QueueEntry {
+        cbytes: queue.cbytes + arguments.body.len() as u32,
+        qnum: queue.qnum + 1,
         lspid: pid,
         stime: arguments.moment,
-        next_serial: queue.next_serial.checked_add(1)?,
+        next_serial: queue.next_serial + 1,
         first: Some(queue.first.unwrap_or(queue.next_serial)),
         last: Some(queue.next_serial),
         lowest: Some(lesser(arguments.mtype, queue.lowest)),
         ..*queue
-    })
+    }
 }
 
 /// The lesser of a type and the lowest of a queue.
@@ -138,46 +190,15 @@ fn last_message<'a>(pid: u32, arguments: &'a SendArguments, queue: &QueueEntry) 
 }
 
 /// The Type of a type of which this is the one message, between its neighbours.
-fn new_type(
-    id: u32,
-    mtype: i64,
-    serial: u64,
-    lower: &Option<TypeEntry>,
-    higher: &Option<TypeEntry>,
-) -> TypeEntry
-    ensures { result ≡ new_type id mtype serial lower.now higher.now }
+fn new_type(id: u32, mtype: i64, serial: u64, lower: Option<i64>, higher: Option<i64>) -> TypeEntry
+    ensures { result ≡ new_type id mtype serial lower higher }
 {
     TypeEntry {
         id,
         mtype,
         first: serial,
         last: serial,
-        lower: lower.map(|entry| entry.mtype),
-        higher: higher.map(|entry| entry.mtype),
-    }
-}
-
-/// Where the links of a Message end they go on to the new message.
-fn relink<'a>(writes: &mut Writes<'a>, message: &'a Option<HeldMessage>, mtype: i64, serial: u64)
-    requires { length writes.old + 1 ≤ MAX_WRITES }
-    ensures { writes.new ≡ writes.old ++ replaced (option_map
-        (λ (m : MessageEntry). records.Message (linked mtype serial m)) message.now) }
-{
-    if let Some(message) = message {
-        writes.replace(Record::Message(linked(message.entry(), mtype, serial)));
-    }
-}
-
-/// A Message with a message of this type and serial behind it.
-fn linked(message: MessageEntry<'_>, mtype: i64, serial: u64) -> MessageEntry<'_>
-    ensures { result ≡ linked mtype serial message.entry }
-{
-    MessageEntry {
-        next: Some(message.next.unwrap_or(serial)),
-        next_of_type: match mtype == message.mtype {
-            true => Some(message.next_of_type.unwrap_or(serial)),
-            false => message.next_of_type,
-        },
-        ..message
+        lower,
+        higher,
     }
 }

@@ -1,36 +1,54 @@
 //! The records that a Send reads, one after the other.
 
-ghost use Rattle.std.specs.Prelude.{◌≡◌, ◌<◌, ◌≤◌, ◌+◌, None, IfOk, IsSome};
+ghost use Rattle.std.specs.Prelude.{◌≡◌, ◌<◌, ◌≤◌, ◌+◌, None, IfOk};
 ghost use Rattle.queue_model.specs.State.{State};
+ghost use Rattle.queue_records.specs.Keys.{key_of_type};
 ghost use Rattle.type_chains.specs.RecordOf.{record_of};
-ghost use Rattle.xsi_inquiry.specs.Seeking.{IsEntryOf, Tells, key_sought, reads_left};
-ghost use Rattle.xsi_inquiry.specs.Telling.{Gives, IsFiled, IsTold};
-ghost use Rattle.xsi_send.specs.declared.stage.Stage.TheVariants.{AtLast, AtLastOfType, AtNeighbour, AtType, Seeking};
-ghost use Rattle.xsi_send.specs.Knowing.{IsAllowed, KnowsAt, asks_left, key_wanted, natural, type_key_of};
+ghost use Rattle.xsi_inquiry.specs.Seeking.{IsEntryOf, Tells, reads_left, sought_next};
+ghost use Rattle.xsi_inquiry.specs.Telling.{AsksGiven, AsksRecord, Gives, IsFiled, IsTold, IsToldGiven};
+ghost use Rattle.xsi_send.specs.declared.stage.Stage.TheVariants.{AtNeighbour, AtType, Seeking};
+ghost use Rattle.xsi_send.specs.Knowing.{IsAllowed, KnowsAt, asked, asks_left};
 
-use crate::queue::{lacks_room, permissions_in};
-use crate::reads::{SendReads, TypePlace};
-use crate::stage::Stage;
+use crate::stage::{Stage, Walk};
+use crate::type_place::TypePlace;
 use queue_model::{Access, Caller, Errno, SendArguments};
-use queue_records::{QueueEntry, Record, TypeEntry};
-use xsi_inquiry::{HeldMessage, NotASystem, Sought, message_in, type_in};
+use queue_records::{MAX_MESSAGES, QueueEntry, Record};
+use type_chains::{lacks_room_in, permissions_in};
+use xsi_inquiry::{NotASystem, Sought, type_in};
 
-/// The Queue, or the Counter where there is none.
+/// The Queue.
 pub fn seek(
     caller: Caller,
     arguments: &SendArguments,
     sought: Sought,
     found: Option<Record<'_>>,
 ) -> Result<Stage, NotASystem>
-    requires { IsSome (key_sought arguments.now.id sought) }
+    requires { AsksRecord (sought_next arguments.now.id sought) }
     ensures told { (s : State) → IsFiled s → KnowsAt caller arguments.now (Seeking sought) s →
-        IsTold s (key_sought arguments.now.id sought) found.entry →
+        IsTold s (sought_next arguments.now.id sought) found.entry →
         Gives result (λ stage. KnowsAt caller arguments.now stage s) }
-    ensures fewer { IfOk result (λ stage.
-        asks_left arguments.now stage < asks_left arguments.now (Seeking sought)) }
+    ensures fewer { IfOk result (λ stage. asks_left stage < asks_left (Seeking sought)) }
 {
     let mut sought = sought;
     sought.take(arguments.id, found)?;
+    Ok(at_sought(caller, arguments, sought))
+}
+
+/// Whether the id was given out, where it has no queue.
+pub fn seek_given(
+    caller: Caller,
+    arguments: &SendArguments,
+    sought: Sought,
+    given: bool,
+) -> Result<Stage, NotASystem>
+    requires { AsksGiven (sought_next arguments.now.id sought) }
+    ensures told { (s : State) → IsFiled s → KnowsAt caller arguments.now (Seeking sought) s →
+        IsToldGiven s (sought_next arguments.now.id sought) given →
+        Gives result (λ stage. KnowsAt caller arguments.now stage s) }
+    ensures fewer { IfOk result (λ stage. asks_left stage < asks_left (Seeking sought)) }
+{
+    let mut sought = sought;
+    sought.take_given(arguments.id, given)?;
     Ok(at_sought(caller, arguments, sought))
 }
 
@@ -38,8 +56,7 @@ pub fn seek(
 pub fn at_sought(caller: Caller, arguments: &SendArguments, sought: Sought) -> Stage
     ensures told { (s : State) → IsAllowed arguments.now → Tells arguments.now.id sought s →
         KnowsAt caller arguments.now result s }
-    ensures fewer { asks_left arguments.now result
-        ≤ reads_left sought + (natural arguments.now.mtype + 3) }
+    ensures fewer { asks_left result ≤ reads_left sought + 1025 }
 {
     match sought {
         Sought::Unread | Sought::Absent => Stage::Seeking(sought),
@@ -52,169 +69,89 @@ pub fn at_sought(caller: Caller, arguments: &SendArguments, sought: Sought) -> S
 fn at_queue(caller: Caller, arguments: &SendArguments, queue: QueueEntry) -> Stage
     ensures told { (s : State) → IsAllowed arguments.now → IsEntryOf arguments.now.id queue s →
         KnowsAt caller arguments.now result s }
-    ensures fewer { asks_left arguments.now result ≤ natural arguments.now.mtype + 3 }
+    ensures fewer { asks_left result ≤ 1025 }
 {
     if permissions_in(&queue).keeps_out(Access::Write, caller) {
         return Stage::Refused(Errno::EACCES);
     }
-    if lacks_room(arguments.body.len(), &queue) {
+    if lacks_room_in(arguments.body.len(), &queue) {
         return Stage::Full;
     }
-    match queue.last {
-        Some(serial) => Stage::AtLast(queue, serial),
-        None => Stage::AtType(queue, None),
-    }
+    Stage::AtType(queue)
 }
 
-/// The last Message of the queue.
-pub fn take_last(
-    caller: Caller,
-    arguments: &SendArguments,
-    queue: QueueEntry,
-    serial: u64,
-    found: Option<Record<'_>>,
-) -> Result<Stage, NotASystem>
-    ensures told { let before = AtLast queue serial in
-        (s : State) → IsFiled s → KnowsAt caller arguments.now before s →
-        IsTold s (key_wanted arguments.now before) found.entry →
-        Gives result (λ stage. KnowsAt caller arguments.now stage s) }
-    ensures fewer { IfOk result (λ stage.
-        asks_left arguments.now stage < asks_left arguments.now (AtLast queue serial)) }
-{
-    let Some(found) = found else {
-        return Err(NotASystem);
-    };
-    let message = message_in(found)?;
-    Ok(Stage::AtType(queue, Some(message)))
-}
-
-/// The Type of the message's type. Where it stands, the last Message of it is read unless it is the queue's last;
-/// where it does not, its neighbours are sought from the lowest type up.
+/// The Type of the message's type. Where there is none, its neighbours are sought from the lowest type up.
 pub fn take_type(
     caller: Caller,
     arguments: &SendArguments,
     queue: QueueEntry,
-    last: Option<HeldMessage>,
     found: Option<Record<'_>>,
 ) -> Result<Stage, NotASystem>
-    ensures told { let before = AtType queue last in
-        (s : State) → IsFiled s → KnowsAt caller arguments.now before s →
-        IsTold s (key_wanted arguments.now before) found.entry →
+    ensures told { (s : State) → IsFiled s → KnowsAt caller arguments.now (AtType queue) s →
+        IsTold s (asked arguments.now (AtType queue)) found.entry →
         Gives result (λ stage. KnowsAt caller arguments.now stage s) }
-    ensures fewer { IfOk result (λ stage.
-        asks_left arguments.now stage < asks_left arguments.now (AtType queue last)) }
+    ensures fewer { IfOk result (λ stage. asks_left stage < asks_left (AtType queue)) }
 {
     let Some(found) = found else {
-        return walk(caller, arguments, queue, last);
+        return walk(caller, arguments, queue);
     };
     let entry = type_in(found)?;
-    if queue.last != Some(entry.last) {
-        return Ok(Stage::AtLastOfType(queue, last, entry));
-    }
-    Ok(Stage::Done(SendReads {
-        queue,
-        last,
-        place: TypePlace::Standing(entry, None),
-    }))
+    Ok(Stage::Done(queue, TypePlace::Standing(entry.last)))
 }
 
 /// The way from the lowest type up begins.
-fn walk(
-    caller: Caller,
-    arguments: &SendArguments,
-    queue: QueueEntry,
-    last: Option<HeldMessage>,
-) -> Result<Stage, NotASystem>
-    ensures told { (s : State) → IsFiled s → KnowsAt caller arguments.now (AtType queue last) s →
-        record_of s (type_key_of arguments.now.id arguments.now.mtype) ≡ None →
+fn walk(caller: Caller, arguments: &SendArguments, queue: QueueEntry) -> Result<Stage, NotASystem>
+    ensures told { (s : State) → IsFiled s → KnowsAt caller arguments.now (AtType queue) s →
+        record_of s (key_of_type arguments.now.id arguments.now.mtype) ≡ None →
         Gives result (λ stage. KnowsAt caller arguments.now stage s) }
-    ensures fewer { IfOk result (λ stage.
-        asks_left arguments.now stage < asks_left arguments.now (AtType queue last)) }
+    ensures fewer { IfOk result (λ stage. asks_left stage < asks_left (AtType queue)) }
 {
     match queue.lowest {
-        None => Ok(Stage::Done(SendReads {
+        None => Ok(Stage::Done(queue, TypePlace::Between(None, None))),
+        Some(next) => Ok(Stage::AtNeighbour(Walk {
             queue,
-            last,
-            place: TypePlace::Between(None, None),
+            lower: None,
+            next,
+            left: MAX_MESSAGES,
         })),
-        Some(lowest) => {
-            if lowest < 1 {
-                return Err(NotASystem);
-            }
-            Ok(Stage::AtNeighbour(queue, last, None, lowest))
-        }
     }
-}
-
-/// The last Message of the type.
-pub fn take_last_of_type(
-    caller: Caller,
-    arguments: &SendArguments,
-    queue: QueueEntry,
-    last: Option<HeldMessage>,
-    entry: TypeEntry,
-    found: Option<Record<'_>>,
-) -> Result<Stage, NotASystem>
-    ensures told { let before = AtLastOfType queue last entry in
-        (s : State) → IsFiled s → KnowsAt caller arguments.now before s →
-        IsTold s (key_wanted arguments.now before) found.entry →
-        Gives result (λ stage. KnowsAt caller arguments.now stage s) }
-    ensures fewer { IfOk result (λ stage.
-        asks_left arguments.now stage < asks_left arguments.now (AtLastOfType queue last entry)) }
-{
-    let Some(found) = found else {
-        return Err(NotASystem);
-    };
-    let message = message_in(found)?;
-    Ok(Stage::Done(SendReads {
-        queue,
-        last,
-        place: TypePlace::Standing(entry, Some(message)),
-    }))
 }
 
 /// A Type on the way up. The types ascend, so the way ends.
 pub fn take_neighbour(
     caller: Caller,
     arguments: &SendArguments,
-    queue: QueueEntry,
-    last: Option<HeldMessage>,
-    lower: Option<TypeEntry>,
-    next: i64,
+    walk: Walk,
     found: Option<Record<'_>>,
 ) -> Result<Stage, NotASystem>
-    ensures told { let before = AtNeighbour queue last lower next in
-        (s : State) → IsFiled s → KnowsAt caller arguments.now before s →
-        IsTold s (key_wanted arguments.now before) found.entry →
+    ensures told { (s : State) → IsFiled s → KnowsAt caller arguments.now (AtNeighbour walk) s →
+        IsTold s (asked arguments.now (AtNeighbour walk)) found.entry →
         Gives result (λ stage. KnowsAt caller arguments.now stage s) }
-    ensures fewer { IfOk result (λ stage.
-        asks_left arguments.now stage
-        < asks_left arguments.now (AtNeighbour queue last lower next)) }
+    ensures fewer { IfOk result (λ stage. asks_left stage < asks_left (AtNeighbour walk)) }
 {
     let Some(found) = found else {
         return Err(NotASystem);
     };
-    let entry = type_in(found)?;
-    let mtype = arguments.mtype;
-    if next == mtype {
+    let Some(left) = walk.left.checked_sub(1) else {
         return Err(NotASystem);
-    }
-    if next > mtype {
-        return Ok(Stage::Done(SendReads {
-            queue,
-            last,
-            place: TypePlace::Between(lower, Some(entry)),
-        }));
-    }
-    let Some(higher) = entry.higher else {
-        return Ok(Stage::Done(SendReads {
-            queue,
-            last,
-            place: TypePlace::Between(Some(entry), None),
-        }));
     };
-    if higher <= next {
+    let entry = type_in(found)?;
+    if walk.next == arguments.mtype {
         return Err(NotASystem);
     }
-    Ok(Stage::AtNeighbour(queue, last, Some(entry), higher))
+    if walk.next > arguments.mtype {
+        return Ok(Stage::Done(walk.queue, TypePlace::Between(walk.lower, Some(walk.next))));
+    }
+    let Some(next) = entry.higher else {
+        return Ok(Stage::Done(walk.queue, TypePlace::Between(Some(walk.next), None)));
+    };
+    if next <= walk.next {
+        return Err(NotASystem);
+    }
+    Ok(Stage::AtNeighbour(Walk {
+        lower: Some(walk.next),
+        next,
+        left,
+        ..walk
+    }))
 }

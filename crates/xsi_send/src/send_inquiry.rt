@@ -1,92 +1,117 @@
 //! A Send as it asks for records.
 
-ghost use Rattle.std.specs.Prelude.{◌≡◌};
-ghost use Rattle.queue_model.specs.State.{State};
-ghost use Rattle.xsi_send.specs.Knowing.{Asking, KnowsAt, asks_left, key_wanted};
-
-use crate::plan::plan_send;
+use crate::plan::{sent_trial, sent_write, takes_more};
 use crate::stage::Stage;
-use bucket_page::RecordKey;
 use queue_model::{Caller, Errno, SendArguments};
 use queue_records::Record;
-use std::marker::Model;
-use std::mem;
-use xsi_inquiry::{Decision, Inquiry, NotASystem, Verdict};
+use xsi_inquiry::{Decision, Inquiry, NotASystem, Room, Verdict, Wanted, Write};
 
-/// A Send of a caller, as far as it has come with its reading. It takes no memory beside itself.
-#[derive(Debug, Drop)]
-pub struct SendInquiry<'c> {
+/// A Send (POSIX.1-2017, `msgsnd()`) of a caller, as far as it has come with its reading: the Queue, then the Type of the
+/// message's type; where there is none, the Types from the lowest on up to the first that is greater.
+#[derive(Clone, Copy, Debug)]
+pub struct SendInquiry {
     caller: Caller,
-    arguments: &'c SendArguments,
     stage: Stage,
 }
 
-impl<'c> Model for SendInquiry<'c> {
-    ghost use Rattle.xsi_send.specs.Knowing.{Asking};
+const _: () = prove!(size_of::<SendInquiry>() <= 400);
 
-    ghost Value = { Asking };
-
-    ghost view = { λ i. record {
-      caller = i.caller;
-      arguments = i.arguments.now;
-      stage = i.stage;
-    } };
-}
-
-impl<'c> SendInquiry<'c> {
-    /// Nothing is read yet.
-    pub fn new(caller: Caller, arguments: &'c SendArguments) -> SendInquiry<'c>
-        ensures caller { result.caller ≡ caller }
-        ensures call { result.arguments ≡ arguments.now }
-        ensures knows { (s : State) → KnowsAt result.caller result.arguments result.stage s }
-    {
-        SendInquiry {
-            caller,
-            arguments,
-            stage: Stage::begin(caller, arguments),
-        }
-    }
-}
-
-impl<'c> Inquiry for SendInquiry<'c> {
+impl Inquiry for SendInquiry {
+    ghost use Rattle.std.specs.Prelude.{[], ◌∷◌};
+    ghost use Rattle.page_locks.specs.declared.lock.LockName.TheVariants as names;
     ghost use Rattle.queue_model.specs.declared.call.Call.TheVariants.{Send};
-    ghost use Rattle.xsi_send.specs.Knowing.{KnowsAt, asks_left, key_wanted};
+    ghost use Rattle.xsi_send.specs.Knowing.{KnowsAt, asked, asks_left};
+    ghost use Rattle.xsi_send.specs.Planning.{decided_at, plan_at};
+    ghost use Rattle.xsi_send.specs.Asked.{few_at, given_at, stage_asks};
+
+    type Arguments = SendArguments;
 
     ghost caller = { λ i. i.caller };
 
-    ghost call = { λ i. Send i.arguments };
+    ghost call = { λ a. Send a };
 
-    ghost wanted = { λ i. key_wanted i.arguments i.stage };
+    ghost wanted = { λ a i. asked a i.stage };
 
-    ghost Knows = { λ i s. KnowsAt i.caller i.arguments i.stage s };
+    ghost locked = { λ a i. names.Queue a.id ∷ [] };
 
-    ghost left = { λ i. asks_left i.arguments i.stage };
+    ghost Knows = { λ a i room s. KnowsAt i.caller a i.stage s };
 
-    fn wants(&self) -> Option<RecordKey> {
-        self.stage.wants(self.arguments)
+    ghost left = { λ a i. asks_left i.stage };
+
+    ghost decided = { λ a i. decided_at a i.stage };
+
+    ghost plan = { λ a i. plan_at i.caller.pid a i.stage };
+
+    ghost asks = { λ a i names s t found covered agrees told. stage_asks a i.stage s t found agrees.asked told };
+
+    ghost asks_given = { λ a i names s t given agrees told. given_at a i.stage s t given agrees.asked told };
+
+    ghost few = { λ a i. few_at i.caller.pid a i.stage };
+
+    fn begin(by: Caller, arguments: &SendArguments) -> SendInquiry {
+        SendInquiry {
+            caller: by,
+            stage: Stage::begin(by, arguments),
+        }
     }
 
-    fn take(&mut self, found: Option<Record<'_>>) -> Result<(), NotASystem> {
-        let stage = mem::replace(&mut self.stage, Stage::Full);
-        self.stage = stage.take(self.caller, self.arguments, found)?;
+    fn wants(&self, arguments: &SendArguments) -> Option<Wanted> {
+        self.stage.wants(arguments)
+    }
+
+    fn take(
+        &mut self,
+        arguments: &SendArguments,
+        found: Option<Record<'_>>,
+        _room: &mut Room,
+    ) -> Result<(), NotASystem> {
+        self.stage = self.stage.take(self.caller, arguments, found)?;
         Ok(())
     }
 
-    fn decide(&self, stopped: bool) -> Result<Decision<'_>, NotASystem> {
+    fn take_given(&mut self, arguments: &SendArguments, given: bool) -> Result<(), NotASystem> {
+        self.stage = self.stage.take_given(self.caller, arguments, given)?;
+        Ok(())
+    }
+
+    fn decide(&self, arguments: &SendArguments) -> Result<Decision, NotASystem> {
         match &self.stage {
             Stage::Refused(errno) => Ok(Decision::refuses(*errno)),
-            Stage::Full if self.arguments.nowait => Ok(Decision::refuses(Errno::EAGAIN)),
-            Stage::Full if stopped => Ok(Decision::refuses(Errno::EINTR)),
-            Stage::Full => Ok(Decision::Waits),
-            Stage::Done(reads) => Ok(Decision::Answers(
-                Verdict::Sent(reads.queue.next_serial),
-                plan_send(self.caller, self.arguments, reads)?,
-            )),
+            Stage::Full if arguments.nowait => Ok(Decision::refuses(Errno::EAGAIN)),
+            Stage::Full => Ok(Decision::PutOff),
+            Stage::Done(queue, _types) => {
+                if takes_more(arguments.body.len(), queue) {
+                    return Ok(Decision::Answers(Verdict::Sent(queue.next_serial)));
+                }
+                Err(NotASystem)
+            }
+            Stage::Seeking(_) | Stage::AtType(_) | Stage::AtNeighbour(_) => Err(NotASystem),
+        }
+    }
+
+    fn trial<'a>(&self, arguments: &'a SendArguments, place: usize) -> Option<Record<'a>> {
+        match &self.stage {
+            Stage::Done(queue, types) => {
+                sent_trial(self.caller.pid, arguments, queue, *types, place)
+            }
             Stage::Seeking(_)
-            | Stage::AtLast(..)
-            | Stage::AtType(..)
-            | Stage::AtLastOfType(..)
-            | Stage::AtNeighbour(..) => Err(NotASystem),
+            | Stage::Refused(_)
+            | Stage::Full
+            | Stage::AtType(_)
+            | Stage::AtNeighbour(_) => None,
+        }
+    }
+
+    fn write(&self, arguments: &SendArguments, slot: usize) -> Option<Write> {
+        match &self.stage {
+            Stage::Done(queue, types) => {
+                sent_write(self.caller.pid, arguments, queue, *types, slot)
+            }
+            Stage::Seeking(_)
+            | Stage::Refused(_)
+            | Stage::Full
+            | Stage::AtType(_)
+            | Stage::AtNeighbour(_) => None,
         }
     }
 }

@@ -10,5 +10,5 @@ returns c =
     let p = pair c.args.key.now c.args.value.now in
     let small : length c.args.value.now < 2 ^ 16 = omega (arith, c.requires.room) in
     put_makes c.args.payload.now c.args.at _ p c.read-head.result _ _ _ c.requires.bucket
-    (record { key = c.is_in_range.ensures; value = small }) (length-pair p) c.requires.room
+    (record { key = c.fits_bytes.ensures; value = small }) (length-pair p) c.requires.room
     c.read-head.ensures c.write.ensures split.back c.insert.ensures

@@ -7,4 +7,5 @@ use Rattle.directory.proofs.entries.lower_page.Goals as goal
 pub returns : goal.returns
 returns c i on upper =
     lower_half i c.args.page c.args.depth on upper
-    ∙ sym (c.page_of.ensures.value ∙ ap page_of (c.saturating_sub.ensures ∙ (λ t. c.first_entry.ensures t - c.half_of.ensures t)))
+    ∙ sym (c.page_of.ensures.value
+    ∙ ap page_of (c.saturating_sub.ensures ∙ (λ t. c.first_entry.ensures t - c.half_of.ensures t)))

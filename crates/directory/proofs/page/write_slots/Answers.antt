@@ -12,6 +12,7 @@ returns c =
     let a = c.split_at_mut-first.ensures.back_len in
     let b = c.split_at_mut-reserved.ensures.back_len in
     let d = c.split_at_mut-places.ensures.back_len in
-    let long : length c.split_at_mut-places.result.1.now ≡ PAYLOAD_BYTES - HEAD_BYTES - ENTRIES_BYTES = omega (arith, a, b, d, c.requires.long) in
+    let long : length c.split_at_mut-places.result.1.now ≡ PAYLOAD_BYTES - HEAD_BYTES - ENTRIES_BYTES =
+    omega (arith, a, b, d, c.requires.long) in
     let last = c.blank-2.ensures ∙ ap zeros long in
     λ i. first i ++ (reserved i ++ (c.write_numbers.ensures i ++ last i))

@@ -17,12 +17,15 @@ returns-in-Ok-eq0 g c =
     Takes-part _ _ _ _ (IsTaking-more _ _ _ c.args.text.now c.loop.rest.now 0 c.loop.invariant (search rules))
 
 pub returns-in-Err-2 : goal.returns-in-Err-2
-returns-in-Err-2 g c = Takes-part _ _ _ _ (IsTaking-kept _ _ _ c.args.text.now c.loop.rest.now c.loop.invariant c.in-Err-2.ensures.bytes)
+returns-in-Err-2 g c =
+    Takes-part _ _ _ _ (IsTaking-kept _ _ _ c.args.text.now c.loop.rest.now c.loop.invariant c.in-Err-2.ensures.bytes)
 
 pub loop-preserved : goal.loop-preserved
 loop-preserved g c = elim c.match-write.branch [
-  | in-Ok w ↦ rw w.rest-is (IsTaking-more _ _ _ c.args.text.now c.loop.rest.now _ c.loop.invariant w.in-Ok.ensures.bytes)
-  | in-Err w ↦ rw w.rest-is (IsTaking-kept _ _ _ c.args.text.now c.loop.rest.now c.loop.invariant w.in-Err.ensures.bytes)
+  | in-Ok w ↦ rw w.rest-is
+      (IsTaking-more _ _ _ c.args.text.now c.loop.rest.now _ c.loop.invariant w.in-Ok.ensures.bytes)
+  | in-Err w ↦ rw w.rest-is
+      (IsTaking-kept _ _ _ c.args.text.now c.loop.rest.now c.loop.invariant w.in-Err.ensures.bytes)
 ]
 
 -- the turns are over

@@ -6,7 +6,8 @@ use Rattle.msgq_cli.proofs.runs.reply.Goals as goal
 
 pub returns-then-not-waits-clause-replied : goal.returns-then-not-waits-clause-replied
 returns-then-not-waits-clause-replied g c = λ s held. rw (c.in-Call.is, c.reply_to.ensures)
-    (Leaves-first c.args.seated c.in-Call.call s _ c.call-first.result (search rules) (c.call-first.ensures.told s held))
+    (Leaves-first c.args.seated c.in-Call.call s _ c.call-first.result (search rules)
+    (c.call-first.ensures.told s held))
 
 pub returns-clause-replied : goal.returns-clause-replied
 returns-clause-replied g c = λ s held.

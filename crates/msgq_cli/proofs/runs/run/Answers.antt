@@ -19,7 +19,8 @@ loop-line-preserved g c =
     let line = c.line-item.result in
     let below : i < length lines = search rules in
     let same : get_or lines i line ≡ line = search rules in
-    let more : take (i + 1) lines ≡ take i lines ++ line ∷ [] = take_more lines i line below ∙ ap (λ l. take i lines ++ l ∷ []) same in
+    let more : take (i + 1) lines ≡ take i lines ++ line ∷ [] =
+    take_more lines i line below ∙ ap (λ l. take i lines ++ l ∷ []) same in
     let serves = rw c.caller.ensures at c.reply-reply.ensures.replied in
     let before = c.loop-line.invariant in
     record {

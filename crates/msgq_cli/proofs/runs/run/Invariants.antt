@@ -8,7 +8,8 @@ use Rattle.msgq_cli.specs.declared.ending.Ending.{Ending}
 use Rattle.msgq_cli.proofs.runs.run.Given as goal
 
 -- a script was run from what a caller held, and its replies printed
-pub record IsRunning (old now : CallerState) (script : Parts) (before after : OutputState) (ending : Ending) : Type 0 where
+pub record IsRunning (old now : CallerState) (script : Parts) (before after : OutputState) (ending : Ending)
+    : Type 0 where
   pub served : (s : State) → Holds old s → IsRun script s (Holds now) before after ending
   pub lines : IsPrinted script before after ending
   pub faults : now.file.faults ≡ old.file.faults

@@ -1,4 +1,4 @@
-use Rattle.std.proofs.Common.{◌≡◌, inr, arith}
+use Rattle.std.proofs.Common.{inr, arith}
 use Rattle.std.proofs.lemmas.Int.{clamps}
 use Rattle.msgq_cli.proofs.ServeLemmas.{refused_alone}
 use Rattle.one_caller.specs.Serving.{restarted}
@@ -14,9 +14,9 @@ pub returns-in-Err-clause-served : goal.returns-in-Err-clause-served
 returns-in-Err-clause-served g c = λ s honest file.
     refused_alone _ _ _ _ _ _ _ _ c.in-Err.fault (c.in-Err.ensures.refused s honest file) c.in-Err.ensures.cause
     (λ few.
-      let none = c.in-Err.ensures.few.0 few in
-      let frames = c.clamp-frames.ensures in
-      absurd (omega (arith, clamps)))
+    let none = c.in-Err.ensures.few.0 few in
+    let frames = c.clamp-frames.ensures in
+    absurd (omega (arith, clamps)))
     (rw (← c.number.ensures) c.fail.ensures)
 
 pub returns-in-Ok-clause-lines : goal.returns-in-Ok-clause-lines

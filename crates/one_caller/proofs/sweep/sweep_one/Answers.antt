@@ -1,29 +1,45 @@
--- The turn was carried out.
-use Rattle.std.proofs.Common.{subst, ◌+◌, sym}
-use Rattle.one_caller.specs.Filing.{HasValues}
-use Rattle.one_caller.proofs.SweepLemmas.{turn_within, written_plan}
-use Rattle.xsi_inquiry.specs.Sweeping.{swept}
-use Rattle.xsi_inquiry.specs.Telling.{Gives}
+-- The writes of the turn are carried out.
+use Rattle.std.proofs.Common.{◌∙◌, ◌+◌, sym, subst, drop, arith}
+use Rattle.xsi_inquiry.specs.Writing.{somes, writes_of}
+use Rattle.xsi_sweep.specs.Turns.{turn_plan}
+use Rattle.one_caller.proofs.CarryLemmas.{IsWritten, refused_less, written_more}
+use Rattle.one_caller.proofs.SweepLemmas.{none_remains, slot_none, slot_some, turn_ends, turn_remains, turn_within}
+use Rattle.one_caller.proofs.sweep.sweep_one.Goals.{in-Some+in-Ok-write_one, in_default}
 use Rattle.one_caller.proofs.sweep.sweep_one.Goals as goal
 
-pub returns-in-Ok-write_all-clause-ok : goal.returns-in-Ok-write_all-clause-ok
-returns-in-Ok-write_all-clause-ok g c = λ s q place filed alive at has.
-    let turn = c.in-Ok.ensures s q place filed alive at has in
-    let id = c.args.id in
-    record {
-      within = turn_within q.messages place c.args.serial at;
-      next_is = turn.behind;
-      values = subst (λ r. Gives r (λ _. HasValues (swept id (place + 1) s) c.write_all.new.file.records))
-          c.in-Ok-write_all.is
-          (written_plan c.in-Ok.turn.plan (swept id place s) (swept id (place + 1) s) c.write_all.result _
-          c.write_all.new.file.records turn.leads turn.no_trials has
-          (rw c.as_slice.ensures at c.write_all.ensures.ok));
-    }
+pub loop-slot-preserved : goal.loop-slot-preserved
+loop-slot-preserved g c =
+    let plan = turn_plan c.in-Ok.turn in
+    let slot = c.loop-slot.slot in
+    let goal_of = IsWritten (writes_of plan) (somes (drop (slot + 1) plan.slots)) c.args.file.now in
+    elim c.match-write.branch [
+      in-Some+in-Ok-write_one w ↦
+          subst goal_of (sym w.file-is) (written_more (writes_of plan) _ (somes (drop (slot + 1) plan.slots)) w.in-Some.write
+          c.args.file.now c.loop-slot.file w.write_one.new.file
+          (slot_some plan.slots slot w.in-Some.write (sym c.write.ensures ∙ w.in-Some.is)) c.loop-slot.invariant
+          w.in-Ok-write_one.ensures.same w.in-Ok-write_one.ensures.ok)
+      | in_default w ↦
+          subst goal_of (sym w.file-is) (subst (λ ws. IsWritten (writes_of plan) ws c.args.file.now c.loop-slot.file)
+          (slot_none plan.slots slot (sym c.write.ensures ∙ w.in_default.is)) c.loop-slot.invariant)
+    ]
 
-pub returns-in-Err-write_all-clause-ok : goal.returns-in-Err-write_all-clause-ok
-returns-in-Err-write_all-clause-ok g c = λ s q place filed alive at has.
-    let turn = c.in-Ok.ensures s q place filed alive at has in
-    let id = c.args.id in
-    subst (λ r. Gives r (λ _. HasValues (swept id (place + 1) s) c.write_all.new.file.records)) c.in-Err-write_all.is
-    (written_plan c.in-Ok.turn.plan (swept id place s) (swept id (place + 1) s) c.write_all.result _
-    c.write_all.new.file.records turn.leads turn.no_trials has (rw c.as_slice.ensures at c.write_all.ensures.ok))
+pub returns-in-Err-write_one-clause-ok : goal.returns-in-Err-write_one-clause-ok
+returns-in-Err-write_one-clause-ok g c = λ s q count filed alive first has.
+    let plan = turn_plan c.in-Ok.turn in
+    let turn = c.in-Ok.ensures s q count filed alive first has in
+    let left = turn_remains c.args.id count q s _ plan _ c.args.file.now c.loop-slot.file turn c.loop-slot.invariant has in
+    refused_less c.in-Some.write _ _ _ _
+    (slot_some plan.slots c.loop-slot.slot c.in-Some.write (sym c.write.ensures ∙ c.in-Some.is)) left
+    c.in-Err-write_one.ensures.ok
+
+pub returns-clause-ok : goal.returns-clause-ok
+returns-clause-ok g c = λ s q count filed alive first has.
+    let plan = turn_plan c.in-Ok.turn in
+    let turn = c.in-Ok.ensures s q count filed alive first has in
+    let left = turn_remains c.args.id count q s _ plan _ c.args.file.now c.loop-slot.file turn c.loop-slot.invariant has in
+    let all = c.loop-slot-test.false in
+    record {
+      within = turn_within q.messages count c.args.serial first;
+      next_is = c.next.ensures ∙ turn.next_left;
+      values = none_remains _ _ _ (turn_ends c.in-Ok.turn c.loop-slot.slot (omega (arith, all))) left;
+    }

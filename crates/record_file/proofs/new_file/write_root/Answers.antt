@@ -1,5 +1,5 @@
 -- The Counter is put into a bucket without records, where it fits.
-use Rattle.std.proofs.Common.{◌≡◌, ◌∙◌, sym, ap, subst, None}
+use Rattle.std.proofs.Common.{◌∙◌, sym, ap, subst}
 use Rattle.bucket_page.specs.Bucket.{Bucket}
 use Rattle.bucket_page.specs.Changes.{SpellsBucket}
 use Rattle.bucket_page.specs.Records.{lookup}
@@ -19,4 +19,5 @@ put-requires-clause-absent c =
 pub returns : goal.returns
 returns c =
     root_written c.put.result c.write_bucket.new.payload c.put.new.payload c.key.result c.as_slice.result.now
-    c.write_bucket.ensures c.key.ensures (c.as_slice.ensures.value ∙ c.encode.ensures) c.put.ensures.full c.put.ensures.ok
+    c.write_bucket.ensures c.key.ensures (c.as_slice.ensures.value ∙ c.encode.ensures) c.put.ensures.full
+    c.put.ensures.ok

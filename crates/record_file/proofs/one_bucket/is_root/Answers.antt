@@ -23,5 +23,6 @@ returns-then-pattern-eq0 c =
           root_test c.args.page.now c.in-Some.bucket
           (subst (λ (b : Bucket). SpellsBucket b c.args.page.now) (sym is.1) is.0)
           (sym c.depth.ensures ∙ w.if-depth-eq0.true) (sym w.pattern.ensures ∙ zero) _ c.next.ensures
-      | else-depth-eq0 w ↦ absurd (w.if-depth-eq0.false (eqb-true c.depth.result 0 (sym w.value-is ∙ c.if-pattern-eq0.true)))
+      | else-depth-eq0 w ↦
+          absurd (w.if-depth-eq0.false (eqb-true c.depth.result 0 (sym w.value-is ∙ c.if-pattern-eq0.true)))
     ]

@@ -11,4 +11,5 @@ loop-byte-preserved g c =
     let below : i < length c.args.bytes.now = search rules in
     let written = rw c.unwrap.ensures at c.encode_to_slice.ensures.written in
     let pair = rw written at c.put.ensures in
-    Prints-digits c.args.self.now c.loop-byte.self c.put.new.self _ c.args.bytes.now i 0 below c.loop-byte.invariant pair
+    Prints-digits c.args.self.now c.loop-byte.self c.put.new.self _ c.args.bytes.now i 0 below
+    c.loop-byte.invariant pair

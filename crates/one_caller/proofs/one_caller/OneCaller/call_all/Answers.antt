@@ -1,5 +1,4 @@
 -- The next call was served too.
-use Rattle.std.proofs.Common.{◌≡◌, ◌++◌, ◌∷◌, []}
 use Rattle.one_caller.proofs.CallListLemmas.{IsServedSoFar-next}
 use Rattle.one_caller.proofs.one_caller.OneCaller.call_all.Goals as goal
 

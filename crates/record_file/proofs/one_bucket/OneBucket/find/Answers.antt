@@ -5,7 +5,9 @@ use Rattle.record_file.proofs.BucketLemmas.{open_root}
 use Rattle.record_file.proofs.one_bucket.OneBucket.find.Goals as goal
 
 pub bucket_of-requires : goal.bucket_of-requires
-bucket_of-requires g c = (open_root c.self.inside.pool c.self.view_is c.in-Some.is c.self.invariant (c.image.ensures ∙ ap Some (sym c.payload.ensures))).bucket
+bucket_of-requires g c =
+    (open_root c.self.inside.pool c.self.view_is c.in-Some.is c.self.invariant
+    (c.image.ensures ∙ ap Some (sym c.payload.ensures))).bucket
 
 pub returns-clause-some : goal.returns-clause-some
 returns-clause-some g c =

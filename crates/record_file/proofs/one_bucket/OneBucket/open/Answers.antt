@@ -30,7 +30,8 @@ returns-clause-ok g c = λ is.
     let images = opened_images c.in-Ok-open.ensures.ok c.test_header.ensures.same honest keeps in
     shows_broken c.unpin.new.self (g.D.PageDevice.content c.args.device) (c.in-Ok.ensures.ok is)
     (ap (λ (s : PoolState). s.images) c.unpin.ensures ∙ images)
-    (not_root c.pin.new.self.images _ c.in-Ok-pin.root c.image.result.now c.in-Ok-pin.ensures.ok.0 c.image.ensures images
+    (not_root c.pin.new.self.images _ c.in-Ok-pin.root c.image.result.now c.in-Ok-pin.ensures.ok.0 c.image.ensures
+    images
     (λ root. absurd (false_not_true (c.if-is_root.ensures.1 root))))
 
 pub returns-in-Err-pin-clause-ok : goal.returns-in-Err-pin-clause-ok

@@ -1,9 +1,8 @@
 -- The root page's bucket changes in place, or stays where the record does not fit.
-use Rattle.std.proofs.Common.{◌≡◌, ◌+◌, ◌<◌, ◌↔◌, IsErr, None, length, subst}
+use Rattle.std.proofs.Common.{◌≡◌, None, subst}
 use Rattle.std.proofs.lemmas.Result.{on_err_weaker, on_ok_weaker}
-use Rattle.bucket_page.specs.declared.layout.TheConstants.{RECORD_HEAD_BYTES, ROOM_BYTES}
 use Rattle.bucket_page.specs.Changes.{inserted}
-use Rattle.bucket_page.specs.Records.{lookup, record_bytes}
+use Rattle.bucket_page.specs.Records.{lookup}
 use Rattle.record_file.proofs.BucketLemmas.{open_root, stores, stores_either, stores_same}
 use Rattle.record_file.proofs.one_bucket.OneBucket.put.Goals as goal
 
@@ -24,7 +23,8 @@ invariant_of-self g c =
 pub returns-clause-ok : goal.returns-clause-ok
 returns-clause-ok g c =
     on_ok_weaker c.put.result
-    (λ made. (stores c.self.inside.pool c.self.view_is c.in-Some.is c.self.invariant c.image_mut.ensures.value (inserted _) made).shown)
+    (λ made. (stores c.self.inside.pool c.self.view_is c.in-Some.is c.self.invariant c.image_mut.ensures.value
+    (inserted _) made).shown)
     c.put.ensures.ok
 
 pub returns-clause-full : goal.returns-clause-full
@@ -35,5 +35,6 @@ returns-clause-full g c =
 pub returns-clause-err : goal.returns-clause-err
 returns-clause-err g c =
     on_err_weaker c.put.result
-    (λ same. (stores_same c.self.inside.pool c.self.view_is c.in-Some.is c.self.invariant c.image_mut.ensures.value same).shown)
+    (λ same. (stores_same c.self.inside.pool c.self.view_is c.in-Some.is c.self.invariant c.image_mut.ensures.value
+    same).shown)
     c.put.ensures.err

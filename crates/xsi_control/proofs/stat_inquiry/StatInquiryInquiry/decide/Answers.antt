@@ -1,4 +1,4 @@
-use Rattle.std.proofs.Common.{sym, ap, ◌∙◌}
+use Rattle.std.proofs.Common.{sym, ap, ◌∙◌, []}
 use Rattle.queue_model.specs.declared.call.Call.TheVariants as calls
 use Rattle.queue_model.specs.declared.errno.Errno.TheVariants.{EACCES}
 use Rattle.queue_model.specs.declared.permissions.Access.TheVariants.{Read}
@@ -8,34 +8,34 @@ use Rattle.queue_model.specs.Rules.{stat_of}
 use Rattle.type_chains.specs.Reading.{info_in}
 use Rattle.xsi_inquiry.specs.declared.verdict.Verdict.TheVariants as verdicts
 use Rattle.xsi_inquiry.proofs.DecisionLemmas.{decides_left, decides_refused}
-use Rattle.xsi_control.proofs.DecidingLemmas.{stat_refused, stat_told}
+use Rattle.xsi_control.proofs.StatLemmas.{stat_refused, stat_told}
 use Rattle.xsi_control.proofs.stat_inquiry.StatInquiryInquiry.decide.Goals as goal
 
 -- the mode keeps the caller out
-pub returns-then-keeps_out : goal.returns-then-keeps_out
-returns-then-keeps_out c s filed knows stopped =
+pub returns-then-keeps_out-clause-right : goal.returns-then-keeps_out-clause-right
+returns-then-keeps_out-clause-right c room s filed knows =
     let who = c.args.self.now.caller in
-    let id = c.args.self.now.id in
+    let id = c.args._id.now in
     let lacks = ap (λ (p : Permissions). lacks_access Read who p) (sym c.permissions_in.ensures)
     ∙ sym c.keeps_out.ensures ∙ c.if-keeps_out.true in
-    rw c.refuses.ensures (decides_refused who (calls.Stat id) s EACCES
+    rw c.refuses.ensures (decides_refused who (calls.Stat id) [] room.bytes s EACCES
     (stat_refused who id s c.in-Found.queue (rw c.in-Found.is at knows) lacks))
 
 -- the queue is told of
-pub returns-else-keeps_out : goal.returns-else-keeps_out
-returns-else-keeps_out c s filed knows stopped =
+pub returns-else-keeps_out-clause-right : goal.returns-else-keeps_out-clause-right
+returns-else-keeps_out-clause-right c room s filed knows =
     let who = c.args.self.now.caller in
-    let id = c.args.self.now.id in
+    let id = c.args._id.now in
     let lacks = ap (λ (p : Permissions). lacks_access Read who p) (sym c.permissions_in.ensures)
     ∙ sym c.keeps_out.ensures ∙ c.if-keeps_out.false in
-    rw (c.info_in.ensures, c.nothing.ensures)
-    (decides_left who (calls.Stat id) s (verdicts.Info (info_in c.in-Found.queue))
+    rw c.info_in.ensures
+    (decides_left who (calls.Stat id) [] room.bytes s (verdicts.Info (info_in c.in-Found.queue))
     (stat_told who id s c.in-Found.queue (rw c.in-Found.is at knows) lacks))
 
 -- the id has no queue
-pub returns-in-Refused : goal.returns-in-Refused
-returns-in-Refused c s filed knows stopped =
+pub returns-in-Refused-clause-right : goal.returns-in-Refused-clause-right
+returns-in-Refused-clause-right c room s filed knows =
     let who = c.args.self.now.caller in
     let refused = rw c.in-Refused.is at knows in
-    rw c.refuses-in-Refused.ensures (decides_refused who (calls.Stat c.args.self.now.id) s c.in-Refused.errno
-    (refused (stat_of who s)))
+    rw c.refuses-in-Refused.ensures (decides_refused who (calls.Stat c.args._id.now) [] room.bytes s
+    c.in-Refused.errno (refused (stat_of who s)))

@@ -1,18 +1,25 @@
-use Rattle.queue_model.specs.Rules.{with_message, with_queue}
-use Rattle.xsi_send.specs.Knowing.{Asking, KnowsAt}
-use Rattle.std.proofs.Common.{subst, sym}
-use Rattle.xsi_send.proofs.Opening.{answered}
+use Rattle.std.proofs.Common.{◌≡◌, ◌∙◌, sym, subst, Bool, true, false}
+use Rattle.xsi_send.specs.Knowing.{KnowsAt}
+use Rattle.xsi_send.specs.Planning.{takes_more}
+use Rattle.xsi_send.proofs.Sent.{answered}
+use Rattle.xsi_send.proofs.Walked.{more_taken}
 use Rattle.xsi_send.proofs.send_inquiry.SendInquiryInquiry.decide.Goals as goal
 
+-- the counts of a queue with room stay numbers
+pub returns-else-takes_more-clause-right : goal.returns-else-takes_more-clause-right
+returns-else-takes_more-clause-right c room s filed knows =
+    let who = c.args.self.now.caller in
+    let a = c.args.arguments.now in
+    let (known, of) = subst (λ stage. KnowsAt who a stage s) c.in-Done.is knows in
+    let more = more_taken who a c.in-Done.queue s filed known in
+    let taken = subst (λ n. takes_more n c.in-Done.queue ≡ true) (sym c.len.ensures) more in
+    let clash : ◌≡◌ {A = Bool} false true = sym c.if-takes_more.false ∙ c.takes_more.ensures ∙ taken in
+    absurd cc
+
 -- all is read, and the plan leads to the records after the call
-pub returns-in_ok-plan_send-in-Done : goal.returns-in_ok-plan_send-in-Done
-returns-in_ok-plan_send-in-Done c s filed knows stopped =
-    let i = c.self.inside in
-    let a = i.arguments.now in
-    let inside = subst (λ (self : Asking). KnowsAt self.caller self.arguments self.stage s) (sym c.self.view_is) knows
-    in
-    let (known, of) = subst (λ stage. KnowsAt i.caller a stage s) c.in-Done.is inside in
-    let leads = c.in_ok-plan_send-in-Done.ensures.leads s
-    (with_queue a.id (with_message i.caller.pid a known.queue) s) known.queue.next_serial filed
-    (record { queue = known.queue; found = known.found; entries = of }) known.outcome in
-    rw (← c.self.view_is) (answered i.caller a c.in-Done.reads.queue s known c.in_ok-plan_send-in-Done.field-0 leads)
+pub returns-then-takes_more-clause-right : goal.returns-then-takes_more-clause-right
+returns-then-takes_more-clause-right c room s filed knows =
+    let who = c.args.self.now.caller in
+    let a = c.args.arguments.now in
+    let (known, of) = subst (λ stage. KnowsAt who a stage s) c.in-Done.is knows in
+    rw c.in-Done.is (answered who a c.in-Done.queue s filed known room.bytes c.in-Done._types of)

@@ -1,0 +1,6 @@
+//! Files made page by page, each with one thing wrong, and what the checker tells of them.
+
+#![tactic(auto)]
+
+#[cfg(test)]
+mod tests;

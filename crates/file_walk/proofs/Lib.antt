@@ -1,0 +1,12 @@
+pub mod PageLemmas
+pub mod KeptLemmas
+pub mod PagesLemmas
+pub mod ReadLemmas
+pub mod ChainLemmas
+pub mod OutlineLemmas
+pub mod SparesLemmas
+pub mod IndexLemmas
+pub mod OutlinedLemmas
+pub mod StructureLemmas
+pub mod SoundLemmas
+pub mod FaultLemmas

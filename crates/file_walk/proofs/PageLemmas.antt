@@ -1,0 +1,169 @@
+-- What reading the payload of a page tells of it.
+use Rattle.std.proofs.Common.{ℕ, ◌≡◌, ◌<◌, ◌≤◌, ◌⊎◌, ◌+◌, ◌++◌, take, min, IsTrue, nat_lt, Bool, true, false, List, length, Option, Some, None, Ok, Err, refl, sym, ap, subst, ◌∙◌, inl, inr, arith}
+use Rattle.std.proofs.lemmas.Bool.Decides.{nat_tests}
+use Rattle.directory.specs.declared.layout.TheConstants.{PAGE_ENTRIES, ROOT_PAGE}
+use Rattle.directory.specs.declared.header.Header.{Header}
+use Rattle.directory.specs.declared.read.HeaderFault.{HeaderFault}
+use Rattle.directory.specs.Reading as header
+use Rattle.bucket_page.specs.declared.page.Malformed.{Malformed}
+use Rattle.bucket_page.specs.declared.page.Malformed.TheVariants as reasons
+use Rattle.bucket_page.specs.declared.page.PageKind.{PageKind}
+use Rattle.bucket_page.specs.declared.page.PageKind.TheVariants as kinds
+use Rattle.bucket_page.specs.Reading.{reading, fault_of, page_at, answer}
+use Rattle.file_walk.specs.declared.fault.StructureFault.{StructureFault}
+use Rattle.file_walk.specs.declared.fault.StructureFault.TheVariants as faults
+use Rattle.file_walk.specs.Files.{payload_on, said_by, said_on, header_on, entries_of}
+use Rattle.file_walk.specs.declared.form.Form.{Form}
+use Rattle.file_walk.specs.Outlines.{shown, bare}
+use Rattle.file_walk.specs.Order.{IsCut, IsTooLong, is_directory, IsSealFault, may_stand, after_reading, malformed_on, IsRightPage, IsFaultOf, IsOfMachine, IsHeaderFault}
+use Rattle.file_walk.specs.Readings.{IsPayloadOf, IsFormOf, TakesEntries}
+use Rattle.file_walk.proofs.KeptLemmas.{taken_length}
+
+-- what an answer says of the fault and of the value
+accepted : {X : Type 0} (fault : Option Malformed) (x y : X) → Ok x ≡ answer fault y → (fault ≡ None) × (x ≡ y)
+accepted None x y e = (refl, cc)
+accepted (Some reason) x y e = absurd cc
+
+refused : {X : Type 0} (fault : Option Malformed) (reason : Malformed) (y : X) → Err reason ≡ answer fault y →
+    fault ≡ Some reason
+refused None reason y e = absurd cc
+refused (Some other) reason y e = let same : reason ≡ other = cc in ap (λ r. Some r) (sym same)
+
+said_is : (content : List (List ℕ)) (n : ℕ) → said_on content n ≡ page_at (payload_on content n)
+unfolding said_by
+said_is content n = refl
+
+module _ (content : List (List ℕ)) (n : ℕ) (payload : List ℕ) (h : IsPayloadOf content n payload) where
+  -- what was read is what the page says
+  pub said : (page : PageKind) → Ok page ≡ reading payload → said_on content n ≡ page
+  said page e =
+      said_is content n ∙ ap page_at (sym h.value) ∙ sym (accepted (fault_of payload) page (page_at payload) e).1
+
+  formed : (page : PageKind) → Ok page ≡ reading payload → fault_of (payload_on content n) ≡ None
+  formed page e = ap fault_of (sym h.value) ∙ (accepted (fault_of payload) page (page_at payload) e).0
+
+  judged : (page : PageKind) → Ok page ≡ reading payload → malformed_on content n ≡ after_reading None (may_stand n page)
+  judged page e =
+      ap (λ f. after_reading f (may_stand n (said_on content n))) (formed page e)
+      ∙ ap (λ p. after_reading None (may_stand n p)) (said page e)
+
+  -- it is right where a page of that kind may stand there
+  pub is_right : (page : PageKind) → Ok page ≡ reading payload → may_stand n page ≡ true → IsRightPage content n
+  is_right page e stands = record {
+    sealed = h.sealed;
+    formed = judged page e ∙ ap (after_reading None) stands;
+  }
+
+  -- and malformed where it may not
+  pub is_misplaced : (page : PageKind) → Ok page ≡ reading payload → may_stand n page ≡ false →
+      IsFaultOf content n (faults.Malformed n reasons.Kind)
+  is_misplaced page e stands = (refl, h.sealed, judged page e ∙ ap (after_reading None) stands)
+
+  -- a payload that is refused is malformed so
+  pub is_malformed : (reason : Malformed) → Err reason ≡ reading payload →
+      IsFaultOf content n (faults.Malformed n reason)
+  is_malformed reason e = (
+    refl,
+    h.sealed,
+    ap (λ f. after_reading f (may_stand n (said_on content n)))
+        (ap fault_of (sym h.value) ∙ refused (fault_of payload) reason (page_at payload) e),
+  )
+
+-- ---- where pages may stand
+
+not_below : (n : ℕ) → ROOT_PAGE ≤ n → nat_lt n ROOT_PAGE ≡ false
+not_below n behind = grind (arith, nat_tests)
+
+is_below : (n : ℕ) → n < ROOT_PAGE → nat_lt n ROOT_PAGE ≡ true
+is_below n within = grind (arith, nat_tests)
+
+may_behind : (n : ℕ) (page : PageKind) → ROOT_PAGE ≤ n → is_directory page ≡ false → may_stand n page ≡ true
+may_behind n page behind other = rw (not_below n behind, other) refl
+
+may_not_behind : (n : ℕ) (page : PageKind) → ROOT_PAGE ≤ n → is_directory page ≡ true → may_stand n page ≡ false
+may_not_behind n page behind is = rw (not_below n behind, is) refl
+
+pub may_below : (n : ℕ) (page : PageKind) (b : Bool) → n < ROOT_PAGE → is_directory page ≡ b → may_stand n page ≡ b
+may_below n page b within is = rw (is_below n within, is) refl
+
+-- ---- the header
+
+header_accepted : (fault : Option HeaderFault) (x y : Header) → Ok x ≡ header.answer fault y → x ≡ y
+header_accepted None x y e = cc
+header_accepted (Some reason) x y e = absurd cc
+
+pub header_is : (content : List (List ℕ)) (payload : List ℕ) (h : Header) → IsPayloadOf content 0 payload →
+    Ok h ≡ header.reading payload → h ≡ header_on content
+unfolding header_on
+header_is content payload h p e =
+    header_accepted (header.fault_of payload) h (header.header_at payload) e ∙ ap header.header_at p.value
+
+pub header_read : (content : List (List ℕ)) (payload : List ℕ) (h : Header) → IsPayloadOf content 0 payload →
+    Ok h ≡ header.reading payload → header.reading (payload_on content 0) ≡ Ok (header_on content)
+header_read content payload h p e =
+    ap header.reading (sym p.value) ∙ sym e ∙ ap (λ x. Ok x) (header_is content payload h p e)
+
+-- a page that is not sealed is wrong so, as the header is
+module _ (content : List (List ℕ)) where
+  pub seal_fault : (n : ℕ) (fault : StructureFault) → IsOfMachine fault ⊎ IsSealFault content n fault →
+      IsOfMachine fault ⊎ IsFaultOf content n fault
+  seal_fault n fault (inl machine) = inl machine
+  seal_fault n (faults.BadDigest page) (inr h) = inr h
+  seal_fault n fault (inr h) = absurd h
+
+  pub header_fault : (fault : StructureFault) → 0 < length content → IsOfMachine fault ⊎ IsSealFault content 0 fault →
+      IsOfMachine fault ⊎ IsHeaderFault content fault
+  header_fault fault there (inl machine) = inl machine
+  header_fault (faults.BadDigest page) there (inr h) = inr (h.0, there, h.1)
+  header_fault fault there (inr h) = absurd h
+
+  -- a page from the root on that is no directory page is kept so
+  pub form_taken : (n : ℕ) (payload : List ℕ) (page : PageKind) (form : Form) → IsPayloadOf content n payload →
+      Ok page ≡ reading payload → ROOT_PAGE ≤ n → is_directory page ≡ false → shown form ≡ bare page →
+      IsFormOf content n form
+  form_taken n payload page form h e behind other same = record {
+    right = is_right content n payload h page e (may_behind n page behind other);
+    value = same ∙ ap bare (sym (said content n payload h page e));
+  }
+
+  pub directory_misplaced : (n : ℕ) (payload : List ℕ) (page : PageKind) (fault : StructureFault) →
+      IsPayloadOf content n payload → Ok page ≡ reading payload → n < ROOT_PAGE → is_directory page ≡ false →
+      fault ≡ faults.Malformed n reasons.Kind → IsFaultOf content n fault
+  directory_misplaced n payload page fault h e below other is =
+      rw is (is_misplaced content n payload h page e (may_below n page false below other))
+
+  pub form_misplaced : (n : ℕ) (payload : List ℕ) (page : PageKind) (fault : StructureFault) → IsPayloadOf content n payload →
+      Ok page ≡ reading payload → ROOT_PAGE ≤ n → is_directory page ≡ true →
+      fault ≡ faults.Malformed n reasons.Kind → IsFaultOf content n fault
+  form_misplaced n payload page fault h e behind is same = rw same (is_misplaced content n payload h page e (may_not_behind n page behind is))
+
+-- page 0 is a header that tells of another number of pages
+module _ (content : List (List ℕ)) (payload : List ℕ) (h : Header) (pages : ℕ) (p : IsPayloadOf content 0 payload)
+    (e : Ok h ≡ header.reading payload) (counted : pages ≡ length content) where
+  pub header_cut : pages < h.pages → IsCut content
+  header_cut less = record {
+    sealed = p.sealed;
+    read = header_read content payload h p e;
+    more = subst (λ n. n < (header_on content).pages) counted
+        (subst (λ (x : Header). pages < x.pages) (header_is content payload h p e) less);
+  }
+
+  pub header_too_long : h.pages < pages → IsTooLong content
+  header_too_long less = record {
+    sealed = p.sealed;
+    read = header_read content payload h p e;
+    fewer = subst (λ n. (header_on content).pages < n) counted
+        (subst (λ (x : Header). x.pages < pages) (header_is content payload h p e) less);
+  }
+
+-- the entries of a directory page are taken
+pub entries_taken : (honest : Bool) (content : List (List ℕ)) (n most : ℕ) (old new es payload : List ℕ) →
+    (IsTrue honest → IsPayloadOf content n payload) → Ok (kinds.Directory es) ≡ reading payload → n < ROOT_PAGE →
+    length es ≡ PAGE_ENTRIES → new ≡ take most (old ++ es) → TakesEntries honest content n most old new
+entries_taken honest content n most old new es payload h e below long taken = record {
+  number = ap length taken ∙ taken_length most old es ∙ ap (λ k. min most (length old + k)) long;
+  right = λ is. is_right content n payload (h is) (kinds.Directory es) e (may_below n (kinds.Directory es) true below refl);
+  value = λ is.
+      taken
+      ∙ ap (λ p. take most (old ++ entries_of p)) (sym (said content n payload (h is) (kinds.Directory es) e));
+}

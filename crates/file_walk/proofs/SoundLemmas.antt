@@ -1,0 +1,165 @@
+-- A right structure makes up a sound file.
+use Rattle.std.proofs.Common.{ℕ, zero, suc, ◌≡◌, ◌+◌, ◌*◌, ◌<◌, ◌≤◌, ◌^◌, ◌==◌, nat_lt, Bool, true, false, if◌then◌else◌, List, [], ◌∷◌, ◌++◌, length, take, drop, replicate, slice_index_or, Option, Some, None, refl, sym, ap, subst, ◌∙◌, inl, lit≤, lit<, add-zero, zero-add, map, arith}
+use Rattle.std.specs.List.{Contains, flat_map}
+use Rattle.std.proofs.lemmas.List.{append-nil, get_or_append_left, get_or-replicate, get_or-drop, get_or-take, length-replicate, length-take-le, length-drop, length-append}
+use Rattle.std.proofs.Math.Nat.{zero-mul}
+use Rattle.std.proofs.lemmas.List.Concat.{flat_map-cons}
+use Rattle.std.proofs.lemmas.Bool.Decides.{nat_tests}
+use Rattle.positions.proofs.PartitionLaws.{partition_tiles}
+use Rattle.page_device.specs.Sealed.{payload_of}
+use Rattle.directory.specs.declared.layout.TheConstants.{DIRECTORY_PAGES, PAGE_ENTRIES, FIRST_DIRECTORY_PAGE, GREATEST_DEPTH, LEAST_PAGES, ROOT_PAGE}
+use Rattle.bucket_page.specs.declared.page.Malformed.{Malformed}
+use Rattle.bucket_page.specs.declared.layout.TheConstants.{BUCKET, TOMBSTONE}
+use Rattle.directory.specs.declared.layout.TheConstants.{DIRECTORY}
+use Rattle.bucket_page.specs.declared.page.PageKind.{PageKind}
+use Rattle.bucket_page.specs.declared.page.PageKind.TheVariants as kinds
+use Rattle.bucket_page.specs.declared.record_key.RecordKey.{RecordKey}
+use Rattle.bucket_page.specs.Bucket.{Bucket}
+use Rattle.fields.specs.Numbers.{four_at, numbers_of}
+use Rattle.directory.specs.Pages.{entries_area, entries_at, entries_of}
+use Rattle.bucket_page.specs.Reading as reading
+use Rattle.hash_file.specs.Store.{is_bucket, has_bucket, bucket_at, range_at}
+use Rattle.hash_file.specs.Chain.{IsChain, IsPlaced, times}
+use Rattle.hash_file.specs.Change.{Quiet}
+use Rattle.hash_file.specs.Sound.{HasLayout, IsSoundFile, IsSoundOn}
+use Rattle.hash_file.proofs.Chains.{chain_is}
+use Rattle.hash_file.proofs.Frames.{sound_by}
+use Rattle.hash_file.proofs.Ties.{quiet_exact}
+use Rattle.file_walk.specs.Files.{page_on, said_by, said_on, entries_on, pages_on, header_on, file_of}
+use Rattle.file_walk.specs.Files as files
+use Rattle.file_walk.specs.Laws.{IsQuietFile}
+use Rattle.file_walk.specs.Order.{AreRight, IsRightPage, is_directory, may_stand, after_reading}
+use Rattle.file_walk.specs.Structure.{HasPages, IsRightStructure}
+use Rattle.file_walk.proofs.PagesLemmas.{pages_length}
+
+-- ---- directory pages have all their entries
+
+numbers_length : (n : ℕ) (bytes : List ℕ) → length (numbers_of n bytes) ≡ n
+numbers_length zero bytes = refl
+numbers_length (suc n) bytes = ap suc (numbers_length n (drop 4 bytes)) ∙ refl
+
+entries_length : (bytes : List ℕ) → length (entries_of bytes) ≡ PAGE_ENTRIES
+unfolding entries_of
+entries_length bytes = numbers_length PAGE_ENTRIES bytes
+
+-- a page by its first byte
+by_kind : (a b c : Bool) (bucket : Bucket) (es : List ℕ) (link : ℕ) →
+    is_directory (if a then kinds.Bucket bucket else if b then kinds.Directory es
+    else if c then kinds.Tombstone link else kinds.Free link) ≡ true →
+    files.entries_of (if a then kinds.Bucket bucket else if b then kinds.Directory es
+    else if c then kinds.Tombstone link else kinds.Free link) ≡ es
+by_kind true b c bucket es link e = absurd cc
+by_kind false true c bucket es link e = refl
+by_kind false false true bucket es link e = absurd cc
+by_kind false false false bucket es link e = absurd cc
+
+said_length : (page : List ℕ) → is_directory (said_by page) ≡ true → length (files.entries_of (said_by page)) ≡ PAGE_ENTRIES
+unfolding said_by
+said_length page e =
+    let bytes : List ℕ = payload_of page in
+    ap length (by_kind (reading.kind_at bytes == BUCKET) (reading.kind_at bytes == DIRECTORY)
+    (reading.kind_at bytes == TOMBSTONE) (reading.bucket_at bytes) (entries_at bytes) (four_at 4 bytes) e)
+    ∙ entries_length (entries_area bytes)
+
+-- a right page below the root is one of the directory
+stands : (fault : Option Malformed) (b : Bool) → after_reading fault b ≡ None → b ≡ true
+stands None true e = refl
+stands None false e = absurd cc
+stands (Some reason) b e = absurd cc
+
+right_directory : (content : List (List ℕ)) (n : ℕ) → n < ROOT_PAGE → IsRightPage content n →
+    is_directory (said_on content n) ≡ true
+right_directory content n below right =
+    let low : nat_lt n ROOT_PAGE ≡ true = grind (arith, nat_tests) in
+    let stood : may_stand n (said_on content n) ≡ true = stands _ (may_stand n (said_on content n)) right.formed in
+    rw low at stood
+
+-- so many pages of so many entries each
+pieces_length : (f : List ℕ → List ℕ) (k : ℕ) (pages : List (List ℕ)) →
+    ((i : ℕ) → i < length pages → length (f (slice_index_or pages i [])) ≡ k) → length (flat_map f pages) ≡ length pages * k
+pieces_length f k [] each = sym (zero-mul k)
+pieces_length f k (page ∷ pages) each =
+    let head : length (f page) ≡ k = each 0 (omega arith) in
+    let rest : length (flat_map f pages) ≡ length pages * k =
+    pieces_length f k pages (λ i within. each (suc i) (omega arith)) in
+    ap length (flat_map-cons f page pages) ∙ length-append (f page) (flat_map f pages) ∙ omega (arith, head, rest)
+
+directory_length : (content : List (List ℕ)) → LEAST_PAGES ≤ length content →
+    AreRight content FIRST_DIRECTORY_PAGE (length content) → length (entries_on content) ≡ DIRECTORY_PAGES * PAGE_ENTRIES
+unfolding entries_on
+directory_length content long right =
+    pieces_length (λ (page : List ℕ). files.entries_of (said_by page)) PAGE_ENTRIES
+    (take DIRECTORY_PAGES (drop FIRST_DIRECTORY_PAGE content)) each
+    ∙ ap (λ n. n * PAGE_ENTRIES) number
+  where
+    number : length (take DIRECTORY_PAGES (drop FIRST_DIRECTORY_PAGE content)) ≡ DIRECTORY_PAGES
+    number = length-take-le DIRECTORY_PAGES (drop FIRST_DIRECTORY_PAGE content) (rw length-drop (omega arith))
+
+    each : (i : ℕ) → i < length (take DIRECTORY_PAGES (drop FIRST_DIRECTORY_PAGE content)) →
+        length (files.entries_of (said_by (slice_index_or (take DIRECTORY_PAGES (drop FIRST_DIRECTORY_PAGE content)) i [])))
+        ≡ PAGE_ENTRIES
+    each i within =
+        let few : i < DIRECTORY_PAGES = subst (λ n. i < n) number within in
+        let place : slice_index_or (take DIRECTORY_PAGES (drop FIRST_DIRECTORY_PAGE content)) i []
+        ≡ page_on content (FIRST_DIRECTORY_PAGE + i) =
+        get_or-take DIRECTORY_PAGES (drop FIRST_DIRECTORY_PAGE content) i [] few
+        ∙ get_or-drop FIRST_DIRECTORY_PAGE content i [] in
+        let below : FIRST_DIRECTORY_PAGE + i < ROOT_PAGE = omega arith in
+        let within : FIRST_DIRECTORY_PAGE + i < length content = omega arith in
+        ap (λ page. length (files.entries_of (said_by page))) place
+        ∙ said_length (page_on content (FIRST_DIRECTORY_PAGE + i))
+        (right_directory content (FIRST_DIRECTORY_PAGE + i) below (right (FIRST_DIRECTORY_PAGE + i) (omega arith) within))
+
+no_bucket_at_0 : (content : List (List ℕ)) → has_bucket (file_of content) 0 ≡ false
+unfolding pages_on
+no_bucket_at_0 content =
+    let d : PageKind = kinds.Directory [] in
+    let some : 0 < length (replicate ROOT_PAGE d) = subst (λ n. 0 < n) (sym (length-replicate ROOT_PAGE d)) (lit< tt) in
+    ap is_bucket (get_or_append_left (replicate ROOT_PAGE d) (map said_by (drop ROOT_PAGE content)) (kinds.Free 0) 0 some
+    ∙ get_or-replicate ROOT_PAGE 0 d (kinds.Free 0) (lit< tt))
+
+layout_of : (content : List (List ℕ)) → HasPages content → HasLayout (file_of content)
+layout_of content p =
+    let h = p.header in
+    let long : LEAST_PAGES ≤ length content = subst (λ n. LEAST_PAGES ≤ n) h.as_many h.in_range.least in
+    record {
+      root = lit≤ tt;
+      greatest = lit≤ tt;
+      depth = h.in_range.depth;
+      entries = subst (λ n. 2 ^ GREATEST_DEPTH ≤ n) (sym (directory_length content long p.pages)) (lit≤ tt);
+      counts = h.in_range.numbers.local_depths;
+      pages = pages_length content (omega arith) ∙ sym h.as_many;
+      header = no_bucket_at_0 content;
+    }
+
+module _ (hash : RecordKey → ℕ) (content : List (List ℕ)) (ns : List ℕ) (r : IsRightStructure content ns)
+    (placed : (n : ℕ) → Contains ns n → IsPlaced hash (bucket_at (file_of content) n)) where
+  chained : IsChain (file_of content) ns
+  chained = record {
+    linked = r.chain.linked;
+    tiled = partition_tiles (range_at (file_of content)) ns r.chain.partition;
+    buckets = r.chain.buckets;
+    shallow = r.index.shallow;
+  }
+
+  sound_on : IsSoundOn hash (file_of content) Quiet ns
+  sound_on = record {
+    layout = layout_of content r.pages;
+    chained = chained;
+    placed = placed;
+    spares = r.spares.0;
+    spared = r.spares.1.spared;
+    roles = λ n. ap (λ (xs : List ℕ). times n (ns ++ xs)) (append-nil r.spares.0) ∙ r.spares.1.roles n;
+    entries = λ i small. inl (r.index.entries i small);
+    counts = λ depth small. add-zero _ ∙ r.index.counts depth small ∙ sym (zero-add _);
+    phase = tt;
+  }
+
+  pub structure_sound : IsQuietFile hash (file_of content) ns
+  structure_sound =
+      let sound : IsSoundFile hash (file_of content) Quiet = sound_by hash (file_of content) Quiet ns sound_on in
+      record {
+        chained = chain_is (file_of content) ns (layout_of content r.pages) chained;
+        sound = sound;
+        exact = quiet_exact hash (file_of content) sound;
+      }

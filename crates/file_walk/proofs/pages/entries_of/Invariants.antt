@@ -1,0 +1,14 @@
+-- The pages so far are right, and their entries are kept.
+use Rattle.std.proofs.Common.{◌≡◌, ◌-◌, ◌*◌, IsTrue, length, min, take}
+use Rattle.directory.specs.declared.layout.TheConstants.{PAGE_ENTRIES, FIRST_DIRECTORY_PAGE}
+use Rattle.file_walk.proofs.PagesLemmas.{IsReadTo, entries_before}
+use Rattle.file_walk.proofs.pages.entries_of.Given as goal
+
+abbrev pub invariant-loop-page : goal.invariant-loop-page
+invariant-loop-page g l = record {
+  read : IsReadTo g.D.PageDevice.content g.D.PageDevice.is_honest g.D.PageDevice.fault_count
+      l.fn.device l.device FIRST_DIRECTORY_PAGE l.page;
+  number : length l.entries.items ≡ min l.most (PAGE_ENTRIES * (l.page - FIRST_DIRECTORY_PAGE));
+  value : IsTrue (g.D.PageDevice.is_honest l.fn.device) →
+      l.entries.items ≡ take l.most (entries_before (g.D.PageDevice.content l.fn.device) l.page);
+}

@@ -1,0 +1,29 @@
+use Rattle.std.proofs.Common.{refl, inr}
+use Rattle.file_walk.proofs.PageLemmas.{entries_taken, is_malformed, directory_misplaced}
+use Rattle.file_walk.proofs.pages.take_entries.Goals as goal
+
+pub returns-clause-ok : goal.returns-clause-ok
+returns-clause-ok g c =
+    let e = rw c.in-Ok-Directory.field-0-is at c.in-Ok-Directory.ensures.value in
+    let s = rw c.in-Ok-Directory.field-0-is at c.in-Ok-Directory.ensures.ok in
+    entries_taken _ _ _ _ _ _ _ _ c.in_ok-read_sealed.ensures.ok e c.requires.below s.in_range.number
+    c.in_ok-keep_entries.ensures
+
+pub returns-in-Err-clause-err : goal.returns-in-Err-clause-err
+returns-in-Err-clause-err g c = λ honest.
+    inr (is_malformed _ _ _ (c.in_ok-read_sealed.ensures.ok honest) _ c.in-Err.ensures.value)
+
+pub returns-in-Ok-Bucket-clause-err : goal.returns-in-Ok-Bucket-clause-err
+returns-in-Ok-Bucket-clause-err g c = λ honest.
+    let e = rw c.in-Ok-Bucket.field-0-is at c.in-Ok-Bucket.ensures.value in
+    inr (directory_misplaced _ _ _ _ _ (c.in_ok-read_sealed.ensures.ok honest) e c.requires.below refl c.misplaced.ensures)
+
+pub returns-in-Ok-Tombstone-clause-err : goal.returns-in-Ok-Tombstone-clause-err
+returns-in-Ok-Tombstone-clause-err g c = λ honest.
+    let e = rw c.in-Ok-Tombstone.field-0-is at c.in-Ok-Tombstone.ensures.value in
+    inr (directory_misplaced _ _ _ _ _ (c.in_ok-read_sealed.ensures.ok honest) e c.requires.below refl c.misplaced-in-Ok-Tombstone.ensures)
+
+pub returns-in-Ok-Free-clause-err : goal.returns-in-Ok-Free-clause-err
+returns-in-Ok-Free-clause-err g c = λ honest.
+    let e = rw c.in-Ok-Free.field-0-is at c.in-Ok-Free.ensures.value in
+    inr (directory_misplaced _ _ _ _ _ (c.in_ok-read_sealed.ensures.ok honest) e c.requires.below refl c.misplaced-in-Ok-Free.ensures)

@@ -1,0 +1,249 @@
+//! The pages of a file are read, once and in their order.
+
+ghost use Rattle.std.specs.Prelude.{◌≡◌, ◌≤◌, ◌<◌, ◌^◌, ◌⊎◌, ◌++◌, length, take, IsTrue, IfOk, IfErr, OnOk};
+ghost use Rattle.directory.specs.declared.layout.TheConstants.{FIRST_DIRECTORY_PAGE, GREATEST_DEPTH, LEAST_PAGES, ROOT_PAGE};
+ghost use Rattle.directory.specs.declared.layout.TheConstants.{PAGE_ENTRIES};
+ghost use Rattle.file_walk.specs.Outlines.{shape_of_bucket};
+ghost use Rattle.file_walk.specs.Order.{HasReadCause, IsFaultOf, IsFirstWrong, IsHeaderFault, IsOfMachine, IsReadingFault, IsSealFault};
+ghost use Rattle.file_walk.specs.Readings.{AreEntriesOf, AreFormsOf, IsFormOf, IsHeaderOf, IsOutlineOf, IsPayloadOf, TakesEntries};
+
+use crate::fault::StructureFault;
+use crate::form::Form;
+use crate::outline::Outline;
+use bucket_page::{BucketView, Malformed, PageKind, read_page};
+use directory::{
+    DirectoryView, FIRST_DIRECTORY_PAGE, Header, HeaderFault, PAGE_ENTRIES, ROOT_PAGE, read_header,
+};
+use hash_file::Shape;
+use page_device::{DeviceFault, PAGE_BYTES, PAYLOAD_BYTES, PageDevice, Payload, unseal_into};
+use positions::Range;
+use std::alloc::{AllocFailed, Global};
+
+/// Reads the header and then each page: its digest first, and then what it spells. Each page is read once.
+pub fn read_outline<D: PageDevice>(alloc: Global, device: &mut D) -> Result<Outline, StructureFault>
+    ensures ok { IsTrue (D.is_honest device.old) →
+        IfOk result (IsOutlineOf (D.content device.old)) }
+    ensures err { IsTrue (D.is_honest device.old) →
+        IfErr result (IsReadingFault (D.content device.old)) }
+    ensures same { D.content device.new ≡ D.content device.old }
+    ensures honest { D.is_honest device.new ≡ D.is_honest device.old }
+    ensures cause { HasReadCause (D.fault_count device.old) (D.fault_count device.new) result }
+{
+    let header = header_of(device)?;
+    let entries = entries_of(alloc, device, header.depth)?;
+    let forms = forms_of(alloc, device, header.pages)?;
+    Ok(Outline {
+        header,
+        entries,
+        forms,
+    })
+}
+
+/// The header, where page 0 is one and tells of as many pages as there are.
+fn header_of<D: PageDevice>(device: &mut D) -> Result<Header, StructureFault>
+    ensures ok { IfOk result (IsHeaderOf (D.is_honest device.old) (D.content device.old)) }
+    ensures err { IsTrue (D.is_honest device.old) →
+        IfErr result (λ fault. IsOfMachine fault ⊎ IsHeaderFault (D.content device.old) fault) }
+    ensures same { D.content device.new ≡ D.content device.old }
+    ensures honest { D.is_honest device.new ≡ D.is_honest device.old }
+    ensures cause { HasReadCause (D.fault_count device.old) (D.fault_count device.new) result }
+{
+    let pages = device.pages();
+    if pages == 0 {
+        return Err(StructureFault::PastEnd);
+    }
+    let mut payload = [0; PAYLOAD_BYTES];
+    read_sealed(device, 0, &mut payload)?;
+    let header = match read_header(&payload) {
+        Ok(header) => header,
+        Err(HeaderFault::BadHeader) => return Err(StructureFault::BadHeader),
+        Err(HeaderFault::BadVersion) => return Err(StructureFault::BadVersion),
+    };
+    if pages < header.pages {
+        return Err(StructureFault::PastEnd);
+    }
+    if pages > header.pages {
+        return Err(StructureFault::BadHeader);
+    }
+    Ok(header)
+}
+
+/// Reads the payload of a page, and tests its digest.
+fn read_sealed<D: PageDevice>(
+    device: &mut D,
+    page: u32,
+    payload: &mut Payload,
+) -> Result<(), StructureFault>
+    requires { page < length (D.content device.old) }
+    ensures ok { IsTrue (D.is_honest device.old) →
+        OnOk result (IsPayloadOf (D.content device.old) page payload.new) }
+    ensures err { IsTrue (D.is_honest device.old) →
+        IfErr result (λ fault. IsOfMachine fault ⊎ IsSealFault (D.content device.old) page fault) }
+    ensures same { D.content device.new ≡ D.content device.old }
+    ensures honest { D.is_honest device.new ≡ D.is_honest device.old }
+    ensures cause { HasReadCause (D.fault_count device.old) (D.fault_count device.new) result }
+{
+    let mut bytes = [0; PAGE_BYTES];
+    match device.read(page, &mut bytes) {
+        Ok(()) => {}
+        Err(DeviceFault::PastEnd) => return Err(StructureFault::PastEnd),
+        Err(_) => return Err(StructureFault::Device),
+    }
+    match unseal_into(page, &bytes, payload) {
+        Ok(()) => Ok(()),
+        Err(_) => Err(StructureFault::BadDigest { page }),
+    }
+}
+
+/// The entries of a directory of a depth, from its pages.
+fn entries_of<D: PageDevice>(
+    alloc: Global,
+    device: &mut D,
+    depth: u8,
+) -> Result<Vec<u32>, StructureFault>
+    requires depth { depth ≤ GREATEST_DEPTH }
+    requires whole { LEAST_PAGES ≤ length (D.content device.old) }
+    ensures ok { IfOk result (λ entries.
+        AreEntriesOf (D.is_honest device.old) (D.content device.old) depth entries.items) }
+    ensures err { IsTrue (D.is_honest device.old) → IfErr result (λ fault. IsOfMachine fault
+        ⊎ IsFirstWrong (D.content device.old) FIRST_DIRECTORY_PAGE fault) }
+    ensures same { D.content device.new ≡ D.content device.old }
+    ensures honest { D.is_honest device.new ≡ D.is_honest device.old }
+    ensures cause { HasReadCause (D.fault_count device.old) (D.fault_count device.new) result }
+{
+    let most = entries_at(depth);
+    let mut entries = Vec::with_capacity(alloc, most)?;
+    for page in FIRST_DIRECTORY_PAGE..ROOT_PAGE {
+        take_entries(device, page, most, &mut entries)?;
+    }
+    Ok(entries)
+}
+
+/// Entries of a directory of a depth.
+fn entries_at(depth: u8) -> usize
+    requires { depth ≤ GREATEST_DEPTH }
+    ensures { result ≡ 2 ^ depth }
+{
+    1 << depth
+}
+
+/// Keeps the entries of a directory page, up to so many.
+fn take_entries<D: PageDevice>(
+    device: &mut D,
+    page: u32,
+    most: usize,
+    entries: &mut Vec<u32>,
+) -> Result<(), StructureFault>
+    requires within { page < length (D.content device.old) }
+    requires below { page < ROOT_PAGE }
+    requires room { length entries.old.items ≤ most }
+    ensures ok { OnOk result (TakesEntries (D.is_honest device.old) (D.content device.old)
+        page most entries.old.items entries.new.items) }
+    ensures err { IsTrue (D.is_honest device.old) →
+        IfErr result (λ fault. IsOfMachine fault ⊎ IsFaultOf (D.content device.old) page fault) }
+    ensures same { D.content device.new ≡ D.content device.old }
+    ensures honest { D.is_honest device.new ≡ D.is_honest device.old }
+    ensures cause { HasReadCause (D.fault_count device.old) (D.fault_count device.new) result }
+{
+    let mut payload = [0; PAYLOAD_BYTES];
+    read_sealed(device, page, &mut payload)?;
+    let directory = match read_page(&payload) {
+        Ok(PageKind::Directory(directory)) => directory,
+        Ok(PageKind::Bucket(_)) => return Err(misplaced(page)),
+        Ok(PageKind::Tombstone { .. }) => return Err(misplaced(page)),
+        Ok(PageKind::Free { .. }) => return Err(misplaced(page)),
+        Err(reason) => return Err(StructureFault::Malformed { page, reason }),
+    };
+    keep_entries(&directory, most, entries)?;
+    Ok(())
+}
+
+/// Keeps the entries of a directory page behind those that are kept, up to so many.
+fn keep_entries(
+    directory: &DirectoryView,
+    most: usize,
+    entries: &mut Vec<u32>,
+) -> Result<(), AllocFailed<u32>>
+    requires whole { length directory.now ≡ PAGE_ENTRIES }
+    requires room { length entries.old.items ≤ most }
+    ensures { OnOk result (entries.new.items ≡ take most (entries.old.items ++ directory.now)) }
+{
+    for slot in 0..PAGE_ENTRIES {
+        if entries.len() == most {
+            return Ok(());
+        }
+        entries.push(directory.entry(slot))?;
+    }
+    Ok(())
+}
+
+/// What is kept of all pages.
+fn forms_of<D: PageDevice>(
+    alloc: Global,
+    device: &mut D,
+    pages: u32,
+) -> Result<Vec<Form>, StructureFault>
+    requires least { LEAST_PAGES ≤ pages }
+    requires whole { pages ≡ length (D.content device.old) }
+    ensures ok { IfOk result (λ forms.
+        AreFormsOf (D.is_honest device.old) (D.content device.old) forms.items) }
+    ensures err { IsTrue (D.is_honest device.old) → IfErr result (λ fault. IsOfMachine fault
+        ⊎ IsFirstWrong (D.content device.old) ROOT_PAGE fault) }
+    ensures same { D.content device.new ≡ D.content device.old }
+    ensures honest { D.is_honest device.new ≡ D.is_honest device.old }
+    ensures cause { HasReadCause (D.fault_count device.old) (D.fault_count device.new) result }
+{
+    let mut forms = vec![in alloc; Form::Other; ROOT_PAGE as usize]?;
+    forms.reserve((pages - ROOT_PAGE) as usize)?;
+    for page in ROOT_PAGE..pages {
+        forms.push(form_of(device, page)?)?;
+    }
+    Ok(forms)
+}
+
+/// What is kept of a page from the root on.
+fn form_of<D: PageDevice>(device: &mut D, page: u32) -> Result<Form, StructureFault>
+    requires within { page < length (D.content device.old) }
+    requires behind { ROOT_PAGE ≤ page }
+    ensures ok { IsTrue (D.is_honest device.old) →
+        IfOk result (IsFormOf (D.content device.old) page) }
+    ensures err { IsTrue (D.is_honest device.old) →
+        IfErr result (λ fault. IsOfMachine fault ⊎ IsFaultOf (D.content device.old) page fault) }
+    ensures same { D.content device.new ≡ D.content device.old }
+    ensures honest { D.is_honest device.new ≡ D.is_honest device.old }
+    ensures cause { HasReadCause (D.fault_count device.old) (D.fault_count device.new) result }
+{
+    let mut payload = [0; PAYLOAD_BYTES];
+    read_sealed(device, page, &mut payload)?;
+    match read_page(&payload) {
+        Ok(PageKind::Bucket(bucket)) => Ok(Form::Bucket(shape_of(&bucket))),
+        Ok(PageKind::Tombstone { link }) => Ok(Form::Tombstone { left: link }),
+        Ok(PageKind::Free { next }) => Ok(Form::Free { next }),
+        Ok(PageKind::Directory(_)) => Err(misplaced(page)),
+        Err(reason) => Err(StructureFault::Malformed { page, reason }),
+    }
+}
+
+/// The page is of a kind that does not stand there.
+fn misplaced(page: u32) -> StructureFault
+    ensures { result ≡ StructureFault.Malformed page Malformed.Kind }
+{
+    StructureFault::Malformed {
+        page,
+        reason: Malformed::Kind,
+    }
+}
+
+/// A bucket without its records.
+fn shape_of(bucket: &BucketView) -> Shape
+    ensures { result ≡ shape_of_bucket bucket.now }
+{
+    let range = Range {
+        depth: bucket.depth(),
+        pattern: bucket.pattern(),
+    };
+    Shape {
+        range,
+        next: bucket.next(),
+    }
+}

@@ -1,0 +1,29 @@
+-- What Stat is answered on the Queue that was read.
+use Rattle.std.proofs.Common.{◌≡◌, ℕ, Bool, true, false, Some, refl, sym, ap, ◌∙◌}
+use Rattle.queue_model.specs.declared.answer.Answer.TheVariants.{Info}
+use Rattle.queue_model.specs.declared.call.Call.TheVariants.{Stat}
+use Rattle.queue_model.specs.declared.caller.Caller.{Caller}
+use Rattle.queue_model.specs.declared.errno.Errno.TheVariants.{EACCES}
+use Rattle.queue_model.specs.declared.permissions.Access.TheVariants.{Read}
+use Rattle.queue_model.specs.Access.{lacks_access}
+use Rattle.queue_model.specs.Rules.{Outcome, info_of, outcome, refuse, stat_of}
+use Rattle.queue_model.specs.State.{State}
+use Rattle.queue_records.specs.declared.queue_entry.QueueEntry.{QueueEntry}
+use Rattle.type_chains.specs.Reading.{info_in, permissions_in}
+use Rattle.xsi_inquiry.specs.Seeking.{IsEntryOf}
+
+module _ (c : Caller) (id : ℕ) (s : State) (e : QueueEntry) (is : IsEntryOf id e s) where
+  -- what is read off the entry is so of the queue
+  access_of : (b : Bool) → lacks_access Read c (permissions_in e) ≡ b → lacks_access Read c is.queue.permissions ≡ b
+  access_of b lacks = ap (λ (x : QueueEntry). lacks_access Read c (permissions_in x)) (sym is.entry) ∙ lacks
+
+  pub stat_refused : lacks_access Read c (permissions_in e) ≡ true → outcome c (Stat id) s ≡ refuse EACCES s
+  stat_refused lacks = is.goes_on (stat_of c s) ∙ rw (access_of true lacks) refl
+
+  pub stat_told : lacks_access Read c (permissions_in e) ≡ false → outcome c (Stat id) s ≡ Some (Info (info_in e), s)
+  stat_told lacks =
+      let told : stat_of c s is.queue ≡ Some (Info (info_of is.queue), s) = rw (access_of false lacks) refl in
+      is.goes_on (stat_of c s) ∙ told ∙ ap (λ (x : QueueEntry). told_by x) (sym is.entry)
+    where
+      told_by : QueueEntry → Outcome
+      told_by x = Some (Info (info_in x), s)

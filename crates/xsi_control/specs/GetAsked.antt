@@ -1,0 +1,73 @@
+-- What a Get asks for is under its key's name or the Counter's, and it writes little.
+use Rattle.std.proofs.Common.{◌≡◌, ℕ, ◌≤◌, Bool, List, ◌∷◌, length, Option, Some, None, refl, ap, ◌∙◌, subst, arith}
+use Rattle.std.specs.Prelude.{option_map}
+use Rattle.queue_records.specs.declared.record.Record.TheVariants as records
+use Rattle.xsi_inquiry.specs.declared.wanted.Wanted.TheVariants.{At}
+use Rattle.xsi_inquiry.specs.declared.write.TheConstants.{MAX_TRIALS}
+use Rattle.xsi_inquiry.specs.Agreeing.{AgreeOnCounter, AgreeOnKey, AgreesFor, IsCovered}
+use Rattle.xsi_inquiry.proofs.DecisionLemmas.{small_none}
+use Rattle.xsi_control.specs.declared.get_inquiry.Getting.{Getting}
+use Rattle.xsi_control.specs.declared.get_inquiry.Getting.TheVariants.{AtKey, Found, Absent, AtCounter, Counted}
+use Rattle.xsi_control.specs.Getting.{get_plan, get_wanted, key_made, key_wanted, one_more, plan_made}
+use Rattle.xsi_control.specs.Words.{RecordKey, LockName, Get, GetArguments, Caller, Queue, new_queue, State, Counter, Record, key_of_key, counter_key, key_entry, queue_entry, record_of, IsTold, IsToldGiven, IsSmall}
+
+at_none : (t : State) (found : Option Record) → IsTold t None found
+at_none t found key is = absurd cc
+
+given_none : (t : State) (given : Bool) → IsToldGiven t None given
+given_none t given id is = absurd cc
+
+key_asks : (key : Option ℕ) (s t : State) (found : Option Record) → AgreeOnKey key s t →
+    IsTold s (key_wanted key) found → IsTold t (key_wanted key) found
+key_asks None s t found agrees told other is = absurd cc
+key_asks (Some key) s t found agrees told other is =
+    let it : key_of_key key ≡ other = cc in
+    subst (λ (x : RecordKey). found ≡ record_of t x) it (told (key_of_key key) refl
+    ∙ ap (option_map (λ (q : Queue). records.Key (key_entry key q))) agrees)
+
+counter_asks : (s t : State) (found : Option Record) → AgreeOnCounter s t →
+    IsTold s (Some (At counter_key)) found → IsTold t (Some (At counter_key)) found
+counter_asks s t found agrees told other is =
+    let it : counter_key ≡ other = cc in
+    subst (λ (x : RecordKey). found ≡ record_of t x) it (told counter_key refl
+    ∙ (λ i. Some (records.Counter (record { next_id = agrees.next_id i; queues_alive = agrees.alive i }))))
+
+pub get_asks : (a : GetArguments) (getting : Getting) (names : List LockName) (s t : State) (found : Option Record) →
+    IsCovered names (get_wanted a getting) → AgreesFor (Get a) names s t →
+    IsTold s (get_wanted a getting) found → IsTold t (get_wanted a getting) found
+get_asks a AtKey names s t found covered agrees told = key_asks a.key s t found agrees.asked told
+get_asks a (Found id) names s t found covered agrees told = at_none t found
+get_asks a Absent names s t found covered agrees told = at_none t found
+get_asks a AtCounter names s t found covered agrees told = counter_asks s t found (agrees.counter (covered refl)) told
+get_asks a (Counted n) names s t found covered agrees told = at_none t found
+
+never_given : (key : Option ℕ) (t : State) (given : Bool) → IsToldGiven t (key_wanted key) given
+never_given None t given id is = absurd cc
+never_given (Some key) t given id is = absurd cc
+
+never_given_at : (t : State) (given : Bool) → IsToldGiven t (Some (At counter_key)) given
+never_given_at t given id is = absurd cc
+
+pub get_asks_given : (a : GetArguments) (getting : Getting) (s t : State) (given : Bool) →
+    IsToldGiven s (get_wanted a getting) given → IsToldGiven t (get_wanted a getting) given
+get_asks_given a AtKey s t given told = never_given a.key t given
+get_asks_given a (Found id) s t given told = given_none t given
+get_asks_given a Absent s t given told = given_none t given
+get_asks_given a AtCounter s t given told = never_given_at t given
+get_asks_given a (Counted n) s t given told = given_none t given
+
+few_trials : (c : Caller) (a : GetArguments) (id : ℕ) (key : Option ℕ) →
+    length (records.Queue (queue_entry (new_queue id c a)) ∷ key_made id key) ≤ MAX_TRIALS
+few_trials c a id None = omega arith
+few_trials c a id (Some key) = omega arith
+
+few_made : (c : Caller) (a : GetArguments) (id : ℕ) (n : Option Counter) → IsSmall (plan_made c a id n)
+few_made c a id None = small_none
+few_made c a id (Some n) = record { trials = few_trials c a id a.key; slots = omega arith }
+
+pub few_of_get : (c : Caller) (a : GetArguments) (getting : Getting) → IsSmall (get_plan c a getting)
+few_of_get c a AtKey = small_none
+few_of_get c a (Found id) = small_none
+few_of_get c a Absent = small_none
+few_of_get c a AtCounter = small_none
+few_of_get c a (Counted n) = few_made c a n.next_id (one_more n)

@@ -1,0 +1,59 @@
+//! Room for the bytes of the message that a Receive takes.
+
+ghost use Rattle.std.specs.Prelude.{◌≡◌, IfOk, OnErr, take};
+ghost use Rattle.xsi_inquiry.specs.Rooms.{HasRoom, IsReceive};
+
+use queue_model::{Body, Call, MAX_BODY, NoMemory};
+use std::alloc::Global;
+use std::marker::Model;
+
+/// Room that is taken once, when a call begins, and moves into its answer. The bytes of a message that is received are
+/// copied here, out of its page.
+#[derive(Debug, Drop)]
+pub struct Room {
+    bytes: Vec<u8>,
+    most: usize,
+}
+
+impl Model for Room {
+    ghost use Rattle.std.specs.Prelude.{◌≤◌, vec_capacity};
+    ghost use Rattle.xsi_inquiry.specs.Rooms.{Roomful};
+
+    ghost Value = { Roomful };
+
+    ghost view = { λ r. record { bytes = r.bytes.items; most = r.most } };
+
+    ghost invariant = { λ r. r.most ≤ vec_capacity r.bytes };
+}
+
+impl Room {
+    /// Room for the answer to a call: for as many bytes as a Receive asks for and a message can have, and for none where
+    /// the call is another. Only a Receive is refused.
+    pub fn new(alloc: Global, call: &Call) -> Result<Room, NoMemory>
+        ensures ok { IfOk result (λ room. HasRoom call.now room) }
+        ensures err { OnErr result (IsReceive call.now) }
+    {
+        let most = match call {
+            Call::Receive(arguments) => (arguments.size as usize).min(MAX_BODY),
+            _ => 0,
+        };
+        let bytes = Vec::with_capacity(alloc, most)?;
+        Ok(Room { bytes, most })
+    }
+
+    /// As many of the bytes as there is room for take the place of what was there.
+    pub fn fill(&mut self, bytes: &[u8])
+        ensures { self.new ≡ record self.old { bytes = take self.old.most bytes.now } }
+    {
+        let most = bytes.len().min(self.most);
+        self.bytes.clear();
+        self.bytes.extend_from_slice(&bytes[..most]).unwrap();
+    }
+
+    /// The bytes, as the body of a message.
+    pub fn into_body(self) -> Body
+        ensures { result ≡ self.bytes }
+    {
+        Body::new(self.bytes)
+    }
+}

@@ -1,0 +1,263 @@
+//! How far a Receive has come with its reading.
+
+ghost use Rattle.std.specs.Prelude.{◌≡◌, ◌&&◌, ◌≤◌, ◌<◌, IfOk, Ok, OnErr, Some, int_lt, is_none, length, pos, take};
+ghost use Rattle.queue_model.specs.declared.caller.Caller.{Caller};
+ghost use Rattle.queue_model.specs.State.{State};
+ghost use Rattle.queue_records.specs.declared.message_entry.MessageEntry.{MessageEntry};
+ghost use Rattle.queue_records.specs.declared.record.Record.TheVariants as records;
+ghost use Rattle.queue_records.specs.declared.type_entry.TypeEntry.{TypeEntry};
+ghost use Rattle.xsi_inquiry.specs.Rooms.{Roomful};
+ghost use Rattle.xsi_inquiry.specs.Seeking.{IsEntryOf, Tells};
+ghost use Rattle.xsi_inquiry.specs.Telling.{AsksGiven, AsksRecord, Gives, IsFiled, IsTold, IsToldGiven};
+ghost use Rattle.xsi_receive.specs.Asking.{asked, asks_left, asks_of_sought, is_long, put_off_at};
+ghost use Rattle.xsi_receive.specs.Knowing.{HasRoomFor, IsStage, KnowsAt, KnowsHead};
+
+use crate::head::MessageHead;
+use crate::removal::{Removal, TypeLeft};
+use queue_model::{Access, Caller, Errno, ReceiveArguments};
+use queue_records::{MessageEntry, QueueEntry, Record, TypeEntry, message_key, type_key};
+use type_chains::permissions_in;
+use xsi_inquiry::{NotASystem, Room, Sought, Wanted, message_in, type_in};
+
+/// What is known, and with it what is asked next.
+#[derive(Clone, Copy, Debug)]
+pub enum Stage {
+    /// The queue is sought.
+    Seeking(Sought),
+    /// The call is refused.
+    Refused(Errno),
+    /// No message is selected, so the call is put off.
+    PutOff,
+    /// The first message of this type is taken, if there is one: its Type is next.
+    AtType(QueueEntry, i64),
+    /// The Message of this serial is taken: it is next. Its Type was read, or any type is taken.
+    AtMessage(QueueEntry, Option<TypeEntry>, u64),
+    /// This Message is taken, and is the last of its type: its Type is next.
+    AtTypeOf(QueueEntry, MessageHead),
+    /// Nothing is.
+    Taken(Removal),
+}
+
+impl Stage {
+    /// Nothing is read yet.
+    pub fn begin(arguments: &ReceiveArguments) -> Stage
+        ensures knows { (c : Caller) (room : Roomful) (s : State) → HasRoomFor arguments.now room →
+            KnowsAt c arguments.now result room s }
+        ensures few { asks_left result ≤ 3 }
+    {
+        match Sought::new(arguments.id) {
+            Sought::Refused(errno) => Stage::Refused(errno),
+            sought => Stage::Seeking(sought),
+        }
+    }
+
+    /// What is asked next, where there is something to ask.
+    pub fn wants(&self, id: u32) -> Option<Wanted>
+        ensures { result ≡ asked id self.now }
+    {
+        match self {
+            Stage::Seeking(sought) => sought.wants(id),
+            Stage::AtType(_, mtype) => Some(Wanted::At(type_key(id, *mtype))),
+            Stage::AtMessage(_, _, serial) => Some(Wanted::At(message_key(id, *serial))),
+            Stage::AtTypeOf(_, message) => Some(Wanted::At(type_key(id, message.mtype))),
+            Stage::Refused(_) | Stage::PutOff | Stage::Taken(_) => None,
+        }
+    }
+
+    /// Where it goes on by what is known of the queue.
+    pub fn of_sought(caller: Caller, arguments: &ReceiveArguments, sought: Sought) -> Stage
+        ensures knows { (room : Roomful) (s : State) → IsFiled s → HasRoomFor arguments.now room →
+            Tells arguments.now.id sought s → KnowsAt caller arguments.now result room s }
+        ensures left { asks_left result ≤ asks_of_sought sought }
+    {
+        match sought {
+            Sought::Unread | Sought::Absent => Stage::Seeking(sought),
+            Sought::Found(queue) => Stage::of_queue(caller, arguments, queue),
+            Sought::Refused(errno) => Stage::Refused(errno),
+        }
+    }
+
+    /// Where it goes on once the Queue is read: who may not read is refused, and the type selects.
+    fn of_queue(caller: Caller, arguments: &ReceiveArguments, queue: QueueEntry) -> Stage
+        ensures knows { (room : Roomful) (s : State) → IsFiled s → HasRoomFor arguments.now room →
+            IsEntryOf arguments.now.id queue s → KnowsAt caller arguments.now result room s }
+        ensures left { asks_left result ≤ 2 }
+    {
+        if permissions_in(&queue).keeps_out(Access::Read, caller) {
+            return Stage::Refused(Errno::EACCES);
+        }
+        let Some(serial) = queue.first else {
+            return put_off(arguments);
+        };
+        if arguments.mtype > 0 {
+            return Stage::AtType(queue, arguments.mtype);
+        }
+        if arguments.mtype < 0 {
+            let Some(lowest) = queue.lowest else {
+                return put_off(arguments);
+            };
+            if lowest.unsigned_abs() > arguments.mtype.unsigned_abs() {
+                return put_off(arguments);
+            }
+            return Stage::AtType(queue, lowest);
+        }
+        Stage::AtMessage(queue, None, serial)
+    }
+
+    /// The stage once the record at that key was read, or that there is none.
+    pub fn take(
+        self,
+        caller: Caller,
+        arguments: &ReceiveArguments,
+        found: Option<Record<'_>>,
+        room: &mut Room,
+    ) -> Result<Stage, NotASystem>
+        requires { AsksRecord (asked arguments.now.id self) }
+        ensures told { (s : State) → IsFiled s → KnowsAt caller arguments.now self room.old s →
+            IsTold s (asked arguments.now.id self) found.entry →
+            Gives result (λ stage. KnowsAt caller arguments.now stage room.new s) }
+        ensures fewer { IfOk result (λ stage. asks_left stage < asks_left self) }
+        ensures err { OnErr result (room.new ≡ room.old) }
+    {
+        match self {
+            Stage::Seeking(mut sought) => {
+                sought.take(arguments.id, found)?;
+                Ok(Stage::of_sought(caller, arguments, sought))
+            }
+            Stage::AtType(queue, _) => {
+                if has_none(arguments, &found) {
+                    return Ok(put_off(arguments));
+                }
+                let entry = type_found(found)?;
+                Ok(Stage::AtMessage(queue, Some(entry), entry.first))
+            }
+            Stage::AtMessage(queue, entry, _) => {
+                let message = message_found(found)?;
+                if is_long(arguments, &message) {
+                    return Ok(Stage::Refused(Errno::E2BIG));
+                }
+                let head = MessageHead::of(&message);
+                let stage = Stage::of_head(caller.pid, arguments, queue, head, entry)?;
+                room.fill(cut(message.body.as_slice(), arguments.size as usize));
+                Ok(stage)
+            }
+            Stage::AtTypeOf(queue, head) => {
+                let entry = type_found(found)?;
+                Stage::of_head(caller.pid, arguments, queue, head, Some(entry))
+            }
+            Stage::Refused(_) | Stage::PutOff | Stage::Taken(_) => Err(NotASystem),
+        }
+    }
+
+    /// Where it goes on once the message is read: where it is the last of its type, its Type is needed too.
+    fn of_head(
+        pid: u32,
+        arguments: &ReceiveArguments,
+        queue: QueueEntry,
+        head: MessageHead,
+        entry: Option<TypeEntry>,
+    ) -> Result<Stage, NotASystem>
+        ensures knows { (c : Caller) (room : Roomful) (s : State) → IsFiled s → c.pid ≡ pid →
+            KnowsHead c arguments.now queue head entry room s →
+            Gives result (λ stage. KnowsAt c arguments.now stage room s) }
+        ensures left { IfOk result (λ stage. IsStage entry stage) }
+    {
+        if let Some(first) = head.next_of_type {
+            let removal = Removal::new(pid, arguments, &queue, head, TypeLeft::Begins(first))?;
+            return Ok(Stage::Taken(removal));
+        }
+        let Some(entry) = entry else {
+            return Ok(Stage::AtTypeOf(queue, head));
+        };
+        let left = TypeLeft::Goes(entry.lower, entry.higher);
+        let removal = Removal::new(pid, arguments, &queue, head, left)?;
+        Ok(Stage::Taken(removal))
+    }
+
+    /// The stage once it was told whether the id is below the next id.
+    pub fn take_given(
+        self,
+        caller: Caller,
+        arguments: &ReceiveArguments,
+        given: bool,
+    ) -> Result<Stage, NotASystem>
+        requires { AsksGiven (asked arguments.now.id self) }
+        ensures told { (room : Roomful) (s : State) → IsFiled s →
+            KnowsAt caller arguments.now self room s →
+            IsToldGiven s (asked arguments.now.id self) given →
+            Gives result (λ stage. KnowsAt caller arguments.now stage room s) }
+        ensures fewer { IfOk result (λ stage. asks_left stage < asks_left self) }
+    {
+        match self {
+            Stage::Seeking(mut sought) => {
+                sought.take_given(arguments.id, given)?;
+                Ok(Stage::of_sought(caller, arguments, sought))
+            }
+            Stage::Refused(_)
+            | Stage::PutOff
+            | Stage::AtType(..)
+            | Stage::AtMessage(..)
+            | Stage::AtTypeOf(..)
+            | Stage::Taken(_) => Err(NotASystem),
+        }
+    }
+}
+
+/// Where no message is selected.
+fn put_off(arguments: &ReceiveArguments) -> Stage
+    ensures { result ≡ put_off_at arguments.now.nowait }
+{
+    if arguments.nowait {
+        return Stage::Refused(Errno::ENOMSG);
+    }
+    Stage::PutOff
+}
+
+/// The Message that has to be there.
+fn message_found<'a>(found: Option<Record<'a>>) -> Result<MessageEntry<'a>, NotASystem>
+    ensures ok { IfOk result (λ message. found.entry ≡ Some (records.Message message)) }
+    ensures only { (message : MessageEntry) → found.entry ≡ Some (records.Message message) →
+        result ≡ Ok message }
+{
+    let Some(entry) = found else {
+        return Err(NotASystem);
+    };
+    message_in(entry)
+}
+
+/// The Type that has to be there.
+fn type_found(found: Option<Record<'_>>) -> Result<TypeEntry, NotASystem>
+    ensures ok { IfOk result (λ mtype. found.entry ≡ Some (records.Type mtype)) }
+    ensures only { (mtype : TypeEntry) →
+        found.entry ≡ Some (records.Type mtype) → result ≡ Ok mtype }
+{
+    let Some(entry) = found else {
+        return Err(NotASystem);
+    };
+    type_in(entry)
+}
+
+/// Whether no message of the type asked for stands: a type above 0 may have no Type.
+fn has_none(arguments: &ReceiveArguments, found: &Option<Record<'_>>) -> bool
+    ensures { result ≡ (is_none found.now && int_lt (pos 0) arguments.now.mtype) }
+{
+    found.is_none() && arguments.mtype > 0
+}
+
+/// Whether a message is longer than asked for, and may not be cut.
+fn is_long(arguments: &ReceiveArguments, message: &MessageEntry<'_>) -> bool
+    ensures { result ≡ is_long arguments.now message.now }
+{
+    message.body.len() > arguments.size as usize && !arguments.noerror
+}
+
+/// The bytes without those that stand past the size.
+fn cut(bytes: &[u8], size: usize) -> &[u8]
+    ensures { result.now ≡ take size bytes.now }
+{
+    if bytes.len() <= size {
+        return bytes;
+    }
+    let (front, _) = bytes.split_at(size);
+    front
+}

@@ -1,0 +1,132 @@
+//! A Remove as it asks for records.
+
+ghost use Rattle.std.specs.Prelude.{◌≡◌, ℕ, IfSome, None, Option};
+ghost use Rattle.std.specs.List.{Contains};
+ghost use Rattle.page_locks.specs.declared.lock.LockName.{LockName};
+ghost use Rattle.queue_model.specs.State.{State};
+ghost use Rattle.xsi_inquiry.specs.Rooms.{Roomful};
+ghost use Rattle.xsi_inquiry.specs.Seeking.{IsKeyed};
+ghost use Rattle.xsi_sweep.specs.Asking.{key_at};
+ghost use Rattle.xsi_sweep.specs.Removing.{names_of};
+
+use crate::stage::Stage;
+use queue_model::Caller;
+use queue_records::Record;
+use xsi_inquiry::{Decision, Inquiry, NotASystem, Room, Wanted, Write};
+
+/// A Remove (POSIX.1-2017, `msgctl()` with `IPC_RMID`). It is given an id. It has two phases, since the names that it
+/// needs depend on the queue's key: it reads the Queue; then, under the names, the Queue again and the Counter.
+#[derive(Clone, Copy, Debug)]
+pub struct RemoveInquiry {
+    caller: Caller,
+    stage: Stage,
+}
+
+const _: () = prove!(size_of::<RemoveInquiry>() <= 400);
+
+impl RemoveInquiry {
+    /// Between its two phases, the key of the queue that was found, which is none where the queue is private. It is all
+    /// that the call keeps of the first phase, so it may hold no name there while others decide.
+    pub fn key(&self) -> Option<Option<u32>>
+        ensures value { result ≡ key_at self.now.stage }
+        ensures keyed { IfSome result (λ key. (id : ℕ) (room : Roomful) (s : State) →
+            ⟦<RemoveInquiry as Inquiry>⟧.Knows id self.now room s → IsKeyed id key s) }
+        ensures carried { IfSome result (λ key. (id : ℕ) (room : Roomful) (s : State) →
+            IsKeyed id key s → ⟦<RemoveInquiry as Inquiry>⟧.Knows id self.now room s) }
+    {
+        match &self.stage {
+            Stage::Keyed(key) => Some(*key),
+            Stage::Seeking(_) | Stage::Refused(_) | Stage::Counting(..) | Stage::Removing(_) =>
+                None,
+        }
+    }
+
+    /// Where it decides, all names under which it writes are those of the key that it knew between its phases.
+    pub fn keeps_to_its_names(&self)
+        ensures { (id : ℕ) (key : Option ℕ) (room : Roomful) (s : State) →
+            ⟦<RemoveInquiry as Inquiry>⟧.wanted id self.now ≡ None → IsKeyed id key s →
+            ⟦<RemoveInquiry as Inquiry>⟧.Knows id self.now room s → (name : LockName) →
+            Contains (⟦<RemoveInquiry as Inquiry>⟧.locked id self.now) name →
+            Contains (names_of id key) name }
+    {
+        let _ = self;
+    }
+}
+
+impl Inquiry for RemoveInquiry {
+    ghost use Rattle.queue_model.specs.declared.call.Call.TheVariants as calls;
+    ghost use Rattle.xsi_sweep.specs.Asking.{asked, asks_left, decided_at, locked_at, plan_at};
+    ghost use Rattle.xsi_sweep.specs.Asked.{few_at, given_at, stage_asks};
+    ghost use Rattle.xsi_sweep.specs.Knowing.{KnowsAt};
+
+    type Arguments = u32;
+
+    ghost caller = { λ i. i.caller };
+
+    ghost call = { λ id. calls.Remove id };
+
+    ghost wanted = { λ id i. asked id i.stage };
+
+    ghost locked = { λ id i. locked_at id i.stage };
+
+    ghost Knows = { λ id i room s. KnowsAt i.caller id i.stage s };
+
+    ghost left = { λ id i. asks_left i.stage };
+
+    ghost decided = { λ id i. decided_at i.stage };
+
+    ghost plan = { λ id i. plan_at id i.stage };
+
+    ghost asks = { λ id i names s t found covered agrees told.
+        stage_asks id i.stage names s t found covered agrees told };
+
+    ghost asks_given = { λ id i names s t given agrees told.
+        given_at id i.stage s t given agrees.asked told };
+
+    ghost few = { λ id i. few_at id i.stage };
+
+    fn begin(by: Caller, id: &u32) -> RemoveInquiry {
+        RemoveInquiry {
+            caller: by,
+            stage: Stage::begin(*id),
+        }
+    }
+
+    fn wants(&self, id: &u32) -> Option<Wanted> {
+        self.stage.wants(*id)
+    }
+
+    fn take(
+        &mut self,
+        id: &u32,
+        found: Option<Record<'_>>,
+        _room: &mut Room,
+    ) -> Result<(), NotASystem> {
+        self.stage = self.stage.take(self.caller, *id, found)?;
+        Ok(())
+    }
+
+    fn take_given(&mut self, id: &u32, given: bool) -> Result<(), NotASystem> {
+        self.stage = self.stage.take_given(*id, given)?;
+        Ok(())
+    }
+
+    fn decide(&self, _id: &u32) -> Result<Decision, NotASystem> {
+        match &self.stage {
+            Stage::Refused(errno) => Ok(Decision::refuses(*errno)),
+            Stage::Removing(removal) => Ok(Decision::Sweeps(removal.first)),
+            Stage::Seeking(_) | Stage::Keyed(_) | Stage::Counting(..) => Err(NotASystem),
+        }
+    }
+
+    fn trial<'a>(&self, _id: &'a u32, _place: usize) -> Option<Record<'a>> {
+        None
+    }
+
+    fn write(&self, id: &u32, slot: usize) -> Option<Write> {
+        match &self.stage {
+            Stage::Removing(removal) => removal.write(*id, slot),
+            Stage::Seeking(_) | Stage::Refused(_) | Stage::Keyed(_) | Stage::Counting(..) => None,
+        }
+    }
+}
