@@ -1,10 +1,10 @@
 //! Calls served one at a time over a file in memory.
 
+use one_caller::{CallFault, OneCaller, Served};
 use page_device::MemDevice;
 use queue_model::{Body, Call, Caller, GetArguments, ReceiveArguments, SendArguments};
 use record_file::{CloseFault, OpenFault, format};
 use std::alloc::{AllocError, Global};
-use one_caller::{CallFault, OneCaller, Served};
 
 /// Who calls.
 const CALLER: Caller = Caller {
