@@ -13,7 +13,9 @@ ghost use Rattle.record_file.specs.OneBucket.{HasCauseToFail, IsRoot, Leaves, Sh
 
 use crate::fault::{CloseFault, OpenFault};
 use crate::header_test::test_header;
-use bucket_page::{DoesNotFit, PageKind, RecordKey, bucket_of, put, read_page, remove, replace, replace_front};
+use bucket_page::{
+    DoesNotFit, PageKind, RecordKey, bucket_of, put, read_page, remove, replace, replace_front,
+};
 use buffer_pool::{Frame, Pool, PoolFault};
 use directory::ROOT_PAGE;
 use page_device::{DeviceFault, PageDevice, Payload};
