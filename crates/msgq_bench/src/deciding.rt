@@ -1,13 +1,13 @@
 //! Calls told their records and decided, over a queue of which the types are 1 and up, each of one message.
 
 use bucket_page::RecordKey;
-use queue_model::{Body, Caller, ReceiveArguments, SendArguments};
+use queue_model::{Body, Call, Caller, NoMemory, ReceiveArguments, SendArguments};
 use queue_records::{
     Body as LentBody, MAX_MESSAGES, MESSAGE, MessageEntry, QUEUE, QueueEntry, Record, TYPE,
     TypeEntry,
 };
-use std::alloc::{AllocError, Global};
-use xsi_inquiry::{Decision, Inquiry, NotASystem};
+use std::alloc::Global;
+use xsi_inquiry::{Decision, Inquiry, NotASystem, Room, Wanted};
 use xsi_receive::ReceiveInquiry;
 use xsi_send::SendInquiry;
 
@@ -19,7 +19,7 @@ const CALLER: Caller = Caller {
 };
 
 /// Sends of a type are decided so many times on a queue of so many types; tells how many were answered.
-pub fn sends(alloc: Global, types: u32, mtype: i64, rounds: u32) -> Result<u32, AllocError> {
+pub fn sends(alloc: Global, types: u32, mtype: i64, rounds: u32) -> Result<u32, NoMemory> {
     let send = SendArguments {
         id: 1,
         mtype,
@@ -27,16 +27,16 @@ pub fn sends(alloc: Global, types: u32, mtype: i64, rounds: u32) -> Result<u32, 
         nowait: true,
         moment: 1,
     };
+    let mut room = Room::new(alloc, &Call::Stat { id: 1 })?;
     let mut answered = 0u32;
     for _ in 0..rounds {
-        let mut inquiry = SendInquiry::new(CALLER, &send);
-        answered = answered.wrapping_add(decided(&mut inquiry, types));
+        answered = answered.wrapping_add(decided::<SendInquiry>(&send, &mut room, types));
     }
     Ok(answered)
 }
 
 /// Receives of type 0 are decided so many times on a queue of so many types; tells how many were answered.
-pub fn receives(types: u32, rounds: u32) -> u32 {
+pub fn receives(alloc: Global, types: u32, rounds: u32) -> Result<u32, NoMemory> {
     let receive = ReceiveArguments {
         id: 1,
         size: 1024,
@@ -45,32 +45,39 @@ pub fn receives(types: u32, rounds: u32) -> u32 {
         noerror: false,
         moment: 1,
     };
+    let mut room = Room::new(alloc, &Call::Receive(receive))?;
     let mut answered = 0u32;
     for _ in 0..rounds {
-        let mut inquiry = ReceiveInquiry::new(CALLER, receive);
-        answered = answered.wrapping_add(decided(&mut inquiry, types));
+        answered = answered.wrapping_add(decided::<ReceiveInquiry>(&receive, &mut room, types));
     }
-    answered
+    Ok(answered)
 }
 
 /// 1 where a call is answered, else 0.
-fn decided<I: Inquiry>(inquiry: &mut I, types: u32) -> u32 {
-    if ask(inquiry, types).is_err() || inquiry.wants().is_some() {
+fn decided<I: Inquiry + Drop>(arguments: &I::Arguments, room: &mut Room, types: u32) -> u32 {
+    let mut inquiry = I::begin(CALLER, arguments);
+    if ask(&mut inquiry, arguments, room, types).is_err() || inquiry.wants(arguments).is_some() {
         return 0;
     }
-    match inquiry.decide(false) {
-        Ok(Decision::Answers(_, _)) => 1,
+    match inquiry.decide(arguments) {
+        Ok(Decision::Answers(_)) => 1,
         _ => 0,
     }
 }
 
-/// Tells a call what it asks for.
-fn ask<I: Inquiry>(inquiry: &mut I, types: u32) -> Result<(), NotASystem> {
+/// Tells a call what it asks for. Each id was given out.
+fn ask<I: Inquiry>(
+    inquiry: &mut I,
+    arguments: &I::Arguments,
+    room: &mut Room,
+    types: u32,
+) -> Result<(), NotASystem> {
     for _ in 0..MAX_MESSAGES + 8 {
-        let Some(key) = inquiry.wants() else {
-            return Ok(());
-        };
-        inquiry.take(record_at(key, types))?;
+        match inquiry.wants(arguments) {
+            None => return Ok(()),
+            Some(Wanted::At(key)) => inquiry.take(arguments, record_at(key, types), room)?,
+            Some(Wanted::Given(_)) => inquiry.take_given(arguments, true)?,
+        }
     }
     Ok(())
 }

@@ -62,7 +62,7 @@ fn once(rt: &HostRuntime) -> anyhow::Result<()> {
     println!(rt; "received: {received}")?;
     let standing = deciding::sends(rt.alloc(), 16, 16, 1)?;
     let new = deciding::sends(rt.alloc(), 16, 17, 1)?;
-    let taken = deciding::receives(16, 1);
+    let taken = deciding::receives(rt.alloc(), 16, 1)?;
     println!(rt; "decided: {:?}", (standing, new, taken))?;
     let mut table = locking::table_of(rt.alloc(), 64, 6)?;
     let granted = locking::grants(&mut table, 64, 100);
@@ -109,7 +109,7 @@ fn decides(rt: &HostRuntime, types: u32) -> anyhow::Result<()> {
     )?;
     report(rt, "a send of a new type, decided", 0, start, ROUNDS)?;
     let start = Instant::now(rt)?;
-    deciding::receives(types, ROUNDS);
+    deciding::receives(rt.alloc(), types, ROUNDS)?;
     report(rt, "a receive, decided", 0, start, ROUNDS)
 }
 

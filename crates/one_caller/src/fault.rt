@@ -13,7 +13,7 @@ pub enum CallFault {
     /// A record does not fit the root bucket. Nothing was changed.
     #[error("there is no room for a record")]
     NoRoom,
-    /// There is no memory for the answer. Nothing was changed.
+    /// There is no memory for the message that a Receive is to be given. Nothing was changed.
     #[error("out of memory")]
     NoMemory,
     /// The records are not those of a system. From here on each call fails so.

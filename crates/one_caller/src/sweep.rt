@@ -76,11 +76,7 @@ fn sweep_one<D: PageDevice>(
 }
 
 /// Reads what the turn of a serial needs.
-fn read_turn<D: PageDevice>(
-    file: &OneBucket<D>,
-    id: u32,
-    serial: u64,
-) -> Result<Turn, NotASystem>
+fn read_turn<D: PageDevice>(file: &OneBucket<D>, id: u32, serial: u64) -> Result<Turn, NotASystem>
     ensures { (s : State) (q : Queue) (count : ℕ) → IsFiled s →
         find (has_id id) s.queues ≡ Some q →
         first_of (serials (unswept count q)) ≡ Some serial →

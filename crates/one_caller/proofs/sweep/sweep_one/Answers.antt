@@ -13,7 +13,7 @@ loop-slot-preserved g c =
     let slot = c.loop-slot.slot in
     let goal_of = IsWritten (writes_of plan) (somes (drop (slot + 1) plan.slots)) c.args.file.now in
     elim c.match-write.branch [
-      in-Some+in-Ok-write_one w ↦
+      | in-Some+in-Ok-write_one w ↦
           subst goal_of (sym w.file-is) (written_more (writes_of plan) _ (somes (drop (slot + 1) plan.slots)) w.in-Some.write
           c.args.file.now c.loop-slot.file w.write_one.new.file
           (slot_some plan.slots slot w.in-Some.write (sym c.write.ensures ∙ w.in-Some.is)) c.loop-slot.invariant
