@@ -68,7 +68,10 @@ fn once(rt: &HostRuntime) -> anyhow::Result<()> {
     let granted = locking::grants(&mut table, 64, 100);
     println!(rt; "granted: {granted}")?;
     let mut pool = stepping::full_file(rt.alloc())?;
-    let marks = (stepping::entries(&mut pool, 3)?, stepping::looks(&mut pool, 3)?);
+    let marks = (
+        stepping::entries(&mut pool, 3)?,
+        stepping::looks(&mut pool, 3)?,
+    );
     stepping::writes(&mut pool, 3)?;
     println!(rt; "steps: {marks:?}")?;
     Ok(())
@@ -131,10 +134,22 @@ fn steps(rt: &HostRuntime) -> anyhow::Result<()> {
     report(rt, "an entry read", (mark % 256) as u8, start, STEPS)?;
     let start = Instant::now(rt)?;
     let mark = stepping::looks(&mut pool, STEPS)?;
-    report(rt, "a look in a full bucket", (mark % 256) as u8, start, STEPS)?;
+    report(
+        rt,
+        "a look in a full bucket",
+        (mark % 256) as u8,
+        start,
+        STEPS,
+    )?;
     let start = Instant::now(rt)?;
     stepping::writes(&mut pool, STEPS)?;
-    report(rt, "a record of 64 bytes replaced in a full bucket", 0, start, STEPS)
+    report(
+        rt,
+        "a record of 64 bytes replaced in a full bucket",
+        0,
+        start,
+        STEPS,
+    )
 }
 
 /// Times digests, and pages sealed and unsealed.

@@ -73,7 +73,12 @@ pub fn writes(pool: &mut Pool<MemDevice>, rounds: u32) -> Result<(), FileFault>
     ensures { IsReady pool.new }
 {
     for round in 0..rounds {
-        replace_record(pool, ROOT_PAGE, &key(round % RECORDS), &[(round % 256) as u8; 64])?;
+        replace_record(
+            pool,
+            ROOT_PAGE,
+            &key(round % RECORDS),
+            &[(round % 256) as u8; 64],
+        )?;
     }
     Ok(())
 }

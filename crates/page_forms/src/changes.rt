@@ -14,7 +14,9 @@ ghost use Rattle.directory.specs.Pages.{IsDirectoryPage};
 ghost use Rattle.directory.specs.Spelling.{Spells as SpellsHeader};
 
 use crate::file_page::FilePage;
-use bucket_page::{DoesNotFit, RecordKey, put, remove, replace, replace_front, write_free, write_tombstone};
+use bucket_page::{
+    DoesNotFit, RecordKey, put, remove, replace, replace_front, write_free, write_tombstone,
+};
 use directory::{Header, copy_upper, retarget, write_header};
 use positions::Range;
 

@@ -31,7 +31,7 @@ pub fn tell<I: Inquiry>(
         IsSoNear (I.call arguments.now) names (I.Knows arguments.now inquiry.old room.old) s →
         IsTold s (I.wanted arguments.now inquiry.old) found.entry →
         Gives result (λ _. IsSoNear (I.call arguments.now) names
-            (I.Knows arguments.now inquiry.new room.new) s) }
+        (I.Knows arguments.now inquiry.new room.new) s) }
     ensures fewer { OnOk result
         (I.left arguments.now inquiry.new < I.left arguments.now inquiry.old) }
     ensures err { OnErr result ((inquiry.new ≡ inquiry.old) × (room.new ≡ room.old)) }
@@ -51,7 +51,7 @@ pub fn tell_given<I: Inquiry>(
         IsSoNear (I.call arguments.now) names (I.Knows arguments.now inquiry.old room) s →
         IsToldGiven s (I.wanted arguments.now inquiry.old) given →
         Gives result (λ _. IsSoNear (I.call arguments.now) names
-            (I.Knows arguments.now inquiry.new room) s) }
+        (I.Knows arguments.now inquiry.new room) s) }
     ensures fewer { OnOk result
         (I.left arguments.now inquiry.new < I.left arguments.now inquiry.old) }
     ensures err { OnErr result (inquiry.new ≡ inquiry.old) }
