@@ -1,0 +1,227 @@
+-- The steps of a search, each from what its place knows.
+use Rattle.std.proofs.Common.{◌≡◌, ◌≢◌, refl, sym, ap, ◌∙◌, subst, ℕ, ◌<◌, true, List, [], ◌∷◌, Option, Some, None, length, inl, inr}
+use Rattle.std.specs.Option.{option_map}
+use Rattle.step_rules.specs.Words.{Lock, LockKind, Read, LockName, Directory, Page, next_at, records_at, Change, PageLeads, Answers}
+use Rattle.stale_search.specs.Words.{RecordKey, PoolState, MAX_LOCKS, kind_of, Table, IsSeat, IsOpposed, Opposes, row_of, held, with_lock, without_lock, OnlyReads, Moved, Blocked, World, IsHeld, IsReached, Known, LeadsTo, AllKnown, Ask, ForLock, HopFrom, Turn}
+use Rattle.bucket_page.specs.Records.{lookup}
+use Rattle.page_locks.specs.Writers.{may_write, IsWriter}
+use Rattle.page_locks.proofs.WriterLemmas.{IsFree-unopposed}
+use Rattle.hash_file.specs.Changes.{RecordWrite}
+use Rattle.file_pages.specs.declared.fault.FileFault.{FileFault}
+use Rattle.step_rules.specs.declared.kind.Kind.{Kind}
+use Rattle.step_rules.specs.declared.kind.Kind.TheVariants.{Grant, Release, Look, Hop}
+use Rattle.step_rules.specs.LockSteps.{Grants, Releases, MovesOn}
+use Rattle.step_rules.specs.Does.{KeepsOthers}
+use Rattle.step_rules.proofs.KindLemmas.{kind_keeps}
+use Rattle.step_rules.proofs.LockLemmas.{IsHeld-some}
+use Rattle.step_rules.proofs.LockStepLemmas.{KeepsOthers-same}
+use Rattle.step_rules.specs.Answering.{TakesAnswer}
+use Rattle.step_rules.proofs.AnswerLemmas.{look_may_tell}
+use Rattle.step_rules.proofs.MachineLemmas.{AllKnown-granted}
+use Rattle.step_rules.proofs.OwnLemmas.{hop_is_led_on}
+use Rattle.step_rules.specs.Turns.{DoesTied, HopsJust, MayBeGranted}
+use Rattle.stale_search.specs.Steps.{world, Sees, Step}
+use Rattle.stale_search.specs.Searches.{HasNoFileLock, on_page}
+use Rattle.stale_search.proofs.RowLemmas.{page_on, other_not_on, directory_not_on}
+
+module _ (hash : RecordKey → ℕ) (seat : ℕ) (facts : List Known) (pool : PoolState) (locks : Table)
+    (change : Change) (sees : Sees hash seat facts pool locks change) (write : Option RecordWrite) where
+  abbrev turn_of : Option Ask → Turn
+  turn_of ask = record { ask = ask; write = write }
+
+  abbrev old : World
+  old = world pool.images locks change
+
+  -- a lock is granted
+  pub granted : (locks' : Table) (name : LockName) (kind : LockKind) → IsSeat locks seat →
+      length (row_of locks seat) < MAX_LOCKS →
+      held locks seat name ≡ None → (IsOpposed locks seat name kind → ⊥) →
+      ((page : ℕ) → name ≡ Page page → IsReached old page) → MayBeGranted name kind seat old →
+      locks' ≡ with_lock locks seat name kind →
+      Step {F = FileFault} hash seat (turn_of (Some (ForLock name kind))) (Moved Grant) facts pool pool locks locks'
+      change
+  granted locks' name kind seated room fresh nobody reached may is =
+      let new : World = world pool.images locks' change in
+      let g : Grants seat old new = record {
+        seated = seated;
+        room = room;
+        name = name;
+        kind = kind;
+        fresh = fresh;
+        free = IsFree-unopposed locks seat name kind nobody;
+        aimed = reached;
+        is = ap (λ (t : Table). world pool.images t change) is;
+      } in
+      record {
+        after = change;
+        file = sees.file;
+        others = kind_keeps Grant hash seat old new sees.sound g;
+        known = AllKnown-granted seat old new facts g sees.known;
+        does = record { grants = g; name_is = refl; kind_is = refl; may = may };
+      }
+
+  -- a page is read
+  pub read : (kind : Kind) (turn : Turn) (facts' : List Known) (pool' : PoolState) → OnlyReads true pool pool' →
+      AllKnown seat old facts' → DoesTied hash turn kind seat old old →
+      Step {F = FileFault} hash seat turn (Moved kind) facts' pool pool' locks locks change
+  read kind turn facts' pool' reads all does =
+      let same : world pool'.images locks change ≡ old =
+      ap (λ (images : List (List ℕ)). world images locks change) (reads.images sees.honest) in
+      record {
+        after = change;
+        file = reads.file sees.honest refl sees.file;
+        others = KeepsOthers-same hash seat old (world pool'.images locks change) sees.sound same;
+        known = subst (λ (w : World). AllKnown seat w facts') (sym same) all;
+        does = subst (DoesTied hash turn kind seat old) (sym same) does;
+      }
+
+  -- the directory is given back
+  pub gave_back : (locks' : Table) (n k : ℕ) (kind : LockKind) (before : List Lock) → HasNoFileLock before →
+      IsSeat locks seat →
+      held locks seat Directory ≡ Some Read → row_of locks' seat ≡ on_page n kind before →
+      locks' ≡ without_lock locks seat Directory → PageLeads old.store change n k →
+      Step {F = FileFault} hash seat (turn_of None) (Moved Release) (LeadsTo n k ∷ []) pool pool locks locks' change
+  gave_back locks' n k kind before bare seated had row is leads =
+      let new : World = world pool.images locks' change in
+      let r : Releases seat old new = record {
+        seated = seated;
+        name = Directory;
+        had = IsHeld-some locks seat Directory Read had;
+        idle = λ page same. absurd cc;
+        done = λ _ writes. absurd (let none : may_write (Some Read) ≡ true = ap may_write (sym had) ∙ writes in cc);
+        is = ap (λ (t : Table). world pool.images t change) is;
+      } in
+      let there : IsHeld locks' seat (Page n) = IsHeld-some locks' seat (Page n) kind
+      (ap (λ (locks : List Lock). kind_of locks (Page n)) row ∙ page_on before bare n kind) in
+      record {
+        after = change;
+        file = sees.file;
+        others = kind_keeps Release hash seat old new sees.sound r;
+        known = ((inr there, leads), tt);
+        does = r;
+      }
+
+  module _ (pool' : PoolState) (reads : OnlyReads true pool pool') (page k : ℕ) (kind : LockKind) (before : List Lock)
+      (bare : HasNoFileLock before) (seated : IsSeat locks seat) (row : row_of locks seat ≡ on_page page kind before)
+      (leads : PageLeads old.store change page k) where
+    had : held locks seat (Page page) ≡ Some kind
+    had = ap (λ (locks : List Lock). kind_of locks (Page page)) row ∙ page_on before bare page kind
+
+    no_directory : IsWriter locks seat Directory → ⊥
+    no_directory w =
+        let none : held locks seat Directory ≡ None =
+        ap (λ (locks : List Lock). kind_of locks Directory) row ∙ directory_not_on before bare page kind in
+        let f : may_write None ≡ true = ap may_write (sym none) ∙ w in cc
+
+    pub looked : Step {F = FileFault} hash seat (turn_of None) (Moved Look) (LeadsTo page k ∷ []) pool pool' locks
+        locks change
+    looked = read Look (turn_of None) (LeadsTo page k ∷ []) pool' reads
+        ((inr (IsHeld-some locks seat (Page page) kind had), leads), tt)
+        (record { page = page; reads = record { had = IsHeld-some locks seat (Page page) kind had; is = refl } })
+
+    -- the page answers now
+    pub hopped_back : Answers old.store page k →
+        Step {F = FileFault} hash seat (turn_of (Some (HopFrom page k))) (Moved Hop) (LeadsTo page k ∷ []) pool
+        pool' locks locks change
+    hopped_back answers = read Hop (turn_of (Some (HopFrom page k))) (LeadsTo page k ∷ []) pool' reads
+        ((inr (IsHeld-some locks seat (Page page) kind had), leads), tt)
+        (record {
+          hops = record {
+            page = page;
+            pseudokey = k;
+            kind = kind;
+            had = had;
+            leads = leads;
+            hops = inl (answers, refl);
+          };
+          page_is = refl;
+          pseudokey_is = refl;
+        })
+
+    -- the next page is granted in its place
+    pub hopped_on : (locks' : Table) (m : ℕ) → m ≡ next_at old.store page → (Answers old.store page k → ⊥) →
+        length (row_of locks seat) < MAX_LOCKS → m ≢ page → (IsOpposed locks seat (Page m) kind → ⊥) →
+        locks' ≡ without_lock (with_lock locks seat (Page m) kind) seat (Page page) →
+        row_of locks' seat ≡ on_page m kind before →
+        Step {F = FileFault} hash seat (turn_of (Some (HopFrom page k))) (Moved Hop) (LeadsTo m k ∷ []) pool pool'
+        locks locks' change
+    hopped_on locks' m next unanswered room other nobody is row' =
+        let new : World = world pool.images locks' change in
+        let fresh : held locks seat (Page m) ≡ None =
+        ap (λ (locks : List Lock). kind_of locks (Page m)) row ∙ other_not_on before bare page m kind
+        (λ e. other (sym e)) in
+        let g : MovesOn page kind seat old new = subst (λ (x : ℕ).
+        held locks seat (Page x) ≡ None → (IsOpposed locks seat (Page x) kind → ⊥) →
+        locks' ≡ without_lock (with_lock locks seat (Page x) kind) seat (Page page) → MovesOn page kind seat old
+        new)
+        (sym next) (λ fresh nobody is. record {
+          seated = seated;
+          room = room;
+          fresh = fresh;
+          free = IsFree-unopposed locks seat (Page (next_at old.store page)) kind nobody;
+          idle = λ w. absurd (no_directory w);
+          is = ap (λ (t : Table). world pool.images t change) is;
+        }) fresh nobody is in
+        let h : HopsJust page k seat old new = record {
+          hops = record {
+            page = page;
+            pseudokey = k;
+            kind = kind;
+            had = had;
+            leads = leads;
+            hops = inr (unanswered, g);
+          };
+          page_is = refl;
+          pseudokey_is = refl;
+        } in
+        let there : IsHeld locks' seat (Page m) = IsHeld-some locks' seat (Page m) kind
+        (ap (λ (locks : List Lock). kind_of locks (Page m)) row' ∙ page_on before bare m kind) in
+        let led : PageLeads old.store change m k = subst (λ (x : ℕ). PageLeads old.store change x k) (sym next)
+        (hop_is_led_on hash seat old new page k kind sees.sound leads unanswered g) in
+        let same : world pool'.images locks' change ≡ new =
+        ap (λ (images : List (List ℕ)). world images locks' change) (reads.images sees.honest) in
+        record {
+          after = change;
+          file = reads.file sees.honest refl sees.file;
+          others = subst (KeepsOthers hash seat old) (sym same) (kind_keeps Hop hash seat old new sees.sound h.hops);
+          known = subst (λ (w : World). AllKnown seat w (LeadsTo m k ∷ [])) (sym same) ((inr there, led), tt);
+          does = subst (λ (w : World). HopsJust page k seat old w) (sym same) h;
+        }
+
+    -- the next page is another seat's
+    pub hop_blocked : (other m : ℕ) → m ≡ next_at old.store page → (Answers old.store page k → ⊥) →
+        Opposes locks seat (Page m) kind other →
+        Step {F = FileFault} hash seat (turn_of (Some (HopFrom page k))) (Blocked other) (LeadsTo page k ∷ []) pool
+        pool' locks locks change
+    hop_blocked other m next unanswered opposes =
+        let same : world pool'.images locks change ≡ old =
+        ap (λ (images : List (List ℕ)). world images locks change) (reads.images sees.honest) in
+        record {
+          after = change;
+          file = reads.file sees.honest refl sees.file;
+          others = KeepsOthers-same hash seat old (world pool'.images locks change) sees.sound same;
+          known = subst (λ (w : World). AllKnown seat w (LeadsTo page k ∷ [])) (sym same)
+              ((inr (IsHeld-some locks seat (Page page) kind had), leads), tt);
+          does = (
+            record {
+              kind = kind;
+              had = had;
+              unanswered = unanswered;
+              opposes = subst (λ (x : ℕ). Opposes locks seat (Page x) kind other) next opposes;
+            },
+            same,
+          );
+        }
+
+    pub taken : (key : RecordKey) (found : Option ℕ) → hash key ≡ k → Answers old.store page k →
+        found ≡ option_map length (lookup key (records_at old.store page)) →
+        TakesAnswer {F = FileFault} hash (Moved Look) seat page key (option_map length) None (Some found) old
+    taken key found is answers found_is = record {
+      looked = refl;
+      first = refl;
+      value = lookup key (records_at old.store page);
+      is = ap (λ (x : Option ℕ). Some x) found_is;
+      told = look_may_tell hash seat page key old sees.sound
+          (inr (IsHeld-some locks seat (Page page) kind had), subst (PageLeads old.store change page) (sym is) leads)
+          (IsHeld-some locks seat (Page page) kind had) (subst (Answers old.store page) (sym is) answers);
+    }

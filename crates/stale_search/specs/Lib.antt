@@ -1,0 +1,4 @@
+pub mod Words
+pub mod Callers
+pub mod Searches
+pub mod Steps
