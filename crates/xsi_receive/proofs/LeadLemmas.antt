@@ -1,15 +1,13 @@
 -- The writes of a Receive lead from the records of a system to those of the system after it.
-use Rattle.std.proofs.Common.{◌≡◌, ℕ, zero, suc, ◌<◌, ◌≤◌, ℤ, pos, negsuc, ◌≤ℤ◌, ◌<ℤ◌, Bool, true, false, List, [], ◌∷◌, Option, Some, None, ◌⊎◌, inl, inr, refl, sym, ap, ◌∙◌, subst, get_or, arith}
+use Rattle.std.proofs.Common.{◌≡◌, ℕ, zero, suc, ◌≤◌, ℤ, Bool, true, false, List, Option, Some, None, ◌⊎◌, inl, inr, refl, sym, ap, ◌∙◌, subst, arith}
 use Rattle.std.specs.Prelude.{◌≢◌, ◌==◌, option_map, slice_get}
 use Rattle.std.specs.List.{All, find, remove}
 use Rattle.std.specs.Ordering.{int_eq}
 use Rattle.std.proofs.lemmas.Bool.{cases_lt, eqb-true}
 use Rattle.std.proofs.lemmas.Bool.Decides.{Decides-eqb, Decides-int_eq}
-use Rattle.std.proofs.lemmas.Int.{ints}
-use Rattle.std.proofs.lemmas.List.Elements.{All-cons, All-nil}
-use Rattle.std.proofs.lemmas.Option.{get_or_from_slice_get, slice_get-map, slice_get_within}
+use Rattle.std.proofs.lemmas.List.Elements.{All-nil}
+use Rattle.std.proofs.lemmas.Option.{slice_get-map}
 use Rattle.bucket_page.specs.declared.record_key.RecordKey.{RecordKey}
-use Rattle.bucket_page.specs.Keys.{is_same}
 use Rattle.queue_model.specs.declared.message.Message.{Message}
 use Rattle.queue_model.specs.declared.queue.Queue.{Queue}
 use Rattle.queue_model.specs.Lawful.{IsLawfulQueue}
@@ -28,26 +26,24 @@ use Rattle.type_chains.specs.RecordOf.{has_number, has_serial, message_record, r
 use Rattle.type_chains.proofs.Limits.{in_range}
 use Rattle.type_chains.proofs.OneQueueChanged.{agree_but}
 use Rattle.type_chains.proofs.Tests.{key_is}
-use Rattle.type_chains.proofs.Unique.{types_ascend}
 use Rattle.xsi_inquiry.specs.declared.write.Write.{Write}
 use Rattle.xsi_inquiry.specs.declared.write.Write.TheVariants.{Replace, Relink, Delete}
-use Rattle.xsi_inquiry.specs.Owning.{Ascend, IsBefore, write_rank}
 use Rattle.xsi_inquiry.specs.Telling.{IsFiled}
-use Rattle.xsi_inquiry.specs.Writing.{Leads, key_written, somes}
+use Rattle.xsi_inquiry.specs.Writing.{Leads}
 use Rattle.xsi_inquiry.proofs.LeadLemmas.{Fills, Misses, leads_by}
-use Rattle.xsi_inquiry.proofs.SlotLemmas.{InSlot, SlotsAscend, somes_all, somes_ascend, somes_each}
+use Rattle.xsi_inquiry.proofs.SlotLemmas.{InSlot, somes_all, somes_each}
 use Rattle.xsi_receive.specs.declared.removal.Removal.{Removal}
 use Rattle.xsi_receive.specs.declared.removal.TypeLeft.{TypeLeft}
 use Rattle.xsi_receive.specs.declared.removal.TypeLeft.TheVariants.{Begins, Goes}
 use Rattle.xsi_receive.specs.Heads.{head_of}
 use Rattle.xsi_receive.specs.Removing.{deletion_by, higher_by, left_by, next_write, own_by, previous_write, removal_plan, slots_of, to_higher, to_lower, to_next, to_previous, type_deletion}
 use Rattle.xsi_receive.proofs.FirstOfTypeLemmas.{IsTakenAt}
-use Rattle.xsi_receive.proofs.FitLemmas.{found_other, higher_fits, lawful_after, lower_fits, message_goes, next_fits, numbered, own_fits, place_of, previous_fits, queue_fits, stands_at, type_goes}
+use Rattle.xsi_receive.proofs.FitLemmas.{found_other, higher_fits, lawful_after, lower_fits, message_goes, next_fits, own_fits, place_of, previous_fits, queue_fits, type_goes}
 use Rattle.xsi_receive.proofs.MessageLemmas.{entry_later, entry_sooner, next_is, next_of_type_is, previous_is, same_at_other_serial, without}
-use Rattle.xsi_receive.proofs.StandLemmas.{fine, typed}
+use Rattle.xsi_receive.proofs.StandLemmas.{fine}
 use Rattle.xsi_receive.proofs.TypeLemmas.{entry_stays, higher_is, lower_is, type_later, type_sooner, types_stay}
 use Rattle.xsi_receive.proofs.TypesLemmas.{its_type_stands}
-use Rattle.xsi_receive.proofs.RankLemmas.{put, none_in, all_seven, WritesAt, itself, missed, not_at, HasRank, message_rank, type_rank, own_rank, higher_rank, deletion_rank, before, each, of_rank, numbers_ascend}
+use Rattle.xsi_receive.proofs.RankLemmas.{all_seven, WritesAt, missed, not_at}
 use Rattle.xsi_receive.proofs.OrderLemmas.{in_order}
 
 module _ (s : State) (filed : IsFiled s) (id : ℕ) (q : Queue) (found : find (has_id id) s.queues ≡ Some q)

@@ -1,21 +1,13 @@
 -- The writes of a Receive stand in the order of their ranks.
-use Rattle.std.proofs.Common.{◌≡◌, ℕ, zero, suc, ◌<◌, ◌≤◌, ℤ, pos, negsuc, ◌≤ℤ◌, ◌<ℤ◌, Bool, true, false, List, [], ◌∷◌, Option, Some, None, ◌⊎◌, inl, inr, refl, sym, ap, ◌∙◌, subst, get_or, arith}
-use Rattle.std.specs.Prelude.{◌≢◌, ◌==◌, option_map, slice_get}
+use Rattle.std.proofs.Common.{◌≡◌, ℕ, zero, suc, ◌<◌, ℤ, ◌<ℤ◌, List, [], ◌∷◌, Option, Some, None, inr, refl, sym, ap, ◌∙◌, subst, get_or, arith}
+use Rattle.std.specs.Prelude.{option_map, slice_get}
 use Rattle.std.specs.List.{All, find, remove}
-use Rattle.std.specs.Ordering.{int_eq}
-use Rattle.std.proofs.lemmas.Bool.{cases_lt, eqb-true}
-use Rattle.std.proofs.lemmas.Bool.Decides.{Decides-eqb, Decides-int_eq}
-use Rattle.std.proofs.lemmas.Int.{ints}
-use Rattle.std.proofs.lemmas.List.Elements.{All-cons, All-nil}
-use Rattle.std.proofs.lemmas.Option.{get_or_from_slice_get, slice_get-map, slice_get_within}
-use Rattle.bucket_page.specs.declared.record_key.RecordKey.{RecordKey}
-use Rattle.bucket_page.specs.Keys.{is_same}
+use Rattle.std.proofs.lemmas.Option.{get_or_from_slice_get, slice_get_within}
 use Rattle.queue_model.specs.declared.message.Message.{Message}
 use Rattle.queue_model.specs.declared.queue.Queue.{Queue}
 use Rattle.queue_model.specs.Lawful.{IsLawfulQueue}
 use Rattle.queue_model.specs.Rules.{has_id, with_queue}
 use Rattle.queue_model.specs.State.{State}
-use Rattle.queue_model.proofs.ListLemmas.{find-Some}
 use Rattle.queue_records.specs.declared.message_entry.MessageEntry.{MessageEntry}
 use Rattle.queue_records.specs.declared.record.Record.TheVariants as records
 use Rattle.queue_records.specs.declared.type_entry.TypeEntry.{TypeEntry}
@@ -24,30 +16,26 @@ use Rattle.queue_records.specs.Keys.{key_of_message, key_of_type}
 use Rattle.type_chains.specs.Entries.{message_entry, queue_entry, type_entry}
 use Rattle.type_chains.specs.Lists.{serials, serials_of_type, types}
 use Rattle.type_chains.specs.Neighbours.{before_place, first_of}
-use Rattle.type_chains.specs.RecordOf.{has_number, has_serial, message_record, record_of, type_record}
-use Rattle.type_chains.proofs.Limits.{in_range}
-use Rattle.type_chains.proofs.OneQueueChanged.{agree_but}
-use Rattle.type_chains.proofs.Tests.{key_is}
+use Rattle.type_chains.specs.RecordOf.{record_of}
 use Rattle.type_chains.proofs.Unique.{types_ascend}
 use Rattle.xsi_inquiry.specs.declared.write.Write.{Write}
 use Rattle.xsi_inquiry.specs.declared.write.Write.TheVariants.{Replace, Relink, Delete}
 use Rattle.xsi_inquiry.specs.Owning.{Ascend, IsBefore, write_rank}
 use Rattle.xsi_inquiry.specs.Telling.{IsFiled}
-use Rattle.xsi_inquiry.specs.Writing.{Leads, key_written, somes}
-use Rattle.xsi_inquiry.proofs.LeadLemmas.{Fills, Misses, leads_by}
-use Rattle.xsi_inquiry.proofs.SlotLemmas.{InSlot, SlotsAscend, somes_all, somes_ascend, somes_each}
+use Rattle.xsi_inquiry.specs.Writing.{somes}
+use Rattle.xsi_inquiry.proofs.LeadLemmas.{Fills}
+use Rattle.xsi_inquiry.proofs.SlotLemmas.{InSlot, SlotsAscend, somes_ascend}
 use Rattle.xsi_receive.specs.declared.removal.Removal.{Removal}
 use Rattle.xsi_receive.specs.declared.removal.TypeLeft.{TypeLeft}
-use Rattle.xsi_receive.specs.declared.removal.TypeLeft.TheVariants.{Begins, Goes}
 use Rattle.xsi_receive.specs.Heads.{head_of}
-use Rattle.xsi_receive.specs.Removing.{deletion_by, higher_by, left_by, next_write, own_by, previous_write, removal_plan, slots_of, to_higher, to_lower, to_next, to_previous, type_deletion}
+use Rattle.xsi_receive.specs.Removing.{higher_by, left_by, next_write, own_by, previous_write, slots_of, to_higher, to_lower, to_next, to_previous, type_deletion}
 use Rattle.xsi_receive.proofs.FirstOfTypeLemmas.{IsTakenAt}
-use Rattle.xsi_receive.proofs.FitLemmas.{found_other, higher_fits, lawful_after, lower_fits, message_goes, next_fits, numbered, own_fits, place_of, previous_fits, queue_fits, stands_at, type_goes}
-use Rattle.xsi_receive.proofs.MessageLemmas.{entry_later, entry_sooner, next_is, next_of_type_is, previous_is, same_at_other_serial, without}
+use Rattle.xsi_receive.proofs.FitLemmas.{numbered, place_of, stands_at}
+use Rattle.xsi_receive.proofs.MessageLemmas.{next_is, next_of_type_is, previous_is, without}
 use Rattle.xsi_receive.proofs.StandLemmas.{fine, typed}
-use Rattle.xsi_receive.proofs.TypeLemmas.{entry_stays, higher_is, lower_is, type_later, type_sooner, types_stay}
+use Rattle.xsi_receive.proofs.TypeLemmas.{higher_is, lower_is}
 use Rattle.xsi_receive.proofs.TypesLemmas.{its_type_stands}
-use Rattle.xsi_receive.proofs.RankLemmas.{put, none_in, all_seven, WritesAt, itself, missed, not_at, HasRank, message_rank, type_rank, own_rank, higher_rank, deletion_rank, before, each, of_rank, numbers_ascend}
+use Rattle.xsi_receive.proofs.RankLemmas.{put, none_in, HasRank, message_rank, own_rank, higher_rank, deletion_rank, before, each, of_rank, numbers_ascend}
 
 module _ (s : State) (filed : IsFiled s) (id : ℕ) (q : Queue) (found : find (has_id id) s.queues ≡ Some q)
     (its : q.id ≡ id) (pid moment i : ℕ) (m : Message) (taken : IsTakenAt m q.messages i) where

@@ -1,52 +1,21 @@
 -- Slots of writes, and the ranks of what stands in them.
-use Rattle.std.proofs.Common.{◌≡◌, ℕ, zero, suc, ◌<◌, ◌≤◌, ℤ, pos, negsuc, ◌≤ℤ◌, ◌<ℤ◌, Bool, true, false, List, [], ◌∷◌, Option, Some, None, ◌⊎◌, inl, inr, refl, sym, ap, ◌∙◌, subst, get_or, arith}
-use Rattle.std.specs.Prelude.{◌≢◌, ◌==◌, option_map, slice_get}
-use Rattle.std.specs.List.{All, find, remove}
-use Rattle.std.specs.Ordering.{int_eq}
-use Rattle.std.proofs.lemmas.Bool.{cases_lt, eqb-true}
-use Rattle.std.proofs.lemmas.Bool.Decides.{Decides-eqb, Decides-int_eq}
+use Rattle.std.proofs.Common.{◌≡◌, ℕ, ◌<◌, ℤ, pos, negsuc, ◌≤ℤ◌, ◌<ℤ◌, true, false, List, [], ◌∷◌, Option, Some, None, inl, refl, sym, ap, ◌∙◌, arith}
+use Rattle.std.specs.Prelude.{option_map}
+use Rattle.std.specs.List.{All}
+use Rattle.std.proofs.lemmas.Bool.Decides.{Decides-eqb}
 use Rattle.std.proofs.lemmas.Int.{ints}
 use Rattle.std.proofs.lemmas.List.Elements.{All-cons, All-nil}
-use Rattle.std.proofs.lemmas.Option.{get_or_from_slice_get, slice_get-map, slice_get_within}
 use Rattle.bucket_page.specs.declared.record_key.RecordKey.{RecordKey}
 use Rattle.bucket_page.specs.Keys.{is_same}
-use Rattle.queue_model.specs.declared.message.Message.{Message}
-use Rattle.queue_model.specs.declared.queue.Queue.{Queue}
-use Rattle.queue_model.specs.Lawful.{IsLawfulQueue}
-use Rattle.queue_model.specs.Rules.{has_id, with_queue}
-use Rattle.queue_model.specs.State.{State}
-use Rattle.queue_model.proofs.ListLemmas.{find-Some}
-use Rattle.queue_records.specs.declared.message_entry.MessageEntry.{MessageEntry}
-use Rattle.queue_records.specs.declared.record.Record.TheVariants as records
-use Rattle.queue_records.specs.declared.type_entry.TypeEntry.{TypeEntry}
 use Rattle.queue_records.specs.Fields.{type_number}
-use Rattle.queue_records.specs.Keys.{key_of_message, key_of_type}
-use Rattle.type_chains.specs.Entries.{message_entry, queue_entry, type_entry}
-use Rattle.type_chains.specs.Lists.{serials, serials_of_type, types}
-use Rattle.type_chains.specs.Neighbours.{before_place, first_of}
-use Rattle.type_chains.specs.RecordOf.{has_number, has_serial, message_record, record_of, type_record}
-use Rattle.type_chains.proofs.Limits.{in_range}
-use Rattle.type_chains.proofs.OneQueueChanged.{agree_but}
-use Rattle.type_chains.proofs.Tests.{key_is}
-use Rattle.type_chains.proofs.Unique.{types_ascend}
 use Rattle.xsi_inquiry.specs.declared.write.Write.{Write}
-use Rattle.xsi_inquiry.specs.declared.write.Write.TheVariants.{Replace, Relink, Delete}
-use Rattle.xsi_inquiry.specs.Owning.{Ascend, IsBefore, write_rank}
-use Rattle.xsi_inquiry.specs.Telling.{IsFiled}
-use Rattle.xsi_inquiry.specs.Writing.{Leads, key_written, somes}
-use Rattle.xsi_inquiry.proofs.LeadLemmas.{Fills, Misses, leads_by}
-use Rattle.xsi_inquiry.proofs.SlotLemmas.{InSlot, SlotsAscend, somes_all, somes_ascend, somes_each}
-use Rattle.xsi_receive.specs.declared.removal.Removal.{Removal}
+use Rattle.xsi_inquiry.specs.Owning.{IsBefore, write_rank}
+use Rattle.xsi_inquiry.specs.Writing.{key_written}
+use Rattle.xsi_inquiry.proofs.LeadLemmas.{Misses}
+use Rattle.xsi_inquiry.proofs.SlotLemmas.{InSlot}
 use Rattle.xsi_receive.specs.declared.removal.TypeLeft.{TypeLeft}
 use Rattle.xsi_receive.specs.declared.removal.TypeLeft.TheVariants.{Begins, Goes}
-use Rattle.xsi_receive.specs.Heads.{head_of}
-use Rattle.xsi_receive.specs.Removing.{deletion_by, higher_by, left_by, next_write, own_by, previous_write, removal_plan, slots_of, to_higher, to_lower, to_next, to_previous, type_deletion}
-use Rattle.xsi_receive.proofs.FirstOfTypeLemmas.{IsTakenAt}
-use Rattle.xsi_receive.proofs.FitLemmas.{found_other, higher_fits, lawful_after, lower_fits, message_goes, next_fits, numbered, own_fits, place_of, previous_fits, queue_fits, stands_at, type_goes}
-use Rattle.xsi_receive.proofs.MessageLemmas.{entry_later, entry_sooner, next_is, next_of_type_is, previous_is, same_at_other_serial, without}
-use Rattle.xsi_receive.proofs.StandLemmas.{fine, typed}
-use Rattle.xsi_receive.proofs.TypeLemmas.{entry_stays, higher_is, lower_is, type_later, type_sooner, types_stay}
-use Rattle.xsi_receive.proofs.TypesLemmas.{its_type_stands}
+use Rattle.xsi_receive.specs.Removing.{deletion_by, higher_by, own_by}
 
 -- ---- slots
 
@@ -71,7 +40,7 @@ all_seven P a b c d e f g one two three four five six seven =
     (put P g [] seven (none_in P)))))))
 
 -- the slot writes at this key
-pub abbrev WritesAt : RecordKey → Option Write → Type 0
+abbrev pub WritesAt : RecordKey → Option Write → Type 0
 WritesAt key None = ⊥
 WritesAt key (Some w) = key_written w ≡ key
 
@@ -93,7 +62,7 @@ not_at key (Some w) misses at = missed key w at misses
 
 -- ---- ranks
 
-pub abbrev HasRank : ℕ → Option Write → Type 0
+abbrev pub HasRank : ℕ → Option Write → Type 0
 HasRank rank o = InSlot (λ (w : Write). write_rank w ≡ rank) o
 
 pub message_rank : (id : ℕ) (o : Option ℕ) (l : ℕ → Write) → ((serial : ℕ) → write_rank (l serial) ≡ 1) →
