@@ -3,6 +3,7 @@
 #![tactic(auto)]
 
 mod bucket;
+mod buddies;
 mod entries;
 mod fault;
 mod header;
@@ -11,7 +12,7 @@ mod read;
 mod records;
 mod sight;
 
-pub use bucket::{write_free, write_new, write_old, write_tombstone};
+pub use bucket::{write_free, write_left, write_new, write_old, write_tombstone};
 pub use entries::{copy_directory, retarget};
 pub use fault::FileFault;
 pub use header::{
