@@ -1,23 +1,25 @@
 -- A page made of others, and stored.
-use Rattle.std.proofs.Common.{◌≡◌, ◌∙◌, refl, sym, ap, subst, ℕ, ◌<◌, List, length, arith, true, IsTrue, Result, Ok, Err, IsErr, IfOk, OnOk}
+use Rattle.std.proofs.Common.{◌≡◌, ◌∙◌, refl, sym, ap, subst, ℕ, ◌<◌, ◌≤◌, List, length, arith, true, IsTrue, Result, Ok, Err, IsErr, IfOk, OnOk}
 use Rattle.bucket_page.specs.declared.page.PageKind.{PageKind}
 use Rattle.bucket_page.specs.declared.page.PageKind.TheVariants as kinds
 use Rattle.bucket_page.specs.Bucket.{Bucket}
 use Rattle.bucket_page.specs.Changes.{IsBucketPage, SpellsBucket}
-use Rattle.bucket_page.specs.Reading.{page_at as page_in}
+use Rattle.bucket_page.specs.Dividing.{joined}
+use Rattle.bucket_page.specs.Reading.{bucket_at as bucket_in, page_at as page_in}
 use Rattle.bucket_page.specs.Spelling.{Spells}
 use Rattle.page_forms.proofs.FormLemmas.{page_is as read_is, same_page}
 use Rattle.buffer_pool.specs.Pool.{PoolState}
+use Rattle.directory.specs.declared.layout.TheConstants.{ROOT_PAGE}
 use Rattle.hash_file.specs.Changes.{with_page}
 use Rattle.file_pages.specs.declared.fault.FileFault.{FileFault}
-use Rattle.file_pages.specs.Buckets.{IsThere}
-use Rattle.file_pages.specs.Files.{IsFilePool, store_of}
+use Rattle.file_pages.specs.Buckets.{AreJoinable, IsThere}
+use Rattle.file_pages.specs.Files.{IsFile, IsFilePool, image, store_of}
 use Rattle.file_pages.specs.Reads.{OnlyReads}
 use Rattle.file_pages.specs.Writes.{IsBucketThere}
 use Rattle.page_device.specs.Device.{HasRisen}
-use Rattle.hash_file.specs.Store.{Store}
-use Rattle.file_pages.proofs.ReadLemmas.{risen_after}
-use Rattle.file_pages.proofs.StoreLemmas.{pages_are}
+use Rattle.hash_file.specs.Store.{Store, bucket_at, bucket_of, is_bucket}
+use Rattle.file_pages.proofs.ReadLemmas.{bucket_spelled, risen_after}
+use Rattle.file_pages.proofs.StoreLemmas.{page_is as stored_page_is, pages_are}
 
 pub there_is : (images : List (List ℕ)) (page : ℕ) → IsThere page (store_of images) → page < length images
 there_is images page there = omega (arith, pages_are images, there.within)
@@ -64,3 +66,38 @@ pub stored_as : {T E : Type 0} (r : Result T E) (s v : PoolState) (page : ℕ) (
 stored_as (Ok value) s v page new kind spells stored =
     stored ∙ ap (λ (p : PageKind). with_page page p (store_of s.images)) (read_is kind new spells)
 stored_as (Err fault) s v page new kind spells stored = tt
+
+-- ---- one of two pages that were copied
+
+module _ (images : List (List ℕ)) (page : ℕ) (copy : List ℕ) (is : copy ≡ image images page) (behind : ROOT_PAGE ≤ page)
+    (within : page < length images) where
+  -- what the copy of a bucket says is what the file has there
+  pub copied_was : IsBucketPage copy → bucket_at (store_of images) page ≡ bucket_in copy
+  copied_was bucket =
+      ap bucket_of (stored_page_is images page behind within ∙ ap page_in (sym is)
+      ∙ read_is (kinds.Bucket (bucket_in copy)) copy bucket)
+
+  -- where the file has a bucket there, the copy is a bucket's
+  pub copied_bucket : IsFile images → IsBucketThere page (store_of images) → IsBucketPage copy
+  copied_bucket file there =
+      bucket_spelled copy
+      (subst (λ (p : List ℕ). Spells (page_in p) p) (sym is) (file.spelled page behind within))
+      (ap is_bucket (ap page_in is ∙ sym (stored_page_is images page behind within)) ∙ there.bucket)
+
+-- two buckets that are there
+module _ {first second : List ℕ} {left right : Bucket} (left_was : IsBucketPage first → left ≡ bucket_in first)
+    (right_was : IsBucketPage second → right ≡ bucket_in second) where
+  -- what is made of the copies is made of the file's
+  pub joined_is : (r : Result (List ℕ) FileFault) → IfOk r (λ _. IsBucketPage first) → IfOk r (λ _. IsBucketPage second)
+      → IfOk r (SpellsBucket (joined (bucket_in first) (bucket_in second))) → IfOk r (SpellsBucket (joined left right))
+  joined_is (Ok both) one other it =
+      subst (λ (b : Bucket). SpellsBucket (joined left b) both) (sym (right_was other))
+      (subst (λ (b : Bucket). SpellsBucket (joined b (bucket_in second)) both) (sym (left_was one)) it)
+  joined_is (Err fault) one other it = tt
+
+  -- and they may be joined where those may
+  pub joinable_is : IsBucketPage first → IsBucketPage second → AreJoinable left right
+      → AreJoinable (bucket_in first) (bucket_in second)
+  joinable_is one other it =
+      subst (AreJoinable (bucket_in first)) (right_was other)
+      (subst (λ (b : Bucket). AreJoinable b right) (left_was one) it)

@@ -3,20 +3,22 @@
 ghost use Rattle.std.specs.Prelude.{◌≡◌, ◌<◌, is_ok, IsTrue, IsErr, IfOk, OnOk, OnErr};
 ghost use Rattle.page_device.specs.Device.{HasRisen};
 ghost use Rattle.bucket_page.specs.Changes.{IsBucketPage, SpellsBucket};
-ghost use Rattle.bucket_page.specs.Dividing.{lower_half, upper_half};
+ghost use Rattle.bucket_page.specs.Dividing.{joined, lower_half, upper_half};
 ghost use Rattle.bucket_page.specs.Reading.{bucket_at as bucket_in, page_at as page_in};
 ghost use Rattle.bucket_page.specs.Spelling.{Spells};
 ghost use Rattle.directory.specs.declared.layout.TheConstants.{GREATEST_DEPTH};
-ghost use Rattle.hash_file.specs.Changes.{with_page, write_free, write_new, write_old, write_tombstone};
+ghost use Rattle.hash_file.specs.Changes.{with_page, write_free, write_left, write_new, write_old, write_tombstone};
 ghost use Rattle.hash_file.specs.Store.{bucket_at};
-ghost use Rattle.file_pages.specs.Buckets.{IsThere, MaySplit};
+ghost use Rattle.file_pages.specs.Buckets.{IsThere, MayJoin, MaySplit};
 ghost use Rattle.file_pages.specs.Files.{IsReady, IsFilePool, store_of};
 ghost use Rattle.file_pages.specs.Reads.{OnlyReads};
 ghost use Rattle.file_pages.specs.Writes.{OnlyWrites};
 
+use crate::buddies::join;
 use crate::fault::FileFault;
 use crate::header::read_header;
 use crate::pinning::pin;
+use crate::read::read_page;
 use bucket_page::PseudoKey;
 use buffer_pool::Pool;
 use directory::{GREATEST_DEPTH, ROOT_PAGE};
@@ -62,6 +64,22 @@ pub fn write_old<D: PageDevice, K: PseudoKey>(
 {
     let half = read_lower_half(pool, keys, old, new)?;
     store_page(pool, old, half)
+}
+
+/// The left page of a merge becomes the bucket of both. It is `Failed` where a page is no bucket, or the two
+/// are no buddies, have a key in common or do not fit together.
+pub fn write_left<D: PageDevice>(pool: &mut Pool<D>, left: u32, right: u32) -> Result<(), FileFault>
+    requires ready { IsReady pool.old }
+    ensures writes { OnlyWrites (is_ok result) pool.old pool.new }
+    ensures ok { IsTrue pool.old.honest → OnOk result
+        (store_of pool.new.images ≡ write_left left right (store_of pool.old.images)) }
+    ensures err { IsTrue pool.old.honest → OnErr result (pool.new.images ≡ pool.old.images) }
+    ensures fault { IsTrue pool.old.honest → IsFilePool pool.old → IsErr result →
+        MayJoin left right (store_of pool.old.images) →
+        HasRisen pool.old.faults pool.new.faults }
+{
+    let both = read_joined(pool, left, right)?;
+    store_page(pool, left, both)
 }
 
 /// The right page of a merge becomes a tombstone, whose link is the left page.
@@ -144,6 +162,30 @@ fn read_lower_half<D: PageDevice, K: PseudoKey>(
     let half = lower_half_of(pool.image(&frame), keys, next);
     pool.unpin(frame);
     half
+}
+
+/// The bucket of two pages.
+fn read_joined<D: PageDevice>(
+    pool: &mut Pool<D>,
+    left: u32,
+    right: u32,
+) -> Result<FilePage, FileFault>
+    requires ready { IsReady pool.old }
+    ensures reads { OnlyReads (is_ok result) pool.old pool.new }
+    ensures ok { IsTrue pool.old.honest → IfOk result (SpellsBucket
+        (joined (bucket_at (store_of pool.old.images) left)
+        (bucket_at (store_of pool.old.images) right))) }
+    ensures spells { IfOk result (λ both. Spells (page_in both) both) }
+    ensures fault { IsTrue pool.old.honest → IsFilePool pool.old → IsErr result →
+        MayJoin left right (store_of pool.old.images) →
+        HasRisen pool.old.faults pool.new.faults }
+{
+    if left < ROOT_PAGE || right < ROOT_PAGE {
+        return Err(FileFault::Failed);
+    }
+    let first = read_page(pool, left)?;
+    let second = read_page(pool, right)?;
+    join(&first, &second)
 }
 
 fn upper_half_of<K: PseudoKey>(page: &FilePage, keys: &K) -> Result<FilePage, FileFault>

@@ -3,6 +3,7 @@
 #![tactic(auto)]
 
 mod bucket;
+mod buddies;
 mod entries;
 mod fault;
 mod header;
@@ -11,12 +12,12 @@ mod read;
 mod records;
 mod sight;
 
-pub use bucket::{write_free, write_new, write_old, write_tombstone};
+pub use bucket::{write_free, write_left, write_new, write_old, write_tombstone};
 pub use entries::{copy_directory, retarget};
 pub use fault::FileFault;
 pub use header::{
     count_merge, count_split, link_free, lower_depth, raise_depth, read_header, take_page,
 };
 pub use read::{look, read_bucket, read_depth, read_entry};
-pub use records::{put_record, remove_record, replace_record};
+pub use records::{put_record, remove_record, replace_front, replace_record};
 pub use sight::{BucketSight, Sight};

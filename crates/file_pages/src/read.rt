@@ -80,6 +80,7 @@ fn entry_of(page: &FilePage, slot: usize) -> Result<u32, FileFault>
 pub(crate) fn read_page<D: PageDevice>(pool: &mut Pool<D>, page: u32) -> Result<FilePage, FileFault>
     requires ready { IsReady pool.old }
     ensures reads { OnlyReads (is_ok result) pool.old pool.new }
+    ensures within { IfOk result (λ _. page < length pool.old.images) }
     ensures ok { IsTrue pool.old.honest →
         IfOk result (λ copy. copy ≡ image pool.old.images page) }
     ensures fault { IsTrue pool.old.honest → IsFilePool pool.old → IsErr result →

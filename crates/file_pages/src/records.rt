@@ -1,9 +1,9 @@
 //! Writes of one record, in place in the bucket on its page.
 
-ghost use Rattle.std.specs.Prelude.{◌≡◌, ◌+◌, ◌≤◌, true, is_ok, length, None, IsTrue, IsErr, IsSome, OnOk, OnErr};
+ghost use Rattle.std.specs.Prelude.{◌≡◌, ◌+◌, ◌≤◌, ◌++◌, true, is_ok, drop, length, None, IsTrue, IsErr, IsSome, OnOk, OnErr};
 ghost use Rattle.page_device.specs.Device.{HasRisen};
 ghost use Rattle.bucket_page.specs.declared.layout.TheConstants.{RECORD_HEAD_BYTES, ROOM_BYTES};
-ghost use Rattle.bucket_page.specs.Changes.{HasValueOf, IsBucketPage};
+ghost use Rattle.bucket_page.specs.Changes.{HasValueOf, IsBucketPage, value_of_key};
 ghost use Rattle.bucket_page.specs.Reading.{records_at as records_in};
 ghost use Rattle.bucket_page.specs.Records.{lookup, pair, record_bytes};
 ghost use Rattle.hash_file.specs.Changes.{Put, Remove, Replace, write_record};
@@ -80,6 +80,41 @@ pub fn replace_record<D: PageDevice>(
     Ok(())
 }
 
+/// Replaces the first bytes of the value of a key, in the bucket on a page; the others stay. It is `Failed`
+/// where the bucket has no value of the key, or a shorter one.
+pub fn replace_front<D: PageDevice>(
+    pool: &mut Pool<D>,
+    page: u32,
+    key: &RecordKey,
+    front: &[u8],
+) -> Result<(), FileFault>
+    requires ready { IsReady pool.old }
+    ensures writes { OnlyWrites (is_ok result) pool.old pool.new }
+    ensures ok { IsTrue pool.old.honest → OnOk result (store_of pool.new.images ≡
+        write_record page (Replace (pair key.now (front.now ++ drop (length front.now)
+        (value_of_key key.now (records_at (store_of pool.old.images) page)))))
+        (store_of pool.old.images)) }
+    ensures err { IsTrue pool.old.honest → OnErr result (pool.new.images ≡ pool.old.images) }
+    ensures fault { IsTrue pool.old.honest → IsFilePool pool.old → IsErr result →
+        IsBucketThere page (store_of pool.old.images) →
+        IsSome (lookup key.now (records_at (store_of pool.old.images) page)) →
+        length front.now
+        ≤ length (value_of_key key.now (records_at (store_of pool.old.images) page)) →
+        HasRisen pool.old.faults pool.new.faults }
+{
+    if page < ROOT_PAGE {
+        return Err(FileFault::Failed);
+    }
+    let frame = pin(pool, page)?;
+    if !has_front(pool.image(&frame), key, front.len()) {
+        pool.unpin(frame);
+        return Err(FileFault::Failed);
+    }
+    pool.image_mut(&frame).replace_front(key, front);
+    pool.unpin(frame);
+    Ok(())
+}
+
 /// Takes the record of a key out of the bucket on a page. It is `Failed` where the bucket has none.
 pub fn remove_record<D: PageDevice>(
     pool: &mut Pool<D>,
@@ -140,6 +175,23 @@ fn has_value(page: &FilePage, key: &RecordKey, bytes: usize) -> bool
     };
     match bucket.find(key) {
         Some(value) => value.len() == bytes,
+        None => false,
+    }
+}
+
+/// Whether a page is a bucket that has a value of at least so many bytes under a key.
+fn has_front(page: &FilePage, key: &RecordKey, bytes: usize) -> bool
+    ensures bucket { result ≡ true → IsBucketPage page.now }
+    ensures there { result ≡ true → IsSome (lookup key.now (records_in page.now)) }
+    ensures long { result ≡ true → bytes ≤ length (value_of_key key.now (records_in page.now)) }
+    ensures taken { IsBucketPage page.now → IsSome (lookup key.now (records_in page.now)) →
+        bytes ≤ length (value_of_key key.now (records_in page.now)) → result ≡ true }
+{
+    let Some(bucket) = page.bucket() else {
+        return false;
+    };
+    match bucket.find(key) {
+        Some(value) => bytes <= value.len(),
         None => false,
     }
 }
