@@ -1,9 +1,9 @@
 //! Calls served one at a time over a file in memory.
 
-use one_caller::{CallFault, OneCaller, Served};
+use one_caller::{CallFault, CloseFault, OneCaller, OpenFault, Served};
 use page_device::MemDevice;
 use queue_model::{Body, Call, Caller, GetArguments, ReceiveArguments, SendArguments};
-use record_file::{CloseFault, OpenFault, format};
+use record_file::format;
 use std::alloc::{AllocError, Global};
 
 /// Who calls.

@@ -6,12 +6,12 @@ use Rattle.page_device.specs.Fault.{number_of}
 use Rattle.page_device.specs.declared.fault.DeviceFault.{DeviceFault}
 use Rattle.page_device.specs.declared.fault.DeviceFault.TheVariants as device
 use Rattle.queue_model.specs.State.{State}
-use Rattle.record_file.specs.declared.fault.OpenFault.{OpenFault}
-use Rattle.record_file.specs.declared.fault.OpenFault.TheVariants as opens
-use Rattle.record_file.specs.Fault as open_faults
+use Rattle.one_caller.specs.declared.file_fault.OpenFault.{OpenFault}
+use Rattle.one_caller.specs.declared.file_fault.OpenFault.TheVariants as opens
+use Rattle.one_caller.specs.FileFault as open_faults
 use Rattle.record_file.specs.Files.{MayNotFormat}
-use Rattle.record_file.specs.Laws.{IsOfMachine}
-use Rattle.record_file.specs.Opening.{HasCauseToRefuse}
+use Rattle.one_caller.specs.FileLaws.{IsOfMachine}
+use Rattle.one_caller.specs.Opening.{HasCauseToRefuse}
 use Rattle.msgq_cli.specs.Outputs.{OutputState}
 use Rattle.msgq_cli.specs.Runs.{IsRun}
 use Rattle.msgq_cli.specs.Scripts.{Parts}

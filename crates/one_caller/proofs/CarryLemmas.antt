@@ -12,7 +12,7 @@ use Rattle.queue_records.specs.declared.record.Record.{Record}
 use Rattle.queue_records.specs.declared.links.Links.{Links}
 use Rattle.queue_records.specs.Range.{IsInRange}
 use Rattle.queue_records.specs.Spelling.{key_of, value_of}
-use Rattle.record_file.specs.OneBucket.{OneBucketState}
+use Rattle.one_caller.specs.OneBucket.{OneBucketState}
 use Rattle.one_caller.specs.declared.fault.CallFault.{CallFault}
 use Rattle.one_caller.specs.declared.fault.CallFault.TheVariants.{NoRoom, NoMemory, Failed}
 use Rattle.one_caller.specs.Carrying.{Carries}

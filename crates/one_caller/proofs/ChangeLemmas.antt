@@ -16,7 +16,7 @@ use Rattle.queue_records.specs.declared.links.Links.TheVariants as kinds
 use Rattle.queue_records.specs.declared.record.Record.TheVariants as records
 use Rattle.queue_records.specs.Relinking.{HasSuch, relinked}
 use Rattle.queue_records.specs.Spelling.{key_of, value_of}
-use Rattle.record_file.specs.OneBucket.{OneBucketState}
+use Rattle.one_caller.specs.OneBucket.{OneBucketState}
 use Rattle.one_caller.specs.Filing.{HasValues}
 use Rattle.xsi_inquiry.specs.Writing.{CanBe, Records, with_at, written_by}
 use Rattle.xsi_inquiry.specs.declared.write.Write.TheVariants.{Relink}

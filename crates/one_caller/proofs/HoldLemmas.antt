@@ -3,9 +3,9 @@ use Rattle.std.proofs.Common.{◌≡◌, refl, ◌∙◌, sym, subst, ℕ, Bool,
 use Rattle.queue_model.specs.declared.call.Call.{Call}
 use Rattle.queue_model.specs.declared.caller.Caller.{Caller}
 use Rattle.queue_model.specs.State.{State}
-use Rattle.record_file.specs.OneBucket.{Leaves, OneBucketState, Shows, device_in}
-use Rattle.record_file.specs.declared.fault.CloseFault.{CloseFault}
-use Rattle.record_file.proofs.FileLaws.{closes, opens}
+use Rattle.one_caller.specs.OneBucket.{Leaves, OneBucketState, Shows, device_in}
+use Rattle.one_caller.specs.declared.file_fault.CloseFault.{CloseFault}
+use Rattle.one_caller.proofs.FileLaws.{closes, opens}
 use Rattle.type_chains.specs.Fits.{HasFittingCall, HasFittingCaller}
 use Rattle.type_chains.specs.RecordOf.{record_of}
 use Rattle.one_caller.specs.declared.fault.CallFault.{CallFault}

@@ -1,9 +1,12 @@
 pub mod AfterLemmas
+pub mod BucketLemmas
+pub mod CallListLemmas
 pub mod CarryLemmas
 pub mod ChangeLemmas
 pub mod EmptyLemmas
+pub mod FileLaws
 pub mod HoldLemmas
+pub mod OpenLemmas
 pub mod ReadLemmas
 pub mod ServeLemmas
 pub mod SweepLemmas
-pub mod CallListLemmas

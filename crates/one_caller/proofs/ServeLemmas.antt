@@ -6,7 +6,7 @@ use Rattle.queue_model.specs.declared.answer.Answer.{Answer}
 use Rattle.queue_model.specs.declared.call.Call.{Call}
 use Rattle.queue_model.specs.declared.caller.Caller.{Caller}
 use Rattle.queue_model.specs.State.{State}
-use Rattle.record_file.specs.OneBucket.{OneBucketState}
+use Rattle.one_caller.specs.OneBucket.{OneBucketState}
 use Rattle.type_chains.specs.RecordOf.{record_of}
 use Rattle.one_caller.specs.declared.fault.CallFault.{CallFault}
 use Rattle.one_caller.specs.declared.fault.CallFault.TheVariants.{NoRoom, NoMemory, Failed}

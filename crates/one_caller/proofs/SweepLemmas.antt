@@ -15,7 +15,7 @@ use Rattle.queue_model.proofs.ListLemmas.{find-Some}
 use Rattle.queue_records.specs.declared.layout.TheConstants.{TYPE, MESSAGE}
 use Rattle.queue_records.specs.declared.record.Record.{Record}
 use Rattle.queue_records.specs.Keys.{key_of_message}
-use Rattle.record_file.specs.OneBucket.{OneBucketState}
+use Rattle.one_caller.specs.OneBucket.{OneBucketState}
 use Rattle.type_chains.specs.Lists.{serials}
 use Rattle.type_chains.specs.Neighbours.{first_of}
 use Rattle.type_chains.specs.RecordOf.{record_of, at_queue_of, has_serial, message_record, type_record}

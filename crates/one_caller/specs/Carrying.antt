@@ -1,7 +1,7 @@
 -- What carrying out a plan leaves in a file.
 -- docs/STEPS.md, "What a call writes".
 use Rattle.std.specs.Prelude.{Result, Ok, Err}
-use Rattle.record_file.specs.OneBucket.{OneBucketState}
+use Rattle.one_caller.specs.OneBucket.{OneBucketState}
 use Rattle.one_caller.specs.declared.fault.CallFault.{CallFault}
 use Rattle.one_caller.specs.declared.fault.CallFault.TheVariants.{NoRoom, NoMemory, Failed}
 use Rattle.one_caller.specs.Filing.{HasValues}

@@ -8,8 +8,8 @@ use Rattle.queue_model.specs.State.{State}
 use Rattle.queue_records.specs.declared.record.Record.{Record}
 use Rattle.queue_records.specs.Spelling.{value_of}
 use Rattle.record_file.specs.Files.{IsFile}
-use Rattle.record_file.specs.Laws.{IsOpenFile}
-use Rattle.record_file.specs.OneBucket.{OneBucketState}
+use Rattle.one_caller.specs.FileLaws.{IsOpenFile}
+use Rattle.one_caller.specs.OneBucket.{OneBucketState}
 use Rattle.type_chains.specs.RecordOf.{record_of}
 use Rattle.xsi_inquiry.specs.Telling.{IsFiled}
 use Rattle.xsi_inquiry.specs.Writing.{Records}

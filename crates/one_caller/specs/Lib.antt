@@ -1,7 +1,11 @@
 pub mod CallLists
 pub mod Carrying
 pub mod Fault
+pub mod FileFault
+pub mod FileLaws
 pub mod Filing
 pub mod Laws
+pub mod OneBucket
+pub mod Opening
 pub mod Serving
 pub mod Sweeping

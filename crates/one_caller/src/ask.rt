@@ -7,10 +7,10 @@ ghost use Rattle.one_caller.specs.Filing.{AreAmong, HasValues};
 ghost use Rattle.xsi_inquiry.specs.Telling.{Gives, IsFiled};
 ghost use Rattle.xsi_inquiry.specs.Writing.{Records};
 
+use crate::one_bucket::OneBucket;
 use bucket_page::RecordKey;
 use page_device::PageDevice;
 use queue_records::{Record, counter_key};
-use record_file::OneBucket;
 use xsi_inquiry::{Inquiry, NotASystem, Room, Wanted, counter_in};
 
 /// Tells a call all that it asks for. Nobody else changes the file, so its Counter tells whether an id was given out.

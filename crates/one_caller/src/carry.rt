@@ -10,8 +10,8 @@ ghost use Rattle.xsi_inquiry.specs.Writing.{AreAbsent, CanAllBe, CanBe, HasRange
 
 use crate::change::{delete, insert, relink, replace};
 use crate::fault::CallFault;
+use crate::one_bucket::OneBucket;
 use page_device::PageDevice;
-use record_file::OneBucket;
 use xsi_inquiry::{Inquiry, NotASystem, Write, next_write};
 
 /// Carries out what a call decided. Where a record does not fit, those inserted before it are deleted again.

@@ -10,10 +10,10 @@ ghost use Rattle.xsi_inquiry.specs.Writing.{CanBe, Records, with_at, written_by}
 ghost use Rattle.xsi_inquiry.specs.declared.write.Write.TheVariants.{Replace, Relink, Delete};
 
 use crate::fault::CallFault;
+use crate::one_bucket::OneBucket;
 use bucket_page::RecordKey;
 use page_device::PageDevice;
 use queue_records::{Links, MESSAGE_BYTES, Record, Value};
-use record_file::OneBucket;
 use xsi_inquiry::NotASystem;
 
 /// Inserts a record whose key has none.

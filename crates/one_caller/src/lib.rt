@@ -8,7 +8,10 @@ mod call_list;
 mod carry;
 mod change;
 mod fault;
+mod file_fault;
+mod header_test;
 mod laws;
+mod one_bucket;
 mod one_caller;
 mod serve;
 mod served;
@@ -16,9 +19,13 @@ mod sweep;
 
 pub use call_list::Asked;
 pub use fault::CallFault;
-pub use laws::a_new_file_is_that_of_no_queue;
+pub use file_fault::{CloseFault, OpenFault};
+pub use laws::{
+    a_file_is_closed_as_one, a_file_is_never_refused, a_file_opens_with_its_records,
+    a_new_file_is_that_of_no_queue,
+};
+pub use one_bucket::OneBucket;
 pub use one_caller::OneCaller;
-pub use record_file::{CloseFault, OpenFault};
 pub use served::Served;
 
 #[cfg(test)]

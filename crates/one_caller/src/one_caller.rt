@@ -3,8 +3,8 @@
 ghost use Rattle.std.specs.Prelude.{◌≡◌, ◌≢◌, ◌↔◌, ◌≤◌, true, false, Err, IsErrAnd, IsTrue, IfOk, IfErr};
 ghost use Rattle.page_device.specs.Device.{HasRisen};
 ghost use Rattle.queue_model.specs.State.{State};
-ghost use Rattle.record_file.specs.Laws.{IsOfMachine};
-ghost use Rattle.record_file.specs.Opening.{HasCauseToRefuse};
+ghost use Rattle.one_caller.specs.FileLaws.{IsOfMachine};
+ghost use Rattle.one_caller.specs.Opening.{HasCauseToRefuse};
 ghost use Rattle.type_chains.specs.RecordOf.{record_of};
 ghost use Rattle.one_caller.specs.Filing.{ChangesRecords, HasValues, IsFileOf};
 ghost use Rattle.one_caller.specs.Serving.{Decided, Holds, Tells, fails, restarted};
@@ -12,11 +12,12 @@ ghost use Rattle.xsi_inquiry.specs.Rooms.{HasRoom};
 ghost use Rattle.xsi_inquiry.specs.Telling.{IsFiled};
 
 use crate::fault::CallFault;
+use crate::file_fault::{CloseFault, OpenFault};
+use crate::one_bucket::OneBucket;
 use crate::serve::serve;
 use crate::served::Served;
 use page_device::PageDevice;
 use queue_model::{Answer, Call, Caller, Errno};
-use record_file::{CloseFault, OneBucket, OpenFault};
 use std::alloc::Global;
 use std::marker::Model;
 use type_chains::{a_callers_numbers_fit, a_calls_numbers_fit};

@@ -11,10 +11,10 @@ ghost use Rattle.xsi_inquiry.specs.Telling.{IsFiled};
 use crate::ask::ask;
 use crate::carry::{carry, write_all};
 use crate::fault::CallFault;
+use crate::one_bucket::OneBucket;
 use crate::sweep::sweep;
 use page_device::PageDevice;
 use queue_model::{Answer, Call, Caller};
-use record_file::OneBucket;
 use xsi_inquiry::{Decision, Inquiry, Room};
 
 /// Serves a call in the room that was taken for it: it is told what it asks for, it decides, and what it decided is

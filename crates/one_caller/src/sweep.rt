@@ -16,9 +16,9 @@ ghost use Rattle.xsi_sweep.specs.Turns.{turn_next, turn_plan};
 
 use crate::ask::record_at;
 use crate::carry::write_one;
+use crate::one_bucket::OneBucket;
 use page_device::PageDevice;
 use queue_records::{MAX_MESSAGES, message_key};
-use record_file::OneBucket;
 use xsi_inquiry::{MAX_WRITES, NotASystem};
 use xsi_sweep::Turn;
 

@@ -5,11 +5,12 @@ ghost use Rattle.page_device.specs.declared.page.TheConstants.{MAX_PAGES};
 ghost use Rattle.directory.specs.declared.layout.TheConstants.{LEAST_PAGES};
 
 use bucket_page::{DoesNotFit, RecordKey, write_bucket};
+use one_caller::{CloseFault, OneBucket, OpenFault};
 use page_device::{
     DeviceFault, FaultyDevice, MemDevice, PAGE_BYTES, PAYLOAD_BYTES, Page, PageDevice, Payload,
     seal, unseal,
 };
-use record_file::{CloseFault, OneBucket, OpenFault, format};
+use record_file::format;
 use std::alloc::Global;
 use std::process::Abort;
 use std::test::*;

@@ -20,9 +20,9 @@ use Rattle.bucket_page.specs.Records.{pair, pair_bytes, record_bytes}
 use Rattle.bucket_page.specs.Spelling.{IsBucket}
 use Rattle.fields.proofs.NumberLaws.{length-four, length-two}
 use Rattle.bucket_page.proofs.KeyLaws.{length-key}
+use Rattle.bucket_page.proofs.PageLaws.{bucket_again}
 use Rattle.queue_records.specs.Spelling.{counter_bytes, counter_key}
 use Rattle.record_file.specs.Files.{IsNewFile, entries_on, new_counter, new_page, new_records, root_bucket}
-use Rattle.record_file.proofs.BucketLemmas.{read_again}
 
 -- page n is sealed and is that of a new file
 pub record IsPage (pages n : ℕ) (page : List ℕ) : Type 0 where
@@ -57,6 +57,10 @@ one_more pages k old new page size is last before n below = at (cases_eq n k)
         subst (λ x. IsPage pages n x) (sym here) (before n less)
 
 -- ---- the root bucket
+
+-- a bucket is read from its spelling
+pub read_again : (b : Bucket) (payload : List ℕ) → SpellsBucket b payload → bucket_at payload ≡ b
+read_again b payload it = ap bucket_at it.spelled ∙ (bucket_again b it.in_range).value
 
 -- the Counter's record is that of a bucket, where there is room for it
 counter_long : length (counter_bytes new_counter) ≡ 8

@@ -1,4 +1,1 @@
-pub mod BucketLemmas
-pub mod FileLaws
 pub mod FileLemmas
-pub mod OpenLemmas

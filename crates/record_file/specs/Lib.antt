@@ -1,5 +1,1 @@
-pub mod Fault
 pub mod Files
-pub mod Laws
-pub mod OneBucket
-pub mod Opening

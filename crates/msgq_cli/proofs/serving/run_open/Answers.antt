@@ -1,5 +1,5 @@
 use Rattle.std.proofs.Common.{◌≡◌, inl, inr}
-use Rattle.record_file.specs.declared.fault.CloseFault.TheVariants.{Device}
+use Rattle.one_caller.specs.declared.file_fault.CloseFault.TheVariants.{Device}
 use Rattle.msgq_cli.proofs.ServeLemmas.{IsRun-weaker, risen_since}
 use Rattle.msgq_cli.proofs.serving.run_open.Goals as goal
 

@@ -1,6 +1,6 @@
 -- Turn by turn, up to the last message.
 use Rattle.std.proofs.Common.{◌∙◌, ap, arith, subst, sym}
-use Rattle.record_file.specs.OneBucket.{OneBucketState}
+use Rattle.one_caller.specs.OneBucket.{OneBucketState}
 use Rattle.one_caller.specs.Sweeping.{IsSweptTo}
 use Rattle.one_caller.proofs.SweepLemmas.{begins, ends, few_messages, turn_within}
 use Rattle.one_caller.proofs.sweep.sweep.Goals as goal

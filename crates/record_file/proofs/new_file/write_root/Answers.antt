@@ -3,8 +3,7 @@ use Rattle.std.proofs.Common.{◌∙◌, sym, ap, subst}
 use Rattle.bucket_page.specs.Bucket.{Bucket}
 use Rattle.bucket_page.specs.Changes.{SpellsBucket}
 use Rattle.bucket_page.specs.Records.{lookup}
-use Rattle.record_file.proofs.BucketLemmas.{read_again}
-use Rattle.record_file.proofs.FileLemmas.{root_written}
+use Rattle.record_file.proofs.FileLemmas.{read_again, root_written}
 use Rattle.record_file.proofs.new_file.write_root.Goals as goal
 
 pub put-requires-clause-bucket : goal.put-requires-clause-bucket

@@ -1,6 +1,6 @@
 -- What is closed is a file of the system that was held.
 use Rattle.std.proofs.Common.{◌∙◌, ap, subst, IfOk, IsTrue}
-use Rattle.record_file.specs.OneBucket.{Leaves, OneBucketState}
+use Rattle.one_caller.specs.OneBucket.{Leaves, OneBucketState}
 use Rattle.one_caller.specs.Serving.{CallerState}
 use Rattle.one_caller.proofs.HoldLemmas.{closed_held}
 use Rattle.one_caller.proofs.one_caller.OneCaller.close.Goals as goal

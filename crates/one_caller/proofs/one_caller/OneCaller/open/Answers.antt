@@ -1,5 +1,5 @@
 -- The file of a system is opened with its records.
-use Rattle.record_file.proofs.FileLaws.{never_refused}
+use Rattle.one_caller.proofs.FileLaws.{never_refused}
 use Rattle.one_caller.proofs.HoldLemmas.{held_open}
 use Rattle.one_caller.proofs.one_caller.OneCaller.open.Goals as goal
 

@@ -1,5 +1,0 @@
-use Rattle.record_file.proofs.FileLaws.{never_refused}
-use Rattle.record_file.proofs.laws.a_file_is_never_refused.Goals as goal
-
-pub returns : goal.returns
-returns c = never_refused
