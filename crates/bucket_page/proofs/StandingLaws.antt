@@ -228,7 +228,8 @@ over_front : (f v b front : List ℕ) (at : ℕ) → length f ≡ at → length 
 over_front f v b front at is long =
     let n : ℕ = length front in
     let parts : f ++ (v ++ b) ≡ f ++ (take n v ++ (drop n v ++ b)) =
-    ap (λ (xs : List ℕ). f ++ xs) (ap (λ (xs : List ℕ). xs ++ b) (sym (take-append-drop n v)) ∙ append_assoc (take n v) (drop n v) b) in
+    ap (λ (xs : List ℕ). f ++ xs) (ap (λ (xs : List ℕ). xs ++ b) (sym (take-append-drop n v))
+    ∙ append_assoc (take n v) (drop n v) b) in
     let taken : length (take n v) ≡ n = let t = length-take n v in omega (arith, t, long) in
     let same : length v ≡ length (front ++ drop n v) =
     let a = length-append front (drop n v) in let d = length-drop n v in omega (arith, a, d, long) in

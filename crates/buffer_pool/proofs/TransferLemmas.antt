@@ -78,7 +78,8 @@ seals_written stored page sealed within is n was = at (cases_eq n page)
     at (inr other) = subst (λ x. IsSealed n x) (sym (get_or-set_other stored page n sealed [] other)) was
 
 -- what the reading of a page tells its pinning tells
-may_not_pin : (s : PoolState) (page : ℕ) (fault : PoolFault) → MayBeUnread s.honest page s.stored s.images fault → MayNotPin page s fault
+may_not_pin : (s : PoolState) (page : ℕ) (fault : PoolFault) → MayBeUnread s.honest page s.stored s.images fault
+    → MayNotPin page s fault
 may_not_pin s page (pools.Device Device) it = tt
 may_not_pin s page (pools.Device BadDigest) it = it
 may_not_pin s page (pools.Device PastEnd) it = absurd it

@@ -30,7 +30,8 @@ module _ (s : Store) where
 
   -- one page more
   pub chain_goes_on : (ns : List ℕ) (reached n : ℕ) (shape : Shape) → IsChainSoFar s ns reached n →
-      IsBucketAt s n shape → IsTileAt shape.range reached → IsChainSoFar s (ns ++ n ∷ []) (stop_of shape.range) shape.next
+      IsBucketAt s n shape → IsTileAt shape.range reached
+      → IsChainSoFar s (ns ++ n ∷ []) (stop_of shape.range) shape.next
   chain_goes_on ns reached n shape h b t =
       let tile : IsTileAt (range_at s n) reached =
       subst (λ (x : Shape). IsTileAt x.range reached) b.shaped t in
@@ -67,7 +68,8 @@ module _ (s : Store) where
     ends = λ e. let all = e.all in omega arith;
   }
 
-  pub breaks_no_tile : (ns : List ℕ) (reached n : ℕ) (shape : Shape) → IsChainSoFar s ns reached n → reached < POSITIONS →
+  pub breaks_no_tile : (ns : List ℕ) (reached n : ℕ) (shape : Shape) → IsChainSoFar s ns reached n
+      → reached < POSITIONS →
       IsBucketAt s n shape → (IsTileAt shape.range reached → ⊥) → BreaksAt s n
   breaks_no_tile ns reached n shape h more b other = record {
     so_far = ns;
@@ -89,7 +91,8 @@ module _ (s : Store) where
   }
 
   -- a chain that breaks has no end in order
-  broken_from : (ns xs : List ℕ) (x y p reached n : ℕ) → x ≡ y → Links (next_at s) x ns n → Tiles (range_at s) p ns reached →
+  broken_from : (ns xs : List ℕ) (x y p reached n : ℕ) → x ≡ y → Links (next_at s) x ns n
+      → Tiles (range_at s) p ns reached →
       Links (next_at s) y xs 0 → Tiles (range_at s) p xs POSITIONS → ((m : ℕ) → Contains xs m → has_bucket s m ≡ true) →
       (ContinuesAt s n reached → ⊥) → (EndsAt n reached → ⊥) → ⊥
   broken_from [] [] x y p reached n same l t k u live goes ends =

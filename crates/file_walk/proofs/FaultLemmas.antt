@@ -34,7 +34,8 @@ header_right content faults.PastEnd h (inl none) =
     let some = h.as_many in let least = h.in_range.least in absurd (omega arith)
 header_right content faults.PastEnd h (inr cut) = let same = h.as_many in let more = cut.more in absurd (omega arith)
 header_right content faults.BadHeader h (inl refused) = let read = h.read in let other = refused.read in absurd cc
-header_right content faults.BadHeader h (inr long) = let same = h.as_many in let fewer = long.fewer in absurd (omega arith)
+header_right content faults.BadHeader h (inr long) = let same = h.as_many in let fewer =
+    long.fewer in absurd (omega arith)
 header_right content faults.BadVersion h refused = let read = h.read in let other = refused.read in absurd cc
 header_right content fault h w = absurd w
 
@@ -57,7 +58,8 @@ module _ (s : Store) where
       absurd (no_tile_behind (range_at s w) (subst (IsTileAt (range_at s w)) u t.0))
   one_from (w ∷ ws) (z ∷ zs) x y p same l t k u =
       let is : w ≡ z = sym l.0 ∙ same ∙ k.0 in
-      let rest : ws ≡ zs = one_from ws zs (next_at s w) (next_at s z) (stop_of (range_at s w)) (ap (next_at s) is) l.1 t.1 k.1
+      let rest : ws ≡ zs = one_from ws zs (next_at s w) (next_at s z) (stop_of (range_at s w)) (ap (next_at s) is)
+      l.1 t.1 k.1
       (subst (λ m. Tiles (range_at s) (stop_of (range_at s m)) zs POSITIONS) (sym is) u.1) in
       ap (λ m. m ∷ ws) is ∙ ap (λ xs. z ∷ xs) rest
 
@@ -81,7 +83,8 @@ module _ (s : Store) where
       absurd (begun w (contains_head w ws) (sym l.0 ∙ same ∙ k))
   front_of (w ∷ ws) (z ∷ zs) x y n same l begun k all =
       let is : w ≡ z = sym l.0 ∙ same ∙ k.0 in
-      let r = front_of ws zs (next_at s w) (next_at s z) n (ap (next_at s) is) l.1 (λ m on. begun m (contains_tail w m ws on))
+      let r = front_of ws zs (next_at s w) (next_at s z) n (ap (next_at s) is) l.1
+      (λ m on. begun m (contains_tail w m ws on))
       k.1 (λ m on. all m (contains_tail z m zs on)) in
       (r.0, ap (λ m. m ∷ zs) (sym is) ∙ ap (λ ms. w ∷ ms) r.1, r.2)
 
@@ -150,7 +153,8 @@ module _ (s : Store) where
         ap (λ xs. times page (ns ++ xs)) (f.1 ∙ nothing_behind f.0 f.1 f.2) ∙ w.nowhere in
         absurd (omega arith)
       where
-        nothing_behind : (rest : List ℕ) → spares ≡ w.spares ++ rest → Links (next_at s) 0 rest 0 → w.spares ++ rest ≡ w.spares
+        nothing_behind : (rest : List ℕ) → spares ≡ w.spares ++ rest → Links (next_at s) 0 rest 0
+            → w.spares ++ rest ≡ w.spares
         nothing_behind [] parts l = append-nil w.spares
         nothing_behind (z ∷ zs) parts l =
             absurd (begun z (subst (λ xs. Contains xs z) (sym parts) (contains_inside w.spares z zs)) (sym l.0))

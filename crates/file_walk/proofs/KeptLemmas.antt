@@ -17,7 +17,8 @@ module _ (most : ℕ) (old es : List ℕ) (items : List ℕ) where
       sym (ap (take most) parts ∙ prefix_taken most items (drop k es) long)
 
   -- the page is at its end
-  pub kept_all : (k : ℕ) → items ≡ old ++ take k es → length es ≤ k → length items ≤ most → items ≡ take most (old ++ es)
+  pub kept_all : (k : ℕ) → items ≡ old ++ take k es → length es ≤ k → length items ≤ most
+      → items ≡ take most (old ++ es)
   kept_all k kept ended room =
       let whole : items ≡ old ++ es = kept ∙ ap (λ xs. old ++ xs) (take_all k es ended) in
       whole ∙ sym (take_all most (old ++ es) (subst (λ xs. length xs ≤ most) whole room))

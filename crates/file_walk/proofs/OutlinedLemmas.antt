@@ -134,7 +134,8 @@ module _ (s : Store) where
     once = h.once;
   }
 
-  pub spares_fault : (ns : List ℕ) (fault : StructureFault) → IsSparesFault (outlined s) ns fault → IsSparesFault s ns fault
+  pub spares_fault : (ns : List ℕ) (fault : StructureFault) → IsSparesFault (outlined s) ns fault
+      → IsSparesFault s ns fault
   spares_fault ns (faults.NotFree page) h = record {
     so_far = h.so_far;
     right = spares_same ns h.so_far page h.right;
@@ -160,7 +161,11 @@ module _ (s : Store) where
 
   on_kept : (ns : List ℕ) (i n m : ℕ) → n ≡ m → IsBucketOn s ns i m → IsBucketOn (outlined s) ns i n
   on_kept ns i n m e on =
-      subst (IsBucketOn (outlined s) ns i) (sym e) (on.0, subst (λ (r : ℕ → Range). Covers (r m) i) (sym range_same) on.1)
+      subst (IsBucketOn (outlined s) ns i) (sym e) (
+        on.0,
+        subst (λ (r : ℕ → Range). Covers (r m) i) (sym range_same)
+            on.1,
+      )
 
   pub directory_of_file : (ns : List ℕ) → IsRightDirectory (outlined s) ns → IsRightDirectory s ns
   directory_of_file ns d = record {

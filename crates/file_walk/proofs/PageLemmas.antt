@@ -42,7 +42,8 @@ module _ (content : List (List ℕ)) (n : ℕ) (payload : List ℕ) (h : IsPaylo
   formed : (page : PageKind) → Ok page ≡ reading payload → fault_of (payload_on content n) ≡ None
   formed page e = ap fault_of (sym h.value) ∙ (accepted (fault_of payload) page (page_at payload) e).0
 
-  judged : (page : PageKind) → Ok page ≡ reading payload → malformed_on content n ≡ after_reading None (may_stand n page)
+  judged : (page : PageKind) → Ok page ≡ reading payload
+      → malformed_on content n ≡ after_reading None (may_stand n page)
   judged page e =
       ap (λ f. after_reading f (may_stand n (said_on content n))) (formed page e)
       ∙ ap (λ p. after_reading None (may_stand n p)) (said page e)
@@ -132,10 +133,12 @@ module _ (content : List (List ℕ)) where
   directory_misplaced n payload page fault h e below other is =
       rw is (is_misplaced content n payload h page e (may_below n page false below other))
 
-  pub form_misplaced : (n : ℕ) (payload : List ℕ) (page : PageKind) (fault : StructureFault) → IsPayloadOf content n payload →
+  pub form_misplaced : (n : ℕ) (payload : List ℕ) (page : PageKind) (fault : StructureFault)
+      → IsPayloadOf content n payload →
       Ok page ≡ reading payload → ROOT_PAGE ≤ n → is_directory page ≡ true →
       fault ≡ faults.Malformed n reasons.Kind → IsFaultOf content n fault
-  form_misplaced n payload page fault h e behind is same = rw same (is_misplaced content n payload h page e (may_not_behind n page behind is))
+  form_misplaced n payload page fault h e behind is same =
+      rw same (is_misplaced content n payload h page e (may_not_behind n page behind is))
 
 -- page 0 is a header that tells of another number of pages
 module _ (content : List (List ℕ)) (payload : List ℕ) (h : Header) (pages : ℕ) (p : IsPayloadOf content 0 payload)
@@ -162,7 +165,8 @@ pub entries_taken : (honest : Bool) (content : List (List ℕ)) (n most : ℕ) (
     length es ≡ PAGE_ENTRIES → new ≡ take most (old ++ es) → TakesEntries honest content n most old new
 entries_taken honest content n most old new es payload h e below long taken = record {
   number = ap length taken ∙ taken_length most old es ∙ ap (λ k. min most (length old + k)) long;
-  right = λ is. is_right content n payload (h is) (kinds.Directory es) e (may_below n (kinds.Directory es) true below refl);
+  right = λ is. is_right content n payload (h is) (kinds.Directory es) e
+      (may_below n (kinds.Directory es) true below refl);
   value = λ is.
       taken
       ∙ ap (λ p. take most (old ++ entries_of p)) (sym (said content n payload (h is) (kinds.Directory es) e));

@@ -47,7 +47,8 @@ pub pages_at : (content : List (List ℕ)) (n : ℕ) (d : PageKind) → ROOT_PAG
 unfolding pages_on
 pages_at content n d behind within = behind_at (kinds.Directory []) ROOT_PAGE said_by content n d behind within
 
-pub pages_start : (content : List (List ℕ)) → take ROOT_PAGE (pages_on content) ≡ replicate ROOT_PAGE (kinds.Directory [])
+pub pages_start : (content : List (List ℕ)) → take ROOT_PAGE (pages_on content)
+    ≡ replicate ROOT_PAGE (kinds.Directory [])
 unfolding pages_on
 pages_start content = behind_start (kinds.Directory []) ROOT_PAGE said_by content
 
@@ -72,7 +73,8 @@ forms_more content fs n form behind within kept same =
     let d : PageKind = kinds.Directory [] in
     map-append shown fs (form ∷ [])
     ∙ ap (λ ps. ps ++ shown form ∷ []) kept
-    ∙ ap (λ p. map bare (take n (pages_on content)) ++ p ∷ []) (same ∙ ap bare (sym (pages_at content n d behind within)))
+    ∙ ap (λ p. map bare (take n (pages_on content)) ++ p ∷ [])
+    (same ∙ ap bare (sym (pages_at content n d behind within)))
     ∙ sym (map_more bare (pages_on content) n d there)
 
 -- ---- right pages
@@ -126,7 +128,13 @@ pub record IsReadTo {D : Type 0} (content : D → List (List ℕ)) (honest : D �
 
 module _ {D : Type 0} (content : D → List (List ℕ)) (honest : D → Bool) (faults : D → ℕ) where
   pub read_none : (old : D) (from : ℕ) → IsReadTo content honest faults old old from from
-  read_none old from = record { same = refl; honesty = refl; later = omega arith; right = λ is. right_none (content old) from }
+  read_none old from = record {
+    same = refl;
+    honesty = refl;
+    later = omega arith;
+    right =
+        λ is. right_none (content old) from;
+  }
 
   pub read_more : (old now next : D) (from to : ℕ) → IsReadTo content honest faults old now from to →
       content next ≡ content now → honest next ≡ honest now → faults now ≤ faults next →
@@ -144,7 +152,8 @@ module _ {D : Type 0} (content : D → List (List ℕ)) (honest : D → Bool) (f
 -- the entries of the directory pages before page n
 abbrev pub entries_before : List (List ℕ) → ℕ → List ℕ
 entries_before content n =
-    flat_map (λ (page : List ℕ). entries_of (said_by page)) (take (n - FIRST_DIRECTORY_PAGE) (drop FIRST_DIRECTORY_PAGE content))
+    flat_map (λ (page : List ℕ). entries_of (said_by page))
+    (take (n - FIRST_DIRECTORY_PAGE) (drop FIRST_DIRECTORY_PAGE content))
 
 pub entries_all : (content : List (List ℕ)) → entries_before content ROOT_PAGE ≡ entries_on content
 unfolding entries_on
@@ -161,7 +170,8 @@ entries_more content n behind within =
     ap (λ i. flat_map f (take i (drop FIRST_DIRECTORY_PAGE content))) k
     ∙ ap (flat_map f) (take_more (drop FIRST_DIRECTORY_PAGE content) (n - FIRST_DIRECTORY_PAGE) [] left)
     ∙ flat_map-append f (take (n - FIRST_DIRECTORY_PAGE) (drop FIRST_DIRECTORY_PAGE content)) _
-    ∙ ap (λ xs. entries_before content n ++ xs) (append-nil (f (get_or (drop FIRST_DIRECTORY_PAGE content) (n - FIRST_DIRECTORY_PAGE) [])))
+    ∙ ap (λ xs. entries_before content n ++ xs) (append-nil
+    (f (get_or (drop FIRST_DIRECTORY_PAGE content) (n - FIRST_DIRECTORY_PAGE) [])))
     ∙ ap (λ page. entries_before content n ++ f page)
     (get_or-drop FIRST_DIRECTORY_PAGE content (n - FIRST_DIRECTORY_PAGE) [] ∙ ap (λ i. get_or content i []) place)
 

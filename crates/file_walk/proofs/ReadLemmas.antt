@@ -38,7 +38,8 @@ module _ (honest : Bool) (content : List (List ℕ)) (header : Header) (es : Lis
     value =
         ap (λ (xs : List ℕ). file_shown header xs fs) (b.value is)
         ∙ ap (λ (ps : List PageKind). store header (take (2 ^ header.depth) (entries_on content)) ps) (c.value is)
-        ∙ ap (λ (h : Header). store h (take (2 ^ h.depth) (entries_on content)) (map bare (pages_on content))) (a.value is);
+        ∙ ap (λ (h : Header). store h (take (2 ^ h.depth) (entries_on content)) (map bare (pages_on content)))
+        (a.value is);
   }
     where
       store : Header → List ℕ → List PageKind → Store

@@ -53,7 +53,8 @@ by_kind false true c bucket es link e = refl
 by_kind false false true bucket es link e = absurd cc
 by_kind false false false bucket es link e = absurd cc
 
-said_length : (page : List ℕ) → is_directory (said_by page) ≡ true → length (files.entries_of (said_by page)) ≡ PAGE_ENTRIES
+said_length : (page : List ℕ) → is_directory (said_by page) ≡ true
+    → length (files.entries_of (said_by page)) ≡ PAGE_ENTRIES
 unfolding said_by
 said_length page e =
     let bytes : List ℕ = payload_of page in
@@ -76,7 +77,8 @@ right_directory content n below right =
 
 -- so many pages of so many entries each
 pieces_length : (f : List ℕ → List ℕ) (k : ℕ) (pages : List (List ℕ)) →
-    ((i : ℕ) → i < length pages → length (f (slice_index_or pages i [])) ≡ k) → length (flat_map f pages) ≡ length pages * k
+    ((i : ℕ) → i < length pages → length (f (slice_index_or pages i [])) ≡ k)
+    → length (flat_map f pages) ≡ length pages * k
 pieces_length f k [] each = sym (zero-mul k)
 pieces_length f k (page ∷ pages) each =
     let head : length (f page) ≡ k = each 0 (omega arith) in
@@ -85,7 +87,8 @@ pieces_length f k (page ∷ pages) each =
     ap length (flat_map-cons f page pages) ∙ length-append (f page) (flat_map f pages) ∙ omega (arith, head, rest)
 
 directory_length : (content : List (List ℕ)) → LEAST_PAGES ≤ length content →
-    AreRight content FIRST_DIRECTORY_PAGE (length content) → length (entries_on content) ≡ DIRECTORY_PAGES * PAGE_ENTRIES
+    AreRight content FIRST_DIRECTORY_PAGE (length content)
+    → length (entries_on content) ≡ DIRECTORY_PAGES * PAGE_ENTRIES
 unfolding entries_on
 directory_length content long right =
     pieces_length (λ (page : List ℕ). files.entries_of (said_by page)) PAGE_ENTRIES
@@ -96,7 +99,8 @@ directory_length content long right =
     number = length-take-le DIRECTORY_PAGES (drop FIRST_DIRECTORY_PAGE content) (rw length-drop (omega arith))
 
     each : (i : ℕ) → i < length (take DIRECTORY_PAGES (drop FIRST_DIRECTORY_PAGE content)) →
-        length (files.entries_of (said_by (slice_index_or (take DIRECTORY_PAGES (drop FIRST_DIRECTORY_PAGE content)) i [])))
+        length (files.entries_of (said_by (slice_index_or (take DIRECTORY_PAGES (drop FIRST_DIRECTORY_PAGE content))
+        i [])))
         ≡ PAGE_ENTRIES
     each i within =
         let few : i < DIRECTORY_PAGES = subst (λ n. i < n) number within in
@@ -108,14 +112,16 @@ directory_length content long right =
         let within : FIRST_DIRECTORY_PAGE + i < length content = omega arith in
         ap (λ page. length (files.entries_of (said_by page))) place
         ∙ said_length (page_on content (FIRST_DIRECTORY_PAGE + i))
-        (right_directory content (FIRST_DIRECTORY_PAGE + i) below (right (FIRST_DIRECTORY_PAGE + i) (omega arith) within))
+        (right_directory content (FIRST_DIRECTORY_PAGE + i) below
+        (right (FIRST_DIRECTORY_PAGE + i) (omega arith) within))
 
 no_bucket_at_0 : (content : List (List ℕ)) → has_bucket (file_of content) 0 ≡ false
 unfolding pages_on
 no_bucket_at_0 content =
     let d : PageKind = kinds.Directory [] in
     let some : 0 < length (replicate ROOT_PAGE d) = subst (λ n. 0 < n) (sym (length-replicate ROOT_PAGE d)) (lit< tt) in
-    ap is_bucket (get_or_append_left (replicate ROOT_PAGE d) (map said_by (drop ROOT_PAGE content)) (kinds.Free 0) 0 some
+    ap is_bucket (get_or_append_left (replicate ROOT_PAGE d) (map said_by (drop ROOT_PAGE content)) (kinds.Free 0) 0
+    some
     ∙ get_or-replicate ROOT_PAGE 0 d (kinds.Free 0) (lit< tt))
 
 layout_of : (content : List (List ℕ)) → HasPages content → HasLayout (file_of content)

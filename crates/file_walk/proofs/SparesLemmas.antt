@@ -87,7 +87,8 @@ unmarked_falls marks n within e =
     let weight : Bool → ℕ = λ b. if b then 0 else 1 in
     let changed = sum_by-set weight marks n true false within in
     let was : weight (slice_index_or marks n false) ≡ 1 = ap weight e in
-    let total : unmarked (slice_set marks n true) + weight (slice_index_or marks n false) ≡ unmarked marks + 0 = changed in
+    let total : unmarked (slice_set marks n true) + weight (slice_index_or marks n false) ≡ unmarked marks + 0 =
+    changed in
     omega arith
 
 -- the free list so far is right, and marked
@@ -99,7 +100,8 @@ pub record AreWalked (s : Store) (ns : List ℕ) (marks : List Bool) (page : ℕ
 -- ---- the chain
 
 -- a page of the file has a bucket, and a page that has one is a page of the file
-within_file : (s : Store) (n : ℕ) (b : Bool) → nat_lt n (length s.pages) ≡ b → has_bucket s n ≡ true → n < length s.pages
+within_file : (s : Store) (n : ℕ) (b : Bool) → nat_lt n (length s.pages) ≡ b → has_bucket s n ≡ true
+    → n < length s.pages
 within_file s n true e live = grind (arith, nat_tests)
 within_file s n false e live =
     let past : length s.pages ≤ n = grind (arith, nat_tests) in
@@ -145,7 +147,8 @@ module _ (pages : ℕ) (ns : List ℕ) (marks : List Bool) (room : HasRoomFor pa
   place_marked =
       subst (λ ms. AreMarked pages ms (slice_set marks (slice_index_or ns k 0) true)) (sym (take_more ns k 0 within))
       (marked_more pages (take k ns) marks a (slice_index_or ns k 0)
-      (room.within _ (All-contains_itself ns k 0 within)) (not_yet (slice_index_or marks (slice_index_or ns k 0) false) refl))
+      (room.within _ (All-contains_itself ns k 0 within))
+      (not_yet (slice_index_or marks (slice_index_or ns k 0) false) refl))
     where
       here : ℕ
       here = slice_index_or ns k 0
@@ -154,7 +157,8 @@ module _ (pages : ℕ) (ns : List ℕ) (marks : List Bool) (room : HasRoomFor pa
           ≡ times (slice_index_or ns k 0) (take k ns)
           + times (slice_index_or ns k 0) (slice_index_or ns k 0 ∷ drop (suc k) ns)
       parts =
-          ap (times (slice_index_or ns k 0)) (sym (take-append-drop k ns) ∙ ap (λ xs. take k ns ++ xs) (drop-cons ns k 0 within))
+          ap (times (slice_index_or ns k 0)) (sym (take-append-drop k ns)
+          ∙ ap (λ xs. take k ns ++ xs) (drop-cons ns k 0 within))
           ∙ times_append (slice_index_or ns k 0) (take k ns) (slice_index_or ns k 0 ∷ drop (suc k) ns)
 
       not_yet : (b : Bool) → slice_index_or marks (slice_index_or ns k 0) false ≡ b →
@@ -186,7 +190,8 @@ module _ (s : Store) (ns : List ℕ) (marks : List Bool) where
   pub walk_goes_on : (page next : ℕ) → AreWalked s ns marks page → page ≢ 0 → IsFreeAt s page next →
       slice_index_or marks page false ≡ false → AreWalked s ns (slice_set marks page true) next
   walk_goes_on page next w begun f fresh =
-      let grown = subst (λ xs. AreMarked (length s.pages) xs (slice_set marks page true)) (append_assoc ns w.spares (page ∷ []))
+      let grown = subst (λ xs. AreMarked (length s.pages) xs (slice_set marks page true))
+      (append_assoc ns w.spares (page ∷ []))
       (marked_more (length s.pages) (ns ++ w.spares) marks w.marked page f.within fresh) in
       record {
         spares = w.spares ++ page ∷ [];

@@ -118,4 +118,5 @@ pub record HasReadCause {T : Type 0} (old new : ℕ) (result : Result T Structur
 -- what reading the pages may find
 abbrev pub IsReadingFault : List (List ℕ) → StructureFault → Type 0
 IsReadingFault content fault =
-    IsOfMachine fault ⊎ (IsHeaderFault content fault ⊎ (HasHeader content × IsFirstWrong content FIRST_DIRECTORY_PAGE fault))
+    IsOfMachine fault ⊎ (IsHeaderFault content fault ⊎
+    (HasHeader content × IsFirstWrong content FIRST_DIRECTORY_PAGE fault))

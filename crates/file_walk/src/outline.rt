@@ -102,7 +102,8 @@ impl Outline {
     /// The next page on the list of free pages, where this page of the file is free.
     pub fn behind(&self, page: u32) -> Option<u32>
         ensures some { IfSome result (λ next. IsFreeAt self.now page next) }
-        ensures none { IfNone result (IsFreePage self.now page × (page < length self.now.pages) → ⊥) }
+        ensures none { IfNone result
+            (IsFreePage self.now page × (page < length self.now.pages) → ⊥) }
     {
         match self.form(page) {
             Some(Form::Free { next }) => Some(next),

@@ -81,7 +81,8 @@ ascend_removed low key (q ∷ qs) h =
     by_test true first without rest = without
     by_test false first without rest = rw first rest
 
-pub ascend_written : (w : RecordWrite) (ps : List Pair) → MayWrite w ps → ascend ps ≡ true → ascend (records_after w ps) ≡ true
+pub ascend_written : (w : RecordWrite) (ps : List Pair) → MayWrite w ps → ascend ps ≡ true
+    → ascend (records_after w ps) ≡ true
 ascend_written (Put p) ps may h = ascends_with None p ps refl h may
 ascend_written (Replace p) ps may h = ascend_replaced None p ps h
 ascend_written (Remove key) ps may h = ascend_removed None key ps h

@@ -15,7 +15,8 @@ use Rattle.hash_file.specs.Kept.{KeepsContents, KeepsLeading, ChangesRecord, Has
 
 -- ---- a record
 
-pub record KeepsOtherRecords (hash : RecordKey → ℕ) (old : Store) (c : Change) (new : Store) (w : RecordWrite) : Type 0 where
+pub record KeepsOtherRecords (hash : RecordKey → ℕ) (old : Store) (c : Change) (new : Store) (w : RecordWrite) : Type
+    0 where
   pub sound : IsSoundFile hash new c
   pub contents : ChangesRecord w old new
   pub leads : KeepsLeading old c new c
@@ -25,7 +26,8 @@ pub record KeepsOtherRecords (hash : RecordKey → ℕ) (old : Store) (c : Chang
 
 -- a record is written in the bucket of its key, of which no phase speaks
 abbrev pub WriteRecordIsOneRecord : Type 0
-WriteRecordIsOneRecord = (hash : RecordKey → ℕ) (s : Store) (c : Change) (n : ℕ) (w : RecordWrite) → IsSoundFile hash s c →
+WriteRecordIsOneRecord = (hash : RecordKey → ℕ) (s : Store) (c : Change) (n : ℕ) (w : RecordWrite)
+    → IsSoundFile hash s c →
     IsBucketOf s (hash (key_of w)) n → (Contains (busy c) n → ⊥) → MayWrite w (records_at s n) →
     KeepsOtherRecords hash s c (write_record n w s) w
 

@@ -50,14 +50,16 @@ same_header h bytes it = subst (λ (g : Header). SpellsHeader g bytes) (sym (hea
 
 -- ---- the tests
 
-pub page_test : (r : Result PageKind Malformed) (ok : Bool) (bytes : List ℕ) → ok ≡ is_ok r → IfOk r (λ p. Spells p bytes)
+pub page_test : (r : Result PageKind Malformed) (ok : Bool) (bytes : List ℕ) → ok ≡ is_ok r
+    → IfOk r (λ p. Spells p bytes)
     → ((p : PageKind) → Spells p bytes → r ≡ Ok p) → IsTrue ok ↔ Spells (page_at bytes) bytes
 page_test (Ok p) ok bytes is spells only = (λ _. same_page p bytes spells, λ _. is)
 page_test (Err e) ok bytes is spells only =
     (λ good. absurd cc, λ it. let e = only (page_at bytes) it in absurd cc)
 
 pub header_test : (r : Result Header HeaderFault) (ok : Bool) (bytes : List ℕ) → ok ≡ is_ok r
-    → IfOk r (λ h. SpellsHeader h bytes) → ((h : Header) → SpellsHeader h bytes → r ≡ Ok h) → IsTrue ok ↔ IsHeaderPage bytes
+    → IfOk r (λ h. SpellsHeader h bytes) → ((h : Header) → SpellsHeader h bytes → r ≡ Ok h)
+    → IsTrue ok ↔ IsHeaderPage bytes
 header_test (Ok h) ok bytes is spells only = (λ _. same_header h bytes spells, λ _. is)
 header_test (Err e) ok bytes is spells only =
     (λ good. absurd cc, λ it. let e = only (header_at bytes) it in absurd cc)
@@ -68,7 +70,8 @@ pub header_well : (h : Header) (bytes : List ℕ) → SpellsHeader h bytes → I
 header_well h bytes it = inr (same_header h bytes it)
 
 pub directory_well : (es bytes : List ℕ) → SpellsDirectory es bytes → IsWell bytes
-directory_well es bytes it = page_well (kinds.Directory es) bytes (record { in_range = it.in_range; spelled = it.spelled })
+directory_well es bytes it = page_well (kinds.Directory es) bytes
+    (record { in_range = it.in_range; spelled = it.spelled })
 
 -- it was changed, or is as it was
 pub either_well : {T E : Type 0} (r : Result T E) (p : PageKind) (old new : List ℕ) → IsWell old

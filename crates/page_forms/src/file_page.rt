@@ -80,7 +80,8 @@ impl FilePage {
 
     /// What it says where it is a header.
     pub fn header(&self) -> Option<Header>
-        ensures some { IfSome result (λ header. IsHeaderPage self.now × (header ≡ header_at self.now)) }
+        ensures some { IfSome result
+            (λ header. IsHeaderPage self.now × (header ≡ header_at self.now)) }
         ensures none { IfNone result (IsHeaderPage self.now → ⊥) }
     {
         if self.payload[0] != HEADER {
@@ -91,7 +92,8 @@ impl FilePage {
 
     /// What it says where it is a bucket.
     pub fn bucket(&self) -> Option<BucketView<'_>>
-        ensures some { IfSome result (λ bucket. IsBucketPage self.now × (bucket ≡ bucket_at self.now)) }
+        ensures some { IfSome result
+            (λ bucket. IsBucketPage self.now × (bucket ≡ bucket_at self.now)) }
         ensures none { IfNone result (IsBucketPage self.now → ⊥) }
     {
         if self.payload[0] != BUCKET {
@@ -102,7 +104,8 @@ impl FilePage {
 
     /// Its entries where it is a page of the directory.
     pub fn directory(&self) -> Option<DirectoryView<'_>>
-        ensures some { IfSome result (λ entries. IsDirectoryPage self.now × (entries ≡ entries_at self.now)) }
+        ensures some { IfSome result
+            (λ entries. IsDirectoryPage self.now × (entries ≡ entries_at self.now)) }
         ensures none { IfNone result (IsDirectoryPage self.now → ⊥) }
     {
         if self.payload[0] != DIRECTORY {
@@ -113,7 +116,8 @@ impl FilePage {
 
     /// Where it is a tombstone: the page of the bucket that took its records.
     pub fn link(&self) -> Option<u32>
-        ensures some { IfSome result (λ link. IsTombstonePage self.now × (link ≡ four_at 4 self.now)) }
+        ensures some { IfSome result
+            (λ link. IsTombstonePage self.now × (link ≡ four_at 4 self.now)) }
         ensures none { IfNone result (IsTombstonePage self.now → ⊥) }
     {
         if self.payload[0] != TOMBSTONE {

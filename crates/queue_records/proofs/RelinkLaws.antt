@@ -76,7 +76,8 @@ three_set h body v0 v1 v2 v3 rest o1 o2 o3 n1 n2 n3 len long is set1 set2 set3 =
 pub four_set : (v0 v1 v2 v3 v4 rest : List ℕ) (o1 o2 o3 o4 : ℕ) (n1 n2 n3 n4 : Option ℕ) → 32 ≤ length v0
     → v0 ++ rest ≡ eight o1 ++ eight o2 ++ eight o3 ++ eight o4
     → Sets n1 0 v0 v1 → Sets n2 8 v1 v2 → Sets n3 16 v2 v3 → Sets n4 24 v3 v4
-    → v4 ++ rest ≡ eight (unwrap_or n1 o1) ++ eight (unwrap_or n2 o2) ++ eight (unwrap_or n3 o3) ++ eight (unwrap_or n4 o4)
+    → v4 ++ rest ≡ eight (unwrap_or n1 o1) ++ eight (unwrap_or n2 o2) ++ eight (unwrap_or n3 o3) ++ eight
+    (unwrap_or n4 o4)
 four_set v0 v1 v2 v3 v4 rest o1 o2 o3 o4 n1 n2 n3 n4 long is set1 set2 set3 set4 =
     let a : List ℕ = eight o1 in
     let b : List ℕ = eight o2 in

@@ -48,7 +48,12 @@ impl Search {
     /// A search for a key of this pseudokey, that locks pages in this kind.
     pub fn new(key: RecordKey, pseudokey: u32, kind: LockKind) -> Search
         requires shared { IsShared kind }
-        ensures { result ≡ record { key = key; pseudokey = pseudokey; kind = kind; place = SearchPlace.GrantDirectory } }
+        ensures { result ≡ record {
+          key = key;
+          pseudokey = pseudokey;
+          kind = kind;
+          place = SearchPlace.GrantDirectory;
+        } }
     {
         Search {
             key,

@@ -54,9 +54,11 @@ step_falls RaiseDepth hash seat old new does =
     subst (λ (w : World). w.store.layout.greatest - w.store.header.depth
     < old.store.layout.greatest - old.store.header.depth) (sym does.changes.is) (omega (arith, does.room))
 step_falls WriteNew hash seat old new does =
-    falls old new (Taken does.taken) (Filled does.split does.taken) does.changes.phase (ap (λ (w : World). w.change) does.changes.is) (omega arith)
+    falls old new (Taken does.taken) (Filled does.split does.taken) does.changes.phase
+    (ap (λ (w : World). w.change) does.changes.is) (omega arith)
 step_falls WriteOld hash seat old new does =
-    falls old new (Filled does.split does.filled) (Linked does.split does.filled (range_at old.store does.split)) does.changes.phase (ap (λ (w : World). w.change) does.changes.is) (omega arith)
+    falls old new (Filled does.split does.filled) (Linked does.split does.filled (range_at old.store does.split))
+    does.changes.phase (ap (λ (w : World). w.change) does.changes.is) (omega arith)
 step_falls Retarget hash seat old new does = tt
 step_falls SetCounts hash seat old new does = elim does.sets [
   | inl split ↦ falls old new (Linked does.lower does.upper does.whole) Quiet split.changes.phase
@@ -66,14 +68,18 @@ step_falls SetCounts hash seat old new does = elim does.sets [
 ]
 step_falls WriteLeft hash seat old new does = tt
 step_falls Tombstone hash seat old new does =
-    falls old new (Absorbed does.left does.right does.whole) (Buried does.left does.right does.whole) does.changes.phase (ap (λ (w : World). w.change) does.changes.is) (omega arith)
+    falls old new (Absorbed does.left does.right does.whole) (Buried does.left does.right does.whole)
+    does.changes.phase (ap (λ (w : World). w.change) does.changes.is) (omega arith)
 step_falls Convert hash seat old new does = tt
 step_falls WriteFree hash seat old new does =
-    falls old new (Drained does.left does.right) (Freed does.right) does.changes.phase (ap (λ (w : World). w.change) does.changes.is) (omega arith)
+    falls old new (Drained does.left does.right) (Freed does.right) does.changes.phase
+    (ap (λ (w : World). w.change) does.changes.is) (omega arith)
 step_falls LinkFree hash seat old new does =
-    falls old new (Freed does.right) Quiet does.changes.phase (ap (λ (w : World). w.change) does.changes.is) (omega arith)
+    falls old new (Freed does.right) Quiet does.changes.phase (ap (λ (w : World). w.change) does.changes.is)
+    (omega arith)
 step_falls LowerDepth hash seat old new does =
-    subst (λ (w : World). w.store.header.depth < old.store.header.depth) (sym does.changes.is) (omega (arith, does.deep))
+    subst (λ (w : World). w.store.header.depth < old.store.header.depth) (sym does.changes.is)
+    (omega (arith, does.deep))
 
 -- ---- pages of the directory
 
@@ -139,10 +145,12 @@ retargets_on hash seat old new does sound = elim does.changes [
   | inr merge ↦ by (Buried does.lower does.upper does.whole) merge
 ]
   where
-    by : (c : Change) → Restructures seat c (retarget does.page (upper_half_of does.whole) (target_of c) old.store) c old new →
+    by : (c : Change) → Restructures seat c (retarget does.page (upper_half_of does.whole) (target_of c) old.store) c
+        old new →
         IsRetargetedBefore new.store (upper_half_of does.whole) (target_of new.change) (suc does.page)
     by c changes =
-        subst (λ (w : World). IsRetargetedBefore w.store (upper_half_of does.whole) (target_of w.change) (suc does.page))
+        subst (λ (w : World). IsRetargetedBefore w.store (upper_half_of does.whole) (target_of w.change)
+        (suc does.page))
         (sym changes.is) (retargeted_on hash old.store old.change sound.file does.page (upper_half_of does.whole)
         (target_of c) (subst (λ (d : Change).
         IsRetargetedBefore old.store (upper_half_of does.whole) (target_of d) does.page) changes.phase does.before))

@@ -30,7 +30,8 @@ not_exclusive w i j name pairs apart mine theirs =
 
 -- what is so of a page is so while it stands as it is
 pub IsOf-kept : (s t : Store) (n : ℕ) → page_at t n ≡ page_at s n → (fact : PageFact) → IsOf s n fact → IsOf t n fact
-IsOf-kept s t n same (Covering k) is = subst (λ (p : PageKind). (is_bucket p ≡ true) × Covers (range_of (bucket_of p)) k) (sym same) is
+IsOf-kept s t n same (Covering k) is = subst (λ (p : PageKind). (is_bucket p ≡ true)
+    × Covers (range_of (bucket_of p)) k) (sym same) is
 IsOf-kept s t n same (Lacking key) is =
     ap (λ (p : PageKind). lookup key (bucket_of p).records) same ∙ is
 IsOf-kept s t n same (Having key bytes) is =

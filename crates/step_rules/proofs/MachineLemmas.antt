@@ -64,7 +64,8 @@ last_rank Directory = omega arith
 last_rank (Page n) = omega arith
 
 -- a page, by a seat that holds the directory
-pub page_may : (n : ℕ) (kind : LockKind) (seat : ℕ) (w : World) → IsHeld w.locks seat Directory → (kind ≡ Exclusive → ⊥) →
+pub page_may : (n : ℕ) (kind : LockKind) (seat : ℕ) (w : World) → IsHeld w.locks seat Directory
+    → (kind ≡ Exclusive → ⊥) →
     MayBeGranted (Page n) kind seat w
 page_may n kind seat w there shared = record {
   ordered = λ other held. last_rank other;

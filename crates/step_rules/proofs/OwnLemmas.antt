@@ -145,7 +145,8 @@ entry_is_bucket hash seat w d k sound quiet deep =
 
 -- ---- its own locks
 
-pub own_locks_keep : (seat : ℕ) (w : World) (t : Table) (fact : Known) → IsKnown seat w fact → HasAnchor (row_of t seat) fact →
+pub own_locks_keep : (seat : ℕ) (w : World) (t : Table) (fact : Known) → IsKnown seat w fact
+    → HasAnchor (row_of t seat) fact →
     IsKnown seat (with_locks t w) fact
 own_locks_keep seat w t (Deep depth) h anchor = (anchor, h.1)
 own_locks_keep seat w t (LeadsTo page k) h anchor = (anchor, h.1)

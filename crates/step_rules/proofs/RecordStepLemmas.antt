@@ -109,7 +109,8 @@ module _ (hash : RecordKey → ℕ) (seat : ℕ) (old : World) (sound : IsSoundW
       seats = refl;
       rows = λ i apart. refl;
       pages = λ i n apart w. page_other s does.page n
-          (kinds.Bucket (record (bucket_at s does.page) { records = records_after does.write (records_at s does.page) }))
+          (kinds.Bucket (record (bucket_at s does.page)
+          { records = records_after does.write (records_at s does.page) }))
           (other_page hash old i seat n does.page sound apart w does.page_owned);
       live = λ i n apart w on. subst (λ (ns : List ℕ). Contains ns n) (sym same_chain) on;
       structure = λ no_writer. record {

@@ -19,7 +19,8 @@ use Rattle.step_rules.proofs.LockLemmas.{none_is_not_some}
 none_held : (t : Table) (seat : ℕ) (name : LockName) → IsAtRest t → held t seat name ≡ None
 none_held t seat name rest = ap (λ (row : List Lock). kind_of row name) (rest seat)
 
-pub rest_is_sound : (hash : RecordKey → ℕ) (s : Store) (t : Table) → IsSoundFile hash s Quiet → IsLawful t → IsAtRest t →
+pub rest_is_sound : (hash : RecordKey → ℕ) (s : Store) (t : Table) → IsSoundFile hash s Quiet → IsLawful t
+    → IsAtRest t →
     IsSoundWorld hash (record { store = s; locks = t; change = Quiet })
 rest_is_sound hash s t sound lawful rest = record {
   file = sound;

@@ -146,8 +146,16 @@ module _ (hash : RecordKey → ℕ) (key : RecordKey) (seat : ℕ) (old new : Wo
   other : (buddy : ℕ) → IsBucketOf s (buddy_of (range_at s home)).pattern buddy →
       ((home ≡ does.left) × (buddy ≡ does.right)) ⊎ ((home ≡ does.right) × (buddy ≡ does.left))
   other buddy found = elim either [
-    | inl is ↦ inl (is, unique (buddy_of (range_at s home)).pattern buddy does.right found (does.right_on, right_covers is))
-    | inr is ↦ inr (is, unique (buddy_of (range_at s home)).pattern buddy does.left found (does.left_on, left_covers is))
+    | inl is ↦ inl (
+      is,
+      unique (buddy_of (range_at s home)).pattern buddy does.right found
+          (does.right_on, right_covers is),
+    )
+    | inr is ↦ inr (
+      is,
+      unique (buddy_of (range_at s home)).pattern buddy does.left found
+          (does.left_on, left_covers is),
+    )
   ]
     where
       right_covers : home ≡ does.left → Covers (range_at s does.right) (buddy_of (range_at s home)).pattern

@@ -12,7 +12,8 @@ pub schedules_keep_sound : (hash : RecordKey → ℕ) (moves : List Move) (old n
     LeadAlong hash moves old new → IsSoundWorld hash new
 schedules_keep_sound hash [] old new sound is = subst (IsSoundWorld hash) (sym is) sound
 schedules_keep_sound hash (move ∷ moves) old new sound (next, does, rest) =
-    schedules_keep_sound hash moves next new (turn_keeps move.kind hash move.turn move.seat old next sound does).sound rest
+    schedules_keep_sound hash moves next new (turn_keeps move.kind hash move.turn move.seat old next sound
+    does).sound rest
 
 pub schedules_keep_knowledge : (hash : RecordKey → ℕ) (moves : List Move) (old new : World) (i : ℕ) (fact : Known) →
     IsSoundWorld hash old → LeadAlong hash moves old new → StandsStill i moves → IsKnown i old fact → IsKnown i new fact

@@ -34,7 +34,8 @@ quiet_is (Drained left right) is = absurd cc
 quiet_is (Freed right) is = absurd cc
 
 -- a walk at a stage that is told by an equation
-at_stage : (seat k : ℕ) (walk : SearchWalk) (w : World) (stage : WalkStage) → walk.stage ≡ stage → IsOnItsWay seat k walk w →
+at_stage : (seat k : ℕ) (walk : SearchWalk) (w : World) (stage : WalkStage) → walk.stage ≡ stage
+    → IsOnItsWay seat k walk w →
     IsNearAt seat k w walk stage
 at_stage seat k walk w stage is on = subst (IsNearAt seat k w walk) is on.near
 
@@ -53,7 +54,8 @@ hop_holds seat page old new kind other g =
     (kept ∙ held-grant old.locks seat g.seated further kind g.fresh))
 
 module _ (hash : RecordKey → ℕ) (seat k : ℕ) where
-  begins : (old new : World) (g : Grants seat old new) → g.name ≡ Directory → IsOnItsWay seat k (begun_walk new.change) new
+  begins : (old new : World) (g : Grants seat old new) → g.name ≡ Directory
+      → IsOnItsWay seat k (begun_walk new.change) new
   begins old new g is = record {
     near = (
       subst (λ (w : World). IsHeld w.locks seat Directory) (sym g.is)
@@ -65,7 +67,8 @@ module _ (hash : RecordKey → ℕ) (seat k : ℕ) where
     calm = λ calm. (quiet_is new.change calm, refl);
   }
 
-  reads_depth : (w : World) (walk : SearchWalk) → IsSoundWorld hash w → walk.stage ≡ Entered → IsOnItsWay seat k walk w →
+  reads_depth : (w : World) (walk : SearchWalk) → IsSoundWorld hash w → walk.stage ≡ Entered
+      → IsOnItsWay seat k walk w →
       IsOnItsWay seat k (record walk { stage = HasRead w.store.header.depth }) w
   reads_depth w walk sound is on =
       let was = at_stage seat k walk w Entered is on in
@@ -124,7 +127,8 @@ module _ (hash : RecordKey → ℕ) (seat k : ℕ) where
             inr (hop_holds seat page old new kind elsewhere g),
             hop_is_led_on hash seat old new page k kind sound was.0.1 other g,
           ),
-          subst (λ (w : World). suc walk.hops + distance w.store further k ≤ walk.added + late walk.calm) (sym g.is) short,
+          subst (λ (w : World). suc walk.hops + distance w.store further k ≤ walk.added + late walk.calm) (sym g.is)
+              short,
         );
         calm = λ calm. subst (λ (w : World). (w.change ≡ Quiet) × (walk.added ≡ 0)) (sym g.is) (on.calm calm);
       }
@@ -178,7 +182,8 @@ module _ (hash : RecordKey → ℕ) (seat k : ℕ) where
       )
 
   others : (old new : World) (walk : SearchWalk) (other : ℕ) (kind : Kind) → IsSoundWorld hash old → seat ≢ other →
-      Does hash kind other old new → IsOnItsWay seat k walk old → IsOnItsWay seat k (walk_beside kind new.change walk) new
+      Does hash kind other old new → IsOnItsWay seat k walk old
+      → IsOnItsWay seat k (walk_beside kind new.change walk) new
   others old new walk other kind sound apart does on = record {
     near = near_beside old new walk other kind sound apart does walk.stage on.near;
     calm = λ calm.
@@ -197,7 +202,8 @@ module _ (hash : RecordKey → ℕ) (seat k : ℕ) where
     others = others;
   }
 
-few_at : (seat k : ℕ) (walk : SearchWalk) (w : World) (stage : WalkStage) → IsNearAt seat k w walk stage → walk.hops ≤ walk.added + late walk.calm
+few_at : (seat k : ℕ) (walk : SearchWalk) (w : World) (stage : WalkStage) → IsNearAt seat k w walk stage
+    → walk.hops ≤ walk.added + late walk.calm
 few_at seat k walk w Entered near = omega (arith, near.1)
 few_at seat k walk w (HasRead depth) near = omega (arith, near.1)
 few_at seat k walk w (IsAt page) near = omega (arith, near.1)

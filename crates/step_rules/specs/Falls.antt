@@ -63,8 +63,8 @@ phases_left (Buried left right whole) = 3
 phases_left (Drained left right) = 2
 phases_left (Freed right) = 1
 
--- a change begins at TakePage or WriteLeft; each kind that goes on with it comes to a later phase, and those that double
--- and halve the directory bring its depth nearer to its end
+-- a change begins at TakePage or WriteLeft; each kind that goes on with it comes to a later phase, and those
+-- that double and halve the directory bring its depth nearer to its end
 abbrev pub Falls : Kind → World → World → Type 0
 Falls WriteNew old new = phases_left new.change < phases_left old.change
 Falls WriteOld old new = phases_left new.change < phases_left old.change

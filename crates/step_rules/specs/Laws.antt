@@ -83,4 +83,5 @@ RestIsSound = (hash : RecordKey → ℕ) (s : Store) (t : Table) → IsSoundFile
 
 -- and such a file is left where they end with no seat holding a lock
 abbrev pub RestIsQuiet : Type 0
-RestIsQuiet = (hash : RecordKey → ℕ) (w : World) → IsSoundWorld hash w → IsAtRest w.locks → IsSoundFile hash w.store Quiet
+RestIsQuiet = (hash : RecordKey → ℕ) (w : World) → IsSoundWorld hash w → IsAtRest w.locks
+    → IsSoundFile hash w.store Quiet

@@ -48,7 +48,8 @@ OwnedAnswerIsLive = (hash : RecordKey → ℕ) (seat : ℕ) (w : World) (page k 
 -- who is granted the directory so that it may write it finds no change under way
 abbrev pub DirectoryIsQuiet : Type 0
 DirectoryIsQuiet = (hash : RecordKey → ℕ) (seat : ℕ) (old new : World) (g : Grants seat old new) →
-    IsSoundWorld hash old → g.name ≡ Directory → may_write (Some g.kind) ≡ true → IsKnown seat new (Built (InPhase Quiet))
+    IsSoundWorld hash old → g.name ≡ Directory → may_write (Some g.kind) ≡ true
+    → IsKnown seat new (Built (InPhase Quiet))
 
 -- and by the depth then read, each entry is the bucket of the pseudokey
 abbrev pub EntryIsBucket : Type 0
@@ -58,7 +59,8 @@ EntryIsBucket = (hash : RecordKey → ℕ) (seat : ℕ) (w : World) (depth k : �
 
 -- a seat keeps through its own change of locks what it knows under a lock that it still has
 abbrev pub OwnLocksKeep : Type 0
-OwnLocksKeep = (seat : ℕ) (w : World) (t : Table) (fact : Known) → IsKnown seat w fact → HasAnchor (row_of t seat) fact →
+OwnLocksKeep = (seat : ℕ) (w : World) (t : Table) (fact : Known) → IsKnown seat w fact
+    → HasAnchor (row_of t seat) fact →
     IsKnown seat (with_locks t w) fact
 
 -- and through a grant everything

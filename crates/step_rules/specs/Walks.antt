@@ -66,7 +66,8 @@ walk_beside kind change walk = record walk { added = walk.added + hops_added kin
 pub record WalksGoOn (hash : RecordKey → ℕ) (seat k : ℕ) : Type 0 where
   pub begins : (old new : World) (g : Grants seat old new) → g.name ≡ Directory →
       IsOnItsWay seat k (begun_walk new.change) new
-  pub reads_depth : (w : World) (walk : SearchWalk) → IsSoundWorld hash w → walk.stage ≡ Entered → IsOnItsWay seat k walk w →
+  pub reads_depth : (w : World) (walk : SearchWalk) → IsSoundWorld hash w → walk.stage ≡ Entered
+      → IsOnItsWay seat k walk w →
       IsOnItsWay seat k (record walk { stage = HasRead w.store.header.depth }) w
   pub reads_entry : (w : World) (walk : SearchWalk) (depth : ℕ) → IsSoundWorld hash w → walk.stage ≡ HasRead depth →
       IsOnItsWay seat k walk w →

@@ -20,7 +20,8 @@ IfSome-before_place P xs zero all = tt
 IfSome-before_place P xs (suc place) all = IfSome-slice_get P xs place all
 
 -- what the images of all have, that of one on the list has
-pub image_has : {X : Type 0} (f : X → ℕ) (P : ℕ → Type 0) (xs : List X) (x : X) → All P (map f xs) → Contains xs x → P (f x)
+pub image_has : {X : Type 0} (f : X → ℕ) (P : ℕ → Type 0) (xs : List X) (x : X) → All P (map f xs) → Contains xs x
+    → P (f x)
 image_has f P [] x all (k, within, at) = absurd (omega (arith, within))
 image_has f P (y ∷ ys) x all (zero, within, at) = subst (λ z. P (f z)) at (All-head P (f y) (map f ys) all)
 image_has f P (y ∷ ys) x all (suc k, within, at) =

@@ -95,7 +95,8 @@ its_queue : (id : ℕ) (s : State) (place : ℕ) (q : Queue) → Stands id s pla
 its_queue id s place q stands fits = subst HasFittingQueue (stands.is_it q)
     (All-get_or HasFittingQueue s.queues place q stands.place_of.within fits)
 
-changed : (id : ℕ) (s : State) (place : ℕ) (q new : Queue) (t : State) → Changes id s place q new t → HasFittingNumbers s →
+changed : (id : ℕ) (s : State) (place : ℕ) (q new : Queue) (t : State) → Changes id s place q new t
+    → HasFittingNumbers s →
     (HasFittingQueue q → HasFittingQueue new) → HasFittingNumbers t
 changed id s place q new t did fits keeps =
     subst HasFittingNumbers (sym did.after)

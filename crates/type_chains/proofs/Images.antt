@@ -102,7 +102,8 @@ of_queue s p q r found has = contains_tail (records.Counter (counter_of s)) r (f
     (in_flat_map queue_records s.queues q r (find-Some p s.queues q found).1 has)
 
 -- behind a queue's Key and Queue its types and messages
-behind_queue : (q : Queue) (r : Record) → Contains (type_records q ++ message_records q) r → Contains (queue_records q) r
+behind_queue : (q : Queue) (r : Record) → Contains (type_records q ++ message_records q) r
+    → Contains (queue_records q) r
 behind_queue q r has = Contains-append_right (key_records q) _ r
     (contains_tail (records.Queue (queue_entry q)) r (type_records q ++ message_records q) has)
 

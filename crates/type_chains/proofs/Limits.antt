@@ -74,7 +74,8 @@ module _ (s : State) (lawful : IsLawful s) (q : Queue) (stands : Contains s.queu
 
   type_in_range : (t : ℤ) → Contains (types q.messages) t → IsTypeInRange (type_entry q t)
   type_in_range t found =
-      let one = All-contains (λ (t : ℤ). 1 ≤ length (serials_of_type t q.messages)) (types q.messages) t types_stand found in
+      let one = All-contains (λ (t : ℤ). 1 ≤ length (serials_of_type t q.messages)) (types q.messages) t types_stand
+      found in
       record {
         id = lawful_id;
         mtype = All-contains IsType (types q.messages) t all_types found;

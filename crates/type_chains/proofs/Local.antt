@@ -28,9 +28,11 @@ module _ (id : ℕ) (s t : State) (same : others id s ≡ others id t) where
   -- the queue of another id is found among the others
   same_by_id : (other : ℕ) → other ≢ id → find (has_id other) s.queues ≡ find (has_id other) t.queues
   same_by_id other apart =
-      sym (find_filter (has_id other) (λ (q : Queue). not (q.id == id)) s.queues (λ k d within out. grind (arith, nat_tests)))
+      sym (find_filter (has_id other) (λ (q : Queue). not (q.id == id)) s.queues
+      (λ k d within out. grind (arith, nat_tests)))
       ∙ ap (find (has_id other)) same
-      ∙ find_filter (has_id other) (λ (q : Queue). not (q.id == id)) t.queues (λ k d within out. grind (arith, nat_tests))
+      ∙ find_filter (has_id other) (λ (q : Queue). not (q.id == id)) t.queues
+      (λ k d within out. grind (arith, nat_tests))
 
   no_key : (key : ℕ) (u : State) → IsNoKeyOf id key u →
       All (λ (q : Queue). not (q.id == id) ≡ false → has_key key q ≡ false) u.queues

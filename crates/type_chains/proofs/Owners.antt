@@ -43,10 +43,12 @@ all_records : (P : Record → Type 0) (q : Queue) → ((k : ℕ) → P (records.
     ((m : Message) → P (records.Message (message_entry q m))) → All P (queue_records q)
 all_records P q keys queue mtypes messages =
     All-append P (key_records q) _
-    (All-map P (λ (k : ℕ). records.Key (key_entry k q)) (option_to_list q.key) (λ k d within. keys (get_or (option_to_list q.key) k d)))
+    (All-map P (λ (k : ℕ). records.Key (key_entry k q)) (option_to_list q.key)
+    (λ k d within. keys (get_or (option_to_list q.key) k d)))
     (All-cons P (records.Queue (queue_entry q)) (type_records q ++ message_records q) queue
     (All-append P (type_records q) (message_records q)
-    (All-map P (λ (t : ℤ). records.Type (type_entry q t)) (types q.messages) (λ k d within. mtypes (get_or (types q.messages) k d)))
+    (All-map P (λ (t : ℤ). records.Type (type_entry q t)) (types q.messages)
+    (λ k d within. mtypes (get_or (types q.messages) k d)))
     (All-map P (λ (m : Message). records.Message (message_entry q m)) q.messages
     (λ k d within. messages (get_or q.messages k d)))))
 
@@ -63,7 +65,8 @@ across_kinds : (kind : ℕ) (xs ys : List Record) → All (λ (r : Record). (key
 across_kinds kind xs ys first second k d within j e there same =
     second j e there (sym (ap (λ (key : RecordKey). key.kind) same) ∙ first k d within)
 
-key_pairs : (q : Queue) (o : Option ℕ) → AllPairs AreApart (map (λ (k : ℕ). records.Key (key_entry k q)) (option_to_list o))
+key_pairs : (q : Queue) (o : Option ℕ) → AllPairs AreApart
+    (map (λ (k : ℕ). records.Key (key_entry k q)) (option_to_list o))
 key_pairs q None = pairs_nil AreApart
 key_pairs q (Some k) = AllPairs-cons AreApart (records.Key (key_entry k q)) []
     (All-nil (AreApart (records.Key (key_entry k q)))) (pairs_nil AreApart)

@@ -47,7 +47,8 @@ before_end : {X : Type 0} (xs : List X) (y : X) → before_place (xs ++ y ∷ []
 before_end [] y = refl
 before_end (x ∷ xs) y =
     let place : length xs ≡ length (x ∷ xs) - 1 = omega arith in
-    let shifted : before_place (x ∷ (xs ++ y ∷ [])) (suc (length xs)) ≡ slice_get (x ∷ (xs ++ y ∷ [])) (length xs) = refl in
+    let shifted : before_place (x ∷ (xs ++ y ∷ [])) (suc (length xs)) ≡ slice_get (x ∷ (xs ++ y ∷ [])) (length xs) =
+    refl in
     shifted ∙ inside (x ∷ xs) (y ∷ []) (length xs) (omega arith) ∙ ap (slice_get (x ∷ xs)) place
 
 -- ---- a number above all, put last, is found last

@@ -62,7 +62,8 @@ key_has k (Some j) it = ap Some (eqb-true j k it)
 
 -- ---- types ascend
 
-pub cond_with : {X : Type 0} (P : X → Type 0) (b : Bool) (x y : X) → (b ≡ true → P x) → (b ≡ false → P y) → P (cond b x y)
+pub cond_with : {X : Type 0} (P : X → Type 0) (b : Bool) (x y : X) → (b ≡ true → P x) → (b ≡ false → P y)
+    → P (cond b x y)
 cond_with P true x y first second = first refl
 cond_with P false x y first second = second refl
 
@@ -72,7 +73,8 @@ above t u no_less no_same =
     let apart : t ≢ u = not_from_Decides (int_eq t u) (Decides-int_eq t u) no_same in
     grind (arith, ints, least, apart)
 
-ascend_with : (ts : List ℤ) (t : ℤ) → AllPairs (λ (a b : ℤ). a <ℤ b) ts → AllPairs (λ (a b : ℤ). a <ℤ b) (with_type ts t)
+ascend_with : (ts : List ℤ) (t : ℤ) → AllPairs (λ (a b : ℤ). a <ℤ b) ts
+    → AllPairs (λ (a b : ℤ). a <ℤ b) (with_type ts t)
 ascend_with [] t ascend = AllPairs-cons (λ (a b : ℤ). a <ℤ b) t [] (All-nil (λ (b : ℤ). t <ℤ b)) ascend
 ascend_with (u ∷ us) t ascend =
     let higher = pairs_head (λ (a b : ℤ). a <ℤ b) u us ascend in
@@ -83,7 +85,8 @@ ascend_with (u ∷ us) t ascend =
     (All-cons (λ (b : ℤ). t <ℤ b) u us below
     (All-weaker (λ (b : ℤ). u <ℤ b) (λ (b : ℤ). t <ℤ b) (λ b h. omega (arith, ints, below, h)) us higher))
     ascend)
-    (λ no_less. cond_with (λ (ts : List ℤ). AllPairs (λ (a b : ℤ). a <ℤ b) ts) (int_eq t u) (u ∷ us) (u ∷ with_type us t)
+    (λ no_less. cond_with (λ (ts : List ℤ). AllPairs (λ (a b : ℤ). a <ℤ b) ts) (int_eq t u) (u ∷ us)
+    (u ∷ with_type us t)
     (λ same. ascend)
     (λ no_same. AllPairs-cons (λ (a b : ℤ). a <ℤ b) u (with_type us t)
     (All-with_type (λ (b : ℤ). u <ℤ b) us t higher (above t u no_less no_same)) rest))

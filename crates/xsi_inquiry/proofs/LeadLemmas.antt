@@ -45,7 +45,11 @@ has_new : (l : Links) (found : Option Record) → HasSuch l found →
     (x : Record) × (option_map (relinked l) found ≡ Some x)
 has_new (links.Message l) found (m, at) =
     (records.Message (with_message_links l m), ap (option_map (relinked (links.Message l))) at)
-has_new (links.Type l) found (t, at) = (records.Type (with_type_links l t), ap (option_map (relinked (links.Type l))) at)
+has_new (links.Type l) found (t, at) = (
+  records.Type (with_type_links l t),
+  ap (option_map (relinked (links.Type l)))
+      at,
+)
 
 both : (at : Records) (key : RecordKey) (x : Record) → at key ≡ Some x → at key ≡ None → ⊥
 both at key x some none =
@@ -165,8 +169,11 @@ module _ (old new : Records) where
   can_all : (ws : List Write) (cur : Records) → Ascend ws → All (Fits cur) ws → CanAllBe ws cur
   can_all [] cur up all = tt
   can_all (w ∷ ws) cur up all =
-      let first = All-head (Fits cur) w ws all in
-      (can_one cur w first, can_all ws (written_by w cur) up.1 (all_stay w cur first ws up.0 (All-tail (Fits cur) w ws all)))
+      let first = All-head (Fits cur) w ws all in (
+        can_one cur w first,
+        can_all ws (written_by w cur) up.1
+            (all_stay w cur first ws up.0 (All-tail (Fits cur) w ws all)),
+      )
 
   -- what is there stays where records are inserted at keys that have none
   stays_put : (rs : List Record) (cur : Records) (key : RecordKey) (x : Record) → AreAbsent rs cur →

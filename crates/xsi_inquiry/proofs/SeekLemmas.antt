@@ -48,7 +48,8 @@ refused id s above none act = by (nat_lt id s.next_id) refl
         rw e (rw first (rw past refl))
 
 -- the record at the key of a Queue is that of the queue found, on which calls go on
-pub is_entry : (id : ℕ) (s : State) (e : QueueEntry) → IsLawful s → Some (records.Queue e) ≡ record_of s (key_of_queue id) →
+pub is_entry : (id : ℕ) (s : State) (e : QueueEntry) → IsLawful s
+    → Some (records.Queue e) ≡ record_of s (key_of_queue id) →
     IsEntryOf id e s
 is_entry id s e lawful told =
     let (q, found, is) = mapped (λ (q : Queue). records.Queue (queue_entry q)) (find (has_id id) s.queues)
@@ -98,7 +99,8 @@ pub found_told : (id : ℕ) (s : State) (e : QueueEntry) → IsFiled s →
     IsTold s (sought_next id Unread) (Some (records.Queue e)) → Tells id (Found e) s
 found_told id s e filed told = is_entry id s e filed.lawful (told (key_of_queue id) refl)
 
-pub refused_told : (id : ℕ) (s : State) (given : Bool) → Tells id Absent s → IsToldGiven s (sought_next id Absent) given →
+pub refused_told : (id : ℕ) (s : State) (given : Bool) → Tells id Absent s
+    → IsToldGiven s (sought_next id Absent) given →
     Tells id (Refused (refusal given)) s
 refused_told id s given tells told = rw (told id refl) (refused id s tells.0 tells.1)
 

@@ -88,7 +88,8 @@ pub trait Inquiry {
     /// Tells it whether that id is below the next id. After an error it stands where it stood.
     fn take_given(&mut self, arguments: &Self::Arguments, given: bool) -> Result<(), NotASystem>
         requires { AsksGiven (wanted arguments.now self.old) }
-        ensures told { (room : Roomful) (s : State) → IsFiled s → Knows arguments.now self.old room s →
+        ensures told { (room : Roomful) (s : State) → IsFiled s →
+            Knows arguments.now self.old room s →
             IsToldGiven s (wanted arguments.now self.old) given →
             Gives result (λ _. Knows arguments.now self.new room s) }
         ensures fewer { OnOk result (left arguments.now self.new < left arguments.now self.old) }
@@ -99,7 +100,8 @@ pub trait Inquiry {
     fn decide(&self, arguments: &Self::Arguments) -> Result<Decision, NotASystem>
         requires { wanted arguments.now self.now ≡ None }
         ensures value { result ≡ decided arguments.now self.now }
-        ensures right { (room : Roomful) (s : State) → IsFiled s → Knows arguments.now self.now room s →
+        ensures right { (room : Roomful) (s : State) → IsFiled s →
+            Knows arguments.now self.now room s →
             Gives result (λ decision. Decides (caller self.now) (call arguments.now)
             (locked arguments.now self.now) room.bytes s decision (plan arguments.now self.now)) };
 

@@ -78,6 +78,6 @@ pub fn carry_over<I: Inquiry>(inquiry: &I, arguments: &I::Arguments)
 
 /// Others that are answered on other queues leave what a call on an id can tell.
 pub fn others_leave_an_id()
-    ensures { (id : ℕ) (c : Caller) (call : Call) (a : Answer) (s t : State) → id ≢ queue_of call s →
-        outcome c call s ≡ Some (a, t) → AgreeOnId id s t }
+    ensures { (id : ℕ) (c : Caller) (call : Call) (a : Answer) (s t : State) →
+        id ≢ queue_of call s → outcome c call s ≡ Some (a, t) → AgreeOnId id s t }
 {}

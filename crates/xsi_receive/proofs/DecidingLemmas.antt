@@ -41,7 +41,9 @@ use Rattle.xsi_receive.specs.Removing.{deletion_by, higher_by, is_counted, left_
 use Rattle.xsi_receive.proofs.FirstOfTypeLemmas.{IsTakenAt, taken_at}
 use Rattle.xsi_receive.proofs.FitLemmas.{place_of}
 use Rattle.xsi_receive.proofs.KnowingLemmas.{on_selected}
-use Rattle.xsi_receive.proofs.LeadLemmas.{all_seven, in_order, leads}
+use Rattle.xsi_receive.proofs.LeadLemmas.{leads}
+use Rattle.xsi_receive.proofs.OrderLemmas.{in_order}
+use Rattle.xsi_receive.proofs.RankLemmas.{all_seven}
 use Rattle.xsi_receive.proofs.MessageLemmas.{next_of_type_is}
 use Rattle.xsi_receive.proofs.QueueLemmas.{counted, fewer_bytes, queue_other_lowest, queue_same_lowest}
 use Rattle.xsi_receive.proofs.StandLemmas.{fine}
@@ -123,7 +125,8 @@ module _ (c : Caller) (a : ReceiveArguments) (e : QueueEntry) (m : MessageHead) 
       KnowsRemoval c a (made (Goes entry.lower entry.higher)) room s
   goes none entry is =
       let (j, at_j) = place_of (types q.messages) x.mtype (its_type_stands q.messages i x its_taken) in
-      let own : entry ≡ type_entry q x.mtype = subst (λ (o : Option TypeEntry). IsItsType o (type_entry q x.mtype)) is known.mtype in
+      let own : entry ≡ type_entry q x.mtype = subst (λ (o : Option TypeEntry). IsItsType o (type_entry q x.mtype))
+      is known.mtype in
       let type_is = type_entry q x.mtype in
       let lefts : Goes entry.lower entry.higher ≡ Goes type_is.lower type_is.higher =
       ap (λ (y : TypeEntry). Goes y.lower y.higher) own in
@@ -188,11 +191,13 @@ module _ (c : Caller) (a : ReceiveArguments) (r : Removal) (room : Roomful) (s :
 
   own_his : (mtype : ℤ) (left : TypeLeft) → InSlot IsHis (own_by a.id mtype left)
   own_his mtype (Begins f) = held a.id refl
-  own_his mtype (Goes lower higher) = types_his lower (λ (t : ℤ). Relink (key_of_type a.id t) (to_higher higher)) (λ t. refl)
+  own_his mtype (Goes lower higher) = types_his lower (λ (t : ℤ). Relink (key_of_type a.id t) (to_higher higher))
+      (λ t. refl)
 
   higher_his : (left : TypeLeft) → InSlot IsHis (higher_by a.id left)
   higher_his (Begins f) = tt
-  higher_his (Goes lower higher) = types_his higher (λ (t : ℤ). Relink (key_of_type a.id t) (to_lower lower)) (λ t. refl)
+  higher_his (Goes lower higher) = types_his higher (λ (t : ℤ). Relink (key_of_type a.id t) (to_lower lower))
+      (λ t. refl)
 
   deletion_his : (mtype : ℤ) (left : TypeLeft) → InSlot IsHis (deletion_by a.id mtype left)
   deletion_his mtype (Begins f) = tt
@@ -221,7 +226,13 @@ module _ (c : Caller) (a : ReceiveArguments) (r : Removal) (room : Roomful) (s :
       record {
         after = after;
         outcome = now ∙ ap (λ (bytes : List ℕ). Some (
-          answers.Received (record { serial = message.serial; sender = message.sender; mtype = message.mtype; bytes = bytes }),
+          answers.Received (record {
+            serial = message.serial;
+            sender = message.sender;
+            mtype = message.mtype;
+            bytes =
+                bytes;
+          }),
           after,
         )) (sym k.bytes);
         leads = leads s filed a.id queue k.selects.its.found k.selects.its.its_id c.pid a.moment place message taken;
@@ -232,10 +243,12 @@ module _ (c : Caller) (a : ReceiveArguments) (r : Removal) (room : Roomful) (s :
         idle = λ never. absurd never;
         ordered = record {
           trials = tt;
-          writes = in_order s filed a.id queue k.selects.its.found k.selects.its.its_id c.pid a.moment place message taken;
+          writes = in_order s filed a.id queue k.selects.its.found k.selects.its.its_id c.pid a.moment place message
+              taken;
         };
       }
 
   pub decides_taken : Decides c (Receive a) names_held room.bytes s (Answers (received r)) (removal_plan a.id r)
-  decides_taken = subst (λ (x : Removal). IsAnswered c (Receive a) names_held room.bytes s (received x) (removal_plan a.id x))
+  decides_taken = subst (λ (x : Removal). IsAnswered c (Receive a) names_held room.bytes s (received x)
+      (removal_plan a.id x))
       is_whole answered

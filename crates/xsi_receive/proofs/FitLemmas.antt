@@ -83,7 +83,8 @@ module _ (s : State) (filed : IsFiled s) (id : ℕ) (q : Queue) (found : find (h
       let place = position_or_len (has_id id) s.queues in
       let at = get_or_from_slice_get s.queues place q q (sym (find_at (has_id id) s.queues) ∙ found) in
       IsLawful-set s place q new at refl refl
-      (IsLawfulQueue-remove q i pid moment (slice_get_within q.messages i m taken.at) (fine s filed id q found)) filed.lawful
+      (IsLawfulQueue-remove q i pid moment (slice_get_within q.messages i m taken.at) (fine s filed id q found))
+      filed.lawful
 
   pub message_after : (serial : ℕ) → record_of after (key_of_message id serial) ≡ message_record serial new
   message_after serial = ap (option_and_then (message_record serial)) (found_new id s q new found refl refl)
@@ -129,12 +130,15 @@ module _ (s : State) (filed : IsFiled s) (id : ℕ) (q : Queue) (found : find (h
       let (x, at, same) = numbered q.messages k n is in
       let next = (message_entry q m).next in
       subst (λ (y : ℕ). Right (Relink (key_of_message id y) (to_next next))) same
-      (message_fits k x at (omega (arith, here)) (record { previous = Stays; next = link_to next; next_of_type = Stays })
+      (message_fits k x at (omega (arith, here)) (record
+      { previous = Stays; next = link_to next; next_of_type = Stays })
       (entry_previous q (fine s filed id q found) pid moment i m taken k x at here
-      ∙ sym (ap (λ (o : Option ℕ). record (message_entry q x) { next = o }) (link_leads next (message_entry q x).next))))
+      ∙ sym (ap (λ (o : Option ℕ). record (message_entry q x) { next = o })
+      (link_leads next (message_entry q x).next))))
 
   pub next_fits : (o : Option ℕ) → slice_get (serials q.messages) (suc i) ≡ o →
-      InSlot Right (option_map (λ (serial : ℕ). Relink (key_of_message id serial) (to_previous (message_entry q m).previous)) o)
+      InSlot Right (option_map (λ (serial : ℕ). Relink (key_of_message id serial)
+      (to_previous (message_entry q m).previous)) o)
   next_fits None is = tt
   next_fits (Some n) is =
       let (x, at, same) = numbered q.messages (suc i) n is in
@@ -156,7 +160,8 @@ module _ (s : State) (filed : IsFiled s) (id : ℕ) (q : Queue) (found : find (h
 
   -- ---- Types
 
-  type_fits : (t : ℤ) → Contains (types q.messages) t → find (has_number (type_number t)) (types new.messages) ≡ Some t →
+  type_fits : (t : ℤ) → Contains (types q.messages) t → find (has_number (type_number t)) (types new.messages)
+      ≡ Some t →
       (l : TypeLinks) → type_entry new t ≡ with_type_links l (type_entry q t) →
       Right (Relink (key_of_type id t) (links.Type l))
   type_fits t stands left l same =
@@ -187,7 +192,8 @@ module _ (s : State) (filed : IsFiled s) (id : ℕ) (q : Queue) (found : find (h
     -- another type is found as before
     pub found_other : (n : ℕ) → (type_number m.mtype == n) ≡ false →
         find (has_number n) (types new.messages) ≡ find (has_number n) (types q.messages)
-    found_other n over = ap (find (has_number n)) go ∙ find_without (has_number n) (types q.messages) j m.mtype at_j over
+    found_other n over = ap (find (has_number n)) go ∙ find_without (has_number n) (types q.messages) j m.mtype at_j
+        over
 
     other_number : (k : ℕ) (t : ℤ) → slice_get (types q.messages) k ≡ Some t → k ≢ j →
         (type_number m.mtype == type_number t) ≡ false
@@ -214,7 +220,8 @@ module _ (s : State) (filed : IsFiled s) (id : ℕ) (q : Queue) (found : find (h
         beside_fits k t is (omega (arith, here))
         (record { first = None; last = None; lower = Stays; higher = link_to higher })
         (type_lower q pid moment i m taken none j at_j k t is here
-        ∙ sym (ap (λ (o : Option ℤ). record (type_entry q t) { higher = o }) (link_leads higher (type_entry q t).higher)))
+        ∙ sym (ap (λ (o : Option ℤ). record (type_entry q t) { higher = o })
+        (link_leads higher (type_entry q t).higher)))
 
     pub higher_fits : (o : Option ℤ) → slice_get (types q.messages) (suc j) ≡ o →
         InSlot Right (option_map (λ (t : ℤ). Relink (key_of_type id t) (to_lower (type_entry q m.mtype).lower)) o)

@@ -114,7 +114,8 @@ module _ (c : Caller) (a : ReceiveArguments) (e : QueueEntry) (s : State) (its :
     }
 
     pub knows_empty : e.first ≡ None → KnowsAt c a (put_off_at a.nowait) room s
-    knows_empty none = waits (nothing_selected a.mtype q.messages (ap (λ (x : QueueEntry). x.first) (sym its.entry) ∙ none))
+    knows_empty none = waits (nothing_selected a.mtype q.messages
+        (ap (λ (x : QueueEntry). x.first) (sym its.entry) ∙ none))
 
     pub knows_first : (serial : ℕ) → a.mtype ≡ pos 0 → e.first ≡ Some serial → KnowsSerial c a e None serial s
     knows_first serial zero_type some =
@@ -231,7 +232,8 @@ module _ (c : Caller) (a : ReceiveArguments) (e : QueueEntry) (s : State) (filed
 
 -- ---- what is known once each record is told
 
-module _ (c : Caller) (a : ReceiveArguments) (s : State) (filed : IsFiled s) (found : Option Record) (e : QueueEntry) where
+module _ (c : Caller) (a : ReceiveArguments) (s : State) (filed : IsFiled s) (found : Option Record)
+    (e : QueueEntry) where
   -- the Type that is sought
   pub type_is_found : (mtype : ℤ) → SelectsType c a e mtype s →
       IsTold s (Some (At (key_of_type a.id mtype))) found → (found ≡ None → pos 0 <ℤ a.mtype → ⊥) →
@@ -317,7 +319,8 @@ module _ (c : Caller) (a : ReceiveArguments) (s : State) (filed : IsFiled s) (fo
         record { selects = known.selects; entry = known.entry; mtype = cc; fits = known.fits; bytes = known.bytes }
 
 -- before anything is read the queue is sought, or the call is refused
-pub begun_asks : (id : ℕ) (sought : Sought) → sought ≡ begun id → ((errno : Errno) → sought ≡ soughts.Refused errno → ⊥) →
+pub begun_asks : (id : ℕ) (sought : Sought) → sought ≡ begun id
+    → ((errno : Errno) → sought ≡ soughts.Refused errno → ⊥) →
     IsSome (sought_next id sought)
 begun_asks zero sought is never = absurd (never EINVAL is)
 begun_asks (suc id) sought is never = rw is refl

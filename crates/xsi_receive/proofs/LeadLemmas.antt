@@ -1,15 +1,13 @@
 -- The writes of a Receive lead from the records of a system to those of the system after it.
-use Rattle.std.proofs.Common.{◌≡◌, ℕ, zero, suc, ◌<◌, ◌≤◌, ℤ, pos, negsuc, ◌≤ℤ◌, ◌<ℤ◌, Bool, true, false, List, [], ◌∷◌, Option, Some, None, ◌⊎◌, inl, inr, refl, sym, ap, ◌∙◌, subst, get_or, arith}
+use Rattle.std.proofs.Common.{◌≡◌, ℕ, zero, suc, ◌≤◌, ℤ, Bool, true, false, List, Option, Some, None, ◌⊎◌, inl, inr, refl, sym, ap, ◌∙◌, subst, arith}
 use Rattle.std.specs.Prelude.{◌≢◌, ◌==◌, option_map, slice_get}
 use Rattle.std.specs.List.{All, find, remove}
 use Rattle.std.specs.Ordering.{int_eq}
 use Rattle.std.proofs.lemmas.Bool.{cases_lt, eqb-true}
 use Rattle.std.proofs.lemmas.Bool.Decides.{Decides-eqb, Decides-int_eq}
-use Rattle.std.proofs.lemmas.Int.{ints}
-use Rattle.std.proofs.lemmas.List.Elements.{All-cons, All-nil}
-use Rattle.std.proofs.lemmas.Option.{get_or_from_slice_get, slice_get-map, slice_get_within}
+use Rattle.std.proofs.lemmas.List.Elements.{All-nil}
+use Rattle.std.proofs.lemmas.Option.{slice_get-map}
 use Rattle.bucket_page.specs.declared.record_key.RecordKey.{RecordKey}
-use Rattle.bucket_page.specs.Keys.{is_same}
 use Rattle.queue_model.specs.declared.message.Message.{Message}
 use Rattle.queue_model.specs.declared.queue.Queue.{Queue}
 use Rattle.queue_model.specs.Lawful.{IsLawfulQueue}
@@ -28,116 +26,25 @@ use Rattle.type_chains.specs.RecordOf.{has_number, has_serial, message_record, r
 use Rattle.type_chains.proofs.Limits.{in_range}
 use Rattle.type_chains.proofs.OneQueueChanged.{agree_but}
 use Rattle.type_chains.proofs.Tests.{key_is}
-use Rattle.type_chains.proofs.Unique.{types_ascend}
 use Rattle.xsi_inquiry.specs.declared.write.Write.{Write}
 use Rattle.xsi_inquiry.specs.declared.write.Write.TheVariants.{Replace, Relink, Delete}
-use Rattle.xsi_inquiry.specs.Owning.{Ascend, IsBefore, write_rank}
 use Rattle.xsi_inquiry.specs.Telling.{IsFiled}
-use Rattle.xsi_inquiry.specs.Writing.{Leads, key_written, somes}
+use Rattle.xsi_inquiry.specs.Writing.{Leads}
 use Rattle.xsi_inquiry.proofs.LeadLemmas.{Fills, Misses, leads_by}
-use Rattle.xsi_inquiry.proofs.SlotLemmas.{InSlot, SlotsAscend, somes_all, somes_ascend, somes_each}
+use Rattle.xsi_inquiry.proofs.SlotLemmas.{InSlot, somes_all, somes_each}
 use Rattle.xsi_receive.specs.declared.removal.Removal.{Removal}
 use Rattle.xsi_receive.specs.declared.removal.TypeLeft.{TypeLeft}
 use Rattle.xsi_receive.specs.declared.removal.TypeLeft.TheVariants.{Begins, Goes}
 use Rattle.xsi_receive.specs.Heads.{head_of}
 use Rattle.xsi_receive.specs.Removing.{deletion_by, higher_by, left_by, next_write, own_by, previous_write, removal_plan, slots_of, to_higher, to_lower, to_next, to_previous, type_deletion}
 use Rattle.xsi_receive.proofs.FirstOfTypeLemmas.{IsTakenAt}
-use Rattle.xsi_receive.proofs.FitLemmas.{found_other, higher_fits, lawful_after, lower_fits, message_goes, next_fits, numbered, own_fits, place_of, previous_fits, queue_fits, stands_at, type_goes}
+use Rattle.xsi_receive.proofs.FitLemmas.{found_other, higher_fits, lawful_after, lower_fits, message_goes, next_fits, own_fits, place_of, previous_fits, queue_fits, type_goes}
 use Rattle.xsi_receive.proofs.MessageLemmas.{entry_later, entry_sooner, next_is, next_of_type_is, previous_is, same_at_other_serial, without}
-use Rattle.xsi_receive.proofs.StandLemmas.{fine, typed}
+use Rattle.xsi_receive.proofs.StandLemmas.{fine}
 use Rattle.xsi_receive.proofs.TypeLemmas.{entry_stays, higher_is, lower_is, type_later, type_sooner, types_stay}
 use Rattle.xsi_receive.proofs.TypesLemmas.{its_type_stands}
-
--- ---- slots
-
-put : {X : Type 0} (P : X → Type 0) (o : Option X) (os : List (Option X)) → InSlot P o → All (InSlot P) os →
-    All (InSlot P) (o ∷ os)
-put P o os first rest = All-cons (InSlot P) o os first rest
-
-none_in : {X : Type 0} (P : X → Type 0) → All (InSlot P) []
-none_in P = All-nil (InSlot P)
-
--- what is so of each of seven slots
-pub all_seven : {X : Type 0} (P : X → Type 0) (a b c d e f g : Option X) → InSlot P a → InSlot P b → InSlot P c → InSlot P d →
-    InSlot P e → InSlot P f → InSlot P g → All (InSlot P) (a ∷ b ∷ c ∷ d ∷ e ∷ f ∷ g ∷ [])
-all_seven P a b c d e f g one two three four five six seven =
-    put P a (b ∷ c ∷ d ∷ e ∷ f ∷ g ∷ []) one
-    (put P b (c ∷ d ∷ e ∷ f ∷ g ∷ []) two
-    (put P c (d ∷ e ∷ f ∷ g ∷ []) three
-    (put P d (e ∷ f ∷ g ∷ []) four
-    (put P e (f ∷ g ∷ []) five
-    (put P f (g ∷ []) six
-    (put P g [] seven (none_in P)))))))
-
--- the slot writes at this key
-abbrev WritesAt : RecordKey → Option Write → Type 0
-WritesAt key None = ⊥
-WritesAt key (Some w) = key_written w ≡ key
-
-itself : (key : RecordKey) → is_same key key ≡ true
-itself key =
-    let one = (Decides-eqb key.kind key.kind).1 refl in
-    let two = (Decides-eqb key.queue key.queue).1 refl in
-    let three = (Decides-eqb key.number key.number).1 refl in
-    rw (one, two, three) refl
-
-missed : (key : RecordKey) (w : Write) → key_written w ≡ key → Misses key w → ⊥
-missed key w same misses =
-    let clash : true ≡ false = sym (itself key) ∙ ap (is_same key) (sym same) ∙ misses in
-    absurd cc
-
-not_at : (key : RecordKey) (o : Option Write) → InSlot (Misses key) o → WritesAt key o → ⊥
-not_at key None misses at = at
-not_at key (Some w) misses at = missed key w at misses
-
--- ---- ranks
-
-abbrev HasRank : ℕ → Option Write → Type 0
-HasRank rank o = InSlot (λ (w : Write). write_rank w ≡ rank) o
-
-message_rank : (id : ℕ) (o : Option ℕ) (l : ℕ → Write) → ((serial : ℕ) → write_rank (l serial) ≡ 1) →
-    HasRank 1 (option_map l o)
-message_rank id None l is = tt
-message_rank id (Some serial) l is = is serial
-
-type_rank : (o : Option ℤ) (l : ℤ → Write) → ((t : ℤ) → write_rank (l t) ≡ 2) → HasRank 2 (option_map l o)
-type_rank None l is = tt
-type_rank (Some t) l is = is t
-
-own_rank : (id : ℕ) (mtype : ℤ) (left : TypeLeft) → HasRank 2 (own_by id mtype left)
-own_rank id mtype (Begins first) = refl
-own_rank id mtype (Goes lower higher) = type_rank lower _ (λ t. refl)
-
-higher_rank : (id : ℕ) (left : TypeLeft) → HasRank 2 (higher_by id left)
-higher_rank id (Begins first) = tt
-higher_rank id (Goes lower higher) = type_rank higher _ (λ t. refl)
-
-deletion_rank : (id : ℕ) (mtype : ℤ) (left : TypeLeft) → HasRank 4 (deletion_by id mtype left)
-deletion_rank id mtype (Begins first) = tt
-deletion_rank id mtype (Goes lower higher) = refl
-
--- a lower rank comes first
-before : (w : Write) (rank more : ℕ) (o : Option Write) → write_rank w ≡ rank → HasRank more o → rank < more →
-    InSlot (IsBefore w) o
-before w rank more None is has less = tt
-before w rank more (Some v) is has less = inl (omega (arith, is, has, less))
-
--- so is each of the slots where it is so of what stands there
-each : (o : Option Write) (os : List (Option Write)) → ((w : Write) → o ≡ Some w → All (InSlot (IsBefore w)) os) →
-    InSlot (λ (w : Write). All (InSlot (IsBefore w)) os) o
-each None os is = tt
-each (Some w) os is = is w refl
-
-of_rank : (o : Option Write) (rank : ℕ) (w : Write) → HasRank rank o → o ≡ Some w → write_rank w ≡ rank
-of_rank None rank w has is = absurd cc
-of_rank (Some v) rank w has is = let same : v ≡ w = cc in sym (ap write_rank same) ∙ has
-
--- ---- types by their numbers
-
-numbers_ascend : (t u : ℤ) → pos 1 ≤ℤ t → t <ℤ u → type_number t < type_number u
-numbers_ascend (pos m) (pos k) one less = omega (arith, ints, less)
-numbers_ascend (pos m) (negsuc k) one less = absurd (omega (arith, ints, less))
-numbers_ascend (negsuc m) u one less = absurd (omega (arith, ints, one))
+use Rattle.xsi_receive.proofs.RankLemmas.{all_seven, WritesAt, missed, not_at}
+use Rattle.xsi_receive.proofs.OrderLemmas.{in_order}
 
 module _ (s : State) (filed : IsFiled s) (id : ℕ) (q : Queue) (found : find (has_id id) s.queues ≡ Some q)
     (its : q.id ≡ id) (pid moment i : ℕ) (m : Message) (taken : IsTakenAt m q.messages i) where
@@ -216,154 +123,6 @@ module _ (s : State) (filed : IsFiled s) (id : ℕ) (q : Queue) (found : find (h
       (queue_fits s filed id q found its pid moment i m taken) previous_slot next_slot of_types.first of_types.second
       (message_goes s filed id q found its pid moment i m taken) of_types.last
 
-  -- ---- in order
-
-  -- the message before it has a lower serial than the one behind it
-  serials_order : (place : ℕ) → place ≡ i → (p n : ℕ) → before_place (serials q.messages) place ≡ Some p →
-      slice_get (serials q.messages) (suc i) ≡ Some n → p < n
-  serials_order zero here p n sooner later = absurd cc
-  serials_order (suc k) here p n sooner later =
-      let (x, at_x, is_x) = numbered q.messages k p sooner in
-      let (y, at_y, is_y) = numbered q.messages (suc i) n later in
-      let within = slice_get_within q.messages (suc i) y at_y in
-      let less = lawful_queue.serials_ascend k (suc i) x (omega (arith, here)) within in
-      let one = ap (λ (z : Message). z.serial) (get_or_from_slice_get q.messages k x x at_x) in
-      let two = ap (λ (z : Message). z.serial) (get_or_from_slice_get q.messages (suc i) y x at_y) in
-      omega (arith, less, one, two, is_x, is_y)
-
-  messages_order : (w : Write) → previous_write id removal ≡ Some w → InSlot (IsBefore w) (next_write id removal)
-  messages_order w is = by entry.previous entry.next refl refl is
-    where
-      by : (p n : Option ℕ) → entry.previous ≡ p → entry.next ≡ n →
-          option_map (λ (serial : ℕ). Relink (key_of_message id serial) (to_next entry.next)) p ≡ Some w →
-          InSlot (IsBefore w)
-          (option_map (λ (serial : ℕ). Relink (key_of_message id serial) (to_previous entry.previous)) n)
-      by None n was now none = absurd cc
-      by (Some p) None was now some = tt
-      by (Some p) (Some n) was now some =
-          let order = serials_order i refl p n (sym (previous_is q lawful_queue pid moment i m taken) ∙ was)
-          (sym (next_is q lawful_queue pid moment i m taken) ∙ now) in
-          let same : Relink (key_of_message id p) (to_next entry.next) ≡ w = cc in
-          subst (λ (v : Write). IsBefore v (Relink (key_of_message id n) (to_previous entry.previous))) same
-          (inr (refl, order))
-
-  types_order : (j : ℕ) → slice_get (types q.messages) j ≡ Some m.mtype → (place : ℕ) → place ≡ j → (t u : ℤ) →
-      before_place (types q.messages) place ≡ Some t → slice_get (types q.messages) (suc j) ≡ Some u →
-      type_number t < type_number u
-  types_order j at_j zero here t u lower higher = absurd cc
-  types_order j at_j (suc k) here t u lower higher =
-      let within = slice_get_within (types q.messages) (suc j) u higher in
-      let less = types_ascend q.messages k (suc j) t (omega (arith, here)) within in
-      let one = get_or_from_slice_get (types q.messages) k t t lower in
-      let two = get_or_from_slice_get (types q.messages) (suc j) u t higher in
-      let ascends = subst (λ (x : ℤ). x <ℤ u) one (subst (λ (x : ℤ). get_or (types q.messages) k t <ℤ x) two less) in
-      numbers_ascend t u (typed s filed id q found t (stands_at (types q.messages) k t lower)) ascends
-
-  types_in_order : (o : Option ℕ) → entry.next_of_type ≡ o → (w : Write) → own_by id m.mtype (left_by o own) ≡ Some w →
-      InSlot (IsBefore w) (higher_by id (left_by o own))
-  types_in_order (Some f) is w some = tt
-  types_in_order None is w some = by own.lower own.higher refl refl some
-    where
-      by : (l h : Option ℤ) → own.lower ≡ l → own.higher ≡ h →
-          option_map (λ (t : ℤ). Relink (key_of_type id t) (to_higher own.higher)) l ≡ Some w →
-          InSlot (IsBefore w) (option_map (λ (t : ℤ). Relink (key_of_type id t) (to_lower own.lower)) h)
-      by None h was now none = absurd cc
-      by (Some l) None was now some = tt
-      by (Some l) (Some h) was now some =
-          let (j, at_j) = its_place in
-          let none = sym next_by ∙ is in
-          let order = types_order j at_j j refl l h (sym (lower_is q pid moment i m taken none j at_j) ∙ was)
-          (sym (higher_is q pid moment i m taken none j at_j) ∙ now) in
-          let same : Relink (key_of_type id l) (to_higher own.higher) ≡ w = cc in
-          subst (λ (v : Write). IsBefore v (Relink (key_of_type id h) (to_lower own.lower))) same
-          (inr (refl, order))
-
-  abbrev queue_write : Write
-  queue_write = Replace (records.Queue (queue_entry new))
-
-  abbrev message_deletion : Write
-  message_deletion = Delete (key_of_message id m.serial)
-
-  abbrev deletions : List (Option Write)
-  deletions = Some message_deletion ∷ type_deletion id removal ∷ []
-
-  abbrev from_own : List (Option Write)
-  from_own = own_by id m.mtype left ∷ higher_by id left ∷ deletions
-
-  previous_rank : HasRank 1 (previous_write id removal)
-  previous_rank = message_rank id entry.previous
-      (λ (serial : ℕ). Relink (key_of_message id serial) (to_next entry.next)) (λ serial. refl)
-
-  next_rank : HasRank 1 (next_write id removal)
-  next_rank = message_rank id entry.next
-      (λ (serial : ℕ). Relink (key_of_message id serial) (to_previous entry.previous)) (λ serial. refl)
-
-  before_deletions : (w : Write) (rank : ℕ) → write_rank w ≡ rank → rank < 3 → All (InSlot (IsBefore w)) deletions
-  before_deletions w rank is less =
-      put (IsBefore w) (Some message_deletion) (type_deletion id removal ∷ [])
-      (before w rank 3 (Some message_deletion) is refl less)
-      (put (IsBefore w) (type_deletion id removal) []
-      (before w rank 4 (type_deletion id removal) is (deletion_rank id m.mtype left) (omega (arith, less)))
-      (none_in (IsBefore w)))
-
-  before_types : (w : Write) (rank : ℕ) → write_rank w ≡ rank → rank < 2 → All (InSlot (IsBefore w)) from_own
-  before_types w rank is less =
-      put (IsBefore w) (own_by id m.mtype left) (higher_by id left ∷ deletions)
-      (before w rank 2 (own_by id m.mtype left) is (own_rank id m.mtype left) less)
-      (put (IsBefore w) (higher_by id left) deletions
-      (before w rank 2 (higher_by id left) is (higher_rank id left) less)
-      (before_deletions w rank is (omega (arith, less))))
-
-  queue_first : All (InSlot (IsBefore queue_write)) (previous_write id removal ∷ next_write id removal ∷ from_own)
-  queue_first =
-      put (IsBefore queue_write) (previous_write id removal) (next_write id removal ∷ from_own)
-      (before queue_write 0 1 (previous_write id removal) refl previous_rank (omega arith))
-      (put (IsBefore queue_write) (next_write id removal) from_own
-      (before queue_write 0 1 (next_write id removal) refl next_rank (omega arith))
-      (before_types queue_write 0 refl (omega arith)))
-
-  previous_first : (w : Write) → previous_write id removal ≡ Some w →
-      All (InSlot (IsBefore w)) (next_write id removal ∷ from_own)
-  previous_first w is =
-      put (IsBefore w) (next_write id removal) from_own (messages_order w is)
-      (before_types w 1 (of_rank (previous_write id removal) 1 w previous_rank is) (omega arith))
-
-  next_first : (w : Write) → next_write id removal ≡ Some w → All (InSlot (IsBefore w)) from_own
-  next_first w is = before_types w 1 (of_rank (next_write id removal) 1 w next_rank is) (omega arith)
-
-  own_first : (w : Write) → own_by id m.mtype left ≡ Some w → All (InSlot (IsBefore w)) (higher_by id left ∷ deletions)
-  own_first w is =
-      put (IsBefore w) (higher_by id left) deletions (types_in_order entry.next_of_type refl w is)
-      (before_deletions w 2 (of_rank (own_by id m.mtype left) 2 w (own_rank id m.mtype left) is) (omega arith))
-
-  higher_first : (w : Write) → higher_by id left ≡ Some w → All (InSlot (IsBefore w)) deletions
-  higher_first w is =
-      before_deletions w 2 (of_rank (higher_by id left) 2 w (higher_rank id left) is) (omega arith)
-
-  gone_first : All (InSlot (IsBefore message_deletion)) (type_deletion id removal ∷ [])
-  gone_first =
-      put (IsBefore message_deletion) (type_deletion id removal) []
-      (before message_deletion 3 4 (type_deletion id removal) refl (deletion_rank id m.mtype left) (omega arith))
-      (none_in (IsBefore message_deletion))
-
-  ascend : SlotsAscend slots
-  ascend = (
-    queue_first,
-    (
-      each (previous_write id removal) (next_write id removal ∷ from_own) previous_first,
-      (
-        each (next_write id removal) from_own next_first,
-        (
-          each (own_by id m.mtype left) (higher_by id left ∷ deletions) own_first,
-          (
-            each (higher_by id left) deletions higher_first,
-            (gone_first, (each (type_deletion id removal) [] (λ w is. none_in (IsBefore w)), tt)),
-          ),
-        ),
-      ),
-    ),
-  )
-
   -- ---- at all other keys the records stay
 
   abbrev MessageStays : ℕ → Type 0
@@ -387,7 +146,8 @@ module _ (s : State) (filed : IsFiled s) (id : ℕ) (q : Queue) (found : find (h
   kept_message n x apart was same =
       inl (same_message n (Some x) apart was (ap (λ (e : MessageEntry). Some (records.Message e)) (sym same)))
 
-  previous_at : (place : ℕ) → place ≡ i → (x : Message) (n : ℕ) → before_place q.messages place ≡ Some x → x.serial ≡ n →
+  previous_at : (place : ℕ) → place ≡ i → (x : Message) (n : ℕ) → before_place q.messages place ≡ Some x
+      → x.serial ≡ n →
       WritesAt (key_of_message id n) (previous_write id removal)
   previous_at zero here x n at number = absurd cc
   previous_at (suc k) here x n at number =
@@ -448,7 +208,8 @@ module _ (s : State) (filed : IsFiled s) (id : ℕ) (q : Queue) (found : find (h
       by : (b : Bool) → (m.serial == n) ≡ b → MessageStays n
       by true e = inr (inr (inr (eqb-true m.serial n e)))
       by false e =
-          let apart : m.serial ≢ n = λ same. let clash : true ≡ false = sym ((Decides-eqb m.serial n).1 same) ∙ e in absurd cc in
+          let apart : m.serial ≢ n = λ same. let clash : true ≡ false = sym ((Decides-eqb m.serial n).1 same)
+          ∙ e in absurd cc in
           among (find (has_serial n) q.messages) apart refl
 
   -- the key of the Type of a number
@@ -485,7 +246,8 @@ module _ (s : State) (filed : IsFiled s) (id : ℕ) (q : Queue) (found : find (h
           let same = (Decides-int_eq m.mtype t).0 e in
           inr (inl (ap key_of_number (ap type_number same ∙ number)))
       by false e =
-          let other : m.mtype ≢ t = λ same. let clash : true ≡ false = sym ((Decides-int_eq m.mtype t).1 same) ∙ e in absurd cc in
+          let other : m.mtype ≢ t = λ same. let clash : true ≡ false = sym ((Decides-int_eq m.mtype t).1 same)
+          ∙ e in absurd cc in
           inl (same_type n (Some t) was
           (ap (find (has_number n)) (types_stay q pid moment i m taken f first) ∙ was)
           (ap (λ (x : TypeEntry). Some (records.Type x)) (sym (entry_stays q pid moment i m taken f first t other))))
@@ -518,7 +280,8 @@ module _ (s : State) (filed : IsFiled s) (id : ℕ) (q : Queue) (found : find (h
         (option_map (λ (t : ℤ). Relink (key_of_type id t) (to_lower own.lower)) o)) (sym link)
         (ap key_of_number number)
 
-    other_type : (n k : ℕ) (t : ℤ) → (type_number m.mtype == n) ≡ false → find (has_number n) (types q.messages) ≡ Some t →
+    other_type : (n k : ℕ) (t : ℤ) → (type_number m.mtype == n) ≡ false
+        → find (has_number n) (types q.messages) ≡ Some t →
         slice_get (types q.messages) k ≡ Some t → k ≢ j → GoesAt n
     other_type n k t over was at other = elim (cases_lt k j) [
       | inl below ↦ elim (cases_lt (suc k) j) [
@@ -537,13 +300,15 @@ module _ (s : State) (filed : IsFiled s) (id : ℕ) (q : Queue) (found : find (h
           | inl far ↦ kept_type n t over was (type_later q pid moment i m taken none j at_j k t at far)
           | inr near ↦
               let here : k ≡ j = omega (arith, near, other, above) in
-              inr (inr (inl (higher_at t n (ap (λ (x : ℕ). slice_get (types q.messages) (suc x)) (sym here) ∙ at) number)))
+              inr (inr (inl (higher_at t n (ap (λ (x : ℕ). slice_get (types q.messages) (suc x)) (sym here) ∙ at)
+              number)))
         ]
 
     goes_at : (n : ℕ) → GoesAt n
     goes_at n = by (type_number m.mtype == n) refl
       where
-        among : (o : Option ℤ) → (type_number m.mtype == n) ≡ false → find (has_number n) (types q.messages) ≡ o → GoesAt n
+        among : (o : Option ℤ) → (type_number m.mtype == n) ≡ false → find (has_number n) (types q.messages) ≡ o
+            → GoesAt n
         among None over was = inl (same_type n None was
             (found_other s filed id q found its pid moment i m taken none j at_j n over ∙ was) refl)
         among (Some t) over was =
@@ -580,9 +345,12 @@ module _ (s : State) (filed : IsFiled s) (id : ℕ) (q : Queue) (found : find (h
         let it = here_kind 4 kind queue in
         elim (at_types entry.next_of_type refl key.number) [
           | inl same ↦ same
-          | inr (inl at) ↦ absurd (not_at key _ (misses 3 None (omega arith)) (subst (λ (k : RecordKey). WritesAt k (own_by id m.mtype left)) it at))
-          | inr (inr (inl at)) ↦ absurd (not_at key _ (misses 4 None (omega arith)) (subst (λ (k : RecordKey). WritesAt k (higher_by id left)) it at))
-          | inr (inr (inr at)) ↦ absurd (not_at key _ (misses 6 None (omega arith)) (subst (λ (k : RecordKey). WritesAt k (deletion_by id m.mtype left)) it at))
+          | inr (inl at) ↦ absurd (not_at key _ (misses 3 None (omega arith))
+              (subst (λ (k : RecordKey). WritesAt k (own_by id m.mtype left)) it at))
+          | inr (inr (inl at)) ↦ absurd (not_at key _ (misses 4 None (omega arith))
+              (subst (λ (k : RecordKey). WritesAt k (higher_by id left)) it at))
+          | inr (inr (inr at)) ↦ absurd (not_at key _ (misses 6 None (omega arith))
+              (subst (λ (k : RecordKey). WritesAt k (deletion_by id m.mtype left)) it at))
         ]
 
     same_message_record_at : key.kind ≡ 5 → key.queue ≡ id → message_record key.number q ≡ message_record key.number new
@@ -590,8 +358,10 @@ module _ (s : State) (filed : IsFiled s) (id : ℕ) (q : Queue) (found : find (h
         let it = here_kind 5 kind queue in
         elim (at_messages key.number) [
           | inl same ↦ same
-          | inr (inl at) ↦ absurd (not_at key _ (misses 1 None (omega arith)) (subst (λ (k : RecordKey). WritesAt k (previous_write id removal)) it at))
-          | inr (inr (inl at)) ↦ absurd (not_at key _ (misses 2 None (omega arith)) (subst (λ (k : RecordKey). WritesAt k (next_write id removal)) it at))
+          | inr (inl at) ↦ absurd (not_at key _ (misses 1 None (omega arith))
+              (subst (λ (k : RecordKey). WritesAt k (previous_write id removal)) it at))
+          | inr (inr (inl at)) ↦ absurd (not_at key _ (misses 2 None (omega arith))
+              (subst (λ (k : RecordKey). WritesAt k (next_write id removal)) it at))
           | inr (inr (inr number)) ↦ absurd (missed key (Delete (key_of_message id m.serial))
               (ap (key_of_message id) number ∙ it) (misses 5 None (omega arith)))
         ]
@@ -599,11 +369,9 @@ module _ (s : State) (filed : IsFiled s) (id : ℕ) (q : Queue) (found : find (h
     stays : record_of s key ≡ record_of after key
     stays = agree_but id s q new found refl refl key no_queue same_type_record_at same_message_record_at
 
-  pub in_order : Ascend (somes slots)
-  in_order = somes_ascend slots ascend
-
   pub leads : Leads (removal_plan id removal) (record_of s) (record_of after)
-  leads = leads_by (record_of s) (record_of after) (removal_plan id removal) tt (All-nil _) in_order
+  leads = leads_by (record_of s) (record_of after) (removal_plan id removal) tt (All-nil _)
+      (in_order s filed id q found its pid moment i m taken)
       (somes_all Right slots all_right)
       (λ key r is. in_range after key r (lawful_after s filed id q found its pid moment i m taken) is)
       (λ key none misses. stays key (somes_each (Misses key) slots misses))

@@ -5,7 +5,9 @@ pub mod KnowingLemmas
 pub mod LeadLemmas
 pub mod ListLemmas
 pub mod MessageLemmas
+pub mod OrderLemmas
 pub mod QueueLemmas
+pub mod RankLemmas
 pub mod SelectingLemmas
 pub mod StandLemmas
 pub mod TypeLemmas

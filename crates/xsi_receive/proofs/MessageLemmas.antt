@@ -33,7 +33,8 @@ behind_head n x xs apart =
     let place : 1 + position_or_len (is_number n) xs ≡ suc (position_or_len (is_number n) xs) = omega arith in
     rw over (ap (slice_get xs) place)
 
-module _ (q : Queue) (lawful : IsLawfulQueue q) (pid moment i : ℕ) (m : Message) (taken : IsTakenAt m q.messages i) where
+module _ (q : Queue) (lawful : IsLawfulQueue q) (pid moment i : ℕ) (m : Message)
+    (taken : IsTakenAt m q.messages i) where
   abbrev left : Queue
   left = without pid moment i q
 
@@ -43,7 +44,8 @@ module _ (q : Queue) (lawful : IsLawfulQueue q) (pid moment i : ℕ) (m : Messag
   pub serials_left : serials (remove q.messages i) ≡ remove (serials q.messages) i
   serials_left = map-remove (λ (n : Message). n.serial) q.messages i
 
-  pub serial_at : (k : ℕ) (n : Message) → slice_get q.messages k ≡ Some n → slice_get (serials q.messages) k ≡ Some n.serial
+  pub serial_at : (k : ℕ) (n : Message) → slice_get q.messages k ≡ Some n
+      → slice_get (serials q.messages) k ≡ Some n.serial
   serial_at k n at = slice_get-map (λ (n : Message). n.serial) q.messages k
       ∙ ap (option_map (λ (n : Message). n.serial)) at
 
@@ -138,14 +140,18 @@ module _ (q : Queue) (lawful : IsLawfulQueue q) (pid moment i : ℕ) (m : Messag
     -- one that does not stand beside it stays
     pub entry_sooner : suc k < i → message_entry left n ≡ message_entry q n
     entry_sooner far = made _ _ (omega (arith, far))
-        (moved_before ∙ before_sooner is_number numbers i m.serial serials_apart own_number at_m k n.serial at_n (omega (arith, far)))
-        (moved_behind ∙ behind_sooner is_number numbers i m.serial serials_apart own_number at_m k n.serial at_n (omega (arith, far)) far)
+        (moved_before ∙ before_sooner is_number numbers i m.serial serials_apart own_number at_m k n.serial at_n
+        (omega (arith, far)))
+        (moved_behind ∙ behind_sooner is_number numbers i m.serial serials_apart own_number at_m k n.serial at_n
+        (omega (arith, far)) far)
 
     -- the one before it is followed by the one behind it
     pub entry_previous : suc k ≡ i → message_entry left n ≡ record (message_entry q n) { next = entry.next }
     entry_previous here = made _ _ (omega (arith, here))
-        (moved_before ∙ before_sooner is_number numbers i m.serial serials_apart own_number at_m k n.serial at_n (omega (arith, here)))
-        (moved_behind ∙ behind_previous is_number numbers i m.serial serials_apart own_number at_m k n.serial at_n (omega (arith, here)) here)
+        (moved_before ∙ before_sooner is_number numbers i m.serial serials_apart own_number at_m k n.serial at_n
+        (omega (arith, here)))
+        (moved_behind ∙ behind_previous is_number numbers i m.serial serials_apart own_number at_m k n.serial at_n
+        (omega (arith, here)) here)
 
   module _ (k : ℕ) (n : Message) (at : slice_get q.messages (suc k) ≡ Some n) where
     -- the one behind it follows the one before it
@@ -188,5 +194,6 @@ module _ (q : Queue) (lawful : IsLawfulQueue q) (pid moment i : ℕ) (m : Messag
       (λ k d within other. other_number _ _ (serials_other k (get_or q.messages k d)
       (slice_get-get_or q.messages k d within) other))
 
-  pub same_at_other_serial : (n : ℕ) → m.serial ≢ n → find (has_serial n) (remove q.messages i) ≡ find (has_serial n) q.messages
+  pub same_at_other_serial : (n : ℕ) → m.serial ≢ n → find (has_serial n) (remove q.messages i)
+      ≡ find (has_serial n) q.messages
   same_at_other_serial n apart = find_without (has_serial n) q.messages i m taken.at (other_number m.serial n apart)

@@ -52,7 +52,8 @@ last_now {X} xs i within = by (slice_get xs (suc i)) refl
     by None none = rw none (last_before xs i within (end xs i within none))
     by (Some x) is = rw is (last_left xs i (slice_get_within xs (suc i) x is))
 
-module _ (q : Queue) (lawful : IsLawfulQueue q) (pid moment i : ℕ) (m : Message) (taken : IsTakenAt m q.messages i) where
+module _ (q : Queue) (lawful : IsLawfulQueue q) (pid moment i : ℕ) (m : Message)
+    (taken : IsTakenAt m q.messages i) where
   within : i < length q.messages
   within = slice_get_within q.messages i m taken.at
 
@@ -136,7 +137,8 @@ module _ (q : Queue) (lawful : IsLawfulQueue q) (pid moment i : ℕ) (m : Messag
         first = where_none (message_entry q m).previous (message_entry q m).next (first_of (serials q.messages));
         last = where_none (message_entry q m).next (message_entry q m).previous (last_of (serials q.messages));
       }
-  queue_same_lowest f first = made (first_of (types q.messages)) (ap first_of (types_stay q pid moment i m taken f first))
+  queue_same_lowest f first = made (first_of (types q.messages))
+      (ap first_of (types_stay q pid moment i m taken f first))
 
   -- else it is raised where it was its own
   pub queue_other_lowest : first_of (serials_of_type m.mtype (remove q.messages i)) ≡ None → (j : ℕ) →

@@ -126,7 +126,8 @@ module _ (ms : List Message) (n : ℕ) where
       by (Some m) is (x, stands, its) =
           let first = law.taken m is in
           let low = least ms u m.mtype lowest (stands_of ms m first.stands) in
-          let high = All-contains (λ (k : Message). k.mtype ≤ℤ pos (suc n) → m.mtype ≤ℤ k.mtype) ms x first.lowest stands
+          let high = All-contains (λ (k : Message). k.mtype ≤ℤ pos (suc n) → m.mtype ≤ℤ k.mtype) ms x first.lowest
+          stands
           (omega (arith, ints, its, within)) in
           let same : m.mtype ≡ u = omega (arith, ints, low, high, its) in
           is ∙ sym (ap (λ (t : ℤ). find (is_of_type t) ms) (sym same) ∙ first.first)

@@ -46,9 +46,11 @@ module _ (s : State) (filed : IsFiled s) (id : ℕ) (q : Queue) (found : find (h
       let second = eqb-true _ n.serial two in
       omega (arith, fine.serials_ascend i j d before within, first, second))
 
-  pub by_number : (t : ℤ) → Contains (types q.messages) t → find (has_number (type_number t)) (types q.messages) ≡ Some t
+  pub by_number : (t : ℤ) → Contains (types q.messages) t
+      → find (has_number (type_number t)) (types q.messages) ≡ Some t
   by_number t there =
-      find_one (has_number (type_number t)) (types q.messages) t there ((Decides-eqb (type_number t) (type_number t)).1 refl)
+      find_one (has_number (type_number t)) (types q.messages) t there
+      ((Decides-eqb (type_number t) (type_number t)).1 refl)
       (λ i j d before within one two.
       let all = all_types s filed.lawful q stands in
       numbers_apart (get_or (types q.messages) i d) (get_or (types q.messages) j d) (type_number t)
@@ -76,7 +78,8 @@ module _ (s : State) (filed : IsFiled s) (id : ℕ) (q : Queue) (found : find (h
   pub type_absent : (t : ℤ) → pos 1 ≤ℤ t → (Contains (types q.messages) t → ⊥) → record_of s (key_of_type id t) ≡ None
   type_absent t one none = at_type_key t ∙ by (find (has_number (type_number t)) (types q.messages)) refl
     where
-      by : (o : Option ℤ) → find (has_number (type_number t)) (types q.messages) ≡ o → type_record (type_number t) q ≡ None
+      by : (o : Option ℤ) → find (has_number (type_number t)) (types q.messages) ≡ o
+          → type_record (type_number t) q ≡ None
       by None is = ap (option_map (λ (t : ℤ). records.Type (type_entry q t))) is
       by (Some u) is =
           let passes = find-Some (has_number (type_number t)) (types q.messages) u is in

@@ -59,7 +59,8 @@ module _ (q : Queue) (pid moment i : ℕ) (m : Message) (taken : IsTakenAt m q.m
   entry = type_entry q m.mtype
 
   -- the serials of another type stay
-  made : (t : ℤ) (lower higher : Option ℤ) → m.mtype ≢ t → before (is_same_type t) (types (remove q.messages i)) ≡ lower →
+  made : (t : ℤ) (lower higher : Option ℤ) → m.mtype ≢ t
+      → before (is_same_type t) (types (remove q.messages i)) ≡ lower →
       behind (is_same_type t) (types (remove q.messages i)) ≡ higher →
       type_entry left t ≡ record (type_entry q t) { lower = lower; higher = higher }
   made t lower higher other one two =
@@ -78,7 +79,8 @@ module _ (q : Queue) (pid moment i : ℕ) (m : Message) (taken : IsTakenAt m q.m
 
     -- another type stays as it is
     pub entry_stays : (t : ℤ) → m.mtype ≢ t → type_entry left t ≡ type_entry q t
-    entry_stays t other = made t _ _ other (ap (before (is_same_type t)) types_stay) (ap (behind (is_same_type t)) types_stay)
+    entry_stays t other = made t _ _ other (ap (before (is_same_type t)) types_stay)
+        (ap (behind (is_same_type t)) types_stay)
 
     -- its own gets the next of its messages as the first
     pub own_entry : type_entry left m.mtype ≡ record entry { first = f }
@@ -132,26 +134,34 @@ module _ (q : Queue) (pid moment i : ℕ) (m : Message) (taken : IsTakenAt m q.m
     module _ (k : ℕ) (t : ℤ) (at : slice_get (types q.messages) k ≡ Some t) where
       pub type_sooner : suc k < j → type_entry left t ≡ type_entry q t
       type_sooner far = made t _ _ (place_other k t at (omega (arith, far)))
-          (moved_before t ∙ before_sooner is_same_type (types q.messages) j m.mtype apart its_type at_j k t at (omega (arith, far)))
-          (moved_behind t ∙ behind_sooner is_same_type (types q.messages) j m.mtype apart its_type at_j k t at (omega (arith, far)) far)
+          (moved_before t ∙ before_sooner is_same_type (types q.messages) j m.mtype apart its_type at_j k t at
+          (omega (arith, far)))
+          (moved_behind t ∙ behind_sooner is_same_type (types q.messages) j m.mtype apart its_type at_j k t at
+          (omega (arith, far)) far)
 
       -- the one below it is followed by the one above it
       pub type_lower : suc k ≡ j → type_entry left t ≡ record (type_entry q t) { higher = entry.higher }
       type_lower here = made t _ _ (place_other k t at (omega (arith, here)))
-          (moved_before t ∙ before_sooner is_same_type (types q.messages) j m.mtype apart its_type at_j k t at (omega (arith, here)))
-          (moved_behind t ∙ behind_previous is_same_type (types q.messages) j m.mtype apart its_type at_j k t at (omega (arith, here)) here)
+          (moved_before t ∙ before_sooner is_same_type (types q.messages) j m.mtype apart its_type at_j k t at
+          (omega (arith, here)))
+          (moved_behind t ∙ behind_previous is_same_type (types q.messages) j m.mtype apart its_type at_j k t at
+          (omega (arith, here)) here)
 
     module _ (k : ℕ) (t : ℤ) (at : slice_get (types q.messages) (suc k) ≡ Some t) where
       -- the one above it follows the one below it
       pub type_higher : k ≡ j → type_entry left t ≡ record (type_entry q t) { lower = entry.lower }
       type_higher here = made t _ _ (place_other (suc k) t at (omega (arith, here)))
-          (moved_before t ∙ before_next is_same_type (types q.messages) j m.mtype apart its_type at_j k t at (omega (arith, here)) here)
-          (moved_behind t ∙ behind_later is_same_type (types q.messages) j m.mtype apart its_type at_j k t at (omega (arith, here)))
+          (moved_before t ∙ before_next is_same_type (types q.messages) j m.mtype apart its_type at_j k t at
+          (omega (arith, here)) here)
+          (moved_behind t ∙ behind_later is_same_type (types q.messages) j m.mtype apart its_type at_j k t at
+          (omega (arith, here)))
 
       pub type_later : j < k → type_entry left t ≡ type_entry q t
       type_later far = made t _ _ (place_other (suc k) t at (omega (arith, far)))
-          (moved_before t ∙ before_later is_same_type (types q.messages) j m.mtype apart its_type at_j k t at (omega (arith, far)) far)
-          (moved_behind t ∙ behind_later is_same_type (types q.messages) j m.mtype apart its_type at_j k t at (omega (arith, far)))
+          (moved_before t ∙ before_later is_same_type (types q.messages) j m.mtype apart its_type at_j k t at
+          (omega (arith, far)) far)
+          (moved_behind t ∙ behind_later is_same_type (types q.messages) j m.mtype apart its_type at_j k t at
+          (omega (arith, far)))
 
     pub lower_is : entry.lower ≡ before_place (types q.messages) j
     lower_is = before_it is_same_type (types q.messages) j m.mtype apart its_type at_j

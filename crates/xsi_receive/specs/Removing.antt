@@ -81,10 +81,12 @@ to_lower lower = links.Type (record { first = None; last = None; lower = link_to
 -- ---- the writes
 
 abbrev pub previous_write : ℕ → Removal → Option Write
-previous_write id r = option_map (λ (serial : ℕ). Relink (key_of_message id serial) (to_next r.message.next)) r.message.previous
+previous_write id r = option_map (λ (serial : ℕ). Relink (key_of_message id serial) (to_next r.message.next))
+    r.message.previous
 
 abbrev pub next_write : ℕ → Removal → Option Write
-next_write id r = option_map (λ (serial : ℕ). Relink (key_of_message id serial) (to_previous r.message.previous)) r.message.next
+next_write id r = option_map (λ (serial : ℕ). Relink (key_of_message id serial) (to_previous r.message.previous))
+    r.message.next
 
 abbrev pub own_by : ℕ → ℤ → TypeLeft → Option Write
 own_by id mtype (Begins first) = Some (Relink (key_of_type id mtype) (to_first first))

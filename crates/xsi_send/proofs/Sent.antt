@@ -93,7 +93,8 @@ module _ (c : Caller) (a : SendArguments) (e : QueueEntry) (s : State) (filed : 
     right_at (Between low high) is =
         let first = queue_is c a e s filed known in
         subst (λ (p : Plan). IsRightPlan a.id p (record_of s) (record_of t)) (sym (λ i. between (first i) low high))
-        (right_between c a e s filed known low high is (last_of (serials q.messages)) (last_with q.messages) last_serial)
+        (right_between c a e s filed known low high is (last_of (serials q.messages)) (last_with q.messages)
+        last_serial)
 
     pub right_sent : (place : TypePlace) → IsPlaceOf a.mtype place known.queue →
         IsRightPlan a.id (plan_at c.pid a (Done e place)) (record_of s)

@@ -117,7 +117,8 @@ module _ (c : Caller) (a : SendArguments) (e : QueueEntry) (s : State) (filed : 
           (subst (λ ts. Contains ts u) between.split has)) [
             | inl first ↦ less_apart u a.mtype (All-contains (λ (v : ℤ). v <ℤ a.mtype) between.below u between.less
                 first) same
-            | inr later ↦ less_apart a.mtype u (All-contains (λ (v : ℤ). a.mtype <ℤ v) between.above u between.more later)
+            | inr later ↦ less_apart a.mtype u (All-contains (λ (v : ℤ). a.mtype <ℤ v) between.above u between.more
+                later)
                 (sym same)
           ]
 
@@ -264,7 +265,8 @@ module _ (c : Caller) (a : SendArguments) (e : QueueEntry) (s : State) (filed : 
               (All-nil _, tt),
             );
             writes = somes_ascend slots (
-              All-cons (InSlot before) links (lowers ∷ highers ∷ []) (slot_all before end_write ends (λ n is. inl first_less))
+              All-cons (InSlot before) links (lowers ∷ highers ∷ [])
+                  (slot_all before end_write ends (λ n is. inl first_less))
                   (All-cons (InSlot before) lowers (highers ∷ [])
                   (slot_all before below_write low (λ u is. inl type_less))
                   (All-cons (InSlot before) highers [] (slot_all before above_write high (λ u is. inl type_less))

@@ -206,7 +206,8 @@ module _ (c : Caller) (a : SendArguments) (e : QueueEntry) (s : State) (filed : 
         (on_queue ≡ true → last_of q.messages ≡ Some x) → (on_queue ≡ false → last_of q.messages ≡ Some x → ⊥) →
         (of_type ≡ true → (x.mtype ≡ a.mtype) × (last_of (filter (is_of_type a.mtype) q.messages) ≡ Some x)) →
         (of_type ≡ false → (x.mtype ≡ a.mtype) × (last_of (filter (is_of_type a.mtype) q.messages) ≡ Some x) → ⊥) →
-        Fills old_records new_records (Relink (key_of_message q.id x.serial) (links_behind q.next_serial on_queue of_type))
+        Fills old_records new_records (Relink (key_of_message q.id x.serial)
+        (links_behind q.next_serial on_queue of_type))
     linked_fills x there on_queue of_type last no_last typed no_typed =
         let turn = option_map (relinked (links_behind q.next_serial on_queue of_type)) in
         let stood = message_stands s filed.lawful q its_stands x there in

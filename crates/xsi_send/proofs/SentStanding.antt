@@ -177,7 +177,8 @@ module _ (c : Caller) (a : SendArguments) (e : QueueEntry) (s : State) (filed : 
                     (inr (
                       refl,
                       less_than_last c a e s filed known x y y_there last
-                          (λ same. apart (at ∙ no) (sym (serial_tells (lawful_q c a e s filed known) y x y_there x_there same))),
+                          (λ same. apart (at ∙ no) (sym
+                          (serial_tells (lawful_q c a e s filed known) y x y_there x_there same))),
                     ))
                     (All-cons (InSlot (IsBefore typed_end)) its [] (inl links_less) (All-nil _))) is,
                 (All-cons (InSlot (IsBefore (queue_end b))) its [] (inl links_less) (All-nil _), (All-nil _, tt)),
@@ -185,7 +186,8 @@ module _ (c : Caller) (a : SendArguments) (e : QueueEntry) (s : State) (filed : 
             );
           }
 
-      pub right_standing : (b : Bool) → (x.serial == y.serial) ≡ b → IsRightPlan a.id (plan b) (record_of s) (record_of t)
+      pub right_standing : (b : Bool) → (x.serial == y.serial) ≡ b
+          → IsRightPlan a.id (plan b) (record_of s) (record_of t)
       right_standing b is = record {
         leads = leads_by old_records new_records (plan b) (no_message c a e s filed known, tt)
             (All-cons (IsNew old_records new_records) message_trial [] (message_new c a e s filed known) (All-nil _))

@@ -124,7 +124,8 @@ last_with ms serial last =
     mapped (λ (m : Message). m.serial) (last_of ms) serial (sym (last-map (λ (m : Message). m.serial) ms) ∙ last)
 
 -- serials tell the messages of a lawful queue apart
-pub serial_tells : {q : Queue} (lawful : IsLawfulQueue q) (m n : Message) → Contains q.messages m → Contains q.messages n →
+pub serial_tells : {q : Queue} (lawful : IsLawfulQueue q) (m n : Message) → Contains q.messages m
+    → Contains q.messages n →
     m.serial ≡ n.serial → m ≡ n
 serial_tells {q} lawful m n first second same =
     let one = by_one m first in
@@ -206,7 +207,8 @@ module _ (c : Caller) (a : SendArguments) (e : QueueEntry) (s : State) (filed : 
 
     -- where the type's last serial is the queue's, so is its last message
     pub last_is_queues : (there : Contains (types known.queue.messages) a.mtype) →
-        e.last ≡ Some (type_entry known.queue a.mtype).last → last_of (filter (is_of_type a.mtype) known.queue.messages) ≡ last_of known.queue.messages
+        e.last ≡ Some (type_entry known.queue a.mtype).last
+        → last_of (filter (is_of_type a.mtype) known.queue.messages) ≡ last_of known.queue.messages
     last_is_queues standing same =
         let (m, is, has) = last_typed_there standing in
         let (n, last, its) = last_there (type_entry q a.mtype).last same in

@@ -50,7 +50,8 @@ module _ (c : Caller) (a : SendArguments) (e : QueueEntry) (s : State) (filed : 
     -- ---- on the way up
 
     -- the type that is read next stands
-    pub next_there : (low : Option ℤ) (next : ℤ) (left : ℕ) (walked : IsWalked a.mtype (walk low next left) known.queue) →
+    pub next_there : (low : Option ℤ) (next : ℤ) (left : ℕ)
+        (walked : IsWalked a.mtype (walk low next left) known.queue) →
         Contains (types known.queue.messages) next
     next_there low next left walked = subst (λ ts. Contains ts next) (sym walked.split) (contains_at walked.walked
         walked.rest next)
@@ -65,13 +66,15 @@ module _ (c : Caller) (a : SendArguments) (e : QueueEntry) (s : State) (filed : 
         AllPairs (λ (a b : ℤ). a <ℤ b) (walked.walked ++ next ∷ walked.rest)
     ascend low next left walked = subst (λ ts. AllPairs (λ (a b : ℤ). a <ℤ b) ts) walked.split (types_ascend q.messages)
 
-    pub next_higher : (low : Option ℤ) (next : ℤ) (left : ℕ) (walked : IsWalked a.mtype (walk low next left) known.queue) →
+    pub next_higher : (low : Option ℤ) (next : ℤ) (left : ℕ)
+        (walked : IsWalked a.mtype (walk low next left) known.queue) →
         (type_entry known.queue next).higher ≡ first_of walked.rest
     next_higher low next left walked = ap (behind (is_same_type next)) walked.split
         ∙ higher_is walked.walked walked.rest next (ascend low next left walked)
 
     -- it is another than the message's
-    pub next_apart : (low : Option ℤ) (next : ℤ) (left : ℕ) → IsWalked a.mtype (walk low next left) known.queue → next ≢ a.mtype
+    pub next_apart : (low : Option ℤ) (next : ℤ) (left : ℕ) → IsWalked a.mtype (walk low next left) known.queue
+        → next ≢ a.mtype
     next_apart low next left walked = All-contains (λ (t : ℤ). t ≢ a.mtype) (types q.messages) next walked.absent
         (next_there low next left walked)
 
@@ -145,7 +148,8 @@ module _ (c : Caller) (a : SendArguments) (e : QueueEntry) (s : State) (filed : 
         }
 
     -- and further up each time
-    pub walk_ascends : (low : Option ℤ) (next : ℤ) (left : ℕ) (higher : ℤ) → IsWalked a.mtype (walk low next left) known.queue →
+    pub walk_ascends : (low : Option ℤ) (next : ℤ) (left : ℕ) (higher : ℤ)
+        → IsWalked a.mtype (walk low next left) known.queue →
         (type_entry known.queue next).higher ≡ Some higher → next <ℤ higher
     walk_ascends low next left higher walked is =
         let there = in_first walked.rest higher (sym (next_higher low next left walked) ∙ is) in
@@ -153,7 +157,8 @@ module _ (c : Caller) (a : SendArguments) (e : QueueEntry) (s : State) (filed : 
         (pairs_back (λ (a b : ℤ). a <ℤ b) walked.walked walked.rest next (ascend low next left walked)) there
 
     -- it ends at a type that is greater
-    pub walk_ends_above : (low : Option ℤ) (next : ℤ) (left : ℕ) → IsWalked a.mtype (walk low next left) known.queue → a.mtype <ℤ next →
+    pub walk_ends_above : (low : Option ℤ) (next : ℤ) (left : ℕ) → IsWalked a.mtype (walk low next left) known.queue
+        → a.mtype <ℤ next →
         IsBetween a.mtype low (Some next) known.queue
     walk_ends_above low next left walked more = record {
       below = walked.walked;
@@ -168,7 +173,8 @@ module _ (c : Caller) (a : SendArguments) (e : QueueEntry) (s : State) (filed : 
     }
 
     -- or behind the highest
-    pub walk_ends_behind : (low : Option ℤ) (next : ℤ) (left : ℕ) → IsWalked a.mtype (walk low next left) known.queue → next <ℤ a.mtype →
+    pub walk_ends_behind : (low : Option ℤ) (next : ℤ) (left : ℕ) → IsWalked a.mtype (walk low next left) known.queue
+        → next <ℤ a.mtype →
         (type_entry known.queue next).higher ≡ None →
         IsBetween a.mtype (Some next) None known.queue
     walk_ends_behind low next left walked less is =
@@ -198,7 +204,8 @@ module _ (c : Caller) (a : SendArguments) (e : QueueEntry) (s : State) (filed : 
     lowest_fits lowest is = type_fits lowest (in_first (types q.messages) lowest
         (sym (ap (λ (x : QueueEntry). x.lowest) known.entry) ∙ is))
 
-    pub higher_fits : (low : Option ℤ) (next : ℤ) (left : ℕ) (higher : ℤ) → IsWalked a.mtype (walk low next left) known.queue →
+    pub higher_fits : (low : Option ℤ) (next : ℤ) (left : ℕ) (higher : ℤ)
+        → IsWalked a.mtype (walk low next left) known.queue →
         (type_entry known.queue next).higher ≡ Some higher → FitsSigned w64 higher
     higher_fits low next left higher walked is = type_fits higher (subst (λ ts. Contains ts higher) (sym walked.split)
         (Contains-append_right walked.walked (next ∷ walked.rest) higher (contains_tail next higher walked.rest

@@ -23,7 +23,8 @@ touch-requires g c = within_if_found _ c.in-Some.frame c.args.page
 pub returns-in_err-payload-clause-cause : goal.returns-in_err-payload-clause-cause
 returns-in_err-payload-clause-cause g c =
     handed_on c.from_residual-in_err-payload.result (Device c.in_err-payload.field-0.0)
-    c.from_residual-in_err-payload.ensures.1 (PoolHasCause (MayBeUnread (g.D.PageDevice.is_honest c.args.device.now) c.args.page (g.D.PageDevice.content c.args.device.now)
+    c.from_residual-in_err-payload.ensures.1 (PoolHasCause
+    (MayBeUnread (g.D.PageDevice.is_honest c.args.device.now) c.args.page (g.D.PageDevice.content c.args.device.now)
     (images_of (g.D.PageDevice.content c.args.device.now) c.args.table.now)) _ _)
     (rw c.in_err-payload.ensures.bad_digest (record {
       later = c.read.ensures.cause.later;

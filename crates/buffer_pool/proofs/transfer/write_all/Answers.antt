@@ -21,7 +21,8 @@ loop-frame-preserved g c =
       };
       honest = now.device.honest ∙ before.honest;
       later = let first = before.later in let next = now.cause.later in omega arith;
-      seals = λ is n was. let honest = rw (← before.honest) at is in c.in_ok-write_back.ensures.device.seals honest refl n
+      seals = λ is n was. let honest = rw (← before.honest) at is in c.in_ok-write_back.ensures.device.seals honest
+          refl n
           (before.seals is n was);
     }
   where

@@ -24,7 +24,8 @@ returns-in_err-write-clause-cause g c =
     let here = sym c.page.ensures ∙ c.in-Some.is in
     let within = page_within _ _ _ c.requires.sound c.args.frame c.in-Some.page here in
     handed_on c.from_residual.result c.in_err-write.field-0.0 c.from_residual.ensures.1 (HasCause MayOnlyFail _ _)
-    (only_fails c.in_err-write.field-0.0 _ _ _ c.in-Some.page c.in_err-write.ensures.cause c.in_err-write.ensures.past within)
+    (only_fails c.in_err-write.field-0.0 _ _ _ c.in-Some.page c.in_err-write.ensures.cause
+    c.in_err-write.ensures.past within)
 
 pub returns-clause-sound : goal.returns-clause-sound
 returns-clause-sound g c =

@@ -23,8 +23,10 @@ loop-reached-preserved c =
     record {
       within = subst (λ n. n ≤ POSITIONS) (sym c.stop-reached.ensures) (range_stop c.in-Some.bucket.range tile.valid);
       right =
-          subst (λ n. IsChainSoFar c.args.file.now c.push.new.self.items n c.in-Some.bucket.next) (sym c.stop-reached.ensures)
-          (subst (λ (ns : List ℕ). IsChainSoFar c.args.file.now ns (stop_of c.in-Some.bucket.range) c.in-Some.bucket.next)
+          subst (λ n. IsChainSoFar c.args.file.now c.push.new.self.items n c.in-Some.bucket.next)
+          (sym c.stop-reached.ensures)
+          (subst (λ (ns : List ℕ). IsChainSoFar c.args.file.now ns (stop_of c.in-Some.bucket.range)
+          c.in-Some.bucket.next)
           (sym c.in_ok-push.ensures.items)
           (chain_goes_on c.args.file.now _ _ _ _ c.loop-reached.invariant.right c.in-Some.ensures.some tile));
     }

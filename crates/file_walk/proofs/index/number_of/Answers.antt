@@ -14,7 +14,8 @@ loop-page-preserved c =
     elim c.if-local_depth-depth.branch [
       | then-local_depth-depth w ↦
           let same = w.if-local_depth-depth.true in
-          let is : ((bucket_at c.args.file.now (slice_index_or c.args.chain.now c.loop-page.page-index 0)).depth == c.args.depth) ≡ true =
+          let is : ((bucket_at c.args.file.now (slice_index_or c.args.chain.now c.loop-page.page-index 0)).depth ==
+          c.args.depth) ≡ true =
           grind (arith, nat_tests) in
           record {
             small = let more = w.number-is in omega arith;
@@ -23,7 +24,8 @@ loop-page-preserved c =
           }
       | else-local_depth-depth w ↦
           let other = w.if-local_depth-depth.false in
-          let is : ((bucket_at c.args.file.now (slice_index_or c.args.chain.now c.loop-page.page-index 0)).depth == c.args.depth) ≡ false =
+          let is : ((bucket_at c.args.file.now (slice_index_or c.args.chain.now c.loop-page.page-index 0)).depth ==
+          c.args.depth) ≡ false =
           grind (arith, nat_tests) in
           record {
             small = let same = w.number-is in omega arith;

@@ -39,7 +39,8 @@ returns-in_err-take_entries-clause-err g c = λ is.
     let before = c.loop-page.invariant in
     let within : c.loop-page.page < length (g.D.PageDevice.content c.args.device.now) =
     let long = c.requires.whole in let here = c.loop-page-test.true in omega arith in
-    let p = err_from_is_err_and c.from_residual-in_err-take_entries.result c.from_residual-in_err-take_entries.ensures.1 in
+    let p = err_from_is_err_and c.from_residual-in_err-take_entries.result
+    c.from_residual-in_err-take_entries.ensures.1 in
     rw (p.1, p.2) (first_wrong _ _ _ _ _ before.read.same (before.read.right is) c.loop-page.auto.page within
     (c.in_err-take_entries.ensures.err (subst IsTrue (sym before.read.honesty) is)))
 
@@ -48,8 +49,10 @@ returns-clause-ok g c =
     let before = c.loop-page.invariant in
     let ended : c.loop-page.page ≡ ROOT_PAGE = omega (arith, c.loop-page.auto.page-end, c.loop-page-test.false) in
     record {
-      number = entries_number (g.D.PageDevice.content c.args.device.now) _ _ _ _ c.requires.depth c.entries_at-most.ensures
+      number = entries_number (g.D.PageDevice.content c.args.device.now) _ _ _ _ c.requires.depth
+          c.entries_at-most.ensures
           ended before.number;
-      right = λ is. subst (AreRight (g.D.PageDevice.content c.args.device.now) FIRST_DIRECTORY_PAGE) ended (before.read.right is);
+      right = λ is. subst (AreRight (g.D.PageDevice.content c.args.device.now) FIRST_DIRECTORY_PAGE) ended
+          (before.read.right is);
       value = λ is. entries_whole _ _ _ _ _ c.requires.depth c.entries_at-most.ensures ended (before.value is);
     }

@@ -16,7 +16,8 @@ loop-page-init g c =
     record {
       read = read_none g.D.PageDevice.content g.D.PageDevice.is_honest g.D.PageDevice.fault_count _ _;
       number = ap length items ∙ length-replicate ROOT_PAGE forms.Other;
-      low = ap (take ROOT_PAGE) items ∙ take_all ROOT_PAGE _ (subst (λ n. n ≤ ROOT_PAGE) (sym (length-replicate ROOT_PAGE forms.Other)) (lit≤ tt));
+      low = ap (take ROOT_PAGE) items ∙ take_all ROOT_PAGE _
+          (subst (λ n. n ≤ ROOT_PAGE) (sym (length-replicate ROOT_PAGE forms.Other)) (lit≤ tt));
       value = λ is. ap (map shown) items ∙ forms_start _;
     }
 
@@ -30,10 +31,12 @@ loop-page-preserved g c =
       read = read_more g.D.PageDevice.content g.D.PageDevice.is_honest g.D.PageDevice.fault_count _ _ _ _ _ before.read
           taken.same taken.honest taken.cause.later (λ is. (taken.ok is).right);
       number =
-          ap length c.in_ok-push.ensures.items ∙ length-append c.loop-page.forms.items _ ∙ ap (λ n. n + 1) before.number;
+          ap length c.in_ok-push.ensures.items ∙ length-append c.loop-page.forms.items _
+          ∙ ap (λ n. n + 1) before.number;
       low =
           ap (take ROOT_PAGE) c.in_ok-push.ensures.items
-          ∙ take-append-le ROOT_PAGE c.loop-page.forms.items _ (subst (λ n. ROOT_PAGE ≤ n) (sym before.number) c.loop-page.auto.page)
+          ∙ take-append-le ROOT_PAGE c.loop-page.forms.items _
+          (subst (λ n. ROOT_PAGE ≤ n) (sym before.number) c.loop-page.auto.page)
           ∙ before.low;
       value = λ is.
           ap (map shown) c.in_ok-push.ensures.items
@@ -55,7 +58,12 @@ pub returns-clause-ok : goal.returns-clause-ok
 returns-clause-ok g c =
     let before = c.loop-page.invariant in
     let ended : c.loop-page.page ≡ length (g.D.PageDevice.content c.args.device.now) =
-    let whole = c.requires.whole in omega (arith, c.loop-page.auto.page-end, c.loop-page-test.false, c.requires.least) in
+    let whole = c.requires.whole in omega (
+      arith,
+      c.loop-page.auto.page-end,
+      c.loop-page-test.false,
+      c.requires.least,
+    ) in
     let long : ROOT_PAGE ≤ length (g.D.PageDevice.content c.args.device.now) =
     let whole = c.requires.whole in let least = c.requires.least in omega arith in
     record {

@@ -19,7 +19,8 @@ loop-slot-preserved c =
       kept =
           c.in_ok-push.ensures.items
           ∙ ap (λ e. c.loop-slot.entries.items ++ e ∷ []) c.entry.ensures
-          ∙ kept_more c.args.most c.args.entries.now.items c.args.directory.now c.loop-slot.entries.items c.loop-slot.slot
+          ∙ kept_more c.args.most c.args.entries.now.items c.args.directory.now c.loop-slot.entries.items
+          c.loop-slot.slot
           (subst (λ n. c.loop-slot.slot < n) (sym c.requires.whole) c.loop-slot-test.true)
           c.loop-slot.invariant.kept;
     }

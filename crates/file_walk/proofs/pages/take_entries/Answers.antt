@@ -16,14 +16,17 @@ returns-in-Err-clause-err g c = λ honest.
 pub returns-in-Ok-Bucket-clause-err : goal.returns-in-Ok-Bucket-clause-err
 returns-in-Ok-Bucket-clause-err g c = λ honest.
     let e = rw c.in-Ok-Bucket.field-0-is at c.in-Ok-Bucket.ensures.value in
-    inr (directory_misplaced _ _ _ _ _ (c.in_ok-read_sealed.ensures.ok honest) e c.requires.below refl c.misplaced.ensures)
+    inr (directory_misplaced _ _ _ _ _ (c.in_ok-read_sealed.ensures.ok honest) e c.requires.below refl
+    c.misplaced.ensures)
 
 pub returns-in-Ok-Tombstone-clause-err : goal.returns-in-Ok-Tombstone-clause-err
 returns-in-Ok-Tombstone-clause-err g c = λ honest.
     let e = rw c.in-Ok-Tombstone.field-0-is at c.in-Ok-Tombstone.ensures.value in
-    inr (directory_misplaced _ _ _ _ _ (c.in_ok-read_sealed.ensures.ok honest) e c.requires.below refl c.misplaced-in-Ok-Tombstone.ensures)
+    inr (directory_misplaced _ _ _ _ _ (c.in_ok-read_sealed.ensures.ok honest) e c.requires.below refl
+    c.misplaced-in-Ok-Tombstone.ensures)
 
 pub returns-in-Ok-Free-clause-err : goal.returns-in-Ok-Free-clause-err
 returns-in-Ok-Free-clause-err g c = λ honest.
     let e = rw c.in-Ok-Free.field-0-is at c.in-Ok-Free.ensures.value in
-    inr (directory_misplaced _ _ _ _ _ (c.in_ok-read_sealed.ensures.ok honest) e c.requires.below refl c.misplaced-in-Ok-Free.ensures)
+    inr (directory_misplaced _ _ _ _ _ (c.in_ok-read_sealed.ensures.ok honest) e c.requires.below refl
+    c.misplaced-in-Ok-Free.ensures)

@@ -8,7 +8,8 @@ pub walk-init : goal.walk-init
 walk-init c =
     subst (AreWalked c.args.file.now c.args.chain.now c.in_ok-marks.marks.items) (sym c.first_free-page.ensures)
     (walk_begun c.args.file.now c.args.chain.now c.in_ok-marks.marks.items
-    (subst (λ n. AreMarked n c.args.chain.now c.in_ok-marks.marks.items) c.pages.ensures.value c.in_ok-marks.ensures.marked))
+    (subst (λ n. AreMarked n c.args.chain.now c.in_ok-marks.marks.items) c.pages.ensures.value
+    c.in_ok-marks.ensures.marked))
 
 pub index-requires : goal.index-requires
 index-requires c =
@@ -49,7 +50,8 @@ pub returns-then-index-clause-err : goal.returns-then-index-clause-err
 returns-then-index-clause-err c =
     let f = c.in-Some.ensures.some in
     let within = subst (λ n. c.walk.page < n) (sym c.walk.invariant.marked.number) f.within in
-    inr (walk_met _ _ _ _ c.walk.invariant c.walk-test.true (mark_read _ _ _ true within c.index.ensures c.if-index.true))
+    inr (walk_met _ _ _ _ c.walk.invariant c.walk-test.true
+    (mark_read _ _ _ true within c.index.ensures c.if-index.true))
 
 pub returns-clause-ok : goal.returns-clause-ok
 returns-clause-ok c =

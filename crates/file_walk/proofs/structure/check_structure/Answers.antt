@@ -25,7 +25,8 @@ returns-in_err-chain-clause-cause g c =
 
 pub returns-in_err-test_spares-clause-err : goal.returns-in_err-test_spares-clause-err
 returns-in_err-test_spares-clause-err g c = λ is.
-    let p = err_from_is_err_and c.from_residual-in_err-test_spares.result c.from_residual-in_err-test_spares.ensures.1 in
+    let p = err_from_is_err_and c.from_residual-in_err-test_spares.result
+    c.from_residual-in_err-test_spares.ensures.1 in
     rw (p.1, p.2) (spares_first _ _ _ (c.in_ok-outline.ensures.ok is) _ c.in_ok-chain.ensures.ok
     (subst (λ (ns : List ℕ). LacksMemory c.in_err-test_spares.field-0.0
     ⊎ IsSparesFault c.in_ok-outline.outline ns c.in_err-test_spares.field-0.0) c.deref.ensures.value
@@ -33,13 +34,15 @@ returns-in_err-test_spares-clause-err g c = λ is.
 
 pub returns-in_err-test_spares-clause-cause : goal.returns-in_err-test_spares-clause-cause
 returns-in_err-test_spares-clause-cause g c =
-    let p = err_from_is_err_and c.from_residual-in_err-test_spares.result c.from_residual-in_err-test_spares.ensures.1 in
+    let p = err_from_is_err_and c.from_residual-in_err-test_spares.result
+    c.from_residual-in_err-test_spares.ensures.1 in
     rw (p.1, p.2) (no_transfer (IsSparesFault c.in_ok-outline.outline c.deref.result.now) _ _ _
     c.in_ok-outline.ensures.cause.later c.in_err-test_spares.ensures.err (λ h. h))
 
 pub returns-in_err-test_directory-clause-err : goal.returns-in_err-test_directory-clause-err
 returns-in_err-test_directory-clause-err g c = λ is.
-    let p = err_from_is_err_and c.from_residual-in_err-test_directory.result c.from_residual-in_err-test_directory.ensures.1 in
+    let p = err_from_is_err_and c.from_residual-in_err-test_directory.result
+    c.from_residual-in_err-test_directory.ensures.1 in
     rw (p.1, p.2) (directory_first _ _ _ (c.in_ok-outline.ensures.ok is) _ c.in_ok-chain.ensures.ok
     (subst (HasRightSpares c.in_ok-outline.outline) c.deref.ensures.value c.in_ok-test_spares.ensures.ok)
     (subst (λ (ns : List ℕ). IsDirectoryFault c.in_ok-outline.outline ns c.in_err-test_directory.field-0.0)

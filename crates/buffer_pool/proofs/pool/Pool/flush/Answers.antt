@@ -6,5 +6,6 @@ use Rattle.buffer_pool.proofs.pool.Pool.flush.Goals as goal
 pub returns-clause-ok : goal.returns-clause-ok
 returns-clause-ok g c = λ is.
     let honest = rw (← c.self.view_is, ← c.write_all.ensures.device.honest) at is in
-    payloads_if_clean _ _ _ c.write_all.ensures.sound honest c.in_ok-write_all.ensures.ok.clean ∙ c.write_all.ensures.images
+    payloads_if_clean _ _ _ c.write_all.ensures.sound honest c.in_ok-write_all.ensures.ok.clean
+    ∙ c.write_all.ensures.images
     ∙ ap (λ s. s.images) c.self.view_is

@@ -10,7 +10,8 @@ use Rattle.buffer_pool.proofs.pool.Pool.pin.Goals as goal
 
 pub invariant_of-self-2 : goal.invariant_of-self-2
 invariant_of-self-2 g c =
-    rw c.pin.ensures (IsSound-with_pins _ _ _ c.bring_in.ensures.sound c.args.page _ (some_place _ c.in_ok-bring_in.ensures.ok))
+    rw c.pin.ensures (IsSound-with_pins _ _ _ c.bring_in.ensures.sound c.args.page _
+    (some_place _ c.in_ok-bring_in.ensures.ok))
 
 pub returns-clause-keeps : goal.returns-clause-keeps
 returns-clause-keeps g c =
@@ -45,5 +46,6 @@ returns-in_err-bring_in-clause-cause g c =
     handed_on c.from_residual.result fault c.from_residual.ensures.1
     (PoolHasCause (MayNotPin c.args.page c.args.self.now) c.args.self.now.faults count)
     (pin_told c.args.self.now c.args.page fault
-    (subst (λ (s : PoolState). PoolHasCause {T = Unit {0}} (MayBeUnread s.honest c.args.page s.stored s.images) s.faults count (Err fault))
+    (subst (λ (s : PoolState). PoolHasCause {T = Unit {0}} (MayBeUnread s.honest c.args.page s.stored s.images)
+    s.faults count (Err fault))
     c.self.view_is c.in_err-bring_in.ensures.cause))

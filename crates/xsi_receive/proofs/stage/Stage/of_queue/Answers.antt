@@ -20,7 +20,8 @@ returns-in_default-lowest-clause-knows c room s filed has entry =
     let test = simp to_z-of_z at c.if-arguments-lt0.true in
     let below : c.args.arguments.now.mtype <ℤ pos 0 = grind (arith, ints, test) in
     let may = rw c.permissions_in.ensures at (sym c.keeps_out.ensures ∙ c.if-keeps_out.false) in
-    rw c.put_off-in_default-lowest.ensures (knows_none c.args.caller c.args.arguments.now c.args.queue s entry room filed
+    rw c.put_off-in_default-lowest.ensures (knows_none c.args.caller c.args.arguments.now c.args.queue s entry room
+    filed
     may below c.in_default-lowest.is)
 
 -- the lowest type is out of range

@@ -9,7 +9,8 @@ returns-then-has_none-clause-told c s filed knows told =
     let known = rw c.in-AtType.is at knows in
     let it = rw c.in-AtType.is at told in
     let none = is_absent c.args.found _ (sym c.has_none.ensures ∙ c.if-has_none.true) in
-    rw c.put_off.ensures (nothing_of_type c.args.caller c.args.arguments.now c.in-AtType.queue s filed c.in-AtType.field-1
+    rw c.put_off.ensures (nothing_of_type c.args.caller c.args.arguments.now c.in-AtType.queue s filed
+    c.in-AtType.field-1
     known.1 c.args.room.now c.args.found it none)
 
 -- else its Type stands
@@ -78,7 +79,8 @@ returns-in_err-entry-in-AtTypeOf-clause-told c s filed knows told =
     let known = rw c.in-AtTypeOf.is at knows in
     let it = rw c.in-AtTypeOf.is at told in
     absurd (last_type_is_found c.args.caller c.args.arguments.now s filed c.args.found c.in-AtTypeOf.queue
-    c.in-AtTypeOf.head c.args.room.now known.0 it c.type_found-in-AtTypeOf.result c.type_found-in-AtTypeOf.ensures.only _
+    c.in-AtTypeOf.head c.args.room.now known.0 it c.type_found-in-AtTypeOf.result
+    c.type_found-in-AtTypeOf.ensures.only _
     c.in_err-entry-in-AtTypeOf.was)
 
 pub returns-in_ok-entry-in-AtTypeOf-clause-told : goal.returns-in_ok-entry-in-AtTypeOf-clause-told
