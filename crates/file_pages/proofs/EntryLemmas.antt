@@ -1,6 +1,6 @@
 -- The file once a page of its directory was written: each of its entries is made of its place and itself.
-use Rattle.std.proofs.Common.{◌≡◌, ◌≢◌, refl, ◌∙◌, sym, ap, subst, ℕ, zero, suc, ◌+◌, ◌-◌, ◌<◌, ◌≤◌, ◌^◌, ◌==◌, Bool, true, false, ◌&&◌, List, [], ◌∷◌, ◌++◌, length, arith}
-use Rattle.std.proofs.Common.{◌⊎◌, inl, inr, slice_index_or, slice_set, if◌then◌else◌, nat_lt}
+use Rattle.std.proofs.Common.{◌≡◌, refl, ◌∙◌, sym, ap, subst, ℕ, zero, suc, ◌+◌, ◌-◌, ◌<◌, ◌≤◌, ◌^◌, ◌==◌, Bool, true, false, ◌&&◌, List, [], ◌∷◌, ◌++◌, length, arith}
+use Rattle.std.proofs.Common.{◌⊎◌, inl, inr, if◌then◌else◌, nat_lt}
 use Rattle.std.proofs.lemmas.Bool.{cases_eq, eq-eqb, lt-ltb, ne_eqb}
 use Rattle.std.proofs.lemmas.List.{get_or-set_same, length-set}
 use Rattle.bucket_page.specs.declared.page.PageKind.TheVariants as kinds
@@ -42,7 +42,8 @@ module _ (images : List (List ℕ)) (n : ℕ) (new : List ℕ) (first : FIRST_DI
 
   -- the entries that stand on the page become what they are made of, and the others stay
   module _ (ask : ℕ → Bool) (become : ℕ → ℕ)
-      (on : (i : ℕ) → i < 2 ^ GREATEST_DEPTH → page_of i ≡ n → entry_in new i ≡ (if ask i then become i else entry_on images i)) where
+      (on : (i : ℕ) → i < 2 ^ GREATEST_DEPTH → page_of i ≡ n
+      → entry_in new i ≡ (if ask i then become i else entry_on images i)) where
     abbrev change : ℕ → ℕ → ℕ
     change i e = if page_of i == n && ask i then become i else e
 
@@ -81,7 +82,8 @@ module _ (images : List (List ℕ)) (n : ℕ) (new : List ℕ) (first : FIRST_DI
         kind k (inr other) = ap (λ (bytes : List ℕ). if nat_lt k ROOT_PAGE then kinds.Free 0 else page_in bytes)
             (other_image images n new k other)
 
-        pages : listed (length (after images n new)) (kind_on (after images n new)) ≡ listed (length images) (kind_on images)
+        pages : listed (length (after images n new)) (kind_on (after images n new))
+            ≡ listed (length images) (kind_on images)
         pages =
             ap (λ (m : ℕ). listed m (kind_on (after images n new))) (length-set images n new)
             ∙ listed_same (length images) (kind_on images) (kind_on (after images n new)) (λ k _. kind k (cases_eq k n))
@@ -100,14 +102,16 @@ module _ (images : List (List ℕ)) (n : ℕ) (new : List ℕ) (first : FIRST_DI
       at : (m : ℕ) → FIRST_DIRECTORY_PAGE ≤ m → m ≤ DIRECTORY_PAGES → (m ≡ n) ⊎ (m ≡ n → ⊥)
           → IsDirectoryPage (image (after images n new) m)
       at m first' last' (inl same) = subst IsDirectoryPage (sym (ap (image (after images n new)) same ∙ new_image)) it
-      at m first' last' (inr other) = subst IsDirectoryPage (sym (other_image images n new m other)) (f.directory m first' last')
+      at m first' last' (inr other) = subst IsDirectoryPage (sym (other_image images n new m other))
+          (f.directory m first' last')
 
   -- the page whose upper half was copied from this one
   pub copied_set : (depth : ℕ) (old lower : List ℕ) → image images n ≡ old → IsLowerHalf n depth lower images
       → ((i : ℕ) → page_of i ≡ n → entry_in new i ≡ copied depth lower old i)
       → store_of (after images n new) ≡ copy_directory n (store_of images)
   copied_set depth old lower was half says =
-      directory_set (λ i. is_upper (store_of images).header.depth i) (λ i. entry_at (store_of images) (i - 2 ^ (store_of images).header.depth)) on
+      directory_set (λ i. is_upper (store_of images).header.depth i)
+      (λ i. entry_at (store_of images) (i - 2 ^ (store_of images).header.depth)) on
     where
       s : Store
       s = store_of images
@@ -124,7 +128,8 @@ module _ (images : List (List ℕ)) (n : ℕ) (new : List ℕ) (first : FIRST_DI
       pick i false small here test = ap (λ (p : List ℕ). entry_in p i) (sym was ∙ ap (image images) (sym here))
 
       on : (i : ℕ) → i < 2 ^ GREATEST_DEPTH → page_of i ≡ n
-          → entry_in new i ≡ (if is_upper s.header.depth i then entry_at s (i - 2 ^ s.header.depth) else entry_on images i)
+          → entry_in new i ≡ (if is_upper s.header.depth i then entry_at s (i - 2 ^ s.header.depth) else entry_on
+          images i)
       on i small here =
           says i here ∙ pick i (is_upper depth i) small here refl
           ∙ ap (λ (d : ℕ). if is_upper d i then entry_at s (i - 2 ^ d) else entry_on images i) same
@@ -141,5 +146,6 @@ module _ (images : List (List ℕ)) (n : ℕ) (new : List ℕ) (first : FIRST_DI
           → entry_in new i ≡ (if is_in_range (store_of images).header.depth range i then bucket else entry_on images i)
       on i small here =
           says i here
-          ∙ ap (λ (p : List ℕ). if is_in_range depth range i then bucket else entry_in p i) (sym was ∙ ap (image images) (sym here))
+          ∙ ap (λ (p : List ℕ). if is_in_range depth range i then bucket else entry_in p i)
+          (sym was ∙ ap (image images) (sym here))
           ∙ ap (λ (d : ℕ). if is_in_range d range i then bucket else entry_on images i) same

@@ -17,7 +17,8 @@ use Rattle.file_pages.proofs.StoreLemmas.{pages_are}
 use Rattle.file_pages.proofs.ReadLemmas.{risen_after}
 
 -- the header that was read is the file's, so what is written is the change of the file's
-pub header_changed : {T E : Type 0} (r : Result T E) (s t v : PoolState) (header changed : Header) (change : Header → Header)
+pub header_changed : {T E : Type 0} (r : Result T E) (s t v : PoolState) (header changed : Header)
+    (change : Header → Header)
     → IsTrue s.honest → OnlyReads true s t → header ≡ (store_of s.images).header → changed ≡ change header
     → (IsTrue t.honest → OnOk r (store_of v.images ≡ with_header changed (store_of t.images)))
     → OnOk r (store_of v.images ≡ with_header (change (store_of s.images).header) (store_of s.images))
@@ -33,7 +34,8 @@ nothing_changed (Ok value) s t v honest reads same = tt
 nothing_changed (Err fault) s t v honest reads same = same (reads.honest ∙ honest) ∙ reads.images honest
 
 -- why a write behind a read fails
-pub fails_after : {T E : Type 0} (r : Result T E) (s t v : PoolState) → IsTrue s.honest → IsFilePool s → OnlyReads true s t
+pub fails_after : {T E : Type 0} (r : Result T E) (s t v : PoolState) → IsTrue s.honest → IsFilePool s
+    → OnlyReads true s t
     → (IsTrue t.honest → IsFilePool t → IsErr r → HasRisen t.faults v.faults) → IsErr r → HasRisen s.faults v.faults
 fails_after r s t v honest file reads fault failed =
     risen_after reads.later (fault (reads.honest ∙ honest) (reads.file honest refl file) failed)
@@ -59,7 +61,10 @@ split_header h a b depth wholes halves whole half first second =
     let next : depth + 1 ≡ suc depth = omega arith in
     second ∙ ap (λ (g : Header). record g { counts = slice_set g.counts (depth + 1) (halves + 2) }) first
     ∙ (λ j. record h { counts = slice_set (slice_set h.counts depth (whole j - 1)) (next j) (half j + 2) })
-    ∙ ap (λ n. record h { counts = slice_set (slice_set h.counts depth (slice_index h.counts depth - 1)) (suc depth) (slice_index h.counts n + 2) }) next
+    ∙ ap (λ n. record h {
+      counts = slice_set (slice_set h.counts depth (slice_index h.counts depth - 1)) (suc depth)
+          (slice_index h.counts n + 2);
+    }) next
 
 pub merge_header : (h a b : Header) (depth wholes halves : ℕ) → wholes ≡ slice_index h.counts depth
     → halves ≡ slice_index h.counts (depth + 1) → a ≡ record h { counts = slice_set h.counts depth (wholes + 1) }
@@ -69,7 +74,10 @@ merge_header h a b depth wholes halves whole half first second =
     let next : depth + 1 ≡ suc depth = omega arith in
     second ∙ ap (λ (g : Header). record g { counts = slice_set g.counts (depth + 1) (halves - 2) }) first
     ∙ (λ j. record h { counts = slice_set (slice_set h.counts depth (whole j + 1)) (next j) (half j - 2) })
-    ∙ ap (λ n. record h { counts = slice_set (slice_set h.counts depth (slice_index h.counts depth + 1)) (suc depth) (slice_index h.counts n - 2) }) next
+    ∙ ap (λ n. record h {
+      counts = slice_set (slice_set h.counts depth (slice_index h.counts depth + 1)) (suc depth)
+          (slice_index h.counts n - 2);
+    }) next
 
 -- ---- the first free page
 

@@ -60,7 +60,8 @@ fails_to_store r s t v {page} honest file reads there fault failed =
     (subst (λ (images : List (List ℕ)). IsThere page (store_of images)) (sym (reads.images honest)) there))
 
 -- a page that was made of nothing, and stored
-pub stored_as : {T E : Type 0} (r : Result T E) (s v : PoolState) (page : ℕ) (new : List ℕ) (kind : PageKind) → Spells kind new
+pub stored_as : {T E : Type 0} (r : Result T E) (s v : PoolState) (page : ℕ) (new : List ℕ) (kind : PageKind)
+    → Spells kind new
     → OnOk r (store_of v.images ≡ with_page page (page_in new) (store_of s.images))
     → OnOk r (store_of v.images ≡ with_page page kind (store_of s.images))
 stored_as (Ok value) s v page new kind spells stored =

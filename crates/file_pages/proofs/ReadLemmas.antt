@@ -1,11 +1,9 @@
 -- A page that is pinned, read and given back: what the pool is then, and why it was not pinned.
-use Rattle.std.proofs.Common.{◌≡◌, refl, ◌∙◌, sym, ap, subst, ℕ, zero, suc, ◌+◌, ◌-◌, ◌<◌, ◌≤◌, List, [], ◌∷◌, Bool, true, false, IsTrue, Option, Some, None}
-use Rattle.std.proofs.Common.{length, arith, slice_get, slice_index_or, slice_set, Result, Ok, Err, IsErrOf, IfErr, IfOk, ◌⊎◌, inl, inr}
+use Rattle.std.proofs.Common.{◌≡◌, refl, ◌∙◌, sym, ap, subst, ℕ, zero, suc, ◌-◌, ◌<◌, ◌≤◌, List, [], Bool, true, IsTrue, Some}
+use Rattle.std.proofs.Common.{length, arith, slice_get, slice_set, Result, Ok, Err, IsErrOf, IfOk, ◌⊎◌, inl, inr}
 use Rattle.std.proofs.lemmas.Option.{get_or_from_slice_get}
-use Rattle.page_device.specs.declared.fault.DeviceFault.{DeviceFault}
 use Rattle.page_device.specs.declared.fault.DeviceFault.TheVariants as device
 use Rattle.page_device.specs.Device.{HasRisen}
-use Rattle.page_device.specs.Sealed.{IsSealed}
 use Rattle.buffer_pool.specs.declared.fault.PoolFault.{PoolFault}
 use Rattle.buffer_pool.specs.declared.fault.PoolFault.TheVariants.{Device, Malformed, TooFewFrames, NoMemory}
 use Rattle.buffer_pool.specs.Pool.{PoolState, KeepsSeals, MayNotPin, IsCrowded, pins_at}
@@ -13,9 +11,9 @@ use Rattle.buffer_pool.proofs.ImagesLemmas.{count_none, rest_again}
 use Rattle.bucket_page.specs.declared.page.PageKind.TheVariants as kinds
 use Rattle.bucket_page.specs.Reading.{bucket_at, page_at as page_in}
 use Rattle.directory.specs.declared.layout.TheConstants.{DIRECTORY_PAGES, ROOT_PAGE}
-use Rattle.directory.specs.Pages.{IsDirectoryPage, SpellsDirectory, entries_at}
+use Rattle.directory.specs.Pages.{entries_at}
 use Rattle.page_forms.specs.Forms.{IsWell}
-use Rattle.page_forms.proofs.FormLemmas.{directory_well, page_is, page_well}
+use Rattle.page_forms.proofs.FormLemmas.{directory_well, page_is}
 use Rattle.bucket_page.specs.declared.page.PageKind.{PageKind}
 use Rattle.bucket_page.specs.Bucket.{Bucket}
 use Rattle.bucket_page.specs.Changes.{IsBucketPage}
@@ -86,7 +84,8 @@ is_well images file (suc n) within = at (cases_lt n DIRECTORY_PAGES)
     at (inr behind) = inl (file.spelled (suc n) (omega arith) within)
 
 -- a page of a file is not pinned only where the device failed
-pub pin_fails : {T : Type 0} (fault : PoolFault) (s : PoolState) (new page : ℕ) → IsTrue s.honest → IsFilePool s → IsReady s →
+pub pin_fails : {T : Type 0} (fault : PoolFault) (s : PoolState) (new page : ℕ) → IsTrue s.honest → IsFilePool s
+    → IsReady s →
     page < length s.images →
     (IsErrOf {T = T} (Err fault) (Device device.PastEnd) → length s.images ≤ page) →
     (IsErrOf {T = T} (Err fault) TooFewFrames → IsCrowded page s) → MayNotPin page s fault →
@@ -107,7 +106,8 @@ pin_fails NoMemory s new page honest f ready within past crowded told failed = a
 -- ---- what is seen of a page
 
 -- a page that is a bucket's is so of its bytes
-pub bucket_spelled : (bytes : List ℕ) → Spells (page_in bytes) bytes → is_bucket (page_in bytes) ≡ true → IsBucketPage bytes
+pub bucket_spelled : (bytes : List ℕ) → Spells (page_in bytes) bytes → is_bucket (page_in bytes) ≡ true
+    → IsBucketPage bytes
 bucket_spelled bytes it bucket = at (page_in bytes) it bucket
   where
     at : (p : PageKind) → Spells p bytes → is_bucket p ≡ true → IsBucketPage bytes

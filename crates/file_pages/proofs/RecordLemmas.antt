@@ -11,7 +11,7 @@ use Rattle.page_forms.proofs.FormLemmas.{page_is as read_is}
 use Rattle.bucket_page.specs.Spelling.{Spells}
 use Rattle.hash_file.specs.Store.{bucket_at, bucket_of, is_bucket}
 use Rattle.hash_file.specs.Changes.{RecordWrite, records_after, with_bucket, with_page, write_record}
-use Rattle.file_pages.specs.Files.{IsFile, image, store_of}
+use Rattle.file_pages.specs.Files.{IsFile, store_of}
 use Rattle.file_pages.specs.Pinning.{IsPinned}
 use Rattle.file_pages.specs.Writes.{IsBucketThere}
 use Rattle.file_pages.proofs.StoreLemmas.{pages_are}

@@ -1,23 +1,22 @@
 -- The pool, and its file, once the image of a page was changed.
-use Rattle.std.proofs.Common.{◌≡◌, ◌≢◌, refl, ◌∙◌, sym, ap, subst, ℕ, zero, suc, ◌+◌, ◌-◌, ◌/◌, ◌^◌, ◌<◌, ◌≤◌, List, [], Bool, true, false, IsTrue}
-use Rattle.std.proofs.Common.{◌⊎◌, inl, inr, arith, length, slice_get, slice_index_or, slice_set, Option, Some, None, nat_lt, if◌then◌else◌}
+use Rattle.std.proofs.Common.{◌≡◌, ◌≢◌, refl, ◌∙◌, sym, ap, subst, ℕ, ◌-◌, ◌^◌, ◌<◌, ◌≤◌, List, [], Bool, true, false, IsTrue}
+use Rattle.std.proofs.Common.{◌⊎◌, inl, inr, arith, length, slice_set, nat_lt, if◌then◌else◌}
 use Rattle.std.proofs.lemmas.Bool.{cases_eq}
 use Rattle.std.proofs.lemmas.List.{get_or-set_same, get_or-set_other, length-set}
-use Rattle.buffer_pool.specs.Pool.{PoolState, KeepsSeals, pins_at}
+use Rattle.buffer_pool.specs.Pool.{PoolState, pins_at}
 use Rattle.buffer_pool.proofs.ImagesLemmas.{rest_again}
 use Rattle.bucket_page.specs.declared.page.PageKind.{PageKind}
 use Rattle.bucket_page.specs.declared.page.PageKind.TheVariants as kinds
 use Rattle.bucket_page.specs.Reading.{page_at as page_in}
 use Rattle.bucket_page.specs.Spelling.{Spells}
-use Rattle.directory.specs.declared.layout.TheConstants.{DIRECTORY_PAGES, FIRST_DIRECTORY_PAGE, GREATEST_DEPTH, ROOT_PAGE}
+use Rattle.directory.specs.declared.layout.TheConstants.{GREATEST_DEPTH, ROOT_PAGE}
 use Rattle.directory.specs.Entries.{page_of, entry_in}
 use Rattle.directory.specs.Pages.{IsDirectoryPage}
 use Rattle.directory.specs.Reading.{header_at}
 use Rattle.page_forms.specs.Forms.{IsHeaderPage}
-use Rattle.page_forms.proofs.FormLemmas.{page_is as read_is, same_page}
-use Rattle.hash_file.specs.Store.{Store}
+use Rattle.page_forms.proofs.FormLemmas.{same_page}
 use Rattle.hash_file.specs.Changes.{with_header, with_page}
-use Rattle.file_pages.specs.Files.{listed, image, kind_on, entry_on, entries_of, store_of, IsFile, IsFilePool, IsReady}
+use Rattle.file_pages.specs.Files.{listed, image, kind_on, entry_on, entries_of, store_of, IsFile, IsReady}
 use Rattle.file_pages.specs.Pinning.{IsPinned}
 use Rattle.file_pages.specs.Reads.{OnlyReads}
 use Rattle.file_pages.specs.Writes.{OnlyWrites}
@@ -48,7 +47,8 @@ module _ (images : List (List ℕ)) (n : ℕ) (new : List ℕ) where
       pages = pages j;
     }
       where
-        pages : listed (length after) (kind_on after) ≡ slice_set (listed (length images) (kind_on images)) n (page_in new)
+        pages : listed (length after) (kind_on after) ≡ slice_set (listed (length images) (kind_on images)) n
+            (page_in new)
         pages =
             ap (λ (m : ℕ). listed m (kind_on after)) (length-set images n new)
             ∙ listed_set (length images) n (kind_on images) (kind_on after) within
@@ -62,7 +62,8 @@ module _ (images : List (List ℕ)) (n : ℕ) (new : List ℕ) where
       least = subst (λ m. ROOT_PAGE < m) (sym (length-set images n new)) f.least;
       header = subst IsHeaderPage (sym (other_image 0 (λ same. omega (arith, same, behind)))) f.header;
       directory = λ m first last.
-          subst IsDirectoryPage (sym (other_image m (λ same. omega (arith, same, behind, last)))) (f.directory m first last);
+          subst IsDirectoryPage (sym (other_image m (λ same. omega (arith, same, behind, last))))
+          (f.directory m first last);
       spelled = λ m behind' within'. at m behind' (subst (λ k. m < k) (length-set images n new) within') (cases_eq m n);
     }
       where
@@ -72,7 +73,8 @@ module _ (images : List (List ℕ)) (n : ℕ) (new : List ℕ) where
             subst (λ (bytes : List ℕ). Spells (page_in bytes) bytes)
             (sym (ap (image after) same ∙ get_or-set_same images n new [] within)) (same_page p new spells)
         at m behind' within' (inr other) =
-            subst (λ (bytes : List ℕ). Spells (page_in bytes) bytes) (sym (other_image m other)) (f.spelled m behind' within')
+            subst (λ (bytes : List ℕ). Spells (page_in bytes) bytes) (sym (other_image m other))
+            (f.spelled m behind' within')
 
 -- the header
 module _ (images : List (List ℕ)) (new : List ℕ) (within : 0 < length images) where
@@ -93,7 +95,8 @@ module _ (images : List (List ℕ)) (new : List ℕ) (within : 0 < length images
       at k (inr other) = ap (λ (bytes : List ℕ). if nat_lt k ROOT_PAGE then kinds.Free 0 else page_in bytes)
           (other_image images 0 new k other)
 
-      pages : listed (length (after images 0 new)) (kind_on (after images 0 new)) ≡ listed (length images) (kind_on images)
+      pages : listed (length (after images 0 new)) (kind_on (after images 0 new))
+          ≡ listed (length images) (kind_on images)
       pages =
           ap (λ (m : ℕ). listed m (kind_on (after images 0 new))) (length-set images 0 new)
           ∙ listed_same (length images) (kind_on images) (kind_on (after images 0 new)) (λ k _. at k (cases_eq k 0))
@@ -103,7 +106,8 @@ module _ (images : List (List ℕ)) (new : List ℕ) (within : 0 < length images
     least = subst (λ m. ROOT_PAGE < m) (sym (length-set images 0 new)) f.least;
     header = subst IsHeaderPage (sym new_header) it;
     directory = λ m first last.
-        subst IsDirectoryPage (sym (other_image images 0 new m (λ same. omega (arith, same, first)))) (f.directory m first last);
+        subst IsDirectoryPage (sym (other_image images 0 new m (λ same. omega (arith, same, first))))
+        (f.directory m first last);
     spelled = λ m behind within'.
         subst (λ (bytes : List ℕ). Spells (page_in bytes) bytes)
         (sym (other_image images 0 new m (λ same. omega (arith, same, behind))))

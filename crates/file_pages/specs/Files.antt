@@ -1,5 +1,5 @@
 -- The pages of a pool as a hash file.
-use Rattle.std.specs.Prelude.{ℕ, zero, suc, ◌+◌, ◌^◌, ◌<◌, ◌≤◌, nat_lt, List, [], ◌∷◌, ◌++◌, length, slice_index_or, if◌then◌else◌}
+use Rattle.std.specs.Prelude.{ℕ, zero, suc, ◌^◌, ◌<◌, ◌≤◌, nat_lt, List, [], ◌∷◌, ◌++◌, length, slice_index_or, if◌then◌else◌}
 use Rattle.page_device.specs.Sealed.{IsSealed}
 use Rattle.buffer_pool.specs.Pool.{PoolState, IsAtRest}
 use Rattle.bucket_page.specs.declared.page.PageKind.{PageKind}

@@ -1,5 +1,5 @@
 -- What a read of a file's page leaves, and what it says.
-use Rattle.std.specs.Prelude.{◌≡◌, ℕ, ◌≤◌, Bool, true, IsTrue, Option, Some, None, length, ⊤}
+use Rattle.std.specs.Prelude.{◌≡◌, ℕ, ◌≤◌, Bool, true, IsTrue, length, ⊤}
 use Rattle.std.specs.Option.{option_map}
 use Rattle.buffer_pool.specs.Pool.{PoolState}
 use Rattle.bucket_page.specs.declared.record_key.RecordKey.{RecordKey}
@@ -29,7 +29,8 @@ pub record CoversIn (page : PageKind) (k : ℕ) : Type 0 where
 
 -- what is seen of a page by who looks for a key
 abbrev pub IsSight : Sight → PageKind → ℕ → RecordKey → Type 0
-IsSight (Covering found) page k key = CoversIn page k × (found ≡ option_map length (lookup key (bucket_of page).records))
+IsSight (Covering found) page k key = CoversIn page k ×
+    (found ≡ option_map length (lookup key (bucket_of page).records))
 IsSight (Naming next) page k key = (CoversIn page k → ⊥) × ((bucket_of page).next ≡ next)
 
 -- what a bucket says beside its records

@@ -36,7 +36,8 @@ pub struct BucketSight {
 /// What is seen of a page by who looks for a key.
 pub fn see(page: &FilePage, pseudokey: u32, key: &RecordKey) -> Result<Sight, FileFault>
     ensures ok { IfOk result (λ sight. IsSight sight (page_at page.now) pseudokey key.now) }
-    ensures err { IsErr result → Spells (page_at page.now) page.now → IsOnWay (page_at page.now) → ⊥ }
+    ensures err { IsErr result → Spells (page_at page.now) page.now →
+        IsOnWay (page_at page.now) → ⊥ }
 {
     if let Some(bucket) = page.bucket() {
         let range = Range {

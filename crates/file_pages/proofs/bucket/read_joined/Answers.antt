@@ -41,7 +41,8 @@ left_was g c honest bucket =
     copied_was c.args.pool.now.images c.args.left c.in_ok-first.first (c.in_ok-first.ensures.ok honest)
     c.if-left-lt-ROOT_PAGE.false c.in_ok-first.ensures.within bucket
 
-right_was : (g : given.Over) (c : goal.After-join g) → IsTrue c.args.pool.now.honest → IsBucketPage c.in_ok-second.second
+right_was : (g : given.Over) (c : goal.After-join g) → IsTrue c.args.pool.now.honest
+    → IsBucketPage c.in_ok-second.second
     → bucket_at (store_of c.args.pool.now.images) c.args.right ≡ bucket_in c.in_ok-second.second
 right_was g c honest bucket =
     copied_was c.args.pool.now.images c.args.right c.in_ok-second.second (right_copy g c honest)
@@ -49,7 +50,8 @@ right_was g c honest bucket =
 
 pub returns-clause-ok : goal.returns-clause-ok
 returns-clause-ok g c = λ honest.
-    joined_is (left_was g c honest) (right_was g c honest) c.join.result c.join.ensures.left c.join.ensures.right c.join.ensures.ok
+    joined_is (left_was g c honest) (right_was g c honest) c.join.result c.join.ensures.left c.join.ensures.right
+    c.join.ensures.ok
 
 pub returns-clause-fault : goal.returns-clause-fault
 returns-clause-fault g c = λ honest file failed may.

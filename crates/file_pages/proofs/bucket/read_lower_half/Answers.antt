@@ -1,5 +1,5 @@
 -- The half of the image's bucket is that of the file's.
-use Rattle.std.proofs.Common.{◌≡◌, ◌∙◌, refl, sym, ap, subst, List, ℕ, ◌<◌}
+use Rattle.std.proofs.Common.{refl, subst, ◌<◌}
 use Rattle.bucket_page.specs.Bucket.{Bucket}
 use Rattle.bucket_page.specs.Dividing.{lower_half}
 use Rattle.directory.specs.declared.layout.TheConstants.{GREATEST_DEPTH}
@@ -19,8 +19,10 @@ returns-clause-reads g c =
 
 pub returns-clause-ok : goal.returns-clause-ok
 returns-clause-ok g c = λ honest.
-    half_is c.lower_half_of-half.result (lower_half (g.K.PseudoKey.of_key c.args.keys.now) c.args.next) c.lower_half_of-half.ensures.bucket
-    (λ bucket. bucket_was c.args.pool.now c.pin.new.pool _ c.in_ok-frame.frame c.image.result.now c.image.result.now c.in_ok-frame.ensures.ok c.image.ensures c.if-page-lt-ROOT_PAGE.false bucket honest)
+    half_is c.lower_half_of-half.result (lower_half (g.K.PseudoKey.of_key c.args.keys.now) c.args.next)
+    c.lower_half_of-half.ensures.bucket
+    (λ bucket. bucket_was c.args.pool.now c.pin.new.pool _ c.in_ok-frame.frame c.image.result.now c.image.result.now
+    c.in_ok-frame.ensures.ok c.image.ensures c.if-page-lt-ROOT_PAGE.false bucket honest)
     c.lower_half_of-half.ensures.ok
 
 pub returns-clause-spells : goal.returns-clause-spells
@@ -28,6 +30,9 @@ returns-clause-spells g c = half_spells c.lower_half_of-half.result _ c.lower_ha
 
 pub returns-clause-fault : goal.returns-clause-fault
 returns-clause-fault g c = λ honest file failed may.
-    let bucket = bucket_there c.args.pool.now c.pin.new.pool _ c.in_ok-frame.frame c.image.result.now c.in_ok-frame.ensures.ok c.image.ensures honest file.file may.there in
-    let was = bucket_was c.args.pool.now c.pin.new.pool _ c.in_ok-frame.frame c.image.result.now c.image.result.now c.in_ok-frame.ensures.ok c.image.ensures may.there.behind bucket honest in
-    absurd (c.lower_half_of-half.ensures.err failed bucket (subst (λ (b : Bucket). b.depth < GREATEST_DEPTH) was may.shallow))
+    let bucket = bucket_there c.args.pool.now c.pin.new.pool _ c.in_ok-frame.frame c.image.result.now
+    c.in_ok-frame.ensures.ok c.image.ensures honest file.file may.there in
+    let was = bucket_was c.args.pool.now c.pin.new.pool _ c.in_ok-frame.frame c.image.result.now c.image.result.now
+    c.in_ok-frame.ensures.ok c.image.ensures may.there.behind bucket honest in
+    absurd (c.lower_half_of-half.ensures.err failed bucket
+    (subst (λ (b : Bucket). b.depth < GREATEST_DEPTH) was may.shallow))

@@ -16,18 +16,24 @@ given_back : (g : given.Over) (c : goal.After-unpin g) → c.unpin.new.self ≡ 
 }
 given_back g c =
     c.unpin.ensures
-    ∙ ap (λ (p : PoolState). record p { pins = slice_set p.pins c.in_ok-frame.frame (pins_at p c.in_ok-frame.frame - 1) })
+    ∙ ap (λ (p : PoolState). record p {
+      pins = slice_set p.pins c.in_ok-frame.frame
+          (pins_at p c.in_ok-frame.frame - 1);
+    })
     c.store.ensures
 
 pub returns-clause-writes : goal.returns-clause-writes
 returns-clause-writes g c =
     let pinned = c.in_ok-frame.ensures.ok in
-    only_writes _ c.args.pool.now c.pin.new.pool c.unpin.new.self _ c.in_ok-frame.frame c.args.new c.requires.ready pinned
-    (file_set c.args.pool.now.images c.args.page c.args.new c.if-page-lt-ROOT_PAGE.false pinned.within _ c.requires.spells)
+    only_writes _ c.args.pool.now c.pin.new.pool c.unpin.new.self _ c.in_ok-frame.frame c.args.new c.requires.ready
+    pinned
+    (file_set c.args.pool.now.images c.args.page c.args.new c.if-page-lt-ROOT_PAGE.false pinned.within _
+    c.requires.spells)
     (given_back g c)
 
 pub returns-clause-ok : goal.returns-clause-ok
 returns-clause-ok g c = λ honest.
     let pinned = c.in_ok-frame.ensures.ok in
-    written_store c.args.pool.now c.pin.new.pool c.unpin.new.self _ c.in_ok-frame.frame c.args.new honest pinned (given_back g c)
+    written_store c.args.pool.now c.pin.new.pool c.unpin.new.self _ c.in_ok-frame.frame c.args.new honest pinned
+    (given_back g c)
     ∙ store_set c.args.pool.now.images c.args.page c.args.new c.if-page-lt-ROOT_PAGE.false pinned.within

@@ -1,7 +1,6 @@
 -- The page becomes free, before the first one.
-use Rattle.std.proofs.Common.{◌≡◌, ◌∙◌, refl, ap, subst}
+use Rattle.std.proofs.Common.{subst}
 use Rattle.bucket_page.specs.declared.page.PageKind.TheVariants as kinds
-use Rattle.bucket_page.specs.Dividing.{lower_half, upper_half}
 use Rattle.bucket_page.specs.Spelling.{Spells}
 use Rattle.directory.specs.declared.header.Header.{Header}
 use Rattle.page_forms.proofs.FormLemmas.{same_page}
@@ -16,12 +15,15 @@ store_page-requires-clause-spells g c = same_page _ c.write_free.new.self c.writ
 
 pub returns-clause-writes : goal.returns-clause-writes
 returns-clause-writes g c =
-    writes_on _ c.args.pool.now c.read_header.new.pool c.store_page.new.pool c.in_ok-header.ensures.reads c.store_page.ensures.writes
+    writes_on _ c.args.pool.now c.read_header.new.pool c.store_page.new.pool c.in_ok-header.ensures.reads
+    c.store_page.ensures.writes
 
 pub returns-clause-ok : goal.returns-clause-ok
 returns-clause-ok g c = λ honest.
-    page_stored c.store_page.result c.args.pool.now c.read_header.new.pool c.store_page.new.pool _ c.write_free.new.self (kinds.Free (store_of c.args.pool.now.images).header.first_free) honest
-    c.in_ok-header.ensures.reads (subst (λ (h : Header). Spells (kinds.Free h.first_free) c.write_free.new.self) (c.in_ok-header.ensures.ok honest) c.write_free.ensures) c.store_page.ensures.ok
+    page_stored c.store_page.result c.args.pool.now c.read_header.new.pool c.store_page.new.pool _
+    c.write_free.new.self (kinds.Free (store_of c.args.pool.now.images).header.first_free) honest
+    c.in_ok-header.ensures.reads (subst (λ (h : Header). Spells (kinds.Free h.first_free) c.write_free.new.self)
+    (c.in_ok-header.ensures.ok honest) c.write_free.ensures) c.store_page.ensures.ok
 
 pub returns-clause-err : goal.returns-clause-err
 returns-clause-err g c = λ honest.

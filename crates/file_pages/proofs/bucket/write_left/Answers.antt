@@ -9,5 +9,6 @@ use Rattle.file_pages.proofs.bucket.write_left.Goals as goal
 pub returns-clause-ok : goal.returns-clause-ok
 returns-clause-ok g c = λ honest.
     page_stored c.store_page.result c.args.pool.now c.read_joined.new.pool c.store_page.new.pool _ c.in_ok-both.both
-    (kinds.Bucket (joined (bucket_at (store_of c.args.pool.now.images) c.args.left) (bucket_at (store_of c.args.pool.now.images) c.args.right))) honest
+    (kinds.Bucket (joined (bucket_at (store_of c.args.pool.now.images) c.args.left)
+    (bucket_at (store_of c.args.pool.now.images) c.args.right))) honest
     c.in_ok-both.ensures.reads (c.in_ok-both.ensures.ok honest) c.store_page.ensures.ok

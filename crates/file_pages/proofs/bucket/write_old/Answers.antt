@@ -1,7 +1,6 @@
 -- The old page becomes the lower half.
-use Rattle.std.proofs.Common.{◌≡◌, ◌∙◌, refl, ap, subst}
 use Rattle.bucket_page.specs.declared.page.PageKind.TheVariants as kinds
-use Rattle.bucket_page.specs.Dividing.{lower_half, upper_half}
+use Rattle.bucket_page.specs.Dividing.{lower_half}
 use Rattle.hash_file.specs.Store.{bucket_at}
 use Rattle.file_pages.specs.Files.{store_of}
 use Rattle.file_pages.proofs.HeaderLemmas.{nothing_changed}
@@ -11,11 +10,14 @@ use Rattle.file_pages.proofs.bucket.write_old.Goals as goal
 
 pub returns-clause-writes : goal.returns-clause-writes
 returns-clause-writes g c =
-    writes_on _ c.args.pool.now c.read_lower_half.new.pool c.store_page.new.pool c.in_ok-half.ensures.reads c.store_page.ensures.writes
+    writes_on _ c.args.pool.now c.read_lower_half.new.pool c.store_page.new.pool c.in_ok-half.ensures.reads
+    c.store_page.ensures.writes
 
 pub returns-clause-ok : goal.returns-clause-ok
 returns-clause-ok g c = λ honest.
-    page_stored c.store_page.result c.args.pool.now c.read_lower_half.new.pool c.store_page.new.pool _ c.in_ok-half.half (kinds.Bucket (lower_half (g.K.PseudoKey.of_key c.args.keys.now) c.args.new (bucket_at (store_of c.args.pool.now.images) c.args.old))) honest
+    page_stored c.store_page.result c.args.pool.now c.read_lower_half.new.pool c.store_page.new.pool _
+    c.in_ok-half.half (kinds.Bucket (lower_half (g.K.PseudoKey.of_key c.args.keys.now) c.args.new
+    (bucket_at (store_of c.args.pool.now.images) c.args.old))) honest
     c.in_ok-half.ensures.reads (c.in_ok-half.ensures.ok honest) c.store_page.ensures.ok
 
 pub returns-clause-err : goal.returns-clause-err

@@ -9,5 +9,6 @@ store_page-requires-clause-spells g c = same_page _ c.write_tombstone.new.self c
 
 pub returns-clause-ok : goal.returns-clause-ok
 returns-clause-ok g c = λ honest.
-    stored_as c.store_page.result c.args.pool.now c.store_page.new.pool _ c.write_tombstone.new.self (kinds.Tombstone c.args.left)
+    stored_as c.store_page.result c.args.pool.now c.store_page.new.pool _ c.write_tombstone.new.self
+    (kinds.Tombstone c.args.left)
     c.write_tombstone.ensures (c.store_page.ensures.ok honest)

@@ -1,5 +1,5 @@
 -- The lower half's page is read, and then copied.
-use Rattle.std.proofs.Common.{◌≡◌, ◌∙◌, refl, arith}
+use Rattle.std.proofs.Common.{◌∙◌, refl, arith}
 use Rattle.file_pages.proofs.ReadLemmas.{risen_after}
 use Rattle.file_pages.proofs.entries.copy_directory.Goals as goal
 
@@ -9,4 +9,5 @@ returns-in_err-lower-clause-fault g c = λ honest file _ may.
     let again = reads.file honest refl file in
     let least = again.file.least in
     let last = c.source_of.ensures.last in
-    risen_after reads.later (c.in_err-lower.ensures.fault (reads.honest ∙ honest) again refl (omega (arith, least, last, may.last)))
+    risen_after reads.later (c.in_err-lower.ensures.fault (reads.honest ∙ honest) again refl
+    (omega (arith, least, last, may.last)))

@@ -1,5 +1,5 @@
 -- The page gets the entries of the lower half.
-use Rattle.std.proofs.Common.{◌≡◌, ◌∙◌, ◌<◌, refl, sym, subst, IsTrue, arith}
+use Rattle.std.proofs.Common.{◌≡◌, ◌∙◌, refl, subst, IsTrue, arith}
 use Rattle.directory.specs.Pages.{IsDirectoryPage}
 use Rattle.file_pages.specs.Files.{image}
 use Rattle.file_pages.proofs.EntryLemmas.{copied_set, directory_file}
@@ -15,22 +15,30 @@ returns-in_err-frame-clause-fault g c = λ honest file _.
 -- a page of the directory passes the test
 pub returns-then-not-is_directory-clause-fault : goal.returns-then-not-is_directory-clause-fault
 returns-then-not-is_directory-clause-fault g c = λ honest file _.
-    let was = image_was c.args.pool.now c.pin.new.pool _ c.in_ok-frame.frame c.image.result.now c.in_ok-frame.ensures.ok c.image.ensures honest in
-    let passes = c.is_directory.ensures.taken (subst IsDirectoryPage was (file.file.directory c.args.page c.requires.first c.requires.last)) in
+    let was = image_was c.args.pool.now c.pin.new.pool _ c.in_ok-frame.frame c.image.result.now
+    c.in_ok-frame.ensures.ok c.image.ensures honest in
+    let passes = c.is_directory.ensures.taken (subst IsDirectoryPage was
+    (file.file.directory c.args.page c.requires.first c.requires.last)) in
     let fails = c.if-not-is_directory.true in
     absurd cc
 
-was : (g : given.Over) (c : goal.After-unpin-2 g) → IsTrue c.args.pool.now.honest → image c.args.pool.now.images c.args.page ≡ c.image_mut.result.now
-was g c honest = image_was c.args.pool.now c.pin.new.pool _ c.in_ok-frame.frame c.image_mut.result.now c.in_ok-frame.ensures.ok c.image_mut.ensures.value honest
+was : (g : given.Over) (c : goal.After-unpin-2 g) → IsTrue c.args.pool.now.honest
+    → image c.args.pool.now.images c.args.page ≡ c.image_mut.result.now
+was g c honest = image_was c.args.pool.now c.pin.new.pool _ c.in_ok-frame.frame c.image_mut.result.now
+    c.in_ok-frame.ensures.ok c.image_mut.ensures.value honest
 
 pub returns-clause-writes : goal.returns-clause-writes
 returns-clause-writes g c =
-    only_writes _ c.args.pool.now c.pin.new.pool c.unpin-2.new.self _ c.in_ok-frame.frame c.copy_upper.new.self c.requires.ready c.in_ok-frame.ensures.ok
-    (directory_file c.args.pool.now.images c.args.page c.copy_upper.new.self c.requires.first c.requires.last c.in_ok-frame.ensures.ok.within
+    only_writes _ c.args.pool.now c.pin.new.pool c.unpin-2.new.self _ c.in_ok-frame.frame c.copy_upper.new.self
+    c.requires.ready c.in_ok-frame.ensures.ok
+    (directory_file c.args.pool.now.images c.args.page c.copy_upper.new.self c.requires.first c.requires.last
+    c.in_ok-frame.ensures.ok.within
     c.copy_upper.ensures.directory) c.unpin-2.ensures
 
 pub returns-clause-ok : goal.returns-clause-ok
 returns-clause-ok g c = λ honest half.
-    written_store c.args.pool.now c.pin.new.pool c.unpin-2.new.self _ c.in_ok-frame.frame c.copy_upper.new.self honest c.in_ok-frame.ensures.ok c.unpin-2.ensures
-    ∙ copied_set c.args.pool.now.images c.args.page c.copy_upper.new.self c.requires.first c.requires.last c.in_ok-frame.ensures.ok.within
+    written_store c.args.pool.now c.pin.new.pool c.unpin-2.new.self _ c.in_ok-frame.frame c.copy_upper.new.self
+    honest c.in_ok-frame.ensures.ok c.unpin-2.ensures
+    ∙ copied_set c.args.pool.now.images c.args.page c.copy_upper.new.self c.requires.first c.requires.last
+    c.in_ok-frame.ensures.ok.within
     c.args.depth c.image_mut.result.now c.args.lower.now (was g c honest) half c.copy_upper.ensures.ok

@@ -1,10 +1,8 @@
 -- The header gets the depth before.
-use Rattle.std.proofs.Common.{◌≡◌, ◌∙◌, refl, sym, ap, subst, ◌+◌, ◌-◌, ℕ, slice_set, slice_index_or, arith}
-use Rattle.buffer_pool.proofs.TransferLemmas.{not_ok}
+use Rattle.std.proofs.Common.{◌-◌}
 use Rattle.directory.specs.declared.header.Header.{Header}
-use Rattle.hash_file.specs.Changes.{split_counts, merge_counts}
 use Rattle.file_pages.proofs.HeaderLemmas.{fails_after, header_changed, nothing_changed}
-use Rattle.file_pages.proofs.WriteLemmas.{fails_to_write, writes_on}
+use Rattle.file_pages.proofs.WriteLemmas.{writes_on}
 use Rattle.file_pages.proofs.header.lower_depth.Goals as goal
 
 pub returns-clause-writes : goal.returns-clause-writes
@@ -14,8 +12,10 @@ returns-clause-writes g c =
 
 pub returns-clause-ok : goal.returns-clause-ok
 returns-clause-ok g c = λ honest.
-    header_changed c.write_header.result c.args.pool.now c.read_header.new.pool c.write_header.new.pool c.in_ok-header.header _
-    (λ (h : Header). record h { depth = h.depth - 1 }) honest c.in_ok-header.ensures.reads (c.in_ok-header.ensures.ok honest)
+    header_changed c.write_header.result c.args.pool.now c.read_header.new.pool c.write_header.new.pool
+    c.in_ok-header.header _
+    (λ (h : Header). record h { depth = h.depth - 1 }) honest c.in_ok-header.ensures.reads
+    (c.in_ok-header.ensures.ok honest)
     c.lower.ensures c.write_header.ensures.ok
 
 pub returns-clause-err : goal.returns-clause-err

@@ -1,8 +1,8 @@
 -- What spells a free page is one.
-use Rattle.std.proofs.Common.{◌≡◌, refl, ap, subst, List, ℕ}
+use Rattle.std.proofs.Common.{subst}
 use Rattle.bucket_page.specs.declared.page.PageKind.{PageKind}
 use Rattle.bucket_page.specs.Spelling.{Spells}
-use Rattle.page_forms.proofs.FormLemmas.{free_page, page_is}
+use Rattle.page_forms.proofs.FormLemmas.{free_page}
 use Rattle.file_pages.proofs.HeaderLemmas.{of_none}
 use Rattle.file_pages.proofs.header.next_free_of.Goals as goal
 

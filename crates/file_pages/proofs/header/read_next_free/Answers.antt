@@ -14,11 +14,15 @@ returns-clause-reads g c =
 
 pub returns-clause-ok : goal.returns-clause-ok
 returns-clause-ok g c = λ honest.
-    next_is (store_of c.args.pool.now.images) c.args.page c.next_free_of-next.result (page_was c.args.pool.now c.pin.new.pool _ c.in_ok-frame.frame c.image.result.now c.in_ok-frame.ensures.ok c.image.ensures honest c.if-page-lt-ROOT_PAGE.false) c.next_free_of-next.ensures.ok
+    next_is (store_of c.args.pool.now.images) c.args.page c.next_free_of-next.result
+    (page_was c.args.pool.now c.pin.new.pool _ c.in_ok-frame.frame c.image.result.now c.in_ok-frame.ensures.ok
+    c.image.ensures honest c.if-page-lt-ROOT_PAGE.false) c.next_free_of-next.ensures.ok
 
 pub returns-clause-fault : goal.returns-clause-fault
 returns-clause-fault g c = λ honest file failed behind within free.
-    let image = image_was c.args.pool.now c.pin.new.pool _ c.in_ok-frame.frame c.image.result.now c.in_ok-frame.ensures.ok c.image.ensures honest in
+    let image = image_was c.args.pool.now c.pin.new.pool _ c.in_ok-frame.frame c.image.result.now
+    c.in_ok-frame.ensures.ok c.image.ensures honest in
     absurd (c.next_free_of-next.ensures.err failed
     (subst (λ (p : List ℕ). Spells (page_at p) p) image (file.file.spelled c.args.page behind within)) _
-    (sym (page_was c.args.pool.now c.pin.new.pool _ c.in_ok-frame.frame c.image.result.now c.in_ok-frame.ensures.ok c.image.ensures honest behind) ∙ free))
+    (sym (page_was c.args.pool.now c.pin.new.pool _ c.in_ok-frame.frame c.image.result.now c.in_ok-frame.ensures.ok
+    c.image.ensures honest behind) ∙ free))

@@ -1,5 +1,5 @@
 -- A page of a file is not pinned only where the device failed.
-use Rattle.std.proofs.Common.{length, refl}
+use Rattle.std.proofs.Common.{length}
 use Rattle.file_pages.proofs.ReadLemmas.{not_past, pin_fails}
 use Rattle.file_pages.proofs.pinning.pin.Goals as goal
 

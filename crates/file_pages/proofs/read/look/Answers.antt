@@ -1,5 +1,5 @@
 -- What is seen of the page's image is seen of the page.
-use Rattle.std.proofs.Common.{◌≡◌, ◌≤◌, List, ℕ, refl, ap, ◌∙◌, sym, subst}
+use Rattle.std.proofs.Common.{List, ℕ, refl, subst}
 use Rattle.bucket_page.specs.Reading.{page_at}
 use Rattle.bucket_page.specs.Spelling.{Spells}
 use Rattle.buffer_pool.proofs.TransferLemmas.{not_ok}
@@ -22,13 +22,16 @@ returns-clause-reads g c =
 
 pub returns-clause-ok : goal.returns-clause-ok
 returns-clause-ok g c = λ honest.
-    let was = page_was c.args.pool.now c.pin.new.pool _ c.in_ok-frame.frame c.image.result.now c.in_ok-frame.ensures.ok c.image.ensures honest c.if-page-lt-ROOT_PAGE.false in
+    let was = page_was c.args.pool.now c.pin.new.pool _ c.in_ok-frame.frame c.image.result.now
+    c.in_ok-frame.ensures.ok c.image.ensures honest c.if-page-lt-ROOT_PAGE.false in
     rw was c.see-sight.ensures.ok
 
 pub returns-clause-fault : goal.returns-clause-fault
 returns-clause-fault g c = λ honest file failed behind within on_way.
-    let image = image_was c.args.pool.now c.pin.new.pool _ c.in_ok-frame.frame c.image.result.now c.in_ok-frame.ensures.ok c.image.ensures honest in
-    let was = page_was c.args.pool.now c.pin.new.pool _ c.in_ok-frame.frame c.image.result.now c.in_ok-frame.ensures.ok c.image.ensures honest behind in
+    let image = image_was c.args.pool.now c.pin.new.pool _ c.in_ok-frame.frame c.image.result.now
+    c.in_ok-frame.ensures.ok c.image.ensures honest in
+    let was = page_was c.args.pool.now c.pin.new.pool _ c.in_ok-frame.frame c.image.result.now
+    c.in_ok-frame.ensures.ok c.image.ensures honest behind in
     absurd (c.see-sight.ensures.err failed
     (subst (λ (p : List ℕ). Spells (page_at p) p) image (file.file.spelled c.args.page behind within))
     (subst IsOnWay was on_way))

@@ -1,8 +1,7 @@
 -- The image of the entry's page says the entry.
-use Rattle.std.proofs.Common.{◌≡◌, List, ℕ, Result, Ok, Err, IfOk, ◌+◌, ◌<◌, ◌≤◌, ◌^◌, arith, refl, ap, subst, ◌∙◌, sym}
+use Rattle.std.proofs.Common.{◌≡◌, List, ℕ, Result, Ok, Err, IfOk, arith, refl, ap, subst, ◌∙◌, sym}
 use Rattle.buffer_pool.proofs.TransferLemmas.{not_ok}
-use Rattle.directory.specs.declared.layout.TheConstants.{DIRECTORY_PAGES, FIRST_DIRECTORY_PAGE}
-use Rattle.directory.specs.Entries.{slot_of, slot_at, page_of, entry_in}
+use Rattle.directory.specs.Entries.{slot_at}
 use Rattle.directory.specs.Pages.{IsDirectoryPage}
 use Rattle.file_pages.specs.declared.fault.FileFault.{FileFault}
 use Rattle.file_pages.specs.Files.{image}
@@ -25,20 +24,24 @@ returns-clause-reads g c =
     only_reads _ c.args.pool.now c.pin.new.pool c.unpin.new.self _ c.in_ok-frame.frame c.requires.ready
     c.in_ok-frame.ensures.ok c.unpin.ensures
 
-same_slot : (r : Result ℕ FileFault) {there slot : ℕ} {page was : List ℕ} {here : ℕ} → IfOk r (λ bucket. bucket ≡ slot_at slot page)
+same_slot : (r : Result ℕ FileFault) {there slot : ℕ} {page was : List ℕ} {here : ℕ}
+    → IfOk r (λ bucket. bucket ≡ slot_at slot page)
     → slot ≡ there → page ≡ was → slot_at there was ≡ here → IfOk r (λ bucket. bucket ≡ here)
 same_slot (Ok bucket) it slot page here = it ∙ (λ j. slot_at (slot j) (page j)) ∙ here
 same_slot (Err fault) it slot page here = tt
 
 pub returns-clause-ok : goal.returns-clause-ok
 returns-clause-ok g c = λ honest.
-    let was = image_was c.args.pool.now c.pin.new.pool _ c.in_ok-frame.frame c.image.result.now c.in_ok-frame.ensures.ok c.image.ensures honest in
+    let was = image_was c.args.pool.now c.pin.new.pool _ c.in_ok-frame.frame c.image.result.now
+    c.in_ok-frame.ensures.ok c.image.ensures honest in
     same_slot c.entry_of-page.result c.entry_of-page.ensures.ok c.slot_of.ensures.value
     (sym was ∙ ap (image c.args.pool.now.images) c.page_of.ensures.value)
     (sym (entry_is c.args.pool.now.images c.args.index c.requires.within))
 
 pub returns-clause-fault : goal.returns-clause-fault
 returns-clause-fault g c = λ honest file failed.
-    let was = image_was c.args.pool.now c.pin.new.pool _ c.in_ok-frame.frame c.image.result.now c.in_ok-frame.ensures.ok c.image.ensures honest in
+    let was = image_was c.args.pool.now c.pin.new.pool _ c.in_ok-frame.frame c.image.result.now
+    c.in_ok-frame.ensures.ok c.image.ensures honest in
     let last = c.page_of.ensures.last c.requires.within in
-    absurd (c.entry_of-page.ensures.err failed (subst IsDirectoryPage was (file.file.directory c.page_of.result c.page_of.ensures.first last)))
+    absurd (c.entry_of-page.ensures.err failed (subst IsDirectoryPage was
+    (file.file.directory c.page_of.result c.page_of.ensures.first last)))

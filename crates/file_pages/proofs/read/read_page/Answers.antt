@@ -1,5 +1,5 @@
 -- The copy is the page's image.
-use Rattle.std.proofs.Common.{◌≡◌, ◌∙◌, refl, sym}
+use Rattle.std.proofs.Common.{◌∙◌, refl, sym}
 use Rattle.buffer_pool.proofs.TransferLemmas.{not_ok}
 use Rattle.file_pages.proofs.ReadLemmas.{only_reads, image_was}
 use Rattle.file_pages.proofs.read.read_page.Goals as goal
@@ -15,4 +15,5 @@ returns-clause-reads g c =
 
 pub returns-clause-ok : goal.returns-clause-ok
 returns-clause-ok g c = λ honest.
-    c.copy-copy.ensures ∙ sym (image_was c.args.pool.now c.pin.new.pool _ c.in_ok-frame.frame c.image.result.now c.in_ok-frame.ensures.ok c.image.ensures honest)
+    c.copy-copy.ensures ∙ sym (image_was c.args.pool.now c.pin.new.pool _ c.in_ok-frame.frame c.image.result.now
+    c.in_ok-frame.ensures.ok c.image.ensures honest)

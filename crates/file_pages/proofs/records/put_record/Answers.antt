@@ -1,6 +1,6 @@
 -- The bucket gains the record.
-use Rattle.std.proofs.Common.{◌≡◌, ◌∙◌, refl, sym, ap, subst, length, IsSome, None, ◌≤◌, ◌+◌, arith}
-use Rattle.bucket_page.specs.Changes.{HasValueOf, IsBucketPage}
+use Rattle.std.proofs.Common.{◌≡◌, ◌∙◌, refl, ap, subst, length, None, ◌≤◌, ◌+◌, arith}
+use Rattle.bucket_page.specs.Changes.{IsBucketPage}
 use Rattle.bucket_page.specs.Records.{lookup, pair, record_bytes}
 use Rattle.bucket_page.specs.declared.layout.TheConstants.{RECORD_HEAD_BYTES, ROOM_BYTES}
 use Rattle.bucket_page.specs.Bucket.{Bucket}
@@ -20,11 +20,15 @@ returns-in_err-frame-clause-fault g c = λ honest file _ there.
 -- a bucket that may be written passes the test
 pub returns-then-not-takes-clause-fault : goal.returns-then-not-takes-clause-fault
 returns-then-not-takes-clause-fault g c = λ honest file _ there.
-    let bucket = bucket_there c.args.pool.now c.pin.new.pool _ c.in_ok-frame.frame c.image.result.now c.in_ok-frame.ensures.ok c.image.ensures honest file.file there.there in
-    let was = bucket_was c.args.pool.now c.pin.new.pool _ c.in_ok-frame.frame c.image.result.now c.image.result.now c.in_ok-frame.ensures.ok c.image.ensures
+    let bucket = bucket_there c.args.pool.now c.pin.new.pool _ c.in_ok-frame.frame c.image.result.now
+    c.in_ok-frame.ensures.ok c.image.ensures honest file.file there.there in
+    let was = bucket_was c.args.pool.now c.pin.new.pool _ c.in_ok-frame.frame c.image.result.now c.image.result.now
+    c.in_ok-frame.ensures.ok c.image.ensures
     there.there.behind bucket honest in
     let records = ap (λ (b : Bucket). b.records) was in
-    let passes = c.takes.ensures.taken bucket (subst (λ ps. lookup c.args.key.now ps ≡ None) records there.absent) (subst (λ ps. length (record_bytes ps) + (RECORD_HEAD_BYTES + length c.args.value.now) ≤ ROOM_BYTES) records there.room) in
+    let passes = c.takes.ensures.taken bucket (subst (λ ps. lookup c.args.key.now ps ≡ None) records there.absent)
+    (subst (λ ps. length (record_bytes ps) + (RECORD_HEAD_BYTES + length c.args.value.now) ≤ ROOM_BYTES) records
+    there.room) in
     let fails = c.if-not-takes.true in
     absurd cc
 
@@ -39,18 +43,24 @@ bucket g c = subst IsBucketPage (same g c) (c.if-not-takes.ensures.bucket refl)
 made : (g : given.Over) (c : goal.After-unpin-2 g)
     → Changes (inserted (pair c.args.key.now c.args.value.now)) c.image_mut.result.now c.put.new.self
 made g c =
-    let room = subst (λ old. length (record_bytes (records_in old)) + (RECORD_HEAD_BYTES + length c.args.value.now) ≤ ROOM_BYTES)
+    let room = subst (λ old. length (record_bytes (records_in old)) + (RECORD_HEAD_BYTES + length c.args.value.now) ≤
+    ROOM_BYTES)
     (same g c) (c.if-not-takes.ensures.room refl) in
-    put_fits c.put.result c.put.ensures.ok (λ failed. let more = c.put.ensures.full.0 failed in absurd (omega (arith, room, more)))
+    put_fits c.put.result c.put.ensures.ok (λ failed. let more =
+    c.put.ensures.full.0 failed in absurd (omega (arith, room, more)))
 
 pub returns-clause-writes : goal.returns-clause-writes
 returns-clause-writes g c =
-    only_writes _ c.args.pool.now c.pin.new.pool c.unpin-2.new.self _ c.in_ok-frame.frame c.put.new.self c.requires.ready c.in_ok-frame.ensures.ok
-    (keeps_file c.args.pool.now c.pin.new.pool _ c.in_ok-frame.frame c.image_mut.result.now c.put.new.self c.in_ok-frame.ensures.ok c.image_mut.ensures.value
+    only_writes _ c.args.pool.now c.pin.new.pool c.unpin-2.new.self _ c.in_ok-frame.frame c.put.new.self
+    c.requires.ready c.in_ok-frame.ensures.ok
+    (keeps_file c.args.pool.now c.pin.new.pool _ c.in_ok-frame.frame c.image_mut.result.now c.put.new.self
+    c.in_ok-frame.ensures.ok c.image_mut.ensures.value
     c.if-page-lt-ROOT_PAGE.false (bucket g c) (Put (pair c.args.key.now c.args.value.now)) (made g c)) c.unpin-2.ensures
 
 pub returns-clause-ok : goal.returns-clause-ok
 returns-clause-ok g c = λ honest.
-    written_store c.args.pool.now c.pin.new.pool c.unpin-2.new.self _ c.in_ok-frame.frame c.put.new.self honest c.in_ok-frame.ensures.ok c.unpin-2.ensures
-    ∙ record_written c.args.pool.now c.pin.new.pool _ c.in_ok-frame.frame c.image_mut.result.now c.put.new.self c.in_ok-frame.ensures.ok c.image_mut.ensures.value
+    written_store c.args.pool.now c.pin.new.pool c.unpin-2.new.self _ c.in_ok-frame.frame c.put.new.self honest
+    c.in_ok-frame.ensures.ok c.unpin-2.ensures
+    ∙ record_written c.args.pool.now c.pin.new.pool _ c.in_ok-frame.frame c.image_mut.result.now c.put.new.self
+    c.in_ok-frame.ensures.ok c.image_mut.ensures.value
     c.if-page-lt-ROOT_PAGE.false (bucket g c) (Put (pair c.args.key.now c.args.value.now)) (made g c) honest

@@ -1,8 +1,7 @@
 -- The bucket loses the record of the key.
-use Rattle.std.proofs.Common.{◌≡◌, ◌∙◌, refl, sym, ap, subst, length, IsSome, None, ◌≤◌, ◌+◌}
-use Rattle.bucket_page.specs.Changes.{HasValueOf, IsBucketPage}
-use Rattle.bucket_page.specs.Records.{lookup, pair, record_bytes}
-use Rattle.bucket_page.specs.declared.layout.TheConstants.{RECORD_HEAD_BYTES, ROOM_BYTES}
+use Rattle.std.proofs.Common.{◌≡◌, ◌∙◌, refl, ap, subst, IsSome}
+use Rattle.bucket_page.specs.Changes.{IsBucketPage}
+use Rattle.bucket_page.specs.Records.{lookup}
 use Rattle.bucket_page.specs.Bucket.{Bucket}
 use Rattle.hash_file.specs.Changes.{Remove}
 use Rattle.file_pages.proofs.RecordLemmas.{bucket_there, bucket_was, keeps_file, record_written, there_within}
@@ -17,8 +16,10 @@ returns-in_err-frame-clause-fault g c = λ honest file _ there some.
 -- a bucket that may be written passes the test
 pub returns-then-not-has_record-clause-fault : goal.returns-then-not-has_record-clause-fault
 returns-then-not-has_record-clause-fault g c = λ honest file _ there some.
-    let bucket = bucket_there c.args.pool.now c.pin.new.pool _ c.in_ok-frame.frame c.image.result.now c.in_ok-frame.ensures.ok c.image.ensures honest file.file there in
-    let was = bucket_was c.args.pool.now c.pin.new.pool _ c.in_ok-frame.frame c.image.result.now c.image.result.now c.in_ok-frame.ensures.ok c.image.ensures
+    let bucket = bucket_there c.args.pool.now c.pin.new.pool _ c.in_ok-frame.frame c.image.result.now
+    c.in_ok-frame.ensures.ok c.image.ensures honest file.file there in
+    let was = bucket_was c.args.pool.now c.pin.new.pool _ c.in_ok-frame.frame c.image.result.now c.image.result.now
+    c.in_ok-frame.ensures.ok c.image.ensures
     there.behind bucket honest in
     let records = ap (λ (b : Bucket). b.records) was in
     let passes = c.has_record.ensures.taken bucket (subst (λ ps. IsSome (lookup c.args.key.now ps)) records some) in
@@ -34,12 +35,16 @@ bucket g c = subst IsBucketPage (same g c) (c.if-not-has_record.ensures.bucket r
 
 pub returns-clause-writes : goal.returns-clause-writes
 returns-clause-writes g c =
-    only_writes _ c.args.pool.now c.pin.new.pool c.unpin-2.new.self _ c.in_ok-frame.frame c.remove.new.self c.requires.ready c.in_ok-frame.ensures.ok
-    (keeps_file c.args.pool.now c.pin.new.pool _ c.in_ok-frame.frame c.image_mut.result.now c.remove.new.self c.in_ok-frame.ensures.ok c.image_mut.ensures.value
+    only_writes _ c.args.pool.now c.pin.new.pool c.unpin-2.new.self _ c.in_ok-frame.frame c.remove.new.self
+    c.requires.ready c.in_ok-frame.ensures.ok
+    (keeps_file c.args.pool.now c.pin.new.pool _ c.in_ok-frame.frame c.image_mut.result.now c.remove.new.self
+    c.in_ok-frame.ensures.ok c.image_mut.ensures.value
     c.if-page-lt-ROOT_PAGE.false (bucket g c) (Remove c.args.key.now) c.remove.ensures) c.unpin-2.ensures
 
 pub returns-clause-ok : goal.returns-clause-ok
 returns-clause-ok g c = λ honest.
-    written_store c.args.pool.now c.pin.new.pool c.unpin-2.new.self _ c.in_ok-frame.frame c.remove.new.self honest c.in_ok-frame.ensures.ok c.unpin-2.ensures
-    ∙ record_written c.args.pool.now c.pin.new.pool _ c.in_ok-frame.frame c.image_mut.result.now c.remove.new.self c.in_ok-frame.ensures.ok c.image_mut.ensures.value
+    written_store c.args.pool.now c.pin.new.pool c.unpin-2.new.self _ c.in_ok-frame.frame c.remove.new.self honest
+    c.in_ok-frame.ensures.ok c.unpin-2.ensures
+    ∙ record_written c.args.pool.now c.pin.new.pool _ c.in_ok-frame.frame c.image_mut.result.now c.remove.new.self
+    c.in_ok-frame.ensures.ok c.image_mut.ensures.value
     c.if-page-lt-ROOT_PAGE.false (bucket g c) (Remove c.args.key.now) c.remove.ensures honest

@@ -1,5 +1,5 @@
 -- The value of the key gets the new bytes at its front.
-use Rattle.std.proofs.Common.{◌≡◌, ◌∙◌, refl, sym, ap, subst, List, length, IsSome, true, IsTrue, ◌≤◌, ◌++◌, drop}
+use Rattle.std.proofs.Common.{◌≡◌, ◌∙◌, refl, sym, ap, subst, List, length, IsSome, IsTrue, ◌≤◌, ◌++◌, drop}
 use Rattle.bucket_page.specs.Changes.{IsBucketPage, value_of_key}
 use Rattle.bucket_page.specs.Records.{Pair, lookup, pair}
 use Rattle.bucket_page.specs.Reading.{records_at as records_in}
@@ -19,8 +19,10 @@ returns-in_err-frame-clause-fault g c = λ honest file _ there value long.
 -- a bucket that may be written passes the test
 pub returns-then-not-has_front-clause-fault : goal.returns-then-not-has_front-clause-fault
 returns-then-not-has_front-clause-fault g c = λ honest file _ there value long.
-    let bucket = bucket_there c.args.pool.now c.pin.new.pool _ c.in_ok-frame.frame c.image.result.now c.in_ok-frame.ensures.ok c.image.ensures honest file.file there in
-    let was = bucket_was c.args.pool.now c.pin.new.pool _ c.in_ok-frame.frame c.image.result.now c.image.result.now c.in_ok-frame.ensures.ok c.image.ensures
+    let bucket = bucket_there c.args.pool.now c.pin.new.pool _ c.in_ok-frame.frame c.image.result.now
+    c.in_ok-frame.ensures.ok c.image.ensures honest file.file there in
+    let was = bucket_was c.args.pool.now c.pin.new.pool _ c.in_ok-frame.frame c.image.result.now c.image.result.now
+    c.in_ok-frame.ensures.ok c.image.ensures
     there.behind bucket honest in
     let records = ap (λ (b : Bucket). b.records) was in
     let passes = c.has_front.ensures.taken bucket
@@ -38,24 +40,33 @@ bucket g c = subst IsBucketPage (same g c) (c.if-not-has_front.ensures.bucket re
 
 -- the record with the new bytes at the front of one of these
 abbrev written : (g : given.Over) (c : goal.After-unpin-2 g) → List Pair → RecordWrite
-written g c ps = Replace (pair c.args.key.now (c.args.front.now ++ drop (length c.args.front.now) (value_of_key c.args.key.now ps)))
+written g c ps = Replace (pair c.args.key.now (c.args.front.now ++ drop (length c.args.front.now)
+    (value_of_key c.args.key.now ps)))
 
 was : (g : given.Over) (c : goal.After-unpin-2 g) → IsTrue c.args.pool.now.honest
     → records_at (store_of c.args.pool.now.images) c.args.page ≡ records_in c.image_mut.result.now
 was g c honest =
     ap (λ (b : Bucket). b.records)
-    (bucket_was c.args.pool.now c.pin.new.pool _ c.in_ok-frame.frame c.image_mut.result.now c.replace_front.new.self c.in_ok-frame.ensures.ok c.image_mut.ensures.value
+    (bucket_was c.args.pool.now c.pin.new.pool _ c.in_ok-frame.frame c.image_mut.result.now c.replace_front.new.self
+    c.in_ok-frame.ensures.ok c.image_mut.ensures.value
     c.if-page-lt-ROOT_PAGE.false (bucket g c) honest)
 
 pub returns-clause-writes : goal.returns-clause-writes
 returns-clause-writes g c =
-    only_writes _ c.args.pool.now c.pin.new.pool c.unpin-2.new.self _ c.in_ok-frame.frame c.replace_front.new.self c.requires.ready c.in_ok-frame.ensures.ok
-    (keeps_file c.args.pool.now c.pin.new.pool _ c.in_ok-frame.frame c.image_mut.result.now c.replace_front.new.self c.in_ok-frame.ensures.ok c.image_mut.ensures.value
-    c.if-page-lt-ROOT_PAGE.false (bucket g c) (written g c (records_in c.image_mut.result.now)) c.replace_front.ensures) c.unpin-2.ensures
+    only_writes _ c.args.pool.now c.pin.new.pool c.unpin-2.new.self _ c.in_ok-frame.frame c.replace_front.new.self
+    c.requires.ready c.in_ok-frame.ensures.ok
+    (keeps_file c.args.pool.now c.pin.new.pool _ c.in_ok-frame.frame c.image_mut.result.now c.replace_front.new.self
+    c.in_ok-frame.ensures.ok c.image_mut.ensures.value
+    c.if-page-lt-ROOT_PAGE.false (bucket g c) (written g c (records_in c.image_mut.result.now))
+    c.replace_front.ensures) c.unpin-2.ensures
 
 pub returns-clause-ok : goal.returns-clause-ok
 returns-clause-ok g c = λ honest.
-    written_store c.args.pool.now c.pin.new.pool c.unpin-2.new.self _ c.in_ok-frame.frame c.replace_front.new.self honest c.in_ok-frame.ensures.ok c.unpin-2.ensures
-    ∙ record_written c.args.pool.now c.pin.new.pool _ c.in_ok-frame.frame c.image_mut.result.now c.replace_front.new.self c.in_ok-frame.ensures.ok c.image_mut.ensures.value
-    c.if-page-lt-ROOT_PAGE.false (bucket g c) (written g c (records_in c.image_mut.result.now)) c.replace_front.ensures honest
-    ∙ ap (λ (ps : List Pair). write_record c.args.page (written g c ps) (store_of c.args.pool.now.images)) (sym (was g c honest))
+    written_store c.args.pool.now c.pin.new.pool c.unpin-2.new.self _ c.in_ok-frame.frame c.replace_front.new.self
+    honest c.in_ok-frame.ensures.ok c.unpin-2.ensures
+    ∙ record_written c.args.pool.now c.pin.new.pool _ c.in_ok-frame.frame c.image_mut.result.now
+    c.replace_front.new.self c.in_ok-frame.ensures.ok c.image_mut.ensures.value
+    c.if-page-lt-ROOT_PAGE.false (bucket g c) (written g c (records_in c.image_mut.result.now))
+    c.replace_front.ensures honest
+    ∙ ap (λ (ps : List Pair). write_record c.args.page (written g c ps) (store_of c.args.pool.now.images))
+    (sym (was g c honest))

@@ -1,8 +1,7 @@
 -- The value of the key becomes the new one.
-use Rattle.std.proofs.Common.{◌≡◌, ◌∙◌, refl, sym, ap, subst, length, IsSome, None, ◌≤◌, ◌+◌}
+use Rattle.std.proofs.Common.{◌≡◌, ◌∙◌, refl, ap, subst, length}
 use Rattle.bucket_page.specs.Changes.{HasValueOf, IsBucketPage}
-use Rattle.bucket_page.specs.Records.{lookup, pair, record_bytes}
-use Rattle.bucket_page.specs.declared.layout.TheConstants.{RECORD_HEAD_BYTES, ROOM_BYTES}
+use Rattle.bucket_page.specs.Records.{pair}
 use Rattle.bucket_page.specs.Bucket.{Bucket}
 use Rattle.hash_file.specs.Changes.{Replace}
 use Rattle.file_pages.proofs.RecordLemmas.{bucket_there, bucket_was, keeps_file, record_written, there_within}
@@ -17,11 +16,14 @@ returns-in_err-frame-clause-fault g c = λ honest file _ there value.
 -- a bucket that may be written passes the test
 pub returns-then-not-has_value-clause-fault : goal.returns-then-not-has_value-clause-fault
 returns-then-not-has_value-clause-fault g c = λ honest file _ there value.
-    let bucket = bucket_there c.args.pool.now c.pin.new.pool _ c.in_ok-frame.frame c.image.result.now c.in_ok-frame.ensures.ok c.image.ensures honest file.file there in
-    let was = bucket_was c.args.pool.now c.pin.new.pool _ c.in_ok-frame.frame c.image.result.now c.image.result.now c.in_ok-frame.ensures.ok c.image.ensures
+    let bucket = bucket_there c.args.pool.now c.pin.new.pool _ c.in_ok-frame.frame c.image.result.now
+    c.in_ok-frame.ensures.ok c.image.ensures honest file.file there in
+    let was = bucket_was c.args.pool.now c.pin.new.pool _ c.in_ok-frame.frame c.image.result.now c.image.result.now
+    c.in_ok-frame.ensures.ok c.image.ensures
     there.behind bucket honest in
     let records = ap (λ (b : Bucket). b.records) was in
-    let passes = c.has_value.ensures.taken bucket (subst (HasValueOf (length c.args.value.now) c.args.key.now) records value) in
+    let passes = c.has_value.ensures.taken bucket (subst (HasValueOf (length c.args.value.now) c.args.key.now)
+    records value) in
     let fails = c.if-not-has_value.true in
     absurd cc
 
@@ -34,12 +36,17 @@ bucket g c = subst IsBucketPage (same g c) (c.if-not-has_value.ensures.bucket re
 
 pub returns-clause-writes : goal.returns-clause-writes
 returns-clause-writes g c =
-    only_writes _ c.args.pool.now c.pin.new.pool c.unpin-2.new.self _ c.in_ok-frame.frame c.replace.new.self c.requires.ready c.in_ok-frame.ensures.ok
-    (keeps_file c.args.pool.now c.pin.new.pool _ c.in_ok-frame.frame c.image_mut.result.now c.replace.new.self c.in_ok-frame.ensures.ok c.image_mut.ensures.value
-    c.if-page-lt-ROOT_PAGE.false (bucket g c) (Replace (pair c.args.key.now c.args.value.now)) c.replace.ensures) c.unpin-2.ensures
+    only_writes _ c.args.pool.now c.pin.new.pool c.unpin-2.new.self _ c.in_ok-frame.frame c.replace.new.self
+    c.requires.ready c.in_ok-frame.ensures.ok
+    (keeps_file c.args.pool.now c.pin.new.pool _ c.in_ok-frame.frame c.image_mut.result.now c.replace.new.self
+    c.in_ok-frame.ensures.ok c.image_mut.ensures.value
+    c.if-page-lt-ROOT_PAGE.false (bucket g c) (Replace (pair c.args.key.now c.args.value.now)) c.replace.ensures)
+    c.unpin-2.ensures
 
 pub returns-clause-ok : goal.returns-clause-ok
 returns-clause-ok g c = λ honest.
-    written_store c.args.pool.now c.pin.new.pool c.unpin-2.new.self _ c.in_ok-frame.frame c.replace.new.self honest c.in_ok-frame.ensures.ok c.unpin-2.ensures
-    ∙ record_written c.args.pool.now c.pin.new.pool _ c.in_ok-frame.frame c.image_mut.result.now c.replace.new.self c.in_ok-frame.ensures.ok c.image_mut.ensures.value
+    written_store c.args.pool.now c.pin.new.pool c.unpin-2.new.self _ c.in_ok-frame.frame c.replace.new.self honest
+    c.in_ok-frame.ensures.ok c.unpin-2.ensures
+    ∙ record_written c.args.pool.now c.pin.new.pool _ c.in_ok-frame.frame c.image_mut.result.now c.replace.new.self
+    c.in_ok-frame.ensures.ok c.image_mut.ensures.value
     c.if-page-lt-ROOT_PAGE.false (bucket g c) (Replace (pair c.args.key.now c.args.value.now)) c.replace.ensures honest
