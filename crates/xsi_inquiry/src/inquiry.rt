@@ -87,9 +87,9 @@ pub trait Inquiry {
 
     /// Tells it whether that id is below the next id. After an error it stands where it stood.
     fn take_given(&mut self, arguments: &Self::Arguments, given: bool) -> Result<(), NotASystem>
-        requires { AsksGiven (wanted arguments.now self.old) }
         ensures told { (room : Roomful) (s : State) → IsFiled s →
             Knows arguments.now self.old room s →
+            AsksGiven (wanted arguments.now self.old) →
             IsToldGiven s (wanted arguments.now self.old) given →
             Gives result (λ _. Knows arguments.now self.new room s) }
         ensures fewer { OnOk result (left arguments.now self.new < left arguments.now self.old) }

@@ -46,9 +46,9 @@ pub fn tell_given<I: Inquiry>(
     arguments: &I::Arguments,
     given: bool,
 ) -> Result<(), NotASystem>
-    requires { AsksGiven (I.wanted arguments.now inquiry.old) }
     ensures told { (names : List LockName) (room : Roomful) (s : State) → IsFiled s →
         IsSoNear (I.call arguments.now) names (I.Knows arguments.now inquiry.old room) s →
+        AsksGiven (I.wanted arguments.now inquiry.old) →
         IsToldGiven s (I.wanted arguments.now inquiry.old) given →
         Gives result (λ _. IsSoNear (I.call arguments.now) names
         (I.Knows arguments.now inquiry.new room) s) }

@@ -71,8 +71,8 @@ impl Sought {
 
     /// Tells whether the id is below the next id.
     pub fn take_given(&mut self, id: u32, given: bool) -> Result<(), NotASystem>
-        requires { AsksGiven (sought_next id self.old) }
         ensures told { (s : State) → IsFiled s → Tells id self.old s →
+            AsksGiven (sought_next id self.old) →
             IsToldGiven s (sought_next id self.old) given →
             Gives result (λ _. Tells id self.new s) }
         ensures refused { OnOk result (IsRefused self.new) }

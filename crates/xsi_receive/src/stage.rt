@@ -181,9 +181,9 @@ impl Stage {
         arguments: &ReceiveArguments,
         given: bool,
     ) -> Result<Stage, NotASystem>
-        requires { AsksGiven (asked arguments.now.id self) }
         ensures told { (room : Roomful) (s : State) → IsFiled s →
             KnowsAt caller arguments.now self room s →
+            AsksGiven (asked arguments.now.id self) →
             IsToldGiven s (asked arguments.now.id self) given →
             Gives result (λ stage. KnowsAt caller arguments.now stage room s) }
         ensures fewer { IfOk result (λ stage. asks_left stage < asks_left self) }

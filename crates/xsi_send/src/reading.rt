@@ -41,8 +41,8 @@ pub fn seek_given(
     sought: Sought,
     given: bool,
 ) -> Result<Stage, NotASystem>
-    requires { AsksGiven (sought_next arguments.now.id sought) }
     ensures told { (s : State) → IsFiled s → KnowsAt caller arguments.now (Seeking sought) s →
+        AsksGiven (sought_next arguments.now.id sought) →
         IsToldGiven s (sought_next arguments.now.id sought) given →
         Gives result (λ stage. KnowsAt caller arguments.now stage s) }
     ensures fewer { IfOk result (λ stage. asks_left stage < asks_left (Seeking sought)) }

@@ -93,8 +93,8 @@ impl Stage {
         arguments: &SendArguments,
         given: bool,
     ) -> Result<Stage, NotASystem>
-        requires { AsksGiven (asked arguments.now self) }
         ensures told { (s : State) → IsFiled s → KnowsAt caller arguments.now self s →
+            AsksGiven (asked arguments.now self) →
             IsToldGiven s (asked arguments.now self) given →
             Gives result (λ stage. KnowsAt caller arguments.now stage s) }
         ensures fewer { IfOk result (λ stage. asks_left stage < asks_left self) }

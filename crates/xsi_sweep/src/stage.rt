@@ -134,8 +134,8 @@ impl Stage {
 
     /// The stage once it was told whether the id is below the next id.
     pub fn take_given(self, id: u32, given: bool) -> Result<Stage, NotASystem>
-        requires { AsksGiven (asked id self) }
         ensures told { (c : Caller) (s : State) → IsFiled s → KnowsAt c id self s →
+            AsksGiven (asked id self) →
             IsToldGiven s (asked id self) given →
             Gives result (λ stage. KnowsAt c id stage s) }
         ensures fewer { IfOk result (λ stage. asks_left stage < asks_left self) }
