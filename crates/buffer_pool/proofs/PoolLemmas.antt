@@ -13,7 +13,7 @@ use Rattle.page_device.proofs.PagesLemmas.{first_pages_set}
 use Rattle.buffer_pool.specs.Table.{Held, IsFree, place_of, pins_of, page_of, is_changed, payload_in, with_pins, moved_in}
 use Rattle.buffer_pool.specs.Table.{stored_in, cleaned_at, without}
 use Rattle.buffer_pool.specs.Transfer.{KeepsPins, StaysIn}
-use Rattle.buffer_pool.specs.Pool.{IsSound, IsClean, AgreesAt, shown, image_at}
+use Rattle.buffer_pool.specs.Pool.{IsSoundPool, IsClean, AgreesAt, shown, image_at}
 use Rattle.buffer_pool.specs.Pool.{images_of, payloads_of}
 use Rattle.buffer_pool.proofs.TableLemmas.{IsWhole-moved_in, IsWhole-with_pins, within_if_found, without_keeps}
 use Rattle.buffer_pool.proofs.TableLemmas.{without_goes, length-without}
@@ -28,10 +28,10 @@ cases_some (Some m) n = at (cases_eq m n)
     at (inl same) = inl (ap Some same)
     at (inr other) = inr (λ is. let same : m ≡ n = cc in other same)
 
-module _ (stored : List (List ℕ)) (honest : Bool) (t : Held) (sound : IsSound stored honest t) where
-  pub IsSound-with_pins : (page n : ℕ) → ((frame : ℕ) × (place_of t page ≡ Some frame))
-      → IsSound stored honest (with_pins page n t)
-  IsSound-with_pins page n place = record {
+module _ (stored : List (List ℕ)) (honest : Bool) (t : Held) (sound : IsSoundPool stored honest t) where
+  pub IsSoundPool-with_pins : (page n : ℕ) → ((frame : ℕ) × (place_of t page ≡ Some frame))
+      → IsSoundPool stored honest (with_pins page n t)
+  IsSoundPool-with_pins page n place = record {
     as_many = sound.as_many;
     whole = IsWhole-with_pins t sound.whole page n place;
     agrees = sound.agrees;
@@ -86,8 +86,8 @@ module _ (stored : List (List ℕ)) (honest : Bool) (t : Held) (sound : IsSound 
     filled_other : (g : ℕ) → (g ≡ frame → ⊥) → payload_in after g ≡ payload_in t g
     filled_other g other = get_or-set_other t.payloads frame g payload [] other
 
-    pub IsSound-moved_in : IsSound stored honest after
-    IsSound-moved_in = record {
+    pub IsSoundPool-moved_in : IsSoundPool stored honest after
+    IsSoundPool-moved_in = record {
       as_many = length-set gone page (Some frame) ∙ length-without (page_of t frame) t.places ∙ sound.as_many;
       whole = IsWhole-moved_in t sound.whole frame page payload in_range free on_device outside;
       agrees = λ is j g. agrees_at is j g (cases_eq g frame);
@@ -191,17 +191,17 @@ module _ (stored : List (List ℕ)) (honest : Bool) (t : Held) (sound : IsSound 
             let moved : place_of t n ≡ place_of t page = ap (place_of t) same in
             absurd cc))
 
-    pub IsSound-failed : is_changed t frame ≡ true → IsSound written honest t
-    IsSound-failed changed = record {
+    pub IsSoundPool-failed : is_changed t frame ≡ true → IsSoundPool written honest t
+    IsSoundPool-failed changed = record {
       as_many = sound.as_many ∙ sym differs.as_many;
       whole = sound.whole;
       agrees = λ is j g at_g unchanged. agrees_elsewhere is j g at_g
           (λ same. let marked = ap (is_changed t) same in absurd cc) unchanged;
     }
 
-    pub IsSound-cleaned : (IsTrue honest → payload_of (slice_index_or written page []) ≡ payload_in t frame)
-        → IsSound written honest (cleaned_at frame t)
-    IsSound-cleaned same_there = record {
+    pub IsSoundPool-cleaned : (IsTrue honest → payload_of (slice_index_or written page []) ≡ payload_in t frame)
+        → IsSoundPool written honest (cleaned_at frame t)
+    IsSoundPool-cleaned same_there = record {
       as_many = sound.as_many ∙ sym differs.as_many;
       whole = record {
         even_pins = sound.whole.even_pins;
@@ -228,8 +228,8 @@ module _ (stored : List (List ℕ)) (honest : Bool) (t : Held) (sound : IsSound 
     frame_in_range : frame < length t.pages
     frame_in_range = within_if_found t.pages frame page (sound.whole.in_frame page frame place)
 
-    pub IsSound-stored_in : IsSound stored honest (stored_in frame payload t)
-    IsSound-stored_in = record {
+    pub IsSoundPool-stored_in : IsSoundPool stored honest (stored_in frame payload t)
+    IsSoundPool-stored_in = record {
       as_many = sound.as_many;
       whole = record {
         even_pins = sound.whole.even_pins;
@@ -276,15 +276,15 @@ module _ (stored : List (List ℕ)) (honest : Bool) (t : Held) (sound : IsSound 
 -- ---- the images of pinned pages
 
 -- the image of a page that is in a frame is what the frame has
-in_frame_is : (stored : List (List ℕ)) (honest : Bool) (t : Held) → IsSound stored honest t → (page frame : ℕ)
+in_frame_is : (stored : List (List ℕ)) (honest : Bool) (t : Held) → IsSoundPool stored honest t → (page frame : ℕ)
     → place_of t page ≡ Some frame → get_or (images_of stored t) page [] ≡ payload_in t frame
 in_frame_is stored honest t sound page frame place =
     first_pages_at (length stored) page (image_at stored t) []
     (page_within stored honest t sound frame page (sound.whole.in_frame page frame place))
     ∙ ap (λ p. shown t p (slice_index_or stored page [])) place
 
-pub pinned_kept : (before after : List (List ℕ)) (was is : Bool) (old new : Held) → IsSound before was old
-    → IsSound after is new → KeepsPins old new → (page : ℕ) → 0 < pins_of old page
+pub pinned_kept : (before after : List (List ℕ)) (was is : Bool) (old new : Held) → IsSoundPool before was old
+    → IsSoundPool after is new → KeepsPins old new → (page : ℕ) → 0 < pins_of old page
     → get_or (images_of after new) page [] ≡ get_or (images_of before old) page []
 pinned_kept before after was is old new sound sound' keeps page pinned =
     let place = sound.whole.stays page pinned in

@@ -2,14 +2,14 @@
 use Rattle.std.proofs.Common.{◌≡◌, ℕ, ◌<◌, ◌≤◌, Bool, List, arith, ◌↔◌, Result, Ok, Err, IsErr, IsErrOf, IsErrAnd, refl, sym, subst, ap, ◌∙◌, [], IsTrue, IsSome, Option, Some, None}
 use Rattle.std.proofs.Common.{slice_index_or, slice_set, length, ◌⊎◌, inl, inr}
 use Rattle.std.specs.Prelude.{is_ok, false}
-use Rattle.page_device.specs.Device.{HasCause, HasRisen, MayMeetTheEnd, MayOnlyFail}
+use Rattle.page_device.specs.Device.{HasCause, MayMeetTheEnd, MayOnlyFail}
 use Rattle.page_device.specs.declared.fault.DeviceFault.{DeviceFault}
 use Rattle.page_device.specs.declared.fault.DeviceFault.TheVariants.{Device, BadDigest, PastEnd, DeviceFull, NoMemory}
 use Rattle.std.proofs.lemmas.Bool.{cases_eq}
 use Rattle.std.proofs.lemmas.List.{get_or-set_same, get_or-set_other}
 use Rattle.page_device.specs.Sealed.{IsSealed}
 use Rattle.buffer_pool.specs.Table.{Held, payload_in, pins_of, place_of}
-use Rattle.buffer_pool.specs.Pool.{IsSound, IsClean, KeepsSeals, MayNotPin, PoolHasCause, PoolState, images_of}
+use Rattle.buffer_pool.specs.Pool.{IsSoundPool, IsClean, KeepsSeals, MayNotPin, PoolHasCause, PoolState, images_of}
 use Rattle.buffer_pool.specs.declared.fault.PoolFault.{PoolFault}
 use Rattle.buffer_pool.specs.declared.fault.PoolFault.TheVariants as pools
 use Rattle.buffer_pool.specs.Transfer.{KeepsPages, MayBeUnread, StaysIn}
@@ -58,7 +58,7 @@ only_fails NoMemory old new pages page cause past within = absurd cause.told
 pub record IsWritten {D : Type 0} (content : D → List (List ℕ)) (is_honest : D → Bool) (fault_count : D → ℕ)
     (first : D) (old : Held)
     (device : D) (t : Held) (frame : ℕ) : Type 0 where
-  pub sound : IsSound (content device) (is_honest device) t
+  pub sound : IsSoundPool (content device) (is_honest device) t
   pub clean : (g : ℕ) → g < frame → IsClean t g
   pub images : images_of (content device) t ≡ images_of (content first) old
   pub pages : KeepsPages old t

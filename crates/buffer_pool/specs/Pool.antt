@@ -42,7 +42,7 @@ AgreesAt stored t page frame =
     → payload_in t frame ≡ payload_of (slice_index_or stored page [])
 
 -- what is true of each pool
-pub record IsSound (stored : List (List ℕ)) (honest : Bool) (t : Held) : Type 0 where
+pub record IsSoundPool (stored : List (List ℕ)) (honest : Bool) (t : Held) : Type 0 where
   pub as_many : length t.places ≡ length stored
   pub whole : IsWhole t
   pub agrees : IsTrue honest → (page frame : ℕ) → AgreesAt stored t page frame

@@ -1,5 +1,5 @@
 //! Pools: the images of a device's pages, in frames.
-ghost use Rattle.std.specs.Prelude.{◌≡◌, ◌↔◌, ◌+◌, ◌-◌, ◌^◌, ◌<◌, ◌≤◌, [], length, map, is_ok, Some, IsTrue, IfOk, IfErr, IsErrAnd, IsErrOf, OnOk, slice_get, slice_set, if◌then◌else◌};
+ghost use Rattle.std.specs.Prelude.{◌≡◌, ◌↔◌, ◌+◌, ◌-◌, ◌^◌, ◌<◌, ◌≤◌, length, is_ok, Some, IsTrue, IfOk, IfErr, IsErrAnd, IsErrOf, OnOk, slice_get, slice_set, if◌then◌else◌};
 ghost use Rattle.page_device.specs.declared.fault.DeviceFault.TheVariants.{PastEnd};
 ghost use Rattle.buffer_pool.specs.Pool.{pins_at, opened, IsAtRest, payloads_of, IsCrowded, KeepsImages, PoolHasCause, MayNotPin, MayNotFlush};
 ghost use Rattle.std.specs.Borrow.{sem};
@@ -24,7 +24,7 @@ pub struct Pool<D: PageDevice> {
 
 impl<D: PageDevice> Model for Pool<D> {
     ghost use Rattle.std.specs.Prelude.{length};
-    ghost use Rattle.buffer_pool.specs.Pool.{PoolState, IsSound, images_of};
+    ghost use Rattle.buffer_pool.specs.Pool.{PoolState, IsSoundPool, images_of};
 
     ghost Value = { PoolState };
 
@@ -38,7 +38,7 @@ impl<D: PageDevice> Model for Pool<D> {
       faults = D.fault_count p.device;
     } };
 
-    ghost invariant = { λ p. IsSound (D.content p.device) (D.is_honest p.device) p.table };
+    ghost invariant = { λ p. IsSoundPool (D.content p.device) (D.is_honest p.device) p.table };
 }
 
 impl<D: PageDevice> Pool<D> {

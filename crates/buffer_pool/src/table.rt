@@ -1,6 +1,6 @@
 //! The frames of a pool: which page each holds, and how often each page is pinned.
 ghost use Rattle.std.specs.Prelude.{◌≡◌, ◌+◌, ◌-◌, ◌^◌, ◌<◌, length, replicate, ℕ, true, false, Some, None, IsSome, IfOk};
-ghost use Rattle.buffer_pool.specs.Table.{place_of, pins_of, page_of, is_changed, payload_in, count_pinned, no_pages, with_pins, moved_in, stored_in, cleaned_at, without, IsWhole, IsFree, IsTaken};
+ghost use Rattle.buffer_pool.specs.Table.{place_of, pins_of, page_of, is_changed, payload_in, count_pinned, no_pages, with_pins, moved_in, cleaned_at, without, IsWhole, IsFree, IsTaken};
 ghost use Rattle.std.specs.Borrow.{sem};
 ghost use Rattle.page_forms.specs.Forms.{blank_page};
 ghost use Rattle.buffer_pool.specs.Lending.{LendsPayload};

@@ -1,7 +1,7 @@
 //! Pages between a device and the frames.
 ghost use Rattle.std.specs.Prelude.{◌≡◌, ◌<◌, length, is_ok, None, IsSome, IsTrue, OnOk};
 ghost use Rattle.page_device.specs.Device.{HasCause, MayOnlyFail};
-ghost use Rattle.buffer_pool.specs.Pool.{IsSound, IsClean, PoolHasCause, images_of};
+ghost use Rattle.buffer_pool.specs.Pool.{IsSoundPool, IsClean, PoolHasCause, images_of};
 ghost use Rattle.buffer_pool.specs.Table.{place_of, count_pinned};
 ghost use Rattle.buffer_pool.specs.Transfer.{AreWritten, KeepsDevice, KeepsPages, KeepsPins, MayBeUnread};
 
@@ -16,9 +16,9 @@ pub fn write_back<D: PageDevice>(
     table: &mut Table,
     frame: usize,
 ) -> Result<(), DeviceFault>
-    requires sound { IsSound (D.content device.old) (D.is_honest device.old) table.old }
+    requires sound { IsSoundPool (D.content device.old) (D.is_honest device.old) table.old }
     requires within { frame < length table.old.pages }
-    ensures sound { IsSound (D.content device.new) (D.is_honest device.new) table.new }
+    ensures sound { IsSoundPool (D.content device.new) (D.is_honest device.new) table.new }
     ensures ok { OnOk result (IsClean table.new frame) }
     ensures images { images_of (D.content device.new) table.new ≡
         images_of (D.content device.old) table.old }
@@ -47,11 +47,11 @@ pub fn bring_in<D: PageDevice>(
     table: &mut Table,
     page: u32,
 ) -> Result<(), PoolFault>
-    requires sound { IsSound (D.content device.old) (D.is_honest device.old) table.old }
+    requires sound { IsSoundPool (D.content device.old) (D.is_honest device.old) table.old }
     requires page { page < length table.old.places }
     requires room { place_of table.old page ≡ None →
         count_pinned table.old.pins < length table.old.pages }
-    ensures sound { IsSound (D.content device.new) (D.is_honest device.new) table.new }
+    ensures sound { IsSoundPool (D.content device.new) (D.is_honest device.new) table.new }
     ensures ok { OnOk result (IsSome (place_of table.new page)) }
     ensures images { IsTrue (D.is_honest device.old) →
         images_of (D.content device.new) table.new ≡ images_of (D.content device.old) table.old }
@@ -66,6 +66,27 @@ pub fn bring_in<D: PageDevice>(
         table.touch(frame);
         return Ok(());
     }
+    read_in(device, table, page)
+}
+
+/// Brings in a page that is in no frame. It stands apart from `bring_in`, so that a pin of a page that is in one
+/// sets up no room for the page's bytes.
+fn read_in<D: PageDevice>(device: &mut D, table: &mut Table, page: u32) -> Result<(), PoolFault>
+    requires sound { IsSoundPool (D.content device.old) (D.is_honest device.old) table.old }
+    requires page { page < length table.old.places }
+    requires outside { place_of table.old page ≡ None }
+    requires room { count_pinned table.old.pins < length table.old.pages }
+    ensures sound { IsSoundPool (D.content device.new) (D.is_honest device.new) table.new }
+    ensures ok { OnOk result (IsSome (place_of table.new page)) }
+    ensures images { IsTrue (D.is_honest device.old) →
+        images_of (D.content device.new) table.new ≡ images_of (D.content device.old) table.old }
+    ensures pins { KeepsPins table.old table.new }
+    ensures device { KeepsDevice (is_ok result) (D.is_honest device.old) (D.is_honest device.new)
+        (D.content device.old) (D.content device.new) }
+    ensures cause { PoolHasCause (MayBeUnread (D.is_honest device.old) page
+        (D.content device.old) (images_of (D.content device.old) table.old))
+        (D.fault_count device.old) (D.fault_count device.new) result }
+{
     let mut bytes = [0; PAGE_BYTES];
     device.read(page, &mut bytes)?;
     let payload = unseal(page, &bytes)?;
@@ -80,8 +101,8 @@ pub fn bring_in<D: PageDevice>(
 
 /// Writes each page that was changed to the device, and syncs it.
 pub fn write_all<D: PageDevice>(device: &mut D, table: &mut Table) -> Result<(), DeviceFault>
-    requires { IsSound (D.content device.old) (D.is_honest device.old) table.old }
-    ensures sound { IsSound (D.content device.new) (D.is_honest device.new) table.new }
+    requires { IsSoundPool (D.content device.old) (D.is_honest device.old) table.old }
+    ensures sound { IsSoundPool (D.content device.new) (D.is_honest device.new) table.new }
     ensures ok { OnOk result
         (AreWritten (D.is_honest device.old) (D.is_synced device.new) table.new) }
     ensures images { images_of (D.content device.new) table.new ≡

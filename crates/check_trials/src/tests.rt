@@ -2,8 +2,9 @@
 
 ghost use Rattle.std.specs.Prelude.{◌≡◌};
 
-use bucket_page::{write_bucket, write_free};
+use bucket_page::{NumberKey, write_bucket, write_free};
 use directory::{Header, LOCAL_DEPTHS, PAGE_ENTRIES, write_directory, write_header};
+use file_check::check_records;
 use file_walk::check_structure;
 use page_device::{MemDevice, PAYLOAD_BYTES, Page, PageDevice, Payload, seal};
 use std::alloc::Global;
@@ -181,6 +182,41 @@ fn a_cut_file_a_long_one_and_a_changed_page_are_refused(rt: HostRuntime) -> Resu
     for page in [287, 257, 256, 1, 0] {
         unsealed.write(page, &seal(page ^ 1, &payload_of(page)))?;
         assert_eq!(rt; number(rt.alloc(), &mut unsealed), 21, "page {page}");
+    }
+    Ok(())
+}
+
+/// The bytes of one record on a page: a kind, the number 0 to 255 of its key, and a value of four bytes, as a Key has.
+fn key_record(page: u32, kind: u8, number: u8, id: u8) -> [Edit; 6] {
+    [
+        Edit(page, 3, 1),
+        Edit(page, 13, 19),
+        Edit(page, 17, 4),
+        Edit(page, 18, kind),
+        Edit(page, 30, number),
+        Edit(page, 34, id),
+    ]
+}
+
+#[test]
+fn each_record_has_its_place_and_its_form(rt: HostRuntime) -> Result<(), Fail> {
+    let rows = [
+        // the Key of key 7 and queue 1 on page 258, where odd numbers stand; on page 257
+        (258, key_record(258, 2, 7, 1), 0),
+        (257, key_record(257, 2, 7, 1), 74),
+        // of no kind, at its place and elsewhere; of no queue
+        (257, key_record(257, 6, 0, 1), 43),
+        (257, key_record(257, 6, 7, 1), 74),
+        (258, key_record(258, 2, 7, 0), 43),
+    ];
+    for (page, edits, want) in &rows {
+        let mut changed = device(&rt, rt.alloc(), PAGES)?;
+        changed.write(*page, &page_with(&rt, *page, edits))?;
+        let told = match check_records(rt.alloc(), &mut changed, &NumberKey) {
+            Ok(_) => 0,
+            Err(fault) => fault.number(),
+        };
+        assert_eq!(rt; told, *want, "{edits:?}");
     }
     Ok(())
 }

@@ -15,7 +15,7 @@ use Rattle.page_forms.specs.Forms.{IsHeaderPage}
 use Rattle.hash_file.specs.Store.{Store, entry_at}
 use Rattle.hash_file.specs.Changes.{copy_directory, mapped_from, retarget}
 use Rattle.file_pages.specs.Entries.{IsLowerHalf}
-use Rattle.file_pages.specs.Files.{IsFile, entries_of, entry_on, image, kind_on, listed, store_of}
+use Rattle.file_pages.specs.Files.{SpellsFile, entries_of, entry_on, image, kind_on, listed, store_of}
 use Rattle.file_pages.proofs.StoreLemmas.{entry_is, length-listed, listed_same}
 use Rattle.file_pages.proofs.WriteLemmas.{after, other_image}
 
@@ -88,7 +88,7 @@ module _ (images : List (List ℕ)) (n : ℕ) (new : List ℕ) (first : FIRST_DI
             ap (λ (m : ℕ). listed m (kind_on (after images n new))) (length-set images n new)
             ∙ listed_same (length images) (kind_on images) (kind_on (after images n new)) (λ k _. kind k (cases_eq k n))
 
-  pub directory_file : IsDirectoryPage new → IsFile images → IsFile (after images n new)
+  pub directory_file : IsDirectoryPage new → SpellsFile images → SpellsFile (after images n new)
   directory_file it f = record {
     least = subst (λ m. ROOT_PAGE < m) (sym (length-set images n new)) f.least;
     header = subst IsHeaderPage (sym (other_image images n new 0 (λ same. omega (arith, same, first)))) f.header;

@@ -13,7 +13,7 @@ use Rattle.directory.specs.declared.layout.TheConstants.{ROOT_PAGE}
 use Rattle.hash_file.specs.Changes.{with_page}
 use Rattle.file_pages.specs.declared.fault.FileFault.{FileFault}
 use Rattle.file_pages.specs.Buckets.{AreJoinable, IsThere}
-use Rattle.file_pages.specs.Files.{IsFile, IsFilePool, image, store_of}
+use Rattle.file_pages.specs.Files.{SpellsFile, IsFilePool, image, store_of}
 use Rattle.file_pages.specs.Reads.{OnlyReads}
 use Rattle.file_pages.specs.Writes.{IsBucketThere}
 use Rattle.page_device.specs.Device.{HasRisen}
@@ -79,7 +79,7 @@ module _ (images : List (List ℕ)) (page : ℕ) (copy : List ℕ) (is : copy �
       ∙ read_is (kinds.Bucket (bucket_in copy)) copy bucket)
 
   -- where the file has a bucket there, the copy is a bucket's
-  pub copied_bucket : IsFile images → IsBucketThere page (store_of images) → IsBucketPage copy
+  pub copied_bucket : SpellsFile images → IsBucketThere page (store_of images) → IsBucketPage copy
   copied_bucket file there =
       bucket_spelled copy
       (subst (λ (p : List ℕ). Spells (page_in p) p) (sym is) (file.spelled page behind within))

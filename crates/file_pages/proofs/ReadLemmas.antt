@@ -1,5 +1,5 @@
 -- A page that is pinned, read and given back: what the pool is then, and why it was not pinned.
-use Rattle.std.proofs.Common.{◌≡◌, refl, ◌∙◌, sym, ap, subst, ℕ, zero, suc, ◌-◌, ◌<◌, ◌≤◌, List, [], Bool, true, IsTrue, Some}
+use Rattle.std.proofs.Common.{◌≡◌, refl, ◌∙◌, sym, ap, subst, ℕ, zero, suc, ◌-◌, ◌<◌, ◌≤◌, List, [], Bool, true, IsTrue, Option, Some}
 use Rattle.std.proofs.Common.{length, arith, slice_get, slice_set, Result, Ok, Err, IsErrOf, IfOk, ◌⊎◌, inl, inr}
 use Rattle.std.proofs.lemmas.Option.{get_or_from_slice_get}
 use Rattle.page_device.specs.declared.fault.DeviceFault.TheVariants as device
@@ -9,7 +9,9 @@ use Rattle.buffer_pool.specs.declared.fault.PoolFault.TheVariants.{Device, Malfo
 use Rattle.buffer_pool.specs.Pool.{PoolState, KeepsSeals, MayNotPin, IsCrowded, pins_at}
 use Rattle.buffer_pool.proofs.ImagesLemmas.{count_none, rest_again}
 use Rattle.bucket_page.specs.declared.page.PageKind.TheVariants as kinds
-use Rattle.bucket_page.specs.Reading.{bucket_at, page_at as page_in}
+use Rattle.bucket_page.specs.declared.record_key.RecordKey.{RecordKey}
+use Rattle.bucket_page.specs.Reading.{bucket_at, records_at, page_at as page_in}
+use Rattle.bucket_page.specs.Records.{lookup}
 use Rattle.directory.specs.declared.layout.TheConstants.{DIRECTORY_PAGES, ROOT_PAGE}
 use Rattle.directory.specs.Pages.{entries_at}
 use Rattle.page_forms.specs.Forms.{IsWell}
@@ -23,15 +25,15 @@ use Rattle.hash_file.specs.Store.{bucket_of, is_bucket, page_at}
 use Rattle.file_pages.specs.declared.fault.FileFault.{FileFault}
 use Rattle.file_pages.specs.declared.sight.BucketSight.{BucketSight}
 use Rattle.std.proofs.lemmas.Bool.{cases_lt}
-use Rattle.file_pages.specs.Files.{store_of, image, IsFile, IsFilePool, IsReady}
+use Rattle.file_pages.specs.Files.{store_of, image, SpellsFile, IsFilePool, IsReady}
 use Rattle.file_pages.specs.Pinning.{IsPinned}
 use Rattle.file_pages.proofs.StoreLemmas.{page_is as stored_page_is}
-use Rattle.file_pages.specs.Reads.{IsSeen, OnlyReads, sight_of}
+use Rattle.file_pages.specs.Reads.{IsCopied, IsSeen, OnlyReads, sight_of}
 
 -- the seals of a file stay, where those of its pool do
 file_kept : (s t : PoolState) → t.images ≡ s.images → KeepsSeals s.stored t.stored → IsFilePool s → IsFilePool t
 file_kept s t same seals f = record {
-  file = subst IsFile (sym same) f.file;
+  file = subst SpellsFile (sym same) f.file;
   sealed = λ n within. seals n (f.sealed n (subst (λ (xs : List (List ℕ)). n < length xs) same within));
 }
 
@@ -74,7 +76,7 @@ module _ (s t : PoolState) (page right : ℕ) (payload : List ℕ) (pinned : IsP
   page_was honest behind = stored_page_is s.images page behind page_there ∙ ap page_in (image_was honest)
 
 -- each page of a file is well formed
-pub is_well : (images : List (List ℕ)) → IsFile images → (page : ℕ) → page < length images → IsWell (image images page)
+pub is_well : (images : List (List ℕ)) → SpellsFile images → (page : ℕ) → page < length images → IsWell (image images page)
 is_well images file zero within = inr file.header
 is_well images file (suc n) within = at (cases_lt n DIRECTORY_PAGES)
   where
@@ -124,6 +126,16 @@ seen (Ok sight) bytes it says =
     let is = page_is (kinds.Bucket (bucket_at bytes)) bytes it in
     record { bucket = ap is_bucket is; says = says ∙ ap (λ (p : PageKind). sight_of (bucket_of p)) (sym is) }
 seen (Err fault) bytes it says = tt
+
+-- what was copied of the bucket is so of the page
+pub copied_of : (r : Result (Option ℕ) FileFault) (bytes : List ℕ) (p : PageKind) (key : RecordKey) (old new : List ℕ)
+    → p ≡ page_in bytes → IfOk r (λ _. IsBucketPage bytes)
+    → IfOk r (λ found. IsCopied found (lookup key (records_at bytes)) old new)
+    → IfOk r (λ found. IsCopied found (lookup key (bucket_of p).records) old new)
+copied_of (Ok found) bytes p key old new was it said =
+    let is = was ∙ page_is (kinds.Bucket (bucket_at bytes)) bytes it in
+    subst (λ (q : PageKind). IsCopied found (lookup key (bucket_of q).records) old new) (sym is) said
+copied_of (Err fault) bytes p key old new was it said = tt
 
 -- ---- one step behind another
 

@@ -11,7 +11,7 @@ use Rattle.page_forms.proofs.FormLemmas.{page_is as read_is}
 use Rattle.bucket_page.specs.Spelling.{Spells}
 use Rattle.hash_file.specs.Store.{bucket_at, bucket_of, is_bucket}
 use Rattle.hash_file.specs.Changes.{RecordWrite, records_after, with_bucket, with_page, write_record}
-use Rattle.file_pages.specs.Files.{IsFile, store_of}
+use Rattle.file_pages.specs.Files.{SpellsFile, store_of}
 use Rattle.file_pages.specs.Pinning.{IsPinned}
 use Rattle.file_pages.specs.Writes.{IsBucketThere}
 use Rattle.file_pages.proofs.StoreLemmas.{pages_are}
@@ -31,7 +31,7 @@ module _ (s t : PoolState) (page right : ℕ) (old new : List ℕ) (pinned : IsP
 
   -- its records become what the write makes of them
   module _ (w : RecordWrite) (changes : Changes (records_after w) old new) where
-    pub keeps_file : IsFile s.images → IsFile (slice_set s.images page new)
+    pub keeps_file : SpellsFile s.images → SpellsFile (slice_set s.images page new)
     keeps_file = file_set s.images page new behind within _ changes
 
     pub record_written : s.honest ≡ true
@@ -45,7 +45,7 @@ module _ (s t : PoolState) (page right : ℕ) (old new : List ℕ) (pinned : IsP
 
 -- where the file has a bucket there, the image is a bucket's
 pub bucket_there : (s t : PoolState) (page right : ℕ) (old : List ℕ) → IsPinned page s t right
-    → slice_get t.images right ≡ Some old → s.honest ≡ true → IsFile s.images → IsBucketThere page (store_of s.images)
+    → slice_get t.images right ≡ Some old → s.honest ≡ true → SpellsFile s.images → IsBucketThere page (store_of s.images)
     → IsBucketPage old
 bucket_there s t page right old pinned is honest file there =
     bucket_spelled old

@@ -16,7 +16,7 @@ use Rattle.directory.specs.Reading.{header_at}
 use Rattle.page_forms.specs.Forms.{IsHeaderPage}
 use Rattle.page_forms.proofs.FormLemmas.{same_page}
 use Rattle.hash_file.specs.Changes.{with_header, with_page}
-use Rattle.file_pages.specs.Files.{listed, image, kind_on, entry_on, entries_of, store_of, IsFile, IsReady}
+use Rattle.file_pages.specs.Files.{listed, image, kind_on, entry_on, entries_of, store_of, SpellsFile, IsReady}
 use Rattle.file_pages.specs.Pinning.{IsPinned}
 use Rattle.file_pages.specs.Reads.{OnlyReads}
 use Rattle.file_pages.specs.Writes.{OnlyWrites}
@@ -57,7 +57,7 @@ module _ (images : List (List ℕ)) (n : ℕ) (new : List ℕ) where
             ∙ ap (slice_set (listed (length images) (kind_on images)) n)
             (kind_is after n behind ∙ ap page_in (get_or-set_same images n new [] within))
 
-    pub file_set : (p : PageKind) → Spells p new → IsFile images → IsFile after
+    pub file_set : (p : PageKind) → Spells p new → SpellsFile images → SpellsFile after
     file_set p spells f = record {
       least = subst (λ m. ROOT_PAGE < m) (sym (length-set images n new)) f.least;
       header = subst IsHeaderPage (sym (other_image 0 (λ same. omega (arith, same, behind)))) f.header;
@@ -101,7 +101,7 @@ module _ (images : List (List ℕ)) (new : List ℕ) (within : 0 < length images
           ap (λ (m : ℕ). listed m (kind_on (after images 0 new))) (length-set images 0 new)
           ∙ listed_same (length images) (kind_on images) (kind_on (after images 0 new)) (λ k _. at k (cases_eq k 0))
 
-  pub header_file : IsHeaderPage new → IsFile images → IsFile (after images 0 new)
+  pub header_file : IsHeaderPage new → SpellsFile images → SpellsFile (after images 0 new)
   header_file it f = record {
     least = subst (λ m. ROOT_PAGE < m) (sym (length-set images 0 new)) f.least;
     header = subst IsHeaderPage (sym new_header) it;
@@ -118,7 +118,7 @@ module _ (images : List (List ℕ)) (new : List ℕ) (within : 0 < length images
 
 -- a page was pinned, its image became new, and it was given back
 pub only_writes : (ok : Bool) (s t v : PoolState) (page right : ℕ) (new : List ℕ) → IsReady s → IsPinned page s t right
-    → (IsFile s.images → IsFile (slice_set s.images page new))
+    → (SpellsFile s.images → SpellsFile (slice_set s.images page new))
     → v ≡ record t { images = slice_set t.images right new; pins = slice_set t.pins right (pins_at t right - 1) }
     → OnlyWrites ok s v
 only_writes ok s t v page right new ready pinned keeps is = subst (OnlyWrites ok s) (sym is) (record {
@@ -131,7 +131,7 @@ only_writes ok s t v page right new ready pinned keeps is = subst (OnlyWrites ok
   file = λ honest done f.
       let same = written_is honest in
       record {
-        file = subst IsFile (sym same) (keeps f.file);
+        file = subst SpellsFile (sym same) (keeps f.file);
         sealed = λ n within. pinned.keeps.seals honest refl n (f.sealed n
             (subst (λ m. n < m) (ap length same ∙ length-set s.images page new) within));
       };

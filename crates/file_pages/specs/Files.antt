@@ -41,7 +41,7 @@ store_of images = record {
 }
 
 -- the images spell a file
-pub record IsFile (images : List (List ℕ)) : Type 0 where
+pub record SpellsFile (images : List (List ℕ)) : Type 0 where
   pub least : ROOT_PAGE < length images
   pub header : IsHeaderPage (image images 0)
   pub directory : (n : ℕ) → FIRST_DIRECTORY_PAGE ≤ n → n ≤ DIRECTORY_PAGES → IsDirectoryPage (image images n)
@@ -49,7 +49,7 @@ pub record IsFile (images : List (List ℕ)) : Type 0 where
 
 -- the pool of an honest device, of which each page is sealed, and which spells a file
 pub record IsFilePool (s : PoolState) : Type 0 where
-  pub file : IsFile s.images
+  pub file : SpellsFile s.images
   pub sealed : (n : ℕ) → n < length s.images → IsSealed n (slice_index_or s.stored n [])
 
 -- the most pages that a step pins

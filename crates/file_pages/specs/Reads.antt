@@ -1,5 +1,5 @@
 -- What a read of a file's page leaves, and what it says.
-use Rattle.std.specs.Prelude.{◌≡◌, ℕ, ◌≤◌, Bool, true, IsTrue, length, ⊤}
+use Rattle.std.specs.Prelude.{◌≡◌, ℕ, ◌≤◌, Bool, true, IsTrue, List, [], ◌++◌, Option, length, take, drop, unwrap_or, ⊤}
 use Rattle.std.specs.Option.{option_map}
 use Rattle.buffer_pool.specs.Pool.{PoolState}
 use Rattle.bucket_page.specs.declared.record_key.RecordKey.{RecordKey}
@@ -48,3 +48,12 @@ IsOnWay (kinds.Bucket b) = ⊤
 IsOnWay (kinds.Tombstone link) = ⊤
 IsOnWay (kinds.Directory es) = ⊥
 IsOnWay (kinds.Free next) = ⊥
+
+-- the bytes with a value written over their front, as much of it as they are long
+abbrev pub fronted : List ℕ → List ℕ → List ℕ
+fronted value bytes = take (length bytes) value ++ drop (length value) bytes
+
+-- the length of a value was told, and it was copied into the room
+pub record IsCopied (found : Option ℕ) (value : Option (List ℕ)) (old new : List ℕ) : Type 0 where
+  pub found_is : found ≡ option_map length value
+  pub copied : new ≡ fronted (unwrap_or value []) old

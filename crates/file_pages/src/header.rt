@@ -9,7 +9,7 @@ ghost use Rattle.directory.specs.declared.layout.TheConstants.{GREATEST_DEPTH, R
 ghost use Rattle.directory.specs.Reading.{header_at};
 ghost use Rattle.directory.specs.Spelling.{IsHeader};
 ghost use Rattle.hash_file.specs.Changes.{link_free, lower_depth, merge_counts, raise_depth, set_counts, split_counts, take_page, with_header};
-ghost use Rattle.hash_file.specs.Store.{IsFreePage, next_at, page_at};
+ghost use Rattle.hash_file.specs.Store.{IsFreePage, next_at};
 ghost use Rattle.page_forms.specs.Forms.{IsHeaderPage};
 ghost use Rattle.file_pages.specs.Files.{IsReady, IsFilePool, store_of};
 ghost use Rattle.file_pages.specs.Headers.{HasFreePage, MayMergeCount, MaySplitCount};

@@ -18,6 +18,6 @@ pub use fault::FileFault;
 pub use header::{
     count_merge, count_split, link_free, lower_depth, raise_depth, read_header, take_page,
 };
-pub use read::{look, read_bucket, read_depth, read_entry};
+pub use read::{copy_value, look, read_bucket, read_depth, read_entry};
 pub use records::{put_record, remove_record, replace_front, replace_record};
 pub use sight::{BucketSight, Sight};

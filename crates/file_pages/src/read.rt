@@ -1,15 +1,18 @@
 //! Reads of a file's pages.
 
-ghost use Rattle.std.specs.Prelude.{◌≡◌, ◌<◌, ◌≤◌, ◌^◌, length, is_ok, true, IsTrue, IsErr, IfOk};
+ghost use Rattle.std.specs.Prelude.{◌≡◌, ◌<◌, ◌≤◌, ◌^◌, length, is_ok, true, IsTrue, IsErr, IfOk, OnErr};
+ghost use Rattle.bucket_page.specs.Changes.{IsBucketPage};
+ghost use Rattle.bucket_page.specs.Reading.{records_at as records_in};
+ghost use Rattle.bucket_page.specs.Records.{lookup};
 ghost use Rattle.page_device.specs.Device.{HasRisen};
 ghost use Rattle.directory.specs.declared.layout.TheConstants.{GREATEST_DEPTH, PAGE_ENTRIES, ROOT_PAGE};
 ghost use Rattle.directory.specs.Entries.{slot_at};
 ghost use Rattle.directory.specs.Pages.{IsDirectoryPage};
 ghost use Rattle.directory.specs.Reading.{header_at};
-ghost use Rattle.hash_file.specs.Store.{entry_at, is_bucket, page_at};
+ghost use Rattle.hash_file.specs.Store.{entry_at, is_bucket, page_at, records_at};
 ghost use Rattle.page_forms.specs.Forms.{IsHeaderPage};
 ghost use Rattle.file_pages.specs.Files.{IsReady, IsFilePool, image, store_of};
-ghost use Rattle.file_pages.specs.Reads.{OnlyReads, IsOnWay, IsSeen, IsSight};
+ghost use Rattle.file_pages.specs.Reads.{OnlyReads, IsCopied, fronted, IsOnWay, IsSeen, IsSight};
 
 use crate::fault::FileFault;
 use crate::pinning::pin;
@@ -19,6 +22,7 @@ use buffer_pool::Pool;
 use directory::{ROOT_PAGE, page_of, slot_of};
 use page_device::PageDevice;
 use page_forms::FilePage;
+use std::cmp::min;
 
 /// The depth of the directory.
 pub fn read_depth<D: PageDevice>(pool: &mut Pool<D>) -> Result<u8, FileFault>
@@ -136,4 +140,58 @@ pub fn read_bucket<D: PageDevice>(pool: &mut Pool<D>, page: u32) -> Result<Bucke
     let sight = see_bucket(pool.image(&frame));
     pool.unpin(frame);
     sight
+}
+
+/// Copies the value of a key in the bucket on a page into the room, as much of it as the room takes. It
+/// gives the value's length, none where the bucket has no record of the key.
+pub fn copy_value<D: PageDevice>(
+    pool: &mut Pool<D>,
+    page: u32,
+    key: &RecordKey,
+    room: &mut [u8],
+) -> Result<Option<usize>, FileFault>
+    requires ready { IsReady pool.old }
+    ensures reads { OnlyReads (is_ok result) pool.old pool.new }
+    ensures ok { IsTrue pool.old.honest → IfOk result (λ found.
+        IsCopied found (lookup key.now (records_at (store_of pool.old.images) page))
+        room.old room.new) }
+    ensures err { OnErr result (room.new ≡ room.old) }
+    ensures fault { IsTrue pool.old.honest → IsFilePool pool.old → IsErr result →
+        ROOT_PAGE ≤ page → page < length pool.old.images →
+        is_bucket (page_at (store_of pool.old.images) page) ≡ true →
+        HasRisen pool.old.faults pool.new.faults }
+{
+    if page < ROOT_PAGE {
+        return Err(FileFault::Failed);
+    }
+    let frame = pin(pool, page)?;
+    let found = copy_from(pool.image(&frame), key, room);
+    pool.unpin(frame);
+    found
+}
+
+/// Copies the value of a key in a bucket into the room.
+fn copy_from(page: &FilePage, key: &RecordKey, room: &mut [u8]) -> Result<Option<usize>, FileFault>
+    ensures bucket { IfOk result (λ _. IsBucketPage page.now) }
+    ensures ok { IfOk result (λ found.
+        IsCopied found (lookup key.now (records_in page.now)) room.old room.new) }
+    ensures same { OnErr result (room.new ≡ room.old) }
+    ensures err { IsErr result → IsBucketPage page.now → ⊥ }
+{
+    let Some(bucket) = page.bucket() else {
+        return Err(FileFault::Failed);
+    };
+    let Some(value) = bucket.find(key) else {
+        return Ok(None);
+    };
+    copy_front(value, room);
+    Ok(Some(value.len()))
+}
+
+/// Copies as much of a value as the room takes.
+fn copy_front(value: &[u8], room: &mut [u8])
+    ensures { room.new ≡ fronted value.now room.old }
+{
+    let bytes = min(value.len(), room.len());
+    room[..bytes].copy_from_slice(&value[..bytes]);
 }

@@ -1,6 +1,6 @@
 //! What is seen of a page.
 
-ghost use Rattle.std.specs.Prelude.{◌≡◌, ℕ, IsErr, IfOk};
+ghost use Rattle.std.specs.Prelude.{◌≡◌, IsErr, IfOk};
 ghost use Rattle.bucket_page.specs.Changes.{IsBucketPage};
 ghost use Rattle.bucket_page.specs.Reading.{bucket_at, page_at};
 ghost use Rattle.bucket_page.specs.Spelling.{Spells};

@@ -63,7 +63,7 @@ module _ (s : Store) where
       (subst (λ m. Tiles (range_at s) (stop_of (range_at s m)) zs POSITIONS) (sym is) u.1) in
       ap (λ m. m ∷ ws) is ∙ ap (λ xs. z ∷ xs) rest
 
-  one_chain : (ns ms : List ℕ) → IsRightChain s ns → IsRightChain s ms → ns ≡ ms
+  pub one_chain : (ns ms : List ℕ) → IsRightChain s ns → IsRightChain s ms → ns ≡ ms
   one_chain ns ms c d =
       one_from ns ms s.layout.root s.layout.root 0 refl c.linked (partition_tiles (range_at s) ns c.partition) d.linked
       (partition_tiles (range_at s) ms d.partition)

@@ -3,16 +3,10 @@ use Rattle.std.proofs.Common.{ℕ, ◌≡◌, ◌+◌, ◌-◌, ◌<◌, ◌≤�
 use Rattle.std.specs.List.{Contains}
 use Rattle.std.proofs.lemmas.Bool.{both_ways}
 use Rattle.std.proofs.lemmas.List.{length-set}
-use Rattle.positions.specs.declared.pseudokey.TheConstants.{PSEUDOKEY_BITS, POSITIONS}
-use Rattle.positions.specs.declared.range.Range.{Range}
-use Rattle.positions.specs.Positions.{position_of}
-use Rattle.positions.specs.Ranges.{IsRange, start_of, stop_of, upper_half_of}
-use Rattle.positions.specs.Tiles.{begun}
+use Rattle.hash_file.proofs.Names.{IsRange, POSITIONS, PSEUDOKEY_BITS, PageKind, Range, RecordKey, begun, position_of, start_of, stop_of, upper_half_of}
 use Rattle.positions.proofs.MemberLaws.{contains_head, contains_tail, contains_cases, contains_none}
 use Rattle.positions.proofs.CountLaws.{begun_inside}
 use Rattle.positions.proofs.RangeLaws.{range_has_start, upper_half_start, upper_half_stop}
-use Rattle.bucket_page.specs.declared.record_key.RecordKey.{RecordKey}
-use Rattle.bucket_page.specs.declared.page.PageKind.{PageKind}
 use Rattle.bucket_page.specs.declared.page.PageKind.TheVariants as kinds
 use Rattle.bucket_page.specs.Records.{Pair, lookup}
 use Rattle.bucket_page.specs.Dividing.{upper_half}

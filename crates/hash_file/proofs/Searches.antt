@@ -1,10 +1,7 @@
 -- Hops lead on, looks answer, and a stale depth leads still.
 use Rattle.std.proofs.Common.{ℕ, ◌≡◌, ◌<◌, ◌≤◌, ◌%◌, ◌^◌, List, [], ◌∷◌, true, false, arith, refl, sym, ap, ◌∙◌, ◌⊎◌, inl, inr}
 use Rattle.std.specs.List.{Contains}
-use Rattle.positions.specs.declared.pseudokey.TheConstants.{PSEUDOKEY_BITS, POSITIONS}
-use Rattle.positions.specs.declared.range.Range.{Range}
-use Rattle.positions.specs.Positions.{position_of}
-use Rattle.positions.specs.Ranges.{IsRange, Covers, HasPosition, start_of, stop_of, upper_half_of}
+use Rattle.hash_file.proofs.Names.{Covers, HasPosition, IsRange, POSITIONS, PSEUDOKEY_BITS, Range, position_of, start_of, stop_of, upper_half_of}
 use Rattle.positions.proofs.MemberLaws.{contains_head, contains_cases, contains_none}
 use Rattle.positions.proofs.PositionLaws.{position_below, position_truncated}
 use Rattle.positions.proofs.RangeLaws.{range_has, range_has_start, range_passed, upper_half_valid, upper_half_start, upper_half_stop, half_in_range, halved_valid, halves_apart}

@@ -3,14 +3,8 @@ use Rattle.std.proofs.Common.{ℕ, ◌≡◌, ◌≢◌, ◌+◌, List, [], ◌�
 use Rattle.std.specs.List.{Contains}
 use Rattle.std.proofs.lemmas.Bool.{cases_eq}
 use Rattle.std.proofs.lemmas.List.{length-set}
-use Rattle.positions.specs.declared.range.Range.{Range}
-use Rattle.positions.specs.Ranges.{Covers}
-use Rattle.bucket_page.specs.declared.record_key.RecordKey.{RecordKey}
-use Rattle.bucket_page.specs.declared.page.PageKind.{PageKind}
+use Rattle.hash_file.proofs.Names.{Bucket, Covers, Header, PageKind, Pair, Range, RecordKey, is_same, lookup}
 use Rattle.bucket_page.specs.declared.page.PageKind.TheVariants as kinds
-use Rattle.bucket_page.specs.Bucket.{Bucket}
-use Rattle.bucket_page.specs.Keys.{is_same}
-use Rattle.bucket_page.specs.Records.{Pair, lookup}
 use Rattle.bucket_page.proofs.KeyLaws.{same_is}
 use Rattle.hash_file.specs.Store.{Store, page_at, is_bucket, bucket_of, bucket_at, range_of, range_at, records_at, next_at}
 use Rattle.hash_file.specs.Chain.{chain, contents, pairs_on, IsBucketOf, IsBucketOn, IsPlaced}
@@ -21,7 +15,6 @@ use Rattle.hash_file.specs.Sound.{IsSoundOn, IsSoundFile}
 use Rattle.hash_file.specs.Changes.{RecordWrite, MayWrite, key_of, value_after, records_after, write_record}
 use Rattle.hash_file.specs.Kept.{HasShapeOf, LengthensWays}
 use Rattle.hash_file.specs.Laws.{KeepsOtherRecords}
-use Rattle.directory.specs.declared.header.Header.{Header}
 use Rattle.bucket_page.specs.Dividing.{upper_half}
 use Rattle.hash_file.proofs.Lists.{contains_is}
 use Rattle.hash_file.proofs.Chains.{chain_is, bucket_found, bucket_unique}

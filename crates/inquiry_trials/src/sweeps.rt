@@ -7,7 +7,7 @@ use queue_model::{Caller, Errno};
 use queue_records::{QueueEntry, Record, counter_key, key_key, message_key, queue_key, type_key};
 use std::alloc::Global;
 use std::test::Fail;
-use xsi_inquiry::{Decision, Inquiry, Wanted, Write};
+use xsi_inquiry::{Decision, Inquiry, Sweep, Wanted, Write};
 use xsi_sweep::{RemoveInquiry, Turn};
 
 /// Queue 1 once messages 1 and 2 of types 5 and 2 were sent.
@@ -24,6 +24,12 @@ fn held() -> Record<'static> {
         ..MADE
     })
 }
+
+/// From its first message on.
+const SWEEP: Sweep = Sweep {
+    id: 1,
+    first: Some(1),
+};
 
 fn remove(alloc: Global, by: Caller, id: u32) -> Result<Asked<RemoveInquiry>, Fail> {
     Ok(Asked {
@@ -43,7 +49,7 @@ fn a_remove_reads_its_queue_twice_and_the_counter_and_then_sweeps(
     asked.is_told(&rt, queue(), Some(held()));
     asked.is_told(&rt, counter_key(), Some(counter(2, 1)));
     let decision = asked.decides(&rt);
-    assert!(rt; matches!(&decision, Some(Decision::Sweeps(Some(first))) if *first == 1));
+    assert!(rt; matches!(&decision, Some(Decision::Sweeps(sweep)) if *sweep == SWEEP));
     let writes = [
         Write::Delete(key_key(7)),
         Write::Delete(queue_key(1)),

@@ -16,11 +16,8 @@ const CALLER: Caller = Caller {
 /// Pages of the file.
 const PAGES: u32 = 258;
 
-/// Bytes of each message.
-const BODY_BYTES: usize = 64;
-
-/// Sends a message and receives it, so many times, on a new file; tells how many were received.
-pub fn sends_and_receives(alloc: Global, rounds: u32) -> anyhow::Result<u32> {
+/// Sends a message of these bytes and receives it, so many times, on a new file; tells how many were received.
+pub fn sends_and_receives(alloc: Global, bytes: &[u8], rounds: u32) -> anyhow::Result<u32> {
     let get = Call::Get(GetArguments {
         key: Some(7),
         create: true,
@@ -28,7 +25,7 @@ pub fn sends_and_receives(alloc: Global, rounds: u32) -> anyhow::Result<u32> {
         mode: 0o666,
         moment: 1,
     });
-    let send = sending(alloc)?;
+    let send = sending(alloc, bytes)?;
     let receive = Call::Receive(ReceiveArguments {
         id: 1,
         size: 1024,
@@ -54,8 +51,8 @@ pub fn sends_and_receives(alloc: Global, rounds: u32) -> anyhow::Result<u32> {
 }
 
 /// A Send of type 5.
-fn sending(alloc: Global) -> Result<Call, AllocError> {
-    let body = Body::new(Vec::from_slice(alloc, &[7; BODY_BYTES])?);
+fn sending(alloc: Global, bytes: &[u8]) -> Result<Call, AllocError> {
+    let body = Body::new(Vec::from_slice(alloc, bytes)?);
     Ok(Call::Send(SendArguments {
         id: 1,
         mtype: 5,

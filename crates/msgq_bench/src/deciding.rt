@@ -20,19 +20,24 @@ const CALLER: Caller = Caller {
 
 /// Sends of a type are decided so many times on a queue of so many types; tells how many were answered.
 pub fn sends(alloc: Global, types: u32, mtype: i64, rounds: u32) -> Result<u32, NoMemory> {
-    let send = SendArguments {
-        id: 1,
-        mtype,
-        body: Body::new(Vec::from_slice(alloc, &[7; 64])?),
-        nowait: true,
-        moment: 1,
-    };
+    let send = send_of(alloc, mtype)?;
     let mut room = Room::new(alloc, &Call::Stat { id: 1 })?;
     let mut answered = 0u32;
     for _ in 0..rounds {
         answered = answered.wrapping_add(decided::<SendInquiry>(&send, &mut room, types));
     }
     Ok(answered)
+}
+
+/// A Send of 64 bytes.
+fn send_of(alloc: Global, mtype: i64) -> Result<SendArguments, NoMemory> {
+    Ok(SendArguments {
+        id: 1,
+        mtype,
+        body: Body::new(Vec::from_slice(alloc, &[7; 64])?),
+        nowait: true,
+        moment: 1,
+    })
 }
 
 /// Receives of type 0 are decided so many times on a queue of so many types; tells how many were answered.

@@ -58,15 +58,26 @@ fn once(rt: &HostRuntime) -> anyhow::Result<()> {
     let mut pool = pinning::pool_over(rt.alloc(), 4, 2)?;
     let mark = pinning::pins(&mut pool, 0, 4, 8)?;
     println!(rt; "pinning: {mark}")?;
-    let received = calling::sends_and_receives(rt.alloc(), 3)?;
+    once_called(rt)?;
+    let mut table = locking::table_of(rt.alloc(), 64, 6)?;
+    let granted = locking::grants(&mut table, 64, 100);
+    println!(rt; "granted: {granted}")?;
+    once_stepped(rt)
+}
+
+/// Runs calls and decisions once, small.
+fn once_called(rt: &HostRuntime) -> anyhow::Result<()> {
+    let received = calling::sends_and_receives(rt.alloc(), &[7; 1024], 3)?;
     println!(rt; "received: {received}")?;
     let standing = deciding::sends(rt.alloc(), 16, 16, 1)?;
     let new = deciding::sends(rt.alloc(), 16, 17, 1)?;
     let taken = deciding::receives(rt.alloc(), 16, 1)?;
     println!(rt; "decided: {:?}", (standing, new, taken))?;
-    let mut table = locking::table_of(rt.alloc(), 64, 6)?;
-    let granted = locking::grants(&mut table, 64, 100);
-    println!(rt; "granted: {granted}")?;
+    Ok(())
+}
+
+/// Makes steps once, few.
+fn once_stepped(rt: &HostRuntime) -> anyhow::Result<()> {
     let mut pool = stepping::full_file(rt.alloc())?;
     let marks = (
         stepping::entries(&mut pool, 3)?,
@@ -80,11 +91,21 @@ fn once(rt: &HostRuntime) -> anyhow::Result<()> {
 /// Times sends and receives.
 fn calls(rt: &HostRuntime) -> anyhow::Result<()> {
     let start = Instant::now(rt)?;
-    let received = calling::sends_and_receives(rt.alloc(), MESSAGES)?;
+    let received = calling::sends_and_receives(rt.alloc(), &[7; 64], MESSAGES)?;
     println!(rt; "{received} messages sent and received")?;
     report(
         rt,
-        "a send or a receive",
+        "a send or a receive of 64 bytes",
+        0,
+        start,
+        MESSAGES.saturating_mul(2),
+    )?;
+    let start = Instant::now(rt)?;
+    let received = calling::sends_and_receives(rt.alloc(), &[7; 1024], MESSAGES)?;
+    println!(rt; "{received} messages sent and received")?;
+    report(
+        rt,
+        "a send or a receive of 1,024 bytes",
         0,
         start,
         MESSAGES.saturating_mul(2),

@@ -110,8 +110,10 @@ pub Leaves-first : (c : Caller) (call : Call) (s : State) (H : State → Type 0)
     → r ≢ Ok served.Waits → Tells c call s r H → Leaves c call s (reply_to r) H
 Leaves-first c call s H (Ok (served.Answer a)) goes (t, is, held) = (t, (s, inl refl, is), held)
 Leaves-first c call s H (Ok served.Waits) goes told = absurd (goes refl)
-Leaves-first c call s H (Err fault.NoRoom) goes held = (s, (s, inl refl, (inl refl, refl)), held)
-Leaves-first c call s H (Err fault.NoMemory) goes (receive, held) = (s, (s, inl refl, (inr refl, refl)), held)
+Leaves-first c call s H (Err fault.NoRoom) goes (inserts, held) =
+    (s, (s, inl refl, (inl (refl, inserts), refl)), held)
+Leaves-first c call s H (Err fault.NoMemory) goes (receive, held) =
+    (s, (s, inl refl, (inr (refl, receive), refl)), held)
 Leaves-first c call s H (Err fault.Failed) goes told = absurd told
 
 -- a call that waited is replied once the system is stopped
@@ -119,9 +121,10 @@ pub Leaves-stopped : (c : Caller) (call : Call) (s : State) (H : State → Type 
     → outcome c call s ≡ None → Tells c call (stop s) r H → Leaves c call s (reply_to r) H
 Leaves-stopped c call s H (Ok (served.Answer a)) waits (t, is, held) = (t, (stop s, inr (waits, refl), is), held)
 Leaves-stopped c call s H (Ok served.Waits) waits (again, held) = absurd (never_waits c call (stop s) refl again)
-Leaves-stopped c call s H (Err fault.NoRoom) waits held = (stop s, (stop s, inr (waits, refl), (inl refl, refl)), held)
+Leaves-stopped c call s H (Err fault.NoRoom) waits (inserts, held) =
+    (stop s, (stop s, inr (waits, refl), (inl (refl, inserts), refl)), held)
 Leaves-stopped c call s H (Err fault.NoMemory) waits (receive, held) =
-    (stop s, (stop s, inr (waits, refl), (inr refl, refl)), held)
+    (stop s, (stop s, inr (waits, refl), (inr (refl, receive), refl)), held)
 Leaves-stopped c call s H (Err fault.Failed) waits told = absurd told
 
 -- one line more

@@ -5,6 +5,7 @@ use Rattle.queue_model.specs.Rules.{outcome}
 use Rattle.queue_model.specs.State.{State}
 use Rattle.queue_model.specs.declared.call.Call.{Call}
 use Rattle.queue_model.specs.declared.caller.Caller.{Caller}
+use Rattle.one_caller.specs.Serving.{Inserts, IsReceive}
 use Rattle.msgq_cli.specs.Answers.{reply_text}
 use Rattle.msgq_cli.specs.Outputs.{OutputState, Prints}
 use Rattle.msgq_cli.specs.Scripts.{Parts, caller_of}
@@ -25,15 +26,16 @@ stop s = record s { stopped = true }
 abbrev pub IsReady : Caller → Call → State → State → Type 0
 IsReady c call s ready = (ready ≡ s) ⊎ ((outcome c call s ≡ None) × (ready ≡ stop s))
 
--- the faults that leave the system: no room, and no memory
-abbrev pub LeavesSystem : ℕ → Type 0
-LeavesSystem fault = (fault ≡ 50) ⊎ (fault ≡ 60)
+-- the faults that leave the system: no room for a call that makes a queue or sends a message, and no memory for a
+-- Receive
+abbrev pub LeavesSystem : Caller → Call → State → ℕ → Type 0
+LeavesSystem c call s fault = ((fault ≡ 50) × Inserts c call s) ⊎ ((fault ≡ 60) × IsReceive call)
 
 -- what a call is replied in the system that it is made in, and the system that it leaves
 abbrev pub IsServed : Caller → Call → State → Reply → State → Type 0
 IsServed c call s (Answered answer) t = outcome c call s ≡ Some (answer, t)
 IsServed c call s Stopped t = ⊥
-IsServed c call s (Failed fault) t = LeavesSystem fault × (t ≡ s)
+IsServed c call s (Failed fault) t = LeavesSystem c call s fault × (t ≡ s)
 
 -- what a command is replied where the system is s, and the system t that it leaves
 abbrev pub IsReplied : Caller → Command → State → Reply → State → Type 0

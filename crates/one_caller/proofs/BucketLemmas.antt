@@ -1,7 +1,7 @@
 -- What an open file shows where its root bucket changes.
 use Rattle.std.proofs.Common.{◌≡◌, refl, ◌∙◌, sym, ap, subst, ℕ, zero, suc, Some, List, [], ◌∷◌, Option, slice_get, slice_index_or, slice_set}
 use Rattle.std.proofs.Common.{Result, Ok, Err, OnOk, OnErr}
-use Rattle.std.proofs.lemmas.List.{get_or-set_same, set-get_or}
+use Rattle.std.proofs.lemmas.List.{get_or-set_same}
 use Rattle.std.proofs.lemmas.Option.{get_or_from_slice_get, slice_get_within}
 use Rattle.buffer_pool.specs.Pool.{PoolState}
 use Rattle.directory.specs.declared.layout.TheConstants.{ROOT_PAGE}
@@ -31,9 +31,6 @@ pub set_twice : {X : Type 0} (xs : List X) (i : ℕ) (a b : X) → slice_set (sl
 set_twice [] i a b = refl
 set_twice (x ∷ xs) zero a b = refl
 set_twice (x ∷ xs) (suc i) a b = ap (λ ys. x ∷ ys) (set_twice xs i a b)
-
-pub set_back : {X : Type 0} (xs : List X) (i : ℕ) (a : X) → slice_get xs i ≡ Some a → slice_set xs i a ≡ xs
-set_back xs i a is = ap (slice_set xs i) (sym (get_or_from_slice_get xs i a a is)) ∙ set-get_or xs i a
 
 -- ---- an image is stored
 

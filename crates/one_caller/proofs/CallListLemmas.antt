@@ -18,7 +18,7 @@ pub Tells-weaker : (c : Caller) (call : Call) (s : State) (result : Result Serve
     ((t : State) → G t → H t) → Tells c call s result G → Tells c call s result H
 Tells-weaker c call s (Ok (Answer a)) G H follows (t, outcome, held) = (t, outcome, follows t held)
 Tells-weaker c call s (Ok Waits) G H follows (outcome, held) = (outcome, follows s held)
-Tells-weaker c call s (Err NoRoom) G H follows held = follows s held
+Tells-weaker c call s (Err NoRoom) G H follows (inserts, held) = (inserts, follows s held)
 Tells-weaker c call s (Err NoMemory) G H follows (receive, held) = (receive, follows s held)
 Tells-weaker c call s (Err Failed) G H follows never = absurd never
 
@@ -30,7 +30,8 @@ AreServed-push [] s [] G H asked result held then = then s held
 AreServed-push [] s (r ∷ rs) G H asked result never then = absurd never
 AreServed-push (c ∷ cs) s [] G H asked result never then = absurd never
 AreServed-push (c ∷ cs) s (r ∷ rs) G H asked result served then =
-    Tells-weaker c.caller c.call s r (λ t. AreServed cs t rs G) (λ t. AreServed (cs ++ asked ∷ []) t (rs ++ result ∷ []) H)
+    Tells-weaker c.caller c.call s r (λ t. AreServed cs t rs G)
+    (λ t. AreServed (cs ++ asked ∷ []) t (rs ++ result ∷ []) H)
     (λ t later. AreServed-push cs t rs G H asked result later then) served
 
 -- the calls so far were served, and there is room for what the others are told
@@ -52,7 +53,8 @@ pub IsServedSoFar-next : (calls : List Asked) (i : ℕ) (old mid now : CallerSta
     ((s : State) → Holds mid s → Tells asked.caller asked.call s result (Holds now)) →
     more ≡ told ++ result ∷ [] → (more_room : ℕ) → room ≤ more_room →
     IsServedSoFar calls (i + 1) old now more more_room
-IsServedSoFar-next calls i old mid now told more room asked result before within at step pushed more_room grown = record {
+IsServedSoFar-next calls i old mid now told more room asked result before within at step pushed more_room grown =
+    record {
   so_far = λ s held. rw (take_next calls i asked within at) (rw pushed
       (AreServed-push (take i calls) s told (Holds mid) (Holds now) asked result (before.so_far s held) step));
   number = rw pushed (let n = before.number in let l = length-append told (result ∷ []) in omega (arith, n, l));

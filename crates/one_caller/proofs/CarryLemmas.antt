@@ -32,7 +32,8 @@ same_values old new ps same has key = has key ∙ ap (option_map value_of) (same
 -- a record that was inserted where there was none, and deleted again
 pub taken_back : (records : Records) (ps : List Pair) (key : RecordKey) (found : Option Record) → records key ≡ None
     → HasValues (with_at key None (with_at key found records)) ps → HasValues records ps
-taken_back records ps key found none has = same_values (with_at key None (with_at key found records)) records ps same has
+taken_back records ps key found none has = same_values
+    (with_at key None (with_at key found records)) records ps same has
   where
     same : (other : RecordKey) → with_at key None (with_at key found records) other ≡ records other
     same other = by_test (is_same other key) refl
@@ -116,11 +117,6 @@ pub none_of : (ts : List Record) → slice_get ts 0 ≡ None → ts ≡ []
 none_of [] is = refl
 none_of (t ∷ ts) is = absurd cc
 
-pub one_of : (ts : List Record) (a : Record) → slice_get ts 0 ≡ Some a → slice_get ts 1 ≡ None → ts ≡ a ∷ []
-one_of [] a is none = absurd cc
-one_of (t ∷ []) a is none = let same : t ≡ a = cc in ap (λ x. x ∷ []) same
-one_of (t ∷ u ∷ ts) a is none = absurd cc
-
 pub two_of : (ts : List Record) (a b : Record) → slice_get ts 0 ≡ Some a → slice_get ts 1 ≡ Some b → length ts ≤ 2
     → ts ≡ a ∷ b ∷ []
 two_of [] a b is other few = absurd cc
@@ -130,36 +126,6 @@ two_of (t ∷ u ∷ []) a b is other few =
     let second : u ≡ b = cc in
     λ i. first i ∷ second i ∷ []
 two_of (t ∷ u ∷ v ∷ ts) a b is other few = absurd (omega (arith, few))
-
--- one record
-pub one_carried : (ts : List Record) (first : Record) (r : Result (Unit {0}) CallFault) (ps : List Pair)
-    (file : OneBucketState) → ts ≡ first ∷ []
-    → ((records : Records) → HasValues records ps → records (key_of first) ≡ None → IsInRange first
-    → Carries records (with_at (key_of first) (Some first) records) r file)
-    → (records : Records) → HasValues records ps → AreAbsent ts records → All IsInRange ts
-    → Carries records (inserted ts records) r file
-one_carried ts first r ps file is carried records has =
-    subst (λ us. AreAbsent us records → All IsInRange us → Carries records (inserted us records) r file) (sym is)
-    (λ absent range. carried records has absent.0 (All-head IsInRange first [] range))
-
--- the first of some does not fit
-pub first_refused : (ts : List Record) (a : Record) (fault : CallFault) (ps : List Pair) (file : OneBucketState)
-    → slice_get ts 0 ≡ Some a
-    → ((records : Records) → HasValues records ps → records (key_of a) ≡ None → IsInRange a
-    → Carries records (with_at (key_of a) (Some a) records) (Err fault) file)
-    → (records : Records) → HasValues records ps → AreAbsent ts records → All IsInRange ts
-    → Carries records (inserted ts records) (Err fault) file
-first_refused [] a fault ps file is carried records has = absurd cc
-first_refused (t ∷ ts) a fault ps file is carried records has =
-    let same : t ≡ a = cc in
-    λ absent range. again fault (carried records has (subst (λ x. records (key_of x) ≡ None) same absent.0)
-    (subst IsInRange same (All-head IsInRange t ts range)))
-  where
-    again : (f : CallFault) → Carries records (with_at (key_of a) (Some a) records) (Err f) file
-        → Carries records (inserted (t ∷ ts) records) (Err f) file
-    again NoRoom values = values
-    again NoMemory never = never
-    again Failed never = never
 
 -- the first of two was inserted: what the second asks for
 pub record IsBetween (a b : Record) (records : Records) (ps : List Pair) : Type 0 where

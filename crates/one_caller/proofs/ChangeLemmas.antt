@@ -38,7 +38,8 @@ same_either a b = by_test (is_same a b) (is_same b a) refl refl
 
 -- ---- the records with another at one key
 
-pub has_with : (records : Records) (ps qs : List Pair) (key : RecordKey) (found : Option Record) (value : Option (List ℕ))
+pub has_with : (records : Records) (ps qs : List Pair) (key : RecordKey) (found : Option Record)
+    (value : Option (List ℕ))
     → value ≡ option_map value_of found → HasValues records ps
     → ((k : RecordKey) → lookup k qs ≡ cond (is_same key k) value (lookup k ps))
     → HasValues (with_at key found records) qs
@@ -59,7 +60,8 @@ has_inserted records ps r has =
     (λ k. lookup_inserted k (pair (key_of r) (value_of r)) ps)
 
 -- a record is replaced
-pub has_replaced : (records : Records) (ps : List Pair) (r : Record) → IsSome (lookup (key_of r) ps) → HasValues records ps
+pub has_replaced : (records : Records) (ps : List Pair) (r : Record) → IsSome (lookup (key_of r) ps) →
+    HasValues records ps
     → HasValues (with_at (key_of r) (Some r) records) (replaced (pair (key_of r) (value_of r)) ps)
 has_replaced records ps r there has =
     has_with records ps (replaced (pair (key_of r) (value_of r)) ps) (key_of r) (Some r) (Some (value_of r)) refl has

@@ -1,5 +1,5 @@
 -- A caller holds a system: when it is opened, behind a call, and when it is closed.
-use Rattle.std.proofs.Common.{◌≡◌, refl, ◌∙◌, sym, subst, ℕ, Bool, true, false, List, Result, Ok, Err, IfOk, IsTrue}
+use Rattle.std.proofs.Common.{◌≡◌, refl, ◌∙◌, sym, subst, ℕ, Bool, false, List, Result, Ok, Err, IfOk, IsTrue}
 use Rattle.queue_model.specs.declared.call.Call.{Call}
 use Rattle.queue_model.specs.declared.caller.Caller.{Caller}
 use Rattle.queue_model.specs.State.{State}
@@ -60,19 +60,11 @@ held_closed c s content held honest left =
       filed = held.filed;
     }
 
-pub held_stopped : (c : CallerState) (s : State) → Holds c s
-    → Holds (record c { stopped = true }) (record s { stopped = true })
-held_stopped c s held = record {
-  filed = filed_still s true held.filed;
-  sound = held.sound;
-  stopped = refl;
-  file = record { whole = held.file.whole; values = held.file.values; pages = held.file.pages };
-}
-
 -- ---- behind a call
 
 -- other records in the same file
-pub holds_records : (old new : OneBucketState) (before after : Records) → ChangesRecords old new → HoldsRecords before old
+pub holds_records : (old new : OneBucketState) (before after : Records) → ChangesRecords old new →
+    HoldsRecords before old
     → HasValues after new.records → HoldsRecords after new
 holds_records old new before after same held values =
     subst (HoldsRecords after) (sym same) (record {
@@ -118,7 +110,7 @@ module _ (c : Caller) (call : Call) (old new : CallerState) (s : State) (caller 
     },
   )
   held_after (Ok Waits) sound told = (told.0, left sound told.1)
-  held_after (Err NoRoom) sound told = left sound told
+  held_after (Err NoRoom) sound told = (told.0, left sound told.1)
   held_after (Err NoMemory) sound told = (told.0, left sound told.1)
   held_after (Err Failed) sound told = told
 

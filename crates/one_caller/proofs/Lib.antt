@@ -8,5 +8,6 @@ pub mod FileLaws
 pub mod HoldLemmas
 pub mod OpenLemmas
 pub mod ReadLemmas
+pub mod RoomLemmas
 pub mod ServeLemmas
 pub mod SweepLemmas

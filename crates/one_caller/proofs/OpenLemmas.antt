@@ -1,10 +1,9 @@
 -- What an open file shows of its pages, and what it leaves of them.
-use Rattle.std.proofs.Common.{◌≡◌, refl, ◌∙◌, sym, ap, subst, ◌↔◌, ◌⊎◌, inl, inr, ℕ, ◌<◌, ◌≤◌, ◌+◌, Bool, true, false, IsTrue, List, [], Option, Some, None, IfNone, IsErrOf, Ok, Err, Result, arith}
-use Rattle.std.proofs.Common.{map, slice_get, slice_index_or, nat_eq, eq-eqb}
-use Rattle.std.proofs.Math.ListN.{get_or, get_or-map}
+use Rattle.std.proofs.Common.{◌≡◌, refl, ◌∙◌, sym, ap, subst, ◌↔◌, ℕ, ◌<◌, ◌≤◌, ◌+◌, Bool, true, false, IsTrue, List, [], Option, Some, None, IfNone, IsErrOf, Err, arith}
+use Rattle.std.proofs.Common.{slice_get, slice_index_or, nat_eq, eq-eqb}
+use Rattle.std.proofs.Math.ListN.{get_or-map}
 use Rattle.std.proofs.lemmas.Bool.{eqb-true}
 use Rattle.std.proofs.lemmas.Option.{get_or_from_slice_get}
-use Rattle.page_device.specs.Device.{HasRisen}
 use Rattle.page_device.specs.Sealed.{IsSealed, payload_of}
 use Rattle.std.proofs.Common.{length}
 use Rattle.page_device.specs.declared.fault.DeviceFault.TheVariants as device
@@ -27,11 +26,6 @@ use Rattle.one_caller.specs.OneBucket.{OneBucketState, IsKept, IsPinnedRoot, IsR
 
 pub false_not_true : ◌≡◌ {A = Bool} false true → ⊥
 false_not_true same = cc
-
--- a count that rose later rose
-pub risen_after : (old mid new : ℕ) → old ≤ mid → HasRisen mid new → HasRisen old new
-risen_after old mid new before (inl more) = inl (omega arith)
-risen_after old mid new before (inr most) = inr most
 
 -- the root page's payload among those of all pages
 pub payload_among : (content : List (List ℕ)) →
@@ -167,19 +161,25 @@ pub not_pinned : (s : PoolState) (fault : PoolFault) (content : List (List ℕ))
     → (IsErrOf {T = ℕ} (Err fault) (pools.Device device.PastEnd) → length s.images ≤ ROOT_PAGE)
     → (IsErrOf {T = ℕ} (Err fault) pools.TooFewFrames → IsCrowded ROOT_PAGE s) → MayNotPin ROOT_PAGE s fault
     → (rs : List Pair) → IsSealed ROOT_PAGE (page_at content ROOT_PAGE) → IsRoot rs (payload_at content ROOT_PAGE) → ⊥
-not_pinned s (pools.Device device.Device) content honest images stored rest some least other past crowded told rs sealed it =
+not_pinned s (pools.Device device.Device) content honest images stored rest some least other past crowded told rs
+    sealed it =
     other refl
-not_pinned s (pools.Device device.BadDigest) content honest images stored rest some least other past crowded told rs sealed it =
+not_pinned s (pools.Device device.BadDigest) content honest images stored rest some least other past crowded told rs
+    sealed it =
     told honest (subst (λ (pages : List (List ℕ)). IsSealed ROOT_PAGE (page_at pages ROOT_PAGE)) (sym stored) sealed)
-not_pinned s (pools.Device device.PastEnd) content honest images stored rest some least other past crowded told rs sealed it =
+not_pinned s (pools.Device device.PastEnd) content honest images stored rest some least other past crowded told rs
+    sealed it =
     absurd (omega (arith, past refl, least))
-not_pinned s (pools.Device device.DeviceFull) content honest images stored rest some least other past crowded told rs sealed it =
+not_pinned s (pools.Device device.DeviceFull) content honest images stored rest some least other past crowded told rs
+    sealed it =
     absurd told
-not_pinned s (pools.Device device.NoMemory) content honest images stored rest some least other past crowded told rs sealed it =
+not_pinned s (pools.Device device.NoMemory) content honest images stored rest some least other past crowded told rs
+    sealed it =
     absurd told
 not_pinned s pools.Malformed content honest images stored rest some least other past crowded told rs sealed it =
     told honest (subst IsWell (sym (ap (λ xs. slice_index_or xs ROOT_PAGE []) images ∙ payload_among content))
     (page_well (kinds.Bucket (root_bucket rs)) (payload_at content ROOT_PAGE) it))
 not_pinned s pools.TooFewFrames content honest images stored rest some least other past crowded told rs sealed it =
     absurd (omega (arith, (crowded refl).all_pinned, count_none s.pins rest, some))
-not_pinned s pools.NoMemory content honest images stored rest some least other past crowded told rs sealed it = absurd told
+not_pinned s pools.NoMemory content honest images stored rest some least other past crowded told rs sealed it =
+    absurd told

@@ -1,5 +1,5 @@
 -- A record is read from its value.
-use Rattle.std.proofs.Common.{◌≡◌, refl, ◌∙◌, sym, ap, subst, ℕ, List, Option, Some, None, Result, Ok, Err, Bool, nat_lt}
+use Rattle.std.proofs.Common.{◌≡◌, refl, ◌∙◌, sym, ap, subst, ℕ, List, Option, Some, None, Result, Ok, Err}
 use Rattle.std.specs.Option.{option_map}
 use Rattle.bucket_page.specs.declared.record_key.RecordKey.{RecordKey}
 use Rattle.bucket_page.specs.Records.{Pair}
@@ -16,9 +16,9 @@ use Rattle.type_chains.specs.RecordOf.{record_of}
 use Rattle.type_chains.proofs.Spelled.{spelled}
 use Rattle.one_caller.specs.Filing.{AreAmong, HasValues}
 use Rattle.xsi_inquiry.specs.Rooms.{Roomful}
-use Rattle.xsi_inquiry.specs.Telling.{IsFiled, IsTold, IsToldGiven}
+use Rattle.xsi_inquiry.specs.Telling.{IsFiled, IsTold}
 use Rattle.xsi_inquiry.specs.declared.wanted.Wanted.{Wanted}
-use Rattle.xsi_inquiry.specs.declared.wanted.Wanted.TheVariants.{At, Given}
+use Rattle.xsi_inquiry.specs.declared.wanted.Wanted.TheVariants.{At}
 use Rattle.xsi_inquiry.specs.Writing.{Records}
 
 -- the record at a key, which the value spells
@@ -27,7 +27,8 @@ record IsRead (records : Records) (key : RecordKey) (value : List ℕ) : Type 0 
   pub found : records key ≡ Some entry
   pub spells : Spells entry key value
 
-is_read : (s : State) (records : Records) (key : RecordKey) (value : List ℕ) → IsFiled s → AreAmong records (record_of s)
+is_read : (s : State) (records : Records) (key : RecordKey) (value : List ℕ) → IsFiled s → AreAmong records
+    (record_of s)
     → option_map value_of (records key) ≡ Some value → IsRead records key value
 is_read s records key value filed among is = at (records key) refl is
   where
@@ -75,13 +76,6 @@ told_at s wanted asked key found is some here other at =
     let same_key : key ≡ other = cc in
     here ∙ ap (record_of s) same_key
 
-pub given_so : (s : State) (wanted asked : Option Wanted) (id : ℕ) (given : Bool) → asked ≡ wanted
-    → asked ≡ Some (Given id) → given ≡ nat_lt id s.next_id → IsToldGiven s wanted given
-given_so s wanted asked id given is some here other at =
-    let same : ◌≡◌ {A = Option Wanted} (Some (Given id)) (Some (Given other)) = sym some ∙ is ∙ at in
-    let same_id : id ≡ other = cc in
-    here ∙ ap (λ n. nat_lt n s.next_id) same_id
-
 -- ---- the Counter
 
 pub none_stands : (s : State) (found : Option Record) → found ≡ record_of s counter_key → found ≡ None → ⊥
@@ -89,7 +83,8 @@ none_stands s found is none =
     let clash : ◌≡◌ {A = Option Record} None (Some (records.Counter (counter_of s))) = sym none ∙ is in
     absurd cc
 
-pub counter_found : (s : State) (found : Option Record) (r : Record) → found ≡ record_of s counter_key → found ≡ Some r →
+pub counter_found : (s : State) (found : Option Record) (r : Record) → found ≡ record_of s counter_key →
+    found ≡ Some r →
     r ≡ records.Counter (counter_of s)
 counter_found s found r is some =
     let same : ◌≡◌ {A = Option Record} (Some r) (Some (records.Counter (counter_of s))) = sym some ∙ is in

@@ -1,5 +1,5 @@
 -- What was carried out is told.
-use Rattle.std.proofs.Common.{◌≡◌, ◌∙◌, sym, ap, subst, ℕ, List, Some, Ok, Err}
+use Rattle.std.proofs.Common.{◌≡◌, refl, ◌∙◌, sym, ap, subst, ℕ, List, Some, Ok, Err}
 use Rattle.bucket_page.specs.Records.{Pair}
 use Rattle.page_locks.specs.declared.lock.LockName.{LockName}
 use Rattle.queue_model.specs.declared.answer.Answer.{Answer}
@@ -12,20 +12,19 @@ use Rattle.one_caller.specs.declared.fault.CallFault.{CallFault}
 use Rattle.one_caller.specs.declared.fault.CallFault.TheVariants.{NoRoom, NoMemory, Failed}
 use Rattle.one_caller.specs.Carrying.{Carries}
 use Rattle.one_caller.specs.Filing.{HasValues}
-use Rattle.one_caller.specs.Serving.{Decided}
+use Rattle.one_caller.specs.Serving.{Decided, Inserts}
 use Rattle.xsi_inquiry.specs.declared.decision.Decision.{Decision}
 use Rattle.xsi_inquiry.specs.declared.verdict.Verdict.{Verdict}
 use Rattle.xsi_inquiry.specs.Deciding.{Decides, IsAnswered, answer_of}
 use Rattle.xsi_inquiry.specs.Writing.{Leads, Plan, Records}
 
 -- the decision is that of the caller's call
-pub decides_call : (c d : Caller) (call other : Call) (names : List LockName) (bytes : List ℕ) (s : State)
-    (decision named : Decision) (p : Plan) → c ≡ d → call ≡ other → decision ≡ named
-    → Decides c call names bytes s decision p → Decides d other names bytes s named p
-decides_call c d call other names bytes s decision named p caller is names_it it =
-    subst (λ x. Decides d other names bytes s x p) names_it
-    (subst (λ x. Decides d x names bytes s decision p) is
-    (subst (λ x. Decides x call names bytes s decision p) caller it))
+pub decides_call : (c d : Caller) (call : Call) (names : List LockName) (bytes : List ℕ) (s : State)
+    (decision named : Decision) (p : Plan) → c ≡ d → decision ≡ named
+    → Decides c call names bytes s decision p → Decides d call names bytes s named p
+decides_call c d call names bytes s decision named p caller names_it it =
+    subst (λ x. Decides d call names bytes s x p) names_it
+    (subst (λ x. Decides x call names bytes s decision p) caller it)
 
 -- the plan was carried out
 pub answered : (c : Caller) (call : Call) (names : List LockName) (bytes : List ℕ) (s : State) (v : Verdict) (p : Plan)
@@ -43,13 +42,13 @@ answered c call names bytes s v p a old new answer carried has it = (
 pub not_answered : (c : Caller) (call : Call) (names : List LockName) (bytes : List ℕ) (s : State) (v : Verdict)
     (p : Plan) (fault : CallFault) (old : List Pair) (new : OneBucketState)
     → ((before after : Records) → HasValues before old → Leads p before after → Carries before after (Err fault) new)
-    → HasValues (record_of s) old → IsAnswered c call names bytes s v p
+    → (fault ≡ NoRoom → Inserts c call s) → HasValues (record_of s) old → IsAnswered c call names bytes s v p
     → Decided c call s (Err fault) (λ t. HasValues (record_of t) new.records)
-not_answered c call names bytes s v p fault old new carried has it =
-    told fault (carried (record_of s) (record_of it.after) has it.leads)
+not_answered c call names bytes s v p fault old new carried inserts has it =
+    told fault inserts (carried (record_of s) (record_of it.after) has it.leads)
   where
-    told : (f : CallFault) → Carries (record_of s) (record_of it.after) (Err f) new
+    told : (f : CallFault) → (f ≡ NoRoom → Inserts c call s) → Carries (record_of s) (record_of it.after) (Err f) new
         → Decided c call s (Err f) (λ t. HasValues (record_of t) new.records)
-    told NoRoom values = values
-    told NoMemory values = absurd values
-    told Failed values = values
+    told NoRoom needs values = (needs refl, values)
+    told NoMemory needs values = absurd values
+    told Failed needs values = values

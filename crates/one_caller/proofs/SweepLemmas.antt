@@ -52,7 +52,8 @@ part_of : (s : State) (key : RecordKey) (r : Record) (part less : ℕ → Queue 
     → at_queue_of part s key ≡ Some r
 part_of s key r part less more is = at (find (has_id key.queue) s.queues) is
   where
-    at : (o : Option Queue) → option_and_then (less key.number) o ≡ Some r → option_and_then (part key.number) o ≡ Some r
+    at : (o : Option Queue) → option_and_then (less key.number) o ≡ Some r →
+        option_and_then (part key.number) o ≡ Some r
     at None none = absurd cc
     at (Some q) some = more q some
 
@@ -61,7 +62,8 @@ swept_among id count s key r is =
     by_type (key.queue == id && key.kind == TYPE) (key.queue == id && key.kind == MESSAGE) refl refl is
   where
     by_type : (t m : Bool) → (key.queue == id && key.kind == TYPE) ≡ t → (key.queue == id && key.kind == MESSAGE) ≡ m
-        → cond t (at_queue_of (type_left count) s key) (cond m (at_queue_of (message_left count) s key) (record_of s key))
+        → cond t (at_queue_of (type_left count) s key)
+        (cond m (at_queue_of (message_left count) s key) (record_of s key))
         ≡ Some r
         → record_of s key ≡ Some r
     by_type true m type-test message-test left =
@@ -157,7 +159,8 @@ none_remains target rest ps is left =
 pub record IsSweeping (id count : ℕ) (first next : Option ℕ) (old now : OneBucketState) : Type 0 where
   pub same : ChangesRecords old now
   pub swept_to : (s : State) (q : Queue) → IsFiled s → find (has_id id) s.queues ≡ Some q →
-      first ≡ first_of (serials q.messages) → HasValues (record_of s) old.records → IsSweptTo id count s q now.records next
+      first ≡ first_of (serials q.messages) → HasValues (record_of s) old.records →
+      IsSweptTo id count s q now.records next
 
 pub begins : (id : ℕ) (first : Option ℕ) (old : OneBucketState) → IsSweeping id 0 first first old old
 begins id first old = record {
@@ -194,4 +197,5 @@ turn_within (m ∷ ms) (suc count) serial first =
 pub few_messages : (id : ℕ) (s : State) (q : Queue) → IsFiled s → find (has_id id) s.queues ≡ Some q
     → length q.messages ≤ 1024
 few_messages id s q filed alive =
-    (All-contains IsLawfulQueue s.queues q filed.lawful.queues_lawful (find-Some (has_id id) s.queues q alive).1).few_messages
+    (All-contains IsLawfulQueue s.queues q filed.lawful.queues_lawful
+    (find-Some (has_id id) s.queues q alive).1).few_messages

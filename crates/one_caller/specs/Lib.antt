@@ -4,6 +4,7 @@ pub mod Fault
 pub mod FileFault
 pub mod FileLaws
 pub mod Filing
+pub mod Inserting
 pub mod Laws
 pub mod OneBucket
 pub mod Opening

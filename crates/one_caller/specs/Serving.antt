@@ -1,7 +1,9 @@
 -- What a call tells where a file holds a system.
 -- docs/QUEUES.md, "Calls"; docs/FAULTS.md.
-use Rattle.std.specs.Prelude.{◌≡◌, Bool, true, false, Option, Some, None, Result, Ok, Err}
+use Rattle.std.specs.Prelude.{◌≡◌, ◌≢◌, Bool, true, false, List, Option, Some, None, Result, Ok, Err, ⊤}
+use Rattle.bucket_page.specs.Records.{Pair}
 use Rattle.queue_model.specs.declared.answer.Answer as answers
+use Rattle.queue_model.specs.declared.answer.Answer.TheVariants.{Id, Sent, Received, Info, Done, Refused}
 use Rattle.queue_model.specs.declared.call.Call.{Call}
 use Rattle.queue_model.specs.declared.caller.Caller.{Caller}
 use Rattle.queue_model.specs.Rules.{outcome}
@@ -13,8 +15,9 @@ use Rattle.one_caller.specs.declared.fault.CallFault.TheVariants.{NoRoom, NoMemo
 use Rattle.one_caller.specs.declared.served.Served.{Served}
 use Rattle.one_caller.specs.declared.served.Served.TheVariants.{Answer, Waits}
 use Rattle.one_caller.specs.Filing.{HoldsRecords}
+use Rattle.one_caller.specs.Inserting.{LacksRoom}
 use Rattle.xsi_inquiry.specs.Deciding.{waits_or_ends}
-use Rattle.xsi_inquiry.specs.Rooms.{IsReceive}
+pub use Rattle.xsi_inquiry.specs.Rooms.{IsReceive}
 use Rattle.xsi_inquiry.specs.Telling.{IsFiled}
 
 -- the open file, whether the system is stopped, and whether a call met records of no system
@@ -30,23 +33,44 @@ pub record Holds (c : CallerState) (s : State) : Type 0 where
   pub stopped : s.stopped ≡ c.stopped
   pub file : HoldsRecords (record_of s) c.file
 
--- what a fault tells where the file held s: it holds s still; only a Receive is in want of memory
-abbrev pub ChangesNothing : Call → State → CallFault → (State → Type 0) → Type 0
-ChangesNothing call s NoRoom H = H s
-ChangesNothing call s NoMemory H = IsReceive call × H s
-ChangesNothing call s Failed H = ⊥
+-- an answer with which records are inserted: the id of a new queue, or the serial of a message
+abbrev pub IsInsertion : answers.Answer → State → State → Type 0
+IsInsertion (Id id) s after = after ≢ s
+IsInsertion (Sent serial) s after = ⊤
+IsInsertion (Received m) s after = ⊥
+IsInsertion (Info info) s after = ⊥
+IsInsertion Done s after = ⊥
+IsInsertion (Refused errno) s after = ⊥
+
+-- the call makes a queue, or sends a message
+pub record Inserts (c : Caller) (call : Call) (s : State) : Type 0 where
+  pub answer : answers.Answer
+  pub after : State
+  pub outcome : outcome c call s ≡ Some (answer, after)
+  pub insertion : IsInsertion answer s after
+
+-- and these records leave no room for those that it inserts
+abbrev pub IsOutOfRoom : Caller → Call → State → List Pair → Type 0
+IsOutOfRoom c call s ps = (inserts : Inserts c call s) × LacksRoom ps s inserts.after
+
+-- what a fault tells where the file held s: it holds s still. Room is wanted by a call that inserts, and memory by a
+-- Receive alone
+abbrev pub ChangesNothing : Caller → Call → State → CallFault → (State → Type 0) → Type 0
+ChangesNothing c call s NoRoom H = Inserts c call s × H s
+ChangesNothing c call s NoMemory H = IsReceive call × H s
+ChangesNothing c call s Failed H = ⊥
 
 -- what a call tells where the file held s; H says which system it holds afterwards
 abbrev pub Tells : Caller → Call → State → Result Served CallFault → (State → Type 0) → Type 0
 Tells c call s (Ok (Answer a)) H = (t : State) × (outcome c call s ≡ Some (a, t)) × H t
 Tells c call s (Ok Waits) H = (outcome c call s ≡ None) × H s
-Tells c call s (Err fault) H = ChangesNothing call s fault H
+Tells c call s (Err fault) H = ChangesNothing c call s fault H
 
 -- what a call is answered, or that it is put off; whether it waits then or ends, the stop mark says
 abbrev pub Decided : Caller → Call → State → Result (Option answers.Answer) CallFault → (State → Type 0) → Type 0
 Decided c call s (Ok (Some a)) H = (t : State) × (outcome c call s ≡ Some (a, t)) × H t
 Decided c call s (Ok None) H = (outcome c call s ≡ waits_or_ends s) × H s
-Decided c call s (Err fault) H = ChangesNothing call s fault H
+Decided c call s (Err fault) H = ChangesNothing c call s fault H
 
 -- the system with the stop mark cleared
 abbrev pub restarted : State → State

@@ -1,10 +1,11 @@
 //! Plans carried out in an open file.
 
-ghost use Rattle.std.specs.Prelude.{◌≡◌, false};
+ghost use Rattle.std.specs.Prelude.{◌≡◌, false, Err};
 ghost use Rattle.std.specs.List.{All};
 ghost use Rattle.queue_records.specs.Range.{IsInRange};
 ghost use Rattle.one_caller.specs.Carrying.{Carries};
 ghost use Rattle.one_caller.specs.Filing.{ChangesRecords, HasValues};
+ghost use Rattle.one_caller.specs.Inserting.{Exceed};
 ghost use Rattle.xsi_inquiry.specs.Telling.{Gives};
 ghost use Rattle.xsi_inquiry.specs.Writing.{AreAbsent, CanAllBe, CanBe, HasRange, Leads, Records, inserted, writes_of, written, written_by};
 
@@ -23,6 +24,8 @@ pub fn carry<D: PageDevice, I: Inquiry>(
     requires { file.old.broken ≡ false }
     ensures ok { (old new : Records) → HasValues old file.old.records →
         Leads (I.plan arguments.now inquiry.now) old new → Carries old new result file.new }
+    ensures full { result ≡ Err CallFault.NoRoom →
+        Exceed file.old.records (I.plan arguments.now inquiry.now).trials }
     ensures same { ChangesRecords file.old file.new }
 {
     match insert_all(file, inquiry, arguments) {
@@ -47,6 +50,8 @@ fn insert_all<D: PageDevice, I: Inquiry>(
         All IsInRange (I.plan arguments.now inquiry.now).trials →
         Carries records (inserted (I.plan arguments.now inquiry.now).trials records) result
         file.new }
+    ensures full { result ≡ Err CallFault.NoRoom →
+        Exceed file.old.records (I.plan arguments.now inquiry.now).trials }
     ensures same { ChangesRecords file.old file.new }
 {
     let Some(first) = inquiry.trial(arguments, 0) else {

@@ -1,10 +1,13 @@
 //! Changes of one record in an open file. What is asked is tested, so that records of no system are met by a fault.
 
-ghost use Rattle.std.specs.Prelude.{◌≡◌, false, Some, None, OnErr, OnOk, IsOk};
+ghost use Rattle.std.specs.Prelude.{◌≡◌, ◌+◌, ◌<◌, false, length, Some, None, Err, OnErr, OnOk, IsOk};
+ghost use Rattle.bucket_page.specs.Records.{record_bytes};
+ghost use Rattle.bucket_page.specs.declared.layout.TheConstants.{ROOM_BYTES};
 ghost use Rattle.queue_records.specs.Range.{IsInRange};
 ghost use Rattle.queue_records.specs.Spelling.{key_of};
 ghost use Rattle.one_caller.specs.Carrying.{Carries};
 ghost use Rattle.one_caller.specs.Filing.{ChangesRecords, HasValues};
+ghost use Rattle.one_caller.specs.Inserting.{bucket_bytes};
 ghost use Rattle.xsi_inquiry.specs.Telling.{Gives};
 ghost use Rattle.xsi_inquiry.specs.Writing.{CanBe, Records, with_at, written_by};
 ghost use Rattle.xsi_inquiry.specs.declared.write.Write.TheVariants.{Replace, Relink, Delete};
@@ -22,6 +25,10 @@ pub fn insert<D: PageDevice>(file: &mut OneBucket<D>, entry: &Record<'_>) -> Res
     ensures ok { (records : Records) → HasValues records file.old.records →
         records (key_of entry.now) ≡ None → IsInRange entry.now →
         Carries records (with_at (key_of entry.now) (Some entry.now) records) result file.new }
+    ensures grows { OnOk result (length (record_bytes file.new.records)
+        ≡ length (record_bytes file.old.records) + bucket_bytes entry.now) }
+    ensures full { result ≡ Err CallFault.NoRoom →
+        ROOM_BYTES < length (record_bytes file.old.records) + bucket_bytes entry.now }
     ensures err { OnErr result (file.new ≡ file.old) }
     ensures same { ChangesRecords file.old file.new }
 {

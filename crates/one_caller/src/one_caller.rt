@@ -7,8 +7,7 @@ ghost use Rattle.one_caller.specs.FileLaws.{IsOfMachine};
 ghost use Rattle.one_caller.specs.Opening.{HasCauseToRefuse};
 ghost use Rattle.type_chains.specs.RecordOf.{record_of};
 ghost use Rattle.one_caller.specs.Filing.{ChangesRecords, HasValues, IsFileOf};
-ghost use Rattle.one_caller.specs.Serving.{Decided, Holds, Tells, fails, restarted};
-ghost use Rattle.xsi_inquiry.specs.Rooms.{HasRoom};
+ghost use Rattle.one_caller.specs.Serving.{Holds, IsOutOfRoom, Tells, fails, restarted};
 ghost use Rattle.xsi_inquiry.specs.Telling.{IsFiled};
 
 use crate::fault::CallFault;
@@ -21,11 +20,7 @@ use queue_model::{Answer, Call, Caller, Errno};
 use std::alloc::Global;
 use std::marker::Model;
 use type_chains::{a_callers_numbers_fit, a_calls_numbers_fit};
-use xsi_control::{GetInquiry, SetInquiry, StatInquiry};
 use xsi_inquiry::Room;
-use xsi_receive::ReceiveInquiry;
-use xsi_send::SendInquiry;
-use xsi_sweep::RemoveInquiry;
 
 /// Serves calls one at a time over a file of which all records stand in the root bucket. It reads records and never
 /// keeps a system. It is to be closed.
@@ -81,6 +76,9 @@ impl<D: PageDevice> OneCaller<D> {
     pub fn call(&mut self, alloc: Global, caller: Caller, call: &Call) -> Result<Served, CallFault>
         ensures told { (s : State) → Holds self.old s →
             Tells caller call.now s result (Holds self.new) }
+        // There is no room just for what the call inserts.
+        ensures full { (s : State) → Holds self.old s → result ≡ Err CallFault.NoRoom →
+            IsOutOfRoom caller call.now s self.old.file.records }
         ensures failed { IsTrue self.old.failed → result ≡ Err CallFault.Failed }
         ensures fails { self.new.failed ≡ fails result }
         ensures stopped { self.new.stopped ≡ self.old.stopped }
@@ -153,40 +151,17 @@ fn answer<D: PageDevice>(
     ensures told { (s : State) → IsFiled s → s.stopped ≡ stopped →
         HasValues (record_of s) file.old.records →
         Tells caller call.now s result (λ t. HasValues (record_of t) file.new.records) }
+    ensures full { (s : State) → IsFiled s → HasValues (record_of s) file.old.records →
+        result ≡ Err CallFault.NoRoom → IsOutOfRoom caller call.now s file.old.records }
     ensures same { ChangesRecords file.old file.new }
 {
     let Ok(room) = Room::new(alloc, call) else {
         return Err(CallFault::NoMemory);
     };
-    match serve_any(file, caller, call, room) {
+    match serve(file, caller, call, room) {
         Ok(Some(answer)) => Ok(Served::Answer(answer)),
         Ok(None) if stopped => Ok(Served::Answer(Answer::Refused(Errno::EINTR))),
         Ok(None) => Ok(Served::Waits),
         Err(fault) => Err(fault),
-    }
-}
-
-/// Serves a call by the inquiry of its kind.
-fn serve_any<D: PageDevice>(
-    file: &mut OneBucket<D>,
-    caller: Caller,
-    call: &Call,
-    room: Room,
-) -> Result<Option<Answer>, CallFault>
-    requires whole { file.old.broken ≡ false }
-    requires room { HasRoom call.now room }
-    ensures decided { (s : State) → IsFiled s → HasValues (record_of s) file.old.records →
-        Decided caller call.now s result (λ t. HasValues (record_of t) file.new.records) }
-    ensures same { ChangesRecords file.old file.new }
-{
-    match call {
-        Call::Get(arguments) => serve::<D, GetInquiry>(file, caller, call, arguments, room),
-        Call::Send(arguments) => serve::<D, SendInquiry>(file, caller, call, arguments, room),
-        Call::Receive(arguments) => {
-            serve::<D, ReceiveInquiry>(file, caller, call, arguments, room)
-        }
-        Call::Stat { id } => serve::<D, StatInquiry>(file, caller, call, id, room),
-        Call::Set(arguments) => serve::<D, SetInquiry>(file, caller, call, arguments, room),
-        Call::Remove { id } => serve::<D, RemoveInquiry>(file, caller, call, id, room),
     }
 }

@@ -1,6 +1,6 @@
 //! A payload that spells a page, and what it says.
 
-ghost use Rattle.std.specs.Prelude.{◌≡◌, ◌↔◌, IsNone, IsSome, IsTrue, IfNone, IfSome};
+ghost use Rattle.std.specs.Prelude.{◌≡◌, ◌↔◌, IsSome, IsTrue, IfNone, IfSome};
 ghost use Rattle.bucket_page.specs.Changes.{IsBucketPage};
 ghost use Rattle.fields.specs.Numbers.{four_at};
 ghost use Rattle.bucket_page.specs.Reading.{bucket_at, page_at};
@@ -72,7 +72,7 @@ impl FilePage {
     }
 
     /// Its bytes spell a page.
-    pub fn is_well(&self)
+    pub fn spells_a_page(&self)
         ensures { IsWell self.now }
     {
         let _ = &self.payload;

@@ -18,7 +18,7 @@ use Rattle.page_locks.specs.Holding.{nobody, is_nobody, kind_at, ChangesSeat}
 use Rattle.page_locks.specs.Locks.{is_against, is_on, is_same, kind_of, without}
 use Rattle.page_locks.specs.Probing.{holders_of, ChangesName, HasFewNames, HasHomesApart, IsWanted}
 use Rattle.page_locks.specs.Table.{Table, IsSeat, row_of, held, with_lock, without_lock, with_kind, IsFree, IsLawful}
-use Rattle.page_locks.specs.Ties.{IsTied, IsSound, AreHomesApart, IsHeldOrAsked}
+use Rattle.page_locks.specs.Ties.{IsTied, IsSoundTable, AreHomesApart, IsHeldOrAsked}
 use Rattle.page_locks.specs.Writers.{ChangesOnly}
 use Rattle.page_locks.proofs.ChangeLemmas.{ChangesOnly-grant, ChangesOnly-release, ChangesOnly-convert, held-grant, held-release, held-convert}
 use Rattle.page_locks.proofs.HolderLemmas.{held_by, kind_at-nobody}
@@ -168,14 +168,14 @@ module _ (slots : List Slot) (t : Table) (tied : IsTied slots t) (seat : ℕ) (i
       (held-convert t seat is name kind old had) (IsLawful-convert t seat tied.lawful is name kind free)
 
 -- what was looked at stays with a table that is tied
-pub IsSound-looked : {slots : List Slot} {t : Table} → IsTied slots t → (looked : ℕ) → 1 ≤ looked →
-    IsSound slots t looked
-IsSound-looked tied looked some = record { tied = tied; begun = λ none. absurd (omega (arith, some, none)) }
+pub IsSoundTable-looked : {slots : List Slot} {t : Table} → IsTied slots t → (looked : ℕ) → 1 ≤ looked →
+    IsSoundTable slots t looked
+IsSoundTable-looked tied looked some = record { tied = tied; begun = λ none. absurd (omega (arith, some, none)) }
 
-module _ (slots : List Slot) (t : Table) (looked : ℕ) (sound : IsSound slots t looked) (seat : ℕ) where
-  pub IsSound-release : IsSeat t seat → (name : LockName) → {new : List Slot} → IsTied new (without_lock t seat name) →
-      IsSound new (without_lock t seat name) looked
-  IsSound-release is name tied = record {
+module _ (slots : List Slot) (t : Table) (looked : ℕ) (sound : IsSoundTable slots t looked) (seat : ℕ) where
+  pub IsSoundTable-release : IsSeat t seat → (name : LockName) → {new : List Slot} → IsTied new (without_lock t seat name) →
+      IsSoundTable new (without_lock t seat name) looked
+  IsSoundTable-release is name tied = record {
     tied = tied;
     begun = λ none other. elim (cases_eq other seat) [
       | inl same ↦
@@ -185,18 +185,18 @@ module _ (slots : List Slot) (t : Table) (looked : ℕ) (sound : IsSound slots t
     ];
   }
 
-  pub IsSound-convert : (name : LockName) (kind old : LockKind) → held t seat name ≡ Some old → {new : List Slot} →
-      IsTied new (with_kind t seat name kind) → IsSound new (with_kind t seat name kind) looked
-  IsSound-convert name kind old had tied = record {
+  pub IsSoundTable-convert : (name : LockName) (kind old : LockKind) → held t seat name ≡ Some old → {new : List Slot} →
+      IsTied new (with_kind t seat name kind) → IsSoundTable new (with_kind t seat name kind) looked
+  IsSoundTable-convert name kind old had tied = record {
     tied = tied;
     begun = λ none.
         let empty : held t seat name ≡ None = ap (λ (locks : List Lock). kind_of locks name) (sound.begun none seat) in
         absurd cc;
   }
 
-pub IsSound-empty : (slots : List Slot) (seats looked : ℕ) → 1 ≤ seats → seats ≤ MAX_SEATS →
-    ((name : LockName) → holders_of slots name ≡ nobody) → IsSound slots (replicate seats []) looked
-IsSound-empty slots seats looked some few none = record {
+pub IsSoundTable-empty : (slots : List Slot) (seats looked : ℕ) → 1 ≤ seats → seats ≤ MAX_SEATS →
+    ((name : LockName) → holders_of slots name ≡ nobody) → IsSoundTable slots (replicate seats []) looked
+IsSoundTable-empty slots seats looked some few none = record {
   tied = IsTied-empty slots seats some few none;
   begun = λ first seat. row_of-empty seats seat;
 }

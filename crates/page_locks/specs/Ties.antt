@@ -18,7 +18,7 @@ abbrev pub IsUnheld : Table → Type 0
 IsUnheld t = (seat : ℕ) → row_of t seat ≡ []
 
 -- what is true of every table with its slots and of how many were looked at
-pub record IsSound (slots : List Slot) (t : Table) (looked : ℕ) : Type 0 where
+pub record IsSoundTable (slots : List Slot) (t : Table) (looked : ℕ) : Type 0 where
   -- the slots say what the rows say
   pub tied : IsTied slots t
   -- before the first lock was asked for nobody holds one

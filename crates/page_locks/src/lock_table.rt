@@ -28,13 +28,13 @@ pub struct LockTable {
 
 impl Model for LockTable {
     ghost use Rattle.page_locks.specs.Table.{Table};
-    ghost use Rattle.page_locks.specs.Ties.{IsSound};
+    ghost use Rattle.page_locks.specs.Ties.{IsSoundTable};
 
     ghost Value = { Table };
 
     ghost view = { λ t. t.rows.items };
 
-    ghost invariant = { λ t. IsSound t.slots t.rows.items t.looked };
+    ghost invariant = { λ t. IsSoundTable t.slots t.rows.items t.looked };
 }
 
 impl LockTable {

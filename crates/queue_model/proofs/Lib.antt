@@ -2,6 +2,7 @@ pub mod ListLemmas
 pub mod PlaceLemmas
 pub mod SelectionLemmas
 pub mod LawfulLemmas
+pub mod PartsLemmas
 pub mod JournalLemmas
 pub mod LowestLemmas
 pub mod EffectLemmas

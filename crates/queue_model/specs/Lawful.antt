@@ -1,6 +1,6 @@
 -- What is true of every system: the limits, and that ids, keys and serials are told apart.
 -- docs/QUEUES.md, "Limits" and "Systems".
-use Rattle.std.specs.Prelude.{◌≡◌, ℕ, ◌<◌, ◌≤◌, pos, ◌≤ℤ◌, length, map, Option, Some}
+use Rattle.std.specs.Prelude.{◌≡◌, ℕ, ◌<◌, ◌≤◌, pos, ◌≤ℤ◌, List, length, map, Option, Some}
 use Rattle.std.specs.List.{All, AllPairs}
 use Rattle.limits.specs.declared.TheConstants.{MAX_QUEUES, MAX_MESSAGES, MAX_BODY, MAX_QBYTES, END_OF_IDS, END_OF_SERIALS, MODES}
 use Rattle.queue_model.specs.declared.message.Message.{Message}
@@ -34,6 +34,36 @@ pub record IsLawfulQueue (q : Queue) : Type 0 where
   pub messages_lawful : All (IsLawfulMessage q.next_serial) q.messages
   -- messages stand in the order in which they were accepted
   pub serials_ascend : AllPairs (λ (m n : Message). m.serial < n.serial) q.messages
+
+-- the numbers of a queue keep their limits
+pub record HasLimits (q : Queue) : Type 0 where
+  pub small_limit : q.qbytes ≤ MAX_QBYTES
+  pub mode : q.permissions.mode < MODES
+  pub serial_begun : 1 ≤ q.next_serial
+
+-- messages can stand on a queue
+pub record AreLawfulMessages (next_serial : ℕ) (ms : List Message) : Type 0 where
+  pub each : All (IsLawfulMessage next_serial) ms
+  pub ascend : AllPairs (λ (m n : Message). m.serial < n.serial) ms
+
+-- a message can stand behind one of a serial
+abbrev pub FollowsMessage : ℕ → ℕ → Message → Type 0
+FollowsMessage next_serial low m = IsLawfulMessage next_serial m × (low < m.serial)
+
+-- a queue can be alive under a next id
+pub record IsLawfulAlive (next_id : ℕ) (q : Queue) : Type 0 where
+  pub lawful : IsLawfulQueue q
+  pub begun : 1 ≤ q.id
+  pub given : q.id < next_id
+
+-- queues can be alive together, but for their keys
+pub record AreLawfulQueues (next_id : ℕ) (qs : List Queue) : Type 0 where
+  pub each : All (IsLawfulAlive next_id) qs
+  pub ascend : AllPairs (λ (p q : Queue). p.id < q.id) qs
+
+-- a queue can be alive behind one of an id
+abbrev pub FollowsQueue : ℕ → ℕ → Queue → Type 0
+FollowsQueue next_id low q = IsLawfulAlive next_id q × (low < q.id)
 
 -- two queues have no key in common
 abbrev pub AreKeysApart : Option ℕ → Option ℕ → Type 0

@@ -1,6 +1,6 @@
 -- Where the queue of an id stands, and that a call on it goes on there.
 -- docs/QUEUES.md, "Calls".
-use Rattle.std.specs.Prelude.{◌≡◌, ℕ, ◌<◌, length, Option, Some, None, slice_index_or}
+use Rattle.std.specs.Prelude.{◌≡◌, ℕ, ◌<◌, length, List, Option, Some, None, position, slice_index_or}
 use Rattle.std.specs.List.{find, position_or_len}
 use Rattle.queue_model.specs.declared.errno.Errno.{Errno}
 use Rattle.queue_model.specs.declared.queue.Queue.{Queue}
@@ -21,3 +21,8 @@ IsNoId id s e = (act : Queue → Outcome) → on_queue id s act ≡ refuse e s
 -- no queue has this key
 abbrev pub IsFreshKey : Option ℕ → State → Type 0
 IsFreshKey key s = (k : ℕ) → key ≡ Some k → find (has_key k) s.queues ≡ None
+
+-- the queue at a place is the first that has its key, where it has one
+abbrev pub IsFirstOfItsKey : List Queue → ℕ → Type 0
+IsFirstOfItsKey qs place = (q : Queue) (k : ℕ) → slice_index_or qs place q ≡ q → q.key ≡ Some k →
+    position (has_key k) qs ≡ Some place

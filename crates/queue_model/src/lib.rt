@@ -9,6 +9,7 @@ mod call;
 mod caller;
 mod entry;
 mod errno;
+mod lawful;
 mod laws;
 mod message;
 mod permissions;

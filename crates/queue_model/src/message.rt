@@ -1,13 +1,15 @@
 //! A message, and the messages of a queue in order of acceptance.
 
-ghost use Rattle.std.specs.Prelude.{◌≡◌, ◌<◌, ◌≤◌, ◌+◌, ◌^◌, [], ◌∷◌, ◌++◌, length, position, remove, slice_index_or, pos, Some, None, IfOk, IfSome, IfNone, OnOk, OnErr};
+ghost use Rattle.std.specs.Prelude.{◌≡◌, ◌<◌, ◌≤◌, ◌+◌, ◌^◌, [], ◌∷◌, ◌++◌, length, position, remove, slice_index_or, pos, Some, None, IsTrue, ◌↔◌, IfOk, IfSome, IfNone, OnOk, OnErr};
 ghost use Rattle.std.specs.Ordering.{int_eq};
 ghost use Rattle.queue_model.specs.Selection.{total_bytes, has_type, lowest_type, selects, selected, IsSelectedAt};
 ghost use Rattle.queue_model.specs.Selection.{is_too_long};
+ghost use Rattle.queue_model.specs.Lawful.{AreLawfulMessages, FollowsMessage};
 
 use crate::body::Body;
 use crate::call::ReceiveArguments;
 use faults::NoMemory;
+use limits::MAX_BODY;
 use std::alloc::Global;
 use std::marker::Model;
 
@@ -30,6 +32,17 @@ impl Message {
         ensures { result ≡ is_too_long arguments.now self.now }
     {
         (arguments.size as usize) < self.bytes.len() && !arguments.noerror
+    }
+
+    /// Whether it can stand on a queue whose next serial this is, behind a message of a serial.
+    fn follows(&self, low: u64, next_serial: u64) -> bool
+        ensures { IsTrue result ↔ FollowsMessage next_serial low self.now }
+    {
+        low < self.serial
+            && 1 <= self.serial
+            && self.serial < next_serial
+            && 1 <= self.mtype
+            && self.bytes.len() <= MAX_BODY
     }
 
     /// An equal message, where there is memory for it.
@@ -97,6 +110,13 @@ impl Messages {
         first_selected(self.items.as_slice(), mtype)
     }
 
+    /// Whether they can stand on a queue whose next serial this is.
+    pub(crate) fn are_lawful(&self, next_serial: u64) -> bool
+        ensures { IsTrue result ↔ AreLawfulMessages next_serial self.now }
+    {
+        are_lawful(self.items.as_slice(), next_serial)
+    }
+
     /// Puts a message last.
     pub fn push(&mut self, message: Message) -> Result<(), NoMemory>
         ensures ok { OnOk result (self.new ≡ self.old ++ message ∷ []) }
@@ -134,6 +154,20 @@ fn bytes_of(messages: &[Message]) -> usize
     ensures { result ≡ total_bytes messages.now }
 {
     messages.iter().map(|message| message.bytes.len()).sum()
+}
+
+/// Whether each message keeps its limits, and their serials ascend.
+fn are_lawful(messages: &[Message], next_serial: u64) -> bool
+    ensures { IsTrue result ↔ AreLawfulMessages next_serial messages.now }
+{
+    let mut low = 0;
+    for message in messages {
+        if !message.follows(low, next_serial) {
+            return false;
+        }
+        low = message.serial;
+    }
+    true
 }
 
 /// The place of the first message that a receive of this type would take.

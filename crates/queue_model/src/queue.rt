@@ -1,9 +1,9 @@
 //! One queue, and what calls change of it.
 
-ghost use Rattle.std.specs.Prelude.{◌≡◌, ◌≤◌, ◌<◌, ◌≤ℤ◌, pos, false, length, position, slice_index_or, Some, IfOk, OnOk, OnErr};
+ghost use Rattle.std.specs.Prelude.{◌≡◌, ◌≤◌, ◌<◌, ◌≤ℤ◌, pos, false, length, position, slice_index_or, Some, IsTrue, ◌↔◌, IfOk, OnOk, OnErr};
 ghost use Rattle.queue_model.specs.Selection.{total_bytes, IsSelectedAt};
 ghost use Rattle.queue_model.specs.Rules.{new_queue, lacks_room, with_message, cut_at, without_message, with_settings, info_of};
-ghost use Rattle.queue_model.specs.Lawful.{IsLawfulQueue};
+ghost use Rattle.queue_model.specs.Lawful.{HasLimits, IsLawfulQueue};
 
 use crate::answer::QueueInfo;
 use crate::call::{GetArguments, ReceiveArguments, SendArguments, SetArguments};
@@ -11,7 +11,7 @@ use crate::caller::Caller;
 use crate::message::{Message, Messages};
 use crate::permissions::Permissions;
 use faults::NoMemory;
-use limits::{DEFAULT_QBYTES, END_OF_SERIALS, MAX_BODY, MAX_MESSAGES, MAX_QBYTES};
+use limits::{DEFAULT_QBYTES, END_OF_SERIALS, MAX_BODY, MAX_MESSAGES, MAX_QBYTES, MODES};
 use std::alloc::Global;
 
 /// A queue. Its `qnum` is the number of its messages, its `cbytes` the bytes that they have together.
@@ -90,6 +90,29 @@ impl Queue {
             ctime: self.ctime,
             permissions: self.permissions,
         }
+    }
+
+    /// Whether it can be one of a system.
+    pub fn is_lawful(&self) -> bool
+        ensures { IsTrue result ↔ IsLawfulQueue self.now }
+    {
+        if self.messages.len() > MAX_MESSAGES as usize {
+            return false;
+        }
+        if !self.messages.are_lawful(self.next_serial) {
+            return false;
+        }
+        if self.messages.total_bytes() > MAX_QBYTES as usize {
+            return false;
+        }
+        self.has_limits()
+    }
+
+    /// Whether its numbers keep their limits.
+    fn has_limits(&self) -> bool
+        ensures { IsTrue result ↔ HasLimits self.now }
+    {
+        self.qbytes <= MAX_QBYTES && self.permissions.mode < MODES && 1 <= self.next_serial
     }
 
     /// Puts the message last, where there is memory for it.

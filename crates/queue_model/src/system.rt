@@ -1,6 +1,6 @@
 //! The system of queues, and its calls.
 
-ghost use Rattle.std.specs.Prelude.{◌≡◌, ◌≤◌, ◌<◌, ◌^◌, ℕ, [], length, map, position, slice_get, Some, None, true, false, IfOk, IfErr, IfSome, IfNone, option_map};
+ghost use Rattle.std.specs.Prelude.{◌≡◌, ◌≤◌, ◌<◌, ◌^◌, ℕ, [], length, map, position, slice_get, slice_index_or, Some, None, true, false, IfOk, IfErr, IfSome, IfNone, option_map};
 ghost use Rattle.std.specs.List.{sum_by, find};
 ghost use Rattle.queue_model.specs.Applied.{Meets, applied_of};
 ghost use Rattle.queue_model.specs.Lawful.{IsLawful};
@@ -12,6 +12,7 @@ use crate::answer::{Answer, QueueInfo};
 use crate::call::{Call, GetArguments, ReceiveArguments, SendArguments, SetArguments};
 use crate::caller::Caller;
 use crate::errno::Errno;
+use crate::lawful::are_lawful;
 use crate::permissions::Access;
 use crate::queue::Queue;
 use faults::NoMemory;
@@ -60,6 +61,31 @@ impl System {
             next_id: 1,
             stopped: false,
         }
+    }
+
+    /// The system of these queues and this next id, which is not stopped; none exactly where it would be unlawful.
+    pub fn of_queues(queues: Vec<Queue>, next_id: u32) -> Option<System>
+        ensures some { IfSome result (λ system.
+            system ≡ record { queues = queues.items; next_id = next_id; stopped = false }) }
+        ensures none { IfNone result
+            (IsLawful (record { queues = queues.items; next_id = next_id; stopped = false }) → ⊥) }
+    {
+        if !are_lawful(queues.as_slice(), next_id) {
+            return None;
+        }
+        Some(System {
+            queues,
+            next_id,
+            stopped: false,
+        })
+    }
+
+    /// The queue at a place, from 0 on in ascending order of id.
+    pub fn queue(&self, place: usize) -> &Queue
+        requires { place < length self.now.queues }
+        ensures { result.now ≡ slice_index_or self.now.queues place result.now }
+    {
+        &self.queues[place]
     }
 
     /// The number of queues alive.
@@ -309,7 +335,7 @@ fn first_with_id(queues: &[Queue], id: u32) -> Option<usize>
 }
 
 /// The place of the first queue with a key.
-fn first_with_key(queues: &[Queue], key: u32) -> Option<usize>
+pub(crate) fn first_with_key(queues: &[Queue], key: u32) -> Option<usize>
     ensures { result ≡ position (has_key key) queues.now }
 {
     queues.iter().position(|queue| queue.key == Some(key))

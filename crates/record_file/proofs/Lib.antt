@@ -1,1 +1,11 @@
 pub mod FileLemmas
+pub mod AnswerLemmas
+pub mod ReleaseLemmas
+pub mod ValueLemmas
+pub mod SeenLemmas
+pub mod WriteLemmas
+pub mod DeedLemmas
+pub mod RemovedLemmas
+pub mod RoomLemmas
+pub mod CallerLemmas
+pub mod PartLemmas

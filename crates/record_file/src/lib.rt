@@ -1,7 +1,19 @@
-//! Files of records: a new file.
+//! Files of records: a new file, and one record found or written in a file that other seats use.
 
 #![tactic(auto)]
 
+mod delete;
+mod find;
+mod first_try;
+mod laws;
 mod new_file;
+mod removal;
+mod replace;
 
+pub use delete::Delete;
+pub use find::Find;
+pub use first_try::{FirstTry, FirstTryStage, Tried};
+pub use laws::a_machine_keeps_what_its_caller_knows;
 pub use new_file::format;
+pub use removal::{Removal, RemovalStage};
+pub use replace::{Replace, ReplaceStage};

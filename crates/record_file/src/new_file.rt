@@ -37,10 +37,7 @@ pub fn format<D: PageDevice>(device: &mut D, pages: u32) -> Result<(), DeviceFau
     let mut payload = [0; PAYLOAD_BYTES];
     for page in 0..pages {
         write_page(pages, page, &mut payload);
-        match device.extend(&seal(page, &payload)) {
-            Ok(()) => {}
-            Err(fault) => return Err(fault),
-        }
+        device.extend(&seal(page, &payload))?;
     }
     device.sync()
 }

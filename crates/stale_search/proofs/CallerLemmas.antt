@@ -1,80 +1,96 @@
 -- The caller's names are held as before, so it knows what it knew.
 use Rattle.std.proofs.Common.{◌≡◌, refl, sym, ap, ◌∙◌, subst, ℕ, List, [], ◌∷◌, Option, Some, None, IsSome, ◌==◌, Bool, true, false, if◌then◌else◌}
-use Rattle.step_rules.specs.Words.{Lock, LockKind, Read, LockName, Key, Counter, Queue, Directory, Page, Change}
-use Rattle.stale_search.specs.Words.{RecordKey, kind_of, lock_of, is_same, Table, IsSeat, row_of, held, with_row, IsHeld, Known, Deep, LeadsTo, OnPage, Live, Built, Told, IsKnown, SearchPlace, GrantDirectory, ReadDepth, ReadEntry, GrantPage, ReleaseDirectory, Look, Hop, Found}
+use Rattle.step_rules.specs.Words.{Lock, LockKind, Read, Selective, LockName, Key, Counter, Queue, Directory, Page}
+use Rattle.stale_search.specs.Words.{RecordKey, kind_of, lock_of, is_same, Table, row_of, held, SearchPlace, GrantDirectory, ReadDepth, ReadEntry, GrantPage, ReleaseDirectory, Look, Hop, Found}
 use Rattle.page_locks.proofs.TableLemmas.{row_of-same}
 use Rattle.page_locks.proofs.RowLemmas.{kind_of-append, first_kind}
 use Rattle.queue_records.specs.declared.layout.TheConstants.{COUNTER, KEY}
 use Rattle.step_rules.specs.World.{guard_of}
-use Rattle.stale_search.specs.Steps.{world}
-use Rattle.stale_search.specs.Searches.{SearchView, search_locks, locks_at, in_directory, on_page}
-use Rattle.stale_search.specs.Callers.{IsCallers, CallerKeeps}
+use Rattle.stale_search.specs.declared.place.ApproachPlace.{ApproachPlace}
+use Rattle.stale_search.specs.declared.place.ApproachPlace.TheVariants as to
+use Rattle.stale_search.specs.Rows.{in_directory, on_page}
+use Rattle.stale_search.specs.Searches.{SearchView, search_locks, locks_at}
+use Rattle.stale_search.specs.Approaches.{ApproachView, approach_locks, approach_locks_at}
+use Rattle.stale_search.specs.Callers.{AddersKeep, AddsFileLocks, ApproachKeeps, IsAside, SearchKeeps}
 
 first : (o : Option LockKind) → first_kind o None ≡ o
 first None = refl
 first (Some k) = refl
 
-module _ (before : List Lock) (name : LockName) (not_directory : is_same Directory name ≡ false)
-    (not_page : (n : ℕ) → is_same (Page n) name ≡ false) where
-  directory_aside : (xs : List Lock) → kind_of (in_directory xs) name ≡ kind_of xs name
-  directory_aside xs = kind_of-append xs (lock_of Directory Read ∷ []) name ∙ rw not_directory (first (kind_of xs name))
+not_directory : (name : LockName) → IsAside name → is_same Directory name ≡ false
+not_directory (Key k) aside = refl
+not_directory Counter aside = refl
+not_directory (Queue id) aside = refl
+not_directory Directory aside = absurd aside
+not_directory (Page n) aside = absurd aside
 
-  page_aside : (n : ℕ) (kind : LockKind) (xs : List Lock) → kind_of (on_page n kind xs) name ≡ kind_of xs name
-  page_aside n kind xs = kind_of-append xs (lock_of (Page n) kind ∷ []) name ∙ rw (not_page n) (first (kind_of xs name))
+not_page : (m : ℕ) (name : LockName) → IsAside name → is_same (Page m) name ≡ false
+not_page m (Key k) aside = refl
+not_page m Counter aside = refl
+not_page m (Queue id) aside = refl
+not_page m Directory aside = absurd aside
+not_page m (Page n) aside = absurd aside
 
-  aside : (place : SearchPlace) (kind : LockKind) → kind_of (locks_at place kind before) name ≡ kind_of before name
-  aside GrantDirectory kind = refl
-  aside ReadDepth kind = directory_aside before
-  aside (ReadEntry depth) kind = directory_aside before
-  aside (GrantPage n) kind = directory_aside before
-  aside (ReleaseDirectory n) kind = page_aside n kind (in_directory before) ∙ directory_aside before
-  aside (Look n) kind = page_aside n kind before
-  aside (Hop n) kind = page_aside n kind before
-  aside (Found n found) kind = page_aside n kind before
+module _ (name : LockName) (aside : IsAside name) where
+  pub in_aside : (kind : LockKind) (xs : List Lock) → kind_of (in_directory kind xs) name ≡ kind_of xs name
+  in_aside kind xs = kind_of-append xs (lock_of Directory kind ∷ []) name
+      ∙ rw (not_directory name aside) (first (kind_of xs name))
 
-  held_still : (seat : ℕ) (locks locks' : Table) (v v' : SearchView) → IsSeat locks seat →
-      row_of locks seat ≡ search_locks v before → locks' ≡ with_row locks seat (search_locks v' before) →
-      IsHeld locks seat name → IsHeld locks' seat name
-  held_still seat locks locks' v v' seated row is there =
-      let now : row_of locks' seat ≡ search_locks v' before =
-      ap (λ (t : Table). row_of t seat) is ∙ row_of-same locks seat (search_locks v' before) seated in
-      let same : held locks seat name ≡ held locks' seat name =
-      ap (λ (xs : List Lock). kind_of xs name) row ∙ aside v.place v.kind ∙ sym (aside v'.place v'.kind)
-      ∙ sym (ap (λ (xs : List Lock). kind_of xs name) now) in
-      subst IsSome same there
+  pub on_aside : (n : ℕ) (kind : LockKind) (xs : List Lock) → kind_of (on_page n kind xs) name ≡ kind_of xs name
+  on_aside n kind xs = kind_of-append xs (lock_of (Page n) kind ∷ []) name
+      ∙ rw (not_page n name aside) (first (kind_of xs name))
 
--- a record is guarded by a name that is neither the directory's nor a page's
-pub record IsAside (name : LockName) : Type 0 where
-  pub not_directory : is_same Directory name ≡ false
-  pub not_page : (n : ℕ) → is_same (Page n) name ≡ false
+  both_aside : (n : ℕ) (kind kind' : LockKind) (xs : List Lock) →
+      kind_of (on_page n kind (in_directory kind' xs)) name ≡ kind_of xs name
+  both_aside n kind kind' xs = on_aside n kind (in_directory kind' xs) ∙ in_aside kind' xs
 
+  search_adds : (place : SearchPlace) (kind : LockKind) (xs : List Lock) →
+      kind_of (locks_at place kind xs) name ≡ kind_of xs name
+  search_adds GrantDirectory kind xs = refl
+  search_adds ReadDepth kind xs = in_aside Read xs
+  search_adds (ReadEntry depth) kind xs = in_aside Read xs
+  search_adds (GrantPage n) kind xs = in_aside Read xs
+  search_adds (ReleaseDirectory n) kind xs = both_aside n kind Read xs
+  search_adds (Look n) kind xs = on_aside n kind xs
+  search_adds (Hop n) kind xs = on_aside n kind xs
+  search_adds (Found n found) kind xs = on_aside n kind xs
+
+  approach_adds : (place : ApproachPlace) (xs : List Lock) → kind_of (approach_locks_at place xs) name ≡ kind_of xs name
+  approach_adds to.GrantDirectory xs = refl
+  approach_adds to.ReadDepth xs = in_aside Selective xs
+  approach_adds (to.ReadEntry depth) xs = in_aside Selective xs
+  approach_adds (to.GrantPage depth n) xs = in_aside Selective xs
+  approach_adds (to.At depth n) xs = both_aside n Selective Selective xs
+
+pub search_adds_locks : (v : SearchView) → AddsFileLocks (search_locks v)
+search_adds_locks v before name aside = search_adds name aside v.place v.kind before
+
+pub approach_adds_locks : (v : ApproachView) → AddsFileLocks (approach_locks v)
+approach_adds_locks v before name aside = approach_adds name aside v.place before
+
+-- a record is guarded by such a name
 guard_aside : (key : RecordKey) → IsAside (guard_of key)
 guard_aside key = by (key.kind == COUNTER) (key.kind == KEY)
   where
     by : (a b : Bool) → IsAside (if a then Counter else if b then Key key.number else Queue key.queue)
-    by true b = record { not_directory = refl; not_page = λ n. refl }
-    by false true = record { not_directory = refl; not_page = λ n. refl }
-    by false false = record { not_directory = refl; not_page = λ n. refl }
+    by true b = tt
+    by false true = tt
+    by false false = tt
 
-module _ (seat : ℕ) (images images' : List (List ℕ)) (locks locks' : Table) (change : Change) (v v' : SearchView)
-    (before : List Lock) (seated : IsSeat locks seat) (same : images' ≡ images)
-    (row : row_of locks seat ≡ search_locks v before) (is : locks' ≡ with_row locks seat (search_locks v' before)) where
-  moved : (fact : Known) → IsKnown seat (world images locks' change) fact → IsKnown seat
-      (world images' locks' change) fact
-  moved fact h = subst (λ (i : List (List ℕ)). IsKnown seat (world i locks' change) fact) (sym same) h
+pub adders_keep : AddersKeep
+adders_keep mine mine' adds adds' seat images images' locks locks' change change' before key value seated same row
+    is h =
+    let name : LockName = guard_of key in
+    let now : row_of locks' seat ≡ mine' before =
+    ap (λ (t : Table). row_of t seat) is ∙ row_of-same locks seat (mine' before) seated in
+    let still : held locks seat name ≡ held locks' seat name =
+    ap (λ (xs : List Lock). kind_of xs name) row ∙ adds before name (guard_aside key)
+    ∙ sym (adds' before name (guard_aside key)) ∙ sym (ap (λ (xs : List Lock). kind_of xs name) now) in
+    (subst IsSome still h.0, same ∙ h.1)
 
-  still : (name : LockName) → IsAside name → IsHeld locks seat name → IsHeld locks' seat name
-  still name a there = held_still before name a.not_directory a.not_page seat locks locks' v v' seated row is there
+pub search_keeps : SearchKeeps
+search_keeps v v' = adders_keep (search_locks v) (search_locks v') (search_adds_locks v) (search_adds_locks v')
 
-  keeps : (fact : Known) → IsCallers fact → IsKnown seat (world images locks change) fact →
-      IsKnown seat (world images' locks' change) fact
-  keeps (Told key value) callers h = moved (Told key value) (still (guard_of key) (guard_aside key) h.0, h.1)
-  keeps (Deep depth) callers h = absurd callers
-  keeps (LeadsTo page k) callers h = absurd callers
-  keeps (OnPage page fact) callers h = absurd callers
-  keeps (Live page) callers h = absurd callers
-  keeps (Built f) callers h = absurd callers
-
-pub caller_keeps : CallerKeeps
-caller_keeps seat images images' locks locks' change v v' before fact seated callers same row is holds =
-    keeps seat images images' locks locks' change v v' before seated same row is fact callers holds
+pub approach_keeps : ApproachKeeps
+approach_keeps v v' =
+    adders_keep (approach_locks v) (approach_locks v') (approach_adds_locks v) (approach_adds_locks v')

@@ -5,7 +5,7 @@ use Rattle.std.proofs.lemmas.List.Elements.{filter-append}
 use Rattle.step_rules.specs.Words.{Lock, LockKind, Read, LockName, Directory, Page}
 use Rattle.stale_search.specs.Words.{is_on, kind_of, lock_of, without}
 use Rattle.page_locks.proofs.RowLemmas.{kind_of-append}
-use Rattle.stale_search.specs.Searches.{HasNoFileLock, in_directory, on_page}
+use Rattle.stale_search.specs.Rows.{HasNoFileLock, in_directory, on_page}
 
 -- a name that is not held is not there to be given back
 pub without-none : (xs : List Lock) (name : LockName) → kind_of xs name ≡ None → without xs name ≡ xs
@@ -17,11 +17,11 @@ without-none (x ∷ xs) name none = elim (cases_Bool (is_on name x)) [
 ]
 
 module _ (before : List Lock) (bare : HasNoFileLock before) where
-  pub directory_in : kind_of (in_directory before) Directory ≡ Some Read
-  directory_in = kind_of-append before (lock_of Directory Read ∷ []) Directory ∙ rw bare.directory refl
+  pub directory_in : (kind : LockKind) → kind_of (in_directory kind before) Directory ≡ Some kind
+  directory_in kind = kind_of-append before (lock_of Directory kind ∷ []) Directory ∙ rw bare.directory refl
 
-  pub page_not_in : (n : ℕ) → kind_of (in_directory before) (Page n) ≡ None
-  page_not_in n = kind_of-append before (lock_of Directory Read ∷ []) (Page n) ∙ rw (bare.pages n) refl
+  pub page_not_in : (kind : LockKind) (n : ℕ) → kind_of (in_directory kind before) (Page n) ≡ None
+  page_not_in kind n = kind_of-append before (lock_of Directory kind ∷ []) (Page n) ∙ rw (bare.pages n) refl
 
   pub page_on : (n : ℕ) (kind : LockKind) → kind_of (on_page n kind before) (Page n) ≡ Some kind
   page_on n kind = kind_of-append before (lock_of (Page n) kind ∷ []) (Page n) ∙ rw (bare.pages n, eq-eqb n n refl) refl
@@ -33,14 +33,15 @@ module _ (before : List Lock) (bare : HasNoFileLock before) where
   pub directory_not_on : (n : ℕ) (kind : LockKind) → kind_of (on_page n kind before) Directory ≡ None
   directory_not_on n kind = kind_of-append before (lock_of (Page n) kind ∷ []) Directory ∙ rw bare.directory refl
 
-  pub both_held : (n : ℕ) (kind : LockKind) → kind_of (on_page n kind (in_directory before)) Directory ≡ Some Read
-  both_held n kind = kind_of-append (in_directory before) (lock_of (Page n) kind ∷ []) Directory ∙ rw directory_in refl
+  pub both_held : (n : ℕ) (kind : LockKind) → kind_of (on_page n kind (in_directory Read before)) Directory ≡ Some Read
+  both_held n kind = kind_of-append (in_directory Read before) (lock_of (Page n) kind ∷ []) Directory
+      ∙ rw (directory_in Read) refl
 
   -- the directory is given back
-  pub released : (n : ℕ) (kind : LockKind) → without (on_page n kind (in_directory before)) Directory ≡ on_page n
+  pub released : (n : ℕ) (kind : LockKind) → without (on_page n kind (in_directory Read before)) Directory ≡ on_page n
       kind before
   released n kind =
-      filter-append _ (in_directory before) (lock_of (Page n) kind ∷ [])
+      filter-append _ (in_directory Read before) (lock_of (Page n) kind ∷ [])
       ∙ ap (λ (xs : List Lock). xs ++ lock_of (Page n) kind ∷ []) (
       filter-append _ before (lock_of Directory Read ∷ []) ∙ end (without before Directory)
       ∙ without-none before Directory bare.directory)

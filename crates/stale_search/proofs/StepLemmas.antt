@@ -21,7 +21,7 @@ use Rattle.step_rules.proofs.MachineLemmas.{AllKnown-granted}
 use Rattle.step_rules.proofs.OwnLemmas.{hop_is_led_on}
 use Rattle.step_rules.specs.Turns.{DoesTied, HopsJust, MayBeGranted}
 use Rattle.stale_search.specs.Steps.{world, Sees, Step}
-use Rattle.stale_search.specs.Searches.{HasNoFileLock, on_page}
+use Rattle.stale_search.specs.Rows.{HasNoFileLock, on_page}
 use Rattle.stale_search.proofs.RowLemmas.{page_on, other_not_on, directory_not_on}
 
 module _ (hash : RecordKey → ℕ) (seat : ℕ) (facts : List Known) (pool : PoolState) (locks : Table)
@@ -32,15 +32,16 @@ module _ (hash : RecordKey → ℕ) (seat : ℕ) (facts : List Known) (pool : Po
   abbrev old : World
   old = world pool.images locks change
 
-  -- a lock is granted
-  pub granted : (locks' : Table) (name : LockName) (kind : LockKind) → IsSeat locks seat →
-      length (row_of locks seat) < MAX_LOCKS →
+  -- a lock is granted, and its seat learns of the world behind
+  pub granted_to : (facts' : List Known) (locks' : Table) (name : LockName) (kind : LockKind) →
+      ((new : World) (g : Grants seat old new) → g.name ≡ name → g.kind ≡ kind → AllKnown seat new facts') →
+      IsSeat locks seat → length (row_of locks seat) < MAX_LOCKS →
       held locks seat name ≡ None → (IsOpposed locks seat name kind → ⊥) →
       ((page : ℕ) → name ≡ Page page → IsReached old page) → MayBeGranted name kind seat old →
       locks' ≡ with_lock locks seat name kind →
-      Step {F = FileFault} hash seat (turn_of (Some (ForLock name kind))) (Moved Grant) facts pool pool locks locks'
+      Step {F = FileFault} hash seat (turn_of (Some (ForLock name kind))) (Moved Grant) facts' pool pool locks locks'
       change
-  granted locks' name kind seated room fresh nobody reached may is =
+  granted_to facts' locks' name kind learns seated room fresh nobody reached may is =
       let new : World = world pool.images locks' change in
       let g : Grants seat old new = record {
         seated = seated;
@@ -56,9 +57,20 @@ module _ (hash : RecordKey → ℕ) (seat : ℕ) (facts : List Known) (pool : Po
         after = change;
         file = sees.file;
         others = kind_keeps Grant hash seat old new sees.sound g;
-        known = AllKnown-granted seat old new facts g sees.known;
+        known = learns new g refl refl;
         does = record { grants = g; name_is = refl; kind_is = refl; may = may };
       }
+
+  -- and knows what it knew
+  pub granted : (locks' : Table) (name : LockName) (kind : LockKind) → IsSeat locks seat →
+      length (row_of locks seat) < MAX_LOCKS →
+      held locks seat name ≡ None → (IsOpposed locks seat name kind → ⊥) →
+      ((page : ℕ) → name ≡ Page page → IsReached old page) → MayBeGranted name kind seat old →
+      locks' ≡ with_lock locks seat name kind →
+      Step {F = FileFault} hash seat (turn_of (Some (ForLock name kind))) (Moved Grant) facts pool pool locks locks'
+      change
+  granted locks' name kind = granted_to facts locks' name kind
+      (λ new g named kinded. AllKnown-granted seat old new facts g sees.known)
 
   -- a page is read
   pub read : (kind : Kind) (turn : Turn) (facts' : List Known) (pool' : PoolState) → OnlyReads true pool pool' →

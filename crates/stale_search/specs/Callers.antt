@@ -1,18 +1,39 @@
--- What the caller of a search knows, and keeps.
-use Rattle.std.specs.Prelude.{ℕ, ◌≡◌, List, ⊤}
-use Rattle.step_rules.specs.Words.{Lock, Change}
-use Rattle.stale_search.specs.Words.{Table, IsSeat, row_of, with_row, Known, Told, IsKnown}
+-- What the caller of a machine knows, and keeps.
+use Rattle.std.specs.Prelude.{ℕ, ◌≡◌, List, Option, ⊤}
+use Rattle.hash_file.specs.Chain.{contents}
+use Rattle.step_rules.specs.Words.{Lock, LockName, Directory, Page, Change}
+use Rattle.stale_search.specs.Words.{RecordKey, Table, IsSeat, kind_of, row_of, with_row, store_of, Told, IsKnown}
 use Rattle.stale_search.specs.Steps.{world}
 use Rattle.stale_search.specs.Searches.{SearchView, search_locks}
+use Rattle.stale_search.specs.Approaches.{ApproachView, approach_locks}
 
--- a fact that lives under the name of a record
-abbrev pub IsCallers : Known → Type 0
-IsCallers (Told key value) = ⊤
-IsCallers fact = ⊥
+-- a name that is neither the directory's nor a page's
+abbrev pub IsAside : LockName → Type 0
+IsAside Directory = ⊥
+IsAside (Page n) = ⊥
+IsAside name = ⊤
 
--- by what the clauses `row` and `reads` of a step say
-abbrev pub CallerKeeps : Type 0
-CallerKeeps = (seat : ℕ) (images images' : List (List ℕ)) (locks locks' : Table) (change : Change) (v v' : SearchView)
-    (before : List Lock) (fact : Known) → IsSeat locks seat → IsCallers fact → images' ≡ images →
-    row_of locks seat ≡ search_locks v before → locks' ≡ with_row locks seat (search_locks v' before) →
-    IsKnown seat (world images locks change) fact → IsKnown seat (world images' locks' change) fact
+-- a machine's locks, put behind those that the seat had before, leave those of such names as they are
+abbrev pub AddsFileLocks : (List Lock → List Lock) → Type 0
+AddsFileLocks mine = (before : List Lock) (name : LockName) → IsAside name →
+    kind_of (mine before) name ≡ kind_of before name
+
+-- what the file holds at a key is known under the key's own lock. It stays known where the file holds it still, by
+-- what the clause `row` of a step says
+abbrev pub CallerKeeps : (mine mine' : List Lock → List Lock) → Type 0
+CallerKeeps mine mine' = (seat : ℕ) (images images' : List (List ℕ)) (locks locks' : Table) (change change' : Change)
+    (before : List Lock) (key : RecordKey) (value : Option (List ℕ)) → IsSeat locks seat →
+    contents (store_of images') key ≡ contents (store_of images) key →
+    row_of locks seat ≡ mine before → locks' ≡ with_row locks seat (mine' before) →
+    IsKnown seat (world images locks change) (Told key value) →
+    IsKnown seat (world images' locks' change') (Told key value)
+
+-- so it is beside every machine that takes locks of the file alone
+abbrev pub AddersKeep : Type 0
+AddersKeep = (mine mine' : List Lock → List Lock) → AddsFileLocks mine → AddsFileLocks mine' → CallerKeeps mine mine'
+
+abbrev pub SearchKeeps : Type 0
+SearchKeeps = (v v' : SearchView) → CallerKeeps (search_locks v) (search_locks v')
+
+abbrev pub ApproachKeeps : Type 0
+ApproachKeeps = (v v' : ApproachView) → CallerKeeps (approach_locks v) (approach_locks v')

@@ -1,4 +1,7 @@
 pub mod Words
-pub mod Callers
-pub mod Searches
+pub mod Rows
 pub mod Steps
+pub mod Searches
+pub mod Approaches
+pub mod Callers
+pub mod Walks

@@ -1,14 +1,20 @@
 -- What a search holds, knows and asks for at each place.
-use Rattle.std.specs.Prelude.{ℕ, ◌≡◌, ◌↔◌, ◌≤◌, ◌+◌, ◌<◌, ◌%◌, ◌^◌, ◌==◌, ◌&&◌, Bool, if◌then◌else◌, List, [], ◌∷◌, ◌++◌, length, Option, Some, None, IsSome, ⊤}
+use Rattle.std.specs.Prelude.{ℕ, ◌≡◌, ◌↔◌, ◌≤◌, ◌+◌, ◌-◌, ◌%◌, ◌^◌, ◌==◌, ◌&&◌, ◌⊎◌, Bool, false, min, if◌then◌else◌}
+use Rattle.std.specs.Prelude.{List, [], ◌∷◌, length, Option, Some, None, IsSome, IsTrue, ⊤}
 use Rattle.std.specs.Option.{option_map}
-use Rattle.step_rules.specs.Words.{Lock, LockKind, Read, Exclusive, Directory, Page, Store, range_at}
-use Rattle.stale_search.specs.Words.{RecordKey, PoolState, MAX_LOCKS, kind_of, lock_of, store_of, Progress, Moved, Fault, Ended, World, Known, Deep, LeadsTo, Ask, ForLock, HopFrom, Turn, SearchPlace, GrantDirectory, ReadDepth, ReadEntry, GrantPage, ReleaseDirectory, Look, Hop, Found}
-use Rattle.page_device.specs.Device.{HasRisen}
+use Rattle.step_rules.specs.Words.{Lock, LockKind, Read, Exclusive, Directory, Page, Store, Change, Answers, entry_at, next_at, range_at}
+use Rattle.stale_search.specs.Words.{RecordKey, PoolState, Table, store_of, Progress, Moved, Ended, World, Known, Deep, LeadsTo, Ask, ForLock, HopFrom, Turn, SearchPlace, GrantDirectory, ReadDepth, ReadEntry, GrantPage, ReleaseDirectory, Look, Hop, Found}
 use Rattle.directory.specs.declared.layout.TheConstants.{GREATEST_DEPTH}
 use Rattle.hash_file.specs.Store.{has_bucket}
 use Rattle.hash_file.specs.Changes.{RecordWrite}
+use Rattle.step_rules.specs.declared.kind.Kind.{Kind}
+use Rattle.step_rules.specs.declared.kind.Kind.TheVariants as kinds
 use Rattle.step_rules.specs.Answering.{TakesAnswer}
 use Rattle.step_rules.specs.Falls.{search_left, ToReadDepth, ToReadEntry, ToGrantPage, ToRelease, ToLook, ToHop}
+use Rattle.step_rules.specs.Turns.{is_fault}
+pub use Rattle.stale_search.specs.Rows.{HasNoFileLock}
+use Rattle.stale_search.specs.Rows.{EndsRow, in_directory, on_page}
+use Rattle.stale_search.specs.Steps.{Sees, world}
 
 pub record SearchView : Type 0 where
   pub key : RecordKey
@@ -16,6 +22,8 @@ pub record SearchView : Type 0 where
   -- in which it locks pages
   pub kind : LockKind
   pub place : SearchPlace
+  -- those that it made, from page to page
+  pub hops : ℕ
 
 abbrev pub HasDepthInRange : SearchPlace → Type 0
 HasDepthInRange (ReadEntry depth) = depth ≤ GREATEST_DEPTH
@@ -25,32 +33,26 @@ HasDepthInRange place = ⊤
 abbrev pub IsShared : LockKind → Type 0
 IsShared kind = kind ≡ Exclusive → ⊥
 
+abbrev pub HasNotHopped : SearchPlace → ℕ → Type 0
+HasNotHopped GrantDirectory hops = hops ≡ 0
+HasNotHopped place hops = ⊤
+
 -- what is always so of a search
-pub record IsSearch (kind : LockKind) (place : SearchPlace) : Type 0 where
+pub record IsSearch (kind : LockKind) (place : SearchPlace) (hops : ℕ) : Type 0 where
   pub shared : IsShared kind
   -- an entry is read by a depth that a directory can have
   pub in_range : HasDepthInRange place
+  pub begun : HasNotHopped place hops
 
 -- ---- locks
-
--- no lock on the directory or a page
-pub record HasNoFileLock (locks : List Lock) : Type 0 where
-  pub directory : kind_of locks Directory ≡ None
-  pub pages : (n : ℕ) → kind_of locks (Page n) ≡ None
-
-abbrev pub in_directory : List Lock → List Lock
-in_directory before = before ++ lock_of Directory Read ∷ []
-
-abbrev pub on_page : ℕ → LockKind → List Lock → List Lock
-on_page n kind before = before ++ lock_of (Page n) kind ∷ []
 
 -- its locks, behind those that the seat had before
 abbrev pub locks_at : SearchPlace → LockKind → List Lock → List Lock
 locks_at GrantDirectory kind before = before
-locks_at ReadDepth kind before = in_directory before
-locks_at (ReadEntry depth) kind before = in_directory before
-locks_at (GrantPage n) kind before = in_directory before
-locks_at (ReleaseDirectory n) kind before = on_page n kind (in_directory before)
+locks_at ReadDepth kind before = in_directory Read before
+locks_at (ReadEntry depth) kind before = in_directory Read before
+locks_at (GrantPage n) kind before = in_directory Read before
+locks_at (ReleaseDirectory n) kind before = on_page n kind (in_directory Read before)
 locks_at (Look n) kind before = on_page n kind before
 locks_at (Hop n) kind before = on_page n kind before
 locks_at (Found n found) kind before = on_page n kind before
@@ -58,12 +60,9 @@ locks_at (Found n found) kind before = on_page n kind before
 abbrev pub search_locks : SearchView → List Lock → List Lock
 search_locks s before = locks_at s.place s.kind before
 
--- a row of locks ends with the search's; the others are on no page, and leave it two places
-pub record HasRow (s : SearchView) (row : List Lock) : Type 0 where
-  pub before : List Lock
-  pub bare : HasNoFileLock before
-  pub room : length before + 2 ≤ MAX_LOCKS
-  pub is : row ≡ search_locks s before
+-- the row of its seat ends with its locks, two at most
+abbrev pub HasRow : SearchView → List Lock → Type 0
+HasRow s row = EndsRow (search_locks s) 2 row
 
 -- ---- facts
 
@@ -98,12 +97,45 @@ abbrev pub found_at : SearchPlace → Option (ℕ × Option ℕ)
 found_at (Found n found) = Some (n, found)
 found_at place = None
 
--- what it looks for stays, and it has ended where it has found
-pub record KeepsAim {F : Type 0} (did : Progress F) (old new : SearchView) : Type 0 where
+-- a page that was looked at is to be left, or has been found
+abbrev pub LooksFrom : ℕ → SearchPlace → Type 0
+LooksFrom n new = (new ≡ Hop n) ⊎ ((found : Option ℕ) × (new ≡ Found n found))
+
+-- a page that answers by now is looked at again, and another one left for the page that it names
+abbrev pub HopsFrom : Store → ℕ → ℕ → SearchPlace → Type 0
+HopsFrom s n k new = (Answers s n k × (new ≡ Look n)) ⊎ ((Answers s n k → ⊥) × (new ≡ Look (next_at s n)))
+
+-- where a step of a kind leads from a place, by what the file says
+abbrev pub LeadsFrom : Kind → ℕ → Store → (old new : SearchPlace) → Type 0
+LeadsFrom kind k s GrantDirectory new = (kind ≡ kinds.Grant) × (new ≡ ReadDepth)
+LeadsFrom kind k s ReadDepth new = (kind ≡ kinds.ReadDepth) × (new ≡ ReadEntry s.header.depth)
+LeadsFrom kind k s (ReadEntry depth) new = (kind ≡ kinds.ReadEntry) × (new ≡ GrantPage (entry_at s (k % 2 ^ depth)))
+LeadsFrom kind k s (GrantPage n) new = (kind ≡ kinds.Grant) × (new ≡ ReleaseDirectory n)
+LeadsFrom kind k s (ReleaseDirectory n) new = (kind ≡ kinds.Release) × (new ≡ Look n)
+LeadsFrom kind k s (Look n) new = (kind ≡ kinds.Look) × LooksFrom n new
+LeadsFrom kind k s (Hop n) new = (kind ≡ kinds.Hop) × HopsFrom s n k new
+LeadsFrom kind k s (Found n found) new = ⊥
+
+-- and where the step did not move, it stays
+abbrev pub IsLed : {F : Type 0} → Progress F → ℕ → Store → (old new : SearchPlace) → Type 0
+IsLed (Moved kind) k s old new = LeadsFrom kind k s old new
+IsLed did k s old new = new ≡ old
+
+-- a count of hops, which ends at what its number holds
+abbrev pub hops_after : ℕ → (old new : SearchPlace) → ℕ
+hops_after hops (Hop n) (Look m) = if n == m then hops else min (hops + 1) (2 ^ 32 - 1)
+hops_after hops old new = hops
+
+-- what it looks for stays, it has ended where it has found, its hops are counted, and where it comes to is what it read
+pub record KeepsAim {F : Type 0} (did : Progress F) (pool : PoolState) (old new : SearchView) : Type 0 where
   pub key : new.key ≡ old.key
   pub pseudokey : new.pseudokey ≡ old.pseudokey
   pub kind : new.kind ≡ old.kind
   pub ended : (did ≡ Ended) ↔ IsSome (found_at old.place)
+  pub hops : new.hops ≡ hops_after old.hops old.place new.place
+  pub begun : HasNotHopped old.place old.hops
+  -- on an honest device
+  pub led : IsTrue pool.honest → IsLed did old.pseudokey (store_of pool.images) old.place new.place
 
 -- an answer is taken at a Look of the page of the place, where that page answers, and nowhere else; of a value it is
 -- the length
@@ -113,6 +145,12 @@ AnswersFor hash seat did key (Look n) (Found m found) w =
     (m ≡ n) × TakesAnswer hash did seat n key (option_map length) None (Some found) w
 AnswersFor hash seat did key (Look n) place w = ⊤
 AnswersFor hash seat did key old new w = found_at new ≡ found_at old
+
+-- where the pseudokey is that of the key
+abbrev pub GivesAnswer : {F : Type 0} → ℕ → Progress F → (old new : SearchView) → PoolState → Table → Type 0
+GivesAnswer seat did old new pool locks = (hash : RecordKey → ℕ) (change : Change) → hash old.key ≡ old.pseudokey →
+    Sees hash seat (search_facts old) pool locks change → is_fault did ≡ false →
+    AnswersFor hash seat did old.key old.place new.place (world pool.images locks change)
 
 -- ---- the steps that are left, if no other seat steps
 
@@ -134,9 +172,6 @@ left_at (Found n found) k s = 0
 abbrev pub steps_left : SearchView → Store → ℕ
 steps_left v s = left_at v.place v.pseudokey s
 
--- a move brings the end nearer, and a fault is the device's
-abbrev pub Progresses : {F : Type 0} → Progress F → SearchView → SearchView → PoolState → PoolState → Type 0
-Progresses (Moved kind) old new pool pool' =
-    steps_left new (store_of pool'.images) < steps_left old (store_of pool.images)
-Progresses (Fault fault) old new pool pool' = HasRisen pool.faults pool'.faults
-Progresses did old new pool pool' = ⊤
+-- those before and after a step
+abbrev pub left_in : SearchView → PoolState → ℕ
+left_in v pool = steps_left v (store_of pool.images)

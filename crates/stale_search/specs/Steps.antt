@@ -1,9 +1,12 @@
 -- What every machine promises of its step.
-use Rattle.std.specs.Prelude.{ℕ, List, IsTrue}
-use Rattle.step_rules.specs.Words.{Change}
-use Rattle.stale_search.specs.Words.{PoolState, RecordKey, Table, IsFilePool, store_of, Progress, World, IsSoundWorld, Known, AllKnown, Turn}
+use Rattle.std.specs.Prelude.{ℕ, ◌≡◌, ◌<◌, false, List, Option, IsTrue, ⊤}
+use Rattle.page_device.specs.Device.{HasRisen}
+use Rattle.step_rules.specs.Words.{Lock, Change}
+use Rattle.stale_search.specs.Words.{PoolState, RecordKey, Table, row_of, with_row, IsFilePool, store_of, Progress, Moved, Fault, World, IsSoundWorld, Known, AllKnown, Turn}
 use Rattle.step_rules.specs.Does.{KeepsOthers}
-use Rattle.step_rules.specs.Turns.{TurnsAt}
+use Rattle.hash_file.specs.Changes.{RecordWrite}
+use Rattle.step_rules.specs.Turns.{TurnsAt, is_fault}
+use Rattle.stale_search.specs.Rows.{HasNoFileLock}
 
 abbrev pub world : List (List ℕ) → Table → Change → World
 world images locks change = record { store = store_of images; locks = locks; change = change }
@@ -25,3 +28,30 @@ pub record Step {F : Type 0} (hash : RecordKey → ℕ) (seat : ℕ) (turn : Tur
   pub others : KeepsOthers hash seat (world pool.images locks change) (world pool'.images locks' after)
   pub known : AllKnown seat (world pool'.images locks' after) facts
   pub does : TurnsAt hash turn did seat (world pool.images locks change) (world pool'.images locks' after)
+
+-- a move leaves fewer steps than there were before, and a fault is the device's
+abbrev pub Nears : {F : Type 0} → Progress F → (left left' : ℕ) → PoolState → PoolState → Type 0
+Nears (Moved kind) left left' pool pool' = left' < left
+Nears (Fault fault) left left' pool pool' = HasRisen pool.faults pool'.faults
+Nears did left left' pool pool' = ⊤
+
+-- ---- the clauses of a step
+
+-- the row of a seat, whose machine has these locks behind those before, becomes that of the next place
+abbrev pub FollowsRow : ℕ → (mine mine' : List Lock → List Lock) → (locks locks' : Table) → Type 0
+FollowsRow seat mine mine' locks locks' = (before : List Lock) → HasNoFileLock before →
+    row_of locks seat ≡ mine before → locks' ≡ with_row locks seat (mine' before)
+
+-- where the seat knows these facts
+abbrev pub Advances : {F : Type 0} → ℕ → List Known → Progress F → (left left' : ℕ) → (pool pool' : PoolState) →
+    Table → Type 0
+Advances seat facts did left left' pool pool' locks = (hash : RecordKey → ℕ) (change : Change) →
+    Sees hash seat facts pool locks change → Nears did left left' pool pool'
+
+-- whatever record the operation is to write
+abbrev pub MakesStep : {F : Type 0} → ℕ → (List Lock → List Lock) → (facts facts' : List Known) →
+    (Option RecordWrite → Turn) → Progress F → (pool pool' : PoolState) → (locks locks' : Table) → Type 0
+MakesStep seat mine facts facts' turn did pool pool' locks locks' =
+    (hash : RecordKey → ℕ) (change : Change) (write : Option RecordWrite) (before : List Lock) →
+    HasNoFileLock before → row_of locks seat ≡ mine before → Sees hash seat facts pool locks change →
+    is_fault did ≡ false → Step hash seat (turn write) did facts' pool pool' locks locks' change

@@ -1,11 +1,16 @@
-//! A search for the bucket of a key, step by step.
+//! A search for the bucket of a key, and the approach of a seat that is to change the structure, step by step.
 
 #![tactic(auto)]
 
+mod approach;
 mod laws;
 mod place;
 mod search;
 
-pub use laws::a_search_keeps_what_its_caller_knows;
-pub use place::SearchPlace;
+pub use approach::Approach;
+pub use laws::{
+    a_search_counts_few_hops, a_search_keeps_what_its_caller_knows,
+    an_approach_keeps_what_its_caller_knows, machines_keep_what_their_callers_know,
+};
+pub use place::{ApproachPlace, SearchPlace};
 pub use search::Search;

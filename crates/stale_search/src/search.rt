@@ -1,16 +1,13 @@
 //! The machine.
 
-ghost use Rattle.std.specs.Prelude.{◌≡◌, ℕ, List, Option, false, not};
-ghost use Rattle.bucket_page.specs.declared.record_key.RecordKey.{RecordKey};
-ghost use Rattle.page_locks.specs.declared.lock.Lock.{Lock};
-ghost use Rattle.page_locks.specs.Table.{IsSeat, row_of, with_row};
+ghost use Rattle.std.specs.Prelude.{◌≡◌, not};
+ghost use Rattle.page_locks.specs.Table.{IsSeat, row_of};
 ghost use Rattle.file_pages.specs.Files.{IsReady};
-ghost use Rattle.hash_file.specs.Change.{Change};
-ghost use Rattle.hash_file.specs.Changes.{RecordWrite};
 ghost use Rattle.file_pages.specs.Reads.{OnlyReads};
 ghost use Rattle.step_rules.specs.Turns.{is_fault};
-ghost use Rattle.stale_search.specs.Steps.{Sees, Step, world};
-ghost use Rattle.stale_search.specs.Searches.{IsShared, HasRow, HasNoFileLock, search_locks, search_facts, search_turn, Progresses, AnswersFor, KeepsAim};
+ghost use Rattle.stale_search.specs.Steps.{Advances, FollowsRow, MakesStep};
+ghost use Rattle.stale_search.specs.Searches.{GivesAnswer, HasRow, IsShared, KeepsAim};
+ghost use Rattle.stale_search.specs.Searches.{search_facts, search_locks, search_turn, left_in};
 
 use crate::place::SearchPlace;
 use bucket_page::RecordKey;
@@ -30,6 +27,7 @@ pub struct Search {
     pseudokey: u32,
     kind: LockKind,
     place: SearchPlace,
+    hops: u32,
 }
 
 const _: () = prove!(size_of::<Search>() <= 300);
@@ -39,9 +37,15 @@ impl Model for Search {
 
     ghost Value = { SearchView };
 
-    ghost view = { λ s. record { key = s.key; pseudokey = s.pseudokey; kind = s.kind; place = s.place } };
+    ghost view = { λ s. record {
+      key = s.key;
+      pseudokey = s.pseudokey;
+      kind = s.kind;
+      place = s.place;
+      hops = s.hops;
+    } };
 
-    ghost invariant = { λ s. IsSearch s.kind s.place };
+    ghost invariant = { λ s. IsSearch s.kind s.place s.hops };
 }
 
 impl Search {
@@ -53,6 +57,7 @@ impl Search {
           pseudokey = pseudokey;
           kind = kind;
           place = SearchPlace.GrantDirectory;
+          hops = 0;
         } }
     {
         Search {
@@ -60,6 +65,7 @@ impl Search {
             pseudokey,
             kind,
             place: SearchPlace::GrantDirectory,
+            hops: 0,
         }
     }
 
@@ -68,6 +74,13 @@ impl Search {
         ensures { result ≡ self.now.place }
     {
         self.place
+    }
+
+    /// How often it went on from a page that did not answer to another one. From `u32::MAX` on it counts no more.
+    pub fn hops(&self) -> u32
+        ensures { result ≡ self.now.hops }
+    {
+        self.hops
     }
 
     /// One step.
@@ -82,27 +95,16 @@ impl Search {
         requires row { HasRow self.old (row_of locks.old seat) }
         // whatever the device gives
         ensures reads { OnlyReads (not (is_fault result)) pool.old pool.new }
-        ensures aim { KeepsAim result self.old self.new }
-        ensures row { (before : List Lock) → HasNoFileLock before →
-            row_of locks.old seat ≡ search_locks self.old before →
-            locks.new ≡ with_row locks.old seat (search_locks self.new before) }
+        ensures aim { KeepsAim result pool.old self.old self.new }
+        ensures row { FollowsRow seat (search_locks self.old) (search_locks self.new)
+            locks.old locks.new }
         // on an honest device, in a sound world
-        ensures progress { (hash : RecordKey → ℕ) (change : Change) →
-            Sees hash seat (search_facts self.old) pool.old locks.old change →
-            Progresses result self.old self.new pool.old pool.new }
-        ensures step { (hash : RecordKey → ℕ) (change : Change) (write : Option RecordWrite) →
-            (before : List Lock) → HasNoFileLock before →
-            row_of locks.old seat ≡ search_locks self.old before →
-            Sees hash seat (search_facts self.old) pool.old locks.old change →
-            is_fault result ≡ false →
-            Step hash seat (search_turn self.old write) result (search_facts self.new)
-            pool.old pool.new locks.old locks.new change }
-        ensures answer { (hash : RecordKey → ℕ) (change : Change) →
-            hash self.old.key ≡ self.old.pseudokey →
-            Sees hash seat (search_facts self.old) pool.old locks.old change →
-            is_fault result ≡ false →
-            AnswersFor hash seat result self.old.key self.old.place self.new.place
-            (world pool.old.images locks.old change) }
+        ensures progress { Advances seat (search_facts self.old) result (left_in self.old pool.old)
+            (left_in self.new pool.new) pool.old pool.new locks.old }
+        ensures step { MakesStep seat (search_locks self.old) (search_facts self.old)
+            (search_facts self.new) (search_turn self.old) result pool.old pool.new
+            locks.old locks.new }
+        ensures answer { GivesAnswer seat result self.old self.new pool.old locks.old }
     {
         match self.place {
             SearchPlace::GrantDirectory => {
@@ -142,38 +144,95 @@ impl Search {
                 self.place = SearchPlace::Look(page);
                 Progress::Moved(Kind::Release)
             }
-            SearchPlace::Look(page) => match look(pool, page, self.pseudokey, &self.key) {
-                Ok(Sight::Covering(found)) => {
-                    self.place = SearchPlace::Found(page, found);
-                    Progress::Moved(Kind::Look)
-                }
-                Ok(Sight::Naming(_)) => {
-                    self.place = SearchPlace::Hop(page);
-                    Progress::Moved(Kind::Look)
-                }
-                Err(fault) => Progress::Fault(fault),
-            },
-            SearchPlace::Hop(page) => match look(pool, page, self.pseudokey, &self.key) {
-                Ok(Sight::Covering(_)) => {
-                    self.place = SearchPlace::Look(page);
-                    Progress::Moved(Kind::Hop)
-                }
-                Ok(Sight::Naming(next)) => {
-                    if next == page {
-                        return Progress::Fault(FileFault::Failed);
-                    }
-                    match locks.try_grant(seat, LockName::Page(next), self.kind) {
-                        Grant::Granted => {
-                            locks.release(seat, LockName::Page(page));
-                            self.place = SearchPlace::Look(next);
-                            Progress::Moved(Kind::Hop)
-                        }
-                        Grant::Blocked(other) => Progress::Blocked(other),
-                    }
-                }
-                Err(fault) => Progress::Fault(fault),
-            },
+            SearchPlace::Look(page) => self.look_at(pool, locks, seat, page),
+            SearchPlace::Hop(page) => self.hop_from(pool, locks, seat, page),
             SearchPlace::Found(_, _) => Progress::Ended,
+        }
+    }
+
+    /// The page is read: it answers, or it is to be left.
+    fn look_at<D: PageDevice>(
+        &mut self,
+        pool: &mut Pool<D>,
+        locks: &LockTable,
+        seat: u8,
+        page: u32,
+    ) -> Progress<FileFault>
+        requires place { self.old.place ≡ SearchPlace.Look page }
+        requires seat { IsSeat locks.now seat }
+        requires ready { IsReady pool.old }
+        requires row { HasRow self.old (row_of locks.now seat) }
+        // whatever the device gives
+        ensures reads { OnlyReads (not (is_fault result)) pool.old pool.new }
+        ensures aim { KeepsAim result pool.old self.old self.new }
+        ensures row { FollowsRow seat (search_locks self.old) (search_locks self.new)
+            locks.now locks.now }
+        // on an honest device, in a sound world
+        ensures progress { Advances seat (search_facts self.old) result (left_in self.old pool.old)
+            (left_in self.new pool.new) pool.old pool.new locks.now }
+        ensures step { MakesStep seat (search_locks self.old) (search_facts self.old)
+            (search_facts self.new) (search_turn self.old) result pool.old pool.new
+            locks.now locks.now }
+        ensures answer { GivesAnswer seat result self.old self.new pool.old locks.now }
+    {
+        match look(pool, page, self.pseudokey, &self.key) {
+            Ok(Sight::Covering(found)) => {
+                self.place = SearchPlace::Found(page, found);
+                Progress::Moved(Kind::Look)
+            }
+            Ok(Sight::Naming(_)) => {
+                self.place = SearchPlace::Hop(page);
+                Progress::Moved(Kind::Look)
+            }
+            Err(fault) => Progress::Fault(fault),
+        }
+    }
+
+    /// The page is read again. It answers by now, or the next one is locked in its place.
+    fn hop_from<D: PageDevice>(
+        &mut self,
+        pool: &mut Pool<D>,
+        locks: &mut LockTable,
+        seat: u8,
+        page: u32,
+    ) -> Progress<FileFault>
+        requires place { self.old.place ≡ SearchPlace.Hop page }
+        requires seat { IsSeat locks.old seat }
+        requires ready { IsReady pool.old }
+        requires row { HasRow self.old (row_of locks.old seat) }
+        // whatever the device gives
+        ensures reads { OnlyReads (not (is_fault result)) pool.old pool.new }
+        ensures aim { KeepsAim result pool.old self.old self.new }
+        ensures row { FollowsRow seat (search_locks self.old) (search_locks self.new)
+            locks.old locks.new }
+        // on an honest device, in a sound world
+        ensures progress { Advances seat (search_facts self.old) result (left_in self.old pool.old)
+            (left_in self.new pool.new) pool.old pool.new locks.old }
+        ensures step { MakesStep seat (search_locks self.old) (search_facts self.old)
+            (search_facts self.new) (search_turn self.old) result pool.old pool.new
+            locks.old locks.new }
+        ensures answer { GivesAnswer seat result self.old self.new pool.old locks.old }
+    {
+        match look(pool, page, self.pseudokey, &self.key) {
+            Ok(Sight::Covering(_)) => {
+                self.place = SearchPlace::Look(page);
+                Progress::Moved(Kind::Hop)
+            }
+            Ok(Sight::Naming(next)) => {
+                if next == page {
+                    return Progress::Fault(FileFault::Failed);
+                }
+                match locks.try_grant(seat, LockName::Page(next), self.kind) {
+                    Grant::Granted => {
+                        locks.release(seat, LockName::Page(page));
+                        self.place = SearchPlace::Look(next);
+                        self.hops = self.hops.saturating_add(1);
+                        Progress::Moved(Kind::Hop)
+                    }
+                    Grant::Blocked(other) => Progress::Blocked(other),
+                }
+            }
+            Err(fault) => Progress::Fault(fault),
         }
     }
 }

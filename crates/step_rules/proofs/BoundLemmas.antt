@@ -1,9 +1,6 @@
 -- How far an entry is from the bucket of a pseudokey, that was found by a depth read before.
 use Rattle.std.proofs.Common.{subst, ◌≡◌, ◌≤◌, ◌+◌, ◌-◌, ◌%◌, ◌^◌, ℕ, suc, Bool, if◌then◌else◌, ap, ◌∙◌, inl, arith}
-use Rattle.positions.specs.declared.pseudokey.TheConstants.{POSITIONS}
-use Rattle.positions.specs.Positions.{position_of}
-use Rattle.positions.specs.Ranges.{start_of}
-use Rattle.positions.specs.Tiles.{begun}
+use Rattle.step_rules.proofs.Names.{POSITIONS, begun, position_of, start_of}
 use Rattle.positions.proofs.CountLaws.{begun_rises, begun_inside}
 use Rattle.positions.proofs.PositionLaws.{position_truncated}
 use Rattle.positions.proofs.RangeLaws.{covers_truncated}

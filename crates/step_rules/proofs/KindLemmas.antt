@@ -1,9 +1,6 @@
 -- Each kind of step, and schedules of steps.
 use Rattle.std.proofs.Common.{◌≡◌, ℕ, refl, sym, subst, inl, inr}
-use Rattle.positions.specs.Ranges.{upper_half_of}
-use Rattle.bucket_page.specs.declared.record_key.RecordKey.{RecordKey}
-use Rattle.hash_file.specs.Store.{Store, range_at}
-use Rattle.hash_file.specs.Change.{Change, Quiet, Taken, Filled, Linked, Absorbed, Buried, Drained, Freed}
+use Rattle.step_rules.proofs.Names.{Absorbed, Buried, Change, Drained, Filled, Freed, Linked, Quiet, RecordKey, Store, Taken, range_at, upper_half_of}
 use Rattle.hash_file.specs.Changes.{take_page, copy_directory, raise_depth, write_new, write_old, retarget, set_counts, split_counts, merge_counts, write_left, write_tombstone, write_free, link_free, lower_depth}
 use Rattle.hash_file.specs.Kept.{KeepsContents}
 use Rattle.hash_file.proofs.TakePage.{take_page_keeps, link_free_keeps}

@@ -1,3 +1,4 @@
+pub mod Names
 pub mod StructureLemmas
 pub mod KnownLemmas
 pub mod LockLemmas

@@ -2,14 +2,9 @@
 -- split and a merge share.
 use Rattle.std.proofs.Common.{◌≢◌, ℕ, [], ◌∷◌, refl, sym, ap, ◌∙◌, subst, inl, inr, arith}
 use Rattle.std.specs.List.{Contains}
-use Rattle.positions.specs.declared.range.Range.{Range}
-use Rattle.positions.specs.Ranges.{upper_half_of}
+use Rattle.step_rules.proofs.Names.{Directory, Page, Range, RecordKey, held, joined, upper_half_of}
 use Rattle.positions.proofs.MemberLaws.{contains_cases, contains_none}
-use Rattle.bucket_page.specs.declared.record_key.RecordKey.{RecordKey}
 use Rattle.bucket_page.specs.declared.page.PageKind.TheVariants as kinds
-use Rattle.bucket_page.specs.Dividing.{joined}
-use Rattle.page_locks.specs.declared.lock.LockName.TheVariants.{Directory, Page}
-use Rattle.page_locks.specs.Table.{held}
 use Rattle.page_locks.specs.Writers.{IsWriter}
 use Rattle.hash_file.specs.Store.{Store, bucket_at}
 use Rattle.hash_file.specs.Change.{Change, Quiet, Linked, Absorbed, Buried, Drained, Freed}

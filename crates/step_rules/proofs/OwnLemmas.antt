@@ -6,28 +6,13 @@ use Rattle.std.proofs.Math.Pow.{pow_mono}
 use Rattle.std.specs.List.{Contains}
 use Rattle.positions.proofs.MemberLaws.{contains_cases, contains_head, contains_none, contains_tail}
 use Rattle.positions.proofs.RangeLaws.{covers_truncated}
-use Rattle.bucket_page.specs.declared.record_key.RecordKey.{RecordKey}
+use Rattle.step_rules.proofs.Names.{Absorbed, Answers, Buried, Change, Directory, Drained, Filled, Freed, HasNoWriter, HasPhase, IsBucketOf, IsBuried, IsDrained, IsHeld, IsSoundFile, IsSoundWorld, IsWriter, Linked, LockKind, LockName, MayAim, Page, PageLeads, Quiet, RecordKey, Store, Table, Taken, World, aside, busy, chain, entry_at, guard_of, held, is_bucket, lookup, may_write, next_at, page_at, range_at, records_at, row_of, with_lock, with_locks}
 use Rattle.bucket_page.specs.declared.page.PageKind.TheVariants as kinds
-use Rattle.bucket_page.specs.Records.{lookup}
-use Rattle.page_locks.specs.declared.lock.LockKind.{LockKind}
-use Rattle.page_locks.specs.declared.lock.LockName.{LockName}
-use Rattle.page_locks.specs.declared.lock.LockName.TheVariants.{Directory, Page}
-use Rattle.page_locks.specs.Table.{Table, row_of, held, with_lock}
-use Rattle.page_locks.specs.Writers.{may_write, IsWriter, HasNoWriter}
 use Rattle.page_locks.proofs.ChangeLemmas.{held-grant}
 use Rattle.page_locks.proofs.WriterLemmas.{HasNoWriter-free}
-use Rattle.hash_file.specs.Store.{Store, is_bucket, page_at, entry_at, next_at, records_at, range_at}
-use Rattle.hash_file.specs.Chain.{chain, IsBucketOf}
-use Rattle.hash_file.specs.Change.{Change, Quiet, Taken, Filled, Linked, Absorbed, Buried, Drained, Freed, aside, busy}
-use Rattle.hash_file.specs.Search.{PageLeads}
-use Rattle.hash_file.specs.Looks.{Answers}
-use Rattle.hash_file.specs.Phases.{HasPhase, IsBuried, IsDrained}
-use Rattle.hash_file.specs.Sound.{IsSoundFile}
 use Rattle.hash_file.proofs.Searches.{entries_lead, stale_depths_lead, looks_answer, hops_lead_on}
 use Rattle.hash_file.proofs.Ties.{quiet_exact}
 use Rattle.hash_file.proofs.Roles.{live_not_owned}
-use Rattle.step_rules.specs.World.{World, with_locks, IsHeld, MayAim, guard_of}
-use Rattle.step_rules.specs.Sound.{IsSoundWorld}
 use Rattle.step_rules.specs.Structure.{InPhase, HasDepth, BucketOf}
 use Rattle.step_rules.specs.Known.{Known, Deep, LeadsTo, OnPage, Live, Built, Told, HasAnchor, IsKnown}
 use Rattle.step_rules.specs.LockSteps.{Grants, MovesOn}

@@ -2,18 +2,9 @@
 use Rattle.std.proofs.Common.{◌≡◌, ◌≢◌, ◌⊎◌, ◌<◌, ℕ, List, Bool, true, if◌then◌else◌, Some, length, refl, sym, ap, ◌∙◌, subst, inl, inr, arith}
 use Rattle.std.proofs.lemmas.Bool.{cases_eq, cases_Bool, true≢false}
 use Rattle.std.specs.List.{Contains}
-use Rattle.bucket_page.specs.declared.record_key.RecordKey.{RecordKey}
-use Rattle.bucket_page.specs.declared.page.PageKind.{PageKind}
+use Rattle.step_rules.proofs.Names.{Bucket, Directory, Exclusive, IsWriter, Page, PageKind, Pair, RecordKey, Store, bucket_at, bucket_of, held, is_bucket, is_same, page_at, records_at}
 use Rattle.bucket_page.specs.declared.page.PageKind.TheVariants as kinds
-use Rattle.bucket_page.specs.Bucket.{Bucket}
-use Rattle.bucket_page.specs.Keys.{is_same}
-use Rattle.bucket_page.specs.Records.{Pair}
 use Rattle.bucket_page.proofs.KeyLaws.{same_is}
-use Rattle.page_locks.specs.declared.lock.LockKind.TheVariants.{Exclusive}
-use Rattle.page_locks.specs.declared.lock.LockName.TheVariants.{Directory, Page}
-use Rattle.page_locks.specs.Table.{held}
-use Rattle.page_locks.specs.Writers.{IsWriter}
-use Rattle.hash_file.specs.Store.{Store, is_bucket, bucket_of, page_at, bucket_at, records_at}
 use Rattle.hash_file.specs.Chain.{chain, contents}
 use Rattle.hash_file.specs.Change.{busy, aside}
 use Rattle.hash_file.specs.Changes.{RecordWrite, key_of, value_after, records_after, write_record}

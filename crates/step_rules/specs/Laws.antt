@@ -1,7 +1,8 @@
 -- The laws of steps, each on the contract of a function of src/laws.rt.
 use Rattle.std.specs.Prelude.{ℕ, ◌≡◌, ◌≢◌, List, [], ◌∷◌}
 use Rattle.bucket_page.specs.declared.record_key.RecordKey.{RecordKey}
-use Rattle.page_locks.specs.Table.{Table, row_of, IsLawful}
+use Rattle.page_locks.specs.Table.{Table, IsLawful}
+use Rattle.page_locks.specs.Ties.{IsUnheld}
 use Rattle.hash_file.specs.Store.{Store}
 use Rattle.hash_file.specs.Change.{Quiet}
 use Rattle.hash_file.specs.Changes.{RecordWrite}
@@ -72,16 +73,12 @@ abbrev pub SchedulesKeepKnowledge : Type 0
 SchedulesKeepKnowledge = (hash : RecordKey → ℕ) (moves : List Move) (old new : World) (i : ℕ) (fact : Known) →
     IsSoundWorld hash old → LeadAlong hash moves old new → StandsStill i moves → IsKnown i old fact → IsKnown i new fact
 
--- no seat holds a lock
-abbrev pub IsAtRest : Table → Type 0
-IsAtRest t = (seat : ℕ) → row_of t seat ≡ []
-
 -- a sound file with no change under way is where schedules may begin
 abbrev pub RestIsSound : Type 0
-RestIsSound = (hash : RecordKey → ℕ) (s : Store) (t : Table) → IsSoundFile hash s Quiet → IsLawful t → IsAtRest t →
+RestIsSound = (hash : RecordKey → ℕ) (s : Store) (t : Table) → IsSoundFile hash s Quiet → IsLawful t → IsUnheld t →
     IsSoundWorld hash (record { store = s; locks = t; change = Quiet })
 
--- and such a file is left where they end with no seat holding a lock
+-- and such a file is left where they end, no seat holding a lock
 abbrev pub RestIsQuiet : Type 0
-RestIsQuiet = (hash : RecordKey → ℕ) (w : World) → IsSoundWorld hash w → IsAtRest w.locks
+RestIsQuiet = (hash : RecordKey → ℕ) (w : World) → IsSoundWorld hash w → IsUnheld w.locks
     → IsSoundFile hash w.store Quiet

@@ -1,12 +1,12 @@
 -- The world that steps act on: the file, what each seat has locked, and the structure change under way.
 -- docs/STEPS.md, "Words" and "Locks".
-use Rattle.std.specs.Prelude.{ℕ, ◌==◌, ◌⊎◌, IsSome, if◌then◌else◌}
+use Rattle.std.specs.Prelude.{ℕ, ◌⊎◌, IsSome}
 use Rattle.std.specs.List.{Contains}
-use Rattle.bucket_page.specs.declared.record_key.RecordKey.{RecordKey}
 use Rattle.page_locks.specs.declared.lock.LockName.{LockName}
-use Rattle.page_locks.specs.declared.lock.LockName.TheVariants.{Key, Counter, Queue, Directory, Page}
+use Rattle.page_locks.specs.declared.lock.LockName.TheVariants.{Directory, Page}
 use Rattle.page_locks.specs.Table.{Table, held}
-use Rattle.queue_records.specs.declared.layout.TheConstants.{COUNTER, KEY}
+-- the name under whose lock a record is read and written
+pub use Rattle.queue_records.specs.Keys.{guard_of}
 use Rattle.hash_file.specs.Store.{Store}
 use Rattle.hash_file.specs.Chain.{chain}
 use Rattle.hash_file.specs.Change.{Change, aside}
@@ -25,10 +25,6 @@ with_store s w = record { store = s; locks = w.locks; change = w.change }
 -- the world where the file has become s, and the structure change has come to phase c
 abbrev pub gone_on : Store → Change → World → World
 gone_on s c w = record { store = s; locks = w.locks; change = c }
-
--- the name under whose lock a record is read and written
-abbrev pub guard_of : RecordKey → LockName
-guard_of key = if key.kind == COUNTER then Counter else if key.kind == KEY then Key key.number else Queue key.queue
 
 -- a seat holds a name, in any kind
 abbrev pub IsHeld : Table → ℕ → LockName → Type 0

@@ -1,13 +1,11 @@
 -- What the record at its key, or the Counter, tells a Get.
 use Rattle.std.proofs.Common.{◌≡◌, ℕ, Bool, true, false, Option, Some, None, refl, sym, ap, ◌∙◌, subst}
 use Rattle.std.specs.Prelude.{IsSome, option_map, if◌then◌else◌}
-use Rattle.std.specs.List.{find}
+use Rattle.xsi_control.specs.Words.{find, mapped, GetArguments, Caller, ENOENT, Queue, IsFreshKey, create, get_by, get_found, has_key, outcome_of_get, refuse, State, Counter, Record, key_of_key, counter_key, counter_of, key_entry, IsTold}
 use Rattle.queue_records.specs.declared.key_entry.KeyEntry.{KeyEntry}
 use Rattle.queue_records.specs.declared.record.Record.TheVariants as records
-use Rattle.type_chains.proofs.Tests.{mapped}
 use Rattle.xsi_inquiry.specs.declared.wanted.Wanted.TheVariants.{At}
 use Rattle.xsi_control.specs.Getting.{KnowsOfGet, absent_or_counted, id_found, key_wanted}
-use Rattle.xsi_control.specs.Words.{GetArguments, Caller, ENOENT, Queue, IsFreshKey, create, get_by, get_found, has_key, outcome_of_get, refuse, State, Counter, Record, key_of_key, counter_key, counter_of, key_entry, IsTold}
 
 -- ---- the Counter always stands
 

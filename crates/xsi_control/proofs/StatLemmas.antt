@@ -2,15 +2,7 @@
 use Rattle.std.proofs.Common.{◌≡◌, ℕ, Bool, true, false, Some, refl, sym, ap, ◌∙◌}
 use Rattle.queue_model.specs.declared.answer.Answer.TheVariants.{Info}
 use Rattle.queue_model.specs.declared.call.Call.TheVariants.{Stat}
-use Rattle.queue_model.specs.declared.caller.Caller.{Caller}
-use Rattle.queue_model.specs.declared.errno.Errno.TheVariants.{EACCES}
-use Rattle.queue_model.specs.declared.permissions.Access.TheVariants.{Read}
-use Rattle.queue_model.specs.Access.{lacks_access}
-use Rattle.queue_model.specs.Rules.{Outcome, info_of, outcome, refuse, stat_of}
-use Rattle.queue_model.specs.State.{State}
-use Rattle.queue_records.specs.declared.queue_entry.QueueEntry.{QueueEntry}
-use Rattle.type_chains.specs.Reading.{info_in, permissions_in}
-use Rattle.xsi_inquiry.specs.Seeking.{IsEntryOf}
+use Rattle.xsi_control.specs.Words.{Caller, EACCES, Read, lacks_access, Outcome, info_of, outcome, refuse, stat_of, State, QueueEntry, info_in, permissions_in, IsEntryOf}
 
 module _ (c : Caller) (id : ℕ) (s : State) (e : QueueEntry) (is : IsEntryOf id e s) where
   -- what is read off the entry is so of the queue

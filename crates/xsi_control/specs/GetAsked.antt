@@ -1,36 +1,25 @@
 -- What a Get asks for is under its key's name or the Counter's, and it writes little.
-use Rattle.std.proofs.Common.{◌≡◌, ℕ, ◌≤◌, Bool, List, ◌∷◌, length, Option, Some, None, refl, ap, ◌∙◌, subst, arith}
+use Rattle.std.proofs.Common.{inl, inr, Ok, ℕ, ◌≤◌, Bool, List, [], ◌∷◌, length, Option, Some, None, refl, ap, arith}
+use Rattle.std.proofs.lemmas.List.Elements.{All-cons, All-nil}
 use Rattle.std.specs.Prelude.{option_map}
 use Rattle.queue_records.specs.declared.record.Record.TheVariants as records
 use Rattle.xsi_inquiry.specs.declared.wanted.Wanted.TheVariants.{At}
 use Rattle.xsi_inquiry.specs.declared.write.TheConstants.{MAX_TRIALS}
-use Rattle.xsi_inquiry.specs.Agreeing.{AgreeOnCounter, AgreeOnKey, AgreesFor, IsCovered}
+use Rattle.xsi_inquiry.specs.Agreeing.{AgreeOnKey, AgreesFor, IsCovered}
+use Rattle.xsi_inquiry.specs.Deciding.{InsertsOnlyFor}
+use Rattle.xsi_inquiry.specs.Writing.{KeepsAll}
+use Rattle.xsi_inquiry.proofs.AskLemmas.{at_counter, at_none, at_one, given_none}
 use Rattle.xsi_inquiry.proofs.DecisionLemmas.{small_none}
 use Rattle.xsi_control.specs.declared.get_inquiry.Getting.{Getting}
 use Rattle.xsi_control.specs.declared.get_inquiry.Getting.TheVariants.{AtKey, Found, Absent, AtCounter, Counted}
-use Rattle.xsi_control.specs.Getting.{get_plan, get_wanted, key_made, key_wanted, one_more, plan_made}
-use Rattle.xsi_control.specs.Words.{RecordKey, LockName, Get, GetArguments, Caller, Queue, new_queue, State, Counter, Record, key_of_key, counter_key, key_entry, queue_entry, record_of, IsTold, IsToldGiven, IsSmall}
-
-at_none : (t : State) (found : Option Record) → IsTold t None found
-at_none t found key is = absurd cc
-
-given_none : (t : State) (given : Bool) → IsToldGiven t None given
-given_none t given id is = absurd cc
+use Rattle.xsi_control.specs.Getting.{decided_made, get_decided, get_plan, get_wanted, key_made, key_wanted, one_more, plan_made}
+use Rattle.xsi_control.specs.Words.{LockName, Get, GetArguments, Caller, Queue, new_queue, State, Counter, Record, key_of_key, counter_key, key_entry, queue_entry, IsTold, IsToldGiven, IsSmall}
 
 key_asks : (key : Option ℕ) (s t : State) (found : Option Record) → AgreeOnKey key s t →
     IsTold s (key_wanted key) found → IsTold t (key_wanted key) found
-key_asks None s t found agrees told other is = absurd cc
-key_asks (Some key) s t found agrees told other is =
-    let it : key_of_key key ≡ other = cc in
-    subst (λ (x : RecordKey). found ≡ record_of t x) it (told (key_of_key key) refl
-    ∙ ap (option_map (λ (q : Queue). records.Key (key_entry key q))) agrees)
-
-counter_asks : (s t : State) (found : Option Record) → AgreeOnCounter s t →
-    IsTold s (Some (At counter_key)) found → IsTold t (Some (At counter_key)) found
-counter_asks s t found agrees told other is =
-    let it : counter_key ≡ other = cc in
-    subst (λ (x : RecordKey). found ≡ record_of t x) it (told counter_key refl
-    ∙ (λ i. Some (records.Counter (record { next_id = agrees.next_id i; queues_alive = agrees.alive i }))))
+key_asks None s t found agrees told = at_none t found
+key_asks (Some key) s t found agrees told =
+    at_one (key_of_key key) s t found (ap (option_map (λ (q : Queue). records.Key (key_entry key q))) agrees) told
 
 pub get_asks : (a : GetArguments) (getting : Getting) (names : List LockName) (s t : State) (found : Option Record) →
     IsCovered names (get_wanted a getting) → AgreesFor (Get a) names s t →
@@ -38,7 +27,7 @@ pub get_asks : (a : GetArguments) (getting : Getting) (names : List LockName) (s
 get_asks a AtKey names s t found covered agrees told = key_asks a.key s t found agrees.asked told
 get_asks a (Found id) names s t found covered agrees told = at_none t found
 get_asks a Absent names s t found covered agrees told = at_none t found
-get_asks a AtCounter names s t found covered agrees told = counter_asks s t found (agrees.counter (covered refl)) told
+get_asks a AtCounter names s t found covered agrees told = at_counter s t found (agrees.counter (covered refl)) told
 get_asks a (Counted n) names s t found covered agrees told = at_none t found
 
 never_given : (key : Option ℕ) (t : State) (given : Bool) → IsToldGiven t (key_wanted key) given
@@ -71,3 +60,17 @@ few_of_get c a (Found id) = small_none
 few_of_get c a Absent = small_none
 few_of_get c a AtCounter = small_none
 few_of_get c a (Counted n) = few_made c a n.next_id (one_more n)
+
+-- a queue that is made is inserted
+made_inserts : (c : Caller) (a : GetArguments) (id : ℕ) (n : Option Counter) →
+    InsertsOnlyFor (Ok (decided_made id n)) (plan_made c a id n)
+made_inserts c a id None = inl refl
+made_inserts c a id (Some n) = inr (tt, All-cons KeepsAll _ [] tt (All-nil KeepsAll))
+
+pub get_inserts : (c : Caller) (a : GetArguments) (getting : Getting) →
+    InsertsOnlyFor (get_decided a getting) (get_plan c a getting)
+get_inserts c a AtKey = inl refl
+get_inserts c a (Found id) = inl refl
+get_inserts c a Absent = inl refl
+get_inserts c a AtCounter = inl refl
+get_inserts c a (Counted n) = made_inserts c a n.next_id (one_more n)

@@ -1,19 +1,14 @@
 -- What a Set asks for is that of its own queue, and it writes little.
-use Rattle.std.proofs.Common.{Bool, true, false, cond, Option, None, arith}
+use Rattle.std.proofs.Common.{◌≡◌, inl, refl, Bool, true, false, cond, [], Option, None, arith}
 use Rattle.std.specs.Prelude.{nat_lt, Result, Ok, Err}
 use Rattle.xsi_inquiry.specs.declared.sought.Sought.{Sought}
 use Rattle.xsi_inquiry.specs.declared.sought.Sought.TheVariants.{Unread, Absent, Found, Refused}
 use Rattle.xsi_inquiry.specs.Agreeing.{AgreeOnId}
+use Rattle.xsi_inquiry.specs.Deciding.{InsertsOnlyFor}
 use Rattle.xsi_inquiry.proofs.DecisionLemmas.{small_none}
-use Rattle.xsi_inquiry.proofs.SeekLemmas.{given_asks, sought_asks, sought_given}
-use Rattle.xsi_control.specs.Setting.{plan_by, plan_on, set_entry, set_plan, set_wanted}
+use Rattle.xsi_inquiry.proofs.AskLemmas.{at_none, given_asks, given_none, sought_asks, sought_given}
+use Rattle.xsi_control.specs.Setting.{plan_by, plan_on, set_decided, set_entry, set_plan, set_wanted}
 use Rattle.xsi_control.specs.Words.{SetArguments, Caller, Errno, MAX_QBYTES, State, QueueEntry, Record, sought_next, IsTold, IsToldGiven, IsSmall, nothing}
-
-at_none : (t : State) (found : Option Record) → IsTold t None found
-at_none t found key is = absurd cc
-
-given_none : (t : State) (given : Bool) → IsToldGiven t None given
-given_none t given id is = absurd cc
 
 pub set_asks : (a : SetArguments) (sought : Sought) (s t : State) (found : Option Record) → AgreeOnId a.id s t →
     IsTold s (set_wanted a sought) found → IsTold t (set_wanted a sought) found
@@ -49,3 +44,22 @@ few_of_set c a sought = by (nat_lt MAX_QBYTES a.qbytes)
     by : (b : Bool) → IsSmall (cond b nothing (plan_on c a sought))
     by true = small_none
     by false = few_on c a sought
+
+-- nothing is inserted
+none_by : (entry : Result QueueEntry Errno) → (plan_by entry).trials ≡ []
+none_by (Ok e) = refl
+none_by (Err errno) = refl
+
+none_on : (c : Caller) (a : SetArguments) (sought : Sought) → (plan_on c a sought).trials ≡ []
+none_on c a (Found e) = none_by (set_entry c a e)
+none_on c a (Refused errno) = refl
+none_on c a Unread = refl
+none_on c a Absent = refl
+
+pub set_inserts : (c : Caller) (a : SetArguments) (sought : Sought) →
+    InsertsOnlyFor (set_decided c a sought) (set_plan c a sought)
+set_inserts c a sought = inl (by (nat_lt MAX_QBYTES a.qbytes))
+  where
+    by : (b : Bool) → (cond b nothing (plan_on c a sought)).trials ≡ []
+    by true = refl
+    by false = none_on c a sought

@@ -40,7 +40,7 @@ const _: () = prove!(size_of::<GetInquiry>() <= 400);
 
 impl Inquiry for GetInquiry {
     ghost use Rattle.queue_model.specs.declared.call.Call.TheVariants as calls;
-    ghost use Rattle.xsi_control.specs.GetAsked.{few_of_get, get_asks, get_asks_given};
+    ghost use Rattle.xsi_control.specs.GetAsked.{few_of_get, get_asks, get_asks_given, get_inserts};
     ghost use Rattle.xsi_control.specs.Getting.{KnowsOfGet, get_decided, get_left, get_locked, get_plan, get_wanted};
 
     type Arguments = GetArguments;
@@ -67,6 +67,8 @@ impl Inquiry for GetInquiry {
     ghost asks_given = { λ a i names s t given agrees told. get_asks_given a i.getting s t given told };
 
     ghost few = { λ a i. few_of_get i.caller a i.getting };
+
+    ghost inserts = { λ a i. get_inserts i.caller a i.getting };
 
     fn begin(by: Caller, arguments: &GetArguments) -> GetInquiry {
         let getting = match arguments.key {

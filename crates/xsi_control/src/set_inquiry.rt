@@ -23,7 +23,7 @@ impl Inquiry for SetInquiry {
     ghost use Rattle.page_locks.specs.declared.lock.LockName.TheVariants as names;
     ghost use Rattle.queue_model.specs.declared.call.Call.TheVariants as calls;
     ghost use Rattle.xsi_inquiry.specs.Seeking.{Tells, reads_left};
-    ghost use Rattle.xsi_control.specs.SetAsked.{few_of_set, set_asks, set_asks_given};
+    ghost use Rattle.xsi_control.specs.SetAsked.{few_of_set, set_asks, set_asks_given, set_inserts};
     ghost use Rattle.xsi_control.specs.Setting.{set_decided, set_plan, set_wanted};
 
     type Arguments = SetArguments;
@@ -49,6 +49,8 @@ impl Inquiry for SetInquiry {
     ghost asks_given = { λ a i names s t given agrees told. set_asks_given a i.sought s t given agrees.asked told };
 
     ghost few = { λ a i. few_of_set i.caller a i.sought };
+
+    ghost inserts = { λ a i. set_inserts i.caller a i.sought };
 
     fn begin(by: Caller, arguments: &SetArguments) -> SetInquiry {
         SetInquiry {

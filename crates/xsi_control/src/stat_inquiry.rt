@@ -17,11 +17,12 @@ const _: () = prove!(size_of::<StatInquiry>() <= 400);
 
 impl Inquiry for StatInquiry {
     ghost use Rattle.std.specs.Prelude.{[]};
+    ghost use Rattle.std.proofs.Common.{inl, refl};
     ghost use Rattle.queue_model.specs.declared.call.Call.TheVariants as calls;
     ghost use Rattle.xsi_inquiry.specs.Seeking.{Tells, reads_left, sought_next};
     ghost use Rattle.xsi_inquiry.specs.Writing.{nothing};
     ghost use Rattle.xsi_inquiry.proofs.DecisionLemmas.{small_none};
-    ghost use Rattle.xsi_inquiry.proofs.SeekLemmas.{given_asks, sought_asks, sought_given};
+    ghost use Rattle.xsi_inquiry.proofs.AskLemmas.{given_asks, sought_asks, sought_given};
     ghost use Rattle.xsi_control.specs.Stating.{stat_decided};
 
     type Arguments = u32;
@@ -48,6 +49,8 @@ impl Inquiry for StatInquiry {
         given_asks (sought_next id i.sought) id s t given agrees.asked (sought_given id i.sought) told };
 
     ghost few = { λ id i. small_none };
+
+    ghost inserts = { λ id i. inl refl };
 
     fn begin(by: Caller, id: &u32) -> StatInquiry {
         StatInquiry {

@@ -8,9 +8,9 @@ use Rattle.queue_model.specs.declared.caller.Caller.{Caller}
 use Rattle.queue_model.specs.declared.errno.Errno.{Errno}
 use Rattle.queue_model.specs.Rules.{outcome, refuse}
 use Rattle.queue_model.specs.State.{State}
-use Rattle.xsi_inquiry.specs.declared.decision.Decision.TheVariants.{Answers, PutOff}
+use Rattle.xsi_inquiry.specs.declared.decision.Decision.TheVariants.{Answers}
 use Rattle.xsi_inquiry.specs.declared.verdict.Verdict.{Verdict}
-use Rattle.xsi_inquiry.specs.Deciding.{Decides, answer_of, refuses, waits_or_ends}
+use Rattle.xsi_inquiry.specs.Deciding.{Decides, answer_of, refuses}
 use Rattle.xsi_inquiry.specs.Owning.{IsOrdered, IsUnder}
 use Rattle.xsi_inquiry.specs.Writing.{IsSmall, Leads, Records, nothing}
 
@@ -56,6 +56,3 @@ module _ (c : Caller) (call : Call) (names : List LockName) (bytes : List ℕ) (
     idle = λ _. refl;
     ordered = ordered_none;
   }
-
-  pub decides_put_off : outcome c call s ≡ waits_or_ends s → Decides c call names bytes s PutOff nothing
-  decides_put_off is = record { outcome = is; idle = refl }

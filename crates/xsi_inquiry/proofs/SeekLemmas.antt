@@ -1,5 +1,5 @@
 -- What the records of a system tell of the queue of an id.
-use Rattle.std.proofs.Common.{◌≡◌, ℕ, ◌<◌, ◌≤◌, Bool, true, false, nat_lt, Option, Some, None, refl, ap, sym, subst, ◌∙◌, arith}
+use Rattle.std.proofs.Common.{◌≡◌, ℕ, ◌<◌, ◌≤◌, Bool, true, false, nat_lt, Option, Some, None, refl, ap, sym, subst, arith}
 use Rattle.std.specs.Prelude.{◌==◌, ◌||◌, nat_le, option_map, Result, Ok, Err}
 use Rattle.std.specs.List.{find}
 use Rattle.queue_model.specs.declared.queue.Queue.{Queue}
@@ -17,12 +17,6 @@ use Rattle.type_chains.proofs.Cases.{found_id}
 use Rattle.type_chains.proofs.Elements.{image_has}
 use Rattle.type_chains.proofs.Tests.{mapped}
 use Rattle.xsi_inquiry.specs.declared.sought.Sought.TheVariants.{Unread, Absent, Found, Refused}
-use Rattle.bucket_page.specs.declared.record_key.RecordKey.{RecordKey}
-use Rattle.xsi_inquiry.specs.declared.sought.Sought.{Sought}
-use Rattle.xsi_inquiry.specs.declared.wanted.Wanted.{Wanted}
-use Rattle.xsi_inquiry.specs.declared.wanted.Wanted.TheVariants.{Given}
-use Rattle.xsi_inquiry.specs.Agreeing.{AgreeOnId}
-use Rattle.xsi_inquiry.proofs.AgreeLemmas.{same_queue_record}
 use Rattle.xsi_inquiry.specs.Seeking.{IsEntryOf, Tells, refusal, sought_next}
 use Rattle.xsi_inquiry.specs.Telling.{IsFiled, IsTold, IsToldGiven}
 
@@ -114,26 +108,3 @@ pub queue_is_taken : {E : Type 0} (id : ℕ) (s : State) (r : Record) → IsTold
 queue_is_taken id s r told result takes e err =
     let (entry, is) = queue_told id s r told in
     clash result entry (takes entry is) e err
-
--- ---- what is asked is the same in systems that agree on the id
-
-pub sought_asks : (id : ℕ) (sought : Sought) (s t : State) (found : Option Record) → AgreeOnId id s t →
-    IsTold s (sought_next id sought) found → IsTold t (sought_next id sought) found
-sought_asks id Unread s t found agrees told key is =
-    let same : key_of_queue id ≡ key = cc in
-    subst (λ (k : RecordKey). found ≡ record_of t k) same
-    (told (key_of_queue id) refl ∙ same_queue_record id s t agrees)
-sought_asks id Absent s t found agrees told key is = absurd cc
-sought_asks id (Found e) s t found agrees told key is = absurd cc
-sought_asks id (Refused errno) s t found agrees told key is = absurd cc
-
-pub given_asks : (wanted : Option Wanted) (id : ℕ) (s t : State) (given : Bool) → AgreeOnId id s t →
-    ((other : ℕ) → wanted ≡ Some (Given other) → id ≡ other) → IsToldGiven s wanted given → IsToldGiven t wanted given
-given_asks wanted id s t given agrees its told other is =
-    told other is ∙ subst (λ n. nat_lt n s.next_id ≡ nat_lt n t.next_id) (its other is) agrees.given
-
-pub sought_given : (id : ℕ) (sought : Sought) (other : ℕ) → sought_next id sought ≡ Some (Given other) → id ≡ other
-sought_given id Unread other is = absurd cc
-sought_given id Absent other is = cc
-sought_given id (Found e) other is = absurd cc
-sought_given id (Refused errno) other is = absurd cc

@@ -1,7 +1,7 @@
 -- What a decision means for the system of which the records were read.
 -- docs/QUEUES.md, "Calls".
-use Rattle.std.specs.Prelude.{◌≡◌, ℕ, List, [], length, Option, Some, None, ⊤, if◌then◌else◌}
-use Rattle.std.specs.List.{find}
+use Rattle.std.specs.Prelude.{◌≡◌, ◌⊎◌, ℕ, List, [], length, Option, Some, None, Result, Ok, Err, ⊤, if◌then◌else◌}
+use Rattle.std.specs.List.{All, find}
 use Rattle.page_locks.specs.declared.lock.LockName.{LockName}
 use Rattle.queue_model.specs.declared.answer.Answer.{Answer}
 use Rattle.queue_model.specs.declared.answer.Answer.TheVariants as answers
@@ -18,11 +18,13 @@ use Rattle.type_chains.specs.Neighbours.{first_of}
 use Rattle.type_chains.specs.RecordOf.{record_of}
 use Rattle.xsi_inquiry.specs.declared.decision.Decision.{Decision}
 use Rattle.xsi_inquiry.specs.declared.decision.Decision.TheVariants.{PutOff, Answers, Sweeps}
+use Rattle.xsi_inquiry.specs.declared.decision.Sweep.{Sweep}
+use Rattle.xsi_inquiry.specs.declared.inquiry.NotASystem.{NotASystem}
 use Rattle.xsi_inquiry.specs.declared.verdict.Verdict.{Verdict}
 use Rattle.xsi_inquiry.specs.declared.verdict.Verdict.TheVariants as verdicts
 use Rattle.xsi_inquiry.specs.Owning.{IsOrdered, IsUnder}
 use Rattle.xsi_inquiry.specs.Sweeping.{swept}
-use Rattle.xsi_inquiry.specs.Writing.{Leads, Plan, nothing}
+use Rattle.xsi_inquiry.specs.Writing.{KeepsAll, Leads, Plan, nothing}
 
 -- the answer that a verdict stands for; a message that is received has the bytes that are in the room
 abbrev pub answer_of : Verdict → List ℕ → Answer
@@ -56,18 +58,17 @@ pub record IsAnswered (c : Caller) (call : Call) (names : List LockName) (bytes 
 
 -- a Remove is Done: the queue's messages are swept from the first serial on, and the plan takes what is left to the
 -- records of the system after it
-pub record IsSwept (c : Caller) (call : Call) (names : List LockName) (s : State) (first : Option ℕ) (p : Plan)
+pub record IsSwept (c : Caller) (call : Call) (names : List LockName) (s : State) (sweep : Sweep) (p : Plan)
     : Type 0 where
-  pub id : ℕ
   pub queue : Queue
   pub after : State
-  pub is_remove : call ≡ calls.Remove id
-  pub alive : find (has_id id) s.queues ≡ Some queue
+  pub is_remove : call ≡ calls.Remove sweep.id
+  pub alive : find (has_id sweep.id) s.queues ≡ Some queue
   pub outcome : outcome c call s ≡ Some (answers.Done, after)
-  pub first_left : first ≡ first_of (serials queue.messages)
+  pub first_left : sweep.first ≡ first_of (serials queue.messages)
   -- nothing is inserted once the messages are gone
   pub no_trials : p.trials ≡ []
-  pub leads : Leads p (swept id (length queue.messages) s) (record_of after)
+  pub leads : Leads p (swept sweep.id (length queue.messages) s) (record_of after)
   pub own : IsUnder names p
   pub ordered : IsOrdered p
 
@@ -84,8 +85,29 @@ pub record IsPutOff (c : Caller) (call : Call) (s : State) (p : Plan) : Type 0 w
 abbrev pub Decides : Caller → Call → List LockName → List ℕ → State → Decision → Plan → Type 0
 Decides c call names bytes s PutOff p = IsPutOff c call s p
 Decides c call names bytes s (Answers verdict) p = IsAnswered c call names bytes s verdict p
-Decides c call names bytes s (Sweeps first) p = IsSwept c call names s first p
+Decides c call names bytes s (Sweeps sweep) p = IsSwept c call names s sweep p
 
 -- the decision that refuses
 abbrev pub refuses : Errno → Decision
 refuses errno = Answers (verdicts.Refused errno)
+
+-- ---- what is inserted
+
+-- verdicts with which records are inserted: the id of a queue that is made, and the serial of a message
+abbrev pub MayInsert : Verdict → Type 0
+MayInsert (verdicts.Id id) = ⊤
+MayInsert (verdicts.Sent serial) = ⊤
+MayInsert (verdicts.Received m) = ⊥
+MayInsert (verdicts.Info info) = ⊥
+MayInsert verdicts.Done = ⊥
+MayInsert (verdicts.Refused errno) = ⊥
+
+abbrev pub DecidesToInsert : Result Decision NotASystem → Type 0
+DecidesToInsert (Ok PutOff) = ⊥
+DecidesToInsert (Ok (Answers verdict)) = MayInsert verdict
+DecidesToInsert (Ok (Sweeps sweep)) = ⊥
+DecidesToInsert (Err e) = ⊤
+
+-- a plan inserts with such a verdict alone, and then nothing is deleted
+abbrev pub InsertsOnlyFor : Result Decision NotASystem → Plan → Type 0
+InsertsOnlyFor decided p = (p.trials ≡ []) ⊎ (DecidesToInsert decided × All KeepsAll p.slots)

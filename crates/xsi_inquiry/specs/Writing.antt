@@ -100,6 +100,13 @@ HasRange (Replace r) = IsInRange r
 HasRange (Relink key links) = AreLinksInRange links
 HasRange (Delete key) = ⊤
 
+-- a slot in which nothing is deleted
+abbrev pub KeepsAll : Option Write → Type 0
+KeepsAll None = ⊤
+KeepsAll (Some (Replace r)) = ⊤
+KeepsAll (Some (Relink key links)) = ⊤
+KeepsAll (Some (Delete key)) = ⊥
+
 -- ---- what a plan does
 
 -- the records after a plan

@@ -6,6 +6,15 @@ ghost use Rattle.xsi_inquiry.specs.Deciding.{refuses};
 use crate::verdict::Verdict;
 use queue_model::Errno;
 
+/// The messages of a queue that goes.
+#[derive(Clone, Copy, Debug, PartialEq)]
+pub struct Sweep {
+    /// The queue.
+    pub id: u32,
+    /// The serial of its first message, with which the sweep begins.
+    pub first: Option<u64>,
+}
+
 /// What a call decides on what it read. What it writes is asked of it one by one.
 #[derive(Clone, Copy, Debug)]
 pub enum Decision {
@@ -13,9 +22,8 @@ pub enum Decision {
     PutOff,
     /// It is answered.
     Answers(Verdict),
-    /// A Remove is answered Done. The messages of its queue are swept turn by turn, from this serial on, before its
-    /// writes.
-    Sweeps(Option<u64>),
+    /// A Remove is answered Done. The messages of its queue are swept turn by turn before its writes.
+    Sweeps(Sweep),
 }
 
 impl Decision {

@@ -10,7 +10,7 @@ ghost use Rattle.xsi_inquiry.specs.declared.decision.Decision.{Decision};
 ghost use Rattle.xsi_inquiry.specs.declared.inquiry.NotASystem.{NotASystem};
 ghost use Rattle.xsi_inquiry.specs.declared.wanted.Wanted.{Wanted};
 ghost use Rattle.xsi_inquiry.specs.Agreeing.{AgreesFor, IsCovered};
-ghost use Rattle.xsi_inquiry.specs.Deciding.{Decides};
+ghost use Rattle.xsi_inquiry.specs.Deciding.{Decides, InsertsOnlyFor};
 ghost use Rattle.xsi_inquiry.specs.Rooms.{HasRoom, Roomful};
 ghost use Rattle.xsi_inquiry.specs.Telling.{AsksGiven, AsksRecord, Gives, IsFiled, IsTold, IsToldGiven, most_asked};
 ghost use Rattle.xsi_inquiry.specs.Writing.{IsSmall, Plan};
@@ -125,4 +125,7 @@ pub trait Inquiry {
 
     /// It writes little.
     ghost few: { (a : Self.Arguments) (i : Self) → IsSmall (plan a i) };
+
+    /// What it inserts is a new queue's, or a message that is sent.
+    ghost inserts: { (a : Self.Arguments) (i : Self) → InsertsOnlyFor (decided a i) (plan a i) };
 }

@@ -14,7 +14,7 @@ mod verdict;
 mod wanted;
 mod write;
 
-pub use decision::Decision;
+pub use decision::{Decision, Sweep};
 pub use expected::{counter_in, key_in, message_in, queue_in, type_in};
 pub use inquiry::{Inquiry, NotASystem};
 pub use near::{carry_over, others_leave_an_id, tell, tell_given};

@@ -1,35 +1,14 @@
 -- What becomes of a message that is taken, and what is decided then.
 use Rattle.std.proofs.Common.{◌≡◌, ℕ, ℤ, Bool, true, List, [], ◌∷◌, Option, Some, None, refl, sym, ap, ◌∙◌, subst, arith}
 use Rattle.std.specs.Prelude.{◌&&◌, nat_le, option_map}
-use Rattle.std.specs.List.{All, Contains, position_or_len, remove}
+use Rattle.xsi_receive.specs.Words.{All, Contains, position_or_len, remove, Receive, ReceiveArguments, Caller, Message, Queue, IsLawfulQueue, receive_found, with_queue, without_message, selects, State, QueueEntry, TypeEntry, guard_of, key_of_message, key_of_type, message_entry, queue_entry, type_entry, serials_of_type, types, first_of, Write, Replace, Relink, Delete, Roomful, IsFiled, key_written, InSlot, somes_all}
 use Rattle.std.proofs.lemmas.List.Elements.{All-nil}
 use Rattle.page_locks.specs.declared.lock.LockName.{LockName}
 use Rattle.page_locks.specs.declared.lock.LockName.TheVariants as names
 use Rattle.queue_model.specs.declared.answer.Answer.TheVariants as answers
-use Rattle.queue_model.specs.declared.call.Call.TheVariants.{Receive}
-use Rattle.queue_model.specs.declared.call.ReceiveArguments.{ReceiveArguments}
-use Rattle.queue_model.specs.declared.caller.Caller.{Caller}
-use Rattle.queue_model.specs.declared.message.Message.{Message}
-use Rattle.queue_model.specs.declared.queue.Queue.{Queue}
-use Rattle.queue_model.specs.Lawful.{IsLawfulQueue}
-use Rattle.queue_model.specs.Rules.{receive_found, with_queue, without_message}
-use Rattle.queue_model.specs.Selection.{selects}
-use Rattle.queue_model.specs.State.{State}
-use Rattle.queue_records.specs.declared.queue_entry.QueueEntry.{QueueEntry}
-use Rattle.queue_records.specs.declared.type_entry.TypeEntry.{TypeEntry}
 use Rattle.queue_records.specs.declared.record.Record.TheVariants as records
-use Rattle.queue_records.specs.Keys.{guard_of, key_of_message, key_of_type}
-use Rattle.type_chains.specs.Entries.{message_entry, queue_entry, type_entry}
-use Rattle.type_chains.specs.Lists.{serials_of_type, types}
-use Rattle.type_chains.specs.Neighbours.{first_of}
 use Rattle.xsi_inquiry.specs.declared.decision.Decision.TheVariants.{Answers}
-use Rattle.xsi_inquiry.specs.declared.write.Write.{Write}
-use Rattle.xsi_inquiry.specs.declared.write.Write.TheVariants.{Replace, Relink, Delete}
 use Rattle.xsi_inquiry.specs.Deciding.{Decides, IsAnswered}
-use Rattle.xsi_inquiry.specs.Rooms.{Roomful}
-use Rattle.xsi_inquiry.specs.Telling.{IsFiled}
-use Rattle.xsi_inquiry.specs.Writing.{key_written}
-use Rattle.xsi_inquiry.proofs.SlotLemmas.{InSlot, somes_all}
 use Rattle.xsi_receive.specs.declared.head.MessageHead.{MessageHead}
 use Rattle.xsi_receive.specs.declared.removal.Removal.{Removal}
 use Rattle.xsi_receive.specs.declared.removal.TypeLeft.{TypeLeft}

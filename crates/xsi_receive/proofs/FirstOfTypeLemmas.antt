@@ -1,15 +1,10 @@
 -- The message that a receive selects stands at a place, and is the first of its type.
 use Rattle.std.proofs.Common.{◌≡◌, ℕ, zero, suc, ◌<◌, ℤ, pos, negsuc, Bool, true, false, List, ◌∷◌, Option, Some, None, refl, sym, ap, ◌∙◌, get_or}
 use Rattle.std.specs.Prelude.{◌≢◌, slice_get}
-use Rattle.std.specs.List.{position_or_len, remove}
-use Rattle.std.specs.Ordering.{int_eq}
+use Rattle.xsi_receive.specs.Words.{position_or_len, remove, int_eq, Message, selects, selected, has_type, lowest_type, find-Some, serials, serials_of_type, is_of_type}
 use Rattle.std.proofs.lemmas.Bool.Decides.{Decides-int_eq}
 use Rattle.std.proofs.lemmas.List.Folds.{find_at}
 use Rattle.std.proofs.lemmas.List.Sums.{fails_before_first}
-use Rattle.queue_model.specs.declared.message.Message.{Message}
-use Rattle.queue_model.specs.Selection.{selects, selected, has_type, lowest_type}
-use Rattle.queue_model.proofs.ListLemmas.{find-Some}
-use Rattle.type_chains.specs.Lists.{serials, serials_of_type, is_of_type}
 use Rattle.xsi_receive.proofs.ListLemmas.{filter_first, filter_without}
 
 -- a receive of a type tells messages apart by their types alone

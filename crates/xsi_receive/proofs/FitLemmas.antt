@@ -1,40 +1,18 @@
 -- Each write of a Receive makes the record that stands at its key afterwards.
 use Rattle.std.proofs.Common.{◌≡◌, ℕ, zero, suc, ◌<◌, ℤ, pos, ◌≤ℤ◌, false, List, length, Option, Some, None, refl, sym, ap, ◌∙◌, subst, get_or, arith}
 use Rattle.std.specs.Prelude.{◌≢◌, ◌==◌, IsSome, option_map, option_and_then, slice_get}
-use Rattle.std.specs.List.{Contains, find, position_or_len, remove}
+use Rattle.xsi_receive.specs.Words.{Contains, find, position_or_len, remove, Message, Queue, IsLawful, has_id, with_queue, State, MessageEntry, Record, TypeEntry, type_number, key_of_message, key_of_queue, key_of_type, message_entry, queue_entry, type_entry, serials, serials_of_type, types, before_place, first_of, has_number, message_record, record_of, type_record, found_new, mapped, Write, Replace, Relink, Delete, IsFiled, value_length, Fills, InSlot}
 use Rattle.std.proofs.lemmas.Bool.Decides.{nat_tests}
 use Rattle.std.proofs.lemmas.List.Folds.{find_at}
 use Rattle.std.proofs.lemmas.Option.{get_or_from_slice_get, slice_get-get_or, slice_get-map, slice_get_within}
-use Rattle.queue_model.specs.declared.message.Message.{Message}
-use Rattle.queue_model.specs.declared.queue.Queue.{Queue}
-use Rattle.queue_model.specs.Lawful.{IsLawful}
-use Rattle.queue_model.specs.Rules.{has_id, with_queue}
-use Rattle.queue_model.specs.State.{State}
 use Rattle.queue_model.proofs.LawfulLemmas.{IsLawful-set, IsLawfulQueue-remove}
 use Rattle.queue_records.specs.declared.links.Link.TheVariants.{Stays}
 use Rattle.queue_records.specs.declared.links.Links.TheVariants as links
 use Rattle.queue_records.specs.declared.links.MessageLinks.{MessageLinks}
 use Rattle.queue_records.specs.declared.links.TypeLinks.{TypeLinks}
-use Rattle.queue_records.specs.declared.message_entry.MessageEntry.{MessageEntry}
-use Rattle.queue_records.specs.declared.record.Record.{Record}
 use Rattle.queue_records.specs.declared.record.Record.TheVariants as records
-use Rattle.queue_records.specs.declared.type_entry.TypeEntry.{TypeEntry}
-use Rattle.queue_records.specs.Fields.{type_number}
-use Rattle.queue_records.specs.Keys.{key_of_message, key_of_queue, key_of_type}
 use Rattle.queue_records.specs.Relinking.{linked, relinked, with_message_links, with_type_links}
 use Rattle.queue_records.proofs.Lengths.{length-queue}
-use Rattle.type_chains.specs.Entries.{message_entry, queue_entry, type_entry}
-use Rattle.type_chains.specs.Lists.{serials, serials_of_type, types}
-use Rattle.type_chains.specs.Neighbours.{before_place, first_of}
-use Rattle.type_chains.specs.RecordOf.{has_number, message_record, record_of, type_record}
-use Rattle.type_chains.proofs.OneQueueChanged.{found_new}
-use Rattle.type_chains.proofs.Tests.{mapped}
-use Rattle.xsi_inquiry.specs.declared.write.Write.{Write}
-use Rattle.xsi_inquiry.specs.declared.write.Write.TheVariants.{Replace, Relink, Delete}
-use Rattle.xsi_inquiry.specs.Telling.{IsFiled}
-use Rattle.xsi_inquiry.specs.Writing.{value_length}
-use Rattle.xsi_inquiry.proofs.LeadLemmas.{Fills}
-use Rattle.xsi_inquiry.proofs.SlotLemmas.{InSlot}
 use Rattle.xsi_receive.specs.Removing.{link_to, to_first, to_higher, to_lower, to_next, to_previous}
 use Rattle.xsi_receive.proofs.FirstOfTypeLemmas.{IsTakenAt}
 use Rattle.xsi_receive.proofs.ListLemmas.{find_none_left, find_without}

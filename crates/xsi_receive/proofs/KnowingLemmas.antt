@@ -1,45 +1,23 @@
 -- What a Receive knows by what it was told.
 use Rattle.std.proofs.Common.{◌≡◌, ℕ, zero, suc, ◌<◌, ◌≤◌, ℤ, pos, negsuc, ◌≤ℤ◌, ◌<ℤ◌, Bool, true, false, List, length, Option, Some, None, ◌⊎◌, inl, inr, refl, sym, ap, ◌∙◌, arith}
-use Rattle.std.specs.Prelude.{IsSome, Result, Ok, Err, int_lt, is_none, nat_abs, take, ◌&&◌, slice_index}
-use Rattle.std.specs.List.{Contains, find, position_or_len}
+use Rattle.std.specs.Prelude.{Result, Ok, Err, int_lt, is_none, nat_abs, take, ◌&&◌, slice_index}
+use Rattle.xsi_receive.specs.Words.{Contains, find, position_or_len, Receive, ReceiveArguments, Caller, Message, Queue, outcome, put_off, receive_found, receive_from, refuse, selected, selects, State, find-Some, MessageEntry, QueueEntry, Record, TypeEntry, key_of_message, key_of_type, message_entry, queue_entry, type_entry, is_of_type, record_of, Roomful, IsFiled, IsTold}
 use Rattle.std.proofs.lemmas.Int.{ints, clamps}
 use Rattle.std.proofs.lemmas.List.{length-take, take_all}
 use Rattle.queue_model.specs.Access.{lacks_access}
-use Rattle.queue_model.specs.declared.call.Call.TheVariants.{Receive}
-use Rattle.queue_model.specs.declared.call.ReceiveArguments.{ReceiveArguments}
-use Rattle.queue_model.specs.declared.caller.Caller.{Caller}
-use Rattle.queue_model.specs.declared.errno.Errno.TheVariants.{E2BIG, EINVAL, ENOMSG}
-use Rattle.queue_model.specs.declared.errno.Errno.{Errno}
-use Rattle.queue_model.specs.declared.message.Message.{Message}
+use Rattle.queue_model.specs.declared.errno.Errno.TheVariants.{E2BIG, ENOMSG}
 use Rattle.queue_model.specs.declared.permissions.Access.TheVariants.{Read}
-use Rattle.queue_model.specs.declared.queue.Queue.{Queue}
-use Rattle.queue_model.specs.Rules.{outcome, put_off, receive_found, receive_from, refuse}
-use Rattle.queue_model.specs.Selection.{selected, selects}
-use Rattle.queue_model.specs.State.{State}
-use Rattle.queue_model.proofs.ListLemmas.{find-Some}
-use Rattle.queue_records.specs.declared.message_entry.MessageEntry.{MessageEntry}
-use Rattle.queue_records.specs.declared.queue_entry.QueueEntry.{QueueEntry}
-use Rattle.queue_records.specs.declared.record.Record.{Record}
 use Rattle.queue_records.specs.declared.record.Record.TheVariants as records
-use Rattle.queue_records.specs.declared.type_entry.TypeEntry.{TypeEntry}
-use Rattle.queue_records.specs.Keys.{key_of_message, key_of_type}
-use Rattle.type_chains.specs.Entries.{message_entry, queue_entry, type_entry}
-use Rattle.type_chains.specs.Lists.{is_of_type}
 use Rattle.type_chains.specs.Reading.{permissions_in}
-use Rattle.type_chains.specs.RecordOf.{record_of}
 use Rattle.xsi_inquiry.specs.declared.wanted.Wanted.TheVariants.{At}
-use Rattle.xsi_inquiry.specs.Rooms.{Roomful}
-use Rattle.xsi_inquiry.specs.declared.sought.Sought.{Sought}
-use Rattle.xsi_inquiry.specs.declared.sought.Sought.TheVariants as soughts
-use Rattle.xsi_inquiry.specs.Seeking.{IsEntryOf, begun, sought_next}
-use Rattle.xsi_inquiry.specs.Telling.{IsFiled, IsTold}
+use Rattle.xsi_inquiry.specs.Seeking.{IsEntryOf}
 use Rattle.xsi_inquiry.proofs.SeekLemmas.{clash}
 use Rattle.xsi_receive.specs.declared.head.MessageHead.{MessageHead}
 use Rattle.xsi_receive.specs.Asking.{is_long, put_off_at}
 use Rattle.xsi_receive.specs.Heads.{head_of}
 use Rattle.xsi_receive.specs.Knowing.{HasRoomFor, KnowsAt, KnowsHead, KnowsSerial, SelectsMessage, SelectsType}
 use Rattle.xsi_receive.proofs.FirstOfTypeLemmas.{serials_of_its_type, taken_at}
-use Rattle.xsi_receive.proofs.SelectingLemmas.{first_some, lowest_stands, none_of, nothing_selected, selects_above, selects_below_in, selects_below_none, selects_below_out, stands_of, type_found}
+use Rattle.xsi_receive.proofs.SelectingLemmas.{first_some, lowest_stands, none_of, selects_above, selects_below_in, selects_below_none, selects_below_out, stands_of, type_found}
 use Rattle.xsi_receive.proofs.StandLemmas.{message_stands, short, type_absent, type_stands, typed}
 
 above_zero : (t : ℤ) → (t ≤ℤ pos 0 → ⊥) → pos 0 <ℤ t
@@ -112,10 +90,6 @@ module _ (c : Caller) (a : ReceiveArguments) (e : QueueEntry) (s : State) (its :
       typed = lowest_typed u some;
       stands = λ _. lowest_stands q.messages u (lowest_is u some);
     }
-
-    pub knows_empty : e.first ≡ None → KnowsAt c a (put_off_at a.nowait) room s
-    knows_empty none = waits (nothing_selected a.mtype q.messages
-        (ap (λ (x : QueueEntry). x.first) (sym its.entry) ∙ none))
 
     pub knows_first : (serial : ℕ) → a.mtype ≡ pos 0 → e.first ≡ Some serial → KnowsSerial c a e None serial s
     knows_first serial zero_type some =
@@ -317,10 +291,3 @@ module _ (c : Caller) (a : ReceiveArguments) (s : State) (filed : IsFiled s) (fo
     last_type_is_taken t is =
         let both = sym is ∙ its in
         record { selects = known.selects; entry = known.entry; mtype = cc; fits = known.fits; bytes = known.bytes }
-
--- before anything is read the queue is sought, or the call is refused
-pub begun_asks : (id : ℕ) (sought : Sought) → sought ≡ begun id
-    → ((errno : Errno) → sought ≡ soughts.Refused errno → ⊥) →
-    IsSome (sought_next id sought)
-begun_asks zero sought is never = absurd (never EINVAL is)
-begun_asks (suc id) sought is never = rw is refl

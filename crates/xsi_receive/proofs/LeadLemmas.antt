@@ -1,37 +1,12 @@
 -- The writes of a Receive lead from the records of a system to those of the system after it.
 use Rattle.std.proofs.Common.{◌≡◌, ℕ, zero, suc, ◌≤◌, ℤ, Bool, true, false, List, Option, Some, None, ◌⊎◌, inl, inr, refl, sym, ap, ◌∙◌, subst, arith}
 use Rattle.std.specs.Prelude.{◌≢◌, ◌==◌, option_map, slice_get}
-use Rattle.std.specs.List.{All, find, remove}
-use Rattle.std.specs.Ordering.{int_eq}
+use Rattle.xsi_receive.specs.Words.{All, find, remove, int_eq, RecordKey, Message, Queue, IsLawfulQueue, has_id, with_queue, State, find-Some, MessageEntry, TypeEntry, type_number, key_of_message, key_of_type, message_entry, queue_entry, type_entry, serials, serials_of_type, types, before_place, first_of, has_number, has_serial, message_record, record_of, type_record, in_range, agree_but, key_is, Write, Replace, Relink, Delete, IsFiled, Leads, Fills, Misses, leads_by, InSlot, somes_all, somes_each}
 use Rattle.std.proofs.lemmas.Bool.{cases_lt, eqb-true}
 use Rattle.std.proofs.lemmas.Bool.Decides.{Decides-eqb, Decides-int_eq}
 use Rattle.std.proofs.lemmas.List.Elements.{All-nil}
 use Rattle.std.proofs.lemmas.Option.{slice_get-map}
-use Rattle.bucket_page.specs.declared.record_key.RecordKey.{RecordKey}
-use Rattle.queue_model.specs.declared.message.Message.{Message}
-use Rattle.queue_model.specs.declared.queue.Queue.{Queue}
-use Rattle.queue_model.specs.Lawful.{IsLawfulQueue}
-use Rattle.queue_model.specs.Rules.{has_id, with_queue}
-use Rattle.queue_model.specs.State.{State}
-use Rattle.queue_model.proofs.ListLemmas.{find-Some}
-use Rattle.queue_records.specs.declared.message_entry.MessageEntry.{MessageEntry}
 use Rattle.queue_records.specs.declared.record.Record.TheVariants as records
-use Rattle.queue_records.specs.declared.type_entry.TypeEntry.{TypeEntry}
-use Rattle.queue_records.specs.Fields.{type_number}
-use Rattle.queue_records.specs.Keys.{key_of_message, key_of_type}
-use Rattle.type_chains.specs.Entries.{message_entry, queue_entry, type_entry}
-use Rattle.type_chains.specs.Lists.{serials, serials_of_type, types}
-use Rattle.type_chains.specs.Neighbours.{before_place, first_of}
-use Rattle.type_chains.specs.RecordOf.{has_number, has_serial, message_record, record_of, type_record}
-use Rattle.type_chains.proofs.Limits.{in_range}
-use Rattle.type_chains.proofs.OneQueueChanged.{agree_but}
-use Rattle.type_chains.proofs.Tests.{key_is}
-use Rattle.xsi_inquiry.specs.declared.write.Write.{Write}
-use Rattle.xsi_inquiry.specs.declared.write.Write.TheVariants.{Replace, Relink, Delete}
-use Rattle.xsi_inquiry.specs.Telling.{IsFiled}
-use Rattle.xsi_inquiry.specs.Writing.{Leads}
-use Rattle.xsi_inquiry.proofs.LeadLemmas.{Fills, Misses, leads_by}
-use Rattle.xsi_inquiry.proofs.SlotLemmas.{InSlot, somes_all, somes_each}
 use Rattle.xsi_receive.specs.declared.removal.Removal.{Removal}
 use Rattle.xsi_receive.specs.declared.removal.TypeLeft.{TypeLeft}
 use Rattle.xsi_receive.specs.declared.removal.TypeLeft.TheVariants.{Begins, Goes}

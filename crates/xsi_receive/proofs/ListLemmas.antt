@@ -1,13 +1,12 @@
 -- What stands beside an element of a list, when another goes; and what searches find then.
 use Rattle.std.proofs.Common.{◌≡◌, ℕ, zero, suc, ◌-◌, ◌<◌, ◌≤◌, Bool, true, false, cond, List, [], ◌∷◌, length, Option, Some, None, refl, sym, ap, ◌∙◌, get_or, arith}
 use Rattle.std.specs.Prelude.{◌≢◌, slice_get}
-use Rattle.std.specs.List.{All, AllPairs, find, filter, position_or_len, remove}
+use Rattle.xsi_receive.specs.Words.{All, AllPairs, find, filter, position_or_len, remove, before_place, before, behind, first_of, last_of}
 use Rattle.std.proofs.lemmas.Option.{same_Some, slice_get_within, get_or_from_slice_get}
 use Rattle.std.proofs.lemmas.List.Edits.{length-remove}
 use Rattle.std.proofs.lemmas.List.Elements.{All-head}
 use Rattle.std.proofs.lemmas.List.Quantifiers.{all_pairs_remove}
 use Rattle.std.proofs.lemmas.List.Sums.{position_or_len_is}
-use Rattle.type_chains.specs.Neighbours.{before_place, before, behind, first_of, last_of}
 
 -- ---- places of a list without one
 

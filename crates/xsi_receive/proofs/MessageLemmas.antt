@@ -1,21 +1,11 @@
 -- The Messages of a queue without the message that a receive takes.
 use Rattle.std.proofs.Common.{◌≡◌, ℕ, suc, ◌+◌, ◌<◌, ◌≤◌, ℤ, Bool, true, false, List, ◌∷◌, length, Option, Some, None, ◌⊎◌, inl, inr, refl, sym, ap, ◌∙◌, subst, get_or, arith}
 use Rattle.std.specs.Prelude.{◌≢◌, ◌==◌, option_map, slice_get}
-use Rattle.std.specs.List.{find, position_or_len, remove}
-use Rattle.std.specs.Ordering.{int_eq}
+use Rattle.xsi_receive.specs.Words.{find, position_or_len, remove, int_eq, Message, Queue, IsLawfulQueue, map-remove, MessageEntry, message_entry, is_number, serials, serials_of_type, first_of, before, behind, before_place, has_serial}
 use Rattle.std.proofs.lemmas.Bool.{cases_lt}
 use Rattle.std.proofs.lemmas.Bool.Decides.{Decides-eqb, Decides-int_eq, nat_tests}
 use Rattle.std.proofs.lemmas.List.{get_or-map, length-map}
 use Rattle.std.proofs.lemmas.Option.{slice_get-get_or, slice_get-map, slice_get_within, get_or_from_slice_get}
-use Rattle.queue_model.specs.declared.message.Message.{Message}
-use Rattle.queue_model.specs.declared.queue.Queue.{Queue}
-use Rattle.queue_model.specs.Lawful.{IsLawfulQueue}
-use Rattle.queue_model.proofs.ListLemmas.{map-remove}
-use Rattle.queue_records.specs.declared.message_entry.MessageEntry.{MessageEntry}
-use Rattle.type_chains.specs.Entries.{message_entry, is_number}
-use Rattle.type_chains.specs.Lists.{serials, serials_of_type}
-use Rattle.type_chains.specs.Neighbours.{first_of, before, behind, before_place}
-use Rattle.type_chains.specs.RecordOf.{has_serial}
 use Rattle.xsi_receive.proofs.FirstOfTypeLemmas.{IsTakenAt, serials_of_its_type, serials_of_other_type}
 use Rattle.xsi_receive.proofs.ListLemmas.{AreToldApart, before_it, behind_it, before_sooner, behind_sooner, behind_previous, behind_later, before_later, before_next, find_none_left, find_without}
 

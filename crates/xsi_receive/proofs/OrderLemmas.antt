@@ -1,30 +1,8 @@
 -- The writes of a Receive stand in the order of their ranks.
 use Rattle.std.proofs.Common.{◌≡◌, ℕ, zero, suc, ◌<◌, ℤ, ◌<ℤ◌, List, [], ◌∷◌, Option, Some, None, inr, refl, sym, ap, ◌∙◌, subst, get_or, arith}
-use Rattle.std.specs.Prelude.{option_map, slice_get}
-use Rattle.std.specs.List.{All, find, remove}
+use Rattle.xsi_receive.specs.Words.{option_map, slice_get, All, find, remove, Message, Queue, IsLawfulQueue, has_id, with_queue, State, MessageEntry, TypeEntry, type_number, key_of_message, key_of_type, message_entry, queue_entry, type_entry, serials, serials_of_type, types, before_place, first_of, record_of, types_ascend, Write, Replace, Relink, Delete, Ascend, IsBefore, write_rank, IsFiled, somes, Fills, InSlot, SlotsAscend, somes_ascend}
 use Rattle.std.proofs.lemmas.Option.{get_or_from_slice_get, slice_get_within}
-use Rattle.queue_model.specs.declared.message.Message.{Message}
-use Rattle.queue_model.specs.declared.queue.Queue.{Queue}
-use Rattle.queue_model.specs.Lawful.{IsLawfulQueue}
-use Rattle.queue_model.specs.Rules.{has_id, with_queue}
-use Rattle.queue_model.specs.State.{State}
-use Rattle.queue_records.specs.declared.message_entry.MessageEntry.{MessageEntry}
 use Rattle.queue_records.specs.declared.record.Record.TheVariants as records
-use Rattle.queue_records.specs.declared.type_entry.TypeEntry.{TypeEntry}
-use Rattle.queue_records.specs.Fields.{type_number}
-use Rattle.queue_records.specs.Keys.{key_of_message, key_of_type}
-use Rattle.type_chains.specs.Entries.{message_entry, queue_entry, type_entry}
-use Rattle.type_chains.specs.Lists.{serials, serials_of_type, types}
-use Rattle.type_chains.specs.Neighbours.{before_place, first_of}
-use Rattle.type_chains.specs.RecordOf.{record_of}
-use Rattle.type_chains.proofs.Unique.{types_ascend}
-use Rattle.xsi_inquiry.specs.declared.write.Write.{Write}
-use Rattle.xsi_inquiry.specs.declared.write.Write.TheVariants.{Replace, Relink, Delete}
-use Rattle.xsi_inquiry.specs.Owning.{Ascend, IsBefore, write_rank}
-use Rattle.xsi_inquiry.specs.Telling.{IsFiled}
-use Rattle.xsi_inquiry.specs.Writing.{somes}
-use Rattle.xsi_inquiry.proofs.LeadLemmas.{Fills}
-use Rattle.xsi_inquiry.proofs.SlotLemmas.{InSlot, SlotsAscend, somes_ascend}
 use Rattle.xsi_receive.specs.declared.removal.Removal.{Removal}
 use Rattle.xsi_receive.specs.declared.removal.TypeLeft.{TypeLeft}
 use Rattle.xsi_receive.specs.Heads.{head_of}

@@ -1,18 +1,10 @@
 -- The Queue without the message that a receive takes.
 use Rattle.std.proofs.Common.{◌≡◌, ℕ, zero, suc, ◌+◌, ◌-◌, ◌<◌, ◌≤◌, ℤ, List, [], ◌∷◌, length, Option, Some, None, refl, sym, ap, ◌∙◌, arith}
-use Rattle.std.specs.Prelude.{slice_get}
-use Rattle.std.specs.List.{remove}
+use Rattle.xsi_receive.specs.Words.{slice_get, remove, Message, Queue, IsLawfulQueue, total_bytes, message_entry, queue_entry, type_entry, serials, serials_of_type, types, before_place, first_of, last_of}
 use Rattle.std.proofs.lemmas.List.{length-map}
 use Rattle.std.proofs.lemmas.List.Edits.{length-remove}
 use Rattle.std.proofs.lemmas.List.Sums.{sum_by-remove}
 use Rattle.std.proofs.lemmas.Option.{slice_get_within, get_or_from_slice_get}
-use Rattle.queue_model.specs.declared.message.Message.{Message}
-use Rattle.queue_model.specs.declared.queue.Queue.{Queue}
-use Rattle.queue_model.specs.Lawful.{IsLawfulQueue}
-use Rattle.queue_model.specs.Selection.{total_bytes}
-use Rattle.type_chains.specs.Entries.{message_entry, queue_entry, type_entry}
-use Rattle.type_chains.specs.Lists.{serials, serials_of_type, types}
-use Rattle.type_chains.specs.Neighbours.{before_place, first_of, last_of}
 use Rattle.xsi_receive.specs.Removing.{where_none}
 use Rattle.xsi_receive.proofs.FirstOfTypeLemmas.{IsTakenAt}
 use Rattle.xsi_receive.proofs.ListLemmas.{first_after, first_left, last_before, last_left}

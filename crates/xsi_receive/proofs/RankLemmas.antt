@@ -1,18 +1,10 @@
 -- Slots of writes, and the ranks of what stands in them.
 use Rattle.std.proofs.Common.{◌≡◌, ℕ, ◌<◌, ℤ, pos, negsuc, ◌≤ℤ◌, ◌<ℤ◌, true, false, List, [], ◌∷◌, Option, Some, None, inl, refl, sym, ap, ◌∙◌, arith}
-use Rattle.std.specs.Prelude.{option_map}
-use Rattle.std.specs.List.{All}
+use Rattle.xsi_receive.specs.Words.{option_map, All, RecordKey, type_number, Write, IsBefore, write_rank, key_written, Misses, InSlot}
 use Rattle.std.proofs.lemmas.Bool.Decides.{Decides-eqb}
 use Rattle.std.proofs.lemmas.Int.{ints}
 use Rattle.std.proofs.lemmas.List.Elements.{All-cons, All-nil}
-use Rattle.bucket_page.specs.declared.record_key.RecordKey.{RecordKey}
 use Rattle.bucket_page.specs.Keys.{is_same}
-use Rattle.queue_records.specs.Fields.{type_number}
-use Rattle.xsi_inquiry.specs.declared.write.Write.{Write}
-use Rattle.xsi_inquiry.specs.Owning.{IsBefore, write_rank}
-use Rattle.xsi_inquiry.specs.Writing.{key_written}
-use Rattle.xsi_inquiry.proofs.LeadLemmas.{Misses}
-use Rattle.xsi_inquiry.proofs.SlotLemmas.{InSlot}
 use Rattle.xsi_receive.specs.declared.removal.TypeLeft.{TypeLeft}
 use Rattle.xsi_receive.specs.declared.removal.TypeLeft.TheVariants.{Begins, Goes}
 use Rattle.xsi_receive.specs.Removing.{deletion_by, higher_by, own_by}

@@ -1,26 +1,13 @@
 -- Which message the Queue's first serial, its lowest type and a Type name.
 use Rattle.std.proofs.Common.{◌≡◌, ℕ, zero, suc, ◌<◌, ◌≤◌, ℤ, pos, negsuc, ◌≤ℤ◌, ◌<ℤ◌, true, false, List, [], ◌∷◌, Option, Some, None, inl, inr, refl, sym, ap, ◌∙◌, subst, arith}
-use Rattle.std.specs.Prelude.{nat_abs}
-use Rattle.std.specs.List.{AllPairs, Contains, find}
+use Rattle.xsi_receive.specs.Words.{nat_abs, AllPairs, Contains, find, Message, selects, selected, find-None-All, find-Some, is_of_type, serials, types, first_of, contains_head, head_or_tail, are_types_of, pairs_head, types_ascend}
 use Rattle.std.proofs.lemmas.Bool.Decides.{Decides-int_eq}
 use Rattle.std.proofs.lemmas.Int.{ints}
 use Rattle.std.proofs.lemmas.List.Elements.{All-contains}
-use Rattle.queue_model.specs.declared.message.Message.{Message}
 use Rattle.queue_model.specs.Laws.{SelectsLowestWithin}
-use Rattle.queue_model.specs.Selection.{selects, selected}
-use Rattle.queue_model.proofs.ListLemmas.{find-None-All, find-Some}
 use Rattle.queue_model.proofs.LowestLemmas.{SelectsLowestWithin-selected}
-use Rattle.type_chains.specs.Lists.{is_of_type, serials, types}
-use Rattle.type_chains.specs.Neighbours.{first_of}
-use Rattle.type_chains.proofs.Members.{contains_head, head_or_tail}
-use Rattle.type_chains.proofs.TypesStand.{are_types_of}
-use Rattle.type_chains.proofs.Unique.{pairs_head, types_ascend}
 
 -- ---- the first message
-
-pub nothing_selected : (t : ℤ) (ms : List Message) → first_of (serials ms) ≡ None → selected t ms ≡ None
-nothing_selected t [] none = refl
-nothing_selected t (m ∷ ms) none = absurd cc
 
 pub first_some : (ms : List Message) (serial : ℕ) → first_of (serials ms) ≡ Some serial →
     (m : Message) × (selected (pos zero) ms ≡ Some m) × (serial ≡ m.serial)

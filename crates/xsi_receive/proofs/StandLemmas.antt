@@ -1,26 +1,11 @@
 -- The records of a queue's messages and types, at their keys.
 use Rattle.std.proofs.Common.{◌≡◌, ℕ, ◌≤◌, ℤ, pos, negsuc, ◌≤ℤ◌, length, Option, Some, None, refl, ap, ◌∙◌, subst, get_or, arith}
-use Rattle.std.specs.Prelude.{option_map, option_and_then}
-use Rattle.std.specs.List.{Contains, find}
+use Rattle.xsi_receive.specs.Words.{option_map, option_and_then, Contains, find, Message, Queue, IsLawfulQueue, IsLawfulMessage, has_id, State, find-Some, type_number, message_entry, type_entry, types, has_number, has_serial, message_record, record_of, type_record, all_types, lawful_queue, find_one, numbers_apart, types_ascend, IsFiled, key_of_message, key_of_type}
 use Rattle.std.proofs.lemmas.Bool.{eqb-true}
 use Rattle.std.proofs.lemmas.Bool.Decides.{Decides-eqb}
 use Rattle.std.proofs.lemmas.Int.{ints}
 use Rattle.std.proofs.lemmas.List.Elements.{All-contains}
-use Rattle.queue_model.specs.declared.message.Message.{Message}
-use Rattle.queue_model.specs.declared.queue.Queue.{Queue}
-use Rattle.queue_model.specs.Lawful.{IsLawfulQueue, IsLawfulMessage}
-use Rattle.queue_model.specs.Rules.{has_id}
-use Rattle.queue_model.specs.State.{State}
-use Rattle.queue_model.proofs.ListLemmas.{find-Some}
 use Rattle.queue_records.specs.declared.record.Record.TheVariants as records
-use Rattle.queue_records.specs.Fields.{type_number}
-use Rattle.type_chains.specs.Entries.{message_entry, type_entry}
-use Rattle.type_chains.specs.Lists.{types}
-use Rattle.type_chains.specs.RecordOf.{has_number, has_serial, message_record, record_of, type_record}
-use Rattle.type_chains.proofs.Limits.{all_types, lawful_queue}
-use Rattle.type_chains.proofs.Unique.{find_one, numbers_apart, types_ascend}
-use Rattle.xsi_inquiry.specs.Telling.{IsFiled}
-use Rattle.queue_records.specs.Keys.{key_of_message, key_of_type}
 
 -- types from 1 on have each a number of their own
 pub numbers_differ : (t u : ℤ) → pos 1 ≤ℤ t → pos 1 ≤ℤ u → type_number t ≡ type_number u → t ≡ u

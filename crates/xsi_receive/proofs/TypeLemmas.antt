@@ -1,19 +1,10 @@
 -- The Types of a queue without the message that a receive takes.
 use Rattle.std.proofs.Common.{◌≡◌, ℕ, suc, ◌-◌, ◌<◌, ◌≤◌, ℤ, Bool, true, false, List, [], ◌∷◌, length, Option, Some, None, refl, sym, ap, ◌∙◌, get_or, arith}
 use Rattle.std.specs.Prelude.{◌≢◌, slice_get, slice_index}
-use Rattle.std.specs.List.{Contains, filter, position_or_len, remove}
-use Rattle.std.specs.Ordering.{int_eq}
+use Rattle.xsi_receive.specs.Words.{Contains, filter, position_or_len, remove, int_eq, Message, Queue, TypeEntry, type_entry, is_same_type, serials, serials_of_type, types, is_of_type, first_of, before, behind, before_place, contains_head, contains_tail, types_ascend}
 use Rattle.std.proofs.lemmas.Bool.Decides.{Decides-int_eq}
 use Rattle.std.proofs.lemmas.Int.{ints}
-use Rattle.queue_model.specs.declared.message.Message.{Message}
-use Rattle.queue_model.specs.declared.queue.Queue.{Queue}
-use Rattle.queue_records.specs.declared.type_entry.TypeEntry.{TypeEntry}
-use Rattle.type_chains.specs.Entries.{type_entry, is_same_type}
-use Rattle.type_chains.specs.Lists.{serials, serials_of_type, types, is_of_type}
-use Rattle.type_chains.specs.Neighbours.{first_of, before, behind, before_place}
 use Rattle.type_chains.proofs.Elements.{filter_holds}
-use Rattle.type_chains.proofs.Members.{contains_head, contains_tail}
-use Rattle.type_chains.proofs.Unique.{types_ascend}
 use Rattle.xsi_receive.proofs.FirstOfTypeLemmas.{IsTakenAt, its_type, other_type, serials_of_its_type, serials_of_other_type}
 use Rattle.xsi_receive.proofs.ListLemmas.{AreToldApart, before_it, behind_it, before_sooner, behind_sooner, behind_previous, behind_later, before_later, before_next, first_at}
 use Rattle.xsi_receive.proofs.MessageLemmas.{without}

@@ -1,8 +1,7 @@
 -- The types of messages without the first of one type: the same while one of that type is left, else without it.
 use Rattle.std.proofs.Common.{◌≡◌, ℕ, ◌+◌, ◌-◌, ℤ, ◌<ℤ◌, Bool, true, false, List, [], ◌∷◌, Some, inl, inr, refl, sym, ap, ◌∙◌, subst, get_or, arith}
 use Rattle.std.specs.Prelude.{◌≢◌, slice_get}
-use Rattle.std.specs.List.{AllPairs, Contains, remove}
-use Rattle.std.specs.Ordering.{int_eq}
+use Rattle.xsi_receive.specs.Words.{AllPairs, Contains, remove, int_eq, Message, types, contains_head, contains_tail, head_or_tail, are_types_of, pairs_head, pairs_tail}
 use Rattle.std.proofs.lemmas.Bool.{cases_lt}
 use Rattle.std.proofs.lemmas.Bool.Decides.{Decides-int_eq}
 use Rattle.std.proofs.lemmas.Int.{ints}
@@ -10,11 +9,6 @@ use Rattle.std.proofs.lemmas.Option.{slice_get_within, get_or_from_slice_get}
 use Rattle.std.proofs.lemmas.List.Edits.{length-remove, get_or-remove_below, get_or-remove_above}
 use Rattle.std.proofs.lemmas.List.Elements.{All-contains}
 use Rattle.std.proofs.lemmas.List.Quantifiers.{all_pairs_remove}
-use Rattle.queue_model.specs.declared.message.Message.{Message}
-use Rattle.type_chains.specs.Lists.{types}
-use Rattle.type_chains.proofs.Members.{contains_head, contains_tail, head_or_tail}
-use Rattle.type_chains.proofs.TypesStand.{are_types_of}
-use Rattle.type_chains.proofs.Unique.{pairs_head, pairs_tail}
 use Rattle.xsi_receive.proofs.FirstOfTypeLemmas.{IsTakenAt}
 
 abbrev Ascends : List ℤ → Type 0

@@ -1,31 +1,20 @@
 -- What a Receive asks for is that of its own queue, and it writes little.
-use Rattle.std.proofs.Common.{◌≡◌, ℕ, Bool, Option, Some, None, refl, ◌∙◌, subst, arith}
-use Rattle.bucket_page.specs.declared.record_key.RecordKey.{RecordKey}
+use Rattle.std.proofs.Common.{◌≡◌, inl, ℕ, Bool, Option, Some, refl, arith}
 use Rattle.queue_model.specs.State.{State}
 use Rattle.queue_records.specs.declared.record.Record.{Record}
 use Rattle.queue_records.specs.Fields.{type_number}
 use Rattle.queue_records.specs.Keys.{key_of_message}
-use Rattle.type_chains.specs.RecordOf.{record_of}
 use Rattle.xsi_inquiry.specs.declared.wanted.Wanted.TheVariants.{At, Given}
 use Rattle.xsi_inquiry.specs.Agreeing.{AgreeOnId}
+use Rattle.xsi_inquiry.specs.Deciding.{InsertsOnlyFor}
 use Rattle.xsi_inquiry.specs.Telling.{IsTold, IsToldGiven}
 use Rattle.xsi_inquiry.specs.Writing.{IsSmall}
 use Rattle.xsi_inquiry.proofs.AgreeLemmas.{same_message_record, same_type_record}
 use Rattle.xsi_inquiry.proofs.DecisionLemmas.{small_none}
-use Rattle.xsi_inquiry.proofs.SeekLemmas.{given_asks, sought_asks, sought_given}
-use Rattle.xsi_receive.specs.Asking.{asked, plan_at}
+use Rattle.xsi_inquiry.proofs.AskLemmas.{at_none, at_one, given_asks, sought_asks, sought_given}
+use Rattle.xsi_receive.specs.Asking.{asked, decided_at, plan_at}
 use Rattle.xsi_receive.specs.declared.stage.Stage.{Stage}
 use Rattle.xsi_receive.specs.declared.stage.Stage.TheVariants.{Seeking, Refused, PutOff, AtType, AtMessage, AtTypeOf, Taken}
-
--- one key at which both systems have the same
-at_one : (k : RecordKey) (s t : State) (found : Option Record) → record_of s k ≡ record_of t k →
-    IsTold s (Some (At k)) found → IsTold t (Some (At k)) found
-at_one k s t found same told key is =
-    let it : k ≡ key = cc in
-    subst (λ (x : RecordKey). found ≡ record_of t x) it (told k refl ∙ same)
-
-at_none : (t : State) (found : Option Record) → IsTold t None found
-at_none t found key is = absurd cc
 
 module _ (id : ℕ) (s t : State) (found : Option Record) (agrees : AgreeOnId id s t) where
   at_type : (number : ℕ) → IsTold s (Some (At (record { kind = 4; queue = id; number = number }))) found →
@@ -68,3 +57,13 @@ few_at id (AtType e mtype) = small_none
 few_at id (AtMessage e entry serial) = small_none
 few_at id (AtTypeOf e m) = small_none
 few_at id (Taken r) = record { trials = omega arith; slots = omega arith }
+
+-- nothing is inserted
+pub inserts_at : (id : ℕ) (stage : Stage) → InsertsOnlyFor (decided_at stage) (plan_at id stage)
+inserts_at id (Seeking sought) = inl refl
+inserts_at id (Refused errno) = inl refl
+inserts_at id PutOff = inl refl
+inserts_at id (AtType e mtype) = inl refl
+inserts_at id (AtMessage e entry serial) = inl refl
+inserts_at id (AtTypeOf e m) = inl refl
+inserts_at id (Taken r) = inl refl

@@ -3,3 +3,4 @@ pub mod Asking
 pub mod Heads
 pub mod Knowing
 pub mod Removing
+pub mod Words

@@ -25,7 +25,7 @@ impl Inquiry for ReceiveInquiry {
     ghost use Rattle.queue_model.specs.declared.call.Call.TheVariants.{Receive};
     ghost use Rattle.xsi_receive.specs.Asking.{asked, asks_left, decided_at, plan_at};
     ghost use Rattle.xsi_receive.specs.Knowing.{KnowsAt};
-    ghost use Rattle.xsi_receive.specs.Asked.{few_at, given_at, stage_asks};
+    ghost use Rattle.xsi_receive.specs.Asked.{few_at, given_at, inserts_at, stage_asks};
 
     type Arguments = ReceiveArguments;
 
@@ -50,6 +50,8 @@ impl Inquiry for ReceiveInquiry {
     ghost asks_given = { λ a i names s t given agrees told. given_at a.id i.stage s t given agrees.asked told };
 
     ghost few = { λ a i. few_at a.id i.stage };
+
+    ghost inserts = { λ a i. inserts_at a.id i.stage };
 
     fn begin(by: Caller, arguments: &ReceiveArguments) -> ReceiveInquiry {
         ReceiveInquiry {

@@ -2,32 +2,13 @@
 use Rattle.std.proofs.Common.{◌≡◌, ℕ, ℤ, true, false, cond, List, [], ◌∷◌, Option, Some, None, refl, sym, ap, ◌∙◌, subst}
 use Rattle.std.specs.Prelude.{◌==◌, nat_eq, option_map}
 use Rattle.std.specs.Option.{option_eq}
-use Rattle.std.specs.List.{filter}
+use Rattle.xsi_send.specs.Words.{filter, SendArguments, Caller, Message, Queue, with_message, with_queue, State, QueueEntry, queue_entry, is_of_type, serials, last_of, record_of, Sent, Send, key_of_message, last_message, Write, Relink, IsFiled, Plan}
 use Rattle.std.proofs.lemmas.Bool.Decides.{Decides-int_eq}
 use Rattle.std.proofs.lemmas.List.Elements.{All-contains, filter_passes}
-use Rattle.queue_model.specs.declared.call.SendArguments.{SendArguments}
-use Rattle.queue_model.specs.declared.caller.Caller.{Caller}
-use Rattle.queue_model.specs.declared.message.Message.{Message}
-use Rattle.queue_model.specs.declared.queue.Queue.{Queue}
-use Rattle.queue_model.specs.Rules.{with_message, with_queue}
-use Rattle.queue_model.specs.State.{State}
-use Rattle.queue_records.specs.declared.queue_entry.QueueEntry.{QueueEntry}
-use Rattle.type_chains.specs.Entries.{queue_entry}
-use Rattle.type_chains.specs.Lists.{is_of_type, serials}
-use Rattle.type_chains.specs.Neighbours.{last_of}
-use Rattle.type_chains.specs.RecordOf.{record_of}
-use Rattle.queue_model.specs.declared.answer.Answer.TheVariants.{Sent}
-use Rattle.queue_model.specs.declared.call.Call.TheVariants.{Send}
 use Rattle.page_locks.specs.declared.lock.LockName.TheVariants as names
 use Rattle.queue_records.specs.declared.record.Record.TheVariants as records
-use Rattle.queue_records.specs.Keys.{key_of_message}
-use Rattle.type_chains.specs.Sending.{last_message}
 use Rattle.xsi_inquiry.specs.declared.verdict.Verdict.TheVariants as verdicts
 use Rattle.xsi_inquiry.specs.Deciding.{IsAnswered}
-use Rattle.xsi_inquiry.specs.declared.write.Write.{Write}
-use Rattle.xsi_inquiry.specs.declared.write.Write.TheVariants.{Relink}
-use Rattle.xsi_inquiry.specs.Telling.{IsFiled}
-use Rattle.xsi_inquiry.specs.Writing.{Plan}
 use Rattle.xsi_send.specs.declared.stage.Stage.TheVariants.{Done}
 use Rattle.xsi_send.specs.declared.type_place.TypePlace.{TypePlace}
 use Rattle.xsi_send.specs.declared.type_place.TypePlace.TheVariants.{Standing, Between}

@@ -1,43 +1,12 @@
 -- The plan of a Send of a type that does not stand on the queue.
 use Rattle.std.proofs.Common.{◌≡◌, ℕ, ◌<◌, ℤ, ◌<ℤ◌, Bool, true, false, List, [], ◌∷◌, ◌++◌, Option, Some, None, ◌⊎◌, inl, inr, refl, sym, ap, ◌∙◌, subst, arith}
-use Rattle.std.specs.Prelude.{option_map, option_and_then}
-use Rattle.std.specs.List.{All, Contains, find}
+use Rattle.xsi_send.specs.Words.{option_map, option_and_then, All, Contains, find, RecordKey, SendArguments, Caller, Message, Queue, with_message, with_queue, State, TYPE, Stays, LeadsTo, QueueEntry, Record, TypeEntry, type_number, guard_of, key_of, queue_entry, type_entry, serials, serials_of_type, types, is_of_type, first_of, last_of, has_number, record_of, type_record, with_one_more, last_message, contains_tail, agree_but, all_of, Write, Replace, IsBefore, IsOrdered, trial_rank, IsFiled, Plan, key_written, somes, IsNew, Fills, Misses, MissesRecord, leads_by, InSlot, somes_all, somes_ascend, somes_each}
 use Rattle.std.proofs.lemmas.Bool.{eqb-true}
 use Rattle.std.proofs.lemmas.Bool.Decides.{Decides-int_eq}
 use Rattle.std.proofs.lemmas.Int.{ints}
 use Rattle.std.proofs.lemmas.List.Elements.{All-cons, All-contains, All-nil, Contains-append_cases, Contains-append_left, Contains-append_right}
-use Rattle.bucket_page.specs.declared.record_key.RecordKey.{RecordKey}
 use Rattle.page_locks.specs.declared.lock.LockName.TheVariants as names
-use Rattle.queue_model.specs.declared.call.SendArguments.{SendArguments}
-use Rattle.queue_model.specs.declared.caller.Caller.{Caller}
-use Rattle.queue_model.specs.declared.message.Message.{Message}
-use Rattle.queue_model.specs.declared.queue.Queue.{Queue}
-use Rattle.queue_model.specs.Rules.{with_message, with_queue}
-use Rattle.queue_model.specs.State.{State}
-use Rattle.queue_records.specs.declared.layout.TheConstants.{TYPE}
-use Rattle.queue_records.specs.declared.links.Link.TheVariants.{Stays, LeadsTo}
-use Rattle.queue_records.specs.declared.queue_entry.QueueEntry.{QueueEntry}
-use Rattle.queue_records.specs.declared.record.Record.{Record}
 use Rattle.queue_records.specs.declared.record.Record.TheVariants as records
-use Rattle.queue_records.specs.declared.type_entry.TypeEntry.{TypeEntry}
-use Rattle.queue_records.specs.Fields.{type_number}
-use Rattle.queue_records.specs.Keys.{guard_of}
-use Rattle.queue_records.specs.Spelling.{key_of}
-use Rattle.type_chains.specs.Entries.{queue_entry, type_entry}
-use Rattle.type_chains.specs.Lists.{serials, serials_of_type, types, is_of_type}
-use Rattle.type_chains.specs.Neighbours.{first_of, last_of}
-use Rattle.type_chains.specs.RecordOf.{has_number, record_of, type_record}
-use Rattle.type_chains.specs.Sending.{with_one_more, last_message}
-use Rattle.type_chains.proofs.Members.{contains_tail}
-use Rattle.type_chains.proofs.OneQueueChanged.{agree_but}
-use Rattle.type_chains.proofs.Pairs.{all_of}
-use Rattle.xsi_inquiry.specs.declared.write.Write.{Write}
-use Rattle.xsi_inquiry.specs.declared.write.Write.TheVariants.{Replace}
-use Rattle.xsi_inquiry.specs.Owning.{IsBefore, IsOrdered, trial_rank}
-use Rattle.xsi_inquiry.specs.Telling.{IsFiled}
-use Rattle.xsi_inquiry.specs.Writing.{Plan, key_written, somes}
-use Rattle.xsi_inquiry.proofs.LeadLemmas.{IsNew, Fills, Misses, MissesRecord, leads_by}
-use Rattle.xsi_inquiry.proofs.SlotLemmas.{InSlot, somes_all, somes_ascend, somes_each}
 use Rattle.xsi_send.specs.Knowing.{IsOpen}
 use Rattle.xsi_send.specs.Places.{IsBetween}
 use Rattle.xsi_send.specs.Planning.{behind_end, higher_write, lower_write, new_type}

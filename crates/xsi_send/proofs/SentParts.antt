@@ -1,64 +1,29 @@
 -- The records that a Send writes to its queue, and those that it leaves.
 use Rattle.std.proofs.Common.{◌≡◌, ℕ, ◌<◌, ℤ, pos, negsuc, ◌≤ℤ◌, ◌<ℤ◌, Bool, true, false, cond, List, [], ◌∷◌, ◌++◌, length, Option, Some, None, inl, inr, refl, sym, ap, ◌∙◌, subst, arith}
 use Rattle.std.specs.Prelude.{◌==◌, option_map, option_and_then}
-use Rattle.std.specs.List.{All, AllPairs, Contains, filter, find}
+use Rattle.xsi_send.specs.Words.{All, AllPairs, Contains, filter, find, RecordKey, Sent, Send, SendArguments, Caller, Message, Queue, IsLawful, IsLawfulQueue, IsLawfulMessage, has_id, with_message, with_queue, State, find-None, find-Some, position_None, QUEUE, TYPE, MESSAGE, QueueEntry, Record, TypeEntry, type_number, IsInRange, IsType, key_of, queue_entry, type_entry, message_entry, types, is_of_type, last_of, has_number, has_serial, type_record, message_record, record_of, message_of, with_one_more, last_message, all_types, in_range, lawful_queue, contains_tail, head_or_tail, Write, Replace, Relink, IsFiled, Leads, Plan, value_length, key_of_message, key_of_type, relinked, with_type_links, IsOrdered, IsUnder, InSlot, found_new, IsNew, Fills}
 use Rattle.std.proofs.lemmas.Bool.{eqb-true}
 use Rattle.std.proofs.lemmas.Bool.Decides.{Decides-eqb, nat_tests}
 use Rattle.std.proofs.lemmas.Int.{ints}
 use Rattle.std.proofs.lemmas.List.{append-nil}
 use Rattle.std.proofs.lemmas.List.Elements.{All-cons, All-contains, All-head, All-nil, All-tail, All-weaker, Contains-append_cases, Contains-append_left}
-use Rattle.bucket_page.specs.declared.record_key.RecordKey.{RecordKey}
 use Rattle.bucket_page.specs.Keys.{is_same}
-use Rattle.queue_model.specs.declared.answer.Answer.TheVariants.{Sent}
-use Rattle.queue_model.specs.declared.call.Call.TheVariants.{Send}
-use Rattle.queue_model.specs.declared.call.SendArguments.{SendArguments}
-use Rattle.queue_model.specs.declared.caller.Caller.{Caller}
-use Rattle.queue_model.specs.declared.message.Message.{Message}
-use Rattle.queue_model.specs.declared.queue.Queue.{Queue}
-use Rattle.queue_model.specs.Lawful.{IsLawful, IsLawfulQueue, IsLawfulMessage}
-use Rattle.queue_model.specs.Rules.{has_id, with_message, with_queue}
-use Rattle.queue_model.specs.State.{State}
 use Rattle.queue_model.proofs.EffectLemmas.{Effect-outcome}
 use Rattle.queue_model.proofs.LawfulLemmas.{IsLawful-Effect}
-use Rattle.queue_model.proofs.ListLemmas.{find-None, find-Some, position_None}
-use Rattle.queue_records.specs.declared.layout.TheConstants.{QUEUE, TYPE, MESSAGE}
 use Rattle.queue_records.specs.declared.message_entry.MessageEntry.{MessageEntry}
-use Rattle.queue_records.specs.declared.queue_entry.QueueEntry.{QueueEntry}
-use Rattle.queue_records.specs.declared.record.Record.{Record}
 use Rattle.queue_records.specs.declared.record.Record.TheVariants as records
-use Rattle.queue_records.specs.declared.type_entry.TypeEntry.{TypeEntry}
-use Rattle.queue_records.specs.Fields.{type_number}
-use Rattle.queue_records.specs.Range.{IsInRange, IsType}
-use Rattle.queue_records.specs.Spelling.{key_of}
-use Rattle.type_chains.specs.Entries.{queue_entry, type_entry, message_entry}
-use Rattle.type_chains.specs.Lists.{types, is_of_type}
-use Rattle.type_chains.specs.Neighbours.{last_of}
-use Rattle.type_chains.specs.RecordOf.{has_number, has_serial, type_record, message_record, record_of}
-use Rattle.type_chains.specs.Sending.{message_of, with_one_more, last_message}
-use Rattle.type_chains.proofs.Limits.{all_types, in_range, lawful_queue}
-use Rattle.type_chains.proofs.Members.{contains_tail, head_or_tail}
 use Rattle.type_chains.proofs.Sends.{made_of_the_queue}
 use Rattle.type_chains.proofs.TypesStand.{are_types_of}
-use Rattle.xsi_inquiry.specs.declared.write.Write.{Write}
-use Rattle.xsi_inquiry.specs.declared.write.Write.TheVariants.{Replace, Relink}
-use Rattle.xsi_inquiry.specs.Telling.{IsFiled}
-use Rattle.xsi_inquiry.specs.Writing.{Leads, Plan, value_length}
 use Rattle.page_locks.specs.declared.lock.LockName.TheVariants as names
 use Rattle.queue_records.specs.declared.links.Links.TheVariants as links
 use Rattle.queue_records.specs.declared.links.TypeLinks.{TypeLinks}
-use Rattle.queue_records.specs.Keys.{key_of_message, key_of_type}
-use Rattle.queue_records.specs.Relinking.{relinked, with_type_links}
 use Rattle.queue_records.proofs.Lengths.{length-queue}
-use Rattle.xsi_inquiry.specs.Owning.{IsOrdered, IsUnder}
-use Rattle.xsi_inquiry.proofs.SlotLemmas.{InSlot}
 use Rattle.xsi_send.specs.Knowing.{IsOpen}
 use Rattle.xsi_send.specs.Planning.{links_behind, queue_write, takes_more}
 use Rattle.xsi_send.proofs.Beside.{contains_at, split_last}
 use Rattle.xsi_send.proofs.Sorted.{pairs_front}
 use Rattle.xsi_send.proofs.Walked.{more_taken}
 use Rattle.xsi_send.proofs.Links.{is_linked}
-use Rattle.type_chains.proofs.OneQueueChanged.{found_new}
-use Rattle.xsi_inquiry.proofs.LeadLemmas.{IsNew, Fills}
 use Rattle.xsi_send.proofs.Told.{message_stands, queue_stands, stands, type_stands, typed}
 
 -- ---- what is replaced where there is something

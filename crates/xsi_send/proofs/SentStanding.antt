@@ -1,40 +1,13 @@
 -- The plan of a Send of a type that stands on the queue.
 use Rattle.std.proofs.Common.{◌≡◌, ◌<◌, Bool, true, false, cond, List, [], ◌∷◌, Option, Some, None, inl, inr, refl, sym, ap, ◌∙◌, subst, arith}
 use Rattle.std.specs.Prelude.{◌==◌}
-use Rattle.std.specs.List.{All, Contains, filter}
+use Rattle.xsi_send.specs.Words.{All, Contains, filter, RecordKey, SendArguments, Caller, Message, Queue, with_message, with_queue, State, MESSAGE, Stays, QueueEntry, Record, type_number, guard_of, key_of_message, key_of, queue_entry, types, is_of_type, last_of, record_of, with_one_more, last_message, agree_but, Write, Replace, Relink, IsBefore, IsOrdered, IsFiled, Plan, key_written, somes, IsNew, Fills, Misses, MissesRecord, leads_by, InSlot, somes_all, somes_ascend, somes_each}
 use Rattle.std.proofs.lemmas.Bool.{eqb-true}
 use Rattle.std.proofs.lemmas.Bool.Decides.{Decides-eqb}
 use Rattle.std.proofs.lemmas.Option.{same_Some}
 use Rattle.std.proofs.lemmas.List.Elements.{All-cons, All-contains, All-nil}
-use Rattle.bucket_page.specs.declared.record_key.RecordKey.{RecordKey}
 use Rattle.page_locks.specs.declared.lock.LockName.TheVariants as names
-use Rattle.queue_model.specs.declared.call.SendArguments.{SendArguments}
-use Rattle.queue_model.specs.declared.caller.Caller.{Caller}
-use Rattle.queue_model.specs.declared.message.Message.{Message}
-use Rattle.queue_model.specs.declared.queue.Queue.{Queue}
-use Rattle.queue_model.specs.Rules.{with_message, with_queue}
-use Rattle.queue_model.specs.State.{State}
-use Rattle.queue_records.specs.declared.layout.TheConstants.{MESSAGE}
-use Rattle.queue_records.specs.declared.links.Link.TheVariants.{Stays}
-use Rattle.queue_records.specs.declared.queue_entry.QueueEntry.{QueueEntry}
-use Rattle.queue_records.specs.declared.record.Record.{Record}
 use Rattle.queue_records.specs.declared.record.Record.TheVariants as records
-use Rattle.queue_records.specs.Fields.{type_number}
-use Rattle.queue_records.specs.Keys.{guard_of, key_of_message}
-use Rattle.queue_records.specs.Spelling.{key_of}
-use Rattle.type_chains.specs.Entries.{queue_entry}
-use Rattle.type_chains.specs.Lists.{types, is_of_type}
-use Rattle.type_chains.specs.Neighbours.{last_of}
-use Rattle.type_chains.specs.RecordOf.{record_of}
-use Rattle.type_chains.specs.Sending.{with_one_more, last_message}
-use Rattle.type_chains.proofs.OneQueueChanged.{agree_but}
-use Rattle.xsi_inquiry.specs.declared.write.Write.{Write}
-use Rattle.xsi_inquiry.specs.declared.write.Write.TheVariants.{Replace, Relink}
-use Rattle.xsi_inquiry.specs.Owning.{IsBefore, IsOrdered}
-use Rattle.xsi_inquiry.specs.Telling.{IsFiled}
-use Rattle.xsi_inquiry.specs.Writing.{Plan, key_written, somes}
-use Rattle.xsi_inquiry.proofs.LeadLemmas.{IsNew, Fills, Misses, MissesRecord, leads_by}
-use Rattle.xsi_inquiry.proofs.SlotLemmas.{InSlot, somes_all, somes_ascend, somes_each}
 use Rattle.xsi_send.specs.Knowing.{IsOpen}
 use Rattle.xsi_send.specs.Planning.{behind_end, links_behind, type_write}
 use Rattle.xsi_send.proofs.Beside.{contains_at, in_last}

@@ -1,45 +1,18 @@
 -- What the records at the keys that a Send asks for tell of its queue.
 use Rattle.std.proofs.Common.{of_z, to_z, ◌≡◌, ℕ, ◌-◌, ◌≤◌, ℤ, pos, negsuc, ◌≤ℤ◌, Bool, List, ◌++◌, length, Option, Some, None, refl, sym, ap, ◌∙◌, subst, arith}
-use Rattle.std.specs.Prelude.{◌≢◌, int_lt, slice_index, option_and_then, FitsSigned, Result, Ok}
-use Rattle.std.specs.Int.{w64}
-use Rattle.std.specs.List.{All, Contains, filter, find}
+use Rattle.std.specs.Prelude.{◌≢◌, int_lt, slice_index, option_and_then, FitsSigned}
+use Rattle.xsi_send.specs.Words.{w64, All, Contains, filter, find, SendArguments, Caller, Message, Queue, IsLawful, IsLawfulQueue, has_id, State, find-Some, QueueEntry, Record, TypeEntry, type_number, IsType, key_of, queue_entry, type_entry, message_entry, serials, serials_of_type, types, is_of_type, last_of, has_number, has_serial, type_record, record_of, all_types, types_stand, contains_head, contains_tail, in_map, all_of, find_one, IsFiled, IsTold, At, key_of_type}
 use Rattle.std.proofs.lemmas.Bool.{eqb-true}
 use Rattle.std.proofs.lemmas.Bool.Decides.{Decides-eqb}
 use Rattle.std.proofs.lemmas.Int.{ints, to_z-of_z}
 use Rattle.std.proofs.lemmas.Option.{same_Some, slice_get-get_or}
 use Rattle.std.proofs.lemmas.List.Elements.{Contains-append_left, Contains-append_right, All-contains, All-contains_itself, All-filter}
-use Rattle.queue_model.specs.declared.call.SendArguments.{SendArguments}
-use Rattle.queue_model.specs.declared.caller.Caller.{Caller}
-use Rattle.queue_model.specs.declared.message.Message.{Message}
-use Rattle.queue_model.specs.declared.queue.Queue.{Queue}
-use Rattle.queue_model.specs.Lawful.{IsLawful, IsLawfulQueue, IsLawfulMessage}
-use Rattle.queue_model.specs.Rules.{has_id}
-use Rattle.queue_model.specs.State.{State}
-use Rattle.queue_model.proofs.ListLemmas.{find-Some}
-use Rattle.limits.specs.declared.TheConstants.{MAX_BODY}
-use Rattle.queue_records.specs.declared.queue_entry.QueueEntry.{QueueEntry}
-use Rattle.queue_records.specs.declared.record.Record.{Record}
 use Rattle.queue_records.specs.declared.record.Record.TheVariants as records
-use Rattle.queue_records.specs.declared.type_entry.TypeEntry.{TypeEntry}
-use Rattle.queue_records.specs.Fields.{type_number}
-use Rattle.queue_records.specs.Range.{IsType}
-use Rattle.queue_records.specs.Spelling.{key_of}
-use Rattle.type_chains.specs.Entries.{queue_entry, type_entry, message_entry}
 use Rattle.type_chains.specs.Image.{queue_records, key_records, type_records, message_records}
-use Rattle.type_chains.specs.Lists.{serials, serials_of_type, types, is_of_type}
-use Rattle.type_chains.specs.Neighbours.{last_of}
-use Rattle.type_chains.specs.RecordOf.{has_number, has_serial, type_record, record_of}
 use Rattle.type_chains.proofs.Images.{queue_has}
-use Rattle.type_chains.proofs.Limits.{all_types, lawful_queue, types_stand}
-use Rattle.type_chains.proofs.Members.{contains_head, contains_tail, in_map}
-use Rattle.type_chains.proofs.Pairs.{all_of}
 use Rattle.type_chains.proofs.Tests.{mapped}
-use Rattle.type_chains.proofs.Unique.{find_one}
-use Rattle.xsi_inquiry.specs.Telling.{IsFiled, IsTold}
-use Rattle.xsi_inquiry.specs.declared.wanted.Wanted.TheVariants.{At}
-use Rattle.queue_records.specs.Keys.{key_of_message, key_of_type}
 use Rattle.xsi_send.specs.Knowing.{IsOpen}
-use Rattle.xsi_send.proofs.Beside.{in_last, last-map}
+use Rattle.xsi_send.proofs.Beside.{last-map}
 
 -- types from 1 on with one number are one
 pub same_number : (t u : ℤ) → pos 1 ≤ℤ t → pos 1 ≤ℤ u → type_number t ≡ type_number u → t ≡ u
@@ -79,12 +52,6 @@ module _ (s : State) (lawful : IsLawful s) (id : ℕ) (q : Queue) (found : find 
   pub stands : Contains s.queues q
   stands = (find-Some (has_id id) s.queues q found).1
 
-  pub message_there : (m : Message) → Contains q.messages m →
-      record_of s (key_of_message id m.serial) ≡ Some (records.Message (message_entry q m))
-  message_there m there =
-      subst (λ (n : ℕ). record_of s (key_of_message n m.serial) ≡ Some (records.Message (message_entry q m))) its
-      (message_stands s lawful q stands m there)
-
   pub type_there : (t : ℤ) → Contains (types q.messages) t →
       record_of s (key_of_type id t) ≡ Some (records.Type (type_entry q t))
   type_there t there =
@@ -112,10 +79,6 @@ module _ (s : State) (lawful : IsLawful s) (id : ℕ) (q : Queue) (found : find 
       let clash : ◌≡◌ {A = Option Record} None (Some (records.Type (type_entry q u))) =
       sym none ∙ ap (λ v. record_of s (key_of_type id v)) (sym same) ∙ at in
       absurd cc)
-
-  pub short_body : (m : Message) → Contains q.messages m → length m.bytes ≤ MAX_BODY
-  short_body m there = (All-contains (IsLawfulMessage q.next_serial) q.messages m
-      (lawful_queue s lawful q stands).messages_lawful there).short
 
 -- a list of messages whose serials end so ends in the message of that serial
 pub last_with : (ms : List Message) (serial : ℕ) → last_of (serials ms) ≡ Some serial →
@@ -162,9 +125,6 @@ same_found found r x one other = same_Some r x (sym one ∙ other)
 pub never_none : (found : Option Record) (r : Record) → found ≡ Some r → found ≡ None → ⊥
 never_none found r one none = let clash : ◌≡◌ {A = Option Record} None (Some r) = sym none ∙ one in absurd cc
 
-pub same_ok : {T E : Type 0} (r : Result T E) (x y : T) → r ≡ Ok x → r ≡ Ok y → x ≡ y
-same_ok r x y one other = cc
-
 pub same_type : (m n : TypeEntry) → records.Type m ≡ records.Type n → m ≡ n
 same_type m n same = cc
 
@@ -204,17 +164,3 @@ module _ (c : Caller) (a : SendArguments) (e : QueueEntry) (s : State) (filed : 
         × (m.serial ≡ (type_entry known.queue a.mtype).last)
     last_typed_there there = last_with (filter (is_of_type a.mtype) q.messages) (type_entry q a.mtype).last
         (last_in_is (serials_of_type a.mtype q.messages) (has_first there))
-
-    -- where the type's last serial is the queue's, so is its last message
-    pub last_is_queues : (there : Contains (types known.queue.messages) a.mtype) →
-        e.last ≡ Some (type_entry known.queue a.mtype).last
-        → last_of (filter (is_of_type a.mtype) known.queue.messages) ≡ last_of known.queue.messages
-    last_is_queues standing same =
-        let (m, is, has) = last_typed_there standing in
-        let (n, last, its) = last_there (type_entry q a.mtype).last same in
-        let of_type = filter (is_of_type a.mtype) q.messages in
-        let first = of_filter (is_of_type a.mtype) q.messages m (in_last of_type m is) in
-        let second = in_last q.messages n last in
-        let one = serial_tells (lawful_queue s filed.lawful q (stands s filed.lawful a.id q known.found known.its_id))
-        m n first second (has ∙ sym its) in
-        is ∙ ap Some one ∙ sym last

@@ -1,34 +1,14 @@
 -- What a Send knows on its way up the types, and that its numbers stay numbers.
 use Rattle.std.proofs.Common.{◌≡◌, ℕ, ◌≤◌, ◌<◌, ℤ, pos, ◌≤ℤ◌, ◌<ℤ◌, true, false, [], ◌∷◌, ◌++◌, length, Option, Some, None, refl, sym, ap, ◌∙◌, subst, arith}
 use Rattle.std.specs.Prelude.{◌≢◌, ◌+◌, ◌^◌, nat_le, nat_lt, FitsSigned}
-use Rattle.std.specs.Int.{w64}
-use Rattle.std.specs.List.{AllPairs, Contains}
+use Rattle.xsi_send.specs.Words.{w64, AllPairs, Contains, SendArguments, Caller, END_OF_SERIALS, MAX_MESSAGES, Message, Queue, State, QueueEntry, Record, IsType, type_entry, is_same_type, types, first_of, behind, record_of, all_types, lawful_queue, contains_tail, types_ascend, IsFiled, IsTold, At, key_of_type}
 use Rattle.std.proofs.lemmas.Int.{ints}
 use Rattle.std.proofs.lemmas.List.{append-nil, append_assoc, length-append}
 use Rattle.std.proofs.lemmas.List.Elements.{Contains-append_right, All-nil, All-cons, All-push, All-contains, All-weaker}
-use Rattle.queue_model.specs.declared.call.SendArguments.{SendArguments}
-use Rattle.queue_model.specs.declared.caller.Caller.{Caller}
-use Rattle.limits.specs.declared.TheConstants.{END_OF_SERIALS, MAX_MESSAGES}
-use Rattle.queue_model.specs.declared.message.Message.{Message}
-use Rattle.queue_model.specs.declared.queue.Queue.{Queue}
 use Rattle.queue_model.specs.Selection.{total_bytes}
-use Rattle.queue_model.specs.State.{State}
-use Rattle.queue_records.specs.declared.queue_entry.QueueEntry.{QueueEntry}
-use Rattle.queue_records.specs.declared.record.Record.{Record}
 use Rattle.queue_records.specs.declared.record.Record.TheVariants as records
-use Rattle.queue_records.specs.Range.{IsType}
-use Rattle.type_chains.specs.Entries.{type_entry, is_same_type}
 use Rattle.type_chains.specs.Fits.{HasFittingMessage, HasFittingQueue}
-use Rattle.type_chains.specs.Lists.{types}
-use Rattle.type_chains.specs.Neighbours.{first_of, behind}
-use Rattle.type_chains.specs.RecordOf.{record_of}
 use Rattle.type_chains.proofs.Elements.{All-types}
-use Rattle.type_chains.proofs.Limits.{all_types, lawful_queue}
-use Rattle.type_chains.proofs.Members.{contains_tail}
-use Rattle.type_chains.proofs.Unique.{types_ascend}
-use Rattle.xsi_inquiry.specs.Telling.{IsFiled, IsTold}
-use Rattle.xsi_inquiry.specs.declared.wanted.Wanted.TheVariants.{At}
-use Rattle.queue_records.specs.Keys.{key_of_type}
 use Rattle.xsi_send.specs.Knowing.{IsOpen}
 use Rattle.xsi_send.specs.declared.stage.Walk.{Walk}
 use Rattle.xsi_send.specs.Planning.{takes_more}

@@ -2,3 +2,4 @@ pub mod Asked
 pub mod Knowing
 pub mod Planning
 pub mod Places
+pub mod Words

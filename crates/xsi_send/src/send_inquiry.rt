@@ -22,7 +22,7 @@ impl Inquiry for SendInquiry {
     ghost use Rattle.queue_model.specs.declared.call.Call.TheVariants.{Send};
     ghost use Rattle.xsi_send.specs.Knowing.{KnowsAt, asked, asks_left};
     ghost use Rattle.xsi_send.specs.Planning.{decided_at, plan_at};
-    ghost use Rattle.xsi_send.specs.Asked.{few_at, given_at, stage_asks};
+    ghost use Rattle.xsi_send.specs.Asked.{few_at, given_at, inserts_at, stage_asks};
 
     type Arguments = SendArguments;
 
@@ -47,6 +47,8 @@ impl Inquiry for SendInquiry {
     ghost asks_given = { λ a i names s t given agrees told. given_at a i.stage s t given agrees.asked told };
 
     ghost few = { λ a i. few_at i.caller.pid a i.stage };
+
+    ghost inserts = { λ a i. inserts_at i.caller.pid a i.stage };
 
     fn begin(by: Caller, arguments: &SendArguments) -> SendInquiry {
         SendInquiry {

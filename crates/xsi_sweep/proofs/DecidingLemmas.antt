@@ -1,11 +1,9 @@
 -- What the records that a Remove reads tell, and what is decided then.
 use Rattle.std.proofs.Common.{◌≡◌, ℕ, length, Option, Some, None, refl, sym, ◌∙◌, subst, arith}
-use Rattle.std.specs.List.{Contains}
+use Rattle.xsi_sweep.specs.Words.{Contains, found_id, LockName, Caller, without_queue, State, Counter, Record, guard_of, key_of, counter_key, counter_of, record_of, At, IsSwept, IsKeyed, swept, IsFiled, IsTold, Leads}
 use Rattle.std.proofs.lemmas.List.Elements.{All-nil}
 use Rattle.queue_model.specs.declared.call.Call.TheVariants as calls
 use Rattle.queue_records.specs.declared.record.Record.TheVariants as records
-use Rattle.type_chains.proofs.Cases.{found_id}
-use Rattle.xsi_sweep.specs.Words.{LockName, Caller, without_queue, State, Counter, Record, guard_of, key_of, counter_key, counter_of, record_of, At, IsSwept, IsKeyed, swept, IsFiled, IsTold, Leads}
 use Rattle.xsi_sweep.specs.declared.removal.Removal.{Removal}
 use Rattle.xsi_sweep.specs.declared.stage.Stage.{Stage}
 use Rattle.xsi_sweep.specs.declared.stage.Stage.TheVariants.{Seeking, Refused, Keyed, Counting, Removing}
@@ -28,13 +26,12 @@ same_counter s found n told is =
 
 -- the queue is swept, and goes
 pub decides_removal : (c : Caller) (id : ℕ) (r : Removal) (s : State) → IsFiled s → KnowsRemoval c id r s →
-    IsSwept c (calls.Remove id) (names_of id r.key) s r.first (removal_plan id r)
+    IsSwept c (calls.Remove id) (names_of id r.key) s (record { id = id; first = r.first }) (removal_plan id r)
 decides_removal c id r s filed known =
     let q = known.queue in
     let its = found_id s id q known.alive in
     let leads = remove_leads id s q filed known.alive its r.key (sym known.key) in
     record {
-      id = id;
       queue = q;
       after = without_queue id s;
       is_remove = refl;

@@ -1,9 +1,7 @@
 -- What is found on a list of which the first that passes a test went.
 use Rattle.std.proofs.Common.{◌≡◌, ℕ, zero, suc, Bool, true, false, cond, List, [], ◌∷◌, Option, Some, None, refl, ap, ◌∙◌, arith}
-use Rattle.std.specs.List.{All, find, position_or_len, remove}
+use Rattle.xsi_sweep.specs.Words.{All, find, position_or_len, remove, find-Some, PassesOnce, pairs_head, pairs_tail}
 use Rattle.std.proofs.lemmas.List.Elements.{All-contains, All-head, All-tail, All-weaker}
-use Rattle.queue_model.proofs.ListLemmas.{find-Some}
-use Rattle.type_chains.proofs.Unique.{PassesOnce, pairs_head, pairs_tail}
 
 pub not_true : (b : Bool) → (b ≡ true → ⊥) → b ≡ false
 not_true true never = absurd (never refl)

@@ -1,18 +1,15 @@
 -- What a Remove knows between its two phases: the Queue that is read gives it, and each answered call keeps it.
 use Rattle.std.proofs.Common.{◌≡◌, ℕ, ◌<◌, ◌≤◌, Bool, true, false, nat_lt, Option, Some, None, inl, inr, refl, sym, ap, ◌∙◌, subst, arith}
 use Rattle.std.specs.Prelude.{◌==◌, ◌≢◌, slice_get, slice_set}
-use Rattle.std.specs.List.{find, remove}
+use Rattle.xsi_sweep.specs.Words.{find, remove, find-Some, found_id, Answer, Id, Sent, Received, Info, Done, Refused, Call, Get, Send, Receive, Stat, Set, Remove, Caller, Queue, has_id, outcome, with_message, with_settings, without_message, State, QueueEntry, queue_of, IsEntryOf, IsKeyed, IsFiled}
 use Rattle.std.proofs.lemmas.Bool.{eqb-true}
 use Rattle.std.proofs.lemmas.Bool.Decides.{nat_tests}
 use Rattle.std.proofs.lemmas.List.Folds.{find_at}
 use Rattle.std.proofs.lemmas.Option.{slice_get-get_or}
 use Rattle.queue_model.proofs.EffectLemmas.{Changes, Effect, Effect-outcome, Stands}
-use Rattle.queue_model.proofs.ListLemmas.{find-Some}
-use Rattle.type_chains.proofs.Cases.{found_id}
 use Rattle.type_chains.proofs.Elements.{image_has}
 use Rattle.type_chains.proofs.OneQueueChanged.{found_new}
 use Rattle.xsi_inquiry.proofs.OthersLemmas.{agrees_by_others}
-use Rattle.xsi_sweep.specs.Words.{Answer, Id, Sent, Received, Info, Done, Refused, Call, Get, Send, Receive, Stat, Set, Remove, Caller, Queue, has_id, outcome, with_message, with_settings, without_message, State, QueueEntry, queue_of, IsEntryOf, IsKeyed, IsFiled}
 use Rattle.xsi_sweep.proofs.RemovingLemmas.{gone}
 
 -- the queue found has the key that its Queue tells

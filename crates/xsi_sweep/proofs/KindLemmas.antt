@@ -2,10 +2,7 @@
 use Rattle.std.proofs.Common.{◌≡◌, ℕ, Bool, true, false, cond, refl, ap}
 use Rattle.std.specs.Prelude.{◌==◌}
 use Rattle.std.proofs.lemmas.Bool.{eqb-true}
-use Rattle.bucket_page.specs.declared.record_key.RecordKey.{RecordKey}
-use Rattle.queue_model.specs.State.{State}
-use Rattle.queue_records.specs.declared.layout.TheConstants.{COUNTER, KEY, QUEUE, TYPE, MESSAGE}
-use Rattle.type_chains.specs.RecordOf.{at_counter, at_key, at_queue, at_queue_of, type_record, message_record, record_of}
+use Rattle.xsi_sweep.specs.Words.{RecordKey, State, COUNTER, KEY, QUEUE, TYPE, MESSAGE, at_counter, at_key, at_queue, at_queue_of, type_record, message_record, record_of}
 
 -- by a test
 pub by_test : {X : Type 0} (b : Bool) (x y z : X) → (b ≡ true → x ≡ z) → (b ≡ false → y ≡ z) → cond b x y ≡ z

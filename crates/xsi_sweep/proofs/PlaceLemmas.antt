@@ -1,19 +1,14 @@
 -- Lists from a place on, and the next serial of a type.
 use Rattle.std.proofs.Common.{◌≡◌, ℕ, zero, suc, ◌<◌, ℤ, pos, negsuc, ◌≤ℤ◌, Bool, true, false, cond, List, [], ◌∷◌, drop, Some, None, refl, sym, ap, ◌∙◌, subst, arith}
 use Rattle.std.specs.Prelude.{◌==◌, ◌||◌, slice_get}
-use Rattle.std.specs.List.{All, AllPairs, Contains, filter, list_any, position_or_len}
+use Rattle.xsi_sweep.specs.Words.{All, AllPairs, Contains, filter, list_any, position_or_len, Message, type_number, serials, contains_tail, pairs_head, pairs_tail}
 use Rattle.std.specs.Ordering.{int_eq}
 use Rattle.std.proofs.lemmas.Bool.{eqb-true}
 use Rattle.std.proofs.lemmas.Bool.Decides.{Decides-eqb, Decides-int_eq, nat_tests}
 use Rattle.std.proofs.lemmas.List.Elements.{All-contains, All-head, All-tail}
 use Rattle.std.proofs.lemmas.Int.{ints}
-use Rattle.queue_model.specs.declared.message.Message.{Message}
-use Rattle.queue_records.specs.Fields.{type_number}
 use Rattle.type_chains.specs.Entries.{is_number}
-use Rattle.type_chains.specs.Lists.{serials}
 use Rattle.type_chains.specs.Neighbours.{behind, first_of}
-use Rattle.type_chains.proofs.Members.{contains_tail}
-use Rattle.type_chains.proofs.Unique.{pairs_head, pairs_tail}
 use Rattle.xsi_sweep.proofs.FindLemmas.{not_true, place_here, place_later}
 
 -- ---- from a place on

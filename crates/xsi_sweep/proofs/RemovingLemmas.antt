@@ -1,7 +1,7 @@
 -- A queue of which the messages are swept goes.
 use Rattle.std.proofs.Common.{◌≡◌, ℕ, ◌+◌, ◌-◌, ◌<◌, Bool, true, false, cond, List, [], ◌∷◌, length, drop, Option, Some, None, inl, refl, sym, ap, ◌∙◌, arith}
 use Rattle.std.specs.Prelude.{◌==◌, ◌≢◌, ◌&&◌, IsSome, option_map, option_and_then}
-use Rattle.std.specs.List.{All, Contains, find, position_or_len, remove, list_any}
+use Rattle.xsi_sweep.specs.Words.{All, Contains, find, position_or_len, remove, list_any, find-Some, in_range, PassesOnce, find_one, key_has, pairs_unmap, Fills, IsNew, Misses, leads_by, RecordKey, is_same, Message, Queue, IsLawful, AreKeysApart, has_id, has_key, is_key, without_queue, State, Counter, TYPE, MESSAGE, Record, guard_of, key_of_key, key_of_queue, IsInRange, key_of, counter_of, key_entry, queue_entry, has_serial, type_record, message_record, record_of, Write, Replace, Delete, Ascend, IsBefore, swept, has_type_number, IsFiled, Leads, Plan, Records, key_written, value_length, writes_of}
 use Rattle.std.proofs.lemmas.Bool.{eqb-true}
 use Rattle.std.proofs.lemmas.Bool.Decides.{Decides-eqb, nat_tests}
 use Rattle.std.proofs.lemmas.List.Edits.{length-remove}
@@ -9,13 +9,8 @@ use Rattle.std.proofs.lemmas.List.Elements.{All-nil, All-cons, All-head, All-tai
 use Rattle.std.proofs.lemmas.List.Folds.{find_at}
 use Rattle.std.proofs.lemmas.Option.{slice_get_within}
 use Rattle.queue_model.proofs.LawfulLemmas.{IsLawful-remove}
-use Rattle.queue_model.proofs.ListLemmas.{find-Some}
 use Rattle.queue_records.specs.declared.record.Record.TheVariants as records
 use Rattle.queue_records.proofs.Lengths.{length-counter}
-use Rattle.type_chains.proofs.Limits.{in_range}
-use Rattle.type_chains.proofs.Unique.{PassesOnce, find_one, key_has, pairs_unmap}
-use Rattle.xsi_inquiry.proofs.LeadLemmas.{Fills, IsNew, Misses, leads_by}
-use Rattle.xsi_sweep.specs.Words.{RecordKey, is_same, Message, Queue, IsLawful, AreKeysApart, has_id, has_key, is_key, without_queue, State, Counter, TYPE, MESSAGE, Record, guard_of, key_of_key, key_of_queue, IsInRange, key_of, counter_of, key_entry, queue_entry, has_serial, type_record, message_record, record_of, Write, Replace, Delete, Ascend, IsBefore, swept, has_type_number, IsFiled, Leads, Plan, Records, key_written, value_length, writes_of}
 use Rattle.xsi_sweep.specs.Knowing.{one_less}
 use Rattle.xsi_sweep.specs.Removing.{key_deletion, names_of}
 use Rattle.xsi_sweep.proofs.FindLemmas.{find_removed, find_removed_other, not_true}

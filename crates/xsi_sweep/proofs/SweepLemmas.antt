@@ -1,17 +1,11 @@
 -- How a sweep begins, and how many turns it has.
 use Rattle.std.proofs.Common.{◌≡◌, ℕ, ◌<◌, ℤ, Bool, true, false, cond, List, [], ◌∷◌, Option, Some, None, inl, inr, refl, sym, ap, ◌∙◌, arith}
 use Rattle.std.specs.Prelude.{◌==◌, ◌&&◌, ◌||◌, option_and_then, option_map}
-use Rattle.std.specs.List.{Contains, find, list_any}
+use Rattle.xsi_sweep.specs.Words.{Contains, find, list_any, both_true, find-Some, lawful_queue, head_or_tail, are_types_of, RecordKey, Message, MAX_MESSAGES, Queue, has_id, State, TYPE, MESSAGE, Record, message_entry, type_entry, types, at_queue_of, has_number, has_serial, message_record, record_of, type_record, has_type_number, message_left, swept, type_left, IsFiled}
 use Rattle.std.proofs.lemmas.Bool.{eqb-true}
 use Rattle.std.proofs.lemmas.Option.{slice_get_within}
-use Rattle.fields.proofs.Tests.{both_true}
-use Rattle.queue_model.proofs.ListLemmas.{find-Some}
 use Rattle.queue_records.specs.declared.record.Record.TheVariants as records
-use Rattle.type_chains.proofs.Limits.{lawful_queue}
-use Rattle.type_chains.proofs.Members.{head_or_tail}
 use Rattle.type_chains.proofs.Pairs.{all_of}
-use Rattle.type_chains.proofs.TypesStand.{are_types_of}
-use Rattle.xsi_sweep.specs.Words.{RecordKey, Message, MAX_MESSAGES, Queue, has_id, State, TYPE, MESSAGE, Record, message_entry, type_entry, types, at_queue_of, has_number, has_serial, message_record, record_of, type_record, has_type_number, message_left, swept, type_left, IsFiled}
 use Rattle.xsi_sweep.specs.declared.turn.Turn.{Turn}
 use Rattle.xsi_sweep.specs.Turns.{IsAtTurn}
 use Rattle.xsi_sweep.proofs.FindLemmas.{none_passes}

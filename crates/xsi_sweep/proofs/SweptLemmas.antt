@@ -1,19 +1,10 @@
 -- What is left of a queue while its messages are swept, key by key.
 use Rattle.std.proofs.Common.{◌≡◌, ℕ, true, false, Option, Some, None, inl, inr, refl, ap, ◌∙◌, arith}
 use Rattle.std.specs.Prelude.{◌==◌, ◌≢◌, ◌&&◌, IsSome, option_and_then}
-use Rattle.std.specs.List.{find}
+use Rattle.xsi_sweep.specs.Words.{find, RecordKey, both_true, Queue, has_id, State, TYPE, MESSAGE, Record, message_record, record_of, type_record, swept, type_left, message_left}
 use Rattle.std.proofs.lemmas.Bool.{eqb-true}
 use Rattle.std.proofs.lemmas.Bool.Decides.{nat_tests}
-use Rattle.bucket_page.specs.declared.record_key.RecordKey.{RecordKey}
-use Rattle.fields.proofs.Tests.{both_true}
-use Rattle.queue_model.specs.declared.queue.Queue.{Queue}
-use Rattle.queue_model.specs.Rules.{has_id}
-use Rattle.queue_model.specs.State.{State}
-use Rattle.queue_records.specs.declared.layout.TheConstants.{TYPE, MESSAGE}
-use Rattle.queue_records.specs.declared.record.Record.{Record}
-use Rattle.type_chains.specs.RecordOf.{message_record, record_of, type_record}
 use Rattle.type_chains.proofs.Tests.{by_guard, by_test, chained}
-use Rattle.xsi_inquiry.specs.Sweeping.{swept, type_left, message_left}
 use Rattle.xsi_sweep.proofs.KindLemmas.{kind_message, kind_type}
 
 pub some_is : {X : Type 0} (o : Option X) (x : X) → o ≡ Some x → IsSome o

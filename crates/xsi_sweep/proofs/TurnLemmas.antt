@@ -1,21 +1,14 @@
 -- One turn of a sweep: a message goes and, where it is the last of its type, the type.
 use Rattle.std.proofs.Common.{◌≡◌, ℕ, suc, ◌+◌, ◌<◌, ℤ, pos, ◌≤ℤ◌, Bool, true, false, cond, List, [], ◌∷◌, drop, Option, Some, None, inl, refl, sym, ap, ◌∙◌, subst, arith}
 use Rattle.std.specs.Prelude.{◌==◌, ◌≢◌, ◌||◌, option_and_then, slice_get}
-use Rattle.std.specs.List.{All, Contains, find, list_any}
+use Rattle.xsi_sweep.specs.Words.{All, Contains, find, list_any, find-Some, found_id, in_range, lawful_queue, contains_tail, in_map, are_types_of, Fills, IsNew, Misses, leads_by, RecordKey, is_same, Message, Queue, IsLawfulMessage, IsLawfulQueue, has_id, State, TYPE, MESSAGE, MessageEntry, Record, type_number, guard_of, key_of_message, key_of_type, IsInRange, key_of, message_entry, queue_entry, type_entry, key_records, message_records, queue_records, type_records, is_of_type, serials, types, first_of, has_serial, message_record, type_record, Write, Delete, Ascend, IsBefore, IsTurn, has_type_number, swept, IsFiled, Leads, Plan, Records, key_written, writes_of}
 use Rattle.std.proofs.lemmas.Bool.{eqb-true}
 use Rattle.std.proofs.lemmas.Bool.Decides.{Decides-eqb, Decides-int_eq, nat_tests}
 use Rattle.std.proofs.lemmas.List.Elements.{All-contains, All-cons, All-drop, All-head, All-nil, All-tail, All-weaker, Contains-append_left, Contains-append_right}
 use Rattle.std.proofs.lemmas.List.Folds.{list_any_none}
 use Rattle.page_locks.specs.declared.lock.LockName.TheVariants as names
-use Rattle.queue_model.proofs.ListLemmas.{find-Some}
 use Rattle.queue_records.specs.declared.record.Record.TheVariants as records
-use Rattle.type_chains.proofs.Cases.{found_id}
 use Rattle.type_chains.proofs.Images.{queue_has}
-use Rattle.type_chains.proofs.Limits.{in_range, lawful_queue}
-use Rattle.type_chains.proofs.Members.{contains_tail, in_map}
-use Rattle.type_chains.proofs.TypesStand.{are_types_of}
-use Rattle.xsi_inquiry.proofs.LeadLemmas.{Fills, IsNew, Misses, leads_by}
-use Rattle.xsi_sweep.specs.Words.{RecordKey, is_same, Message, Queue, IsLawfulMessage, IsLawfulQueue, has_id, State, TYPE, MESSAGE, MessageEntry, Record, type_number, guard_of, key_of_message, key_of_type, IsInRange, key_of, message_entry, queue_entry, type_entry, key_records, message_records, queue_records, type_records, is_of_type, serials, types, first_of, has_serial, message_record, type_record, Write, Delete, Ascend, IsBefore, IsTurn, has_type_number, swept, IsFiled, Leads, Plan, Records, key_written, writes_of}
 use Rattle.xsi_sweep.specs.declared.turn.Turn.{Turn}
 use Rattle.xsi_sweep.specs.Turns.{IsAtTurn, last_by, read_of, turn_plan, type_deletion}
 use Rattle.xsi_sweep.proofs.PlaceLemmas.{any_alike, at_place, drop_at, first_left, left_at, none_behind, pairs_behind, place_of_serial, same_number, some_behind}

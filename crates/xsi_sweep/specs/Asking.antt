@@ -63,12 +63,12 @@ locked_at id (Keyed key) = names_of id key
 locked_at id (Counting key queue) = names_of id key
 locked_at id (Removing r) = names_of id r.key
 
-abbrev pub decided_at : Stage → Result Decision NotASystem
-decided_at (Seeking sought) = Err (record {})
-decided_at (Refused errno) = Ok (refuses errno)
-decided_at (Keyed key) = Err (record {})
-decided_at (Counting key queue) = Err (record {})
-decided_at (Removing r) = Ok (Sweeps r.first)
+abbrev pub decided_at : ℕ → Stage → Result Decision NotASystem
+decided_at id (Seeking sought) = Err (record {})
+decided_at id (Refused errno) = Ok (refuses errno)
+decided_at id (Keyed key) = Err (record {})
+decided_at id (Counting key queue) = Err (record {})
+decided_at id (Removing r) = Ok (Sweeps (record { id = id; first = r.first }))
 
 abbrev pub plan_at : ℕ → Stage → Plan
 plan_at id (Seeking sought) = nothing

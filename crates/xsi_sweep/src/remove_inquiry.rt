@@ -11,8 +11,8 @@ ghost use Rattle.xsi_sweep.specs.Removing.{names_of};
 
 use crate::stage::Stage;
 use queue_model::Caller;
-use queue_records::Record;
-use xsi_inquiry::{Decision, Inquiry, NotASystem, Room, Wanted, Write};
+use queue_records::{Record, counter_key, queue_key};
+use xsi_inquiry::{Decision, Inquiry, NotASystem, Room, Sweep, Wanted, Write};
 
 /// A Remove (POSIX.1-2017, `msgctl()` with `IPC_RMID`). It is given an id. It has two phases, since the names that it
 /// needs depend on the queue's key: it reads the Queue; then, under the names, the Queue again and the Counter.
@@ -56,7 +56,7 @@ impl RemoveInquiry {
 impl Inquiry for RemoveInquiry {
     ghost use Rattle.queue_model.specs.declared.call.Call.TheVariants as calls;
     ghost use Rattle.xsi_sweep.specs.Asking.{asked, asks_left, decided_at, locked_at, plan_at};
-    ghost use Rattle.xsi_sweep.specs.Asked.{few_at, given_at, stage_asks};
+    ghost use Rattle.xsi_sweep.specs.Asked.{few_at, given_at, inserts_at, stage_asks};
     ghost use Rattle.xsi_sweep.specs.Knowing.{KnowsAt};
 
     type Arguments = u32;
@@ -73,7 +73,7 @@ impl Inquiry for RemoveInquiry {
 
     ghost left = { λ id i. asks_left i.stage };
 
-    ghost decided = { λ id i. decided_at i.stage };
+    ghost decided = { λ id i. decided_at id i.stage };
 
     ghost plan = { λ id i. plan_at id i.stage };
 
@@ -85,6 +85,8 @@ impl Inquiry for RemoveInquiry {
 
     ghost few = { λ id i. few_at id i.stage };
 
+    ghost inserts = { λ id i. inserts_at id i.stage };
+
     fn begin(by: Caller, id: &u32) -> RemoveInquiry {
         RemoveInquiry {
             caller: by,
@@ -93,7 +95,12 @@ impl Inquiry for RemoveInquiry {
     }
 
     fn wants(&self, id: &u32) -> Option<Wanted> {
-        self.stage.wants(*id)
+        match &self.stage {
+            Stage::Seeking(sought) => sought.wants(*id),
+            Stage::Keyed(_) => Some(Wanted::At(queue_key(*id))),
+            Stage::Counting(..) => Some(Wanted::At(counter_key())),
+            Stage::Refused(_) | Stage::Removing(_) => None,
+        }
     }
 
     fn take(
@@ -111,10 +118,13 @@ impl Inquiry for RemoveInquiry {
         Ok(())
     }
 
-    fn decide(&self, _id: &u32) -> Result<Decision, NotASystem> {
+    fn decide(&self, id: &u32) -> Result<Decision, NotASystem> {
         match &self.stage {
             Stage::Refused(errno) => Ok(Decision::refuses(*errno)),
-            Stage::Removing(removal) => Ok(Decision::Sweeps(removal.first)),
+            Stage::Removing(removal) => Ok(Decision::Sweeps(Sweep {
+                id: *id,
+                first: removal.first,
+            })),
             Stage::Seeking(_) | Stage::Keyed(_) | Stage::Counting(..) => Err(NotASystem),
         }
     }

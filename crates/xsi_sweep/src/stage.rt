@@ -13,9 +13,9 @@ ghost use Rattle.xsi_sweep.specs.Knowing.{KnowsAt, KnowsQueue};
 
 use crate::removal::Removal;
 use queue_model::{Caller, Errno};
-use queue_records::{Counter, QueueEntry, Record, counter_key, queue_key};
+use queue_records::{Counter, QueueEntry, Record};
 use type_chains::permissions_in;
-use xsi_inquiry::{NotASystem, Sought, Wanted, counter_in, queue_in};
+use xsi_inquiry::{NotASystem, Sought, counter_in, queue_in};
 
 /// What is known, and with it what is asked next.
 #[derive(Clone, Copy, Debug)]
@@ -41,18 +41,6 @@ impl Stage {
         match Sought::new(id) {
             Sought::Refused(errno) => Stage::Refused(errno),
             sought => Stage::Seeking(sought),
-        }
-    }
-
-    /// What is asked next, where there is something to ask.
-    pub fn wants(&self, id: u32) -> Option<Wanted>
-        ensures { result ≡ asked id self.now }
-    {
-        match self {
-            Stage::Seeking(sought) => sought.wants(id),
-            Stage::Keyed(_) => Some(Wanted::At(queue_key(id))),
-            Stage::Counting(_, _) => Some(Wanted::At(counter_key())),
-            Stage::Refused(_) | Stage::Removing(_) => None,
         }
     }
 

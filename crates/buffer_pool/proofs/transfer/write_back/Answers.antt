@@ -3,7 +3,7 @@ use Rattle.std.proofs.Common.{◌∙◌, sym, ap, [], slice_index_or}
 use Rattle.std.proofs.lemmas.List.{get_or-set_same}
 use Rattle.page_device.specs.Device.{HasCause, MayOnlyFail}
 use Rattle.page_device.specs.Sealed.{payload_of}
-use Rattle.buffer_pool.proofs.PoolLemmas.{IsSound-failed, IsSound-cleaned, images-written, page_within}
+use Rattle.buffer_pool.proofs.PoolLemmas.{IsSoundPool-failed, IsSoundPool-cleaned, images-written, page_within}
 use Rattle.buffer_pool.proofs.TransferLemmas.{handed_on, only_fails, seals_written}
 use Rattle.buffer_pool.proofs.transfer.write_back.Goals as goal
 
@@ -11,7 +11,7 @@ pub returns-in_err-write-clause-sound : goal.returns-in_err-write-clause-sound
 returns-in_err-write-clause-sound g c =
     let here = sym c.page.ensures ∙ c.in-Some.is in
     rw c.write.ensures.honest
-    (IsSound-failed _ _ _ c.requires.sound _ c.args.frame c.in-Some.page here c.write.ensures.others
+    (IsSoundPool-failed _ _ _ c.requires.sound _ c.args.frame c.in-Some.page here c.write.ensures.others
     (sym c.is_changed.ensures ∙ c.if-not-is_changed.false))
 
 pub returns-in_err-write-clause-images : goal.returns-in_err-write-clause-images
@@ -32,7 +32,7 @@ returns-clause-sound g c =
     let here = sym c.page.ensures ∙ c.in-Some.is in
     let within = page_within _ _ _ c.requires.sound c.args.frame c.in-Some.page here in
     rw (c.write.ensures.honest, c.clean.ensures)
-    (IsSound-cleaned _ _ _ c.requires.sound _ c.args.frame c.in-Some.page here c.write.ensures.others (λ is.
+    (IsSoundPool-cleaned _ _ _ c.requires.sound _ c.args.frame c.in-Some.page here c.write.ensures.others (λ is.
     ap (λ s. payload_of (slice_index_or s c.in-Some.page [])) (c.in_ok-write.ensures.ok is)
     ∙ ap payload_of (get_or-set_same _ c.in-Some.page c.seal-sealed.result [] within)
     ∙ c.seal-sealed.ensures.payload ∙ c.payload-2.ensures ∙ c.payload.ensures))

@@ -4,6 +4,7 @@ use Rattle.one_caller.specs.Filing.{HasValues}
 use Rattle.xsi_inquiry.specs.declared.write.Write.TheVariants.{Delete}
 use Rattle.xsi_inquiry.specs.Writing.{CanBe, inserted, with_at}
 use Rattle.one_caller.proofs.CarryLemmas.{both_back, both_in, both_inserted, first_of_two, first_stands, no_error, none_of, two_of}
+use Rattle.one_caller.proofs.RoomLemmas.{first_exceeds, second_exceeds}
 use Rattle.one_caller.proofs.carry.insert_all.Goals as goal
 
 pub returns-in_default-clause-ok : goal.returns-in_default-clause-ok
@@ -50,3 +51,18 @@ returns-in-Err-delete-clause-ok g c = λ records has absent range.
     (c.in-Err-insert.ensures.ok _ it.values it.absent it.in_range)
     (λ found values can. absurd (no_error c.in-Err-delete.field-0 (c.in-Err-delete.ensures.can found values
     (subst (λ k. CanBe (Delete k) found) (sym c.key.ensures) can))))
+
+pub returns-in-Err-clause-full : goal.returns-in-Err-clause-full
+returns-in-Err-clause-full g c = λ none.
+    let plan = g.I.Inquiry.plan c.args.arguments.now c.args.inquiry.now in
+    first_exceeds plan.trials c.in-Some.first c.args.file.now.records (sym c.trial.ensures ∙ c.in-Some.is)
+    (c.in-Err.ensures.full none)
+
+pub returns-in-Ok-delete-clause-full : goal.returns-in-Ok-delete-clause-full
+returns-in-Ok-delete-clause-full g c = λ none.
+    let plan = g.I.Inquiry.plan c.args.arguments.now c.args.inquiry.now in
+    let both = two_of plan.trials c.in-Some.first c.in-Some-trial.second (sym c.trial.ensures ∙ c.in-Some.is)
+    (sym c.trial-2.ensures ∙ c.in-Some-trial.is)
+    (g.met.I.Inquiry.few c.args.arguments.now c.args.inquiry.now).trials in
+    second_exceeds plan.trials c.in-Some.first c.in-Some-trial.second c.args.file.now.records _ both
+    c.in-Ok.ensures.grows (c.in-Err-insert.ensures.full none)

@@ -9,7 +9,8 @@ use Rattle.one_caller.proofs.change.relink.Goals as goal
 pub returns-then-value-length-clause-ok : goal.returns-then-value-length-clause-ok
 returns-then-value-length-clause-ok g c = λ records has can.
     let it = is_such c.args.links.now (records c.args.key.now) can in
-    let same = value_stands records c.args.file.now.records c.args.key.now c.args.links.now (Some c.in-Some.value.now) it
+    let same = value_stands records c.args.file.now.records c.args.key.now c.args.links.now
+    (Some c.in-Some.value.now) it
     has c.in-Some.ensures.some in
     let whole : c.in-Some.value.now ≡ value_of it.entry = cc in
     let within = links_within c.args.links.now it.entry it.such in

@@ -12,7 +12,8 @@ returns-in-Err g c = λ s q count filed alive first has.
 
 pub returns-in-Ok-take : goal.returns-in-Ok-take
 returns-in-Ok-take g c = λ s q count filed alive first has.
-    turn_read {E = NotASystem} c.args.id c.args.serial count s q c.new-turn.result c.in-Ok.found _ _ (Ok c.in-Ok-take.field-0)
+    turn_read {E = NotASystem} c.args.id c.args.serial count s q c.new-turn.result c.in-Ok.found _ _
+    (Ok c.in-Ok-take.field-0)
     c.new-turn.ensures alive first
     (c.in-Ok.ensures s (swept c.args.id count s) filed (swept_among c.args.id count s) has
     ∙ ap (swept c.args.id count s) c.message_key.ensures)
@@ -20,7 +21,8 @@ returns-in-Ok-take g c = λ s q count filed alive first has.
 
 pub returns-in-Err-take : goal.returns-in-Err-take
 returns-in-Err-take g c = λ s q count filed alive first has.
-    turn_read {E = NotASystem} c.args.id c.args.serial count s q c.new-turn.result c.in-Ok.found None nothing (Err c.in-Err-take.fault)
+    turn_read {E = NotASystem} c.args.id c.args.serial count s q c.new-turn.result c.in-Ok.found None nothing
+    (Err c.in-Err-take.fault)
     c.new-turn.ensures alive first
     (c.in-Ok.ensures s (swept c.args.id count s) filed (swept_among c.args.id count s) has
     ∙ ap (swept c.args.id count s) c.message_key.ensures)

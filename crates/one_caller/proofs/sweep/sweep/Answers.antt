@@ -34,7 +34,8 @@ returns-in-None-clause-ok g c = λ s q filed alive first has.
 pub returns-in-Some-next-clause-ok : goal.returns-in-Some-next-clause-ok
 returns-in-Some-next-clause-ok g c = λ s q filed alive first has.
     let it = c.loop-place.invariant.swept_to s q filed alive first has in
-    let inside = turn_within q.messages c.loop-place._place c.in-Some-next.field-0 (sym it.next_is ∙ c.in-Some-next.is) in
+    let inside = turn_within q.messages c.loop-place._place c.in-Some-next.field-0
+    (sym it.next_is ∙ c.in-Some-next.is) in
     let few = few_messages c.args.id s q filed alive in
     let all = c.loop-place-test.false in
     omega arith

@@ -14,7 +14,8 @@ loop-slot-preserved g c =
     let goal_of = IsWritten (writes_of plan) (somes (drop (slot + 1) plan.slots)) c.args.file.now in
     elim c.match-write.branch [
       | in-Some+in-Ok-write_one w ↦
-          subst goal_of (sym w.file-is) (written_more (writes_of plan) _ (somes (drop (slot + 1) plan.slots)) w.in-Some.write
+          subst goal_of (sym w.file-is) (written_more (writes_of plan) _
+          (somes (drop (slot + 1) plan.slots)) w.in-Some.write
           c.args.file.now c.loop-slot.file w.write_one.new.file
           (slot_some plan.slots slot w.in-Some.write (sym c.write.ensures ∙ w.in-Some.is)) c.loop-slot.invariant
           w.in-Ok-write_one.ensures.same w.in-Ok-write_one.ensures.ok)
@@ -27,7 +28,8 @@ pub returns-in-Err-write_one-clause-ok : goal.returns-in-Err-write_one-clause-ok
 returns-in-Err-write_one-clause-ok g c = λ s q count filed alive first has.
     let plan = turn_plan c.in-Ok.turn in
     let turn = c.in-Ok.ensures s q count filed alive first has in
-    let left = turn_remains c.args.id count q s _ plan _ c.args.file.now c.loop-slot.file turn c.loop-slot.invariant has in
+    let left = turn_remains c.args.id count q s _ plan _ c.args.file.now c.loop-slot.file turn c.loop-slot.invariant
+    has in
     refused_less c.in-Some.write _ _ _ _
     (slot_some plan.slots c.loop-slot.slot c.in-Some.write (sym c.write.ensures ∙ c.in-Some.is)) left
     c.in-Err-write_one.ensures.ok
@@ -36,7 +38,8 @@ pub returns-clause-ok : goal.returns-clause-ok
 returns-clause-ok g c = λ s q count filed alive first has.
     let plan = turn_plan c.in-Ok.turn in
     let turn = c.in-Ok.ensures s q count filed alive first has in
-    let left = turn_remains c.args.id count q s _ plan _ c.args.file.now c.loop-slot.file turn c.loop-slot.invariant has in
+    let left = turn_remains c.args.id count q s _ plan _ c.args.file.now c.loop-slot.file turn c.loop-slot.invariant
+    has in
     let all = c.loop-slot-test.false in
     record {
       within = turn_within q.messages count c.args.serial first;

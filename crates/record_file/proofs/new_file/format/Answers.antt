@@ -8,10 +8,10 @@ pub loop-page-preserved : goal.loop-page-preserved
 loop-page-preserved g c =
     let so_far = c.loop-page.invariant in
     record {
-      as_many = c.in-Ok.ensures.grows ∙ ap (λ n. n + 1) so_far.as_many;
+      as_many = c.in_ok-extend.ensures.grows ∙ ap (λ n. n + 1) so_far.as_many;
       made = λ is.
           one_more c.args.pages c.loop-page.page _ _ c.seal.result so_far.as_many
-          (c.in-Ok.ensures.ok (subst IsTrue (sym so_far.honest) is))
+          (c.in_ok-extend.ensures.ok (subst IsTrue (sym so_far.honest) is))
           (record { sealed = c.seal.ensures.sealed; payload = c.seal.ensures.payload ∙ c.write_page.ensures })
           (so_far.made is);
       honest = c.extend.ensures.honest ∙ so_far.honest;

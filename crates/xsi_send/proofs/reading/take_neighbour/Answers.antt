@@ -2,8 +2,7 @@ use Rattle.std.proofs.Common.{◌∙◌, ap, sym, subst, arith, rules, Some, Non
 use Rattle.std.proofs.lemmas.Int.{ints, to_z-of_z}
 use mir.Val.{SFits}
 use mir.Syntax.{w64}
-use Rattle.queue_records.specs.declared.type_entry.TypeEntry.{TypeEntry}
-use Rattle.xsi_inquiry.proofs.SeekLemmas.{clash}
+use Rattle.xsi_send.specs.Words.{TypeEntry, clash}
 use Rattle.xsi_send.specs.Places.{IsBetween, IsWalked}
 use Rattle.xsi_send.proofs.Told.{less_of_z, never_none, same_found, same_of_z, same_type}
 use Rattle.xsi_send.proofs.Walked.{higher_fits, next_apart, next_there, next_told, type_fits, walk_ascends, walk_ends_above, walk_ends_behind, walk_goes_on, walk_has_left}

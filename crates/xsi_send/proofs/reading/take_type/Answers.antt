@@ -1,7 +1,5 @@
 use Rattle.std.proofs.Common.{◌∙◌, refl, ap, sym}
-use Rattle.queue_records.specs.declared.type_entry.TypeEntry.{TypeEntry}
-use Rattle.queue_records.specs.Keys.{key_of_type}
-use Rattle.xsi_inquiry.proofs.SeekLemmas.{clash}
+use Rattle.xsi_send.specs.Words.{TypeEntry, key_of_type, clash}
 use Rattle.xsi_send.proofs.Told.{same_type, type_told}
 use Rattle.xsi_send.proofs.reading.take_type.Goals as goal
 

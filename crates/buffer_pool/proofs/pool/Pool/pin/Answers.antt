@@ -5,12 +5,12 @@ use Rattle.buffer_pool.specs.Transfer.{MayBeUnread}
 use Rattle.buffer_pool.proofs.TransferLemmas.{handed_on, not_ok, pin_told}
 use Rattle.buffer_pool.proofs.TableLemmas.{some_place}
 use Rattle.buffer_pool.proofs.ImagesLemmas.{images_length}
-use Rattle.buffer_pool.proofs.PoolLemmas.{IsSound-with_pins, pinned_kept}
+use Rattle.buffer_pool.proofs.PoolLemmas.{IsSoundPool-with_pins, pinned_kept}
 use Rattle.buffer_pool.proofs.pool.Pool.pin.Goals as goal
 
 pub invariant_of-self-2 : goal.invariant_of-self-2
 invariant_of-self-2 g c =
-    rw c.pin.ensures (IsSound-with_pins _ _ _ c.bring_in.ensures.sound c.args.page _
+    rw c.pin.ensures (IsSoundPool-with_pins _ _ _ c.bring_in.ensures.sound c.args.page _
     (some_place _ c.in_ok-bring_in.ensures.ok))
 
 pub returns-clause-keeps : goal.returns-clause-keeps

@@ -11,10 +11,12 @@ bucket_of-requires g c =
 
 pub returns-clause-some : goal.returns-clause-some
 returns-clause-some g c =
-    let here = open_root c.self.inside.pool c.self.view_is c.in-Some.is c.self.invariant (c.image.ensures ∙ ap Some (sym c.payload.ensures)) in
+    let here = open_root c.self.inside.pool c.self.view_is c.in-Some.is c.self.invariant
+    (c.image.ensures ∙ ap Some (sym c.payload.ensures)) in
     rw (here.records ∙ ap (λ (b : Bucket). b.records) (sym c.bucket_of.ensures)) c.find.ensures.some
 
 pub returns-clause-none : goal.returns-clause-none
 returns-clause-none g c =
-    let here = open_root c.self.inside.pool c.self.view_is c.in-Some.is c.self.invariant (c.image.ensures ∙ ap Some (sym c.payload.ensures)) in
+    let here = open_root c.self.inside.pool c.self.view_is c.in-Some.is c.self.invariant
+    (c.image.ensures ∙ ap Some (sym c.payload.ensures)) in
     rw (here.records ∙ ap (λ (b : Bucket). b.records) (sym c.bucket_of.ensures)) c.find.ensures.none

@@ -40,7 +40,8 @@ returns-in-Err-pin-clause-ok g c = λ is.
     let keeps = c.in-Err-pin.ensures.keeps in
     let content = g.D.PageDevice.content c.args.device in
     let same = c.test_header.ensures.same in
-    let honest : IsTrue c.in-Ok-open.pool.honest = ap (λ (s : PoolState). s.honest) opened_as ∙ c.test_header.ensures.honest ∙ is in
+    let honest : IsTrue c.in-Ok-open.pool.honest = ap (λ (s : PoolState). s.honest) opened_as
+    ∙ c.test_header.ensures.honest ∙ is in
     let images = ap (λ (s : PoolState). s.images) opened_as ∙ ap payloads_of same in
     let stored = ap (λ (s : PoolState). s.stored) opened_as ∙ same in
     let frames = ap (λ (s : PoolState). s.frames) opened_as in

@@ -17,7 +17,8 @@ put-requires-clause-absent g c =
 
 pub invariant_of-self : goal.invariant_of-self
 invariant_of-self g c =
-    stores_either c.put.result c.self.inside.pool c.put.new.self c.self.view_is c.in-Some.is c.self.invariant c.image_mut.ensures.value (inserted _)
+    stores_either c.put.result c.self.inside.pool c.put.new.self c.self.view_is c.in-Some.is c.self.invariant
+    c.image_mut.ensures.value (inserted _)
     c.put.ensures.ok c.put.ensures.err
 
 pub returns-clause-ok : goal.returns-clause-ok

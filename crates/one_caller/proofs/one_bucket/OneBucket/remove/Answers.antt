@@ -16,8 +16,10 @@ remove-requires-clause-there g c =
 
 pub invariant_of-self : goal.invariant_of-self
 invariant_of-self g c =
-    (stores c.self.inside.pool c.self.view_is c.in-Some.is c.self.invariant c.image_mut.ensures.value (removed _) c.remove.ensures).kept
+    (stores c.self.inside.pool c.self.view_is c.in-Some.is c.self.invariant c.image_mut.ensures.value
+    (removed _) c.remove.ensures).kept
 
 pub returns : goal.returns
 returns g c =
-    (stores c.self.inside.pool c.self.view_is c.in-Some.is c.self.invariant c.image_mut.ensures.value (removed _) c.remove.ensures).shown
+    (stores c.self.inside.pool c.self.view_is c.in-Some.is c.self.invariant c.image_mut.ensures.value
+    (removed _) c.remove.ensures).shown

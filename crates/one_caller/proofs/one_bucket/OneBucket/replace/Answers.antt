@@ -15,8 +15,10 @@ replace-requires-clause-there g c =
 
 pub invariant_of-self : goal.invariant_of-self
 invariant_of-self g c =
-    (stores c.self.inside.pool c.self.view_is c.in-Some.is c.self.invariant c.image_mut.ensures.value (replaced _) c.replace.ensures).kept
+    (stores c.self.inside.pool c.self.view_is c.in-Some.is c.self.invariant c.image_mut.ensures.value
+    (replaced _) c.replace.ensures).kept
 
 pub returns : goal.returns
 returns g c =
-    (stores c.self.inside.pool c.self.view_is c.in-Some.is c.self.invariant c.image_mut.ensures.value (replaced _) c.replace.ensures).shown
+    (stores c.self.inside.pool c.self.view_is c.in-Some.is c.self.invariant c.image_mut.ensures.value
+    (replaced _) c.replace.ensures).shown

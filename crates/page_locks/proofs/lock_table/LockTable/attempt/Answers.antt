@@ -4,7 +4,7 @@ use Rattle.page_locks.specs.Locks.{is_against}
 use Rattle.page_locks.specs.Table.{Table, with_lock}
 use Rattle.page_locks.specs.Ties.{AreHomesApart}
 use Rattle.page_locks.proofs.SeatRowLemmas.{row_is, row-granted}
-use Rattle.page_locks.proofs.TieLemmas.{IsSound-looked, HasFewNames-tied, HasHomesApart-tied, IsFree-holders, IsTied-grant}
+use Rattle.page_locks.proofs.TieLemmas.{IsSoundTable-looked, HasFewNames-tied, HasHomesApart-tied, IsFree-holders, IsTied-grant}
 use Rattle.page_locks.proofs.lock_table.LockTable.attempt.Goals as goal
 
 -- half of the slots are free
@@ -46,7 +46,7 @@ invariant_of-self-2 c =
     IsFree-holders c.self.inside.slots t c.self.invariant.tied seat c.args.name holders its c.args.kind nobody_else
     in
     rw (row-granted t seat is _ _ c.index_mut.ensures.value c.args.name c.args.kind c.push.ensures)
-    (IsSound-looked
+    (IsSoundTable-looked
     (IsTied-grant c.self.inside.slots t c.self.invariant.tied seat is c.args.name holders its c.with.result
     c.store.new.self c.store.ensures c.args.kind room fresh free c.with.ensures) _ c.spot-spot.ensures.within)
 
@@ -65,4 +65,4 @@ returns-clause-once c = λ apart.
 
 -- who is blocked leaves what was held, and was told how many slots were looked at
 pub invariant_of-self : goal.invariant_of-self
-invariant_of-self c = IsSound-looked c.self.invariant.tied _ c.spot-spot.ensures.within
+invariant_of-self c = IsSoundTable-looked c.self.invariant.tied _ c.spot-spot.ensures.within

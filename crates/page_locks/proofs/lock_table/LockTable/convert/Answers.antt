@@ -3,7 +3,7 @@ use Rattle.page_locks.specs.Holding.{kind_at}
 use Rattle.page_locks.specs.Locks.{is_against}
 use Rattle.page_locks.specs.Table.{Table, held, with_kind}
 use Rattle.page_locks.proofs.SeatRowLemmas.{row-converted, some_kind}
-use Rattle.page_locks.proofs.TieLemmas.{IsSound-convert, HasFewNames-tied, IsFree-holders, IsTied-convert}
+use Rattle.page_locks.proofs.TieLemmas.{IsSoundTable-convert, HasFewNames-tied, IsFree-holders, IsTied-convert}
 use Rattle.page_locks.proofs.lock_table.LockTable.convert.Goals as goal
 
 -- half of the slots are free
@@ -39,7 +39,7 @@ invariant_of-self c =
     in
     let old = some_kind (held t seat c.args.name) had in
     rw (row-converted t seat is _ _ c.index_mut.ensures.value c.args.name c.args.kind c.convert.ensures)
-    (IsSound-convert c.self.inside.slots t c.self.inside.looked c.self.invariant seat c.args.name c.args.kind old.0
+    (IsSoundTable-convert c.self.inside.slots t c.self.inside.looked c.self.invariant seat c.args.name c.args.kind old.0
     old.1
     (IsTied-convert c.self.inside.slots t c.self.invariant.tied seat is c.args.name holders its c.with-holders.result
     c.store.new.self c.store.ensures c.args.kind old.0 old.1 free c.without.result c.without.ensures

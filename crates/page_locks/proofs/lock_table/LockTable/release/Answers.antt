@@ -1,7 +1,7 @@
 use Rattle.std.proofs.Common.{[], ap, ◌∙◌}
 use Rattle.page_locks.specs.Table.{Table, without_lock}
 use Rattle.page_locks.proofs.SeatRowLemmas.{row_is, row-released}
-use Rattle.page_locks.proofs.TieLemmas.{IsSound-release, HasFewNames-tied, IsTied-release}
+use Rattle.page_locks.proofs.TieLemmas.{IsSoundTable-release, HasFewNames-tied, IsTied-release}
 use Rattle.page_locks.proofs.TableLemmas.{names_once}
 use Rattle.page_locks.proofs.lock_table.LockTable.release.Goals as goal
 
@@ -27,7 +27,7 @@ invariant_of-self c =
     let seat = c.args.seat in
     let is = rw (← c.self.view_is) at c.requires.seat in
     rw (row-released t seat is _ _ c.index_mut.ensures.value c.args.name c.remove.ensures)
-    (IsSound-release c.self.inside.slots t c.self.inside.looked c.self.invariant seat is c.args.name
+    (IsSoundTable-release c.self.inside.slots t c.self.inside.looked c.self.invariant seat is c.args.name
     (IsTied-release c.self.inside.slots t c.self.invariant.tied seat is c.args.name c.spot-spot.result.holders
     c.spot-spot.ensures.holders c.without.result c.store.new.self c.store.ensures c.without.ensures))
 

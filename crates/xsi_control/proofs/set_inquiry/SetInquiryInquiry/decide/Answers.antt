@@ -1,12 +1,8 @@
 use Rattle.std.proofs.Common.{◌≡◌, true, false, [], ◌∷◌, sym, ◌∙◌, arith}
-use Rattle.std.specs.Prelude.{nat_lt}
+use Rattle.xsi_control.specs.Words.{nat_lt, EINVAL, MAX_QBYTES, set_to, decides_refused}
 use Rattle.std.proofs.lemmas.Bool.Decides.{nat_tests}
 use Rattle.page_locks.specs.declared.lock.LockName.TheVariants as names
 use Rattle.queue_model.specs.declared.call.Call.TheVariants as calls
-use Rattle.queue_model.specs.declared.errno.Errno.TheVariants.{EINVAL}
-use Rattle.limits.specs.declared.TheConstants.{MAX_QBYTES}
-use Rattle.queue_model.specs.Rules.{set_to}
-use Rattle.xsi_inquiry.proofs.DecisionLemmas.{decides_refused}
 use Rattle.xsi_control.proofs.SettingLemmas.{refused_plan, set_answered, set_by_id, set_over, set_refused}
 use Rattle.xsi_control.proofs.set_inquiry.SetInquiryInquiry.decide.Goals as goal
 

@@ -1,13 +1,8 @@
 use Rattle.std.proofs.Common.{sym, ap, ◌∙◌, []}
 use Rattle.queue_model.specs.declared.call.Call.TheVariants as calls
-use Rattle.queue_model.specs.declared.errno.Errno.TheVariants.{EACCES}
-use Rattle.queue_model.specs.declared.permissions.Access.TheVariants.{Read}
+use Rattle.xsi_control.specs.Words.{EACCES, Read, lacks_access, stat_of, info_in, decides_left, decides_refused}
 use Rattle.queue_model.specs.declared.permissions.Permissions.{Permissions}
-use Rattle.queue_model.specs.Access.{lacks_access}
-use Rattle.queue_model.specs.Rules.{stat_of}
-use Rattle.type_chains.specs.Reading.{info_in}
 use Rattle.xsi_inquiry.specs.declared.verdict.Verdict.TheVariants as verdicts
-use Rattle.xsi_inquiry.proofs.DecisionLemmas.{decides_left, decides_refused}
 use Rattle.xsi_control.proofs.StatLemmas.{stat_refused, stat_told}
 use Rattle.xsi_control.proofs.stat_inquiry.StatInquiryInquiry.decide.Goals as goal
 

@@ -5,4 +5,4 @@ use Rattle.xsi_sweep.proofs.DecidingLemmas.{decides_removal}
 pub returns-in-Removing-clause-right : goal.returns-in-Removing-clause-right
 returns-in-Removing-clause-right c room s filed knows =
     let known = rw c.in-Removing.is at knows in
-    rw c.in-Removing.is (decides_removal c.args.self.now.caller c.args._id.now c.in-Removing.removal s filed known)
+    rw c.in-Removing.is (decides_removal c.args.self.now.caller c.args.id.now c.in-Removing.removal s filed known)

@@ -1,7 +1,6 @@
 use Rattle.xsi_sweep.proofs.stage.Stage.take.Goals as goal
 use Rattle.std.proofs.Common.{refl}
-use Rattle.queue_records.specs.Keys.{key_of_queue}
-use Rattle.xsi_inquiry.proofs.SeekLemmas.{clash, found_told, none_found, queue_is_taken}
+use Rattle.xsi_sweep.specs.Words.{key_of_queue, clash, found_told, none_found, queue_is_taken}
 use Rattle.xsi_sweep.proofs.DecidingLemmas.{counter_stands, same_counter}
 
 -- the queue has gone meanwhile

@@ -1,5 +1,5 @@
 use Rattle.xsi_sweep.proofs.turn.Turn.take.Goals as goal
-use Rattle.xsi_inquiry.proofs.SeekLemmas.{clash}
+use Rattle.xsi_sweep.specs.Words.{clash}
 use Rattle.xsi_sweep.proofs.TurnLemmas.{is_found, is_message, turn_taken}
 
 -- the Message stands

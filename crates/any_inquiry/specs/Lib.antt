@@ -1,0 +1,3 @@
+pub mod Anything
+pub mod Asked
+pub mod Words

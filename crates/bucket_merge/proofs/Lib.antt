@@ -1,0 +1,12 @@
+pub mod RowLemmas
+pub mod ArmLemmas
+pub mod BuddyFacts
+pub mod CompareLemmas
+pub mod ApproachLemmas
+pub mod CallerLemmas
+pub mod EntryLemmas
+pub mod FreeLemmas
+pub mod JoinLemmas
+pub mod LockArms
+pub mod LookLemmas
+pub mod MoveLemmas

@@ -1,0 +1,12 @@
+//! The second half of a Delete: the bucket of its key and that bucket's buddy become one, step by step.
+
+#![tactic(auto)]
+
+mod laws;
+mod look;
+mod merge;
+mod place;
+
+pub use laws::a_merge_keeps_what_its_caller_knows;
+pub use merge::Merge;
+pub use place::{Buddies, Joint, MergePlace, Own, Seen};

@@ -1,0 +1,212 @@
+-- What reading a bucket once more tells, and how far its records are tested.
+use Rattle.std.proofs.Common.{ℕ, zero, suc, ◌≡◌, ◌+◌, ◌<◌, ◌≤◌, ◌⊎◌, nat_lt, Bool, true, false, List, [], ◌∷◌, ◌++◌, length, map, take, drop, replicate, Result, Ok, Err, IfErr, refl, sym, ap, subst, ◌∙◌, inl, inr, arith}
+use Rattle.std.specs.List.{All, Contains}
+use Rattle.std.specs.Prelude.{slice_index, slice_index_or}
+use Rattle.std.proofs.Math.ListN.{get_or-eq_default}
+use Rattle.std.proofs.Math.Seq.{take-suc}
+use Rattle.std.proofs.lemmas.Bool.Decides.{nat_tests}
+use Rattle.std.proofs.lemmas.List.{get_or_append_left, get_or-replicate, get_or_default, length-replicate, take_all}
+use Rattle.std.proofs.lemmas.List.Elements.{All-nil, All-push}
+use Rattle.bucket_page.specs.declared.page.Malformed.{Malformed}
+use Rattle.bucket_page.specs.declared.page.PageKind.{PageKind}
+use Rattle.bucket_page.specs.declared.page.PageKind.TheVariants as kinds
+use Rattle.bucket_page.specs.Reading.{reading}
+use Rattle.file_walk.specs.Files.{said_by, pages_on}
+use Rattle.file_walk.specs.Readings.{IsPayloadOf}
+use Rattle.file_walk.proofs.PageLemmas.{said, is_malformed}
+use Rattle.file_walk.proofs.PagesLemmas.{pages_at, pages_length}
+use Rattle.file_check.specs.Words.{ROOT_PAGE, RecordKey, Bucket, Pair, Store, IsRightStructure, file_of, payload_on, has_bucket, bucket_at, bucket_of, is_bucket, CheckFault}
+use Rattle.file_check.specs.Fault.{IsOfMachineToo}
+use Rattle.file_check.specs.Records.{IsLivePage, IsFirstIn, IsWrongIn, AreRightIn, AreRightRecords, IsFirstWrongRecord}
+
+-- ---- a bucket is read once more
+
+module _ (content : List (List ℕ)) (n : ℕ) (payload : List ℕ) (live : IsLivePage content n)
+    (same : payload ≡ payload_on content n) where
+  read_so : IsPayloadOf content n payload
+  read_so = record { sealed = live.right.sealed; value = same }
+
+  page_is : (page : PageKind) → Ok page ≡ reading payload →
+      slice_index_or (pages_on content) n (kinds.Free 0) ≡ page
+  page_is page e =
+      pages_at content n (kinds.Free 0) live.behind live.within ∙ said content n payload read_so page e
+
+  -- what is read is the bucket of the file
+  pub bucket_again : (b : Bucket) → Ok (kinds.Bucket b) ≡ reading payload → bucket_at (file_of content) n ≡ b
+  bucket_again b e = ap bucket_of (page_is (kinds.Bucket b) e)
+
+  -- and nothing else
+  pub no_other : (page : PageKind) → Ok page ≡ reading payload → is_bucket page ≡ false → ⊥
+  no_other page e other =
+      let b : true ≡ false = sym live.live ∙ ap is_bucket (page_is page e) ∙ other in
+      absurd cc
+
+  pub no_refusal : (reason : Malformed) → Err reason ≡ reading payload → ⊥
+  no_refusal reason e =
+      let wrong = is_malformed content n payload read_so reason e in
+      let clash = sym live.right.formed ∙ wrong.2 in
+      absurd cc
+
+-- ---- the pages of a chain are buckets
+
+low_bucket : (content : List (List ℕ)) (n : ℕ) → n < ROOT_PAGE → has_bucket (file_of content) n ≡ false
+unfolding pages_on
+low_bucket content n small =
+    let d : PageKind = kinds.Directory [] in
+    let some : n < length (replicate ROOT_PAGE d) =
+    subst (λ m. n < m) (sym (length-replicate ROOT_PAGE d)) small in
+    ap is_bucket (get_or_append_left (replicate ROOT_PAGE d) (map said_by (drop ROOT_PAGE content)) (kinds.Free 0) n
+    some
+    ∙ get_or-replicate ROOT_PAGE n d (kinds.Free 0) small)
+
+past_bucket : (content : List (List ℕ)) (n : ℕ) → ROOT_PAGE ≤ length content → length content ≤ n →
+    has_bucket (file_of content) n ≡ false
+past_bucket content n long past =
+    ap is_bucket (get_or-eq_default (pages_on content) (kinds.Free 0)
+    (subst (λ m. m ≤ n) (sym (pages_length content long)) past))
+
+module _ (content : List (List ℕ)) (ns : List ℕ) (r : IsRightStructure content ns) (n : ℕ) (on : Contains ns n) where
+  live_bucket : has_bucket (file_of content) n ≡ true
+  live_bucket = r.chain.buckets n on
+
+  long : ROOT_PAGE ≤ length content
+  long = let h = r.pages.header in let least = h.in_range.least in let many = h.as_many in omega (arith, least, many)
+
+  behind_root : (b : Bool) → nat_lt n ROOT_PAGE ≡ b → ROOT_PAGE ≤ n
+  behind_root true less = (
+      let small : n < ROOT_PAGE = grind (arith, nat_tests) in
+      let clash : true ≡ false = sym live_bucket ∙ low_bucket content n small in
+      absurd cc)
+  behind_root false more = grind (arith, nat_tests)
+
+  within_file : (b : Bool) → nat_lt n (length content) ≡ b → n < length content
+  within_file true less = grind (arith, nat_tests)
+  within_file false more = (
+      let past : length content ≤ n = grind (arith, nat_tests) in
+      let clash : true ≡ false = sym live_bucket ∙ past_bucket content n long past in
+      absurd cc)
+
+  pub live_page : IsLivePage content n
+  live_page =
+      let behind = behind_root (nat_lt n ROOT_PAGE) refl in
+      let within = within_file (nat_lt n (length content)) refl in
+      record {
+        behind = behind;
+        within = within;
+        right = r.pages.pages n (omega (arith, behind)) within;
+        live = live_bucket;
+      }
+
+-- what is wrong with what was read is wrong with the bucket of the file
+pub wrong_in : (hash : RecordKey → ℕ) (page : ℕ) (b c : Bucket) (result : Result Unit CheckFault) → b ≡ c →
+    IfErr result (IsWrongIn hash b page) →
+    IfErr result (λ fault. IsOfMachineToo fault ⊎ IsWrongIn hash c page fault)
+wrong_in hash page b c (Ok u) same h = tt
+wrong_in hash page b c (Err fault) same h = inr (subst (λ (x : Bucket). IsWrongIn hash x page fault) same h)
+
+-- a bucket of the file is no page past its end
+pub not_past : (content : List (List ℕ)) (n : ℕ) (fault : CheckFault) → IsLivePage content n →
+    IsOfMachineToo fault ⊎ (length content ≤ n) → IsOfMachineToo fault
+not_past content n fault live (inl machine) = machine
+not_past content n fault live (inr past) = absurd (let w = live.within in omega (arith, w, past))
+
+-- ---- record by record
+
+-- the records before a slot are right, and these are left
+pub record AreTestedTo (IsRight : Pair → Type 0) (ps left : List Pair) : Type 0 where
+  pub slot : ℕ
+  pub before : All IsRight (take slot ps)
+  pub left_are : left ≡ drop slot ps
+
+drop_next : (ps : List Pair) (slot : ℕ) (p : Pair) (rest : List Pair) → drop slot ps ≡ p ∷ rest →
+    (slot < length ps) × ((d : Pair) → slice_index_or ps slot d ≡ p) × (drop (suc slot) ps ≡ rest)
+drop_next [] zero p rest e = absurd cc
+drop_next [] (suc slot) p rest e = absurd cc
+drop_next (q ∷ qs) zero p rest e =
+    let head : q ≡ p = cc in let tail : qs ≡ rest = cc in (omega arith, (λ d. head), tail)
+drop_next (q ∷ qs) (suc slot) p rest e =
+    let next = drop_next qs slot p rest e in (omega (arith, next.0), next.1, next.2)
+
+drop_end : (ps : List Pair) (slot : ℕ) → drop slot ps ≡ [] → length ps ≤ slot
+drop_end [] slot e = omega arith
+drop_end (q ∷ qs) zero e = absurd cc
+drop_end (q ∷ qs) (suc slot) e = let rest = drop_end qs slot e in omega (arith, rest)
+
+module _ (IsRight : Pair → Type 0) (ps : List Pair) where
+  pub tested_none : (left : List Pair) → left ≡ ps → AreTestedTo IsRight ps left
+  tested_none left same = record { slot = 0; before = All-nil IsRight; left_are = same }
+
+  pub tested_more : (left rest : List Pair) (p : Pair) → AreTestedTo IsRight ps left →
+      left ≡ p ∷ rest → IsRight p → AreTestedTo IsRight ps rest
+  tested_more left rest p so step good =
+      let slot : ℕ = so.slot in
+      let next = drop_next ps slot p rest (sym so.left_are ∙ step) in
+      let grown : take (suc slot) ps ≡ take slot ps ++ p ∷ [] =
+      take-suc ps slot p next.0 ∙ ap (λ x. take slot ps ++ x ∷ []) (next.1 p) in
+      record {
+        slot = suc slot;
+        before = subst (All IsRight) (sym grown) (All-push IsRight (take slot ps) p so.before good);
+        left_are = sym next.2;
+      }
+
+  pub tested_all : (left : List Pair) → AreTestedTo IsRight ps left → left ≡ [] → All IsRight ps
+  tested_all left so ended =
+      subst (All IsRight) (take_all so.slot ps (drop_end ps so.slot (sym so.left_are ∙ ended))) so.before
+
+pub tested_wrong : (b : Bucket) (IsRight IsWrong : Pair → Type 0) (left rest : List Pair) (p : Pair) →
+    AreTestedTo IsRight b.records left → left ≡ p ∷ rest → IsWrong p → IsFirstIn b IsRight IsWrong p.key
+tested_wrong b IsRight IsWrong left rest p so step bad =
+    let next = drop_next b.records so.slot p rest (sym so.left_are ∙ step) in
+    record {
+      slot = so.slot;
+      within = next.0;
+      keyed = λ d. ap (λ (q : Pair). q.key) (next.1 d);
+      before = so.before;
+      wrong = λ d. subst IsWrong (sym (next.1 d)) bad;
+    }
+
+-- ---- page by page
+
+-- a device that was only read
+pub record IsStill {D : Type 0} (content : D → List (List ℕ)) (honest : D → Bool) (count : D → ℕ) (old now : D) : Type
+    0 where
+  pub same : content now ≡ content old
+  pub honesty : honest now ≡ honest old
+  pub later : count old ≤ count now
+
+module _ {D : Type 0} (content : D → List (List ℕ)) (honest : D → Bool) (count : D → ℕ) where
+  pub still_none : (old : D) → IsStill content honest count old old
+  still_none old = record { same = refl; honesty = refl; later = omega arith }
+
+  pub still_more : (old now next : D) → IsStill content honest count old now → content next ≡ content now →
+      honest next ≡ honest now → count now ≤ count next → IsStill content honest count old next
+  still_more old now next h same honesty later = record {
+    same = same ∙ h.same;
+    honesty = honesty ∙ h.honesty;
+    later = let before = h.later in omega (arith, before, later);
+  }
+
+-- a page that was read from a list stands there
+pub stands_on : (ns : List ℕ) (i : ℕ) → i < length ns → Contains ns (slice_index ns i)
+stands_on ns i within = (i, within, get_or_default ns i (slice_index ns i) 0 within)
+
+module _ (hash : RecordKey → ℕ) (s : Store) (ns : List ℕ) where
+  pub right_none : AreRightRecords hash s (take 0 ns)
+  right_none = All-nil (AreRightIn hash s)
+
+  pub right_next : (i : ℕ) → i < length ns → AreRightRecords hash s (take i ns) → AreRightIn hash s (slice_index ns i) →
+      AreRightRecords hash s (take (i + 1) ns)
+  right_next i within before here =
+      let one : i + 1 ≡ suc i = omega arith in
+      subst (All (AreRightIn hash s)) (sym (ap (λ n. take n ns) one ∙ take-suc ns i 0 within))
+      (All-push (AreRightIn hash s) (take i ns) (slice_index ns i) before here)
+
+  pub right_end : (i : ℕ) → length ns ≤ i → AreRightRecords hash s (take i ns) → AreRightRecords hash s ns
+  right_end i ended before = subst (All (AreRightIn hash s)) (take_all i ns ended) before
+
+  pub wrong_next : (i : ℕ) (fault : CheckFault) → i < length ns → AreRightRecords hash s (take i ns) →
+      IsOfMachineToo fault ⊎ IsWrongIn hash (bucket_at s (slice_index ns i)) (slice_index ns i) fault →
+      IsOfMachineToo fault ⊎ IsFirstWrongRecord hash s ns fault
+  wrong_next i fault within before (inl machine) = inl machine
+  wrong_next i fault within before (inr wrong) =
+      inr (record { place = i; within = within; before = before; wrong = wrong })

@@ -1,0 +1,154 @@
+-- A right structure whose records are all right is a sound file; and nothing is wrong with it.
+use Rattle.std.proofs.Common.{ℕ, ◌≡◌, ◌==◌, Bool, true, false, List, [], ◌∷◌, Option, Some, None, if◌then◌else◌, ◌⊎◌, inl, inr, refl, sym, ap, subst, ◌∙◌}
+use Rattle.std.specs.List.{All, Contains}
+use Rattle.std.specs.Prelude.{slice_index, slice_index_or}
+use Rattle.directory.specs.declared.layout.TheConstants.{DIRECTORY}
+use Rattle.bucket_page.specs.declared.layout.TheConstants.{BUCKET, TOMBSTONE}
+use Rattle.bucket_page.specs.declared.page.Malformed.{Malformed}
+use Rattle.bucket_page.specs.declared.page.Malformed.TheVariants as reasons
+use Rattle.bucket_page.specs.declared.page.PageKind.{PageKind}
+use Rattle.bucket_page.specs.declared.page.PageKind.TheVariants as kinds
+use Rattle.bucket_page.specs.Reading as reading
+use Rattle.bucket_page.specs.Records.{ascend}
+use Rattle.directory.specs.Pages.{entries_at}
+use Rattle.fields.specs.Numbers.{four_at}
+use Rattle.file_walk.specs.Files.{said_by, pages_on}
+use Rattle.file_walk.specs.Laws.{IsQuietFile}
+use Rattle.file_walk.specs.Order.{after_reading}
+use Rattle.file_walk.proofs.PagesLemmas.{pages_at}
+use Rattle.file_walk.proofs.SoundLemmas.{structure_sound}
+use Rattle.file_walk.proofs.FaultLemmas.{one_chain, right_has_no_fault as structure_has_no_fault}
+use Rattle.hash_file.specs.Chain.{IsPlaced}
+use Rattle.file_check.specs.declared.fault.CheckFault.TheVariants as faults
+use Rattle.file_check.specs.Words.{RecordKey, Bucket, Pair, Store, IsRightStructure, file_of, payload_on, said_on, bucket_at, bucket_of, is_bucket, CheckFault}
+use Rattle.file_check.specs.Records.{IsLivePage, IsRightRecord, IsFirstIn, IsWrongIn, AreRightIn, AreRightRecords, IsFirstWrongRecord}
+use Rattle.file_check.specs.Fault.{IsOfMachineToo}
+use Rattle.file_check.specs.Right.{IsRightFile, IsFirstFault, IsFirstWrongThing, IsWrongAmongRecords}
+use Rattle.file_check.proofs.RecordLemmas.{live_page}
+
+-- ---- the keys of a page ascend, as its spelling says
+
+said_is : (content : List (List ℕ)) (n : ℕ) → said_on content n ≡ reading.page_at (payload_on content n)
+unfolding said_by
+said_is content n = refl
+
+no_fault : (fault : Option Malformed) (b : Bool) → after_reading fault b ≡ None → fault ≡ None
+no_fault None b e = refl
+no_fault (Some reason) b e = absurd cc
+
+fourth : (a b c d e : Bool) →
+    reading.first_failed ((a, reasons.Depth) ∷ (b, reasons.Pattern) ∷ (c, reasons.Lengths) ∷ (d, reasons.Order)
+    ∷ (e, reasons.Padding) ∷ []) ≡ None → d ≡ true
+fourth a b c true e h = refl
+fourth false b c false e h = absurd cc
+fourth true false c false e h = absurd cc
+fourth true true false false e h = absurd cc
+fourth true true true false e h = absurd cc
+
+-- the first byte of a bucket
+of_kind : (p : List ℕ) (a b c : Bool) →
+    (if a then reading.bucket_fault p else if b then reading.directory_fault p else reading.link_page_fault p) ≡ None →
+    is_bucket (if a then kinds.Bucket (reading.bucket_at p)
+    else if b then kinds.Directory (entries_at p)
+    else if c then kinds.Tombstone (four_at 4 p) else kinds.Free (four_at 4 p)) ≡ true →
+    (reading.bucket_fault p ≡ None)
+    × ((if a then kinds.Bucket (reading.bucket_at p)
+    else if b then kinds.Directory (entries_at p)
+    else if c then kinds.Tombstone (four_at 4 p) else kinds.Free (four_at 4 p))
+    ≡ kinds.Bucket (reading.bucket_at p))
+of_kind p true b c fault live = (fault, refl)
+of_kind p false true c fault live = absurd cc
+of_kind p false false true fault live = absurd cc
+of_kind p false false false fault live = absurd cc
+
+page_ascends : (p : List ℕ) → reading.fault_of p ≡ None → is_bucket (reading.page_at p) ≡ true →
+    ascend (bucket_of (reading.page_at p)).records ≡ true
+page_ascends p fault live =
+    let is = of_kind p (reading.kind_at p == BUCKET) (reading.kind_at p == DIRECTORY) (reading.kind_at p == TOMBSTONE)
+    fault live in
+    ap (λ (page : PageKind). ascend (bucket_of page).records) is.1
+    ∙ fourth (reading.has_depth p) (reading.has_pattern p) (reading.has_lengths p) (reading.has_order p)
+    (reading.has_padding p) is.0
+
+live_ascends : (content : List (List ℕ)) (n : ℕ) → IsLivePage content n →
+    ascend (bucket_at (file_of content) n).records ≡ true
+live_ascends content n live =
+    let is : slice_index_or (pages_on content) n (kinds.Free 0) ≡ reading.page_at (payload_on content n) =
+    pages_at content n (kinds.Free 0) live.behind live.within ∙ said_is content n in
+    ap (λ (page : PageKind). ascend (bucket_of page).records) is
+    ∙ page_ascends (payload_on content n) (no_fault _ _ live.right.formed) (sym (ap is_bucket is) ∙ live.live)
+
+-- ---- a right file
+
+module _ (hash : RecordKey → ℕ) (content : List (List ℕ)) (ns : List ℕ) (r : IsRightStructure content ns)
+    (right : AreRightRecords hash (file_of content) ns) where
+  placed : (n : ℕ) → Contains ns n → IsPlaced hash (bucket_at (file_of content) n)
+  placed n on =
+      let here : AreRightIn hash (file_of content) n =
+      subst (AreRightIn hash (file_of content)) on.2 (right on.0 n on.1) in
+      record {
+        within = λ i d w. (here i d w).at_home;
+        ascends = live_ascends content n (live_page content ns r n on);
+      }
+
+  pub right_sound : IsQuietFile hash (file_of content) ns
+  right_sound = structure_sound hash content ns r placed
+
+-- ---- nothing is wrong with records that are right
+
+none_first : (hash : RecordKey → ℕ) (b : Bucket) (IsWrong : Pair → Type 0) (key : RecordKey) →
+    ((p : Pair) → IsRightRecord hash b p → IsWrong p → ⊥) → All (IsRightRecord hash b) b.records →
+    IsFirstIn b (IsRightRecord hash b) IsWrong key → ⊥
+none_first hash b IsWrong key clash all w =
+    let d : Pair = record { key = key; value = [] } in
+    clash (slice_index_or b.records w.slot d) (all w.slot d w.within) (w.wrong d)
+
+pub right_not_wrong : (hash : RecordKey → ℕ) (s : Store) (ns : List ℕ) (fault : CheckFault) →
+    AreRightRecords hash s ns → IsFirstWrongRecord hash s ns fault → ⊥
+right_not_wrong hash s ns fault right w = by_fault fault w.wrong
+  where
+    n : ℕ
+    n = slice_index ns w.place
+
+    here : AreRightIn hash s n
+    here = right w.place 0 w.within
+
+    by_fault : (fault : CheckFault) → IsWrongIn hash (bucket_at s n) n fault → ⊥
+    by_fault (faults.Misplaced p kind queue number) h =
+        none_first hash (bucket_at s n) _ _ (λ q good bad. bad.elsewhere good.at_home) here h.1
+    by_fault (faults.BadRecord p kind queue number) h =
+        none_first hash (bucket_at s n) _ _ (λ q good bad. bad.senseless good.spelled) here h.1
+    by_fault (faults.Structure f) h = absurd h
+    by_fault (faults.Changed p) h = absurd h
+
+-- a file has one chain
+on_chain : (hash : RecordKey → ℕ) (content : List (List ℕ)) (ns : List ℕ) (fault : CheckFault) →
+    IsRightStructure content ns → IsWrongAmongRecords hash content fault →
+    IsFirstWrongRecord hash (file_of content) ns fault
+on_chain hash content ns fault r w =
+    subst (λ (ms : List ℕ). IsFirstWrongRecord hash (file_of content) ms fault)
+    (one_chain (file_of content) w.chain ns w.structure.chain r.chain) w.wrong
+
+pub right_has_no_fault : (hash : RecordKey → ℕ) (content : List (List ℕ)) (ns : List ℕ) (fault : CheckFault) →
+    IsRightFile hash content ns → IsFirstWrongThing hash content fault → ⊥
+right_has_no_fault hash content ns (faults.Structure fault) right h =
+    structure_has_no_fault content ns fault right.structure h
+right_has_no_fault hash content ns (faults.Changed page) right h = absurd h
+right_has_no_fault hash content ns (faults.Misplaced page kind queue number) right h =
+    right_not_wrong hash (file_of content) ns (faults.Misplaced page kind queue number) right.records
+    (on_chain hash content ns (faults.Misplaced page kind queue number) right.structure h)
+right_has_no_fault hash content ns (faults.BadRecord page kind queue number) right h =
+    right_not_wrong hash (file_of content) ns (faults.BadRecord page kind queue number) right.records
+    (on_chain hash content ns (faults.BadRecord page kind queue number) right.structure h)
+
+-- what is answered of the records, once the structure is right
+pub records_fault : (hash : RecordKey → ℕ) (content : List (List ℕ)) (ns : List ℕ) (fault : CheckFault) →
+    IsRightStructure content ns → IsOfMachineToo fault ⊎ IsFirstWrongRecord hash (file_of content) ns fault →
+    IsFirstFault hash content fault
+records_fault hash content ns fault r (inl machine) = inl machine
+records_fault hash content ns (faults.Structure fault) r (inr w) = absurd w.wrong
+records_fault hash content ns (faults.Changed page) r (inr w) = absurd w.wrong
+records_fault hash content ns (faults.Misplaced page kind queue number) r (inr w) =
+    inr (record { chain = ns; structure = r; wrong = w })
+records_fault hash content ns (faults.BadRecord page kind queue number) r (inr w) =
+    inr (record { chain = ns; structure = r; wrong = w })

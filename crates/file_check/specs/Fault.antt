@@ -1,0 +1,22 @@
+-- The numbers of faults.
+use Rattle.std.specs.Prelude.{ℕ}
+use Rattle.faults.specs.declared.TheConstants.{BAD_RECORD, MALFORMED}
+use Rattle.file_walk.specs.Fault as walk
+use Rattle.file_walk.specs.Order.{IsOfMachine}
+use Rattle.file_check.specs.declared.fault.TheConstants.{STRAY}
+use Rattle.file_check.specs.Words.{CheckFault}
+use Rattle.file_check.specs.declared.fault.CheckFault.TheVariants as faults
+
+-- the number that a program prints for a fault
+abbrev pub number_of : CheckFault → ℕ
+number_of (faults.Structure fault) = walk.number_of fault
+number_of (faults.Changed page) = MALFORMED
+number_of (faults.Misplaced page kind queue number) = STRAY
+number_of (faults.BadRecord page kind queue number) = BAD_RECORD
+
+-- a transfer failed, or a growth was refused: nothing is said of the file
+abbrev pub IsOfMachineToo : CheckFault → Type 0
+IsOfMachineToo (faults.Structure fault) = IsOfMachine fault
+IsOfMachineToo (faults.Changed page) = ⊥
+IsOfMachineToo (faults.Misplaced page kind queue number) = ⊥
+IsOfMachineToo (faults.BadRecord page kind queue number) = ⊥

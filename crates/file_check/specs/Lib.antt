@@ -1,0 +1,4 @@
+pub mod Words
+pub mod Fault
+pub mod Records
+pub mod Right

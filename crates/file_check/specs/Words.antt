@@ -1,0 +1,14 @@
+-- The words of the crates below that statements of this crate use.
+pub use Rattle.bucket_page.specs.declared.record_key.RecordKey.{RecordKey}
+pub use Rattle.bucket_page.specs.Bucket.{Bucket}
+pub use Rattle.bucket_page.specs.Records.{Pair, pair}
+pub use Rattle.directory.specs.declared.layout.TheConstants.{ROOT_PAGE}
+pub use Rattle.file_walk.specs.declared.fault.StructureFault.{StructureFault}
+pub use Rattle.file_walk.specs.Files.{file_of, page_on, payload_on, said_on}
+pub use Rattle.file_walk.specs.Structure.{IsRightStructure, IsStructureOf}
+pub use Rattle.hash_file.specs.Store.{Store, has_bucket, bucket_at, bucket_of, is_bucket, range_of, records_at}
+pub use Rattle.hash_file.specs.Chain.{IsPlaced}
+pub use Rattle.positions.specs.Ranges.{Covers}
+pub use Rattle.queue_records.specs.declared.record.Record.{Record}
+pub use Rattle.queue_records.specs.Records.{Spells}
+pub use Rattle.file_check.specs.declared.fault.CheckFault.{CheckFault}

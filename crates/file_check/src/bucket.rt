@@ -1,0 +1,112 @@
+//! The buckets of a file are read once more, and their records tested.
+
+ghost use Rattle.std.specs.Prelude.{◌≡◌, ◌≤◌, ◌⊎◌, length, IsTrue, IfErr, OnOk};
+ghost use Rattle.std.specs.List.{All};
+ghost use Rattle.positions.specs.declared.pseudokey.TheConstants.{PSEUDOKEY_BITS};
+ghost use Rattle.file_check.specs.Fault.{IsOfMachineToo};
+ghost use Rattle.file_check.specs.Records.{AreRightIn, HasCheckCause, IsLivePage, IsRightRecord, IsWrongIn};
+ghost use Rattle.file_check.specs.Words.{bucket_at, file_of, payload_on};
+
+use crate::fault::CheckFault;
+use bucket_page::{BucketView, PageKind, PseudoKey, RecordKey, read_page};
+use file_walk::StructureFault;
+use page_device::{DeviceFault, PAGE_BYTES, PAYLOAD_BYTES, PageDevice, Payload};
+use positions::Range;
+use queue_records::Record;
+
+/// Reads a page whose digest was tested before.
+pub(crate) fn read_again<D: PageDevice>(
+    device: &mut D,
+    page: u32,
+    payload: &mut Payload,
+) -> Result<(), CheckFault>
+    ensures ok { IsTrue (D.is_honest device.old) →
+        OnOk result (payload.new ≡ payload_on (D.content device.old) page) }
+    ensures err { IfErr result (λ fault.
+        IsOfMachineToo fault ⊎ (length (D.content device.old) ≤ page)) }
+    ensures same { D.content device.new ≡ D.content device.old }
+    ensures honest { D.is_honest device.new ≡ D.is_honest device.old }
+    ensures cause { HasCheckCause (D.fault_count device.old) (D.fault_count device.new) result }
+{
+    let mut bytes = [0; PAGE_BYTES];
+    match device.read(page, &mut bytes) {
+        Ok(()) => {}
+        Err(DeviceFault::PastEnd) => return Err(CheckFault::Changed { page }),
+        Err(_) => return Err(CheckFault::Structure(StructureFault::Device)),
+    }
+    let (front, _) = bytes.split_at(PAYLOAD_BYTES);
+    payload.copy_from_slice(front);
+    Ok(())
+}
+
+/// Tests the records of the bucket on a page of the chain.
+pub(crate) fn test_page<D: PageDevice, K: PseudoKey>(
+    device: &mut D,
+    keys: &K,
+    page: u32,
+) -> Result<(), CheckFault>
+    requires { IsTrue (D.is_honest device.old) → IsLivePage (D.content device.old) page }
+    ensures ok { IsTrue (D.is_honest device.old) → OnOk result
+        (AreRightIn (K.of_key keys.now) (file_of (D.content device.old)) page) }
+    ensures err { IsTrue (D.is_honest device.old) → IfErr result (λ fault. IsOfMachineToo fault
+        ⊎ IsWrongIn (K.of_key keys.now) (bucket_at (file_of (D.content device.old)) page)
+        page fault) }
+    ensures same { D.content device.new ≡ D.content device.old }
+    ensures honest { D.is_honest device.new ≡ D.is_honest device.old }
+    ensures cause { HasCheckCause (D.fault_count device.old) (D.fault_count device.new) result }
+{
+    let mut payload = [0; PAYLOAD_BYTES];
+    read_again(device, page, &mut payload)?;
+    match read_page(&payload) {
+        Ok(PageKind::Bucket(bucket)) => test_bucket(keys, page, &bucket),
+        Ok(PageKind::Directory(_)) => Err(CheckFault::Changed { page }),
+        Ok(PageKind::Tombstone { .. }) => Err(CheckFault::Changed { page }),
+        Ok(PageKind::Free { .. }) => Err(CheckFault::Changed { page }),
+        Err(_) => Err(CheckFault::Changed { page }),
+    }
+}
+
+/// Tests the records of a bucket, from the lowest key on.
+fn test_bucket<K: PseudoKey>(keys: &K, page: u32, bucket: &BucketView) -> Result<(), CheckFault>
+    requires { bucket.now.depth ≤ PSEUDOKEY_BITS }
+    ensures ok { OnOk result
+        (All (IsRightRecord (K.of_key keys.now) bucket.now) bucket.now.records) }
+    ensures err { IfErr result (IsWrongIn (K.of_key keys.now) bucket.now page) }
+{
+    let range = Range {
+        depth: bucket.depth(),
+        pattern: bucket.pattern(),
+    };
+    for record in bucket.records() {
+        if !range.covers(keys.of(&record.key)) {
+            return Err(misplaced(page, &record.key));
+        }
+        match Record::decode(&record.key, record.value) {
+            Ok(_) => {}
+            Err(_) => return Err(bad_record(page, &record.key)),
+        }
+    }
+    Ok(())
+}
+
+fn misplaced(page: u32, key: &RecordKey) -> CheckFault
+    ensures { result ≡ CheckFault.Misplaced page key.now.kind key.now.queue key.now.number }
+{
+    CheckFault::Misplaced {
+        page,
+        kind: key.kind,
+        queue: key.queue,
+        number: key.number,
+    }
+}
+
+fn bad_record(page: u32, key: &RecordKey) -> CheckFault
+    ensures { result ≡ CheckFault.BadRecord page key.now.kind key.now.queue key.now.number }
+{
+    CheckFault::BadRecord {
+        page,
+        kind: key.kind,
+        queue: key.queue,
+        number: key.number,
+    }
+}

@@ -1,0 +1,64 @@
+//! What is wrong with a file.
+
+ghost use Rattle.std.specs.Prelude.{◌≡◌};
+ghost use Rattle.file_check.specs.Fault.{number_of};
+
+use file_walk::StructureFault;
+use thiserror::Error;
+
+/// The number of a record that no system has there.
+pub const STRAY: u8 = 74;
+
+/// The first thing that is wrong with a file, and where it stands.
+#[derive(Clone, Copy, Debug, PartialEq, Eq, Error)]
+pub enum CheckFault {
+    /// It is wrong with the structure.
+    #[error(transparent)]
+    Structure(StructureFault),
+    /// A page reads otherwise than when it was tested.
+    #[error("page {page} has changed while the file was checked")]
+    Changed {
+        page: u32,
+    },
+    /// The pseudokey of a record is not in the range of its bucket.
+    #[error("the record of kind {kind}, queue {queue}, number {number} on page {page} belongs in another bucket")]
+    Misplaced {
+        page: u32,
+        kind: u8,
+        queue: u32,
+        number: u64,
+    },
+    /// A key and a value are no record's.
+    #[error("the record of kind {kind}, queue {queue}, number {number} on page {page} has no such value")]
+    BadRecord {
+        page: u32,
+        kind: u8,
+        queue: u32,
+        number: u64,
+    },
+}
+
+impl CheckFault {
+    /// The number that a program prints.
+    pub fn number(self) -> u8
+        ensures { result ≡ number_of self }
+    {
+        match self {
+            CheckFault::Structure(fault) => fault.number(),
+            CheckFault::Changed { .. } => faults::MALFORMED,
+            CheckFault::Misplaced { .. } => STRAY,
+            CheckFault::BadRecord { .. } => faults::BAD_RECORD,
+        }
+    }
+}
+
+impl From<StructureFault> for CheckFault {
+    ghost use Rattle.std.specs.Prelude.{◌≡◌};
+    ghost use Rattle.file_check.specs.declared.fault.CheckFault.TheVariants.{Structure};
+
+    ghost from_gives = { λ fault given. given ≡ Structure fault };
+
+    fn from(fault: StructureFault) -> CheckFault {
+        CheckFault::Structure(fault)
+    }
+}

@@ -1,0 +1,13 @@
+//! Laws of right files. The functions do nothing; their contracts are the laws.
+
+ghost use Rattle.file_check.specs.Right.{RightHasNoFault, RightIsSound};
+
+/// A file whose structure and records are right is sound and quiet, and its directory is exact.
+pub fn a_right_file_is_sound()
+    ensures { RightIsSound }
+{}
+
+/// Nothing that is found wrong is wrong with a right file: what is answered has its cause.
+pub fn a_right_file_has_no_fault()
+    ensures { RightHasNoFault }
+{}

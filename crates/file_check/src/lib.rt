@@ -1,0 +1,14 @@
+//! A file is checked before it is used: its structure, and then each record by itself.
+
+#![tactic(auto)]
+
+mod bucket;
+mod check;
+mod fault;
+mod laws;
+mod records;
+
+pub use check::check_records;
+pub use fault::CheckFault;
+pub use laws::{a_right_file_has_no_fault, a_right_file_is_sound};
+pub use records::test_records;

@@ -1,0 +1,147 @@
+-- The caller's names are held as before, and the file holds what it held, but at a key that is written.
+use Rattle.std.proofs.Common.{◌≡◌, refl, sym, ap, ◌∙◌, subst, ℕ, List, [], ◌∷◌, Option, Some, None, IsSome, ◌==◌, Bool, true, false, if◌then◌else◌}
+use Rattle.step_rules.specs.Words.{LockName, Key, Counter, Queue}
+use Rattle.page_locks.specs.Locks.{is_same}
+use Rattle.bucket_page.specs.Keys.{is_same as is_same_key}
+use Rattle.page_locks.proofs.RowLemmas.{kind_of-append, first_kind}
+use Rattle.page_locks.proofs.TableLemmas.{row_of-same}
+use Rattle.file_pages.specs.declared.fault.FileFault.{FileFault}
+use Rattle.hash_file.specs.Kept.{ChangesRecord, KeepsContents}
+use Rattle.hash_file.specs.Changes.{key_of, value_after}
+use Rattle.queue_records.specs.declared.layout.TheConstants.{COUNTER, KEY}
+use Rattle.step_rules.specs.declared.progress.Progress.TheVariants as answers
+use Rattle.step_rules.specs.Turns.{TurnsAt, WritesAsked}
+use Rattle.step_rules.proofs.TurnLemmas.{is_of_its_kind}
+use Rattle.step_rules.proofs.KindLemmas.{kind_keeps_contents}
+use Rattle.step_rules.proofs.RecordStepLemmas.{changes_just}
+use Rattle.stale_search.specs.declared.place.SearchPlace.{SearchPlace}
+use Rattle.stale_search.specs.declared.place.SearchPlace.TheVariants.{GrantDirectory, ReadDepth, ReadEntry, GrantPage, ReleaseDirectory, Look as AtLook, Hop, Found}
+use Rattle.stale_search.specs.Searches.{locks_at}
+use Rattle.record_file.specs.Words.{RecordKey, RecordWrite, PoolState, Table, Lock, LockKind, Read, Selective, Directory, Page, Change, row_of, held, kind_of, lock_of, guard_of, contents, Progress, Moved, WriteRecord, World, IsHeld, Turn, IsSoundWorld, is_fault, world, SearchView, search_locks, in_directory, on_page}
+use Rattle.record_file.specs.Callers.{IsToldWritten, KeepsNames, MovesRow, StaysTold}
+use Rattle.record_file.specs.Finds.{FindView, find_locks}
+use Rattle.record_file.specs.Replaces.{locks_in as replace_locks_in}
+use Rattle.record_file.specs.Removals.{locks_in as removal_locks_in}
+use Rattle.record_file.specs.FirstTries.{locks_in as first_try_locks_in}
+use Rattle.record_file.specs.declared.replace.ReplaceStage.{ReplaceStage}
+use Rattle.record_file.specs.declared.replace.ReplaceStage.TheVariants as replaces
+use Rattle.record_file.specs.declared.removal.RemovalStage.{RemovalStage}
+use Rattle.record_file.specs.declared.removal.RemovalStage.TheVariants as removals
+use Rattle.record_file.specs.declared.first_try.FirstTryStage.{FirstTryStage}
+use Rattle.record_file.specs.declared.first_try.FirstTryStage.TheVariants as tries
+
+first : (o : Option LockKind) → first_kind o None ≡ o
+first None = refl
+first (Some k) = refl
+
+-- a record is guarded by a name that is neither the directory's nor a page's
+record IsAside (name : LockName) : Type 0 where
+  pub not_directory : is_same Directory name ≡ false
+  pub not_page : (n : ℕ) → is_same (Page n) name ≡ false
+
+guard_aside : (key : RecordKey) → IsAside (guard_of key)
+guard_aside key = by (key.kind == COUNTER) (key.kind == KEY)
+  where
+    by : (a b : Bool) → IsAside (if a then Counter else if b then Key key.number else Queue key.queue)
+    by true b = record { not_directory = refl; not_page = λ n. refl }
+    by false true = record { not_directory = refl; not_page = λ n. refl }
+    by false false = record { not_directory = refl; not_page = λ n. refl }
+
+directory_aside : KeepsNames (in_directory Read)
+directory_aside before key =
+    kind_of-append before (lock_of Directory Read ∷ []) (guard_of key)
+    ∙ rw ((guard_aside key).not_directory) (first (kind_of before (guard_of key)))
+
+page_aside : (n : ℕ) (kind : LockKind) → KeepsNames (on_page n kind)
+page_aside n kind before key =
+    kind_of-append before (lock_of (Page n) kind ∷ []) (guard_of key)
+    ∙ rw ((guard_aside key).not_page n) (first (kind_of before (guard_of key)))
+
+place_aside : (place : SearchPlace) (kind : LockKind) → KeepsNames (locks_at place kind)
+place_aside GrantDirectory kind before key = refl
+place_aside ReadDepth kind before key = directory_aside before key
+place_aside (ReadEntry depth) kind before key = directory_aside before key
+place_aside (GrantPage n) kind before key = directory_aside before key
+place_aside (ReleaseDirectory n) kind before key =
+    page_aside n kind (in_directory Read before) key ∙ directory_aside before key
+place_aside (AtLook n) kind before key = page_aside n kind before key
+place_aside (Hop n) kind before key = page_aside n kind before key
+place_aside (Found n found) kind before key = page_aside n kind before key
+
+search_aside : (v : SearchView) → KeepsNames (search_locks v)
+search_aside v before key = place_aside v.place v.kind before key
+
+pub find_aside : (v : FindView) → KeepsNames (find_locks v)
+find_aside v before key = by v.ended
+  where
+    by : (b : Bool) → kind_of (if b then before else search_locks v.search before) (guard_of key)
+        ≡ kind_of before (guard_of key)
+    by true = refl
+    by false = search_aside v.search before key
+
+pub replace_aside : (stage : ReplaceStage) (v : SearchView) → KeepsNames (replace_locks_in stage v)
+replace_aside replaces.Searching v before key = search_aside v before key
+replace_aside (replaces.Written n) v before key = page_aside n Selective before key
+replace_aside replaces.Ended v before key = refl
+
+pub removal_aside : (stage : RemovalStage) (v : SearchView) → KeepsNames (removal_locks_in stage v)
+removal_aside removals.Searching v before key = search_aside v before key
+removal_aside (removals.Written n due) v before key = page_aside n Selective before key
+removal_aside (removals.Ended due) v before key = refl
+
+pub first_try_aside : (stage : FirstTryStage) (v : SearchView) → KeepsNames (first_try_locks_in stage v)
+first_try_aside tries.Searching v before key = search_aside v before key
+first_try_aside (tries.Written n) v before key = page_aside n Selective before key
+first_try_aside (tries.Ended tried) v before key = refl
+
+-- ---- what is known
+
+module _ (hash : RecordKey → ℕ) (seat : ℕ) (did : Progress FileFault) (pool : PoolState) (locks locks' : Table)
+    (change : Change) (old_locks new_locks : List Lock → List Lock)
+    (moves : MovesRow hash seat did pool locks locks' change old_locks new_locks) where
+  held_still : (key : RecordKey) → IsHeld locks seat (guard_of key) → IsHeld locks' seat (guard_of key)
+  held_still key there =
+      let row' : row_of locks' seat ≡ new_locks moves.before =
+      ap (λ (t : Table). row_of t seat) moves.is ∙ row_of-same locks seat (new_locks moves.before) moves.seated in
+      let same : held locks seat (guard_of key) ≡ held locks' seat (guard_of key) =
+      ap (λ (xs : List Lock). kind_of xs (guard_of key)) moves.row ∙ moves.old_names moves.before key
+      ∙ sym (moves.new_names moves.before key) ∙ sym (ap (λ (xs : List Lock). kind_of xs (guard_of key)) row') in
+      subst IsSome same there
+
+holds_still : (hash : RecordKey → ℕ) (seat : ℕ) (turn : Turn) (did : Progress FileFault) (old new : World) →
+    IsSoundWorld hash old → is_fault did ≡ false → (did ≡ Moved WriteRecord → ⊥) → TurnsAt hash turn did seat old new →
+    KeepsContents old.store new.store
+holds_still hash seat turn (answers.Moved kind) old new sound fine other does =
+    kind_keeps_contents kind hash seat old new sound (λ same. other (ap Moved same))
+    (is_of_its_kind hash seat old new turn kind does)
+holds_still hash seat turn (answers.Blocked seat') old new sound fine other does =
+    λ key. ap (λ (w : World). contents w.store key) does.1
+holds_still hash seat turn (answers.Fault fault) old new sound fine other does = absurd cc
+holds_still hash seat turn answers.Ended old new sound fine other does =
+    λ key. ap (λ (w : World). contents w.store key) does
+
+pub stays_told : StaysTold
+stays_told hash seat turn did facts pool pool' locks locks' change old_locks new_locks step key value moves other
+    known = (
+  held_still hash seat did pool locks locks' change old_locks new_locks moves key known.0,
+  holds_still hash seat turn did (world pool.images locks change) (world pool'.images locks' step.after) moves.sound
+      moves.fine other step.does key ∙ known.1,
+)
+
+one_changed : (hash : RecordKey → ℕ) (seat : ℕ) (turn : Turn) (did : Progress FileFault) (old new : World)
+    (write : RecordWrite) → IsSoundWorld hash old → did ≡ Moved WriteRecord → turn.write ≡ Some write →
+    TurnsAt hash turn did seat old new → ChangesRecord write old.store new.store
+one_changed hash seat turn did old new write sound is asked does =
+    let does' : WritesAsked hash turn.write seat old new =
+    subst (λ (d : Progress FileFault). TurnsAt hash turn d seat old new) is does in
+    changes_just hash seat write old new sound
+    (subst (λ (w : Option RecordWrite). WritesAsked hash w seat old new) asked does')
+
+pub told_written : IsToldWritten
+told_written hash seat turn did facts pool pool' locks locks' change old_locks new_locks step write key value moves is
+    asked known = (
+      held_still hash seat did pool locks locks' change old_locks new_locks moves key known.0,
+      one_changed hash seat turn did (world pool.images locks change) (world pool'.images locks' step.after) write
+          moves.sound is asked step.does key
+          ∙ ap (λ (v : Option (List ℕ)). if is_same_key (key_of write) key then value_after write else v) known.1,
+    )

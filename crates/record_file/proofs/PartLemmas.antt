@@ -1,0 +1,117 @@
+-- A delete in its removal, which passes on to the merge, and in its merge.
+use Rattle.std.proofs.Common.{◌≡◌, refl, sym, ap, ◌∙◌, subst, ℕ, ◌+◌, ◌<◌, ◌≤◌, Bool, true, false, List, [], Option, Some, None, ◌⊎◌, inl, inr, arith}
+use Rattle.bucket_merge.specs.Places.{MergeView, is_done, locks_at as merge_locks_at, merge_locks}
+use Rattle.bucket_merge.specs.Facts.{facts_at as merge_facts_at, left_at as merge_left_at, merge_facts, steps_left as merge_left}
+use Rattle.bucket_merge.specs.declared.place.MergePlace.{MergePlace}
+use Rattle.bucket_merge.specs.declared.place.MergePlace.TheVariants.{Approaching}
+use Rattle.stale_search.specs.declared.place.ApproachPlace.{ApproachPlace}
+use Rattle.stale_search.specs.declared.place.ApproachPlace.TheVariants.{GrantDirectory}
+use Rattle.stale_search.specs.Approaches.{approach_facts_at, approach_left_at, approach_locks_at}
+use Rattle.buffer_pool.specs.Pool.{PoolState}
+use Rattle.file_pages.specs.declared.fault.FileFault.{FileFault}
+use Rattle.record_file.specs.Words.{RecordKey, Lock, Store, Progress, Moved, Blocked, Fault, Ended, World, Known, SearchView, Nears}
+use Rattle.record_file.specs.Deletes.{IsBegun, IsOver, part}
+use Rattle.record_file.specs.Removals.{TurnsAwayIn, ended_in, facts_in, left_in, locks_in}
+use Rattle.record_file.specs.declared.removal.RemovalStage.{RemovalStage}
+use Rattle.record_file.specs.declared.removal.RemovalStage.TheVariants.{Searching, Written, Ended as HasEnded}
+
+module _ {A : Type 0} (removing ended merging : A) where
+  pub in_removal : (stage : RemovalStage) → ended_in stage ≡ None → part stage removing ended merging ≡ removing
+  in_removal Searching none = refl
+  in_removal (Written n due) none = refl
+  in_removal (HasEnded due) none = absurd cc
+
+  pub in_merge : (stage : RemovalStage) → ended_in stage ≡ Some true → part stage removing ended merging ≡ merging
+  in_merge Searching is = absurd cc
+  in_merge (Written n due) is = absurd cc
+  in_merge (HasEnded true) is = refl
+  in_merge (HasEnded false) is = absurd (let f : false ≡ true = cc in cc)
+
+  pub at_end : (stage : RemovalStage) → ended_in stage ≡ Some false → part stage removing ended merging ≡ ended
+  at_end Searching is = absurd cc
+  at_end (Written n due) is = absurd cc
+  at_end (HasEnded true) is = absurd (let f : true ≡ false = cc in cc)
+  at_end (HasEnded false) is = refl
+
+pub still_begun : (stage : RemovalStage) (m : MergeView) → (ended_in stage ≡ Some true) ⊎ IsBegun m →
+    ended_in stage ≡ None → IsBegun m
+still_begun stage m (inl is) none = absurd (let f : None ≡ Some true = sym none ∙ is in cc)
+still_begun stage m (inr begun) none = begun
+
+-- where a delete has ended
+pub not_over : (stage : RemovalStage) (place : MergePlace) → ended_in stage ≡ None → IsOver stage place → ⊥
+not_over Searching place none over = over
+not_over (Written n due) place none over = over
+not_over (HasEnded due) place none over = absurd cc
+
+pub not_ended : (stage : RemovalStage) → ended_in stage ≡ None → (due : Bool) × (stage ≡ HasEnded due) → ⊥
+not_ended stage none is = let f : None ≡ Some is.0 = sym none ∙ ap ended_in is.1 in cc
+
+pub is_over : (stage : RemovalStage) (place : MergePlace) → ended_in stage ≡ Some true →
+    IsOver stage place ≡ (is_done place ≡ true)
+is_over Searching place is = absurd cc
+is_over (Written n due) place is = absurd cc
+is_over (HasEnded true) place is = refl
+is_over (HasEnded false) place is = absurd (let f : false ≡ true = cc in cc)
+
+pub is_over_now : (stage : RemovalStage) (place : MergePlace) → ended_in stage ≡ Some false → IsOver stage place
+is_over_now Searching place is = absurd cc
+is_over_now (Written n due) place is = absurd cc
+is_over_now (HasEnded true) place is = absurd (let f : true ≡ false = cc in cc)
+is_over_now (HasEnded false) place is = tt
+
+-- a merge that has not begun holds and knows nothing
+module _ (m : MergeView) (begun : IsBegun m) where
+  pub begun_locks : (before : List Lock) → merge_locks m before ≡ before
+  begun_locks before =
+      ap (λ (p : MergePlace). merge_locks_at p m.approach before) begun.place
+      ∙ ap (λ (p : ApproachPlace). approach_locks_at p before) begun.approach
+
+  pub begun_facts : merge_facts m ≡ []
+  begun_facts =
+      ap (λ (p : MergePlace). merge_facts_at p m.approach) begun.place
+      ∙ ap (λ (p : ApproachPlace). approach_facts_at p m.approach.pseudokey) begun.approach
+
+  pub begun_left : (s t : Store) → merge_left m s ≡ merge_left m t
+  begun_left s t =
+      ap (λ (p : MergePlace). merge_left_at p m.approach s) begun.place
+      ∙ ap (λ (p : MergePlace). merge_left_at p m.approach t) (sym begun.place)
+
+  -- behind a step of the removal
+  pub passed_locks : (stage : RemovalStage) (search : SearchView) (before : List Lock) →
+      locks_in stage search before ≡ part stage (locks_in stage search before) before (merge_locks m before)
+  passed_locks Searching search before = refl
+  passed_locks (Written n due) search before = refl
+  passed_locks (HasEnded true) search before = sym (begun_locks before)
+  passed_locks (HasEnded false) search before = refl
+
+  pub passed_facts : (stage : RemovalStage) (search : SearchView) →
+      facts_in stage search ≡ part stage (facts_in stage search) [] (merge_facts m)
+  passed_facts Searching search = refl
+  passed_facts (Written n due) search = refl
+  passed_facts (HasEnded true) search = sym begun_facts
+  passed_facts (HasEnded false) search = refl
+
+  pub passed_left : (stage : RemovalStage) (search : SearchView) (s : Store) →
+      part stage (left_in stage search s + merge_left m s) 0 (merge_left m s)
+      ≤ left_in stage search s + merge_left m s
+  passed_left Searching search s = omega arith
+  passed_left (Written n due) search s = omega arith
+  passed_left (HasEnded true) search s = omega arith
+  passed_left (HasEnded false) search s = omega arith
+
+-- fewer steps are fewer still
+pub nears_more : (did : Progress FileFault) (left left' less : ℕ) (pool pool' : PoolState) → less ≤ left' →
+    Nears did left left' pool pool' → Nears did left less pool pool'
+nears_more (Moved kind) left left' less pool pool' few h = omega (arith, few, h)
+nears_more (Blocked other) left left' less pool pool' few h = tt
+nears_more (Fault fault) left left' less pool pool' few h = h
+nears_more Ended left left' less pool pool' few h = tt
+
+-- once the removal has ended it turns away no more
+pub turned_before : (hash : RecordKey → ℕ) (key : RecordKey) (seat : ℕ) (stage : RemovalStage) (due : Bool)
+    (w : World) →
+    ended_in stage ≡ Some due → TurnsAwayIn hash key seat stage stage w
+turned_before hash key seat Searching due w is = absurd cc
+turned_before hash key seat (Written n d) due w is = absurd cc
+turned_before hash key seat (HasEnded d) due w is = tt

@@ -1,0 +1,147 @@
+-- The removal goes on, or the merge behind it.
+use Rattle.std.proofs.Common.{◌≡◌, refl, sym, ap, ◌∙◌, subst, ℕ, ◌+◌, Bool, true, false, List, [], Some, None, inl, arith}
+use Rattle.bucket_merge.specs.Places.{merge_locks, is_done}
+use Rattle.bucket_merge.specs.Facts.{merge_facts, merge_turn, steps_left as merge_left}
+use Rattle.record_file.specs.Words.{RecordKey, Ended, Known, Turn, Nears, Sees, Step, with_row, store_of}
+use Rattle.record_file.specs.Deletes.{part}
+use Rattle.record_file.specs.Removals.{ended_in, removal_facts, removal_left, removal_locks, removal_turn}
+use Rattle.record_file.proofs.AnswerLemmas.{nears_on}
+use Rattle.record_file.proofs.PartLemmas.{begun_left, in_merge, in_removal, is_over, nears_more, not_ended, not_over, passed_facts, passed_left, passed_locks, still_begun, turned_before}
+use Rattle.record_file.proofs.delete.Delete.step.Goals as goal
+
+-- ---- the removal goes on
+
+pub step-requires-clause-row : goal.step-requires-clause-row
+step-requires-clause-row g c =
+    let r = rw (← c.self.view_is) at c.requires.row in
+    let stage = c.self.inside.removal.stage in
+    let none = sym c.ended.ensures ∙ c.in-None.is in
+    record {
+      before = r.before;
+      bare = r.bare;
+      room = (let room = r.room in omega (arith, room));
+      is = r.is ∙ in_removal (removal_locks c.self.inside.removal r.before) r.before
+          (merge_locks c.self.inside.merge r.before) stage none;
+    }
+
+pub returns-in-None-clause-row : goal.returns-in-None-clause-row
+returns-in-None-clause-row g c = λ before bare row.
+    let row' = rw (← c.self.view_is) at row in
+    let r = c.self.inside.removal in
+    let m = c.self.inside.merge in
+    let none = sym c.ended.ensures ∙ c.in-None.is in
+    c.step.ensures.row before bare
+    (row' ∙ in_removal (removal_locks r before) before (merge_locks m before) r.stage none)
+    ∙ ap (with_row c.args.locks.now c.args.seat)
+    (passed_locks m (still_begun r.stage m c.self.invariant.waits none) c.step.new.self.stage c.step.new.self.search
+    before)
+
+pub returns-in-None-clause-aim : goal.returns-in-None-clause-aim
+returns-in-None-clause-aim g c =
+    let stage = c.self.inside.removal.stage in
+    let none = sym c.ended.ensures ∙ c.in-None.is in
+    rw (← c.self.view_is) (record {
+      key = c.step.ensures.aim.key;
+      pseudokey = c.step.ensures.aim.pseudokey;
+      ended = (
+        λ ended. absurd (not_ended stage none (c.step.ensures.aim.ended.0 ended)),
+        λ over. absurd (not_over stage c.self.inside.merge.place none over),
+      );
+    })
+
+pub returns-in-None-clause-progress : goal.returns-in-None-clause-progress
+returns-in-None-clause-progress g c = λ hash change sees.
+    let sees' = rw (← c.self.view_is) at sees in
+    let r = c.self.inside.removal in
+    let m = c.self.inside.merge in
+    let s = store_of c.args.pool.now.images in
+    let t = store_of c.step.new.pool.images in
+    let none = sym c.ended.ensures ∙ c.in-None.is in
+    let begun = still_begun r.stage m c.self.invariant.waits none in
+    let sees'' = subst (λ (facts : List Known). Sees hash c.args.seat facts c.args.pool.now c.args.locks.now change)
+    (in_removal (removal_facts r) [] (merge_facts m) r.stage none) sees' in
+    let near = nears_on c.step.result (merge_left m s) (removal_left r s) (removal_left c.step.new.self t)
+    c.args.pool.now c.step.new.pool (c.step.ensures.progress hash change sees'') in
+    let near' = subst (λ (n : ℕ). Nears c.step.result (removal_left r s + merge_left m s)
+    (removal_left c.step.new.self t + n) c.args.pool.now c.step.new.pool) (begun_left m begun s t) near in
+    rw (← c.self.view_is)
+    (subst (λ (n : ℕ). Nears c.step.result n (part c.step.new.self.stage
+    (removal_left c.step.new.self t + merge_left m t) 0 (merge_left m t)) c.args.pool.now c.step.new.pool)
+    (sym (in_removal (removal_left r s + merge_left m s) 0 (merge_left m s) r.stage none))
+    (nears_more c.step.result (removal_left r s + merge_left m s) (removal_left c.step.new.self t + merge_left m t) _
+    c.args.pool.now c.step.new.pool (passed_left m begun c.step.new.self.stage c.step.new.self.search t) near'))
+
+pub returns-in-None-clause-step : goal.returns-in-None-clause-step
+returns-in-None-clause-step g c = λ hash change before bare owns row keyed sees fine.
+    let sees' = rw (← c.self.view_is) at sees in
+    let row' = rw (← c.self.view_is) at row in
+    let keyed' = rw (← c.self.view_is) at keyed in
+    let owns' = rw (← c.self.view_is) at owns in
+    let r = c.self.inside.removal in
+    let m = c.self.inside.merge in
+    let none = sym c.ended.ensures ∙ c.in-None.is in
+    let begun = still_begun r.stage m c.self.invariant.waits none in
+    let sees'' = subst (λ (facts : List Known). Sees hash c.args.seat facts c.args.pool.now c.args.locks.now change)
+    (in_removal (removal_facts r) [] (merge_facts m) r.stage none) sees' in
+    let done = c.step.ensures.step hash change before bare owns'
+    (row' ∙ in_removal (removal_locks r before) before (merge_locks m before) r.stage none) keyed' sees'' fine in
+    rw (← c.self.view_is)
+    (subst (λ (turn : Turn). Step hash c.args.seat turn c.step.result
+    (part c.step.new.self.stage (removal_facts c.step.new.self) [] (merge_facts m)) c.args.pool.now c.step.new.pool
+    c.args.locks.now c.step.new.locks change)
+    (sym (in_removal (removal_turn r) (removal_turn r) (merge_turn m) r.stage none))
+    (subst (λ (facts : List Known). Step hash c.args.seat (removal_turn r) c.step.result facts c.args.pool.now
+    c.step.new.pool c.args.locks.now c.step.new.locks change)
+    (passed_facts m begun c.step.new.self.stage c.step.new.self.search) done))
+
+pub returns-in-None-clause-answer : goal.returns-in-None-clause-answer
+returns-in-None-clause-answer g c = λ hash change keyed sees fine.
+    let sees' = rw (← c.self.view_is) at sees in
+    let keyed' = rw (← c.self.view_is) at keyed in
+    let r = c.self.inside.removal in
+    let m = c.self.inside.merge in
+    let none = sym c.ended.ensures ∙ c.in-None.is in
+    let sees'' = subst (λ (facts : List Known). Sees hash c.args.seat facts c.args.pool.now c.args.locks.now change)
+    (in_removal (removal_facts r) [] (merge_facts m) r.stage none) sees' in
+    let a = c.step.ensures.answer hash change keyed' sees'' fine in
+    rw (← c.self.view_is) (a.0, a.1, λ no is. absurd (let f : true ≡ false = sym is ∙ no in cc))
+
+-- ---- the merge goes on
+
+pub returns-in-Some-true-clause-progress : goal.returns-in-Some-true-clause-progress
+returns-in-Some-true-clause-progress g c = λ hash change sees.
+    let sees' = rw (← c.self.view_is) at sees in
+    let r = c.self.inside.removal in
+    let m = c.self.inside.merge in
+    let s = store_of c.args.pool.now.images in
+    let t = store_of c.step-in-Some-true.new.pool.images in
+    let is = sym c.ended.ensures ∙ c.in-Some-true.is
+    ∙ ap (λ (b : Bool). Some b) c.in-Some-true.field-0-test in
+    let sees'' = subst (λ (facts : List Known). Sees hash c.args.seat facts c.args.pool.now c.args.locks.now change)
+    (in_merge (removal_facts r) [] (merge_facts m) r.stage is) sees' in
+    rw (← c.self.view_is)
+    (subst (λ (n : ℕ). Nears c.step-in-Some-true.result n
+    (part r.stage (removal_left r t + merge_left c.step-in-Some-true.new.self t) 0
+    (merge_left c.step-in-Some-true.new.self t)) c.args.pool.now c.step-in-Some-true.new.pool)
+    (sym (in_merge (removal_left r s + merge_left m s) 0 (merge_left m s) r.stage is))
+    (subst (λ (n : ℕ). Nears c.step-in-Some-true.result (merge_left m s) n c.args.pool.now c.step-in-Some-true.new.pool)
+    (sym (in_merge (removal_left r t + merge_left c.step-in-Some-true.new.self t) 0
+    (merge_left c.step-in-Some-true.new.self t) r.stage is))
+    (c.step-in-Some-true.ensures.progress hash change sees'')))
+
+pub returns-in-Some-true-clause-answer : goal.returns-in-Some-true-clause-answer
+returns-in-Some-true-clause-answer g c = λ hash change keyed sees fine.
+    let sees' = rw (← c.self.view_is) at sees in
+    let keyed' = rw (← c.self.view_is) at keyed in
+    let r = c.self.inside.removal in
+    let m = c.self.inside.merge in
+    let is = sym c.ended.ensures ∙ c.in-Some-true.is
+    ∙ ap (λ (b : Bool). Some b) c.in-Some-true.field-0-test in
+    let sees'' = subst (λ (facts : List Known). Sees hash c.args.seat facts c.args.pool.now c.args.locks.now change)
+    (in_merge (removal_facts r) [] (merge_facts m) r.stage is) sees' in
+    let keyed'' = ap hash c.self.invariant.key ∙ keyed' ∙ sym c.self.invariant.pseudokey in
+    rw (← c.self.view_is) (
+      inl refl,
+      turned_before hash r.search.key c.args.seat r.stage true _ is,
+      c.step-in-Some-true.ensures.answer hash change keyed'' sees'' fine,
+    )

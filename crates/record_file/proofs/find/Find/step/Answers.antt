@@ -1,0 +1,54 @@
+-- The search goes on, or its page is given back.
+use Rattle.std.proofs.Common.{◌≡◌, sym, ap, ◌∙◌, subst, ℕ, List, None}
+use Rattle.stale_search.specs.declared.place.SearchPlace.{SearchPlace}
+use Rattle.stale_search.specs.Searches.{facts_at, locks_at}
+use Rattle.record_file.specs.Words.{Lock, Page, AllKnown, row_of, with_row, without, store_of, steps_left, found_at, world, on_page}
+use Rattle.record_file.proofs.AnswerLemmas.{found_place, nears_on, told}
+use Rattle.record_file.proofs.ReleaseLemmas.{gave_page_back, page_gone}
+use Rattle.record_file.proofs.find.Find.step.Goals as goal
+
+pub returns-in-None-clause-progress : goal.returns-in-None-clause-progress
+returns-in-None-clause-progress g c = λ hash change sees.
+    let sees' = rw (← c.self.view_is, c.if-self.false) at sees in
+    rw (← c.self.view_is, c.if-self.false)
+    (nears_on c.step.result 1 (steps_left c.self.inside.search (store_of c.args.pool.now.images))
+    (steps_left c.step.new.self (store_of c.step.new.pool.images)) c.args.pool.now c.step.new.pool
+    (c.step.ensures.progress hash change sees'))
+
+pub returns-in-None-clause-step : goal.returns-in-None-clause-step
+returns-in-None-clause-step g c = λ hash change before bare row sees fine.
+    let sees' = rw (← c.self.view_is, c.if-self.false) at sees in
+    let row' = rw (← c.self.view_is, c.if-self.false) at row in
+    rw (← c.self.view_is, c.if-self.false) (c.step.ensures.step hash change None before bare row' sees' fine)
+
+pub returns-in-None-clause-answer : goal.returns-in-None-clause-answer
+returns-in-None-clause-answer g c = λ hash change keyed sees fine.
+    let sees' = rw (← c.self.view_is, c.if-self.false) at sees in
+    let keyed' = rw (← c.self.view_is) at keyed in
+    let known = subst (λ (k : ℕ). AllKnown c.args.seat (world c.args.pool.now.images c.args.locks.now change)
+    (facts_at c.self.inside.search.place k)) (sym keyed') sees'.known in
+    rw (← c.self.view_is)
+    (told hash c.args.seat c.step.result c.self.inside.search.key
+    (world c.args.pool.now.images c.args.locks.now change) sees'.sound c.self.inside.search.place
+    c.step.new.self.place known (c.step.ensures.answer hash change keyed' sees' fine))
+
+pub returns-in-Some-clause-row : goal.returns-in-Some-clause-row
+returns-in-Some-clause-row g c = λ before bare row.
+    let row' = rw (← c.self.view_is, c.if-self.false) at row in
+    let at = sym (rw (← c.self.view_is) at c.found.ensures) ∙ c.in-Some.is in
+    let place = found_place c.self.inside.search.place _ _ at in
+    let here : row_of c.args.locks.now c.args.seat ≡ on_page c.in-Some.page c.self.inside.search.kind before =
+    row' ∙ ap (λ (p : SearchPlace). locks_at p c.self.inside.search.kind before) place in
+    c.release.ensures ∙ ap (with_row c.args.locks.now c.args.seat)
+    (ap (λ (locks : List Lock). without locks (Page c.in-Some.page)) here
+    ∙ page_gone before bare c.in-Some.page c.self.inside.search.kind)
+
+pub returns-in-Some-clause-step : goal.returns-in-Some-clause-step
+returns-in-Some-clause-step g c = λ hash change before bare row sees _.
+    let row' = rw (← c.self.view_is, c.if-self.false) at row in
+    let at = sym (rw (← c.self.view_is) at c.found.ensures) ∙ c.in-Some.is in
+    let place = found_place c.self.inside.search.place _ _ at in
+    let here : row_of c.args.locks.now c.args.seat ≡ on_page c.in-Some.page c.self.inside.search.kind before =
+    row' ∙ ap (λ (p : SearchPlace). locks_at p c.self.inside.search.kind before) place in
+    gave_page_back hash c.args.seat _ c.args.pool.now c.args.locks.now change sees _ c.release.new.self
+    c.in-Some.page c.self.inside.search.kind before bare c.requires.seat here c.release.ensures

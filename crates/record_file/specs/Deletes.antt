@@ -1,0 +1,60 @@
+-- What a delete holds, knows and asks for at each place: a removal, and then a merge where one is due.
+-- docs/STEPS.md, "Insert, Replace, Delete".
+use Rattle.std.specs.Prelude.{ℕ, ◌≡◌, ◌↔◌, ◌+◌, ◌⊎◌, Bool, true, false, List, [], Option, Some, None, ⊤}
+use Rattle.bucket_merge.specs.Places.{MergeView, merge_locks, is_done}
+use Rattle.bucket_merge.specs.Facts.{merge_facts, merge_turn, steps_left as merge_left}
+use Rattle.bucket_merge.specs.declared.place.MergePlace.{MergePlace}
+use Rattle.bucket_merge.specs.declared.place.MergePlace.TheVariants.{Approaching}
+use Rattle.stale_search.specs.declared.place.ApproachPlace.TheVariants.{GrantDirectory}
+use Rattle.record_file.specs.Words.{RecordKey, Lock, Store, Progress, Ended, Known, Turn}
+use Rattle.record_file.specs.declared.removal.RemovalStage.{RemovalStage}
+use Rattle.record_file.specs.declared.removal.RemovalStage.TheVariants.{Ended as HasEnded}
+use Rattle.record_file.specs.Removals.{RemovalView, ended_in, removal_locks, removal_facts, removal_turn, removal_left}
+
+pub record DeleteView : Type 0 where
+  pub removal : RemovalView
+  pub merge : MergeView
+
+-- the merge makes its first step next
+pub record IsBegun (m : MergeView) : Type 0 where
+  pub place : m.place ≡ Approaching
+  pub approach : m.approach.place ≡ GrantDirectory
+
+-- what is always so of a delete
+pub record IsDelete (r : RemovalView) (m : MergeView) : Type 0 where
+  pub key : m.key ≡ r.search.key
+  pub pseudokey : m.approach.pseudokey ≡ r.search.pseudokey
+  -- the merge waits for the removal
+  pub waits : (ended_in r.stage ≡ Some true) ⊎ IsBegun m
+
+-- what is so of the removal, of a delete that has ended with it, and of the merge
+abbrev pub part : {A : Type 0} → RemovalStage → (removing ended merging : A) → A
+part (HasEnded true) removing ended merging = merging
+part (HasEnded false) removing ended merging = ended
+part stage removing ended merging = removing
+
+-- it has ended where no merge is due, or the merge is done
+abbrev pub IsOver : RemovalStage → MergePlace → Type 0
+IsOver (HasEnded true) place = is_done place ≡ true
+IsOver (HasEnded false) place = ⊤
+IsOver stage place = ⊥
+
+-- its locks, behind those that the seat had before; three at most
+abbrev pub delete_locks : DeleteView → List Lock → List Lock
+delete_locks d before = part d.removal.stage (removal_locks d.removal before) before (merge_locks d.merge before)
+
+abbrev pub delete_facts : DeleteView → List Known
+delete_facts d = part d.removal.stage (removal_facts d.removal) [] (merge_facts d.merge)
+
+abbrev pub delete_turn : DeleteView → Turn
+delete_turn d = part d.removal.stage (removal_turn d.removal) (removal_turn d.removal) (merge_turn d.merge)
+
+-- what it is about stays, and it has ended where it was over
+pub record KeepsDelete {F : Type 0} (did : Progress F) (old new : DeleteView) : Type 0 where
+  pub key : new.removal.search.key ≡ old.removal.search.key
+  pub pseudokey : new.removal.search.pseudokey ≡ old.removal.search.pseudokey
+  pub ended : (did ≡ Ended) ↔ IsOver old.removal.stage old.merge.place
+
+-- the steps that are left, if no other seat steps
+abbrev pub delete_left : DeleteView → Store → ℕ
+delete_left d s = part d.removal.stage (removal_left d.removal s + merge_left d.merge s) 0 (merge_left d.merge s)

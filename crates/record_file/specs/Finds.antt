@@ -1,0 +1,37 @@
+-- What a find holds, knows and asks for at each place: a search that locks its pages Read, and the Release of the page.
+use Rattle.std.specs.Prelude.{ℕ, ◌≡◌, ◌↔◌, ◌+◌, Bool, true, false, List, [], if◌then◌else◌, Option, None, IsSome}
+use Rattle.record_file.specs.Words.{RecordKey, Lock, Read, Store, Progress, Ended, Known, Turn, SearchView, search_locks, search_facts, search_turn, found_at, steps_left}
+
+pub record FindView : Type 0 where
+  pub search : SearchView
+  -- whether the page was given back
+  pub ended : Bool
+
+-- what is always so of a find
+pub record IsFind (search : SearchView) (ended : Bool) : Type 0 where
+  pub kind : search.kind ≡ Read
+  pub found : ended ≡ true → IsSome (found_at search.place)
+
+-- its locks, behind those that the seat had before
+abbrev pub find_locks : FindView → List Lock → List Lock
+find_locks f before = if f.ended then before else search_locks f.search before
+
+abbrev pub find_facts : FindView → List Known
+find_facts f = if f.ended then [] else search_facts f.search
+
+abbrev pub find_turn : FindView → Turn
+find_turn f = search_turn f.search None
+
+-- of the key's value, where a page answered
+abbrev pub found_of : FindView → Option (ℕ × Option ℕ)
+found_of f = found_at f.search.place
+
+-- what it looks for stays, and it has ended where it gave the page back
+pub record KeepsFind {F : Type 0} (did : Progress F) (old new : FindView) : Type 0 where
+  pub key : new.search.key ≡ old.search.key
+  pub pseudokey : new.search.pseudokey ≡ old.search.pseudokey
+  pub ended : (did ≡ Ended) ↔ (old.ended ≡ true)
+
+-- the steps that are left, if no other seat steps
+abbrev pub find_left : FindView → Store → ℕ
+find_left f s = if f.ended then 0 else steps_left f.search s + 1

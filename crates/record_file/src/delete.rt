@@ -1,0 +1,128 @@
+//! A record that is deleted.
+
+ghost use Rattle.std.specs.Prelude.{◌≡◌, ℕ, List, Option, false, not};
+ghost use Rattle.bucket_merge.specs.Steps.{TurnsAwayAt};
+ghost use Rattle.stale_search.specs.declared.place.ApproachPlace.{ApproachPlace};
+ghost use Rattle.stale_search.specs.declared.place.SearchPlace.{SearchPlace};
+ghost use Rattle.bucket_merge.specs.declared.place.MergePlace.{MergePlace};
+ghost use Rattle.record_file.specs.declared.removal.RemovalStage.{RemovalStage};
+ghost use Rattle.record_file.specs.Words.{RecordKey, Lock, IsSeat, row_of, with_row, IsReady, Change, OnlyWrites, Selective, is_fault, Sees, Step, world, EndsRow, HasNoFileLock, Nears, store_of};
+ghost use Rattle.record_file.specs.Machines.{FindsAt};
+ghost use Rattle.record_file.specs.Writers.{Owns};
+ghost use Rattle.record_file.specs.Removals.{TurnsAwayIn, removed_at};
+ghost use Rattle.record_file.specs.Deletes.{KeepsDelete, delete_facts, delete_left, delete_locks, delete_turn};
+
+use crate::removal::Removal;
+use bucket_merge::Merge;
+use bucket_page::RecordKey;
+use buffer_pool::Pool;
+use file_pages::FileFault;
+use page_device::PageDevice;
+use page_locks::LockTable;
+use std::marker::Model;
+use std::mem::size_of;
+use step_rules::Progress;
+
+/// A record that is deleted: it is taken out, and one merge is tried where the bucket has a buddy and became small.
+/// Where the key has no record nothing is written.
+#[derive(Drop)]
+pub struct Delete {
+    removal: Removal,
+    merge: Merge,
+}
+
+const _: () = prove!(size_of::<Delete>() <= 300);
+
+impl Model for Delete {
+    ghost use Rattle.record_file.specs.Deletes.{DeleteView, IsDelete};
+
+    ghost Value = { DeleteView };
+
+    ghost view = { λ d. record { removal = d.removal; merge = d.merge } };
+
+    ghost invariant = { λ d. IsDelete d.removal d.merge };
+}
+
+impl Delete {
+    /// A delete at a key that has this pseudokey.
+    pub fn new(key: RecordKey, pseudokey: u32) -> Delete
+        ensures { result ≡ record {
+          removal = record {
+            search = record {
+              key = key;
+              pseudokey = pseudokey;
+              kind = Selective;
+              place = SearchPlace.GrantDirectory;
+              hops = 0;
+            };
+            stage = RemovalStage.Searching;
+          };
+          merge = record {
+            key = key;
+            approach = record { pseudokey = pseudokey; place = ApproachPlace.GrantDirectory };
+            place = MergePlace.Approaching;
+          };
+        } }
+    {
+        Delete {
+            removal: Removal::new(key, pseudokey),
+            merge: Merge::new(key, pseudokey),
+        }
+    }
+
+    /// The page that answered, and of the key the length of its value, none where it has no record and
+    /// nothing is written.
+    pub fn found(&self) -> Option<(u32, Option<usize>)>
+        ensures { result ≡ removed_at self.now.removal }
+    {
+        self.removal.found()
+    }
+
+    /// One step.
+    pub fn step<D: PageDevice>(
+        &mut self,
+        pool: &mut Pool<D>,
+        locks: &mut LockTable,
+        seat: u8,
+    ) -> Progress<FileFault>
+        requires seat { IsSeat locks.old seat }
+        requires ready { IsReady pool.old }
+        requires row { EndsRow (delete_locks self.old) 3 (row_of locks.old seat) }
+        // whatever the device gives
+        ensures writes { OnlyWrites (not (is_fault result)) pool.old pool.new }
+        ensures aim { KeepsDelete result self.old self.new }
+        ensures row { (before : List Lock) → HasNoFileLock before →
+            row_of locks.old seat ≡ delete_locks self.old before →
+            locks.new ≡ with_row locks.old seat (delete_locks self.new before) }
+        // on an honest device, in a sound world
+        ensures progress { (hash : RecordKey → ℕ) (change : Change) →
+            Sees hash seat (delete_facts self.old) pool.old locks.old change →
+            Nears result (delete_left self.old (store_of pool.old.images))
+            (delete_left self.new (store_of pool.new.images)) pool.old pool.new }
+        ensures step { (hash : RecordKey → ℕ) (change : Change) → (before : List Lock) →
+            HasNoFileLock before → Owns before self.old.removal.search.key →
+            row_of locks.old seat ≡ delete_locks self.old before →
+            hash self.old.removal.search.key ≡ self.old.removal.search.pseudokey →
+            Sees hash seat (delete_facts self.old) pool.old locks.old change →
+            is_fault result ≡ false →
+            Step hash seat (delete_turn self.old) result
+            (delete_facts self.new) pool.old pool.new locks.old locks.new change }
+        ensures answer { (hash : RecordKey → ℕ) (change : Change) →
+            hash self.old.removal.search.key ≡ self.old.removal.search.pseudokey →
+            Sees hash seat (delete_facts self.old) pool.old locks.old change →
+            is_fault result ≡ false →
+            FindsAt hash seat result self.old.removal.search.key
+            (removed_at self.old.removal) (removed_at self.new.removal)
+            (world pool.old.images locks.old change)
+            × TurnsAwayIn hash self.old.removal.search.key seat
+            self.old.removal.stage self.new.removal.stage (world pool.new.images locks.new change)
+            × TurnsAwayAt hash seat self.old.merge self.new.merge
+            (world pool.new.images locks.new change) }
+    {
+        match self.removal.ended() {
+            None => self.removal.step(pool, locks, seat),
+            Some(false) => Progress::Ended,
+            Some(true) => self.merge.step(pool, locks, seat),
+        }
+    }
+}

@@ -1,0 +1,5 @@
+pub mod ListLemmas
+pub mod StillLemmas
+pub mod WalkLemmas
+pub mod QueueLemmas
+pub mod SystemLemmas

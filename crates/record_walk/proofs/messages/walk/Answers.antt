@@ -1,0 +1,46 @@
+-- A message brings the walk nearer to its end.
+use Rattle.std.proofs.Common.{ℕ, List, Option, IsTrue, length, length-append, sym, ap, subst, ◌∙◌, inr, arith}
+use Rattle.queue_records.specs.declared.record.Record.TheVariants as records
+use Rattle.record_walk.specs.Held.{Holds}
+use Rattle.record_walk.specs.Words.{RecordKey}
+use Rattle.record_walk.proofs.StillLemmas.{still_more}
+use Rattle.record_walk.proofs.WalkLemmas.{IsWalkedTo, walked_there, walked_more, walked_all}
+use Rattle.record_walk.proofs.messages.walk.Goals as goal
+
+pub returns-in_default-2-clause-err : goal.returns-in_default-2-clause-err
+returns-in_default-2-clause-err g c = λ is. inr (λ q has its e.
+    let before = c.walk.invariant in
+    let so = subst (IsWalkedTo q c.walk.messages) c.in-Some.is (before.walked is q has its e) in
+    let told = c.in_ok-found.ensures.ok (subst IsTrue (sym before.still.honesty) is) in
+    let there = walked_there (g.F.Records.held c.args.file.now) q has c.args.id c.args.first its c.walk.messages
+    c.in-Some.serial c.in_ok-found.field-0 so
+    (λ m h a b. told m (subst (λ (held : RecordKey → Option (List ℕ)). Holds held (records.Message m))
+    (sym before.still.same) h) a b) in
+    let none = sym c.in_default-2.is ∙ there.1 in
+    absurd cc)
+
+pub walk-preserved : goal.walk-preserved
+walk-preserved g c =
+    let before = c.walk.invariant in
+    record {
+      still = still_more g.F.Records.held g.F.Records.is_honest g.F.Records.fault_count _ _ _ before.still
+          c.in_ok-found.ensures.still;
+      few =
+          (let longer = ap length c.in_ok-push.ensures.ok ∙ length-append c.walk.messages _ in
+          let long = c.len.ensures in let less = c.if-len.false in let few = before.few in
+          omega (arith, longer, long, less, few));
+      walked = λ is q has its e.
+          let so = subst (IsWalkedTo q c.walk.messages) c.in-Some.is (before.walked is q has its e) in
+          let told = c.in_ok-found.ensures.ok (subst IsTrue (sym before.still.honesty) is) in
+          subst (λ ms. IsWalkedTo q ms c.in-Some-2.found.next) (sym c.in_ok-push.ensures.ok)
+          (walked_more (g.F.Records.held c.args.file.now) q has c.args.id c.args.first its c.walk.messages
+          c.in-Some.serial c.in-Some-2.found so
+          (λ m h a b. sym c.in-Some-2.is
+          ∙ told m (subst (λ (held : RecordKey → Option (List ℕ)). Holds held (records.Message m))
+          (sym before.still.same) h) a b));
+    }
+
+pub returns-clause-ok : goal.returns-clause-ok
+returns-clause-ok g c = λ is q has its e.
+    walked_all (g.F.Records.held c.args.file.now) q has c.args.id c.args.first its c.walk.messages
+    (subst (IsWalkedTo q c.walk.messages) c.in_default.is (c.walk.invariant.walked is q has its e))

@@ -1,0 +1,4 @@
+pub mod Words
+pub mod Held
+pub mod Fault
+pub mod Systems

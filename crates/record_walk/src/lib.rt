@@ -1,0 +1,16 @@
+//! The records of a file are walked along their links: they are those of one system, or of none.
+
+#![tactic(auto)]
+
+mod entries;
+mod fault;
+mod lists;
+mod messages;
+mod queue;
+mod records;
+mod system;
+
+pub use fault::WalkFault;
+pub use queue::read_queue;
+pub use records::{Linked, Records};
+pub use system::read_system;

@@ -1,0 +1,41 @@
+//! The messages of a queue are walked along their links.
+
+ghost use Rattle.std.specs.Prelude.{◌≡◌, ◌⊎◌, IsTrue, IfOk, IfErr};
+ghost use Rattle.record_walk.specs.Fault.{IsCaused, IsOfMachine};
+ghost use Rattle.record_walk.specs.Held.{IsStill};
+ghost use Rattle.record_walk.specs.Systems.{HasQueue, IsWalkOf, IsNoWalkOf};
+
+use crate::fault::WalkFault;
+use crate::records::Records;
+use limits::MAX_MESSAGES;
+use queue_model::Messages;
+use std::alloc::Global;
+
+/// The messages of the queue of an id, from its first on. The walk ends, since a queue has so many messages at most.
+pub(crate) fn walk<F: Records>(
+    file: &mut F,
+    alloc: Global,
+    id: u32,
+    first: Option<u64>,
+) -> Result<Messages, WalkFault>
+    ensures ok { IsTrue (F.is_honest file.old) →
+        IfOk result (λ messages. IsWalkOf (F.held file.old) id first messages) }
+    ensures err { IsTrue (F.is_honest file.old) →
+        IfErr result (λ fault. IsOfMachine fault ⊎ IsNoWalkOf (F.held file.old) id first) }
+    ensures still { IsStill F.held F.is_honest F.fault_count file.old file.new }
+    ensures cause { IsCaused (F.fault_count file.old) (F.fault_count file.new) result }
+{
+    let mut messages = Messages::new(alloc);
+    let mut next = first;
+    'walk: while let Some(serial) = next {
+        if messages.len() == MAX_MESSAGES as usize {
+            return Err(WalkFault::WrongQueue { queue: id });
+        }
+        let Some(found) = file.message(alloc, id, serial)? else {
+            return Err(WalkFault::WrongQueue { queue: id });
+        };
+        next = found.next;
+        messages.push(found.message)?;
+    }
+    Ok(messages)
+}

@@ -1,0 +1,32 @@
+//! The page that a split takes.
+
+ghost use Rattle.std.specs.Prelude.{◌≡◌, ◌≢◌, is_ok, IsTrue, IsErr, IfOk, OnErr};
+ghost use Rattle.page_device.specs.Device.{HasRisen};
+ghost use Rattle.file_pages.specs.Files.{IsReady, IsFilePool, store_of};
+ghost use Rattle.file_pages.specs.Headers.{HasFreePage};
+ghost use Rattle.file_pages.specs.Writes.{OnlyWrites};
+ghost use Rattle.split_merge.specs.Taking.{Takes};
+
+use buffer_pool::Pool;
+use file_pages::{FileFault, read_header, take_page};
+use page_device::PageDevice;
+
+/// Takes the first free page off the list. Where the list is empty nothing changes.
+pub fn take_free<D: PageDevice>(pool: &mut Pool<D>) -> Result<Option<u32>, FileFault>
+    requires ready { IsReady pool.old }
+    ensures writes { OnlyWrites (is_ok result) pool.old pool.new }
+    ensures ok { IsTrue pool.old.honest →
+        IfOk result (λ taken. Takes taken pool.old.images pool.new.images) }
+    ensures err { IsTrue pool.old.honest → OnErr result (pool.new.images ≡ pool.old.images) }
+    ensures fault { IsTrue pool.old.honest → IsFilePool pool.old → IsErr result →
+        ((store_of pool.old.images).header.first_free ≢ 0 →
+        HasFreePage (store_of pool.old.images)) →
+        HasRisen pool.old.faults pool.new.faults }
+{
+    let header = read_header(pool)?;
+    if header.first_free == 0 {
+        return Ok(None);
+    }
+    let page = take_page(pool)?;
+    Ok(Some(page))
+}

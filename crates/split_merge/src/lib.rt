@@ -1,0 +1,16 @@
+//! A split of a full bucket, with the doubling of the directory where it needs one, step by step.
+
+#![tactic(auto)]
+
+mod entries;
+mod free_page;
+mod laws;
+mod order;
+mod place;
+mod split;
+mod wanted;
+
+pub use laws::a_split_keeps_what_its_caller_knows;
+pub use place::SplitPlace;
+pub use split::Split;
+pub use wanted::Wanted;
