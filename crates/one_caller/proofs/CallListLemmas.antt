@@ -55,8 +55,8 @@ pub IsServedSoFar-next : (calls : List Asked) (i : ℕ) (old mid now : CallerSta
     IsServedSoFar calls (i + 1) old now more more_room
 IsServedSoFar-next calls i old mid now told more room asked result before within at step pushed more_room grown =
     record {
-  so_far = λ s held. rw (take_next calls i asked within at) (rw pushed
-      (AreServed-push (take i calls) s told (Holds mid) (Holds now) asked result (before.so_far s held) step));
-  number = rw pushed (let n = before.number in let l = length-append told (result ∷ []) in omega (arith, n, l));
-  room_left = let r = before.room_left in omega (arith, r, grown);
-}
+      so_far = λ s held. rw (take_next calls i asked within at) (rw pushed
+          (AreServed-push (take i calls) s told (Holds mid) (Holds now) asked result (before.so_far s held) step));
+      number = rw pushed (let n = before.number in let l = length-append told (result ∷ []) in omega (arith, n, l));
+      room_left = let r = before.room_left in omega (arith, r, grown);
+    }

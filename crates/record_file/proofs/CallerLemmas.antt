@@ -123,10 +123,10 @@ holds_still hash seat turn answers.Ended old new sound fine other does =
 pub stays_told : StaysTold
 stays_told hash seat turn did facts pool pool' locks locks' change old_locks new_locks step key value moves other
     known = (
-  held_still hash seat did pool locks locks' change old_locks new_locks moves key known.0,
-  holds_still hash seat turn did (world pool.images locks change) (world pool'.images locks' step.after) moves.sound
-      moves.fine other step.does key ∙ known.1,
-)
+      held_still hash seat did pool locks locks' change old_locks new_locks moves key known.0,
+      holds_still hash seat turn did (world pool.images locks change) (world pool'.images locks' step.after) moves.sound
+          moves.fine other step.does key ∙ known.1,
+    )
 
 one_changed : (hash : RecordKey → ℕ) (seat : ℕ) (turn : Turn) (did : Progress FileFault) (old new : World)
     (write : RecordWrite) → IsSoundWorld hash old → did ≡ Moved WriteRecord → turn.write ≡ Some write →

@@ -14,7 +14,7 @@ loop-wanted-preserved-in-Continue-branch-2 g c =
     record {
       caller_is = c.take.ensures.caller ∙ so_far.caller_is;
       knows = λ s filed has knew. c.in_ok-take-in-At.ensures.told s filed
-      (c.loop-wanted.invariant.knows s filed has knew)
+          (c.loop-wanted.invariant.knows s filed has knew)
           (told_at s _ c.wants.result c.in-At.key _ c.wants.ensures (c.in-Some.is ∙ ap Some c.in-At.is)
           (c.in_ok-found-in-At.ensures s (record_of s) filed (λ key r is. is) has));
     }
