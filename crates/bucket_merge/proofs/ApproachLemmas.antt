@@ -11,6 +11,7 @@ use Rattle.step_rules.specs.Turns.{DoesTied, TurnsAt, is_fault}
 use Rattle.step_rules.proofs.KindLemmas.{kind_keeps_contents}
 use Rattle.step_rules.proofs.TurnLemmas.{is_of_its_kind}
 use Rattle.stale_search.specs.Approaches.{KeepsGoal, reached_at}
+use Rattle.stale_search.proofs.StayLemmas.{Stays-of}
 use Rattle.stale_search.specs.declared.place.ApproachPlace.{ApproachPlace}
 use Rattle.stale_search.specs.declared.place.ApproachPlace.TheVariants.{GrantDirectory, ReadDepth, ReadEntry, GrantPage, At}
 use Rattle.bucket_merge.specs.Words.{RecordKey, Lock, store_of, World, world, Table, row_of, with_row, PoolState, Change, Progress, Moved, Blocked, Fault, Ended, ApproachView, approach_locks, approach_facts, approach_turn, approach_left, HasNoFileLock, Sees, Step, Nears, Approaching}
@@ -79,7 +80,7 @@ module _ (seat : ℕ) (key : RecordKey) (a a' : ApproachView) (pool pool' : Pool
             true≢false (sym (subst IsSome on_way some))),
         λ d. absurd cc,
       );
-      stays = λ f. refl;
+      stays = Stays-of (λ (x : ApproachView). view_at seat key x pool locks Approaching) did a a' goal.stays;
     };
     row = row;
     progress = λ hash change sees.

@@ -137,7 +137,7 @@ module _ (seat : ℕ) (pool : PoolState) (locks : Table) (v : MergeView) where
           key = refl;
           pseudokey = refl;
           ended = (λ e. absurd cc, λ d. absurd cc);
-          stays = λ f. absurd cc;
+          stays = tt;
         };
         row = alone;
         progress = λ hash change sees. omega arith;

@@ -81,7 +81,7 @@ module _ (seat : ℕ) (key : RecordKey) (a : ApproachView) (pool : PoolState) (l
     key = refl;
     pseudokey = refl;
     ended = (λ e. absurd cc, λ d. absurd (not_both going d));
-    stays = λ f. absurd cc;
+    stays = tt;
   }
 
   -- its row stays
@@ -108,7 +108,7 @@ module _ (seat : ℕ) (key : RecordKey) (a : ApproachView) (pool : PoolState) (l
       key = refl;
       pseudokey = refl;
       ended = (λ e. absurd cc, λ d. absurd (not_both going d));
-      stays = λ f. absurd cc;
+      stays = refl;
     };
     row = same_row place place (λ before. refl);
     progress = λ hash change sees. tt;
@@ -194,7 +194,7 @@ module _ (seat : ℕ) (key : RecordKey) (a : ApproachView) (pool : PoolState) (l
       key = refl;
       pseudokey = refl;
       ended = (λ e. absurd cc, λ d. absurd (not_both going d));
-      stays = λ f. refl;
+      stays = refl;
     };
     row = same_row place place (λ before. refl);
     progress = risen;
@@ -307,7 +307,7 @@ module _ (seat : ℕ) (key : RecordKey) (a : ApproachView) (pool : PoolState) (l
       MakesStep {F = FileFault} seat Ended (view_at place) (view_at place) pool pool locks locks
   ended place done ready = record {
     writes = record { writes = nothing_written pool ready; spares = λ f. absurd cc };
-    aim = record { key = refl; pseudokey = refl; ended = (λ e. done, λ d. refl); stays = λ f. absurd cc };
+    aim = record { key = refl; pseudokey = refl; ended = (λ e. done, λ d. refl); stays = refl };
     row = same_row place place (λ before. refl);
     progress = λ hash change sees. tt;
     step = λ hash change before keyed bare row sees fine. record {

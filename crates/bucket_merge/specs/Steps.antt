@@ -1,7 +1,7 @@
 -- What a step of a merge does. docs/STEPS.md, "Merge".
 use Rattle.std.specs.Prelude.{ℕ, ◌≡◌, ◌↔◌, true, false, not, IsTrue, List, Result, Ok, Err}
 use Rattle.page_locks.specs.Table.{with_lock, with_kind, Opposes, IsOpposed}
-use Rattle.file_pages.specs.Writes.{OnlyWrites}
+use Rattle.stale_search.specs.Steps.{Stays, WritesOrSpares}
 use Rattle.step_rules.specs.Turns.{is_fault}
 use Rattle.step_rules.specs.declared.kind.Kind.{Kind}
 use Rattle.step_rules.specs.declared.kind.Kind.TheVariants as kinds
@@ -11,17 +11,12 @@ use Rattle.bucket_merge.specs.Words.{RecordKey, Lock, LockKind, Exclusive, LockN
 use Rattle.bucket_merge.specs.Places.{MergeView, HasMergeRow, merge_locks, is_done, is_given_up}
 use Rattle.bucket_merge.specs.Facts.{merge_facts, merge_turn, steps_left}
 
--- after a fault no page has changed
-pub record WritesOrSpares {F : Type 0} (did : Progress F) (old new : PoolState) : Type 0 where
-  pub writes : OnlyWrites (not (is_fault did)) old new
-  pub spares : is_fault did ≡ true → IsTrue old.honest → new.images ≡ old.images
-
--- what it is about stays, it has ended where it is done, and after a fault it is where it was
+-- what it is about stays, it has ended where it is done, and where it did not move it is what it was
 pub record KeepsAim {F : Type 0} (did : Progress F) (old new : MergeView) : Type 0 where
   pub key : new.key ≡ old.key
   pub pseudokey : new.approach.pseudokey ≡ old.approach.pseudokey
   pub ended : (did ≡ Ended) ↔ (is_done old.place ≡ true)
-  pub stays : is_fault did ≡ true → new.place ≡ old.place
+  pub stays : Stays did old new
 
 -- a move brings the end nearer, and a fault is the device's
 abbrev pub Progresses : {F : Type 0} → Progress F → MergeView → MergeView → PoolState → PoolState → Type 0

@@ -9,10 +9,10 @@ ghost use Rattle.file_pages.specs.Files.{IsReady};
 ghost use Rattle.hash_file.specs.Change.{Change};
 ghost use Rattle.step_rules.specs.Turns.{is_fault};
 ghost use Rattle.stale_search.specs.Rows.{HasNoFileLock};
-ghost use Rattle.stale_search.specs.Steps.{Sees, world};
+ghost use Rattle.stale_search.specs.Steps.{Sees, WritesOrSpares, world};
 ghost use Rattle.bucket_merge.specs.Places.{HasMergeRow, IsMergePlace, at, merge_locks};
 ghost use Rattle.bucket_merge.specs.Facts.{merge_facts};
-ghost use Rattle.bucket_merge.specs.Steps.{GoesOn, IsConverted, IsGranted, KeepsAim, MakesStep, MergeStep, Progresses, TurnsAwayAt, WritesOrSpares};
+ghost use Rattle.bucket_merge.specs.Steps.{GoesOn, IsConverted, IsGranted, KeepsAim, MakesStep, MergeStep, Progresses, TurnsAwayAt};
 
 use crate::place::MergePlace;
 use bucket_page::RecordKey;

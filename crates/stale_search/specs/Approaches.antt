@@ -6,6 +6,7 @@ use Rattle.directory.specs.declared.layout.TheConstants.{GREATEST_DEPTH}
 use Rattle.hash_file.specs.Changes.{RecordWrite}
 use Rattle.step_rules.specs.Structure.{InPhase, HasDepth, BucketOf}
 use Rattle.stale_search.specs.Rows.{EndsRow, in_directory, on_page}
+use Rattle.stale_search.specs.Steps.{Stays}
 use Rattle.stale_search.specs.declared.place.ApproachPlace.{ApproachPlace}
 use Rattle.stale_search.specs.declared.place.ApproachPlace.TheVariants.{GrantDirectory, ReadDepth, ReadEntry, GrantPage, At}
 
@@ -70,6 +71,7 @@ reached_at place = None
 -- what it goes to stays, and it has ended where it has come there
 pub record KeepsGoal {F : Type 0} (did : Progress F) (old new : ApproachView) : Type 0 where
   pub pseudokey : new.pseudokey ≡ old.pseudokey
+  pub stays : Stays did old new
   pub ended : (did ≡ Ended) ↔ IsSome (reached_at old.place)
 
 -- the steps that are left; those of other seats add none

@@ -14,7 +14,7 @@ use Rattle.step_rules.specs.Falls.{search_left, ToReadDepth, ToReadEntry, ToGran
 use Rattle.step_rules.specs.Turns.{is_fault}
 pub use Rattle.stale_search.specs.Rows.{HasNoFileLock}
 use Rattle.stale_search.specs.Rows.{EndsRow, in_directory, on_page}
-use Rattle.stale_search.specs.Steps.{Sees, world}
+use Rattle.stale_search.specs.Steps.{Sees, Stays, world}
 
 pub record SearchView : Type 0 where
   pub key : RecordKey
@@ -132,6 +132,7 @@ pub record KeepsAim {F : Type 0} (did : Progress F) (pool : PoolState) (old new 
   pub pseudokey : new.pseudokey ≡ old.pseudokey
   pub kind : new.kind ≡ old.kind
   pub ended : (did ≡ Ended) ↔ IsSome (found_at old.place)
+  pub stays : Stays did old new
   pub hops : new.hops ≡ hops_after old.hops old.place new.place
   pub begun : HasNotHopped old.place old.hops
   -- on an honest device

@@ -1,6 +1,7 @@
 -- What every machine promises of its step.
-use Rattle.std.specs.Prelude.{ℕ, ◌≡◌, ◌<◌, false, List, Option, IsTrue, ⊤}
+use Rattle.std.specs.Prelude.{ℕ, ◌≡◌, ◌<◌, true, false, not, List, Option, IsTrue, ⊤}
 use Rattle.page_device.specs.Device.{HasRisen}
+use Rattle.file_pages.specs.Writes.{OnlyWrites}
 use Rattle.step_rules.specs.Words.{Lock, Change}
 use Rattle.stale_search.specs.Words.{PoolState, RecordKey, Table, row_of, with_row, IsFilePool, store_of, Progress, Moved, Fault, World, IsSoundWorld, Known, AllKnown, Turn}
 use Rattle.step_rules.specs.Does.{KeepsOthers}
@@ -36,6 +37,16 @@ Nears (Fault fault) left left' pool pool' = HasRisen pool.faults pool'.faults
 Nears did left left' pool pool' = ⊤
 
 -- ---- the clauses of a step
+
+-- what is written is a page of the file; after a fault no page has changed
+pub record WritesOrSpares {F : Type 0} (did : Progress F) (old new : PoolState) : Type 0 where
+  pub writes : OnlyWrites (not (is_fault did)) old new
+  pub spares : is_fault did ≡ true → IsTrue old.honest → new.images ≡ old.images
+
+-- where a step did not move, also after a fault, the machine is what it was
+abbrev pub Stays : {F T : Type 0} → Progress F → (old new : T) → Type 0
+Stays (Moved kind) old new = ⊤
+Stays did old new = new ≡ old
 
 -- the row of a seat, whose machine has these locks behind those before, becomes that of the next place
 abbrev pub FollowsRow : ℕ → (mine mine' : List Lock → List Lock) → (locks locks' : Table) → Type 0
