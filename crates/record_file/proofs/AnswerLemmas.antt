@@ -1,5 +1,5 @@
 -- What a search that a machine is built on tells of its answer.
-use Rattle.std.proofs.Common.{◌≡◌, refl, sym, ap, ◌∙◌, subst, ℕ, ◌+◌, ◌<◌, List, Option, Some, None, length, inl, inr, arith}
+use Rattle.std.proofs.Common.{◌≡◌, refl, sym, ap, ◌∙◌, subst, ℕ, ◌+◌, Option, Some, None, length, inl, inr, arith}
 use Rattle.std.specs.Option.{option_map}
 use Rattle.stale_search.specs.declared.place.SearchPlace.{SearchPlace}
 use Rattle.stale_search.specs.declared.place.SearchPlace.TheVariants.{GrantDirectory, ReadDepth, ReadEntry, GrantPage, ReleaseDirectory, Look as AtLook, Hop, Found}

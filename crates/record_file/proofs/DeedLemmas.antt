@@ -1,6 +1,5 @@
 -- The page at which a search ended is written or given back.
-use Rattle.std.proofs.Common.{◌≡◌, refl, sym, ap, ◌∙◌, subst, ℕ, ◌+◌, ◌≤◌, Bool, true, List, [], ◌∷◌, ◌++◌, Option, Some, None, IsSome, IsTrue, length, drop, unwrap_or, arith}
-use Rattle.std.specs.Option.{option_map}
+use Rattle.std.proofs.Common.{◌≡◌, refl, sym, ap, ◌∙◌, subst, ℕ, ◌+◌, ◌≤◌, Bool, true, List, [], Option, Some, None, IsSome, IsTrue, length, unwrap_or, arith}
 use Rattle.bucket_page.specs.declared.layout.TheConstants.{RECORD_HEAD_BYTES, ROOM_BYTES}
 use Rattle.bucket_page.proofs.Steps.{length-pair}
 use Rattle.buffer_pool.specs.Pool.{PoolState}
@@ -11,7 +10,7 @@ use Rattle.hash_file.specs.Changes.{write_record}
 use Rattle.stale_search.specs.declared.place.SearchPlace.{SearchPlace}
 use Rattle.stale_search.specs.declared.place.SearchPlace.TheVariants.{Found}
 use Rattle.stale_search.specs.Searches.{ask_at, locks_at}
-use Rattle.record_file.specs.Words.{RecordKey, Pair, pair, lookup, record_bytes, contents, Put, Replace, Remove, Table, Lock, LockKind, Selective, Page, Change, OnlyReads, OnlyWrites, HasRisen, IsSeat, row_of, with_row, without, without_lock, store_of, records_at, Moved, WriteRecord, Release, SearchView, search_locks, found_at, Store, Turn, Sees, Step, HasNoFileLock, on_page}
+use Rattle.record_file.specs.Words.{RecordKey, pair, lookup, record_bytes, contents, Put, Replace, Remove, Table, Lock, LockKind, Selective, Page, Change, OnlyReads, OnlyWrites, HasRisen, row_of, with_row, without, without_lock, store_of, records_at, Moved, WriteRecord, SearchView, search_locks, found_at, Store, Turn, Sees, Step, HasNoFileLock, on_page}
 use Rattle.record_file.specs.Writers.{Owns, seen_at, seen_of}
 use Rattle.record_file.specs.Replaces.{IsFrontAt, with_front}
 use Rattle.record_file.proofs.AnswerLemmas.{found_place}

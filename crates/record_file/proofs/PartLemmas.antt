@@ -1,15 +1,13 @@
 -- A delete in its removal, which passes on to the merge, and in its merge.
-use Rattle.std.proofs.Common.{◌≡◌, refl, sym, ap, ◌∙◌, subst, ℕ, ◌+◌, ◌<◌, ◌≤◌, Bool, true, false, List, [], Option, Some, None, ◌⊎◌, inl, inr, arith}
+use Rattle.std.proofs.Common.{◌≡◌, refl, sym, ap, ◌∙◌, ℕ, ◌+◌, ◌≤◌, Bool, true, false, List, [], Some, None, ◌⊎◌, inl, inr, arith}
 use Rattle.bucket_merge.specs.Places.{MergeView, is_done, locks_at as merge_locks_at, merge_locks}
 use Rattle.bucket_merge.specs.Facts.{facts_at as merge_facts_at, left_at as merge_left_at, merge_facts, steps_left as merge_left}
 use Rattle.bucket_merge.specs.declared.place.MergePlace.{MergePlace}
-use Rattle.bucket_merge.specs.declared.place.MergePlace.TheVariants.{Approaching}
 use Rattle.stale_search.specs.declared.place.ApproachPlace.{ApproachPlace}
-use Rattle.stale_search.specs.declared.place.ApproachPlace.TheVariants.{GrantDirectory}
-use Rattle.stale_search.specs.Approaches.{approach_facts_at, approach_left_at, approach_locks_at}
+use Rattle.stale_search.specs.Approaches.{approach_facts_at, approach_locks_at}
 use Rattle.buffer_pool.specs.Pool.{PoolState}
 use Rattle.file_pages.specs.declared.fault.FileFault.{FileFault}
-use Rattle.record_file.specs.Words.{RecordKey, Lock, Store, Progress, Moved, Blocked, Fault, Ended, World, Known, SearchView, Nears}
+use Rattle.record_file.specs.Words.{RecordKey, Lock, Store, Progress, Moved, Blocked, Fault, Ended, World, SearchView, Nears}
 use Rattle.record_file.specs.Deletes.{IsBegun, IsOver, part}
 use Rattle.record_file.specs.Removals.{TurnsAwayIn, ended_in, facts_in, left_in, locks_in}
 use Rattle.record_file.specs.declared.removal.RemovalStage.{RemovalStage}

@@ -1,5 +1,5 @@
 -- A page is given back, the last lock on the file.
-use Rattle.std.proofs.Common.{◌≡◌, refl, sym, ap, ◌∙◌, ℕ, true, List, [], ◌∷◌, ◌++◌, Some, eq-eqb}
+use Rattle.std.proofs.Common.{◌≡◌, refl, sym, ap, ◌∙◌, ℕ, List, [], ◌∷◌, ◌++◌, Some, eq-eqb}
 use Rattle.std.proofs.lemmas.List.Elements.{filter-append}
 use Rattle.file_pages.specs.declared.fault.FileFault.{FileFault}
 use Rattle.page_locks.specs.Writers.{may_write, IsWriter}

@@ -1,5 +1,5 @@
 -- The bucket from which a record was taken, and why no merge can be made behind it.
-use Rattle.std.proofs.Common.{◌≡◌, ◌≢◌, refl, sym, ap, ◌∙◌, subst, ℕ, ◌+◌, ◌-◌, ◌≤◌, ◌<◌, ◌&&◌, nat_le, Bool, true, false, List, Some, length, arith, inl, inr}
+use Rattle.std.proofs.Common.{◌≡◌, refl, sym, ap, ◌∙◌, subst, ℕ, ◌+◌, ◌-◌, ◌≤◌, ◌<◌, Bool, true, false, List, length, arith, inl, inr}
 use Rattle.std.proofs.lemmas.Bool.{cases_eq, cases_lt, le-leb}
 use Rattle.std.specs.List.{Contains}
 use Rattle.bucket_page.specs.declared.layout.TheConstants.{RECORD_HEAD_BYTES}
@@ -7,7 +7,6 @@ use Rattle.bucket_page.specs.declared.page.PageKind.{PageKind}
 use Rattle.bucket_page.specs.declared.page.PageKind.TheVariants as kinds
 use Rattle.bucket_page.specs.Bucket.{Bucket}
 use Rattle.bucket_page.specs.Changes.{removed}
-use Rattle.buffer_pool.specs.Pool.{PoolState}
 use Rattle.hash_file.specs.Store.{Store, page_at, bucket_at, bucket_of, is_bucket, range_at}
 use Rattle.hash_file.specs.Chain.{IsBucketOf}
 use Rattle.hash_file.specs.Changes.{write_record, with_bucket}

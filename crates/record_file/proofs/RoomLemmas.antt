@@ -1,5 +1,5 @@
 -- Whether a record fits its bucket.
-use Rattle.std.proofs.Common.{◌≡◌, refl, sym, ap, ◌∙◌, subst, ℕ, ◌+◌, ◌≤◌, ◌<◌, ◌&&◌, nat_le, Bool, true, false, List, Some, None, IsTrue, length, arith, inl, inr}
+use Rattle.std.proofs.Common.{◌≡◌, refl, sym, ap, ◌∙◌, subst, ℕ, ◌+◌, ◌≤◌, ◌<◌, ◌&&◌, nat_le, true, false, List, None, IsTrue, length, arith, inl, inr}
 use Rattle.std.proofs.lemmas.Bool.{cases_lt, le-leb, leb-true}
 use Rattle.fields.proofs.Tests.{both_true}
 use Rattle.bucket_page.specs.declared.layout.TheConstants.{RECORD_HEAD_BYTES, ROOM_BYTES}
@@ -13,7 +13,7 @@ use Rattle.stale_search.specs.declared.place.SearchPlace.TheVariants.{Found}
 use Rattle.step_rules.specs.Turns.{LacksRoom}
 use Rattle.step_rules.specs.Does.{KeepsOthers}
 use Rattle.step_rules.specs.Turns.{TurnsAt}
-use Rattle.record_file.specs.Words.{RecordKey, pair, record_bytes, Table, Lock, Selective, Page, Change, OnlyReads, HasRisen, Progress, World, Known, AllKnown, row_of, store_of, records_at, SearchView, Turn, Sees, Step, world, HasNoFileLock, on_page}
+use Rattle.record_file.specs.Words.{RecordKey, pair, record_bytes, Table, Lock, Selective, Change, OnlyReads, HasRisen, Progress, World, Known, AllKnown, row_of, store_of, records_at, SearchView, Turn, Sees, Step, world, HasNoFileLock, on_page}
 use Rattle.record_file.specs.Writers.{seen_at}
 use Rattle.record_file.specs.FirstTries.{has_room}
 use Rattle.record_file.proofs.ReleaseLemmas.{no_directory}

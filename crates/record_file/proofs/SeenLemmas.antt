@@ -1,5 +1,6 @@
 -- What a seat that may write the page at which its search ended knows of it.
-use Rattle.std.proofs.Common.{◌≡◌, refl, sym, ap, ◌∙◌, subst, ℕ, true, List, [], ◌∷◌, Option, Some, None, length}
+use Rattle.std.proofs.Common.{◌≡◌, refl, sym, ap, ◌∙◌, subst, ℕ, true, List, [], ◌∷◌, Option, Some, None, IsSome, length}
+use Rattle.std.proofs.lemmas.Bool.{true≢false}
 use Rattle.std.specs.Option.{option_map}
 use Rattle.stale_search.specs.declared.place.SearchPlace.{SearchPlace}
 use Rattle.stale_search.specs.declared.place.SearchPlace.TheVariants.{GrantDirectory, ReadDepth, ReadEntry, GrantPage, ReleaseDirectory, Look as AtLook, Hop, Found}
@@ -8,10 +9,14 @@ use Rattle.page_locks.specs.Writers.{may_write}
 use Rattle.stale_search.specs.Searches.{AnswersFor, KeepsAim, facts_at, locks_at}
 use Rattle.stale_search.specs.Rows.{on_page}
 use Rattle.stale_search.proofs.RowLemmas.{page_on}
-use Rattle.record_file.specs.Words.{RecordKey, PoolState, Table, Lock, Selective, Page, Change, row_of, kind_of, lookup, records_at, Progress, Moved, Look, World, Turn, Known, LeadsTo, OnPage, Covering, Having, Lacking, AllKnown, IsSoundWorld, world, Sees, Step, HasNoFileLock, LockKind, SearchView, search_facts, search_locks, found_at}
+use Rattle.record_file.specs.Words.{RecordKey, PoolState, Table, Lock, Selective, Page, Change, row_of, kind_of, lookup, records_at, Progress, Moved, Look, World, Turn, Known, LeadsTo, OnPage, Covering, AllKnown, IsSoundWorld, world, Sees, Step, HasNoFileLock, LockKind, SearchView, search_facts, search_locks, found_at}
 use Rattle.record_file.specs.Machines.{FindsAt, Tells}
 use Rattle.record_file.specs.Writers.{seen_at, seen_of}
 use Rattle.record_file.proofs.AnswerLemmas.{tells, told}
+
+-- no page has answered
+pub none_found : (v : SearchView) → found_at v.place ≡ None → IsSome (found_at v.place) → ⊥
+none_found v none some = true≢false (sym (subst IsSome none some))
 
 pub unseen : (p : SearchPlace) (key : RecordKey) (k : ℕ) → found_at p ≡ None → seen_at p key k ≡ facts_at p k
 unseen GrantDirectory key k none = refl

@@ -1,14 +1,14 @@
 -- Values of records, and the bytes that they take.
-use Rattle.std.proofs.Common.{◌≡◌, refl, sym, ap, ◌∙◌, subst, ℕ, ◌+◌, ◌-◌, ◌≤◌, ◌<◌, Bool, true, false, cond, List, [], ◌∷◌, ◌++◌, Option, Some, None, IsSome, length, drop, unwrap_or, arith, inl, inr}
+use Rattle.std.proofs.Common.{◌≡◌, refl, ap, ℕ, ◌+◌, ◌≤◌, List, [], ◌∷◌, Option, Some, None, IsSome, length, drop, unwrap_or, arith, inl, inr}
 use Rattle.std.proofs.lemmas.Bool.{cases_Bool}
 use Rattle.std.proofs.lemmas.List.{length-append, length-drop}
 use Rattle.std.specs.Option.{option_map}
-use Rattle.bucket_page.specs.declared.layout.TheConstants.{RECORD_HEAD_BYTES, ROOM_BYTES}
+use Rattle.bucket_page.specs.declared.layout.TheConstants.{RECORD_HEAD_BYTES}
 use Rattle.bucket_page.specs.Changes.{removed}
 use Rattle.bucket_page.specs.Keys.{is_same}
 use Rattle.bucket_page.specs.Records.{pair_bytes}
 use Rattle.bucket_page.proofs.Steps.{length-pair}
-use Rattle.record_file.specs.Words.{RecordKey, Pair, pair, lookup, record_bytes, HasValueOf}
+use Rattle.record_file.specs.Words.{RecordKey, Pair, record_bytes, HasValueOf}
 use Rattle.record_file.specs.Replaces.{with_front}
 
 pub is_there : (v : Option (List ℕ)) (bytes : ℕ) → option_map length v ≡ Some bytes → IsSome v

@@ -1,6 +1,7 @@
 -- What a find holds, knows and asks for at each place: a search that locks its pages Read, and the Release of the page.
-use Rattle.std.specs.Prelude.{ℕ, ◌≡◌, ◌↔◌, ◌+◌, Bool, true, false, List, [], if◌then◌else◌, Option, None, IsSome}
-use Rattle.record_file.specs.Words.{RecordKey, Lock, Read, Store, Progress, Ended, Known, Turn, SearchView, search_locks, search_facts, search_turn, found_at, steps_left}
+use Rattle.std.specs.Prelude.{ℕ, ◌≡◌, ◌↔◌, ◌+◌, Bool, true, List, [], if◌then◌else◌, Option, None, IsSome}
+use Rattle.stale_search.specs.Searches.{KeepsAim}
+use Rattle.record_file.specs.Words.{Lock, Read, Store, PoolState, Progress, Ended, Stays, Known, Turn, SearchView, search_locks, search_facts, search_turn, found_at, steps_left}
 
 pub record FindView : Type 0 where
   pub search : SearchView
@@ -26,10 +27,14 @@ find_turn f = search_turn f.search None
 abbrev pub found_of : FindView → Option (ℕ × Option ℕ)
 found_of f = found_at f.search.place
 
--- what it looks for stays, and it has ended where it gave the page back
-pub record KeepsFind {F : Type 0} (did : Progress F) (old new : FindView) : Type 0 where
+-- it searches until a page answers, which it then gives back; it has ended where it did, and where it did not move it is
+-- what it was
+pub record KeepsFind {F : Type 0} (did : Progress F) (pool : PoolState) (old new : FindView) : Type 0 where
   pub key : new.search.key ≡ old.search.key
   pub pseudokey : new.search.pseudokey ≡ old.search.pseudokey
+  pub searches : found_of old ≡ None → KeepsAim did pool old.search new.search
+  pub rests : IsSome (found_of old) → new.search ≡ old.search
+  pub stays : Stays did old new
   pub ended : (did ≡ Ended) ↔ (old.ended ≡ true)
 
 -- the steps that are left, if no other seat steps

@@ -1,15 +1,15 @@
 -- What the first try of an Insert holds, knows and asks for at each place: a search, the WriteRecord where the record
 -- fits its bucket, and the Release of the page.
-use Rattle.std.specs.Prelude.{ℕ, ◌≡◌, ◌≤◌, ◌<◌, ◌↔◌, ◌+◌, ◌&&◌, nat_le, Bool, true, false, List, [], length, Option, None, Some, ⊤}
+use Rattle.std.specs.Prelude.{ℕ, ◌≡◌, ◌↔◌, ◌+◌, ◌&&◌, nat_le, Bool, List, [], Option, Some, ⊤}
 use Rattle.bucket_page.specs.declared.layout.TheConstants.{RECORD_HEAD_BYTES, ROOM_BYTES}
 use Rattle.step_rules.specs.Turns.{LacksRoom}
 use Rattle.stale_search.specs.Searches.{ask_at}
-use Rattle.record_file.specs.Words.{RecordKey, pair, Put, Lock, Selective, Store, Progress, Ended, World, Known, Turn, SearchView, search_locks, found_at, steps_left, on_page}
+use Rattle.record_file.specs.Words.{RecordKey, pair, Put, Lock, Selective, Store, Progress, Ended, Stays, World, Known, Turn, SearchView, search_locks, found_at, steps_left, on_page}
 use Rattle.record_file.specs.Writers.{seen_at}
 use Rattle.record_file.specs.declared.first_try.FirstTryStage.{FirstTryStage}
 use Rattle.record_file.specs.declared.first_try.FirstTryStage.TheVariants.{Searching, Written, Ended as HasEnded}
 use Rattle.record_file.specs.declared.first_try.Tried.{Tried}
-use Rattle.record_file.specs.declared.first_try.Tried.TheVariants.{IsPut, IsThere, IsFull}
+use Rattle.record_file.specs.declared.first_try.Tried.TheVariants.{IsFull}
 
 pub record FirstTryView : Type 0 where
   pub search : SearchView
@@ -53,10 +53,11 @@ has_room used bytes = nat_le bytes ROOM_BYTES
 abbrev pub tried_at : FirstTryView → Option (ℕ × Option ℕ)
 tried_at t = found_at t.search.place
 
--- what it is about stays, and it has ended where it gave the page back
+-- what it is about stays, it has ended where it gave the page back, and where it did not move it is what it was
 pub record KeepsFirstTry {F : Type 0} (did : Progress F) (old new : FirstTryView) : Type 0 where
   pub key : new.search.key ≡ old.search.key
   pub pseudokey : new.search.pseudokey ≡ old.search.pseudokey
+  pub stays : Stays did old new
   pub ended : (did ≡ Ended) ↔ ((tried : Tried) × (old.stage ≡ HasEnded tried))
 
 -- it gives up before a bucket that has no room for the record

@@ -1,9 +1,9 @@
 -- What a replace holds, knows and asks for at each place: a search, the WriteRecord where the key is there, and the
 -- Release of the page.
-use Rattle.std.specs.Prelude.{ℕ, ◌≡◌, ◌≤◌, ◌↔◌, ◌+◌, List, [], ◌∷◌, ◌++◌, Option, Some, None, length, drop, unwrap_or}
+use Rattle.std.specs.Prelude.{ℕ, ◌≡◌, ◌≤◌, ◌↔◌, ◌+◌, List, [], ◌++◌, Option, Some, length, drop, unwrap_or}
 use Rattle.stale_search.specs.Rows.{on_page}
 use Rattle.stale_search.specs.Searches.{ask_at}
-use Rattle.record_file.specs.Words.{RecordKey, pair, Replace, contents, Lock, Selective, Store, Progress, Ended, Known, Turn, SearchView, search_locks, found_at, steps_left}
+use Rattle.record_file.specs.Words.{RecordKey, pair, Replace, contents, Lock, Selective, Store, Progress, Ended, Stays, Known, Turn, SearchView, search_locks, found_at, steps_left}
 use Rattle.record_file.specs.Writers.{seen_at}
 use Rattle.record_file.specs.declared.replace.ReplaceStage.{ReplaceStage}
 use Rattle.record_file.specs.declared.replace.ReplaceStage.TheVariants.{Searching, Written, Ended as HasEnded}
@@ -53,10 +53,11 @@ IsFrontAt s key front = (value : List ℕ) → contents s key ≡ Some value →
 abbrev pub replaced_at : ReplaceView → Option (ℕ × Option ℕ)
 replaced_at r = found_at r.search.place
 
--- what it is about stays, and it has ended where it gave the page back
+-- what it is about stays, it has ended where it gave the page back, and where it did not move it is what it was
 pub record KeepsReplace {F : Type 0} (did : Progress F) (old new : ReplaceView) : Type 0 where
   pub key : new.search.key ≡ old.search.key
   pub pseudokey : new.search.pseudokey ≡ old.search.pseudokey
+  pub stays : Stays did old new
   pub ended : (did ≡ Ended) ↔ (old.stage ≡ HasEnded)
 
 -- the steps that are left, if no other seat steps

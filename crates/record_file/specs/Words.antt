@@ -24,5 +24,5 @@ pub use Rattle.step_rules.specs.Pages.{Covering, Having, Lacking}
 pub use Rattle.step_rules.specs.Turns.{Turn, is_fault}
 pub use Rattle.step_rules.specs.Answering.{IsAnswerOf}
 pub use Rattle.stale_search.specs.Rows.{EndsRow, HasNoFileLock, in_directory, on_page}
-pub use Rattle.stale_search.specs.Steps.{world, Nears, Sees, Step}
+pub use Rattle.stale_search.specs.Steps.{world, Nears, Sees, Stays, Step, WritesOrSpares}
 pub use Rattle.stale_search.specs.Searches.{SearchView, search_locks, search_facts, search_turn, found_at, steps_left}

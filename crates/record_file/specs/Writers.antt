@@ -1,6 +1,6 @@
 -- What the machines that write a record have in common: a search that locks its pages Selective, and what it has then
 -- seen of the page. docs/STEPS.md, "Insert, Replace, Delete".
-use Rattle.std.specs.Prelude.{ℕ, ◌≡◌, List, [], ◌∷◌, Option, Some, None}
+use Rattle.std.specs.Prelude.{ℕ, ◌≡◌, List, [], ◌∷◌, Some, None}
 use Rattle.stale_search.specs.declared.place.SearchPlace.{SearchPlace}
 use Rattle.stale_search.specs.declared.place.SearchPlace.TheVariants.{Found}
 use Rattle.stale_search.specs.Searches.{facts_at}

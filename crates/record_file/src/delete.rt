@@ -1,12 +1,12 @@
 //! A record that is deleted.
 
-ghost use Rattle.std.specs.Prelude.{◌≡◌, ℕ, List, Option, false, not};
+ghost use Rattle.std.specs.Prelude.{◌≡◌, ℕ, List, Option, false};
 ghost use Rattle.bucket_merge.specs.Steps.{TurnsAwayAt};
 ghost use Rattle.stale_search.specs.declared.place.ApproachPlace.{ApproachPlace};
 ghost use Rattle.stale_search.specs.declared.place.SearchPlace.{SearchPlace};
 ghost use Rattle.bucket_merge.specs.declared.place.MergePlace.{MergePlace};
 ghost use Rattle.record_file.specs.declared.removal.RemovalStage.{RemovalStage};
-ghost use Rattle.record_file.specs.Words.{RecordKey, Lock, IsSeat, row_of, with_row, IsReady, Change, OnlyWrites, Selective, is_fault, Sees, Step, world, EndsRow, HasNoFileLock, Nears, store_of};
+ghost use Rattle.record_file.specs.Words.{RecordKey, Lock, IsSeat, row_of, with_row, IsReady, Change, WritesOrSpares, Selective, is_fault, Sees, Step, world, EndsRow, HasNoFileLock, Nears, store_of};
 ghost use Rattle.record_file.specs.Machines.{FindsAt};
 ghost use Rattle.record_file.specs.Writers.{Owns};
 ghost use Rattle.record_file.specs.Removals.{TurnsAwayIn, removed_at};
@@ -89,7 +89,7 @@ impl Delete {
         requires ready { IsReady pool.old }
         requires row { EndsRow (delete_locks self.old) 3 (row_of locks.old seat) }
         // whatever the device gives
-        ensures writes { OnlyWrites (not (is_fault result)) pool.old pool.new }
+        ensures writes { WritesOrSpares result pool.old pool.new }
         ensures aim { KeepsDelete result self.old self.new }
         ensures row { (before : List Lock) → HasNoFileLock before →
             row_of locks.old seat ≡ delete_locks self.old before →

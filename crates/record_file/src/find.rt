@@ -66,6 +66,13 @@ impl Find {
         }
     }
 
+    /// How often its search went on from a page that did not answer to another one.
+    pub fn hops(&self) -> u32
+        ensures { result ≡ self.now.search.hops }
+    {
+        self.search.hops()
+    }
+
     /// One step. The value may be read from the page after the step at which it answered, until the next.
     pub fn step<D: PageDevice>(
         &mut self,
@@ -78,7 +85,7 @@ impl Find {
         requires row { EndsRow (find_locks self.old) 2 (row_of locks.old seat) }
         // whatever the device gives
         ensures reads { OnlyReads (not (is_fault result)) pool.old pool.new }
-        ensures aim { KeepsFind result self.old self.new }
+        ensures aim { KeepsFind result pool.old self.old self.new }
         ensures row { (before : List Lock) → HasNoFileLock before →
             row_of locks.old seat ≡ find_locks self.old before →
             locks.new ≡ with_row locks.old seat (find_locks self.new before) }

@@ -1,8 +1,8 @@
 //! The first try of an Insert.
 
-ghost use Rattle.std.specs.Prelude.{◌≡◌, ℕ, List, Option, false, length, not};
+ghost use Rattle.std.specs.Prelude.{◌≡◌, ℕ, List, Option, false, length};
 ghost use Rattle.stale_search.specs.declared.place.SearchPlace.{SearchPlace};
-ghost use Rattle.record_file.specs.Words.{RecordKey, Lock, IsSeat, row_of, with_row, IsReady, Change, OnlyWrites, Selective, is_fault, Sees, Step, world, EndsRow, HasNoFileLock, Nears, store_of};
+ghost use Rattle.record_file.specs.Words.{RecordKey, Lock, IsSeat, row_of, with_row, IsReady, Change, WritesOrSpares, Selective, is_fault, Sees, Step, world, EndsRow, HasNoFileLock, Nears, store_of};
 ghost use Rattle.record_file.specs.Machines.{FindsAt};
 ghost use Rattle.record_file.specs.Writers.{Owns};
 ghost use Rattle.record_file.specs.FirstTries.{GivesUp, KeepsFirstTry, first_try_facts, first_try_left, first_try_locks, first_try_turn, has_room, tried_at};
@@ -110,7 +110,7 @@ impl FirstTry {
         requires ready { IsReady pool.old }
         requires row { EndsRow (first_try_locks self.old) 2 (row_of locks.old seat) }
         // whatever the device gives
-        ensures writes { OnlyWrites (not (is_fault result)) pool.old pool.new }
+        ensures writes { WritesOrSpares result pool.old pool.new }
         ensures aim { KeepsFirstTry result self.old self.new }
         ensures row { (before : List Lock) → HasNoFileLock before →
             row_of locks.old seat ≡ first_try_locks self.old before →

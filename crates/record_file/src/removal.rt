@@ -1,8 +1,8 @@
 //! A record that is taken out.
 
-ghost use Rattle.std.specs.Prelude.{◌≡◌, ◌-◌, ℕ, List, Option, false, not};
+ghost use Rattle.std.specs.Prelude.{◌≡◌, ◌-◌, ℕ, List, Option, false};
 ghost use Rattle.stale_search.specs.declared.place.SearchPlace.{SearchPlace};
-ghost use Rattle.record_file.specs.Words.{RecordKey, Lock, IsSeat, row_of, with_row, IsReady, Change, OnlyWrites, Selective, is_fault, Sees, Step, world, EndsRow, HasNoFileLock, Nears, store_of};
+ghost use Rattle.record_file.specs.Words.{RecordKey, Lock, IsSeat, row_of, with_row, IsReady, Change, WritesOrSpares, Selective, is_fault, Sees, Step, world, EndsRow, HasNoFileLock, Nears, store_of};
 ghost use Rattle.record_file.specs.Machines.{FindsAt};
 ghost use Rattle.record_file.specs.Writers.{Owns};
 ghost use Rattle.record_file.specs.Removals.{KeepsRemoval, TurnsAwayIn, ended_in, is_due, removal_facts, removal_left, removal_locks, removal_turn, removed_at};
@@ -109,7 +109,7 @@ impl Removal {
         requires ready { IsReady pool.old }
         requires row { EndsRow (removal_locks self.old) 2 (row_of locks.old seat) }
         // whatever the device gives
-        ensures writes { OnlyWrites (not (is_fault result)) pool.old pool.new }
+        ensures writes { WritesOrSpares result pool.old pool.new }
         ensures aim { KeepsRemoval result self.old self.new }
         ensures row { (before : List Lock) → HasNoFileLock before →
             row_of locks.old seat ≡ removal_locks self.old before →

@@ -1,8 +1,8 @@
 //! A record whose value is replaced.
 
-ghost use Rattle.std.specs.Prelude.{◌≡◌, ℕ, List, Option, false, not};
+ghost use Rattle.std.specs.Prelude.{◌≡◌, ℕ, List, Option, false};
 ghost use Rattle.stale_search.specs.declared.place.SearchPlace.{SearchPlace};
-ghost use Rattle.record_file.specs.Words.{RecordKey, Lock, IsSeat, row_of, with_row, IsReady, Change, OnlyWrites, Selective, is_fault, Sees, Step, world, EndsRow, HasNoFileLock, Nears, store_of};
+ghost use Rattle.record_file.specs.Words.{RecordKey, Lock, IsSeat, row_of, with_row, IsReady, Change, WritesOrSpares, Selective, is_fault, Sees, Step, world, EndsRow, HasNoFileLock, Nears, store_of};
 ghost use Rattle.record_file.specs.Machines.{FindsAt};
 ghost use Rattle.record_file.specs.Writers.{Owns};
 ghost use Rattle.record_file.specs.Replaces.{KeepsReplace, IsFrontAt, replace_facts, replace_left, replace_locks, replace_turn, replaced_at};
@@ -93,7 +93,7 @@ impl Replace {
         requires ready { IsReady pool.old }
         requires row { EndsRow (replace_locks self.old) 2 (row_of locks.old seat) }
         // whatever the device gives
-        ensures writes { OnlyWrites (not (is_fault result)) pool.old pool.new }
+        ensures writes { WritesOrSpares result pool.old pool.new }
         ensures aim { KeepsReplace result self.old self.new }
         ensures row { (before : List Lock) → HasNoFileLock before →
             row_of locks.old seat ≡ replace_locks self.old before →

@@ -1,12 +1,13 @@
 -- The removal goes on, or the merge behind it.
-use Rattle.std.proofs.Common.{◌≡◌, refl, sym, ap, ◌∙◌, subst, ℕ, ◌+◌, Bool, true, false, List, [], Some, None, inl, arith}
-use Rattle.bucket_merge.specs.Places.{merge_locks, is_done}
+use Rattle.std.proofs.Common.{◌≡◌, refl, sym, ap, ◌∙◌, subst, ℕ, ◌+◌, Bool, true, false, List, [], Some, inl, arith}
+use Rattle.bucket_merge.specs.Places.{merge_locks}
 use Rattle.bucket_merge.specs.Facts.{merge_facts, merge_turn, steps_left as merge_left}
-use Rattle.record_file.specs.Words.{RecordKey, Ended, Known, Turn, Nears, Sees, Step, with_row, store_of}
+use Rattle.record_file.specs.Words.{Known, Turn, Nears, Sees, Step, with_row, store_of}
 use Rattle.record_file.specs.Deletes.{part}
-use Rattle.record_file.specs.Removals.{ended_in, removal_facts, removal_left, removal_locks, removal_turn}
+use Rattle.stale_search.proofs.StayLemmas.{Stays-of}
+use Rattle.record_file.specs.Removals.{RemovalView, removal_facts, removal_left, removal_locks, removal_turn}
 use Rattle.record_file.proofs.AnswerLemmas.{nears_on}
-use Rattle.record_file.proofs.PartLemmas.{begun_left, in_merge, in_removal, is_over, nears_more, not_ended, not_over, passed_facts, passed_left, passed_locks, still_begun, turned_before}
+use Rattle.record_file.proofs.PartLemmas.{begun_left, in_merge, in_removal, nears_more, not_ended, not_over, passed_facts, passed_left, passed_locks, still_begun, turned_before}
 use Rattle.record_file.proofs.delete.Delete.step.Goals as goal
 
 -- ---- the removal goes on
@@ -43,6 +44,8 @@ returns-in-None-clause-aim g c =
     rw (← c.self.view_is) (record {
       key = c.step.ensures.aim.key;
       pseudokey = c.step.ensures.aim.pseudokey;
+      stays = Stays-of (λ (r : RemovalView). record { removal = r; merge = c.self.inside.merge }) c.step.result
+          c.self.inside.removal c.step.new.self c.step.ensures.aim.stays;
       ended = (
         λ ended. absurd (not_ended stage none (c.step.ensures.aim.ended.0 ended)),
         λ over. absurd (not_over stage c.self.inside.merge.place none over),

@@ -1,11 +1,38 @@
 -- The search goes on, or its page is given back.
-use Rattle.std.proofs.Common.{◌≡◌, sym, ap, ◌∙◌, subst, ℕ, List, None}
+use Rattle.std.proofs.Common.{◌≡◌, refl, sym, ap, ◌∙◌, subst, ℕ, false, List, None}
 use Rattle.stale_search.specs.declared.place.SearchPlace.{SearchPlace}
 use Rattle.stale_search.specs.Searches.{facts_at, locks_at}
-use Rattle.record_file.specs.Words.{Lock, Page, AllKnown, row_of, with_row, without, store_of, steps_left, found_at, world, on_page}
+use Rattle.stale_search.proofs.StayLemmas.{Stays-of}
+use Rattle.record_file.specs.Words.{SearchView, Lock, Page, AllKnown, row_of, with_row, without, store_of, steps_left, world, on_page}
 use Rattle.record_file.proofs.AnswerLemmas.{found_place, nears_on, told}
+use Rattle.record_file.proofs.SeenLemmas.{none_found}
 use Rattle.record_file.proofs.ReleaseLemmas.{gave_page_back, page_gone}
 use Rattle.record_file.proofs.find.Find.step.Goals as goal
+
+pub returns-in-None-clause-aim : goal.returns-in-None-clause-aim
+returns-in-None-clause-aim g c =
+    let none = sym (rw (← c.self.view_is) at c.found.ensures) ∙ c.in-None.is in
+    rw (← c.self.view_is, c.if-self.false) (record {
+      key = c.step.ensures.aim.key;
+      pseudokey = c.step.ensures.aim.pseudokey;
+      searches = λ n. c.step.ensures.aim;
+      rests = λ some. absurd (none_found c.self.inside.search none some);
+      stays = Stays-of (λ (v : SearchView). record { search = v; ended = false }) c.step.result c.self.inside.search
+          c.step.new.self c.step.ensures.aim.stays;
+      ended = (λ e. absurd (none_found c.self.inside.search none (c.step.ensures.aim.ended.0 e)), λ over. absurd cc);
+    })
+
+pub returns-in-Some-clause-aim : goal.returns-in-Some-clause-aim
+returns-in-Some-clause-aim g c =
+    let at = sym (rw (← c.self.view_is) at c.found.ensures) ∙ c.in-Some.is in
+    rw (← c.self.view_is, c.if-self.false) (record {
+      key = refl;
+      pseudokey = refl;
+      searches = λ none. absurd (let both = sym at ∙ none in cc);
+      rests = λ some. refl;
+      stays = tt;
+      ended = (λ e. absurd cc, λ over. absurd cc);
+    })
 
 pub returns-in-None-clause-progress : goal.returns-in-None-clause-progress
 returns-in-None-clause-progress g c = λ hash change sees.

@@ -3,17 +3,30 @@ use Rattle.std.proofs.Common.{◌≡◌, refl, sym, ap, ◌∙◌, subst, ℕ, t
 use Rattle.file_pages.specs.declared.sight.BucketSight.{BucketSight}
 use Rattle.hash_file.specs.Chain.{IsBucketOf}
 use Rattle.hash_file.specs.Changes.{write_record}
-use Rattle.record_file.specs.Words.{Remove, Selective, store_of, steps_left, found_at, world}
+use Rattle.stale_search.proofs.StayLemmas.{Stays-of}
+use Rattle.record_file.specs.Words.{SearchView, Remove, Selective, store_of, steps_left, found_at, world}
 use Rattle.record_file.specs.Removals.{is_due}
+use Rattle.record_file.specs.declared.removal.RemovalStage.TheVariants.{Searching}
 use Rattle.record_file.proofs.AnswerLemmas.{nears_on}
 use Rattle.record_file.proofs.ReleaseLemmas.{gave_page_back, no_directory}
 use Rattle.record_file.proofs.RemovedLemmas.{none_due, turned}
-use Rattle.record_file.proofs.SeenLemmas.{sees_search, search_stepped, seen_told}
+use Rattle.record_file.proofs.SeenLemmas.{none_found, sees_search, search_stepped, seen_told}
 use Rattle.record_file.proofs.WriteLemmas.{home, read_fails}
 use Rattle.record_file.proofs.DeedLemmas.{behind_read, bucket_there, page_row_selective, released, removal_fails, removed, sees_found, writes_behind}
 use Rattle.record_file.proofs.removal.Removal.step.Goals as goal
 
 -- ---- the search goes on
+
+pub returns-in-None-clause-aim : goal.returns-in-None-clause-aim
+returns-in-None-clause-aim g c =
+    let none = sym (rw (← c.self.view_is) at c.found.ensures) ∙ c.in-None.is in
+    rw (← c.self.view_is, c.in-Searching.is) (record {
+      key = c.step.ensures.aim.key;
+      pseudokey = c.step.ensures.aim.pseudokey;
+      stays = Stays-of (λ (v : SearchView). record { search = v; stage = Searching }) c.step.result
+          c.self.inside.search c.step.new.self c.step.ensures.aim.stays;
+      ended = (λ e. absurd (none_found c.self.inside.search none (c.step.ensures.aim.ended.0 e)), λ over. absurd cc);
+    })
 
 pub returns-in-None-clause-progress : goal.returns-in-None-clause-progress
 returns-in-None-clause-progress g c = λ hash change sees.

@@ -1,13 +1,26 @@
 -- The search goes on, the record is written, or the page is given back.
 use Rattle.std.proofs.Common.{◌≡◌, refl, sym, ap, ◌∙◌, ℕ, Option, Some, None}
-use Rattle.record_file.specs.Words.{Selective, store_of, steps_left, found_at}
+use Rattle.stale_search.proofs.StayLemmas.{Stays-of}
+use Rattle.record_file.specs.Words.{SearchView, Selective, store_of, steps_left, found_at}
+use Rattle.record_file.specs.declared.replace.ReplaceStage.TheVariants.{Searching}
 use Rattle.record_file.proofs.AnswerLemmas.{nears_on}
 use Rattle.record_file.proofs.ReleaseLemmas.{gave_page_back}
-use Rattle.record_file.proofs.SeenLemmas.{sees_search, search_stepped, seen_told}
+use Rattle.record_file.proofs.SeenLemmas.{none_found, sees_search, search_stepped, seen_told}
 use Rattle.record_file.proofs.DeedLemmas.{page_row_selective, released, replaced, sees_found, fronting_fails}
 use Rattle.record_file.proofs.replace.Replace.step.Goals as goal
 
 -- ---- the search goes on
+
+pub returns-in-None-clause-aim : goal.returns-in-None-clause-aim
+returns-in-None-clause-aim g c =
+    let none = sym (rw (← c.self.view_is) at c.found.ensures) ∙ c.in-None.is in
+    rw (← c.self.view_is, c.in-Searching.is) (record {
+      key = c.step.ensures.aim.key;
+      pseudokey = c.step.ensures.aim.pseudokey;
+      stays = Stays-of (λ (v : SearchView). record { search = v; stage = Searching }) c.step.result
+          c.self.inside.search c.step.new.self c.step.ensures.aim.stays;
+      ended = (λ e. absurd (none_found c.self.inside.search none (c.step.ensures.aim.ended.0 e)), λ over. absurd cc);
+    })
 
 pub returns-in-None-clause-progress : goal.returns-in-None-clause-progress
 returns-in-None-clause-progress g c = λ hash change keyed short sees.
