@@ -76,7 +76,8 @@ module _ (s t : PoolState) (page right : ℕ) (payload : List ℕ) (pinned : IsP
   page_was honest behind = stored_page_is s.images page behind page_there ∙ ap page_in (image_was honest)
 
 -- each page of a file is well formed
-pub is_well : (images : List (List ℕ)) → SpellsFile images → (page : ℕ) → page < length images → IsWell (image images page)
+pub is_well : (images : List (List ℕ)) → SpellsFile images → (page : ℕ) → page < length images →
+    IsWell (image images page)
 is_well images file zero within = inr file.header
 is_well images file (suc n) within = at (cases_lt n DIRECTORY_PAGES)
   where

@@ -45,7 +45,8 @@ module _ (s t : PoolState) (page right : ℕ) (old new : List ℕ) (pinned : IsP
 
 -- where the file has a bucket there, the image is a bucket's
 pub bucket_there : (s t : PoolState) (page right : ℕ) (old : List ℕ) → IsPinned page s t right
-    → slice_get t.images right ≡ Some old → s.honest ≡ true → SpellsFile s.images → IsBucketThere page (store_of s.images)
+    → slice_get t.images right ≡ Some old → s.honest ≡ true → SpellsFile s.images
+    → IsBucketThere page (store_of s.images)
     → IsBucketPage old
 bucket_there s t page right old pinned is honest file there =
     bucket_spelled old

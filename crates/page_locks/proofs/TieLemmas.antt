@@ -173,7 +173,8 @@ pub IsSoundTable-looked : {slots : List Slot} {t : Table} → IsTied slots t →
 IsSoundTable-looked tied looked some = record { tied = tied; begun = λ none. absurd (omega (arith, some, none)) }
 
 module _ (slots : List Slot) (t : Table) (looked : ℕ) (sound : IsSoundTable slots t looked) (seat : ℕ) where
-  pub IsSoundTable-release : IsSeat t seat → (name : LockName) → {new : List Slot} → IsTied new (without_lock t seat name) →
+  pub IsSoundTable-release : IsSeat t seat → (name : LockName) → {new : List Slot} →
+      IsTied new (without_lock t seat name) →
       IsSoundTable new (without_lock t seat name) looked
   IsSoundTable-release is name tied = record {
     tied = tied;

@@ -27,8 +27,8 @@ find_turn f = search_turn f.search None
 abbrev pub found_of : FindView → Option (ℕ × Option ℕ)
 found_of f = found_at f.search.place
 
--- it searches until a page answers, which it then gives back; it has ended where it did, and where it did not move it is
--- what it was
+-- it searches until a page answers, which it then gives back; it has ended where it did, and where it did not move it
+-- is what it was
 pub record KeepsFind {F : Type 0} (did : Progress F) (pool : PoolState) (old new : FindView) : Type 0 where
   pub key : new.search.key ≡ old.search.key
   pub pseudokey : new.search.pseudokey ≡ old.search.pseudokey
