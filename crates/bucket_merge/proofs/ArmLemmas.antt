@@ -1,27 +1,7 @@
 -- The steps of a merge by what its parts answer.
 use Rattle.std.proofs.Common.{◌≡◌, refl, sym, ap, ◌∙◌, subst, ℕ, ◌<◌, true, false, List, [], ◌∷◌, ◌++◌, Some, None, length, arith}
-use Rattle.std.specs.List.{Contains}
-use Rattle.std.specs.Prelude.{IsTrue, IsErr, OnOk, OnErr, is_ok, Result, Ok, Err}
-use Rattle.page_device.specs.Device.{HasRisen}
-use Rattle.page_locks.specs.declared.row.TheConstants.{MAX_LOCKS}
-use Rattle.page_locks.specs.Locks.{kind_of, lock_of, converted}
-use Rattle.page_locks.specs.Table.{IsSeat, held, without_lock}
-use Rattle.page_locks.specs.Writers.{may_write}
-use Rattle.page_locks.proofs.TableLemmas.{row_of-same}
-use Rattle.page_locks.proofs.WriterLemmas.{IsFree-unopposed}
-use Rattle.file_pages.specs.declared.fault.FileFault.{FileFault}
-use Rattle.file_pages.specs.Files.{IsReady}
-use Rattle.file_pages.specs.Reads.{OnlyReads}
-use Rattle.file_pages.specs.Writes.{OnlyWrites}
-use Rattle.hash_file.specs.Change.{busy}
-use Rattle.step_rules.specs.declared.kind.Kind.{Kind}
+use Rattle.bucket_merge.proofs.Names.{AllAnchored, AllKnown, AllKnown-relocked, Contains, Converts, Err, FileFault, HasRisen, IsDone, IsErr, IsFree-unopposed, IsReached, IsReady, IsSeat, IsTrue, Kind, MAX_LOCKS, MayBeGranted, Ok, OnErr, OnOk, OnlyReads, OnlyWrites, Result, busy, converted, held, is_ok, kind_keeps, kind_of, lock_of, may_write, row_of-same, without_lock}
 use Rattle.step_rules.specs.declared.kind.Kind.TheVariants as kinds
-use Rattle.step_rules.specs.World.{IsReached}
-use Rattle.step_rules.specs.Known.{AllKnown, AllAnchored}
-use Rattle.step_rules.specs.LockSteps.{IsDone, Converts}
-use Rattle.step_rules.specs.Turns.{MayBeGranted}
-use Rattle.step_rules.proofs.KindLemmas.{kind_keeps}
-use Rattle.step_rules.proofs.MachineLemmas.{AllKnown-relocked}
 use Rattle.bucket_merge.specs.Words.{RecordKey, Lock, LockKind, Selective, Exclusive, LockName, Directory, Page, Table, row_of, with_row, PoolState, store_of, Store, Change, Progress, Moved, Blocked, Fault, Ended, World, ForLock, ToExclusive, HasNoFileLock, in_directory, world, Joint, MergePlace, Convert, GrantAlone}
 use Rattle.bucket_merge.specs.Places.{MergeView, at, locks_at, is_done, is_given_up}
 use Rattle.bucket_merge.specs.Facts.{facts_at, ask_at, left_at}

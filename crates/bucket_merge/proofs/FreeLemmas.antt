@@ -1,26 +1,7 @@
 -- The steps of a merge that write pages: from the counts on.
 use Rattle.std.proofs.Common.{◌≡◌, ◌≢◌, refl, sym, ap, ◌∙◌, subst, ℕ, suc, ◌+◌, ◌^◌, ◌<◌, ◌≤◌, Bool, true, false, List, [], ◌∷◌, Some, length, arith, eq-eqb, ne_eqb, if◌then◌else◌, inl, inr, ◌==◌}
-use Rattle.std.specs.Prelude.{IsTrue, IsErr, OnOk, OnErr, is_ok, Result, Ok, Err}
-use Rattle.page_device.specs.Device.{HasRisen}
-use Rattle.page_device.specs.declared.page.TheConstants.{MAX_PAGES}
-use Rattle.positions.proofs.MemberLaws.{contains_head}
-use Rattle.page_locks.specs.Locks.{kind_of}
-use Rattle.page_locks.specs.Table.{held}
-use Rattle.file_pages.specs.declared.fault.FileFault.{FileFault}
-use Rattle.file_pages.specs.Buckets.{IsThere}
-use Rattle.file_pages.specs.Files.{IsFilePool, SpellsFile}
-use Rattle.file_pages.specs.Headers.{MayMergeCount}
-use Rattle.file_pages.specs.Reads.{OnlyReads}
-use Rattle.file_pages.specs.Writes.{OnlyWrites}
-use Rattle.file_pages.proofs.StoreLemmas.{header_is, layout_is}
-use Rattle.directory.specs.declared.header.Header.{Header}
-use Rattle.hash_file.specs.Store.{Store, Layout, bucket_at, count_at}
-use Rattle.hash_file.specs.Chain.{chain, how_many}
-use Rattle.hash_file.specs.Changes.{set_counts, merge_counts, write_free, link_free, lower_depth}
-use Rattle.hash_file.specs.Sound.{IsSoundFile}
-use Rattle.hash_file.proofs.Short.{ways_are_short}
+use Rattle.bucket_merge.proofs.Names.{Err, FileFault, HasRisen, Header, IsErr, IsFilePool, IsSoundFile, IsThere, IsTrue, Layout, LinksFree, LowersDepth, MAX_PAGES, MayMergeCount, Ok, OnErr, OnOk, OnlyReads, OnlyWrites, Result, SetsCounts, SpellsFile, Store, WritesFree, bucket_at, chain, contains_head, count_at, header_is, held, how_many, is_ok, kind_of, layout_is, link_free, lower_depth, merge_counts, set_counts, ways_are_short, write_free}
 use Rattle.step_rules.specs.declared.kind.Kind.TheVariants as kinds
-use Rattle.step_rules.specs.PageSteps.{SetsCounts, WritesFree, LinksFree, LowersDepth}
 use Rattle.bucket_merge.specs.Words.{RecordKey, Range, Lock, Exclusive, Directory, Page, Table, row_of, PoolState, store_of, Quiet, Buried, Drained, Freed, Progress, HasNoFileLock, world, Joint, SetCounts, ReleaseRight, WriteFree, LinkFree, LowerDepth}
 use Rattle.bucket_merge.specs.Places.{MergeView, IsJoint, at, alone_on}
 use Rattle.bucket_merge.specs.Steps.{MakesStep, GoesOn}

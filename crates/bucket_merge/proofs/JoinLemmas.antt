@@ -1,41 +1,7 @@
 -- The steps of a merge that write pages: up to the counts.
 use Rattle.std.proofs.Common.{◌≡◌, ◌⊎◌, refl, sym, ap, ◌∙◌, subst, ℕ, suc, ◌+◌, ◌-◌, ◌*◌, ◌^◌, ◌<◌, ◌≤◌, nat_lt, Bool, true, false, List, [], ◌∷◌, length, slice_index_or, if◌then◌else◌, arith, inl, inr}
-use Rattle.std.specs.Prelude.{IsTrue, IsErr, OnOk, OnErr, is_ok, Result}
-use Rattle.std.specs.List.{All, Contains}
-use Rattle.std.proofs.lemmas.Bool.{cases_Bool, ltb-false}
-use Rattle.std.proofs.lemmas.List.Elements.{All-head, All-tail}
-use Rattle.std.proofs.Math.Pow.{pow_mono}
-use Rattle.page_device.specs.Device.{HasRisen}
-use Rattle.positions.specs.declared.pseudokey.TheConstants.{PSEUDOKEY_BITS}
-use Rattle.positions.specs.Ranges.{AreHalvesOf}
-use Rattle.positions.proofs.BuddyLaws.{parent_valid}
-use Rattle.positions.proofs.MemberLaws.{contains_head}
-use Rattle.positions.proofs.RangeLaws.{halves_apart}
-use Rattle.bucket_page.specs.Records.{Pair, record_bytes}
-use Rattle.bucket_page.specs.Bucket.{Bucket}
-use Rattle.bucket_page.specs.Dividing.{ShareNoKey}
-use Rattle.page_locks.specs.Locks.{kind_of}
-use Rattle.page_locks.specs.Writers.{may_write}
-use Rattle.file_pages.specs.declared.fault.FileFault.{FileFault}
-use Rattle.file_pages.specs.Buckets.{IsThere, AreJoinable, MayJoin}
-use Rattle.file_pages.specs.Entries.{MayRetarget}
-use Rattle.file_pages.specs.Files.{IsFilePool}
-use Rattle.file_pages.specs.Writes.{OnlyWrites}
-use Rattle.file_pages.proofs.StoreLemmas.{layout_is, pages_are}
-use Rattle.hash_file.specs.Store.{Store, bucket_at, range_of}
-use Rattle.hash_file.specs.Chain.{chain, IsBucketOf, IsPlaced}
-use Rattle.hash_file.specs.Change.{owned}
-use Rattle.hash_file.specs.Changes.{write_left, write_tombstone, retarget}
-use Rattle.hash_file.specs.Sound.{IsSoundFile}
-use Rattle.hash_file.proofs.Lookups.{absent_elsewhere}
-use Rattle.hash_file.proofs.Roles.{numbered}
+use Rattle.bucket_merge.proofs.Names.{All, All-head, All-tail, AllKnown, AreHalvesOf, AreJoinable, Bucket, Contains, FileFault, HasRisen, IsBucketOf, IsErr, IsFilePool, IsPlaced, IsRetargetedBefore, IsSoundFile, IsThere, IsTrue, MayJoin, MayRetarget, OnErr, OnOk, OnlyWrites, PSEUDOKEY_BITS, Pair, Result, Retargets, ShareNoKey, Store, World, WritesLeft, WritesTombstone, absent_elsewhere, bucket_at, cases_Bool, chain, contains_head, halves_apart, is_ok, kind_of, layout_is, ltb-false, may_write, numbered, owned, pages_are, parent_valid, pow_mono, range_of, record_bytes, retarget, retargets_on, target_of, used_on, write_left, write_tombstone}
 use Rattle.step_rules.specs.declared.kind.Kind.TheVariants as kinds
-use Rattle.step_rules.specs.World.{World}
-use Rattle.step_rules.specs.Known.{AllKnown}
-use Rattle.step_rules.specs.Pages.{used_on}
-use Rattle.step_rules.specs.Structure.{IsRetargetedBefore, target_of}
-use Rattle.step_rules.specs.PageSteps.{WritesLeft, WritesTombstone, Retargets}
-use Rattle.step_rules.proofs.FallLemmas.{retargets_on}
 use Rattle.bucket_merge.specs.Words.{RecordKey, Range, Covers, IsRange, is_lower, parent_of, upper_half_of, MERGED_BYTES, ROOT_PAGE, page_of, Lock, Directory, Page, Table, row_of, PoolState, store_of, Change, Absorbed, Buried, Progress, ApproachView, Sees, world, Seen, Buddies, Joint, MergePlace, WriteLeft, Tombstone, Retarget, SetCounts}
 use Rattle.bucket_merge.specs.Places.{MergeView, AreBuddies, IsJoint, HasEntry, at, own_of, joint_of, first_entry, entry_behind, stride_of, retargets_from, locks_at, on_both, is_given_up}
 use Rattle.bucket_merge.specs.Facts.{facts_at, left_at}

@@ -1,3 +1,4 @@
+pub mod Names
 pub mod RowLemmas
 pub mod ArmLemmas
 pub mod BuddyFacts

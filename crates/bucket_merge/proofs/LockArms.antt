@@ -1,24 +1,7 @@
 -- The steps of a merge that change locks.
 use Rattle.std.proofs.Common.{◌≡◌, ◌≢◌, ◌⊎◌, refl, sym, ap, ◌∙◌, subst, ℕ, ◌+◌, ◌<◌, ◌≤◌, true, List, [], Some, length, arith, inl, inr}
-use Rattle.std.specs.List.{Contains}
-use Rattle.std.proofs.lemmas.List.{length_push}
-use Rattle.positions.proofs.MemberLaws.{contains_head, contains_none}
-use Rattle.page_locks.specs.declared.row.TheConstants.{MAX_LOCKS}
-use Rattle.page_locks.specs.Locks.{kind_of, lock_of}
-use Rattle.page_locks.specs.Table.{IsSeat, held, without_lock}
-use Rattle.page_locks.specs.Writers.{may_write}
-use Rattle.file_pages.specs.declared.fault.FileFault.{FileFault}
-use Rattle.file_pages.specs.Files.{IsReady}
-use Rattle.file_pages.specs.Reads.{OnlyReads}
-use Rattle.hash_file.specs.Change.{aside, busy}
-use Rattle.hash_file.specs.Store.{count_at}
-use Rattle.hash_file.specs.Chain.{chain}
+use Rattle.bucket_merge.proofs.Names.{AllKnown, Contains, FileFault, IsHeld, IsHeld-some, IsReady, IsSeat, MAX_LOCKS, OnlyReads, aside, busy, chain, contains_head, contains_none, count_at, held, kind_of, last_rank, length_push, lock_of, may_write, none_busy, page_may, without_lock}
 use Rattle.step_rules.specs.declared.kind.Kind.TheVariants as kinds
-use Rattle.step_rules.specs.World.{IsHeld}
-use Rattle.step_rules.specs.Known.{AllKnown}
-use Rattle.step_rules.proofs.LockLemmas.{IsHeld-some}
-use Rattle.step_rules.proofs.LockStepLemmas.{none_busy}
-use Rattle.step_rules.proofs.MachineLemmas.{page_may, last_rank}
 use Rattle.bucket_merge.specs.Words.{RecordKey, Lock, LockKind, Selective, Exclusive, Directory, Page, Table, row_of, PoolState, store_of, Change, Drained, Progress, Moved, Known, EndsRow, HasNoFileLock, in_directory, Sees, world, Seen, Buddies, Joint, GrantRight, GiveBack, GrantLeft, GrantRightAgain, LookLeft, LookRight, ReleaseRight, ReleaseLeft, Convert, GrantAlone, WriteFree, LowerDepth, ReleaseAlone, GiveUpRight, GiveUp, ReleaseDirectory, Done}
 use Rattle.bucket_merge.specs.Places.{MergeView, AreBuddies, at, locks_at, on_one}
 use Rattle.bucket_merge.specs.Facts.{facts_at, buddy_facts, left_facts}

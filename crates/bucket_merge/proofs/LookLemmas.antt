@@ -1,28 +1,7 @@
 -- The steps that read the two buckets.
 use Rattle.std.proofs.Common.{◌≡◌, refl, sym, ap, ◌∙◌, subst, ℕ, ◌%◌, ◌^◌, ◌≤◌, true, false, List, [], Some, arith}
-use Rattle.std.specs.Prelude.{IsTrue}
-use Rattle.page_device.specs.Device.{HasRisen}
-use Rattle.page_locks.specs.Locks.{kind_of}
-use Rattle.page_locks.specs.Writers.{may_write}
-use Rattle.file_pages.specs.declared.fault.FileFault.{FileFault}
-use Rattle.file_pages.specs.declared.sight.BucketSight.{BucketSight}
-use Rattle.file_pages.specs.Files.{IsFilePool}
-use Rattle.file_pages.specs.Reads.{OnlyReads, IsSeen}
-use Rattle.hash_file.specs.Store.{page_at, entry_at}
-use Rattle.hash_file.specs.Chain.{IsBucketOf}
-use Rattle.hash_file.proofs.Chains.{chain_valid}
+use Rattle.bucket_merge.proofs.Names.{AllKnown, ApproachPlace, At, BucketSight, FileFault, HasRisen, HasShape, IsBucketOf, IsFilePool, IsHeld-some, IsKnown, IsSeen, IsSoundWorld, IsTrue, IsWhole, OnlyReads, approach_facts_at, approach_locks_at, buddy_is_other_half, chain_valid, entry_at, entry_is_bucket, kind_of, lower_buddies, may_write, page_at}
 use Rattle.step_rules.specs.declared.kind.Kind.TheVariants as kinds
-use Rattle.step_rules.specs.Rooms.{IsWhole}
-use Rattle.step_rules.specs.Sound.{IsSoundWorld}
-use Rattle.step_rules.specs.Structure.{HasShape}
-use Rattle.step_rules.specs.Known.{AllKnown, IsKnown}
-use Rattle.step_rules.proofs.BuddyLemmas.{buddy_is_other_half}
-use Rattle.step_rules.proofs.LockLemmas.{IsHeld-some}
-use Rattle.step_rules.proofs.OwnLemmas.{entry_is_bucket}
-use Rattle.stale_search.specs.Approaches.{approach_locks_at, approach_facts_at}
-use Rattle.stale_search.specs.declared.place.ApproachPlace.{ApproachPlace}
-use Rattle.stale_search.specs.declared.place.ApproachPlace.TheVariants.{At}
-use Rattle.positions.proofs.BuddyLaws.{lower_buddies}
 use Rattle.bucket_merge.specs.Words.{RecordKey, Range, IsRange, is_lower, buddy_of, lower_half_of, parent_of, Lock, Selective, Directory, Page, Table, row_of, PoolState, store_of, Change, Moved, Fault, Built, BucketOf, ApproachView, HasNoFileLock, EndsRow, world, Own, MergePlace, Approaching, ReadBuddy, GrantRight, GiveBack, GiveUp}
 use Rattle.bucket_merge.specs.Places.{MergeView, IsOwn, HasMergeRow, beside, locks_at, on_one}
 use Rattle.bucket_merge.specs.Facts.{facts_at, quiet_facts}

@@ -1,33 +1,7 @@
 -- The steps of a merge, one lemma for each way in which a place is left.
 use Rattle.std.proofs.Common.{◌≡◌, refl, sym, ap, ◌∙◌, subst, ℕ, ◌<◌, Bool, true, false, List, [], ◌∷◌, ◌++◌, Option, Some, None, length, arith}
-use Rattle.std.proofs.lemmas.Bool.{true≢false}
-use Rattle.std.specs.List.{Contains}
-use Rattle.std.specs.Prelude.{IsTrue}
-use Rattle.page_device.specs.Device.{HasRisen}
-use Rattle.page_locks.specs.declared.row.TheConstants.{MAX_LOCKS}
-use Rattle.page_locks.specs.Locks.{kind_of, lock_of, without}
-use Rattle.page_locks.specs.Table.{IsSeat, IsOpposed, held, with_lock, without_lock}
-use Rattle.page_locks.proofs.ChangeLemmas.{with_row-own}
-use Rattle.page_locks.proofs.TableLemmas.{row_of-same}
-use Rattle.file_pages.specs.declared.fault.FileFault.{FileFault}
-use Rattle.file_pages.specs.Files.{IsReady}
-use Rattle.file_pages.specs.Reads.{OnlyReads}
-use Rattle.file_pages.specs.Writes.{OnlyWrites}
-use Rattle.hash_file.specs.Change.{busy}
-use Rattle.hash_file.specs.Changes.{Remove}
-use Rattle.hash_file.specs.Kept.{KeepsContents}
-use Rattle.step_rules.specs.declared.kind.Kind.{Kind}
+use Rattle.bucket_merge.proofs.Names.{AllAnchored, AllKnown, AllKnown-relocked, Contains, DoesTied, FileFault, HasRisen, IsDone, IsHeld-some, IsOpposed, IsReached, IsReady, IsSeat, IsTrue, KeepsContents, KeepsOthers, KeepsOthers-same, Kind, MAX_LOCKS, MayBeGranted, OnlyReads, OnlyWrites, Releases, Remove, StandsInWay, busy, held, is_of_its_kind, kind_keeps, kind_keeps_contents, kind_of, lock_of, row_of-same, true≢false, turn_keeps, with_lock, with_row-own, without, without_lock}
 use Rattle.step_rules.specs.declared.kind.Kind.TheVariants as kinds
-use Rattle.step_rules.specs.World.{IsReached}
-use Rattle.step_rules.specs.Does.{KeepsOthers}
-use Rattle.step_rules.specs.Known.{AllKnown, AllAnchored}
-use Rattle.step_rules.specs.LockSteps.{IsDone, Releases}
-use Rattle.step_rules.specs.Turns.{DoesTied, MayBeGranted, StandsInWay}
-use Rattle.step_rules.proofs.KindLemmas.{kind_keeps, kind_keeps_contents}
-use Rattle.step_rules.proofs.LockLemmas.{IsHeld-some}
-use Rattle.step_rules.proofs.LockStepLemmas.{KeepsOthers-same}
-use Rattle.step_rules.proofs.MachineLemmas.{AllKnown-relocked}
-use Rattle.step_rules.proofs.TurnLemmas.{is_of_its_kind, turn_keeps}
 use Rattle.stale_search.proofs.StepLemmas.{granted as granted_lock, read as read_page}
 use Rattle.bucket_merge.specs.Words.{RecordKey, Lock, LockKind, LockName, Directory, Page, Table, row_of, with_row, PoolState, store_of, Store, Change, Moved, Blocked, Fault, Ended, World, Ask, ForLock, ApproachView, HasNoFileLock, Sees, world, MergePlace}
 use Rattle.bucket_merge.specs.Places.{MergeView, locks_at, is_done, is_given_up}

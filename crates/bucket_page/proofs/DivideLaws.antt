@@ -7,7 +7,7 @@ use Rattle.bucket_page.specs.declared.layout.TheConstants.{ROOM_BYTES}
 use Rattle.bucket_page.specs.declared.record_key.RecordKey.{RecordKey}
 use Rattle.bucket_page.specs.Records.{Pair, pair_bytes, record_bytes, is_above, ascend_from, ascend}
 use Rattle.bucket_page.specs.Bucket.{Bucket}
-use Rattle.bucket_page.specs.Reading.{used_at, bucket_at, records_at}
+use Rattle.bucket_page.specs.Reading.{used_at, bucket_in, records_in}
 use Rattle.bucket_page.specs.Changes.{SpellsBucket, IsBucketPage, Appends}
 use Rattle.bucket_page.specs.Dividing.{has_bit_as, with_bit, pattern_of_half, half_of}
 use Rattle.fields.proofs.Tests.{both_true}
@@ -17,21 +17,21 @@ use Rattle.bucket_page.proofs.OrderLaws.{ascend_lower}
 use Rattle.bucket_page.proofs.ChangeLaws.{opened}
 
 -- a payload spells one bucket
-pub bucket_is : (b : Bucket) (bytes : List ℕ) → SpellsBucket b bytes → bucket_at bytes ≡ b
-bucket_is b bytes it = ap bucket_at it.spelled ∙ (bucket_again b it.in_range).value
+pub bucket_is : (b : Bucket) (bytes : List ℕ) → SpellsBucket b bytes → bucket_in bytes ≡ b
+bucket_is b bytes it = ap bucket_in it.spelled ∙ (bucket_again b it.in_range).value
 
 pub is_page : (b : Bucket) (bytes : List ℕ) → SpellsBucket b bytes → IsBucketPage bytes
 is_page b bytes it = subst (λ (x : Bucket). SpellsBucket x bytes) (sym (bucket_is b bytes it)) it
 
 -- the payload is the bucket that is to be but for these records, which are still to be appended
 pub record Filling (target : Bucket) (todo : List Pair) (bytes : List ℕ) : Type 0 where
-  pub spells : SpellsBucket (record target { records = records_at bytes }) bytes
-  pub all : records_at bytes ++ todo ≡ target.records
+  pub spells : SpellsBucket (record target { records = records_in bytes }) bytes
+  pub all : records_in bytes ++ todo ≡ target.records
 
 pub begun : (target : Bucket) (todo : List Pair) (bytes : List ℕ)
     → SpellsBucket (record target { records = [] }) bytes → todo ≡ target.records → Filling target todo bytes
 begun target todo bytes it is =
-    let none : records_at bytes ≡ [] = ap (λ (b : Bucket). b.records) (bucket_is _ bytes it) in
+    let none : records_in bytes ≡ [] = ap (λ (b : Bucket). b.records) (bucket_is _ bytes it) in
     record {
       spells = subst (λ (ps : List Pair). SpellsBucket (record target { records = ps }) bytes) (sym none) it;
       all = ap (λ (ps : List Pair). ps ++ todo) none ∙ is;
@@ -50,14 +50,14 @@ ascend_front low (x ∷ xs) ys h =
 -- the next record fits and keeps the order
 pub record IsNext (p : Pair) (bytes : List ℕ) : Type 0 where
   pub page : IsBucketPage bytes
-  pub order : ascend (records_at bytes ++ p ∷ []) ≡ true
+  pub order : ascend (records_in bytes ++ p ∷ []) ≡ true
   pub room : used_at bytes + (15 + length p.value) ≤ ROOM_BYTES
 
 pub is_next : (target : Bucket) (p : Pair) (todo rest : List Pair) (bytes : List ℕ) → Filling target todo bytes
     → todo ≡ p ∷ rest → ascend target.records ≡ true
     → length (record_bytes target.records) ≤ ROOM_BYTES → IsNext p bytes
 is_next target p todo rest bytes it is order room =
-    let done : List Pair = records_at bytes in
+    let done : List Pair = records_in bytes in
     let page = is_page _ bytes it.spells in
     let says = opened bytes page in
     let all : (done ++ p ∷ []) ++ rest ≡ target.records =
@@ -80,11 +80,11 @@ is_next target p todo rest bytes it is order room =
 pub goes_on : (target : Bucket) (p : Pair) (todo rest : List Pair) (old new : List ℕ) → Filling target todo old
     → todo ≡ p ∷ rest → Appends p old new → Filling target rest new
 goes_on target p todo rest old new it is appends =
-    let done : List Pair = records_at old in
-    let was : bucket_at old ≡ record target { records = done } = bucket_is _ old it.spells in
+    let done : List Pair = records_in old in
+    let was : bucket_in old ≡ record target { records = done } = bucket_is _ old it.spells in
     let now : SpellsBucket (record target { records = done ++ p ∷ [] }) new =
     subst (λ (b : Bucket). SpellsBucket (record b { records = done ++ p ∷ [] }) new) was appends in
-    let records : records_at new ≡ done ++ p ∷ [] = ap (λ (b : Bucket). b.records) (bucket_is _ new now) in
+    let records : records_in new ≡ done ++ p ∷ [] = ap (λ (b : Bucket). b.records) (bucket_is _ new now) in
     record {
       spells = subst (λ (ps : List Pair). SpellsBucket (record target { records = ps }) new) (sym records) now;
       all = ap (λ (ps : List Pair). ps ++ rest) records ∙ regrouped done rest p
@@ -132,12 +132,12 @@ pub record IsHalf (ps : List Pair) : Type 0 where
   pub room : length (record_bytes ps) ≤ ROOM_BYTES
 
 pub is_half : (set : Bool) (place : ℕ) (of_key : RecordKey → ℕ) (bytes : List ℕ) → IsBucketPage bytes
-    → IsHalf (with_bit set place of_key (records_at bytes))
+    → IsHalf (with_bit set place of_key (records_in bytes))
 is_half set place of_key bytes it =
     let f = λ (p : Pair). has_bit_as set place (of_key p.key) in
     record {
-      order = ascend_some f None (records_at bytes) it.in_range.order;
-      room = omega (arith, some_within f (records_at bytes), it.in_range.room);
+      order = ascend_some f None (records_in bytes) it.in_range.order;
+      room = omega (arith, some_within f (records_in bytes), it.in_range.room);
     }
 
 -- what is left to append, where the first record that is left belongs to the half, and where it doesn't
@@ -162,11 +162,11 @@ begun_half set of_key next pattern b ps bytes pattern-is it is =
 
 pub half_next : (set : Bool) (of_key : RecordKey → ℕ) (next : ℕ) (full bytes : List ℕ) (p : Pair) (ps qs : List Pair)
     (key : ℕ) (r : Bool) → IsBucketPage full
-    → Filling (half_of set of_key next (bucket_at full)) (with_bit set (bucket_at full).depth of_key qs) bytes
+    → Filling (half_of set of_key next (bucket_in full)) (with_bit set (bucket_in full).depth of_key qs) bytes
     → qs ≡ p ∷ ps → key ≡ of_key p.key
-    → r ≡ has_bit_as set (bucket_at full).depth key → r ≡ true → IsNext p bytes
+    → r ≡ has_bit_as set (bucket_in full).depth key → r ≡ true → IsNext p bytes
 half_next set of_key next full bytes p ps qs key r it filling is key-is test holds =
-    let b : Bucket = bucket_at full in
+    let b : Bucket = bucket_in full in
     let half = is_half set b.depth of_key full it in
     is_next (half_of set of_key next b) p (with_bit set b.depth of_key qs) (with_bit set b.depth of_key ps) bytes
     filling
@@ -174,12 +174,12 @@ half_next set of_key next full bytes p ps qs key r it filling is key-is test hol
 
 pub half_on : (set : Bool) (of_key : RecordKey → ℕ) (next : ℕ) (full old new : List ℕ) (p : Pair) (ps qs : List Pair)
     (key : ℕ) (r : Bool)
-    → Filling (half_of set of_key next (bucket_at full)) (with_bit set (bucket_at full).depth of_key qs) old
+    → Filling (half_of set of_key next (bucket_in full)) (with_bit set (bucket_in full).depth of_key qs) old
     → qs ≡ p ∷ ps → key ≡ of_key p.key
-    → r ≡ has_bit_as set (bucket_at full).depth key → r ≡ true → Appends p old new
-    → Filling (half_of set of_key next (bucket_at full)) (with_bit set (bucket_at full).depth of_key ps) new
+    → r ≡ has_bit_as set (bucket_in full).depth key → r ≡ true → Appends p old new
+    → Filling (half_of set of_key next (bucket_in full)) (with_bit set (bucket_in full).depth of_key ps) new
 half_on set of_key next full old new p ps qs key r filling is key-is test holds appends =
-    let b : Bucket = bucket_at full in
+    let b : Bucket = bucket_in full in
     goes_on (half_of set of_key next b) p (with_bit set b.depth of_key qs) (with_bit set b.depth of_key ps) old new
     filling
     (taken_on set b.depth of_key p ps qs key r is key-is test holds) appends

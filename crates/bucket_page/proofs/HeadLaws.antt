@@ -5,7 +5,7 @@ use Rattle.bucket_page.specs.declared.layout.TheConstants.{BUCKET}
 use Rattle.bucket_page.specs.declared.head.Head.{Head}
 use Rattle.fields.specs.Numbers.{two, four, zeros, four_at}
 use Rattle.bucket_page.specs.Spelling.{head_bytes}
-use Rattle.bucket_page.specs.Reading.{count_at, used_at}
+use Rattle.bucket_page.specs.Reading.{record_count_at, used_at}
 use Rattle.fields.specs.Numbers.{is_zero}
 use Rattle.fields.proofs.ZeroLaws.{zeros_again, length-zeros}
 use Rattle.fields.proofs.NumberLaws.{after_part, two_again, four_again, length-two, length-four}
@@ -43,7 +43,7 @@ length-head h =
 
 -- what a head and the bytes behind it say
 pub record IsHead (h : Head) (body bytes : List ℕ) : Type 0 where
-  pub count : count_at bytes ≡ h.count
+  pub count : record_count_at bytes ≡ h.count
   pub pattern : four_at 4 bytes ≡ h.pattern
   pub next : four_at 8 bytes ≡ h.next
   pub used : used_at bytes ≡ h.used

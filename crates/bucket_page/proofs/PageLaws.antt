@@ -13,7 +13,7 @@ use Rattle.fields.specs.Numbers.{four, zeros, four_at}
 use Rattle.bucket_page.specs.Records.{record_bytes, pairs_of, fills, ascend}
 use Rattle.bucket_page.specs.Bucket.{Bucket}
 use Rattle.bucket_page.specs.Spelling.{head_of, bucket_bytes, link_bytes, bytes_of, IsBucket, IsPage, Spells}
-use Rattle.bucket_page.specs.Reading.{count_at, used_at, area, after_area, bucket_at, page_at, bucket_fault, link_fault, fault_of, reading, answer}
+use Rattle.bucket_page.specs.Reading.{record_count_at, used_at, area, after_area, bucket_in, page_in, bucket_fault, link_fault, fault_of, reading, answer}
 use Rattle.fields.specs.Numbers.{is_zero}
 use Rattle.fields.proofs.ZeroLaws.{zeros_again, length-zeros}
 use Rattle.fields.proofs.NumberLaws.{after_part, four_again, length-four}
@@ -31,11 +31,11 @@ pattern_small depth pattern d p =
 
 -- what the whole of a bucket says
 pub record IsWhole (b : Bucket) (bytes : List ℕ) : Type 0 where
-  pub count : count_at bytes ≡ length b.records
+  pub count : record_count_at bytes ≡ length b.records
   pub used : used_at bytes ≡ length (record_bytes b.records)
   pub fault : bucket_fault bytes ≡ None
-  pub fills : fills (count_at bytes) (area bytes) ≡ true
-  pub value : bucket_at bytes ≡ b
+  pub fills : fills (record_count_at bytes) (area bytes) ≡ true
+  pub value : bucket_in bytes ≡ b
 
 pub bucket_again : (b : Bucket) → IsBucket b → IsWhole b (bucket_bytes b)
 bucket_again b is =
@@ -51,9 +51,9 @@ bucket_again b is =
     let depth : leb b.depth GREATEST_DEPTH ≡ true = le-leb _ _ is.depth in
     let pattern : ltb (four_at 4 bytes) (2 ^ b.depth) ≡ true = rw h.pattern (lt-ltb _ _ is.pattern) in
     let room : leb (used_at bytes) ROOM_BYTES ≡ true = rw h.used (le-leb _ _ is.room) in
-    let full : fills (count_at bytes) (area bytes) ≡ true = rw (h.count, inside) records.0 in
-    let found : pairs_of (count_at bytes) (area bytes) ≡ b.records = rw (h.count, inside) records.1 in
-    let order : ascend (pairs_of (count_at bytes) (area bytes)) ≡ true = rw found is.order in
+    let full : fills (record_count_at bytes) (area bytes) ≡ true = rw (h.count, inside) records.0 in
+    let found : pairs_of (record_count_at bytes) (area bytes) ≡ b.records = rw (h.count, inside) records.1 in
+    let order : ascend (pairs_of (record_count_at bytes) (area bytes)) ≡ true = rw found is.order in
     let padding : is_zero (after_area bytes) ≡ true = rw behind (zeros_again (ROOM_BYTES - length body)) in
     record {
       count = h.count;
@@ -76,7 +76,7 @@ link_again kind page small =
     let back : is_zero (drop LINK_BYTES bytes) ≡ true = rw at8 (zeros_again (PAYLOAD_BYTES - LINK_BYTES)) in
     (rw (front, back) refl, four_again 4 page bytes (zeros (PAYLOAD_BYTES - LINK_BYTES)) at4 small)
 
-page_again : (page : PageKind) → IsPage page → (fault_of (bytes_of page) ≡ None) × (page_at (bytes_of page) ≡ page)
+page_again : (page : PageKind) → IsPage page → (fault_of (bytes_of page) ≡ None) × (page_in (bytes_of page) ≡ page)
 page_again (kinds.Bucket b) is = let it = bucket_again b is in (it.fault, ap kinds.Bucket it.value)
 page_again (kinds.Directory es) is =
     let it = directory_again es is in

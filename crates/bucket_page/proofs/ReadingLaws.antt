@@ -13,7 +13,7 @@ use Rattle.fields.specs.Numbers.{two, four, zeros, two_at, four_at}
 use Rattle.bucket_page.specs.Records.{Pair, record_bytes, pairs_of}
 use Rattle.directory.specs.Pages.{entries_at}
 use Rattle.bucket_page.specs.Spelling.{head_bytes, padded, link_bytes, Spells}
-use Rattle.bucket_page.specs.Reading.{kind_at, depth_at, count_at, used_at, area, after_area, head_at, bucket_at, page_at, bucket_fault, directory_fault, link_fault, fault_of, answer, reading}
+use Rattle.bucket_page.specs.Reading.{kind_at, depth_at, record_count_at, used_at, area, after_area, head_at, bucket_in, page_in, bucket_fault, directory_fault, link_fault, fault_of, answer, reading}
 use Rattle.fields.specs.Numbers.{is_zero}
 use Rattle.fields.proofs.Tests.{both_true}
 use Rattle.fields.proofs.ZeroLaws.{zeros_at, zeros_of}
@@ -51,7 +51,7 @@ head_takes bytes long all kind blank =
     ∙ sym (head_parts (head_at bytes) (drop 16 bytes))
 
 bucket_takes : (bytes : List ℕ) → length bytes ≡ PAYLOAD_BYTES → IsBytes bytes → kind_at bytes ≡ BUCKET
-    → bucket_fault bytes ≡ None → Spells (kinds.Bucket (bucket_at bytes)) bytes
+    → bucket_fault bytes ≡ None → Spells (kinds.Bucket (bucket_in bytes)) bytes
 bucket_takes bytes long all kind passes =
     let depth = passed _ _ _ passes in
     let pattern = passed _ _ _ depth.1 in
@@ -60,9 +60,9 @@ bucket_takes bytes long all kind passes =
     let padding = passed _ _ _ order.1 in
     let room = both_true _ _ lengths.0 in
     let blanks = both_true _ _ padding.0 in
-    let ps : List Pair = pairs_of (count_at bytes) (area bytes) in
+    let ps : List Pair = pairs_of (record_count_at bytes) (area bytes) in
     let used : used_at bytes ≤ ROOM_BYTES = leb-true _ _ room.0 in
-    let records = records_take (count_at bytes) (area bytes) room.1
+    let records = records_take (record_count_at bytes) (area bytes) room.1
     (IsBytes-take (used_at bytes) (drop 16 bytes) (IsBytes-drop 16 bytes all)) in
     let area-len : length (area bytes) ≡ used_at bytes =
     omega (arith, used, long, length-take (used_at bytes) (drop 16 bytes), length-drop 16 bytes) in
@@ -109,7 +109,7 @@ link_takes kind bytes long all is passes =
     kind_first bytes (omega (arith, long)) ∙ (λ i. is i ∷ parts i)
 
 page_takes : (bytes : List ℕ) → length bytes ≡ PAYLOAD_BYTES → IsBytes bytes → fault_of bytes ≡ None
-    → Spells (page_at bytes) bytes
+    → Spells (page_in bytes) bytes
 page_takes bytes long all passes = by_kind (eqb (kind_at bytes) 3) (eqb (kind_at bytes) 2) (eqb (kind_at bytes) 4)
     (eqb (kind_at bytes) 5) refl refl refl refl passes
   where
@@ -117,7 +117,7 @@ page_takes bytes long all passes = by_kind (eqb (kind_at bytes) 3) (eqb (kind_at
         → eqb (kind_at bytes) 2 ≡ directory → eqb (kind_at bytes) 4 ≡ tombstone → eqb (kind_at bytes) 5 ≡ free
         → cond bucket (bucket_fault bytes) (cond directory (directory_fault bytes)
         (cond (tombstone || free) (link_fault bytes) (Some faults.Kind))) ≡ None
-        → Spells (cond bucket (kinds.Bucket (bucket_at bytes))
+        → Spells (cond bucket (kinds.Bucket (bucket_in bytes))
         (cond directory (kinds.Directory (entries_at bytes))
         (cond tombstone (kinds.Tombstone (four_at 4 bytes)) (kinds.Free (four_at 4 bytes))))) bytes
     by_kind true directory tombstone free a b c d passes = bucket_takes bytes long all (eqb-true _ _ a) passes
@@ -146,7 +146,7 @@ pub is_spelled : (bytes : List ℕ) (r : Result PageKind Malformed) → length b
     → r ≡ reading bytes → IfOk r (λ page. Spells page bytes)
 is_spelled bytes r long all is =
     subst (λ (x : Result PageKind Malformed). IfOk x (λ page. Spells page bytes)) (sym is)
-    (answered (fault_of bytes) (page_at bytes) bytes (page_takes bytes long all))
+    (answered (fault_of bytes) (page_in bytes) bytes (page_takes bytes long all))
 
 -- a fault is answered whatever the value
 pub refused : {X Y : Type 0} (fault : Option Malformed) (x : X) (y : Y) (m : Malformed)
@@ -155,5 +155,5 @@ refused None x y m is = absurd cc
 refused (Some f) x y m is = let same : m ≡ f = cc in ap Err same
 
 pub bucket_kind : (bytes : List ℕ) → kind_at bytes ≡ BUCKET
-    → answer (bucket_fault bytes) (page_at bytes) ≡ reading bytes
+    → answer (bucket_fault bytes) (page_in bytes) ≡ reading bytes
 bucket_kind bytes is = rw is refl

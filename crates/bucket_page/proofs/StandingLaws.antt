@@ -12,7 +12,7 @@ use Rattle.fields.specs.Numbers.{two, zeros, two_at, overwritten}
 use Rattle.bucket_page.specs.Keys.{key_bytes}
 use Rattle.bucket_page.specs.Records.{Pair, pair, is_above, ascend_from, IsPair, pair_bytes, record_bytes, ascend, lookup}
 use Rattle.bucket_page.specs.Spelling.{head_bytes, padded}
-use Rattle.bucket_page.specs.Reading.{count_at, used_at, head_at, bucket_at, records_at}
+use Rattle.bucket_page.specs.Reading.{record_count_at, used_at, head_at, bucket_in, records_in}
 use Rattle.bucket_page.specs.Changes.{SpellsBucket, IsBucketPage, Changes, below, fronted, replaced, removed, taken_out, value_of_key}
 use Rattle.fields.proofs.NumberLaws.{two_again, length-two}
 use Rattle.bucket_page.proofs.KeyLaws.{length-key}
@@ -24,23 +24,23 @@ use Rattle.bucket_page.proofs.ChangeLaws.{opened, remade}
 
 -- the bytes before a record, its own, and those behind it
 pub record Stands (key : RecordKey) (value bytes : List ℕ) : Type 0 where
-  pub among : IsAmong key value (records_at bytes)
+  pub among : IsAmong key value (records_in bytes)
   pub own : IsPair (pair key value)
-  pub parts : record_bytes (records_at bytes) ≡ record_bytes (below key (records_at bytes))
-      ++ (pair_bytes (pair key value) ++ record_bytes (behind key (records_at bytes)))
-  pub within : length (record_bytes (below key (records_at bytes))) + (15 + length value) ≤ used_at bytes
-  pub some : 1 ≤ count_at bytes
-  pub len : two_at (length (record_bytes (below key (records_at bytes)))) (drop 16 bytes) ≡ length value
+  pub parts : record_bytes (records_in bytes) ≡ record_bytes (below key (records_in bytes))
+      ++ (pair_bytes (pair key value) ++ record_bytes (behind key (records_in bytes)))
+  pub within : length (record_bytes (below key (records_in bytes))) + (15 + length value) ≤ used_at bytes
+  pub some : 1 ≤ record_count_at bytes
+  pub len : two_at (length (record_bytes (below key (records_in bytes)))) (drop 16 bytes) ≡ length value
 
 all_at : (P : Pair → Type 0) (p : Pair) (lower upper : List Pair) → AllByRecursion P (lower ++ p ∷ upper) → P p
 all_at P p [] upper all = all.0
 all_at P p (q ∷ lower) upper all = all_at P p lower upper all.1
 
 pub stands : (bytes value : List ℕ) (key : RecordKey) → IsBucketPage bytes
-    → lookup key (records_at bytes) ≡ Some value → Stands key value bytes
+    → lookup key (records_in bytes) ≡ Some value → Stands key value bytes
 stands bytes value key it there =
     let says = opened bytes it in
-    let ps : List Pair = records_at bytes in
+    let ps : List Pair = records_in bytes in
     let among = is_among key value None ps says.ascends there in
     let f : List ℕ = record_bytes (below key ps) in
     let x : List ℕ = pair_bytes (pair key value) in
@@ -90,30 +90,30 @@ length_in None n is = absurd cc
 length_in (Some value) n is = let same : length value ≡ n = cc in (refl, same)
 
 -- the record of a key that is there
-pub stands_there : (bytes : List ℕ) (key : RecordKey) → IsBucketPage bytes → IsSome (lookup key (records_at bytes))
-    → Stands key (value_in (lookup key (records_at bytes))) bytes
-stands_there bytes key it there = stands bytes _ key it (some_in (lookup key (records_at bytes)) there)
+pub stands_there : (bytes : List ℕ) (key : RecordKey) → IsBucketPage bytes → IsSome (lookup key (records_in bytes))
+    → Stands key (value_in (lookup key (records_in bytes))) bytes
+stands_there bytes key it there = stands bytes _ key it (some_in (lookup key (records_in bytes)) there)
 
 pub stands_long : (bytes : List ℕ) (key : RecordKey) (n : ℕ) → IsBucketPage bytes
-    → option_map length (lookup key (records_at bytes)) ≡ Some n
-    → Stands key (value_in (lookup key (records_at bytes))) bytes
-    × (length (value_in (lookup key (records_at bytes))) ≡ n)
+    → option_map length (lookup key (records_in bytes)) ≡ Some n
+    → Stands key (value_in (lookup key (records_in bytes))) bytes
+    × (length (value_in (lookup key (records_in bytes))) ≡ n)
 stands_long bytes key n it there =
-    let both = length_in (lookup key (records_at bytes)) n there in
+    let both = length_in (lookup key (records_in bytes)) n there in
     (stands bytes _ key it both.0, both.1)
 
 -- its length, as the code reads it
 pub record IsRead (bytes : List ℕ) (key : RecordKey) (h : Head) (at n : ℕ) : Type 0 where
-  pub len : n ≡ length (value_in (lookup key (records_at bytes)))
+  pub len : n ≡ length (value_in (lookup key (records_in bytes)))
   pub fits : at + (15 + n) ≤ h.used
 
 pub is_read : (bytes back : List ℕ) (key : RecordKey) (h : Head) (at n : ℕ) → IsBucketPage bytes
-    → IsSome (lookup key (records_at bytes)) → h ≡ head_at bytes
-    → at ≡ length (record_bytes (below key (records_at bytes))) → back ≡ drop 16 bytes → n ≡ two_at at back
+    → IsSome (lookup key (records_in bytes)) → h ≡ head_at bytes
+    → at ≡ length (record_bytes (below key (records_in bytes))) → back ≡ drop 16 bytes → n ≡ two_at at back
     → IsRead bytes key h at n
 is_read bytes back key h at n it there head at-is back-is n-is =
     let stand = stands_there bytes key it there in
-    let len : n ≡ length (value_in (lookup key (records_at bytes))) =
+    let len : n ≡ length (value_in (lookup key (records_in bytes))) =
     n-is ∙ (λ i. two_at (at-is i) (back-is i)) ∙ stand.len in
     record { len = len; fits = omega (arith, stand.within, len, at-is, ap (λ (o : Head). o.used) head) }
 
@@ -166,12 +166,12 @@ written_value f u value new key room same =
 
 pub replace_makes : (bytes value new front back body : List ℕ) (key : RecordKey) (at : ℕ) → IsBucketPage bytes
     → Stands key value bytes → length value ≡ length new
-    → at ≡ length (record_bytes (below key (records_at bytes))) → front ≡ take 16 bytes → back ≡ drop 16 bytes
+    → at ≡ length (record_bytes (below key (records_in bytes))) → front ≡ take 16 bytes → back ≡ drop 16 bytes
     → body ≡ overwritten back (at + 15) new
     → Changes (replaced (pair key new)) bytes (front ++ body)
 replace_makes bytes value new front back body key at it stand same at-is front-is back-is body-is =
     let says = opened bytes it in
-    let ps : List Pair = records_at bytes in
+    let ps : List Pair = records_in bytes in
     let lower : List Pair = below key ps in
     let upper : List Pair = behind key ps in
     let f : List ℕ = record_bytes lower in
@@ -198,7 +198,7 @@ replace_makes bytes value new front back body key at it stand same at-is front-i
       length-pair (pair key new),
       same,
     ) in
-    let count : length (lower ++ pair key new ∷ upper) ≡ count_at bytes =
+    let count : length (lower ++ pair key new ∷ upper) ≡ record_count_at bytes =
     omega (
       arith,
       says.count,
@@ -215,7 +215,7 @@ replace_makes bytes value new front back body key at it stand same at-is front-i
     let is : body ≡ padded ROOM_BYTES (record_bytes (lower ++ pair key new ∷ upper)) =
     body-is ∙ (λ i. overwritten ((back-is ∙ says.back ∙ ap (padded ROOM_BYTES) stand.parts) i) (at-is i + 15) new)
     ∙ written_value f u value new key ROOM_BYTES same ∙ ap (padded ROOM_BYTES) (sym whole) in
-    subst (λ (qs : List Pair). SpellsBucket (record (bucket_at bytes) { records = qs }) (front ++ body))
+    subst (λ (qs : List Pair). SpellsBucket (record (bucket_in bytes) { records = qs }) (front ++ body))
     (sym (among.replaced new))
     (remade bytes front body (head_at bytes) (lower ++ pair key new ∷ upper) it all (omega (arith, len, says.room))
     order head (front-is ∙ says.front) is)
@@ -243,13 +243,13 @@ some_with None is = absurd cc
 some_with (Some value) is = refl
 
 pub front_makes : (bytes first front back body : List ℕ) (key : RecordKey) (at : ℕ) → IsBucketPage bytes
-    → IsSome (lookup key (records_at bytes)) → length first ≤ length (value_of_key key (records_at bytes))
-    → at ≡ length (record_bytes (below key (records_at bytes))) → front ≡ take 16 bytes → back ≡ drop 16 bytes
+    → IsSome (lookup key (records_in bytes)) → length first ≤ length (value_of_key key (records_in bytes))
+    → at ≡ length (record_bytes (below key (records_in bytes))) → front ≡ take 16 bytes → back ≡ drop 16 bytes
     → body ≡ overwritten back (at + 15) first
     → Changes (fronted key first) bytes (front ++ body)
 front_makes bytes first front back body key at it there long at-is front-is back-is body-is =
     let says = opened bytes it in
-    let ps : List Pair = records_at bytes in
+    let ps : List Pair = records_in bytes in
     let value : List ℕ = value_of_key key ps in
     let stand = stands bytes value key it (some_with (lookup key ps) there) in
     let f : List ℕ = record_bytes (below key ps) in
@@ -279,13 +279,13 @@ all_without P p (q ∷ lower) upper all = (all.0, all_without P p lower upper al
 
 pub remove_makes : (bytes value front back body : List ℕ) (key : RecordKey) (h : Head) (at : ℕ) → IsBucketPage bytes
     → Stands key value bytes
-    → at ≡ length (record_bytes (below key (records_at bytes))) → h ≡ head_at bytes
+    → at ≡ length (record_bytes (below key (records_in bytes))) → h ≡ head_at bytes
     → front ≡ head_bytes (record h { count = h.count - 1; used = h.used - (15 + length value) })
     → back ≡ drop 16 bytes → body ≡ taken_out back h.used at (15 + length value)
     → Changes (removed key) bytes (front ++ body)
 remove_makes bytes value front back body key h at it stand at-is head front-is back-is body-is =
     let says = opened bytes it in
-    let ps : List Pair = records_at bytes in
+    let ps : List Pair = records_in bytes in
     let lower : List Pair = below key ps in
     let upper : List Pair = behind key ps in
     let f : List ℕ = record_bytes lower in
@@ -302,7 +302,7 @@ remove_makes bytes value front back body key h at it stand at-is head front-is b
     let xlen : length x ≡ n = length-pair (pair key value) in
     let len : length (record_bytes (lower ++ upper)) ≡ used_at bytes - n =
     omega (arith, used, ap length whole, xlen, length-append f (x ++ u), length-append x u, length-append f u) in
-    let count : length (lower ++ upper) ≡ count_at bytes - 1 =
+    let count : length (lower ++ upper) ≡ record_count_at bytes - 1 =
     omega (
       arith,
       says.count,
@@ -319,6 +319,6 @@ remove_makes bytes value front back body key h at it stand at-is head front-is b
     body-is ∙ (λ i. taken_out ((back-is ∙ says.back ∙ ap (padded ROOM_BYTES) stand.parts) i)
     ((ap (λ (o : Head). o.used) head ∙ used) i) (at-is i) (sym xlen i))
     ∙ taken_between f x u ROOM_BYTES room ∙ ap (padded ROOM_BYTES) (sym whole) in
-    subst (λ (qs : List Pair). SpellsBucket (record (bucket_at bytes) { records = qs }) (front ++ body))
+    subst (λ (qs : List Pair). SpellsBucket (record (bucket_in bytes) { records = qs }) (front ++ body))
     (sym among.removed)
     (remade bytes front body _ (lower ++ upper) it all (omega (arith, len, says.room)) order shrunk front-is is)

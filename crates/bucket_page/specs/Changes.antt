@@ -8,7 +8,7 @@ use Rattle.bucket_page.specs.Keys.{is_same, is_below}
 use Rattle.bucket_page.specs.Records.{Pair, pair, record_bytes, ascend, lookup}
 use Rattle.bucket_page.specs.Bucket.{Bucket}
 use Rattle.bucket_page.specs.Spelling.{Spells}
-use Rattle.bucket_page.specs.Reading.{bucket_at, records_at}
+use Rattle.bucket_page.specs.Reading.{bucket_in, records_in}
 
 -- a pair is put before the first greater key
 abbrev pub inserted : Pair → List Pair → List Pair
@@ -44,12 +44,12 @@ SpellsBucket b payload = Spells (kinds.Bucket b) payload
 
 -- the payload is a bucket's
 abbrev pub IsBucketPage : List ℕ → Type 0
-IsBucketPage payload = SpellsBucket (bucket_at payload) payload
+IsBucketPage payload = SpellsBucket (bucket_in payload) payload
 
 -- the bucket's records became what the change makes of them, and its other numbers stayed
 abbrev pub Changes : (List Pair → List Pair) → List ℕ → List ℕ → Type 0
 Changes change old new =
-    SpellsBucket (record (bucket_at old) { records = change (records_at old) }) new
+    SpellsBucket (record (bucket_in old) { records = change (records_in old) }) new
 
 -- ---- what the code does on the way
 
@@ -65,7 +65,7 @@ below key (q ∷ qs) = if is_below q.key key then q ∷ below key qs else []
 -- a pair is put behind so many bytes of records, where it keeps the order
 abbrev pub InsertsAt : ℕ → Pair → List ℕ → List ℕ → Type 0
 InsertsAt at p old new =
-    (lower upper : List Pair) → records_at old ≡ lower ++ upper → at ≡ length (record_bytes lower)
+    (lower upper : List Pair) → records_in old ≡ lower ++ upper → at ≡ length (record_bytes lower)
     → ascend (lower ++ p ∷ upper) ≡ true → Changes (λ _. lower ++ p ∷ upper) old new
 
 -- new bytes stand at a place, in the room behind the used ones

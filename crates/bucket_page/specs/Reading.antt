@@ -19,8 +19,8 @@ kind_at bytes = slice_index bytes 0
 abbrev pub depth_at : List ℕ → ℕ
 depth_at bytes = slice_index bytes 1
 
-abbrev pub count_at : List ℕ → ℕ
-count_at bytes = two_at 2 bytes
+abbrev pub record_count_at : List ℕ → ℕ
+record_count_at bytes = two_at 2 bytes
 
 abbrev pub used_at : List ℕ → ℕ
 used_at bytes = two_at 12 bytes
@@ -32,21 +32,21 @@ area bytes = take (used_at bytes) (drop HEAD_BYTES bytes)
 abbrev pub after_area : List ℕ → List ℕ
 after_area bytes = drop (used_at bytes) (drop HEAD_BYTES bytes)
 
-abbrev pub bucket_at : List ℕ → Bucket
-bucket_at bytes = record {
+abbrev pub bucket_in : List ℕ → Bucket
+bucket_in bytes = record {
   depth = depth_at bytes;
   pattern = four_at 4 bytes;
   next = four_at 8 bytes;
-  records = pairs_of (count_at bytes) (area bytes);
+  records = pairs_of (record_count_at bytes) (area bytes);
 }
 
-abbrev pub records_at : List ℕ → List Pair
-records_at bytes = (bucket_at bytes).records
+abbrev pub records_in : List ℕ → List Pair
+records_in bytes = (bucket_in bytes).records
 
 abbrev pub head_at : List ℕ → Head
 head_at bytes = record {
   depth = depth_at bytes;
-  count = count_at bytes;
+  count = record_count_at bytes;
   pattern = four_at 4 bytes;
   next = four_at 8 bytes;
   used = used_at bytes;
@@ -58,9 +58,9 @@ link_page_at bytes =
     if kind_at bytes == TOMBSTONE then kinds.Tombstone (four_at 4 bytes)
     else kinds.Free (four_at 4 bytes)
 
-abbrev pub page_at : List ℕ → PageKind
-page_at bytes =
-    if kind_at bytes == BUCKET then kinds.Bucket (bucket_at bytes)
+abbrev pub page_in : List ℕ → PageKind
+page_in bytes =
+    if kind_at bytes == BUCKET then kinds.Bucket (bucket_in bytes)
     else if kind_at bytes == DIRECTORY then kinds.Directory (entries_at bytes)
     else link_page_at bytes
 
@@ -81,11 +81,11 @@ has_pattern bytes = nat_lt (four_at 4 bytes) (2 ^ depth_at bytes)
 
 -- the number of records fills the bytes of records, and those fit
 abbrev pub has_lengths : List ℕ → Bool
-has_lengths bytes = nat_le (used_at bytes) ROOM_BYTES && fills (count_at bytes) (area bytes)
+has_lengths bytes = nat_le (used_at bytes) ROOM_BYTES && fills (record_count_at bytes) (area bytes)
 
 -- keys ascend strictly
 abbrev pub has_order : List ℕ → Bool
-has_order bytes = ascend (pairs_of (count_at bytes) (area bytes))
+has_order bytes = ascend (pairs_of (record_count_at bytes) (area bytes))
 
 -- each byte that a bucket's layout doesn't name is zero
 abbrev pub has_padding : List ℕ → Bool
@@ -130,4 +130,4 @@ answer (Some fault) value = Err fault
 
 -- what reading a payload answers
 abbrev pub reading : List ℕ → Result PageKind Malformed
-reading payload = answer (fault_of payload) (page_at payload)
+reading payload = answer (fault_of payload) (page_in payload)

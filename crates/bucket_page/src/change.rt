@@ -2,7 +2,7 @@
 
 ghost use Rattle.std.specs.Prelude.{[], ◌∷◌, ◌++◌, true, ◌≡◌, ◌↔◌, ◌+◌, ◌<◌, ◌≤◌, IsErr, IsSome, OnErr, OnOk, Some, None, length};
 ghost use Rattle.bucket_page.specs.Records.{ascend, pair, lookup, record_bytes};
-ghost use Rattle.bucket_page.specs.Reading.{records_at, used_at};
+ghost use Rattle.bucket_page.specs.Reading.{records_in, used_at};
 ghost use Rattle.bucket_page.specs.Changes.{Appends, Changes, InsertsAt, HasValueOf, IsBucketPage, below, fronted, inserted, removed, replaced, value_of_key};
 
 use crate::head::Head;
@@ -24,10 +24,10 @@ pub struct DoesNotFit;
 #[tactic(auto, using(crate::proofs::ChangeLaws::opened))]
 pub fn put(payload: &mut Payload, key: &RecordKey, value: &[u8]) -> Result<(), DoesNotFit>
     requires bucket { IsBucketPage payload.old }
-    requires absent { lookup key.now (records_at payload.old) ≡ None }
+    requires absent { lookup key.now (records_in payload.old) ≡ None }
     ensures ok { OnOk result (Changes (inserted (pair key.now value.now)) payload.old payload.new) }
     ensures full { IsErr result ↔ ROOM_BYTES
-        < length (record_bytes (records_at payload.old)) + (RECORD_HEAD_BYTES + length value.now) }
+        < length (record_bytes (records_in payload.old)) + (RECORD_HEAD_BYTES + length value.now) }
     ensures err { OnErr result (payload.new ≡ payload.old) }
 {
     let used = two_at(payload, 12) as usize;
@@ -44,7 +44,7 @@ pub fn put(payload: &mut Payload, key: &RecordKey, value: &[u8]) -> Result<(), D
 /// Puts a record that fits.
 pub(crate) fn put_fitting(payload: &mut Payload, key: &RecordKey, value: &[u8])
     requires bucket { IsBucketPage payload.old }
-    requires absent { lookup key.now (records_at payload.old) ≡ None }
+    requires absent { lookup key.now (records_in payload.old) ≡ None }
     requires room { used_at payload.old + (RECORD_HEAD_BYTES + length value.now) ≤ ROOM_BYTES }
     ensures { Changes (inserted (pair key.now value.now)) payload.old payload.new }
 {
@@ -55,7 +55,7 @@ pub(crate) fn put_fitting(payload: &mut Payload, key: &RecordKey, value: &[u8])
 /// Puts a record that fits behind all others, where it keeps the order.
 pub(crate) fn append(payload: &mut Payload, key: &RecordKey, value: &[u8])
     requires bucket { IsBucketPage payload.old }
-    requires order { ascend (records_at payload.old ++ pair key.now value.now ∷ []) ≡ true }
+    requires order { ascend (records_in payload.old ++ pair key.now value.now ∷ []) ≡ true }
     requires room { used_at payload.old + (RECORD_HEAD_BYTES + length value.now) ≤ ROOM_BYTES }
     ensures { Appends (pair key.now value.now) payload.old payload.new }
 {
@@ -66,7 +66,7 @@ pub(crate) fn append(payload: &mut Payload, key: &RecordKey, value: &[u8])
 /// Replaces the value of a key that the bucket has by one of the same length.
 pub fn replace(payload: &mut Payload, key: &RecordKey, value: &[u8])
     requires bucket { IsBucketPage payload.old }
-    requires there { HasValueOf (length value.now) key.now (records_at payload.old) }
+    requires there { HasValueOf (length value.now) key.now (records_in payload.old) }
     ensures ok { Changes (replaced (pair key.now value.now)) payload.old payload.new }
 {
     let at = place(payload, key);
@@ -77,8 +77,8 @@ pub fn replace(payload: &mut Payload, key: &RecordKey, value: &[u8])
 /// Replaces the first bytes of the value of a key that the bucket has. The others stay where they are.
 pub fn replace_front(payload: &mut Payload, key: &RecordKey, front: &[u8])
     requires bucket { IsBucketPage payload.old }
-    requires there { IsSome (lookup key.now (records_at payload.old)) }
-    requires long { length front.now ≤ length (value_of_key key.now (records_at payload.old)) }
+    requires there { IsSome (lookup key.now (records_in payload.old)) }
+    requires long { length front.now ≤ length (value_of_key key.now (records_in payload.old)) }
     ensures ok { Changes (fronted key.now front.now) payload.old payload.new }
 {
     let at = place(payload, key);
@@ -89,7 +89,7 @@ pub fn replace_front(payload: &mut Payload, key: &RecordKey, front: &[u8])
 /// Takes the record of a key that the bucket has.
 pub fn remove(payload: &mut Payload, key: &RecordKey)
     requires bucket { IsBucketPage payload.old }
-    requires there { IsSome (lookup key.now (records_at payload.old)) }
+    requires there { IsSome (lookup key.now (records_in payload.old)) }
     ensures ok { Changes (removed key.now) payload.old payload.new }
 {
     let at = place(payload, key);
@@ -132,7 +132,7 @@ fn insert_record(payload: &mut Payload, at: usize, key: &RecordKey, value: &[u8]
 fn place(bytes: &[u8], key: &RecordKey) -> usize
     requires long { length bytes.now ≡ PAYLOAD_BYTES }
     requires bucket { IsBucketPage bytes.now }
-    ensures { result ≡ length (record_bytes (below key.now (records_at bytes.now))) }
+    ensures { result ≡ length (record_bytes (below key.now (records_in bytes.now))) }
 {
     bytes_below(&records_of(bytes), key)
 }
@@ -142,7 +142,7 @@ fn place(bytes: &[u8], key: &RecordKey) -> usize
 pub(crate) fn records_of(bytes: &[u8]) -> Records
     requires long { length bytes.now ≡ PAYLOAD_BYTES }
     requires bucket { IsBucketPage bytes.now }
-    ensures { result ≡ records_at bytes.now }
+    ensures { result ≡ records_in bytes.now }
 {
     let (_, body) = bytes.split_at(HEAD_BYTES);
     let (area, _) = body.split_at(two_at(bytes, 12) as usize);

@@ -1,7 +1,7 @@
 //! A bucket cut in two, and two buddies joined, written into payloads that are handed in.
 
 ghost use Rattle.std.specs.Prelude.{[], Bool, ◌≡◌, ◌+◌, ◌<◌, ◌≤◌, ◌==◌, length, true};
-ghost use Rattle.bucket_page.specs.Reading.{bucket_at, records_at};
+ghost use Rattle.bucket_page.specs.Reading.{bucket_in, records_in};
 ghost use Rattle.bucket_page.specs.Changes.{IsBucketPage, SpellsBucket};
 ghost use Rattle.bucket_page.specs.Dividing.{AreBuddies, FitTogether, MayWiden, ShareNoKey, has_bit_as, half_of, joined, lower_half, pattern_of_half, upper_half, widened};
 
@@ -17,9 +17,9 @@ use page_device::Payload;
 /// the new one, which is to stand on `page`, gets the others and follows it (Fagin et al. 1979).
 pub fn cut<K: PseudoKey>(keys: &K, full: &Payload, page: u32, old: &mut Payload, new: &mut Payload)
     requires bucket { IsBucketPage full.now }
-    requires depth { (bucket_at full.now).depth < GREATEST_DEPTH }
-    ensures old { SpellsBucket (lower_half (K.of_key keys.now) page (bucket_at full.now)) old.new }
-    ensures new { SpellsBucket (upper_half (K.of_key keys.now) (bucket_at full.now)) new.new }
+    requires depth { (bucket_in full.now).depth < GREATEST_DEPTH }
+    ensures old { SpellsBucket (lower_half (K.of_key keys.now) page (bucket_in full.now)) old.new }
+    ensures new { SpellsBucket (upper_half (K.of_key keys.now) (bucket_in full.now)) new.new }
 {
     write_upper_half(keys, full, new);
     write_lower_half(keys, full, page, old);
@@ -29,10 +29,10 @@ pub fn cut<K: PseudoKey>(keys: &K, full: &Payload, page: u32, old: &mut Payload,
 pub fn join(left: &Payload, right: &Payload, into: &mut Payload)
     requires left { IsBucketPage left.now }
     requires right { IsBucketPage right.now }
-    requires buddies { AreBuddies (bucket_at left.now) (bucket_at right.now) }
-    requires apart { ShareNoKey (records_at left.now) (records_at right.now) }
-    requires room { FitTogether (records_at left.now) (records_at right.now) }
-    ensures { SpellsBucket (joined (bucket_at left.now) (bucket_at right.now)) into.new }
+    requires buddies { AreBuddies (bucket_in left.now) (bucket_in right.now) }
+    requires apart { ShareNoKey (records_in left.now) (records_in right.now) }
+    requires room { FitTogether (records_in left.now) (records_in right.now) }
+    ensures { SpellsBucket (joined (bucket_in left.now) (bucket_in right.now)) into.new }
 {
     write_widened(left, four_at(right, 8), into);
     for record in records_of(right) {
@@ -44,8 +44,8 @@ pub fn join(left: &Payload, right: &Payload, into: &mut Payload)
 /// on `page`.
 pub fn write_lower_half<K: PseudoKey>(keys: &K, full: &Payload, page: u32, into: &mut Payload)
     requires bucket { IsBucketPage full.now }
-    requires depth { (bucket_at full.now).depth < GREATEST_DEPTH }
-    ensures { SpellsBucket (lower_half (K.of_key keys.now) page (bucket_at full.now)) into.new }
+    requires depth { (bucket_in full.now).depth < GREATEST_DEPTH }
+    ensures { SpellsBucket (lower_half (K.of_key keys.now) page (bucket_in full.now)) into.new }
 {
     write_half(keys, full, false, page, into);
 }
@@ -53,8 +53,8 @@ pub fn write_lower_half<K: PseudoKey>(keys: &K, full: &Payload, page: u32, into:
 /// Writes the half of a bucket whose pseudokeys have 1 in the next bit.
 pub fn write_upper_half<K: PseudoKey>(keys: &K, full: &Payload, into: &mut Payload)
     requires bucket { IsBucketPage full.now }
-    requires depth { (bucket_at full.now).depth < GREATEST_DEPTH }
-    ensures { SpellsBucket (upper_half (K.of_key keys.now) (bucket_at full.now)) into.new }
+    requires depth { (bucket_in full.now).depth < GREATEST_DEPTH }
+    ensures { SpellsBucket (upper_half (K.of_key keys.now) (bucket_in full.now)) into.new }
 {
     write_half(keys, full, true, four_at(full, 8), into);
 }
@@ -62,8 +62,8 @@ pub fn write_upper_half<K: PseudoKey>(keys: &K, full: &Payload, into: &mut Paylo
 /// Writes the half of a bucket whose pseudokeys have 1 in the next bit, or that of those with 0.
 fn write_half<K: PseudoKey>(keys: &K, full: &Payload, set: bool, next: u32, into: &mut Payload)
     requires bucket { IsBucketPage full.now }
-    requires depth { (bucket_at full.now).depth < GREATEST_DEPTH }
-    ensures { SpellsBucket (half_of set (K.of_key keys.now) next (bucket_at full.now)) into.new }
+    requires depth { (bucket_in full.now).depth < GREATEST_DEPTH }
+    ensures { SpellsBucket (half_of set (K.of_key keys.now) next (bucket_in full.now)) into.new }
 {
     let depth = full[1];
     let pattern = pattern_of_half(set, full);
@@ -78,8 +78,8 @@ fn write_half<K: PseudoKey>(keys: &K, full: &Payload, set: bool, next: u32, into
 /// The pattern of a half of a bucket.
 fn pattern_of_half(set: bool, full: &Payload) -> u32
     requires bucket { IsBucketPage full.now }
-    requires depth { (bucket_at full.now).depth < GREATEST_DEPTH }
-    ensures { result ≡ pattern_of_half set (bucket_at full.now) }
+    requires depth { (bucket_in full.now).depth < GREATEST_DEPTH }
+    ensures { result ≡ pattern_of_half set (bucket_in full.now) }
 {
     let pattern = four_at(full, 4);
     if set {
@@ -92,8 +92,8 @@ fn pattern_of_half(set: bool, full: &Payload) -> u32
 /// Writes a bucket whose range is twice as wide, with another bucket behind it.
 fn write_widened(bucket: &Payload, next: u32, into: &mut Payload)
     requires bucket { IsBucketPage bucket.now }
-    requires wide { MayWiden (bucket_at bucket.now) }
-    ensures { SpellsBucket (widened next (bucket_at bucket.now)) into.new }
+    requires wide { MayWiden (bucket_in bucket.now) }
+    ensures { SpellsBucket (widened next (bucket_in bucket.now)) into.new }
 {
     let head = Head::read(bucket);
     into.copy_from_slice(bucket);

@@ -4,7 +4,7 @@ ghost use Rattle.std.specs.Prelude.{◌≡◌, IfOk, Ok, drop, length, take};
 ghost use Rattle.faults.specs.declared.TheConstants.{MALFORMED};
 ghost use Rattle.page_device.specs.declared.page.TheConstants.{PAYLOAD_BYTES};
 ghost use Rattle.fields.specs.Numbers.{four_at};
-ghost use Rattle.bucket_page.specs.Reading.{answer, bucket_at, bucket_fault, link_fault, reading};
+ghost use Rattle.bucket_page.specs.Reading.{answer, bucket_in, bucket_fault, link_fault, reading};
 ghost use Rattle.bucket_page.specs.Spelling.{Spells};
 ghost use Rattle.bucket_page.specs.Changes.{IsBucketPage};
 
@@ -77,9 +77,9 @@ pub fn read_page(payload: &Payload) -> Result<PageKind<'_>, Malformed>
 /// The bucket of a payload that is known to be a bucket's. Nothing is tested again.
 pub fn bucket_of(payload: &Payload) -> BucketView<'_>
     requires { IsBucketPage payload.now }
-    ensures { result ≡ bucket_at payload.now }
+    ensures { result ≡ bucket_in payload.now }
 {
-    bucket_in(payload)
+    view_of(payload)
 }
 
 /// The page that the payload of a tombstone or of a free page names. Nothing is tested.
@@ -90,10 +90,10 @@ pub fn link_of(payload: &Payload) -> u32
 }
 
 #[tactic(auto, using(crate::proofs::ChangeLaws::opened))]
-fn bucket_in(bytes: &[u8]) -> BucketView
+fn view_of(bytes: &[u8]) -> BucketView
     requires long { length bytes.now ≡ PAYLOAD_BYTES }
     requires bucket { IsBucketPage bytes.now }
-    ensures { result ≡ bucket_at bytes.now }
+    ensures { result ≡ bucket_in bytes.now }
 {
     BucketView {
         depth: bytes[1],
@@ -128,7 +128,7 @@ fn read(bytes: &[u8]) -> Result<PageKind, Malformed>
 
 fn read_bucket(bytes: &[u8]) -> Result<BucketView, Malformed>
     requires { length bytes.now ≡ PAYLOAD_BYTES }
-    ensures { result ≡ answer (bucket_fault bytes.now) (bucket_at bytes.now) }
+    ensures { result ≡ answer (bucket_fault bytes.now) (bucket_in bytes.now) }
 {
     let depth = bytes[1];
     if depth > GREATEST_DEPTH {

@@ -28,7 +28,7 @@ use Rattle.file_check.proofs.RecordLemmas.{live_page}
 
 -- ---- the keys of a page ascend, as its spelling says
 
-said_is : (content : List (List ℕ)) (n : ℕ) → said_on content n ≡ reading.page_at (payload_on content n)
+said_is : (content : List (List ℕ)) (n : ℕ) → said_on content n ≡ reading.page_in (payload_on content n)
 unfolding said_by
 said_is content n = refl
 
@@ -48,21 +48,21 @@ fourth true true true false e h = absurd cc
 -- the first byte of a bucket
 of_kind : (p : List ℕ) (a b c : Bool) →
     (if a then reading.bucket_fault p else if b then reading.directory_fault p else reading.link_page_fault p) ≡ None →
-    is_bucket (if a then kinds.Bucket (reading.bucket_at p)
+    is_bucket (if a then kinds.Bucket (reading.bucket_in p)
     else if b then kinds.Directory (entries_at p)
     else if c then kinds.Tombstone (four_at 4 p) else kinds.Free (four_at 4 p)) ≡ true →
     (reading.bucket_fault p ≡ None)
-    × ((if a then kinds.Bucket (reading.bucket_at p)
+    × ((if a then kinds.Bucket (reading.bucket_in p)
     else if b then kinds.Directory (entries_at p)
     else if c then kinds.Tombstone (four_at 4 p) else kinds.Free (four_at 4 p))
-    ≡ kinds.Bucket (reading.bucket_at p))
+    ≡ kinds.Bucket (reading.bucket_in p))
 of_kind p true b c fault live = (fault, refl)
 of_kind p false true c fault live = absurd cc
 of_kind p false false true fault live = absurd cc
 of_kind p false false false fault live = absurd cc
 
-page_ascends : (p : List ℕ) → reading.fault_of p ≡ None → is_bucket (reading.page_at p) ≡ true →
-    ascend (bucket_of (reading.page_at p)).records ≡ true
+page_ascends : (p : List ℕ) → reading.fault_of p ≡ None → is_bucket (reading.page_in p) ≡ true →
+    ascend (bucket_of (reading.page_in p)).records ≡ true
 page_ascends p fault live =
     let is = of_kind p (reading.kind_at p == BUCKET) (reading.kind_at p == DIRECTORY) (reading.kind_at p == TOMBSTONE)
     fault live in
@@ -73,7 +73,7 @@ page_ascends p fault live =
 live_ascends : (content : List (List ℕ)) (n : ℕ) → IsLivePage content n →
     ascend (bucket_at (file_of content) n).records ≡ true
 live_ascends content n live =
-    let is : slice_index_or (pages_on content) n (kinds.Free 0) ≡ reading.page_at (payload_on content n) =
+    let is : slice_index_or (pages_on content) n (kinds.Free 0) ≡ reading.page_in (payload_on content n) =
     pages_at content n (kinds.Free 0) live.behind live.within ∙ said_is content n in
     ap (λ (page : PageKind). ascend (bucket_of page).records) is
     ∙ page_ascends (payload_on content n) (no_fault _ _ live.right.formed) (sym (ap is_bucket is) ∙ live.live)

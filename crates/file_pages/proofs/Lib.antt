@@ -1,3 +1,4 @@
+pub mod Names
 pub mod StoreLemmas
 pub mod ReadLemmas
 pub mod WriteLemmas

@@ -5,7 +5,7 @@ use Rattle.bucket_page.specs.declared.page.PageKind.TheVariants as kinds
 use Rattle.bucket_page.specs.Bucket.{Bucket}
 use Rattle.bucket_page.specs.Changes.{IsBucketPage, SpellsBucket}
 use Rattle.bucket_page.specs.Dividing.{joined}
-use Rattle.bucket_page.specs.Reading.{bucket_at as bucket_in, page_at as page_in}
+use Rattle.bucket_page.specs.Reading.{bucket_in, page_in}
 use Rattle.bucket_page.specs.Spelling.{Spells}
 use Rattle.page_forms.proofs.FormLemmas.{page_is as read_is, same_page}
 use Rattle.buffer_pool.specs.Pool.{PoolState}

@@ -1,30 +1,11 @@
 -- A page that is pinned, read and given back: what the pool is then, and why it was not pinned.
 use Rattle.std.proofs.Common.{◌≡◌, refl, ◌∙◌, sym, ap, subst, ℕ, zero, suc, ◌-◌, ◌<◌, ◌≤◌, List, [], Bool, true, IsTrue, Option, Some}
 use Rattle.std.proofs.Common.{length, arith, slice_get, slice_set, Result, Ok, Err, IsErrOf, IfOk, ◌⊎◌, inl, inr}
-use Rattle.std.proofs.lemmas.Option.{get_or_from_slice_get}
+use Rattle.file_pages.proofs.Names.{Bucket, DIRECTORY_PAGES, Device, HasRisen, IsBucketPage, IsCrowded, IsWell, KeepsSeals, Malformed, MayNotPin, NoMemory, PageKind, PoolFault, PoolState, ROOT_PAGE, RecordKey, Spells, TooFewFrames, bucket_again, bucket_in, bucket_of, cases_lt, count_none, directory_well, entries_at, get_or_from_slice_get, is_bucket, lookup, page_at, page_in, page_is, pins_at, records_in, rest_again}
 use Rattle.page_device.specs.declared.fault.DeviceFault.TheVariants as device
-use Rattle.page_device.specs.Device.{HasRisen}
-use Rattle.buffer_pool.specs.declared.fault.PoolFault.{PoolFault}
-use Rattle.buffer_pool.specs.declared.fault.PoolFault.TheVariants.{Device, Malformed, TooFewFrames, NoMemory}
-use Rattle.buffer_pool.specs.Pool.{PoolState, KeepsSeals, MayNotPin, IsCrowded, pins_at}
-use Rattle.buffer_pool.proofs.ImagesLemmas.{count_none, rest_again}
 use Rattle.bucket_page.specs.declared.page.PageKind.TheVariants as kinds
-use Rattle.bucket_page.specs.declared.record_key.RecordKey.{RecordKey}
-use Rattle.bucket_page.specs.Reading.{bucket_at, records_at, page_at as page_in}
-use Rattle.bucket_page.specs.Records.{lookup}
-use Rattle.directory.specs.declared.layout.TheConstants.{DIRECTORY_PAGES, ROOT_PAGE}
-use Rattle.directory.specs.Pages.{entries_at}
-use Rattle.page_forms.specs.Forms.{IsWell}
-use Rattle.page_forms.proofs.FormLemmas.{directory_well, page_is}
-use Rattle.bucket_page.specs.declared.page.PageKind.{PageKind}
-use Rattle.bucket_page.specs.Bucket.{Bucket}
-use Rattle.bucket_page.specs.Changes.{IsBucketPage}
-use Rattle.bucket_page.specs.Spelling.{Spells}
-use Rattle.bucket_page.proofs.PageLaws.{bucket_again}
-use Rattle.hash_file.specs.Store.{bucket_of, is_bucket, page_at}
 use Rattle.file_pages.specs.declared.fault.FileFault.{FileFault}
 use Rattle.file_pages.specs.declared.sight.BucketSight.{BucketSight}
-use Rattle.std.proofs.lemmas.Bool.{cases_lt}
 use Rattle.file_pages.specs.Files.{store_of, image, SpellsFile, IsFilePool, IsReady}
 use Rattle.file_pages.specs.Pinning.{IsPinned}
 use Rattle.file_pages.proofs.StoreLemmas.{page_is as stored_page_is}
@@ -116,25 +97,25 @@ bucket_spelled bytes it bucket = at (page_in bytes) it bucket
     at : (p : PageKind) → Spells p bytes → is_bucket p ≡ true → IsBucketPage bytes
     at (kinds.Bucket b) spells is =
         subst (λ (c : Bucket). Spells (kinds.Bucket c) bytes)
-        (sym (ap bucket_at spells.spelled ∙ (bucket_again b spells.in_range).value)) spells
+        (sym (ap bucket_in spells.spelled ∙ (bucket_again b spells.in_range).value)) spells
     at (kinds.Directory es) spells is = absurd cc
     at (kinds.Tombstone link) spells is = absurd cc
     at (kinds.Free next) spells is = absurd cc
 
 pub seen : (r : Result BucketSight FileFault) (bytes : List ℕ) → IfOk r (λ _. IsBucketPage bytes)
-    → IfOk r (λ sight. sight ≡ sight_of (bucket_at bytes)) → IfOk r (λ sight. IsSeen sight (page_in bytes))
+    → IfOk r (λ sight. sight ≡ sight_of (bucket_in bytes)) → IfOk r (λ sight. IsSeen sight (page_in bytes))
 seen (Ok sight) bytes it says =
-    let is = page_is (kinds.Bucket (bucket_at bytes)) bytes it in
+    let is = page_is (kinds.Bucket (bucket_in bytes)) bytes it in
     record { bucket = ap is_bucket is; says = says ∙ ap (λ (p : PageKind). sight_of (bucket_of p)) (sym is) }
 seen (Err fault) bytes it says = tt
 
 -- what was copied of the bucket is so of the page
 pub copied_of : (r : Result (Option ℕ) FileFault) (bytes : List ℕ) (p : PageKind) (key : RecordKey) (old new : List ℕ)
     → p ≡ page_in bytes → IfOk r (λ _. IsBucketPage bytes)
-    → IfOk r (λ found. IsCopied found (lookup key (records_at bytes)) old new)
+    → IfOk r (λ found. IsCopied found (lookup key (records_in bytes)) old new)
     → IfOk r (λ found. IsCopied found (lookup key (bucket_of p).records) old new)
 copied_of (Ok found) bytes p key old new was it said =
-    let is = was ∙ page_is (kinds.Bucket (bucket_at bytes)) bytes it in
+    let is = was ∙ page_is (kinds.Bucket (bucket_in bytes)) bytes it in
     subst (λ (q : PageKind). IsCopied found (lookup key (bucket_of q).records) old new) (sym is) said
 copied_of (Err fault) bytes p key old new was it said = tt
 

@@ -5,7 +5,7 @@ use Rattle.bucket_page.specs.declared.page.PageKind.{PageKind}
 use Rattle.bucket_page.specs.declared.page.PageKind.TheVariants as kinds
 use Rattle.bucket_page.specs.Bucket.{Bucket}
 use Rattle.bucket_page.specs.Changes.{IsBucketPage, Changes}
-use Rattle.bucket_page.specs.Reading.{bucket_at as bucket_in, page_at as page_in, records_at as records_in}
+use Rattle.bucket_page.specs.Reading.{bucket_in, page_in, records_in}
 use Rattle.directory.specs.declared.layout.TheConstants.{ROOT_PAGE}
 use Rattle.page_forms.proofs.FormLemmas.{page_is as read_is}
 use Rattle.bucket_page.specs.Spelling.{Spells}

@@ -7,7 +7,7 @@ use Rattle.buffer_pool.specs.Pool.{PoolState, pins_at}
 use Rattle.buffer_pool.proofs.ImagesLemmas.{rest_again}
 use Rattle.bucket_page.specs.declared.page.PageKind.{PageKind}
 use Rattle.bucket_page.specs.declared.page.PageKind.TheVariants as kinds
-use Rattle.bucket_page.specs.Reading.{page_at as page_in}
+use Rattle.bucket_page.specs.Reading.{page_in}
 use Rattle.bucket_page.specs.Spelling.{Spells}
 use Rattle.directory.specs.declared.layout.TheConstants.{GREATEST_DEPTH, ROOT_PAGE}
 use Rattle.directory.specs.Entries.{page_of, entry_in}

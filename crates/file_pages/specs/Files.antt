@@ -4,7 +4,7 @@ use Rattle.page_device.specs.Sealed.{IsSealed}
 use Rattle.buffer_pool.specs.Pool.{PoolState, IsAtRest}
 use Rattle.bucket_page.specs.declared.page.PageKind.{PageKind}
 use Rattle.bucket_page.specs.declared.page.PageKind.TheVariants as kinds
-use Rattle.bucket_page.specs.Reading.{page_at}
+use Rattle.bucket_page.specs.Reading.{page_in}
 use Rattle.bucket_page.specs.Spelling.{Spells}
 use Rattle.directory.specs.declared.layout.TheConstants.{DIRECTORY_PAGES, FIRST_DIRECTORY_PAGE, GREATEST_DEPTH, ROOT_PAGE}
 use Rattle.directory.specs.Entries.{page_of, entry_in}
@@ -23,7 +23,7 @@ image images n = slice_index_or images n []
 
 -- pages below the root are of the directory: as pages of the file they are one constant
 abbrev pub kind_on : List (List ℕ) → ℕ → PageKind
-kind_on images n = if nat_lt n ROOT_PAGE then kinds.Free 0 else page_at (image images n)
+kind_on images n = if nat_lt n ROOT_PAGE then kinds.Free 0 else page_in (image images n)
 
 abbrev pub entry_on : List (List ℕ) → ℕ → ℕ
 entry_on images i = entry_in (image images (page_of i)) i
@@ -45,7 +45,7 @@ pub record SpellsFile (images : List (List ℕ)) : Type 0 where
   pub least : ROOT_PAGE < length images
   pub header : IsHeaderPage (image images 0)
   pub directory : (n : ℕ) → FIRST_DIRECTORY_PAGE ≤ n → n ≤ DIRECTORY_PAGES → IsDirectoryPage (image images n)
-  pub spelled : (n : ℕ) → ROOT_PAGE ≤ n → n < length images → Spells (page_at (image images n)) (image images n)
+  pub spelled : (n : ℕ) → ROOT_PAGE ≤ n → n < length images → Spells (page_in (image images n)) (image images n)
 
 -- the pool of an honest device, of which each page is sealed, and which spells a file
 pub record IsFilePool (s : PoolState) : Type 0 where

@@ -4,7 +4,7 @@ ghost use Rattle.std.specs.Prelude.{◌≡◌, ◌<◌, is_ok, IsTrue, IsErr, If
 ghost use Rattle.page_device.specs.Device.{HasRisen};
 ghost use Rattle.bucket_page.specs.Changes.{IsBucketPage, SpellsBucket};
 ghost use Rattle.bucket_page.specs.Dividing.{joined, lower_half, upper_half};
-ghost use Rattle.bucket_page.specs.Reading.{bucket_at as bucket_in, page_at as page_in};
+ghost use Rattle.bucket_page.specs.Reading.{bucket_in, page_in};
 ghost use Rattle.bucket_page.specs.Spelling.{Spells};
 ghost use Rattle.directory.specs.declared.layout.TheConstants.{GREATEST_DEPTH};
 ghost use Rattle.hash_file.specs.Changes.{with_page, write_free, write_left, write_new, write_old, write_tombstone};

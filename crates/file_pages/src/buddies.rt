@@ -3,7 +3,7 @@
 ghost use Rattle.std.specs.Prelude.{◌≤◌, IsTrue, IsErr, IfOk};
 ghost use Rattle.bucket_page.specs.Changes.{IsBucketPage, SpellsBucket};
 ghost use Rattle.bucket_page.specs.Dividing.{AreBuddies, FitTogether, ShareNoKey, joined};
-ghost use Rattle.bucket_page.specs.Reading.{bucket_at};
+ghost use Rattle.bucket_page.specs.Reading.{bucket_in};
 ghost use Rattle.directory.specs.declared.layout.TheConstants.{GREATEST_DEPTH};
 ghost use Rattle.file_pages.specs.Buckets.{AreJoinable};
 
@@ -15,9 +15,9 @@ use page_forms::FilePage;
 pub fn join(left: &FilePage, right: &FilePage) -> Result<FilePage, FileFault>
     ensures left { IfOk result (λ _. IsBucketPage left.now) }
     ensures right { IfOk result (λ _. IsBucketPage right.now) }
-    ensures ok { IfOk result (SpellsBucket (joined (bucket_at left.now) (bucket_at right.now))) }
+    ensures ok { IfOk result (SpellsBucket (joined (bucket_in left.now) (bucket_in right.now))) }
     ensures err { IsErr result → IsBucketPage left.now → IsBucketPage right.now →
-        AreJoinable (bucket_at left.now) (bucket_at right.now) → ⊥ }
+        AreJoinable (bucket_in left.now) (bucket_in right.now) → ⊥ }
 {
     if !may_be_joined(left, right) {
         return Err(FileFault::Failed);
@@ -29,9 +29,9 @@ pub fn join(left: &FilePage, right: &FilePage) -> Result<FilePage, FileFault>
 fn may_be_joined(left: &FilePage, right: &FilePage) -> bool
     ensures left { IsTrue result → IsBucketPage left.now }
     ensures right { IsTrue result → IsBucketPage right.now }
-    ensures joinable { IsTrue result → AreJoinable (bucket_at left.now) (bucket_at right.now) }
+    ensures joinable { IsTrue result → AreJoinable (bucket_in left.now) (bucket_in right.now) }
     ensures taken { IsBucketPage left.now → IsBucketPage right.now →
-        AreJoinable (bucket_at left.now) (bucket_at right.now) → IsTrue result }
+        AreJoinable (bucket_in left.now) (bucket_in right.now) → IsTrue result }
 {
     let Some(first) = left.bucket() else {
         return false;

@@ -2,7 +2,7 @@
 
 ghost use Rattle.std.specs.Prelude.{◌≡◌, ◌≢◌, ◌<◌, ◌≤◌, ℕ, is_ok, length, IsTrue, IsErr, IfOk, OnOk, OnErr};
 ghost use Rattle.page_device.specs.Device.{HasRisen};
-ghost use Rattle.bucket_page.specs.Reading.{page_at as page_in};
+ghost use Rattle.bucket_page.specs.Reading.{page_in};
 ghost use Rattle.bucket_page.specs.declared.page.PageKind.TheVariants as kinds;
 ghost use Rattle.bucket_page.specs.Spelling.{Spells};
 ghost use Rattle.directory.specs.declared.layout.TheConstants.{GREATEST_DEPTH, ROOT_PAGE};

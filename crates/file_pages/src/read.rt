@@ -2,7 +2,7 @@
 
 ghost use Rattle.std.specs.Prelude.{◌≡◌, ◌<◌, ◌≤◌, ◌^◌, length, is_ok, true, IsTrue, IsErr, IfOk, OnErr};
 ghost use Rattle.bucket_page.specs.Changes.{IsBucketPage};
-ghost use Rattle.bucket_page.specs.Reading.{records_at as records_in};
+ghost use Rattle.bucket_page.specs.Reading.{records_in};
 ghost use Rattle.bucket_page.specs.Records.{lookup};
 ghost use Rattle.page_device.specs.Device.{HasRisen};
 ghost use Rattle.directory.specs.declared.layout.TheConstants.{GREATEST_DEPTH, PAGE_ENTRIES, ROOT_PAGE};

@@ -4,7 +4,7 @@ ghost use Rattle.std.specs.Prelude.{◌≡◌, ◌+◌, ◌≤◌, ◌++◌, tru
 ghost use Rattle.page_device.specs.Device.{HasRisen};
 ghost use Rattle.bucket_page.specs.declared.layout.TheConstants.{RECORD_HEAD_BYTES, ROOM_BYTES};
 ghost use Rattle.bucket_page.specs.Changes.{HasValueOf, IsBucketPage, value_of_key};
-ghost use Rattle.bucket_page.specs.Reading.{records_at as records_in};
+ghost use Rattle.bucket_page.specs.Reading.{records_in};
 ghost use Rattle.bucket_page.specs.Records.{lookup, pair, record_bytes};
 ghost use Rattle.hash_file.specs.Changes.{Put, Remove, Replace, write_record};
 ghost use Rattle.hash_file.specs.Store.{records_at};

@@ -2,7 +2,7 @@
 
 ghost use Rattle.std.specs.Prelude.{◌≡◌, IsErr, IfOk};
 ghost use Rattle.bucket_page.specs.Changes.{IsBucketPage};
-ghost use Rattle.bucket_page.specs.Reading.{bucket_at, page_at};
+ghost use Rattle.bucket_page.specs.Reading.{bucket_in, page_in};
 ghost use Rattle.bucket_page.specs.Spelling.{Spells};
 ghost use Rattle.file_pages.specs.Reads.{IsOnWay, IsSight, sight_of};
 
@@ -35,9 +35,9 @@ pub struct BucketSight {
 
 /// What is seen of a page by who looks for a key.
 pub fn see(page: &FilePage, pseudokey: u32, key: &RecordKey) -> Result<Sight, FileFault>
-    ensures ok { IfOk result (λ sight. IsSight sight (page_at page.now) pseudokey key.now) }
-    ensures err { IsErr result → Spells (page_at page.now) page.now →
-        IsOnWay (page_at page.now) → ⊥ }
+    ensures ok { IfOk result (λ sight. IsSight sight (page_in page.now) pseudokey key.now) }
+    ensures err { IsErr result → Spells (page_in page.now) page.now →
+        IsOnWay (page_in page.now) → ⊥ }
 {
     if let Some(bucket) = page.bucket() {
         let range = Range {
@@ -58,7 +58,7 @@ pub fn see(page: &FilePage, pseudokey: u32, key: &RecordKey) -> Result<Sight, Fi
 /// What is seen of a bucket.
 pub fn see_bucket(page: &FilePage) -> Result<BucketSight, FileFault>
     ensures bucket { IfOk result (λ _. IsBucketPage page.now) }
-    ensures ok { IfOk result (λ sight. sight ≡ sight_of (bucket_at page.now)) }
+    ensures ok { IfOk result (λ sight. sight ≡ sight_of (bucket_in page.now)) }
     ensures err { IsErr result → IsBucketPage page.now → ⊥ }
 {
     let Some(bucket) = page.bucket() else {

@@ -9,7 +9,7 @@ use Rattle.bucket_page.specs.declared.page.Malformed.{Malformed}
 use Rattle.bucket_page.specs.declared.page.Malformed.TheVariants as reasons
 use Rattle.bucket_page.specs.declared.page.PageKind.{PageKind}
 use Rattle.bucket_page.specs.declared.page.PageKind.TheVariants as kinds
-use Rattle.bucket_page.specs.Reading.{reading, fault_of, page_at, answer}
+use Rattle.bucket_page.specs.Reading.{reading, fault_of, page_in, answer}
 use Rattle.file_walk.specs.declared.fault.StructureFault.{StructureFault}
 use Rattle.file_walk.specs.declared.fault.StructureFault.TheVariants as faults
 use Rattle.file_walk.specs.Files.{payload_on, said_by, said_on, header_on, entries_of}
@@ -29,7 +29,7 @@ refused : {X : Type 0} (fault : Option Malformed) (reason : Malformed) (y : X) �
 refused None reason y e = absurd cc
 refused (Some other) reason y e = let same : reason ≡ other = cc in ap (λ r. Some r) (sym same)
 
-said_is : (content : List (List ℕ)) (n : ℕ) → said_on content n ≡ page_at (payload_on content n)
+said_is : (content : List (List ℕ)) (n : ℕ) → said_on content n ≡ page_in (payload_on content n)
 unfolding said_by
 said_is content n = refl
 
@@ -37,10 +37,10 @@ module _ (content : List (List ℕ)) (n : ℕ) (payload : List ℕ) (h : IsPaylo
   -- what was read is what the page says
   pub said : (page : PageKind) → Ok page ≡ reading payload → said_on content n ≡ page
   said page e =
-      said_is content n ∙ ap page_at (sym h.value) ∙ sym (accepted (fault_of payload) page (page_at payload) e).1
+      said_is content n ∙ ap page_in (sym h.value) ∙ sym (accepted (fault_of payload) page (page_in payload) e).1
 
   formed : (page : PageKind) → Ok page ≡ reading payload → fault_of (payload_on content n) ≡ None
-  formed page e = ap fault_of (sym h.value) ∙ (accepted (fault_of payload) page (page_at payload) e).0
+  formed page e = ap fault_of (sym h.value) ∙ (accepted (fault_of payload) page (page_in payload) e).0
 
   judged : (page : PageKind) → Ok page ≡ reading payload
       → malformed_on content n ≡ after_reading None (may_stand n page)
@@ -67,7 +67,7 @@ module _ (content : List (List ℕ)) (n : ℕ) (payload : List ℕ) (h : IsPaylo
     refl,
     h.sealed,
     ap (λ f. after_reading f (may_stand n (said_on content n)))
-        (ap fault_of (sym h.value) ∙ refused (fault_of payload) reason (page_at payload) e),
+        (ap fault_of (sym h.value) ∙ refused (fault_of payload) reason (page_in payload) e),
   )
 
 -- ---- where pages may stand

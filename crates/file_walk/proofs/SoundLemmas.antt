@@ -1,30 +1,8 @@
 -- A right structure makes up a sound file.
 use Rattle.std.proofs.Common.{ℕ, zero, suc, ◌≡◌, ◌+◌, ◌*◌, ◌<◌, ◌≤◌, ◌^◌, ◌==◌, nat_lt, Bool, true, false, if◌then◌else◌, List, [], ◌∷◌, ◌++◌, length, take, drop, replicate, slice_index_or, Option, Some, None, refl, sym, ap, subst, ◌∙◌, inl, lit≤, lit<, add-zero, zero-add, map, arith}
-use Rattle.std.specs.List.{Contains, flat_map}
-use Rattle.std.proofs.lemmas.List.{append-nil, get_or_append_left, get_or-replicate, get_or-drop, get_or-take, length-replicate, length-take-le, length-drop, length-append}
-use Rattle.std.proofs.Math.Nat.{zero-mul}
-use Rattle.std.proofs.lemmas.List.Concat.{flat_map-cons}
-use Rattle.std.proofs.lemmas.Bool.Decides.{nat_tests}
-use Rattle.positions.proofs.PartitionLaws.{partition_tiles}
-use Rattle.page_device.specs.Sealed.{payload_of}
-use Rattle.directory.specs.declared.layout.TheConstants.{DIRECTORY_PAGES, PAGE_ENTRIES, FIRST_DIRECTORY_PAGE, GREATEST_DEPTH, LEAST_PAGES, ROOT_PAGE}
-use Rattle.bucket_page.specs.declared.page.Malformed.{Malformed}
-use Rattle.bucket_page.specs.declared.layout.TheConstants.{BUCKET, TOMBSTONE}
-use Rattle.directory.specs.declared.layout.TheConstants.{DIRECTORY}
-use Rattle.bucket_page.specs.declared.page.PageKind.{PageKind}
+use Rattle.file_walk.proofs.Names.{BUCKET, Bucket, Contains, DIRECTORY, DIRECTORY_PAGES, FIRST_DIRECTORY_PAGE, GREATEST_DEPTH, HasLayout, IsChain, IsPlaced, IsSoundFile, IsSoundOn, LEAST_PAGES, Malformed, PAGE_ENTRIES, PageKind, Quiet, ROOT_PAGE, RecordKey, TOMBSTONE, append-nil, bucket_at, chain_is, entries_area, entries_at, entries_of, flat_map, flat_map-cons, four_at, get_or-drop, get_or-replicate, get_or-take, get_or_append_left, has_bucket, is_bucket, length-append, length-drop, length-replicate, length-take-le, nat_tests, numbers_of, partition_tiles, payload_of, quiet_exact, range_at, sound_by, times, zero-mul}
 use Rattle.bucket_page.specs.declared.page.PageKind.TheVariants as kinds
-use Rattle.bucket_page.specs.declared.record_key.RecordKey.{RecordKey}
-use Rattle.bucket_page.specs.Bucket.{Bucket}
-use Rattle.fields.specs.Numbers.{four_at, numbers_of}
-use Rattle.directory.specs.Pages.{entries_area, entries_at, entries_of}
 use Rattle.bucket_page.specs.Reading as reading
-use Rattle.hash_file.specs.Store.{is_bucket, has_bucket, bucket_at, range_at}
-use Rattle.hash_file.specs.Chain.{IsChain, IsPlaced, times}
-use Rattle.hash_file.specs.Change.{Quiet}
-use Rattle.hash_file.specs.Sound.{HasLayout, IsSoundFile, IsSoundOn}
-use Rattle.hash_file.proofs.Chains.{chain_is}
-use Rattle.hash_file.proofs.Frames.{sound_by}
-use Rattle.hash_file.proofs.Ties.{quiet_exact}
 use Rattle.file_walk.specs.Files.{page_on, said_by, said_on, entries_on, pages_on, header_on, file_of}
 use Rattle.file_walk.specs.Files as files
 use Rattle.file_walk.specs.Laws.{IsQuietFile}
@@ -59,7 +37,7 @@ unfolding said_by
 said_length page e =
     let bytes : List ℕ = payload_of page in
     ap length (by_kind (reading.kind_at bytes == BUCKET) (reading.kind_at bytes == DIRECTORY)
-    (reading.kind_at bytes == TOMBSTONE) (reading.bucket_at bytes) (entries_at bytes) (four_at 4 bytes) e)
+    (reading.kind_at bytes == TOMBSTONE) (reading.bucket_in bytes) (entries_at bytes) (four_at 4 bytes) e)
     ∙ entries_length (entries_area bytes)
 
 -- a right page below the root is one of the directory

@@ -7,7 +7,7 @@ use Rattle.directory.specs.declared.header.Header.{Header}
 use Rattle.directory.specs.Reading.{header_at}
 use Rattle.bucket_page.specs.declared.page.PageKind.{PageKind}
 use Rattle.bucket_page.specs.declared.page.PageKind.TheVariants as kinds
-use Rattle.bucket_page.specs.Reading.{page_at}
+use Rattle.bucket_page.specs.Reading.{page_in}
 use Rattle.hash_file.specs.Store.{Store, Layout}
 
 -- page n as it lies on the device, and its payload
@@ -19,7 +19,7 @@ payload_on content n = payload_of (page_on content n)
 
 -- what a page says, whatever it is
 unfoldable pub said_by : List ℕ → PageKind
-said_by page = page_at (payload_of page)
+said_by page = page_in (payload_of page)
 
 abbrev pub said_on : List (List ℕ) → ℕ → PageKind
 said_on content n = said_by (page_on content n)

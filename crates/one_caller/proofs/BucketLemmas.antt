@@ -7,11 +7,11 @@ use Rattle.buffer_pool.specs.Pool.{PoolState}
 use Rattle.directory.specs.declared.layout.TheConstants.{ROOT_PAGE}
 use Rattle.bucket_page.specs.Bucket.{Bucket}
 use Rattle.bucket_page.specs.Changes.{IsBucketPage, SpellsBucket, Changes}
-use Rattle.bucket_page.specs.Reading.{bucket_at, records_at}
+use Rattle.bucket_page.specs.Reading.{bucket_in, records_in}
 use Rattle.bucket_page.specs.Records.{Pair}
 use Rattle.record_file.specs.Files.{root_bucket}
 use Rattle.record_file.proofs.FileLemmas.{read_again}
-use Rattle.one_caller.specs.OneBucket.{OneBucketState, IsKept, IsPinnedRoot, IsRoot, records_in, root_payload, shown, without_root}
+use Rattle.one_caller.specs.OneBucket.{OneBucketState, IsKept, IsPinnedRoot, IsRoot, root_records, root_payload, shown, without_root}
 
 -- a root bucket's payload is a bucket's
 pub is_bucket : (rs : List Pair) (payload : List ℕ) → IsRoot rs payload → IsBucketPage payload
@@ -19,11 +19,11 @@ is_bucket rs payload it =
     subst (λ (b : Bucket). SpellsBucket b payload) (sym (read_again (root_bucket rs) payload it)) it
 
 -- its records change
-pub changed : (change : List Pair → List Pair) (old new : List ℕ) → IsRoot (records_at old) old → Changes change old new
-    → IsRoot (change (records_at old)) new
+pub changed : (change : List Pair → List Pair) (old new : List ℕ) → IsRoot (records_in old) old → Changes change old new
+    → IsRoot (change (records_in old)) new
 changed change old new it made =
-    let was : bucket_at old ≡ root_bucket (records_at old) = read_again (root_bucket (records_at old)) old it in
-    subst (λ (b : Bucket). SpellsBucket (record b { records = change (records_at old) }) new) was made
+    let was : bucket_in old ≡ root_bucket (records_in old) = read_again (root_bucket (records_in old)) old it in
+    subst (λ (b : Bucket). SpellsBucket (record b { records = change (records_in old) }) new) was made
 
 -- ---- lists
 
@@ -49,15 +49,15 @@ module _ (pool : PoolState) (root : Option ℕ) (page : ℕ) (old : List ℕ) (n
   root_was = ap (λ n. slice_index_or pool.images n []) (sym kept.is_root)
       ∙ get_or_from_slice_get pool.images page old [] was
 
-  root_old : IsRoot (records_at old) old
-  root_old = subst (λ x. IsRoot (records_at x) x) root_was kept.bucket
+  root_old : IsRoot (records_in old) old
+  root_old = subst (λ x. IsRoot (records_in x) x) root_was kept.bucket
 
   bucket_old : IsBucketPage old
-  bucket_old = is_bucket (records_at old) old root_old
+  bucket_old = is_bucket (records_in old) old root_old
 
-  records_old : now.records ≡ records_at old
+  records_old : now.records ≡ records_in old
   records_old = ap (λ (s : OneBucketState). s.records) (sym view)
-      ∙ ap (λ r. records_in r (root_payload pool)) is ∙ ap records_at root_was
+      ∙ ap (λ r. root_records r (root_payload pool)) is ∙ ap records_in root_was
 
   -- the root page gets another payload
   module _ (new : List ℕ) (rs : List Pair) (it : IsRoot rs new) where
@@ -65,7 +65,7 @@ module _ (pool : PoolState) (root : Option ℕ) (page : ℕ) (old : List ℕ) (n
     root_now = ap (λ n. slice_index_or (slice_set pool.images page new) n []) (sym kept.is_root)
         ∙ get_or-set_same pool.images page new [] (slice_get_within pool.images page old was)
 
-    records_now : records_at new ≡ rs
+    records_now : records_in new ≡ rs
     records_now = ap (λ (b : Bucket). b.records) (read_again (root_bucket rs) new it)
 
     others_stay : without_root (slice_set pool.images page new) ≡ without_root pool.images
@@ -74,7 +74,7 @@ module _ (pool : PoolState) (root : Option ℕ) (page : ℕ) (old : List ℕ) (n
 
     shown_now : shown (with_image pool page new) (Some page) ≡ record (shown pool (Some page)) { records = rs }
     shown_now =
-        let found = ap records_at root_now ∙ records_now in
+        let found = ap records_in root_now ∙ records_now in
         λ i. record (shown pool (Some page)) { records = found i; others = others_stay i }
 
     shown_with : shown (with_image pool page new) root ≡ record now { records = rs }
@@ -88,15 +88,15 @@ module _ (pool : PoolState) (root : Option ℕ) (page : ℕ) (old : List ℕ) (n
         subst (IsKept (with_image pool page new)) (sym is) (record {
           is_root = kept.is_root;
           pinned = kept.pinned;
-          bucket = subst (λ x. IsRoot (records_at x) x) (sym root_now)
+          bucket = subst (λ x. IsRoot (records_in x) x) (sym root_now)
               (subst (λ ps. IsRoot ps new) (sym records_now) it);
         })
 
 -- what the payload of the root page says of an open file
 pub record IsOpenRoot (now : OneBucketState) (old : List ℕ) : Type 0 where
-  pub root : IsRoot (records_at old) old
+  pub root : IsRoot (records_in old) old
   pub bucket : IsBucketPage old
-  pub records : now.records ≡ records_at old
+  pub records : now.records ≡ records_in old
 
 pub open_root : (pool : PoolState) {root : Option ℕ} {page : ℕ} {old : List ℕ} {now : OneBucketState}
     → shown pool root ≡ now → root ≡ Some page → IsKept pool root → slice_get pool.images page ≡ Some old
@@ -121,9 +121,9 @@ stores pool {root} {page} {old} {new} {now} view is whole was change made =
     let here = open_root pool view is whole was in
     let it = changed change old new here.root made in
     record {
-      shown = shown_with pool root page old now view is whole was new (change (records_at old)) it
+      shown = shown_with pool root page old now view is whole was new (change (records_in old)) it
           ∙ ap (λ ps. record now { records = change ps }) (sym here.records);
-      kept = kept_with pool root page old now view is whole was new (change (records_at old)) it;
+      kept = kept_with pool root page old now view is whole was new (change (records_in old)) it;
     }
 
 -- it has the payload that it had
@@ -132,11 +132,11 @@ pub stores_same : (pool : PoolState) {root : Option ℕ} {page : ℕ} {old new :
     → IsStored pool root page new now
 stores_same pool {root} {page} {old} {new} {now} view is whole was same =
     let here = open_root pool view is whole was in
-    let it : IsRoot (records_at old) new = subst (λ x. IsRoot (records_at old) x) (sym same) here.root in
+    let it : IsRoot (records_in old) new = subst (λ x. IsRoot (records_in old) x) (sym same) here.root in
     record {
-      shown = shown_with pool root page old now view is whole was new (records_at old) it
+      shown = shown_with pool root page old now view is whole was new (records_in old) it
           ∙ ap (λ ps. record now { records = ps }) (sym here.records);
-      kept = kept_with pool root page old now view is whole was new (records_at old) it;
+      kept = kept_with pool root page old now view is whole was new (records_in old) it;
     }
 
 -- it changed, or has the payload that it had

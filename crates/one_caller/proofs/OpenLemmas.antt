@@ -17,11 +17,11 @@ use Rattle.buffer_pool.specs.Pool.{IsAtRest, IsCrowded, MayNotPin, PoolState, Ke
 use Rattle.directory.specs.declared.layout.TheConstants.{LEAST_PAGES, ROOT_PAGE}
 use Rattle.bucket_page.specs.Bucket.{Bucket, bucket}
 use Rattle.bucket_page.specs.Changes.{SpellsBucket}
-use Rattle.bucket_page.specs.Reading.{records_at}
+use Rattle.bucket_page.specs.Reading.{records_in}
 use Rattle.bucket_page.specs.Records.{Pair}
 use Rattle.record_file.specs.Files.{root_bucket}
 use Rattle.record_file.proofs.FileLemmas.{read_again}
-use Rattle.one_caller.specs.Opening.{HasHeader, page_at, payload_at}
+use Rattle.one_caller.specs.Opening.{HasHeader, bytes_at, payload_at}
 use Rattle.one_caller.specs.OneBucket.{OneBucketState, IsKept, IsPinnedRoot, IsRoot, Leaves, Shows, root_payload, shown, without_root}
 
 pub false_not_true : ◌≡◌ {A = Bool} false true → ⊥
@@ -36,15 +36,15 @@ payload_among content = get_or-map payload_of content ROOT_PAGE []
 
 -- a bucket that has the range of all pseudokeys and nothing behind it
 pub root_is : (payload : List ℕ) (b : Bucket) → SpellsBucket b payload → b.depth ≡ 0 → b.pattern ≡ 0 → b.next ≡ 0
-    → IsRoot (records_at payload) payload
+    → IsRoot (records_in payload) payload
 root_is payload b it depth pattern next =
     let whole : b ≡ root_bucket b.records = λ i. bucket (depth i) (pattern i) (next i) b.records in
-    let found : b.records ≡ records_at payload = ap (λ (a : Bucket). a.records) (sym (read_again b payload it)) in
+    let found : b.records ≡ records_in payload = ap (λ (a : Bucket). a.records) (sym (read_again b payload it)) in
     subst (λ (a : Bucket). SpellsBucket a payload) (whole ∙ ap root_bucket found) it
 
-pub root_only : (payload : List ℕ) (b : Bucket) → SpellsBucket b payload → IsRoot (records_at payload) payload
-    → b ≡ root_bucket (records_at payload)
-root_only payload b it root = sym (read_again b payload it) ∙ read_again (root_bucket (records_at payload)) payload root
+pub root_only : (payload : List ℕ) (b : Bucket) → SpellsBucket b payload → IsRoot (records_in payload) payload
+    → b ≡ root_bucket (records_in payload)
+root_only payload b it root = sym (read_again b payload it) ∙ read_again (root_bucket (records_in payload)) payload root
 
 -- ---- what is shown
 
@@ -56,17 +56,17 @@ shows_pinned pool page content header images seals kept = record {
   others = ap without_root images;
   seals = λ _. seals;
   root = λ rs _ it. (refl, records rs it);
-  is_root = λ _. subst (λ x. IsRoot (records_at (root_payload pool)) x) same kept.bucket;
+  is_root = λ _. subst (λ x. IsRoot (records_in (root_payload pool)) x) same kept.bucket;
 }
   where
     same : root_payload pool ≡ payload_at content ROOT_PAGE
     same = ap (λ xs. slice_index_or xs ROOT_PAGE []) images ∙ payload_among content
 
-    records : (rs : List Pair) → IsRoot rs (payload_at content ROOT_PAGE) → records_at (root_payload pool) ≡ rs
-    records rs it = ap records_at same ∙ ap (λ (b : Bucket). b.records) (read_again (root_bucket rs) _ it)
+    records : (rs : List Pair) → IsRoot rs (payload_at content ROOT_PAGE) → records_in (root_payload pool) ≡ rs
+    records rs it = ap records_in same ∙ ap (λ (b : Bucket). b.records) (read_again (root_bucket rs) _ it)
 
 pub shows_broken : (pool : PoolState) (content : List (List ℕ)) → HasHeader content → pool.images ≡ payloads_of content
-    → ((rs : List Pair) → IsSealed ROOT_PAGE (page_at content ROOT_PAGE) → IsRoot rs (payload_at content ROOT_PAGE) → ⊥)
+    → ((rs : List Pair) → IsSealed ROOT_PAGE (bytes_at content ROOT_PAGE) → IsRoot rs (payload_at content ROOT_PAGE) → ⊥)
     → Shows content (shown pool None)
 shows_broken pool content header images wrong = record {
   header = header;
@@ -85,7 +85,7 @@ leaves pool root page now content view is whole images seals =
     subst (λ (s : OneBucketState). Leaves s content) (ap (shown pool) (sym is) ∙ view) (record {
       others = ap without_root images;
       seals = seals;
-      root = subst (λ x. IsRoot (records_at (root_payload pool)) x) same kept.bucket;
+      root = subst (λ x. IsRoot (records_in (root_payload pool)) x) same kept.bucket;
     })
   where
     kept : IsPinnedRoot pool page
@@ -119,7 +119,7 @@ refused None it none = it
 refused (Some x) it none = absurd cc
 
 pub root_test : (payload : List ℕ) (b : Bucket) → SpellsBucket b payload → b.depth ≡ 0 → b.pattern ≡ 0 → (next : ℕ)
-    → next ≡ b.next → IsTrue (nat_eq next 0) ↔ IsRoot (records_at payload) payload
+    → next ≡ b.next → IsTrue (nat_eq next 0) ↔ IsRoot (records_in payload) payload
 root_test payload b it depth pattern next is = (
   λ is_zero. root_is payload b it depth pattern (sym is ∙ eqb-true next 0 is_zero),
   λ root. eq-eqb next 0 (is ∙ ap (λ (a : Bucket). a.next) (root_only payload b it root)),
@@ -129,19 +129,19 @@ root_test payload b it depth pattern next is = (
 
 pub pinned_root : (pool : PoolState) (page before : ℕ) (image : List ℕ) → page ≡ ROOT_PAGE
     → pins_at pool ROOT_PAGE ≡ before + 1
-    → slice_get pool.images page ≡ Some image → IsRoot (records_at image) image → IsPinnedRoot pool page
+    → slice_get pool.images page ≡ Some image → IsRoot (records_in image) image → IsPinnedRoot pool page
 pinned_root pool page before image is pins found root = record {
   is_root = is;
   pinned = omega arith;
-  bucket = subst (λ x. IsRoot (records_at x) x) (sym same) root;
+  bucket = subst (λ x. IsRoot (records_in x) x) (sym same) root;
 }
   where
     same : root_payload pool ≡ image
     same = ap (λ n. slice_index_or pool.images n []) (sym is) ∙ get_or_from_slice_get pool.images page image [] found
 
 pub not_root : (images content : List (List ℕ)) (page : ℕ) (image : List ℕ) → page ≡ ROOT_PAGE
-    → slice_get images page ≡ Some image → images ≡ payloads_of content → (IsRoot (records_at image) image → ⊥)
-    → (rs : List Pair) → IsSealed ROOT_PAGE (page_at content ROOT_PAGE) → IsRoot rs (payload_at content ROOT_PAGE) → ⊥
+    → slice_get images page ≡ Some image → images ≡ payloads_of content → (IsRoot (records_in image) image → ⊥)
+    → (rs : List Pair) → IsSealed ROOT_PAGE (bytes_at content ROOT_PAGE) → IsRoot rs (payload_at content ROOT_PAGE) → ⊥
 not_root images content page image is found all wrong rs sealed it = wrong (subst (λ ps. IsRoot ps image) records here)
   where
     same : image ≡ payload_at content ROOT_PAGE
@@ -151,7 +151,7 @@ not_root images content page image is found all wrong rs sealed it = wrong (subs
     here : IsRoot rs image
     here = subst (IsRoot rs) (sym same) it
 
-    records : rs ≡ records_at image
+    records : rs ≡ records_in image
     records = ap (λ (b : Bucket). b.records) (sym (read_again (root_bucket rs) image here))
 
 -- the root page of a pool that was opened is not pinned: it is no sealed root bucket
@@ -160,13 +160,13 @@ pub not_pinned : (s : PoolState) (fault : PoolFault) (content : List (List ℕ))
     → (fault ≡ pools.Device device.Device → ⊥)
     → (IsErrOf {T = ℕ} (Err fault) (pools.Device device.PastEnd) → length s.images ≤ ROOT_PAGE)
     → (IsErrOf {T = ℕ} (Err fault) pools.TooFewFrames → IsCrowded ROOT_PAGE s) → MayNotPin ROOT_PAGE s fault
-    → (rs : List Pair) → IsSealed ROOT_PAGE (page_at content ROOT_PAGE) → IsRoot rs (payload_at content ROOT_PAGE) → ⊥
+    → (rs : List Pair) → IsSealed ROOT_PAGE (bytes_at content ROOT_PAGE) → IsRoot rs (payload_at content ROOT_PAGE) → ⊥
 not_pinned s (pools.Device device.Device) content honest images stored rest some least other past crowded told rs
     sealed it =
     other refl
 not_pinned s (pools.Device device.BadDigest) content honest images stored rest some least other past crowded told rs
     sealed it =
-    told honest (subst (λ (pages : List (List ℕ)). IsSealed ROOT_PAGE (page_at pages ROOT_PAGE)) (sym stored) sealed)
+    told honest (subst (λ (pages : List (List ℕ)). IsSealed ROOT_PAGE (bytes_at pages ROOT_PAGE)) (sym stored) sealed)
 not_pinned s (pools.Device device.PastEnd) content honest images stored rest some least other past crowded told rs
     sealed it =
     absurd (omega (arith, past refl, least))

@@ -6,12 +6,12 @@ use Rattle.page_device.specs.Sealed.{IsSealed}
 use Rattle.buffer_pool.specs.Pool.{PoolState, KeepsSeals, payloads_of, pins_at}
 use Rattle.directory.specs.declared.layout.TheConstants.{ROOT_PAGE}
 use Rattle.bucket_page.specs.Changes.{SpellsBucket}
-use Rattle.bucket_page.specs.Reading.{records_at}
+use Rattle.bucket_page.specs.Reading.{records_in}
 use Rattle.bucket_page.specs.Records.{Pair}
 use Rattle.one_caller.specs.declared.file_fault.CloseFault.{CloseFault}
 use Rattle.one_caller.specs.declared.file_fault.CloseFault.TheVariants.{Device, Failed}
 use Rattle.record_file.specs.Files.{root_bucket}
-use Rattle.one_caller.specs.Opening.{HasHeader, page_at, payload_at}
+use Rattle.one_caller.specs.Opening.{HasHeader, bytes_at, payload_at}
 
 pub record OneBucketState : Type 0 where
   -- the records, in the order of their keys; none where the root page is no root bucket
@@ -42,14 +42,14 @@ abbrev pub is_broken : Option ℕ → Bool
 is_broken None = true
 is_broken (Some page) = false
 
-abbrev pub records_in : Option ℕ → List ℕ → List Pair
-records_in None payload = []
-records_in (Some page) payload = records_at payload
+abbrev pub root_records : Option ℕ → List ℕ → List Pair
+root_records None payload = []
+root_records (Some page) payload = records_in payload
 
 -- what a pool shows whose root page, where it is pinned, is a root bucket's
 abbrev pub shown : PoolState → Option ℕ → OneBucketState
 shown pool root = record {
-  records = records_in root (root_payload pool);
+  records = root_records root (root_payload pool);
   broken = is_broken root;
   others = without_root pool.images;
   stored = pool.stored;
@@ -61,7 +61,7 @@ shown pool root = record {
 pub record IsPinnedRoot (pool : PoolState) (page : ℕ) : Type 0 where
   pub is_root : page ≡ ROOT_PAGE
   pub pinned : 0 < pins_at pool ROOT_PAGE
-  pub bucket : IsRoot (records_at (root_payload pool)) (root_payload pool)
+  pub bucket : IsRoot (records_in (root_payload pool)) (root_payload pool)
 
 abbrev pub IsKept : PoolState → Option ℕ → Type 0
 IsKept pool None = ⊤
@@ -76,7 +76,7 @@ pub record Shows (content : List (List ℕ)) (file : OneBucketState) : Type 0 wh
   -- a page that was sealed is so still
   pub seals : file.broken ≡ false → KeepsSeals content file.stored
   -- the file is not broken where the root page is sealed and a root bucket's, and what is shown is its records
-  pub root : (rs : List Pair) → IsSealed ROOT_PAGE (page_at content ROOT_PAGE) →
+  pub root : (rs : List Pair) → IsSealed ROOT_PAGE (bytes_at content ROOT_PAGE) →
       IsRoot rs (payload_at content ROOT_PAGE) → (file.broken ≡ false) × (file.records ≡ rs)
   pub is_root : file.broken ≡ false → IsRoot file.records (payload_at content ROOT_PAGE)
 

@@ -10,16 +10,16 @@ use Rattle.one_caller.specs.declared.file_fault.OpenFault.{OpenFault}
 use Rattle.one_caller.specs.declared.file_fault.OpenFault.TheVariants.{Device, BadDigest, PastEnd, TooFewFrames, BadHeader, BadVersion, NoMemory}
 
 -- page n of a file, and its payload
-abbrev pub page_at : List (List ℕ) → ℕ → List ℕ
-page_at content n = slice_index_or content n []
+abbrev pub bytes_at : List (List ℕ) → ℕ → List ℕ
+bytes_at content n = slice_index_or content n []
 
 abbrev pub payload_at : List (List ℕ) → ℕ → List ℕ
-payload_at content n = payload_of (page_at content n)
+payload_at content n = payload_of (bytes_at content n)
 
 -- page 0 is the header of a file of so many pages
 pub record HasHeader (content : List (List ℕ)) : Type 0 where
   pub header : Header
-  pub sealed : IsSealed 0 (page_at content 0)
+  pub sealed : IsSealed 0 (bytes_at content 0)
   pub read : reading (payload_at content 0) ≡ Ok header
   pub as_many : header.pages ≡ length content
 
@@ -38,7 +38,7 @@ pub record IsTooLong (content : List (List ℕ)) : Type 0 where
 -- what is wrong with a file that is refused so
 abbrev pub MayRefuse : List (List ℕ) → OpenFault → Type 0
 MayRefuse content Device = ⊤
-MayRefuse content BadDigest = IsSealed 0 (page_at content 0) → ⊥
+MayRefuse content BadDigest = IsSealed 0 (bytes_at content 0) → ⊥
 MayRefuse content PastEnd = (length content ≡ 0) ⊎ IsCut content
 MayRefuse content TooFewFrames = ⊤
 MayRefuse content BadHeader = (reading (payload_at content 0) ≡ Err headers.BadHeader) ⊎ IsTooLong content

@@ -7,7 +7,7 @@ ghost use Rattle.std.specs.Prelude.{◌≡◌, ◌≢◌, ◌↔◌, ◌+◌, �
 ghost use Rattle.bucket_page.specs.declared.layout.TheConstants.{RECORD_HEAD_BYTES, ROOM_BYTES};
 ghost use Rattle.bucket_page.specs.Changes.{HasValueOf, fronted, inserted, removed, replaced, value_of_key};
 ghost use Rattle.bucket_page.specs.Records.{ascend, lookup, pair, record_bytes};
-ghost use Rattle.bucket_page.specs.Reading.{records_at};
+ghost use Rattle.bucket_page.specs.Reading.{records_in};
 ghost use Rattle.one_caller.specs.Opening.{HasCauseToRefuse, MayRefuse};
 ghost use Rattle.one_caller.specs.OneBucket.{HasCauseToFail, IsRoot, Leaves, Shows, device_in};
 
@@ -207,7 +207,7 @@ impl<D: PageDevice> OneBucket<D> {
 
 /// Whether a page is a root bucket: one of all pseudokeys, with no other behind it.
 fn is_root(page: &FilePage) -> bool
-    ensures { IsTrue result ↔ IsRoot (records_at page.now) page.now }
+    ensures { IsTrue result ↔ IsRoot (records_in page.now) page.now }
 {
     let Some(bucket) = page.bucket() else {
         return false;

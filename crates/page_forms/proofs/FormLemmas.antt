@@ -3,7 +3,7 @@ use Rattle.std.proofs.Common.{◌≡◌, ◌↔◌, ◌∙◌, refl, sym, ap, su
 use Rattle.std.specs.Prelude.{is_ok}
 use Rattle.bucket_page.specs.declared.page.PageKind.{PageKind}
 use Rattle.bucket_page.specs.declared.page.Malformed.{Malformed}
-use Rattle.bucket_page.specs.Reading.{page_at, kind_at, fault_of, answer}
+use Rattle.bucket_page.specs.Reading.{page_in, kind_at, fault_of, answer}
 use Rattle.bucket_page.specs.declared.layout.TheConstants.{FREE}
 use Rattle.bucket_page.specs.declared.page.PageKind.TheVariants as kinds
 use Rattle.fields.specs.Numbers.{four_at}
@@ -22,10 +22,10 @@ value_is None x p is = cc
 value_is (Some f) x p is = absurd cc
 
 -- the page that a payload spells is the one that is read from it
-pub page_is : (p : PageKind) (bytes : List ℕ) → Spells p bytes → page_at bytes ≡ p
-page_is p bytes it = value_is (fault_of bytes) (page_at bytes) p (spelled_reads p bytes it)
+pub page_is : (p : PageKind) (bytes : List ℕ) → Spells p bytes → page_in bytes ≡ p
+page_is p bytes it = value_is (fault_of bytes) (page_in bytes) p (spelled_reads p bytes it)
 
-pub same_page : (p : PageKind) (bytes : List ℕ) → Spells p bytes → Spells (page_at bytes) bytes
+pub same_page : (p : PageKind) (bytes : List ℕ) → Spells p bytes → Spells (page_in bytes) bytes
 same_page p bytes it = subst (λ (q : PageKind). Spells q bytes) (sym (page_is p bytes it)) it
 
 pub page_well : (p : PageKind) (bytes : List ℕ) → Spells p bytes → IsWell bytes
@@ -35,7 +35,7 @@ page_well p bytes it = inl (same_page p bytes it)
 pub free_page : (next : ℕ) (bytes : List ℕ) → Spells (kinds.Free next) bytes → IsFreePage bytes
 free_page next bytes it =
     let kind : kind_at bytes ≡ FREE = ap kind_at it.spelled in
-    let reads : page_at bytes ≡ kinds.Free (four_at 4 bytes) = rw kind refl in
+    let reads : page_in bytes ≡ kinds.Free (four_at 4 bytes) = rw kind refl in
     subst (λ (p : PageKind). Spells p bytes) (sym (page_is (kinds.Free next) bytes it) ∙ reads) it
 
 header_value : (f : Option HeaderFault) (x h : Header) → header_answer f x ≡ Ok h → x ≡ h
@@ -52,10 +52,10 @@ same_header h bytes it = subst (λ (g : Header). SpellsHeader g bytes) (sym (hea
 
 pub page_test : (r : Result PageKind Malformed) (ok : Bool) (bytes : List ℕ) → ok ≡ is_ok r
     → IfOk r (λ p. Spells p bytes)
-    → ((p : PageKind) → Spells p bytes → r ≡ Ok p) → IsTrue ok ↔ Spells (page_at bytes) bytes
+    → ((p : PageKind) → Spells p bytes → r ≡ Ok p) → IsTrue ok ↔ Spells (page_in bytes) bytes
 page_test (Ok p) ok bytes is spells only = (λ _. same_page p bytes spells, λ _. is)
 page_test (Err e) ok bytes is spells only =
-    (λ good. absurd cc, λ it. let e = only (page_at bytes) it in absurd cc)
+    (λ good. absurd cc, λ it. let e = only (page_in bytes) it in absurd cc)
 
 pub header_test : (r : Result Header HeaderFault) (ok : Bool) (bytes : List ℕ) → ok ≡ is_ok r
     → IfOk r (λ h. SpellsHeader h bytes) → ((h : Header) → SpellsHeader h bytes → r ≡ Ok h)

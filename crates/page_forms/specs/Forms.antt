@@ -2,7 +2,7 @@
 use Rattle.std.specs.Prelude.{ℕ, ◌⊎◌, List}
 use Rattle.fields.specs.Numbers.{four_at}
 use Rattle.bucket_page.specs.declared.page.PageKind.TheVariants as kinds
-use Rattle.bucket_page.specs.Reading.{page_at}
+use Rattle.bucket_page.specs.Reading.{page_in}
 use Rattle.bucket_page.specs.Spelling.{Spells, bytes_of}
 use Rattle.directory.specs.Reading.{header_at}
 use Rattle.directory.specs.Spelling.{Spells as SpellsHeader}
@@ -21,7 +21,7 @@ IsFreePage bytes = Spells (kinds.Free (four_at 4 bytes)) bytes
 
 -- the payload spells a page, whatever the page's number is
 abbrev pub IsWell : List ℕ → Type 0
-IsWell bytes = Spells (page_at bytes) bytes ⊎ IsHeaderPage bytes
+IsWell bytes = Spells (page_in bytes) bytes ⊎ IsHeaderPage bytes
 
 -- a free page behind which there is none
 abbrev pub blank_page : List ℕ

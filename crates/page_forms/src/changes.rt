@@ -5,7 +5,7 @@ ghost use Rattle.page_device.specs.declared.page.TheConstants.{MAX_PAGES};
 ghost use Rattle.bucket_page.specs.declared.layout.TheConstants.{RECORD_HEAD_BYTES, ROOM_BYTES};
 ghost use Rattle.bucket_page.specs.declared.page.PageKind.TheVariants as kinds;
 ghost use Rattle.bucket_page.specs.Changes.{Changes, HasValueOf, IsBucketPage, fronted, inserted, removed, replaced, value_of_key};
-ghost use Rattle.bucket_page.specs.Reading.{records_at};
+ghost use Rattle.bucket_page.specs.Reading.{records_in};
 ghost use Rattle.bucket_page.specs.Records.{lookup, pair, record_bytes};
 ghost use Rattle.bucket_page.specs.Spelling.{Spells};
 ghost use Rattle.directory.specs.declared.layout.TheConstants.{DIRECTORY_PAGES, FIRST_DIRECTORY_PAGE, GREATEST_DEPTH, LEAST_PAGES};
@@ -24,10 +24,10 @@ impl FilePage {
     /// Puts a record into a bucket that has none of its key. Where it does not fit nothing is changed.
     pub fn put(&mut self, key: &RecordKey, value: &[u8]) -> Result<(), DoesNotFit>
         requires bucket { IsBucketPage self.old }
-        requires absent { lookup key.now (records_at self.old) ≡ None }
+        requires absent { lookup key.now (records_in self.old) ≡ None }
         ensures ok { OnOk result (Changes (inserted (pair key.now value.now)) self.old self.new) }
         ensures full { IsErr result ↔ ROOM_BYTES
-            < length (record_bytes (records_at self.old)) + (RECORD_HEAD_BYTES + length value.now) }
+            < length (record_bytes (records_in self.old)) + (RECORD_HEAD_BYTES + length value.now) }
         ensures err { OnErr result (self.new ≡ self.old) }
     {
         put(&mut self.payload, key, value)
@@ -36,7 +36,7 @@ impl FilePage {
     /// Replaces the value of a key that the bucket has by one of the same length.
     pub fn replace(&mut self, key: &RecordKey, value: &[u8])
         requires bucket { IsBucketPage self.old }
-        requires there { HasValueOf (length value.now) key.now (records_at self.old) }
+        requires there { HasValueOf (length value.now) key.now (records_in self.old) }
         ensures { Changes (replaced (pair key.now value.now)) self.old self.new }
     {
         replace(&mut self.payload, key, value);
@@ -45,8 +45,8 @@ impl FilePage {
     /// Replaces the first bytes of the value of a key that the bucket has. The others stay where they are.
     pub fn replace_front(&mut self, key: &RecordKey, front: &[u8])
         requires bucket { IsBucketPage self.old }
-        requires there { IsSome (lookup key.now (records_at self.old)) }
-        requires long { length front.now ≤ length (value_of_key key.now (records_at self.old)) }
+        requires there { IsSome (lookup key.now (records_in self.old)) }
+        requires long { length front.now ≤ length (value_of_key key.now (records_in self.old)) }
         ensures { Changes (fronted key.now front.now) self.old self.new }
     {
         replace_front(&mut self.payload, key, front);
@@ -55,7 +55,7 @@ impl FilePage {
     /// Takes the record of a key that the bucket has.
     pub fn remove(&mut self, key: &RecordKey)
         requires bucket { IsBucketPage self.old }
-        requires there { IsSome (lookup key.now (records_at self.old)) }
+        requires there { IsSome (lookup key.now (records_in self.old)) }
         ensures { Changes (removed key.now) self.old self.new }
     {
         remove(&mut self.payload, key);

@@ -3,7 +3,7 @@
 ghost use Rattle.std.specs.Prelude.{◌≡◌, ◌↔◌, IsSome, IsTrue, IfNone, IfSome};
 ghost use Rattle.bucket_page.specs.Changes.{IsBucketPage};
 ghost use Rattle.fields.specs.Numbers.{four_at};
-ghost use Rattle.bucket_page.specs.Reading.{bucket_at, page_at};
+ghost use Rattle.bucket_page.specs.Reading.{bucket_in, page_in};
 ghost use Rattle.bucket_page.specs.Spelling.{Spells};
 ghost use Rattle.directory.specs.Pages.{IsDirectoryPage, entries_at};
 ghost use Rattle.directory.specs.Reading.{header_at};
@@ -93,7 +93,7 @@ impl FilePage {
     /// What it says where it is a bucket.
     pub fn bucket(&self) -> Option<BucketView<'_>>
         ensures some { IfSome result
-            (λ bucket. IsBucketPage self.now × (bucket ≡ bucket_at self.now)) }
+            (λ bucket. IsBucketPage self.now × (bucket ≡ bucket_in self.now)) }
         ensures none { IfNone result (IsBucketPage self.now → ⊥) }
     {
         if self.payload[0] != BUCKET {
@@ -147,7 +147,7 @@ fn spells_header(payload: &Payload) -> bool
 
 /// Whether a payload spells another page.
 fn spells_page(payload: &Payload) -> bool
-    ensures { IsTrue result ↔ Spells (page_at payload.now) payload.now }
+    ensures { IsTrue result ↔ Spells (page_in payload.now) payload.now }
 {
     read_page(payload).is_ok()
 }

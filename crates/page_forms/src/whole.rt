@@ -3,7 +3,7 @@
 ghost use Rattle.std.specs.Prelude.{◌≡◌, ◌<◌};
 ghost use Rattle.bucket_page.specs.Changes.{IsBucketPage, SpellsBucket};
 ghost use Rattle.bucket_page.specs.Dividing.{AreBuddies, FitTogether, ShareNoKey, joined, lower_half, upper_half};
-ghost use Rattle.bucket_page.specs.Reading.{bucket_at, records_at};
+ghost use Rattle.bucket_page.specs.Reading.{bucket_in, records_in};
 ghost use Rattle.directory.specs.declared.layout.TheConstants.{GREATEST_DEPTH};
 
 use crate::file_page::FilePage;
@@ -14,8 +14,8 @@ impl FilePage {
     /// The half of a bucket whose pseudokeys have 1 in the next bit.
     pub fn upper_half<K: PseudoKey>(&self, keys: &K) -> FilePage
         requires bucket { IsBucketPage self.now }
-        requires depth { (bucket_at self.now).depth < GREATEST_DEPTH }
-        ensures { SpellsBucket (upper_half (K.of_key keys.now) (bucket_at self.now)) result }
+        requires depth { (bucket_in self.now).depth < GREATEST_DEPTH }
+        ensures { SpellsBucket (upper_half (K.of_key keys.now) (bucket_in self.now)) result }
     {
         let mut payload = [0; PAYLOAD_BYTES];
         write_upper_half(keys, &self.payload, &mut payload);
@@ -25,8 +25,8 @@ impl FilePage {
     /// The half of a bucket whose pseudokeys have 0 in the next bit. The other half is to stand on `page`.
     pub fn lower_half<K: PseudoKey>(&self, keys: &K, page: u32) -> FilePage
         requires bucket { IsBucketPage self.now }
-        requires depth { (bucket_at self.now).depth < GREATEST_DEPTH }
-        ensures { SpellsBucket (lower_half (K.of_key keys.now) page (bucket_at self.now)) result }
+        requires depth { (bucket_in self.now).depth < GREATEST_DEPTH }
+        ensures { SpellsBucket (lower_half (K.of_key keys.now) page (bucket_in self.now)) result }
     {
         let mut payload = [0; PAYLOAD_BYTES];
         write_lower_half(keys, &self.payload, page, &mut payload);
@@ -37,10 +37,10 @@ impl FilePage {
     pub fn joined(&self, right: &FilePage) -> FilePage
         requires left { IsBucketPage self.now }
         requires right { IsBucketPage right.now }
-        requires buddies { AreBuddies (bucket_at self.now) (bucket_at right.now) }
-        requires apart { ShareNoKey (records_at self.now) (records_at right.now) }
-        requires room { FitTogether (records_at self.now) (records_at right.now) }
-        ensures { SpellsBucket (joined (bucket_at self.now) (bucket_at right.now)) result }
+        requires buddies { AreBuddies (bucket_in self.now) (bucket_in right.now) }
+        requires apart { ShareNoKey (records_in self.now) (records_in right.now) }
+        requires room { FitTogether (records_in self.now) (records_in right.now) }
+        ensures { SpellsBucket (joined (bucket_in self.now) (bucket_in right.now)) result }
     {
         let mut payload = [0; PAYLOAD_BYTES];
         join(&self.payload, &right.payload, &mut payload);

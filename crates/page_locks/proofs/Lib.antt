@@ -1,3 +1,4 @@
+pub mod Names
 pub mod ChangeLemmas
 pub mod CircleLemmas
 pub mod CloseLemmas

@@ -1,22 +1,9 @@
 -- The caller's names are held as before, and the file holds what it held, but at a key that is written.
 use Rattle.std.proofs.Common.{◌≡◌, refl, sym, ap, ◌∙◌, subst, ℕ, List, [], ◌∷◌, Option, Some, None, IsSome, ◌==◌, Bool, true, false, if◌then◌else◌}
-use Rattle.step_rules.specs.Words.{LockName, Key, Counter, Queue}
-use Rattle.page_locks.specs.Locks.{is_same}
+use Rattle.record_file.proofs.Names.{COUNTER, ChangesRecord, Counter, FileFault, Found, GrantDirectory, GrantPage, Hop, KEY, KeepsContents, Key, LockName, Queue, ReadDepth, ReadEntry, ReleaseDirectory, SearchPlace, TurnsAt, WritesAsked, changes_just, first_kind, is_of_its_kind, is_same, key_of, kind_keeps_contents, kind_of-append, locks_at, row_of-same, value_after}
 use Rattle.bucket_page.specs.Keys.{is_same as is_same_key}
-use Rattle.page_locks.proofs.RowLemmas.{kind_of-append, first_kind}
-use Rattle.page_locks.proofs.TableLemmas.{row_of-same}
-use Rattle.file_pages.specs.declared.fault.FileFault.{FileFault}
-use Rattle.hash_file.specs.Kept.{ChangesRecord, KeepsContents}
-use Rattle.hash_file.specs.Changes.{key_of, value_after}
-use Rattle.queue_records.specs.declared.layout.TheConstants.{COUNTER, KEY}
 use Rattle.step_rules.specs.declared.progress.Progress.TheVariants as answers
-use Rattle.step_rules.specs.Turns.{TurnsAt, WritesAsked}
-use Rattle.step_rules.proofs.TurnLemmas.{is_of_its_kind}
-use Rattle.step_rules.proofs.KindLemmas.{kind_keeps_contents}
-use Rattle.step_rules.proofs.RecordStepLemmas.{changes_just}
-use Rattle.stale_search.specs.declared.place.SearchPlace.{SearchPlace}
-use Rattle.stale_search.specs.declared.place.SearchPlace.TheVariants.{GrantDirectory, ReadDepth, ReadEntry, GrantPage, ReleaseDirectory, Look as AtLook, Hop, Found}
-use Rattle.stale_search.specs.Searches.{locks_at}
+use Rattle.stale_search.specs.declared.place.SearchPlace.TheVariants.{Look as AtLook}
 use Rattle.record_file.specs.Words.{RecordKey, RecordWrite, PoolState, Table, Lock, LockKind, Read, Selective, Directory, Page, Change, row_of, held, kind_of, lock_of, guard_of, contents, Progress, Moved, WriteRecord, World, IsHeld, Turn, IsSoundWorld, is_fault, world, SearchView, search_locks, in_directory, on_page}
 use Rattle.record_file.specs.Callers.{IsToldWritten, KeepsNames, MovesRow, StaysTold}
 use Rattle.record_file.specs.Finds.{FindView, find_locks}

@@ -15,7 +15,7 @@ use Rattle.bucket_page.specs.Bucket.{Bucket, bucket}
 use Rattle.bucket_page.specs.Changes.{Changes, SpellsBucket, inserted}
 use Rattle.bucket_page.specs.Keys.{key_bytes}
 use Rattle.fields.specs.Numbers.{four, two}
-use Rattle.bucket_page.specs.Reading.{bucket_at, records_at}
+use Rattle.bucket_page.specs.Reading.{bucket_in, records_in}
 use Rattle.bucket_page.specs.Records.{pair, pair_bytes, record_bytes}
 use Rattle.bucket_page.specs.Spelling.{IsBucket}
 use Rattle.fields.proofs.NumberLaws.{length-four, length-two}
@@ -59,8 +59,8 @@ one_more pages k old new page size is last before n below = at (cases_eq n k)
 -- ---- the root bucket
 
 -- a bucket is read from its spelling
-pub read_again : (b : Bucket) (payload : List ℕ) → SpellsBucket b payload → bucket_at payload ≡ b
-read_again b payload it = ap bucket_at it.spelled ∙ (bucket_again b it.in_range).value
+pub read_again : (b : Bucket) (payload : List ℕ) → SpellsBucket b payload → bucket_in payload ≡ b
+read_again b payload it = ap bucket_in it.spelled ∙ (bucket_again b it.in_range).value
 
 -- the Counter's record is that of a bucket, where there is room for it
 counter_long : length (counter_bytes new_counter) ≡ 8
@@ -94,15 +94,15 @@ new_root =
 
 pub root_written : (r : Result (Unit {0}) DoesNotFit) (old new : List ℕ) (key : RecordKey) (value : List ℕ)
     → SpellsBucket (bucket 0 0 0 []) old → key ≡ counter_key → value ≡ counter_bytes new_counter
-    → IsErr r ↔ (ROOM_BYTES < length (record_bytes (records_at old)) + (RECORD_HEAD_BYTES + length value))
+    → IsErr r ↔ (ROOM_BYTES < length (record_bytes (records_in old)) + (RECORD_HEAD_BYTES + length value))
     → OnOk r (Changes (inserted (pair key value)) old new) → SpellsBucket (root_bucket new_records) new
 root_written (Ok done) old new key value it key-is value-is full made =
-    let was : bucket_at old ≡ bucket 0 0 0 [] = read_again (bucket 0 0 0 []) old it in
+    let was : bucket_in old ≡ bucket 0 0 0 [] = read_again (bucket 0 0 0 []) old it in
     subst (λ (b : Bucket). SpellsBucket b new)
     ((λ i. record (was i) { records = inserted (pair (key-is i) (value-is i)) (was i).records })) made
 root_written (Err e) old new key value it key-is value-is full made =
     let room = full.0 refl in
-    let empty : length (record_bytes (records_at old)) ≡ 0 =
+    let empty : length (record_bytes (records_in old)) ≡ 0 =
     ap (λ (b : Bucket). length (record_bytes b.records)) (read_again (bucket 0 0 0 []) old it) in
     let short : length value ≡ 8 = ap length value-is ∙ counter_long in
     absurd (omega arith)

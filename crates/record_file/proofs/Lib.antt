@@ -1,3 +1,4 @@
+pub mod Names
 pub mod FileLemmas
 pub mod AnswerLemmas
 pub mod ReleaseLemmas

@@ -1,3 +1,4 @@
+pub mod Names
 pub mod PageLemmas
 pub mod StoreLemmas
 pub mod FreeLemmas

@@ -1,29 +1,8 @@
 -- The steps of a split, each from what its place knows.
 use Rattle.std.proofs.Common.{◌≡◌, ◌≢◌, refl, sym, ap, subst, ◌∙◌, ℕ, suc, ◌+◌, ◌^◌, ◌≤◌, ◌<◌, Bool, true, false, nat_lt, if◌then◌else◌, [], inl, arith, add-one}
-use Rattle.std.proofs.lemmas.Bool.{ltb-false}
-use Rattle.positions.proofs.MemberLaws.{contains_head}
+use Rattle.split_merge.proofs.Names.{AllKnown, CopiesDirectory, DoesTied, IsAsDeep, IsBucketOf, IsCopiedBefore, IsRetargetedBefore, IsSoundFile, Kind, LacksRoom, PageLeads, Retargets, SetsCounts, SplitsFor, Store, WritesNew, WritesOld, bucket_at, bucket_leads, chain, contains_head, copies_on, copy_directory, gone_on, length-pair, live_not_owned, lookup, ltb-false, page_at, page_other, raise_depth, range_at, records_at, retarget, retarget_keeps_split, retargets_on, set_counts, set_counts_keeps_split, split_counts, take_page, target_of, upper_half, write_new, write_new_keeps, write_old, write_old_keeps, write_old_ways}
 use Rattle.bucket_page.specs.declared.page.PageKind.TheVariants as kinds
-use Rattle.bucket_page.specs.Records.{lookup}
-use Rattle.bucket_page.specs.Dividing.{upper_half}
-use Rattle.bucket_page.proofs.Steps.{length-pair}
-use Rattle.hash_file.specs.Sound.{IsSoundFile}
-use Rattle.hash_file.specs.Changes.{take_page, copy_directory, raise_depth, write_new, write_old, retarget, set_counts, split_counts}
-use Rattle.hash_file.specs.Store.{page_at}
-use Rattle.hash_file.proofs.Frames.{page_other}
-use Rattle.hash_file.proofs.OffChain.{write_new_keeps}
-use Rattle.hash_file.proofs.Splitting.{write_old_keeps, write_old_ways}
-use Rattle.hash_file.proofs.Retargeting.{retarget_keeps_split, set_counts_keeps_split}
-use Rattle.hash_file.proofs.Roles.{live_not_owned}
-use Rattle.hash_file.proofs.Searches.{bucket_leads}
-use Rattle.step_rules.specs.Words.{Store, PageLeads, bucket_at, range_at, records_at, chain, IsBucketOf}
-use Rattle.step_rules.specs.declared.kind.Kind.{Kind}
 use Rattle.step_rules.specs.declared.kind.Kind.TheVariants as kinds_of_step
-use Rattle.step_rules.specs.World.{gone_on}
-use Rattle.step_rules.specs.Structure.{IsCopiedBefore, IsRetargetedBefore, target_of}
-use Rattle.step_rules.specs.Known.{AllKnown}
-use Rattle.step_rules.specs.PageSteps.{CopiesDirectory, Retargets, WritesNew, WritesOld, SetsCounts}
-use Rattle.step_rules.specs.Turns.{DoesTied, LacksRoom, SplitsFor, IsAsDeep}
-use Rattle.step_rules.proofs.FallLemmas.{copies_on, retargets_on}
 use Rattle.split_merge.specs.Words.{RecordKey, GREATEST_DEPTH, Pair, World, IsSoundWorld, Change, Quiet, Taken, Filled, Linked, Range, upper_half_of, page_of, TakePage, CopyDirectory, RaiseDepth, WriteNew, WriteOld, Retarget, SetCounts, Done, SplitPlace}
 use Rattle.split_merge.specs.Entries.{first_upper, last_upper, stride}
 use Rattle.split_merge.specs.Order.{IsPlaced, after_take, after_copy, after_retarget}

@@ -1,28 +1,7 @@
 -- A step of a split as its turn, once its writes are those of the file.
 use Rattle.std.proofs.Common.{◌≡◌, refl, sym, ap, subst, ◌∙◌, ℕ, ◌+◌, true, List, Some, inl}
-use Rattle.page_locks.specs.Locks.{kind_of}
-use Rattle.page_locks.specs.Table.{Table, IsSeat, row_of, held, without_lock}
-use Rattle.page_locks.specs.Writers.{may_write}
-use Rattle.file_pages.specs.declared.fault.FileFault.{FileFault}
-use Rattle.file_pages.specs.Writes.{OnlyWrites}
-use Rattle.file_pages.proofs.StoreLemmas.{layout_is}
-use Rattle.hash_file.specs.Changes.{copy_directory, raise_depth, write_new, write_old, retarget, set_counts, split_counts}
-use Rattle.step_rules.specs.Words.{Store}
-use Rattle.step_rules.specs.declared.kind.Kind.{Kind}
+use Rattle.split_merge.proofs.Names.{AllKnown, DoesTied, FileFault, HasNoFileLock, HasNoRoom, IsHeld-some, IsSeat, KeepsOthers, Kind, OnlyWrites, Releases, Sees, Step, Store, Table, copy_directory, gone_on, held, kind_keeps, kind_of, layout_is, may_write, none_busy, raise_depth, retarget, row_of, set_counts, split_counts, store_of, turn_keeps, without_lock, world, write_new, write_old}
 use Rattle.step_rules.specs.declared.kind.Kind.TheVariants as kinds_of_step
-use Rattle.step_rules.specs.World.{gone_on}
-use Rattle.step_rules.specs.Does.{KeepsOthers}
-use Rattle.step_rules.specs.Known.{AllKnown}
-use Rattle.step_rules.specs.LockSteps.{Releases}
-use Rattle.step_rules.specs.Rooms.{HasNoRoom}
-use Rattle.step_rules.specs.Turns.{DoesTied}
-use Rattle.step_rules.proofs.KindLemmas.{kind_keeps}
-use Rattle.step_rules.proofs.LockLemmas.{IsHeld-some}
-use Rattle.step_rules.proofs.LockStepLemmas.{none_busy}
-use Rattle.step_rules.proofs.TurnLemmas.{turn_keeps}
-use Rattle.stale_search.specs.Searches.{HasNoFileLock}
-use Rattle.stale_search.specs.Steps.{world, Sees, Step}
-use Rattle.stale_search.specs.Words.{store_of}
 use Rattle.split_merge.specs.Words.{RecordKey, GREATEST_DEPTH, Pair, PoolState, World, Change, Range, upper_half_of, page_of, Lock, Selective, Directory, Page, Moved, SplitPlace, TakePage, CopyDirectory, RaiseDepth, WriteNew, WriteOld, Retarget, SetCounts, Done, Full}
 use Rattle.split_merge.specs.Order.{IsPlaced, after_take, after_copy, after_retarget}
 use Rattle.split_merge.specs.Taking.{TakesFirst}

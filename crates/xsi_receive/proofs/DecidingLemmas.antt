@@ -1,14 +1,10 @@
 -- What becomes of a message that is taken, and what is decided then.
 use Rattle.std.proofs.Common.{◌≡◌, ℕ, ℤ, Bool, true, List, [], ◌∷◌, Option, Some, None, refl, sym, ap, ◌∙◌, subst, arith}
-use Rattle.std.specs.Prelude.{◌&&◌, nat_le, option_map}
+use Rattle.xsi_receive.proofs.Names.{All-nil, Answers, Decides, IsAnswered, LockName, nat_le, option_map, ◌&&◌}
 use Rattle.xsi_receive.specs.Words.{All, Contains, position_or_len, remove, Receive, ReceiveArguments, Caller, Message, Queue, IsLawfulQueue, receive_found, with_queue, without_message, selects, State, QueueEntry, TypeEntry, guard_of, key_of_message, key_of_type, message_entry, queue_entry, type_entry, serials_of_type, types, first_of, Write, Replace, Relink, Delete, Roomful, IsFiled, key_written, InSlot, somes_all}
-use Rattle.std.proofs.lemmas.List.Elements.{All-nil}
-use Rattle.page_locks.specs.declared.lock.LockName.{LockName}
 use Rattle.page_locks.specs.declared.lock.LockName.TheVariants as names
 use Rattle.queue_model.specs.declared.answer.Answer.TheVariants as answers
 use Rattle.queue_records.specs.declared.record.Record.TheVariants as records
-use Rattle.xsi_inquiry.specs.declared.decision.Decision.TheVariants.{Answers}
-use Rattle.xsi_inquiry.specs.Deciding.{Decides, IsAnswered}
 use Rattle.xsi_receive.specs.declared.head.MessageHead.{MessageHead}
 use Rattle.xsi_receive.specs.declared.removal.Removal.{Removal}
 use Rattle.xsi_receive.specs.declared.removal.TypeLeft.{TypeLeft}

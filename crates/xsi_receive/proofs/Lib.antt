@@ -1,3 +1,4 @@
+pub mod Names
 pub mod DecidingLemmas
 pub mod FirstOfTypeLemmas
 pub mod FitLemmas

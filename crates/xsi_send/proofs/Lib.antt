@@ -1,3 +1,4 @@
+pub mod Names
 pub mod Beside
 pub mod Few
 pub mod Links

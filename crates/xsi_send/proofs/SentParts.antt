@@ -1,23 +1,10 @@
 -- The records that a Send writes to its queue, and those that it leaves.
 use Rattle.std.proofs.Common.{◌≡◌, ℕ, ◌<◌, ℤ, pos, negsuc, ◌≤ℤ◌, ◌<ℤ◌, Bool, true, false, cond, List, [], ◌∷◌, ◌++◌, length, Option, Some, None, inl, inr, refl, sym, ap, ◌∙◌, subst, arith}
-use Rattle.std.specs.Prelude.{◌==◌, option_map, option_and_then}
+use Rattle.xsi_send.proofs.Names.{All-cons, All-contains, All-head, All-nil, All-tail, All-weaker, Contains-append_cases, Contains-append_left, Decides-eqb, Effect-outcome, IsLawful-Effect, MessageEntry, TypeLinks, append-nil, are_types_of, eqb-true, ints, is_same, length-queue, made_of_the_queue, nat_tests, option_and_then, option_map, ◌==◌}
 use Rattle.xsi_send.specs.Words.{All, AllPairs, Contains, filter, find, RecordKey, Sent, Send, SendArguments, Caller, Message, Queue, IsLawful, IsLawfulQueue, IsLawfulMessage, has_id, with_message, with_queue, State, find-None, find-Some, position_None, QUEUE, TYPE, MESSAGE, QueueEntry, Record, TypeEntry, type_number, IsInRange, IsType, key_of, queue_entry, type_entry, message_entry, types, is_of_type, last_of, has_number, has_serial, type_record, message_record, record_of, message_of, with_one_more, last_message, all_types, in_range, lawful_queue, contains_tail, head_or_tail, Write, Replace, Relink, IsFiled, Leads, Plan, value_length, key_of_message, key_of_type, relinked, with_type_links, IsOrdered, IsUnder, InSlot, found_new, IsNew, Fills}
-use Rattle.std.proofs.lemmas.Bool.{eqb-true}
-use Rattle.std.proofs.lemmas.Bool.Decides.{Decides-eqb, nat_tests}
-use Rattle.std.proofs.lemmas.Int.{ints}
-use Rattle.std.proofs.lemmas.List.{append-nil}
-use Rattle.std.proofs.lemmas.List.Elements.{All-cons, All-contains, All-head, All-nil, All-tail, All-weaker, Contains-append_cases, Contains-append_left}
-use Rattle.bucket_page.specs.Keys.{is_same}
-use Rattle.queue_model.proofs.EffectLemmas.{Effect-outcome}
-use Rattle.queue_model.proofs.LawfulLemmas.{IsLawful-Effect}
-use Rattle.queue_records.specs.declared.message_entry.MessageEntry.{MessageEntry}
 use Rattle.queue_records.specs.declared.record.Record.TheVariants as records
-use Rattle.type_chains.proofs.Sends.{made_of_the_queue}
-use Rattle.type_chains.proofs.TypesStand.{are_types_of}
 use Rattle.page_locks.specs.declared.lock.LockName.TheVariants as names
 use Rattle.queue_records.specs.declared.links.Links.TheVariants as links
-use Rattle.queue_records.specs.declared.links.TypeLinks.{TypeLinks}
-use Rattle.queue_records.proofs.Lengths.{length-queue}
 use Rattle.xsi_send.specs.Knowing.{IsOpen}
 use Rattle.xsi_send.specs.Planning.{links_behind, queue_write, takes_more}
 use Rattle.xsi_send.proofs.Beside.{contains_at, split_last}

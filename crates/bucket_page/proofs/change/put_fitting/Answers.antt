@@ -1,5 +1,5 @@
 use Rattle.std.proofs.Common.{arith}
-use Rattle.bucket_page.specs.Reading.{records_at}
+use Rattle.bucket_page.specs.Reading.{records_in}
 use Rattle.bucket_page.specs.Records.{pair}
 use Rattle.bucket_page.proofs.OrderLaws.{below_within}
 use Rattle.bucket_page.proofs.ChangeLaws.{opened, put_in_place}
@@ -9,7 +9,7 @@ use Rattle.bucket_page.proofs.change.put_fitting.Goals as goal
 pub insert_record-requires-clause-at : goal.insert_record-requires-clause-at
 insert_record-requires-clause-at c =
     let says = opened c.args.payload.now c.requires.bucket in
-    let all = below_within c.args.key.now (records_at c.args.payload.now) in
+    let all = below_within c.args.key.now (records_in c.args.payload.now) in
     omega (arith, all, c.place-at.ensures, says.used)
 
 pub returns : goal.returns

@@ -1,4 +1,4 @@
-use Rattle.bucket_page.specs.Reading.{bucket_at}
+use Rattle.bucket_page.specs.Reading.{bucket_in}
 use Rattle.bucket_page.specs.Dividing.{joined}
 use Rattle.bucket_page.proofs.JoinLaws.{Joining}
 use Rattle.bucket_page.proofs.divide.join.Given as goal
@@ -8,4 +8,4 @@ abbrev pub invariant-loop-record : goal.invariant-loop-record
 invariant-loop-record l =
     (goal.iterator-loop-record).can_next l.record-iterator ×
     (goal.iterator-loop-record).is_finite l.record-iterator ×
-    Joining (joined (bucket_at l.left) (bucket_at l.right)) l.record-iterator l.into
+    Joining (joined (bucket_in l.left) (bucket_in l.right)) l.record-iterator l.into

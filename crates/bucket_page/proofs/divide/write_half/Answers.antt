@@ -1,5 +1,5 @@
 use Rattle.std.proofs.Common.{◌∙◌}
-use Rattle.bucket_page.specs.Reading.{bucket_at}
+use Rattle.bucket_page.specs.Reading.{bucket_in}
 use Rattle.bucket_page.proofs.DivideLaws.{begun_half, half_next, half_on}
 use Rattle.bucket_page.proofs.divide.write_half.Goals as goal
 
@@ -9,7 +9,7 @@ loop-record-init g c =
     let all = c.into_iter-record-iterator.ensures.into_iter_gives ∙ c.records_of-record-items.ensures in (
       tt,
       tt,
-      begun_half c.args.set (g.K.PseudoKey.of_key c.args.keys.now) c.args.next _ (bucket_at c.args.full.now) _
+      begun_half c.args.set (g.K.PseudoKey.of_key c.args.keys.now) c.args.next _ (bucket_in c.args.full.now) _
           _ c.pattern_of_half-pattern.ensures c.write_bucket.ensures all,
     )
 

@@ -1,7 +1,7 @@
 -- The bucket of both copies is that of the file's buckets.
 use Rattle.std.proofs.Common.{◌≡◌, ◌∙◌, ◌<◌, refl, sym, ap, subst, ℕ, List, length, IsTrue}
 use Rattle.bucket_page.specs.Changes.{IsBucketPage}
-use Rattle.bucket_page.specs.Reading.{bucket_at as bucket_in}
+use Rattle.bucket_page.specs.Reading.{bucket_in}
 use Rattle.hash_file.specs.Store.{bucket_at}
 use Rattle.file_pages.specs.Files.{image, store_of}
 use Rattle.file_pages.proofs.ReadLemmas.{risen_after}

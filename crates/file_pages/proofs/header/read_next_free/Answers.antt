@@ -1,6 +1,6 @@
 -- The free page's image says the next one.
 use Rattle.std.proofs.Common.{◌∙◌, List, ℕ, sym, subst}
-use Rattle.bucket_page.specs.Reading.{page_at}
+use Rattle.bucket_page.specs.Reading.{page_in}
 use Rattle.bucket_page.specs.Spelling.{Spells}
 use Rattle.file_pages.specs.Files.{store_of}
 use Rattle.file_pages.proofs.ReadLemmas.{image_was, only_reads, page_was}
@@ -23,6 +23,6 @@ returns-clause-fault g c = λ honest file failed behind within free.
     let image = image_was c.args.pool.now c.pin.new.pool _ c.in_ok-frame.frame c.image.result.now
     c.in_ok-frame.ensures.ok c.image.ensures honest in
     absurd (c.next_free_of-next.ensures.err failed
-    (subst (λ (p : List ℕ). Spells (page_at p) p) image (file.file.spelled c.args.page behind within)) _
+    (subst (λ (p : List ℕ). Spells (page_in p) p) image (file.file.spelled c.args.page behind within)) _
     (sym (page_was c.args.pool.now c.pin.new.pool _ c.in_ok-frame.frame c.image.result.now c.in_ok-frame.ensures.ok
     c.image.ensures honest behind) ∙ free))

@@ -1,6 +1,6 @@
 -- What is copied from the page's image is copied from the page.
 use Rattle.std.proofs.Common.{List, ℕ, refl, ap, ◌∙◌, sym, subst}
-use Rattle.bucket_page.specs.Reading.{page_at as page_in}
+use Rattle.bucket_page.specs.Reading.{page_in}
 use Rattle.bucket_page.specs.Spelling.{Spells}
 use Rattle.buffer_pool.proofs.TransferLemmas.{not_ok}
 use Rattle.hash_file.specs.Store.{is_bucket, page_at}

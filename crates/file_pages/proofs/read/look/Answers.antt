@@ -1,6 +1,6 @@
 -- What is seen of the page's image is seen of the page.
 use Rattle.std.proofs.Common.{List, ℕ, refl, subst}
-use Rattle.bucket_page.specs.Reading.{page_at}
+use Rattle.bucket_page.specs.Reading.{page_in}
 use Rattle.bucket_page.specs.Spelling.{Spells}
 use Rattle.buffer_pool.proofs.TransferLemmas.{not_ok}
 use Rattle.file_pages.specs.Reads.{IsOnWay}
@@ -33,5 +33,5 @@ returns-clause-fault g c = λ honest file failed behind within on_way.
     let was = page_was c.args.pool.now c.pin.new.pool _ c.in_ok-frame.frame c.image.result.now
     c.in_ok-frame.ensures.ok c.image.ensures honest behind in
     absurd (c.see-sight.ensures.err failed
-    (subst (λ (p : List ℕ). Spells (page_at p) p) image (file.file.spelled c.args.page behind within))
+    (subst (λ (p : List ℕ). Spells (page_in p) p) image (file.file.spelled c.args.page behind within))
     (subst IsOnWay was on_way))

@@ -1,6 +1,6 @@
 -- What is seen of the page's image is seen of the page.
 use Rattle.std.proofs.Common.{List, ℕ, refl, ap, ◌∙◌, sym, subst}
-use Rattle.bucket_page.specs.Reading.{page_at}
+use Rattle.bucket_page.specs.Reading.{page_in}
 use Rattle.bucket_page.specs.Spelling.{Spells}
 use Rattle.buffer_pool.proofs.TransferLemmas.{not_ok}
 use Rattle.hash_file.specs.Store.{is_bucket}
@@ -34,5 +34,5 @@ returns-clause-fault g c = λ honest file failed behind within bucket.
     let was = page_was c.args.pool.now c.pin.new.pool _ c.in_ok-frame.frame c.image.result.now
     c.in_ok-frame.ensures.ok c.image.ensures honest behind in
     absurd (c.see_bucket-sight.ensures.err failed (bucket_spelled c.image.result.now
-    (subst (λ (p : List ℕ). Spells (page_at p) p) image (file.file.spelled c.args.page behind within))
+    (subst (λ (p : List ℕ). Spells (page_in p) p) image (file.file.spelled c.args.page behind within))
     (ap is_bucket (sym was) ∙ bucket)))

@@ -7,7 +7,7 @@ use Rattle.bucket_page.specs.Bucket.{Bucket}
 use Rattle.hash_file.specs.Changes.{Put}
 use Rattle.file_pages.proofs.RecordLemmas.{bucket_there, bucket_was, keeps_file, record_written, there_within}
 use Rattle.bucket_page.specs.Changes.{Changes, inserted}
-use Rattle.bucket_page.specs.Reading.{records_at as records_in}
+use Rattle.bucket_page.specs.Reading.{records_in}
 use Rattle.file_pages.proofs.RecordLemmas.{put_fits}
 use Rattle.file_pages.proofs.WriteLemmas.{only_writes, written_store}
 use Rattle.file_pages.proofs.records.put_record.Given as given

@@ -2,7 +2,7 @@
 use Rattle.std.proofs.Common.{◌≡◌, ◌∙◌, refl, sym, ap, subst, List, length, IsSome, IsTrue, ◌≤◌, ◌++◌, drop}
 use Rattle.bucket_page.specs.Changes.{IsBucketPage, value_of_key}
 use Rattle.bucket_page.specs.Records.{Pair, lookup, pair}
-use Rattle.bucket_page.specs.Reading.{records_at as records_in}
+use Rattle.bucket_page.specs.Reading.{records_in}
 use Rattle.bucket_page.specs.Bucket.{Bucket}
 use Rattle.hash_file.specs.Changes.{RecordWrite, Replace, write_record}
 use Rattle.hash_file.specs.Store.{records_at}

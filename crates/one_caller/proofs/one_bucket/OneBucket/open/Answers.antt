@@ -6,7 +6,7 @@ use Rattle.page_device.specs.Sealed.{payload_of}
 use Rattle.std.proofs.lemmas.Option.{get_or_from_slice_get}
 use Rattle.directory.specs.declared.layout.TheConstants.{ROOT_PAGE}
 use Rattle.buffer_pool.specs.Pool.{PoolState, payloads_of}
-use Rattle.bucket_page.specs.Reading.{records_at}
+use Rattle.bucket_page.specs.Reading.{records_in}
 use Rattle.bucket_page.specs.Records.{Pair}
 use Rattle.one_caller.specs.Opening.{payload_at}
 use Rattle.one_caller.specs.OneBucket.{IsPinnedRoot, IsRoot}
