@@ -92,43 +92,86 @@ fn each_wrong_line_is_named(rt: HostRuntime) -> Result<(), Fail> {
     Ok(())
 }
 
-/// The script that the next test reads.
+/// The script that the next tests read.
 const SCRIPT: &[u8] = b"# a \x01 comment\r\r\n\r\nids 1 100 10\nids 03 0 4294967295\n\
     1 get 7 create\n1 snd 1 5 61\r\n1 rcv 1 10 0\n2 rcv 1 10 -9223372036854775808 noerror nowait\n\
     4 set 1 30000 uid=200\n\t1  get private mode=640 excl \n\
     01 snd 007 -0 - nowait\n1 snd 1 1 aBC0\n1 stat 4294967295\n\n64 rm 0\n1 stop";
 
-#[test]
-fn each_command_is_read(rt: HostRuntime) -> Result<(), Fail> {
-    let alloc = rt.alloc();
-    let script = read_script(alloc, SCRIPT)?;
-    let mut wanted = Vec::new(alloc);
-    let get = |key, create, excl, mode, moment| Call::Get(GetArguments {
+fn get(key: Option<u32>, create: bool, excl: bool, mode: u16, moment: u64) -> Call {
+    Call::Get(GetArguments {
         key,
         create,
         excl,
         mode,
         moment,
-    });
-    let receive = |mtype, nowait, noerror, moment| {
-        Call::Receive(ReceiveArguments {
-            id: 1,
-            size: 10,
-            mtype,
-            nowait,
-            noerror,
-            moment,
-        })
+    })
+}
+
+fn send(id: u32, mtype: i64, body: Vec<u8>, nowait: bool, moment: u64) -> Call {
+    Call::Send(SendArguments {
+        id,
+        mtype,
+        body: Body::new(body),
+        nowait,
+        moment,
+    })
+}
+
+fn receive(mtype: i64, nowait: bool, noerror: bool, moment: u64) -> Call {
+    Call::Receive(ReceiveArguments {
+        id: 1,
+        size: 10,
+        mtype,
+        nowait,
+        noerror,
+        moment,
+    })
+}
+
+/// The line of this number is this call of a seat.
+fn is_call(rt: &impl Abort, line: &Line, number: u64, seat: u8, call: Call) {
+    let wanted = Line {
+        number,
+        seat,
+        command: Command::Call(call),
     };
-    let send = |id, mtype, body, nowait, moment| {
-        Call::Send(SendArguments {
-            id,
-            mtype,
-            body: Body::new(body),
-            nowait,
-            moment,
-        })
-    };
+    assert!(rt; *line == wanted, "line {number}");
+}
+
+#[test]
+fn each_get_send_and_receive_is_read(rt: HostRuntime) -> Result<(), Fail> {
+    let alloc = rt.alloc();
+    let script = read_script(alloc, SCRIPT)?;
+    let lines = script.lines();
+    assert!(rt; lines.len() == 11);
+    is_call(&rt, &lines[0], 5, 1, get(Some(7), true, false, 0o666, 5));
+    is_call(
+        &rt,
+        &lines[1],
+        6,
+        1,
+        send(1, 5, b"a".to_vec(alloc)?, false, 6),
+    );
+    is_call(&rt, &lines[2], 7, 1, receive(0, false, false, 7));
+    is_call(&rt, &lines[3], 8, 2, receive(i64::MIN, true, true, 8));
+    is_call(&rt, &lines[5], 10, 1, get(None, false, true, 0o640, 10));
+    is_call(&rt, &lines[6], 11, 1, send(7, 0, Vec::new(alloc), true, 11));
+    is_call(
+        &rt,
+        &lines[7],
+        12,
+        1,
+        send(1, 1, b"\xab\xc0".to_vec(alloc)?, false, 12),
+    );
+    Ok(())
+}
+
+#[test]
+fn each_other_command_is_read(rt: HostRuntime) -> Result<(), Fail> {
+    let script = read_script(rt.alloc(), SCRIPT)?;
+    let lines = script.lines();
+    assert!(rt; lines.len() == 11);
     let set = SetArguments {
         id: 1,
         qbytes: 30_000,
@@ -137,57 +180,29 @@ fn each_command_is_read(rt: HostRuntime) -> Result<(), Fail> {
         mode: None,
         moment: 9,
     };
-    wanted.push((5, 1, get(Some(7), true, false, 0o666, 5)))?;
-    wanted.push((6, 1, send(1, 5, b"a".to_vec(alloc)?, false, 6)))?;
-    wanted.push((7, 1, receive(0, false, false, 7)))?;
-    wanted.push((8, 2, receive(i64::MIN, true, true, 8)))?;
-    wanted.push((9, 4, Call::Set(set)))?;
-    wanted.push((10, 1, get(None, false, true, 0o640, 10)))?;
-    wanted.push((11, 1, send(7, 0, Vec::new(alloc), true, 11)))?;
-    wanted.push((12, 1, send(1, 1, b"\xab\xc0".to_vec(alloc)?, false, 12)))?;
-    wanted.push((13, 1, Call::Stat { id: 4_294_967_295 }))?;
-    wanted.push((15, 64, Call::Remove { id: 0 }))?;
-    let lines = script.lines();
-    assert_eq!(rt; lines.len(), 11);
-    for ((number, seat, call), line) in wanted.into_iter().zip(lines) {
-        let wanted = Line {
-            number,
-            seat,
-            command: Command::Call(call),
-        };
-        assert!(rt; *line == wanted, "line {number}");
-    }
+    is_call(&rt, &lines[4], 9, 4, Call::Set(set));
+    is_call(&rt, &lines[8], 13, 1, Call::Stat { id: 4_294_967_295 });
+    is_call(&rt, &lines[9], 15, 64, Call::Remove { id: 0 });
     let stop = Line {
         number: 16,
         seat: 1,
         command: Command::Stop,
     };
     assert!(rt; lines[10] == stop);
-    assert_eq!(rt; script.greatest_seat(), 64);
-    assert_eq!(rt;
-        script.caller(1),
-        Caller {
-            pid: 1,
-            uid: 100,
-            gid: 10
-        }
-    );
-    assert_eq!(rt;
-        script.caller(3),
-        Caller {
-            pid: 3,
-            uid: 0,
-            gid: 4_294_967_295
-        }
-    );
-    assert_eq!(rt;
-        script.caller(64),
-        Caller {
-            pid: 64,
-            uid: 0,
-            gid: 0
-        }
-    );
+    Ok(())
+}
+
+#[test]
+fn each_seat_has_its_ids(rt: HostRuntime) -> Result<(), Fail> {
+    let script = read_script(rt.alloc(), SCRIPT)?;
+    assert!(rt; script.greatest_seat() == 64);
+    for (seat, uid, gid) in [(1, 100, 10), (3, 0, 4_294_967_295), (64, 0, 0)] {
+        let pid = u32::from(seat);
+        assert!(rt;
+            script.caller(seat) == Caller { pid, uid, gid },
+            "seat {seat}"
+        );
+    }
     Ok(())
 }
 
@@ -200,35 +215,76 @@ fn an_empty_script_has_seat_1(rt: HostRuntime) -> Result<(), Fail> {
     Ok(())
 }
 
-#[test]
-fn each_reply_is_printed(rt: HostRuntime) -> Result<(), Fail> {
-    let alloc = rt.alloc();
-    let message = |serial, mtype, bytes| Message {
+/// Prints a reply, which has to be this.
+fn prints<R: Abort + AllocGlobal>(
+    rt: &R,
+    number: u64,
+    reply: Reply,
+    wanted: &str,
+) -> Result<(), Fail> {
+    let mut output = buffered(rt.alloc())?;
+    reply.print(number, &mut output);
+    assert!(rt; printed(output).as_slice() == wanted.as_bytes(), "{wanted}");
+    Ok(())
+}
+
+/// The answer to a Receive.
+fn received(serial: u64, mtype: i64, bytes: Vec<u8>) -> Reply {
+    Reply::Answered(Answer::Received(Message {
         serial,
         sender: 1,
         mtype,
         bytes: Body::new(bytes),
-    };
-    let permissions = Permissions {
+    }))
+}
+
+#[test]
+fn each_reply_is_printed(rt: HostRuntime) -> Result<(), Fail> {
+    let alloc = rt.alloc();
+    prints(&rt, 5, Reply::Answered(Answer::Id(1)), "5 id 1\n")?;
+    let last = Answer::Sent(u64::MAX);
+    prints(
+        &rt,
+        6,
+        Reply::Answered(last),
+        "6 sent 18446744073709551615\n",
+    )?;
+    let message = received(1, 5, b"a".to_vec(alloc)?);
+    prints(&rt, 3, message, "3 received 1 1 5 61\n")?;
+    let emptied = received(2, i64::MAX, Vec::new(alloc));
+    prints(&rt, 4, emptied, "4 received 2 1 9223372036854775807 -\n")?;
+    prints(&rt, 12, Reply::Answered(Answer::Done), "12 done\n")?;
+    let refused = Answer::Refused(Errno::EACCES);
+    prints(&rt, 9, Reply::Answered(refused), "9 refused EACCES\n")?;
+    prints(&rt, 16, Reply::Stopped, "16 done\n")?;
+    prints(&rt, 5, Reply::Failed(50), "5 fault 50\n")
+}
+
+/// The state of a queue.
+const INFO: QueueInfo = QueueInfo {
+    id: 1,
+    key: Some(7),
+    qnum: 2,
+    cbytes: 2,
+    qbytes: 30_000,
+    lspid: 2,
+    lrpid: 2,
+    stime: 16,
+    rtime: 7,
+    ctime: 14,
+    permissions: Permissions {
         uid: 200,
         gid: 10,
         cuid: 100,
         cgid: 10,
         mode: 0o600,
-    };
-    let info = QueueInfo {
-        id: 1,
-        key: Some(7),
-        qnum: 2,
-        cbytes: 2,
-        qbytes: 30_000,
-        lspid: 2,
-        lrpid: 2,
-        stime: 16,
-        rtime: 7,
-        ctime: 14,
-        permissions,
-    };
+    },
+};
+
+#[test]
+fn the_state_of_a_queue_is_printed(rt: HostRuntime) -> Result<(), Fail> {
+    let wanted = "17 info 1 7 2 2 30000 2 2 16 7 14 200 10 100 10 600\n";
+    prints(&rt, 17, Reply::Answered(Answer::Info(INFO)), wanted)?;
     let root = Permissions {
         uid: 0,
         gid: 0,
@@ -239,52 +295,13 @@ fn each_reply_is_printed(rt: HostRuntime) -> Result<(), Fail> {
     let private = QueueInfo {
         key: None,
         permissions: root,
-        ..info
+        ..INFO
     };
-    let received = Answer::Received(message(1, 5, b"a".to_vec(alloc)?));
-    let emptied = Answer::Received(message(2, i64::MAX, Vec::new(alloc)));
-    let table = [
-        (5, Reply::Answered(Answer::Id(1)), "5 id 1\n"),
-        (
-            6,
-            Reply::Answered(Answer::Sent(u64::MAX)),
-            "6 sent 18446744073709551615\n",
-        ),
-        (3, Reply::Answered(received), "3 received 1 1 5 61\n"),
-        (
-            4,
-            Reply::Answered(emptied),
-            "4 received 2 1 9223372036854775807 -\n",
-        ),
-        (
-            17,
-            Reply::Answered(Answer::Info(info)),
-            "17 info 1 7 2 2 30000 2 2 16 7 14 200 10 100 10 600\n",
-        ),
-        (
-            18,
-            Reply::Answered(Answer::Info(private)),
-            "18 info 1 private 2 2 30000 2 2 16 7 14 0 0 0 0 006\n",
-        ),
-        (12, Reply::Answered(Answer::Done), "12 done\n"),
-        (
-            9,
-            Reply::Answered(Answer::Refused(Errno::EACCES)),
-            "9 refused EACCES\n",
-        ),
-        (16, Reply::Stopped, "16 done\n"),
-        (5, Reply::Failed(50), "5 fault 50\n"),
-    ];
-    for (number, reply, wanted) in &table {
-        let mut output = buffered(alloc)?;
-        reply.print(*number, &mut output);
-        assert!(rt; printed(output).as_slice() == wanted.as_bytes(), "{wanted}");
-    }
-    let mut output = buffered(alloc)?;
-    print_info(&info, &mut output);
-    assert!(rt;
-        printed(output).as_slice()
-            == b"info 1 7 2 2 30000 2 2 16 7 14 200 10 100 10 600\n".as_slice()
-    );
+    let wanted = "18 info 1 private 2 2 30000 2 2 16 7 14 0 0 0 0 006\n";
+    prints(&rt, 18, Reply::Answered(Answer::Info(private)), wanted)?;
+    let mut output = buffered(rt.alloc())?;
+    print_info(&INFO, &mut output);
+    let wanted = b"info 1 7 2 2 30000 2 2 16 7 14 200 10 100 10 600\n".as_slice();
+    assert!(rt; printed(output).as_slice() == wanted);
     Ok(())
 }

@@ -34,6 +34,18 @@ impl<I: Inquiry> Asked<I> {
         }
     }
 
+    /// It asks for the record at this key, is told it, and is refused so.
+    pub fn refuses(
+        &mut self,
+        rt: &impl Abort,
+        key: RecordKey,
+        found: Option<Record<'_>>,
+        errno: Errno,
+    ) {
+        self.is_told(rt, key, found);
+        self.is_refused(rt, errno);
+    }
+
     /// It asks for the record at this key, and what it is told is of no system: it asks for it again.
     pub fn is_told_wrongly(&mut self, rt: &impl Abort, key: RecordKey, found: Option<Record<'_>>) {
         match self.inquiry.wants(&self.arguments) {

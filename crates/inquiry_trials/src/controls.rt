@@ -5,6 +5,7 @@ use crate::records::queue;
 use queue_model::{Call, Caller, Errno, GetArguments, SetArguments};
 use queue_records::{Counter, KeyEntry, QueueEntry, Record, counter_key, key_key, queue_key};
 use std::alloc::Global;
+use std::process::Abort;
 use std::test::Fail;
 use xsi_control::{GetInquiry, SetInquiry, StatInquiry};
 use xsi_inquiry::{Decision, Inquiry, Room, Verdict, Write};
@@ -64,39 +65,47 @@ fn get(
     })
 }
 
-fn gives_1(rt: &impl std::process::Abort, asked: &Asked<GetInquiry>) {
+fn gives_1(rt: &impl Abort, asked: &Asked<GetInquiry>) {
     let decision = asked.decides(rt);
     assert!(rt; matches!(&decision, Some(Decision::Answers(Verdict::Id(id))) if *id == 1));
 }
 
+/// The queue is made, and the first queue and id are counted.
+fn makes(rt: &impl Abort, asked: &Asked<GetInquiry>, queue: Record<'_>, key: Option<Record<'_>>) {
+    let counted = [Write::Replace(counter(2, 1))];
+    match key {
+        Some(key) => asked.writes(rt, &[queue, key], &counted),
+        None => asked.writes(rt, &[queue], &counted),
+    }
+}
+
+/// The queue of key 7 is queue 1.
+const KEY: Record<'static> = Record::Key(KeyEntry { key: 7, id: 1 });
+
 #[test]
-fn a_get_makes_a_queue_or_finds_it(rt: HostRuntime) -> Result<(), Fail> {
+fn a_get_makes_a_queue(rt: HostRuntime) -> Result<(), Fail> {
     let mut made = get(rt.alloc(), CREATOR, Some(7), true, true)?;
     made.is_told(&rt, key_key(7), None);
     made.is_told(&rt, counter_key(), Some(counter(1, 0)));
     gives_1(&rt, &made);
-    let key = Record::Key(KeyEntry { key: 7, id: 1 });
-    made.writes(
-        &rt,
-        &[Record::Queue(MADE), key],
-        &[Write::Replace(counter(2, 1))],
-    );
+    makes(&rt, &made, Record::Queue(MADE), Some(KEY));
+    Ok(())
+}
 
+#[test]
+fn a_get_makes_a_private_queue(rt: HostRuntime) -> Result<(), Fail> {
     let mut private = get(rt.alloc(), CREATOR, None, false, false)?;
     private.is_told(&rt, counter_key(), Some(counter(1, 0)));
     gives_1(&rt, &private);
-    private.writes(
-        &rt,
-        &[Record::Queue(QueueEntry { key: None, ..MADE })],
-        &[Write::Replace(counter(2, 1))],
-    );
+    let keyless = QueueEntry { key: None, ..MADE };
+    makes(&rt, &private, Record::Queue(keyless), None);
+    Ok(())
+}
 
+#[test]
+fn a_get_finds_a_queue(rt: HostRuntime) -> Result<(), Fail> {
     let mut found = get(rt.alloc(), STRANGER, Some(7), false, true)?;
-    found.is_told(
-        &rt,
-        key_key(7),
-        Some(Record::Key(KeyEntry { key: 7, id: 1 })),
-    );
+    found.is_told(&rt, key_key(7), Some(KEY));
     gives_1(&rt, &found);
     found.writes(&rt, &[], &[]);
     Ok(())
@@ -104,25 +113,22 @@ fn a_get_makes_a_queue_or_finds_it(rt: HostRuntime) -> Result<(), Fail> {
 
 #[test]
 fn a_get_is_refused_in_the_order_of_the_rules(rt: HostRuntime) -> Result<(), Fail> {
-    let mut exists = get(rt.alloc(), STRANGER, Some(7), true, true)?;
-    exists.is_told(
-        &rt,
-        key_key(7),
-        Some(Record::Key(KeyEntry { key: 7, id: 1 })),
-    );
-    exists.is_refused(&rt, Errno::EEXIST);
+    let alloc = rt.alloc();
+    let mut exists = get(alloc, STRANGER, Some(7), true, true)?;
+    exists.refuses(&rt, key_key(7), Some(KEY), Errno::EEXIST);
+    let mut absent = get(alloc, CREATOR, Some(8), false, false)?;
+    absent.refuses(&rt, key_key(8), None, Errno::ENOENT);
+    Ok(())
+}
 
-    let mut absent = get(rt.alloc(), CREATOR, Some(8), false, false)?;
-    absent.is_told(&rt, key_key(8), None);
-    absent.is_refused(&rt, Errno::ENOENT);
-
-    let mut no_queue_left = get(rt.alloc(), CREATOR, None, false, false)?;
-    no_queue_left.is_told(&rt, counter_key(), Some(counter(257, 256)));
-    no_queue_left.is_refused(&rt, Errno::ENOSPC);
-
-    let mut no_id_left = get(rt.alloc(), CREATOR, None, false, false)?;
-    no_id_left.is_told(&rt, counter_key(), Some(counter(4_294_967_295, 3)));
-    no_id_left.is_refused(&rt, Errno::ENOSPC);
+/// No queue is left, or no id.
+#[test]
+fn a_get_without_room_for_a_queue_is_refused(rt: HostRuntime) -> Result<(), Fail> {
+    for (next_id, queues_alive) in [(257, 256), (4_294_967_295, 3)] {
+        let mut asked = get(rt.alloc(), CREATOR, None, false, false)?;
+        let count = counter(next_id, queues_alive);
+        asked.refuses(&rt, counter_key(), Some(count), Errno::ENOSPC);
+    }
     Ok(())
 }
 
@@ -145,18 +151,20 @@ fn a_stat_tells_whom_the_mode_lets_read(rt: HostRuntime) -> Result<(), Fail> {
         _ => assert!(rt; false),
     }
     told.writes(&rt, &[], &[]);
+    Ok(())
+}
 
-    let mut kept_out = stat(rt.alloc(), STRANGER, 1)?;
-    kept_out.is_told(&rt, queue(), Some(Record::Queue(MADE)));
-    kept_out.is_refused(&rt, Errno::EACCES);
-
+#[test]
+fn a_stat_is_refused_in_the_order_of_the_rules(rt: HostRuntime) -> Result<(), Fail> {
+    let alloc = rt.alloc();
+    stat(alloc, STRANGER, 1)?.refuses(&rt, queue(), Some(Record::Queue(MADE)), Errno::EACCES);
     for (id, given, errno) in [(1, true, Errno::EIDRM), (2, false, Errno::EINVAL)] {
-        let mut gone = stat(rt.alloc(), CREATOR, id)?;
+        let mut gone = stat(alloc, CREATOR, id)?;
         gone.is_told(&rt, queue_key(id), None);
         gone.is_told_of(&rt, id, given);
         gone.is_refused(&rt, errno);
     }
-    stat(rt.alloc(), CREATOR, 0)?.is_refused(&rt, Errno::EINVAL);
+    stat(alloc, CREATOR, 0)?.is_refused(&rt, Errno::EINVAL);
     Ok(())
 }
 
@@ -177,14 +185,18 @@ fn set(alloc: Global, by: Caller, qbytes: u32) -> Result<Asked<SetInquiry>, Fail
 }
 
 #[test]
-fn a_set_changes_what_is_given_where_its_caller_may(rt: HostRuntime) -> Result<(), Fail> {
-    set(rt.alloc(), CREATOR, 65_537)?.is_refused(&rt, Errno::EINVAL);
+fn a_set_is_refused_in_the_order_of_the_rules(rt: HostRuntime) -> Result<(), Fail> {
+    let alloc = rt.alloc();
+    set(alloc, CREATOR, 65_537)?.is_refused(&rt, Errno::EINVAL);
     for (by, qbytes) in [(STRANGER, 3), (CREATOR, 16_385)] {
-        let mut refused = set(rt.alloc(), by, qbytes)?;
-        refused.is_told(&rt, queue(), Some(Record::Queue(MADE)));
-        refused.is_refused(&rt, Errno::EPERM);
+        let mut refused = set(alloc, by, qbytes)?;
+        refused.refuses(&rt, queue(), Some(Record::Queue(MADE)), Errno::EPERM);
     }
+    Ok(())
+}
 
+#[test]
+fn a_set_changes_what_is_given_where_its_caller_may(rt: HostRuntime) -> Result<(), Fail> {
     let mut done = set(rt.alloc(), CREATOR, 3)?;
     done.is_told(&rt, queue(), Some(Record::Queue(MADE)));
     let decision = done.decides(&rt);

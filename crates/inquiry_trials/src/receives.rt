@@ -204,52 +204,68 @@ fn type_0_takes_the_first_and_its_type_where_it_was_the_last_of_it(
 }
 
 #[test]
-fn a_receive_that_takes_nothing_is_refused_or_put_off(rt: HostRuntime) -> Result<(), Fail> {
-    let mut none_in_range = begun(rt.alloc(), receive(-1))?;
-    none_in_range.is_told(&rt, queue(), Some(Record::Queue(held())));
-    none_in_range.is_refused(&rt, Errno::ENOMSG);
+fn a_receive_that_selects_nothing_is_refused(rt: HostRuntime) -> Result<(), Fail> {
+    let mut asked = begun(rt.alloc(), receive(-1))?;
+    asked.refuses(&rt, queue(), Some(Record::Queue(held())), Errno::ENOMSG);
+    Ok(())
+}
 
-    let waits = ReceiveArguments {
+/// It is to wait.
+fn waiting() -> ReceiveArguments {
+    ReceiveArguments {
         nowait: false,
         ..receive(4)
-    };
-    let mut none_of_type = begun(rt.alloc(), waits)?;
-    none_of_type.is_told(&rt, queue(), Some(Record::Queue(held())));
-    none_of_type.is_told(&rt, type_key(1, 4), None);
-    none_of_type.is_put_off(&rt);
+    }
+}
 
-    let mut empty = begun(rt.alloc(), waits)?;
-    empty.is_told(&rt, queue(), Some(Record::Queue(EMPTY)));
-    empty.is_put_off(&rt);
+#[test]
+fn a_receive_of_a_type_that_is_not_there_is_put_off(rt: HostRuntime) -> Result<(), Fail> {
+    let mut asked = begun(rt.alloc(), waiting())?;
+    asked.is_told(&rt, queue(), Some(Record::Queue(held())));
+    asked.is_told(&rt, type_key(1, 4), None);
+    asked.is_put_off(&rt);
+    Ok(())
+}
 
+#[test]
+fn a_receive_from_an_empty_queue_is_put_off(rt: HostRuntime) -> Result<(), Fail> {
+    let mut asked = begun(rt.alloc(), waiting())?;
+    asked.is_told(&rt, queue(), Some(Record::Queue(EMPTY)));
+    asked.is_put_off(&rt);
+    Ok(())
+}
+
+#[test]
+fn a_message_that_is_too_long_is_refused(rt: HostRuntime) -> Result<(), Fail> {
     let whole = ReceiveArguments {
         noerror: false,
         ..receive(0)
     };
-    let mut too_long = begun(rt.alloc(), whole)?;
-    too_long.is_told(&rt, queue(), Some(Record::Queue(held())));
-    too_long.is_told(&rt, message_key(1, 1), Some(found(1, 5, Some(2))));
-    too_long.is_refused(&rt, Errno::E2BIG);
+    let mut asked = begun(rt.alloc(), whole)?;
+    asked.is_told(&rt, queue(), Some(Record::Queue(held())));
+    let first = found(1, 5, Some(2));
+    asked.refuses(&rt, message_key(1, 1), Some(first), Errno::E2BIG);
+    Ok(())
+}
 
+#[test]
+fn a_receive_from_a_removed_queue_is_refused(rt: HostRuntime) -> Result<(), Fail> {
     let mut removed = begun(rt.alloc(), receive(0))?;
     removed.is_told(&rt, queue(), None);
     removed.is_told_of(&rt, 1, true);
     removed.is_refused(&rt, Errno::EIDRM);
+    Ok(())
+}
 
+#[test]
+fn bytes_that_the_queue_does_not_count_are_of_no_system(rt: HostRuntime) -> Result<(), Fail> {
     let mut uncounted = begun(rt.alloc(), receive(0))?;
-    uncounted.is_told(
-        &rt,
-        queue(),
-        Some(Record::Queue(QueueEntry {
-            cbytes: 2,
-            ..held()
-        })),
-    );
-    let first = MessageEntry {
-        next: Some(2),
-        next_of_type: Some(2),
-        ..last(1, 5, b"abc")
+    let counted = QueueEntry {
+        cbytes: 2,
+        ..held()
     };
-    uncounted.is_told_wrongly(&rt, message_key(1, 1), Some(Record::Message(first)));
+    uncounted.is_told(&rt, queue(), Some(Record::Queue(counted)));
+    let first = followed(last(1, 5, b"abc"), Some(2), Some(2));
+    uncounted.is_told_wrongly(&rt, message_key(1, 1), Some(first));
     Ok(())
 }

@@ -41,80 +41,82 @@ fn is_sent(rt: &impl Abort, asked: &Asked<SendInquiry>, serial: u64) {
 }
 
 #[test]
-fn a_new_type_is_linked_between_its_neighbours(rt: HostRuntime) -> Result<(), Fail> {
-    let mut first = begun(rt.alloc(), ROOT, 5, b"a", 10)?;
-    first.is_told(&rt, queue(), Some(Record::Queue(EMPTY)));
-    first.is_told(&rt, type_key(1, 5), None);
-    is_sent(&rt, &first, 1);
+fn a_first_type_has_no_neighbours(rt: HostRuntime) -> Result<(), Fail> {
+    let mut asked = begun(rt.alloc(), ROOT, 5, b"a", 10)?;
+    asked.is_told(&rt, queue(), Some(Record::Queue(EMPTY)));
+    asked.is_told(&rt, type_key(1, 5), None);
+    is_sent(&rt, &asked, 1);
     let five = mtype(5, (1, 1), None, None);
-    first.writes(
+    asked.writes(
         &rt,
         &[Record::Message(last(1, 5, b"a")), Record::Type(five)],
         &[Write::Replace(Record::Queue(sent(1, 10, 5)))],
     );
+    Ok(())
+}
 
-    let mut below = begun(rt.alloc(), ROOT, 2, b"b", 11)?;
-    below.is_told(&rt, queue(), Some(Record::Queue(sent(1, 10, 5))));
-    below.is_told(&rt, type_key(1, 2), None);
-    below.is_told(&rt, type_key(1, 5), Some(Record::Type(five)));
-    is_sent(&rt, &below, 2);
+/// A message behind, a type below, and a type above.
+fn next_is(serial: u64) -> MessageLinks {
+    MessageLinks {
+        next: Link::LeadsTo(serial),
+        ..SAME
+    }
+}
+
+fn lower_is(mtype: i64) -> TypeLinks {
+    TypeLinks {
+        lower: Link::LeadsTo(mtype),
+        ..SAME_TYPE
+    }
+}
+
+fn higher_is(mtype: i64) -> TypeLinks {
+    TypeLinks {
+        higher: Link::LeadsTo(mtype),
+        ..SAME_TYPE
+    }
+}
+
+#[test]
+fn a_lowest_type_is_linked_below_the_lowest(rt: HostRuntime) -> Result<(), Fail> {
+    let mut asked = begun(rt.alloc(), ROOT, 2, b"b", 11)?;
+    asked.is_told(&rt, queue(), Some(Record::Queue(sent(1, 10, 5))));
+    asked.is_told(&rt, type_key(1, 2), None);
+    let five = mtype(5, (1, 1), None, None);
+    asked.is_told(&rt, type_key(1, 5), Some(Record::Type(five)));
+    is_sent(&rt, &asked, 2);
     let two = mtype(2, (2, 2), None, Some(5));
-    below.writes(
+    asked.writes(
         &rt,
         &[Record::Message(last(2, 2, b"b")), Record::Type(two)],
         &[
             Write::Replace(Record::Queue(sent(2, 11, 2))),
-            relinks_message(
-                1,
-                MessageLinks {
-                    next: Link::LeadsTo(2),
-                    ..SAME
-                },
-            ),
-            relinks_type(
-                5,
-                TypeLinks {
-                    lower: Link::LeadsTo(2),
-                    ..SAME_TYPE
-                },
-            ),
+            relinks_message(1, next_is(2)),
+            relinks_type(5, lower_is(2)),
         ],
     );
+    Ok(())
+}
 
-    let mut between = begun(rt.alloc(), ROOT, 3, b"c", 12)?;
-    between.is_told(&rt, queue(), Some(Record::Queue(sent(2, 11, 2))));
-    between.is_told(&rt, type_key(1, 3), None);
-    between.is_told(&rt, type_key(1, 2), Some(Record::Type(two)));
+#[test]
+fn a_new_type_is_linked_between_its_neighbours(rt: HostRuntime) -> Result<(), Fail> {
+    let mut asked = begun(rt.alloc(), ROOT, 3, b"c", 12)?;
+    asked.is_told(&rt, queue(), Some(Record::Queue(sent(2, 11, 2))));
+    asked.is_told(&rt, type_key(1, 3), None);
+    let two = mtype(2, (2, 2), None, Some(5));
+    asked.is_told(&rt, type_key(1, 2), Some(Record::Type(two)));
     let five = mtype(5, (1, 1), Some(2), None);
-    between.is_told(&rt, type_key(1, 5), Some(Record::Type(five)));
-    is_sent(&rt, &between, 3);
+    asked.is_told(&rt, type_key(1, 5), Some(Record::Type(five)));
+    is_sent(&rt, &asked, 3);
     let three = mtype(3, (3, 3), Some(2), Some(5));
-    between.writes(
+    asked.writes(
         &rt,
         &[Record::Message(last(3, 3, b"c")), Record::Type(three)],
         &[
             Write::Replace(Record::Queue(sent(3, 12, 2))),
-            relinks_message(
-                2,
-                MessageLinks {
-                    next: Link::LeadsTo(3),
-                    ..SAME
-                },
-            ),
-            relinks_type(
-                2,
-                TypeLinks {
-                    higher: Link::LeadsTo(3),
-                    ..SAME_TYPE
-                },
-            ),
-            relinks_type(
-                5,
-                TypeLinks {
-                    lower: Link::LeadsTo(3),
-                    ..SAME_TYPE
-                },
-            ),
+            relinks_message(2, next_is(3)),
+            relinks_type(2, higher_is(3)),
+            relinks_type(5, lower_is(3)),
         ],
     );
     Ok(())
@@ -139,13 +141,7 @@ fn a_type_that_stands_gets_another_last_message(rt: HostRuntime) -> Result<(), F
                     ..SAME
                 },
             ),
-            relinks_message(
-                3,
-                MessageLinks {
-                    next: Link::LeadsTo(4),
-                    ..SAME
-                },
-            ),
+            relinks_message(3, next_is(4)),
             relinks_type(
                 2,
                 TypeLinks {
@@ -159,37 +155,42 @@ fn a_type_that_stands_gets_another_last_message(rt: HostRuntime) -> Result<(), F
 }
 
 #[test]
-fn what_cannot_be_sent_is_refused_or_put_off(rt: HostRuntime) -> Result<(), Fail> {
+fn a_send_of_type_0_is_refused(rt: HostRuntime) -> Result<(), Fail> {
     begun(rt.alloc(), ROOT, 0, b"a", 10)?.is_refused(&rt, Errno::EINVAL);
+    Ok(())
+}
 
+#[test]
+fn a_send_to_no_queue_is_refused(rt: HostRuntime) -> Result<(), Fail> {
     let mut unknown = begun(rt.alloc(), ROOT, 5, b"a", 10)?;
     unknown.is_told(&rt, queue(), None);
     unknown.is_told_of(&rt, 1, false);
     unknown.is_refused(&rt, Errno::EINVAL);
+    Ok(())
+}
 
+#[test]
+fn a_send_of_whom_the_mode_keeps_out_is_refused(rt: HostRuntime) -> Result<(), Fail> {
     let owner = Caller {
         pid: 9,
         uid: 21,
         gid: 22,
     };
-    let mut kept_out = begun(rt.alloc(), owner, 5, b"a", 10)?;
-    kept_out.is_told(
-        &rt,
-        queue(),
-        Some(Record::Queue(QueueEntry {
-            mode: 0o466,
-            ..EMPTY
-        })),
-    );
-    kept_out.is_refused(&rt, Errno::EACCES);
+    let closed = QueueEntry {
+        mode: 0o466,
+        ..EMPTY
+    };
+    let mut asked = begun(rt.alloc(), owner, 5, b"a", 10)?;
+    asked.refuses(&rt, queue(), Some(Record::Queue(closed)), Errno::EACCES);
+    Ok(())
+}
 
-    let mut full = begun(rt.alloc(), ROOT, 5, b"a", 10)?;
-    full.is_told(
-        &rt,
-        queue(),
-        Some(Record::Queue(QueueEntry { qbytes: 0, ..EMPTY })),
-    );
-    full.is_put_off(&rt);
+#[test]
+fn a_send_to_a_full_queue_is_put_off(rt: HostRuntime) -> Result<(), Fail> {
+    let full = QueueEntry { qbytes: 0, ..EMPTY };
+    let mut asked = begun(rt.alloc(), ROOT, 5, b"a", 10)?;
+    asked.is_told(&rt, queue(), Some(Record::Queue(full)));
+    asked.is_put_off(&rt);
     Ok(())
 }
 

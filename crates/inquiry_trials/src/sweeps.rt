@@ -60,23 +60,29 @@ fn a_remove_reads_its_queue_twice_and_the_counter_and_then_sweeps(
 }
 
 #[test]
-fn a_remove_is_refused_once_it_has_read_all(rt: HostRuntime) -> Result<(), Fail> {
-    let mut not_its_own = remove(rt.alloc(), STRANGER, 1)?;
-    not_its_own.is_told(&rt, queue(), Some(held()));
-    not_its_own.is_told(&rt, queue(), Some(held()));
-    not_its_own.is_told(&rt, counter_key(), Some(counter(2, 1)));
-    not_its_own.is_refused(&rt, Errno::EPERM);
+fn a_remove_of_whom_it_does_not_belong_to_is_refused(rt: HostRuntime) -> Result<(), Fail> {
+    let mut asked = remove(rt.alloc(), STRANGER, 1)?;
+    asked.is_told(&rt, queue(), Some(held()));
+    asked.is_told(&rt, queue(), Some(held()));
+    asked.refuses(&rt, counter_key(), Some(counter(2, 1)), Errno::EPERM);
+    Ok(())
+}
 
-    let mut gone_meanwhile = remove(rt.alloc(), CREATOR, 1)?;
-    gone_meanwhile.is_told(&rt, queue(), Some(held()));
-    gone_meanwhile.is_told(&rt, queue(), None);
-    gone_meanwhile.is_told(&rt, counter_key(), Some(counter(2, 0)));
-    gone_meanwhile.is_refused(&rt, Errno::EIDRM);
+#[test]
+fn a_remove_of_a_queue_that_went_meanwhile_is_refused(rt: HostRuntime) -> Result<(), Fail> {
+    let mut asked = remove(rt.alloc(), CREATOR, 1)?;
+    asked.is_told(&rt, queue(), Some(held()));
+    asked.is_told(&rt, queue(), None);
+    asked.refuses(&rt, counter_key(), Some(counter(2, 0)), Errno::EIDRM);
+    Ok(())
+}
 
-    let mut never_given = remove(rt.alloc(), CREATOR, 3)?;
-    never_given.is_told(&rt, queue_key(3), None);
-    never_given.is_told_of(&rt, 3, false);
-    never_given.is_refused(&rt, Errno::EINVAL);
+#[test]
+fn a_remove_of_an_id_that_was_not_given_is_refused(rt: HostRuntime) -> Result<(), Fail> {
+    let mut asked = remove(rt.alloc(), CREATOR, 3)?;
+    asked.is_told(&rt, queue_key(3), None);
+    asked.is_told_of(&rt, 3, false);
+    asked.is_refused(&rt, Errno::EINVAL);
     Ok(())
 }
 
@@ -93,7 +99,11 @@ fn a_turn_takes_a_message_and_the_type_of_which_it_was_the_last(rt: HostRuntime)
         assert!(rt; turn.write(1) == type_goes);
         assert!(rt; turn.next() == Some(2));
     }
-    let mut no_system = Turn::new(1, 1);
-    assert!(rt; no_system.take(None).is_err());
-    assert!(rt; no_system.wants() == Some(Wanted::At(message_key(1, 1))));
+}
+
+#[test]
+fn a_turn_without_its_message_is_of_no_system(rt: HostRuntime) {
+    let mut turn = Turn::new(1, 1);
+    assert!(rt; turn.take(None).is_err());
+    assert!(rt; turn.wants() == Some(Wanted::At(message_key(1, 1))));
 }

@@ -27,6 +27,3 @@ pub use laws::{
 pub use one_bucket::OneBucket;
 pub use one_caller::OneCaller;
 pub use served::Served;
-
-#[cfg(test)]
-mod tests;

@@ -45,7 +45,7 @@ fn replaces(rt: &impl Abort, payload: &mut Payload, number: u64, value: &[u8]) {
     let Some(old) = bucket(rt, payload).find(&key) else {
         panic!(rt; "no record {number}");
     };
-    assert_eq!(rt; old.len(), value.len());
+    assert!(rt; old.len() == value.len());
     replace(payload, &key, value);
 }
 
@@ -101,10 +101,7 @@ fn a_root_bucket_has_the_bytes_of_the_layout(rt: HostRuntime) {
         number: 0,
     };
     assert!(rt; bucket(&rt, &payload).find(&counter).is_none());
-    assert_eq!(rt;
-        put(&mut payload, &counter, b"\x00\x00\x00\x01\x00\x00\x00\x00"),
-        Ok(())
-    );
+    assert!(rt; put(&mut payload, &counter, b"\x00\x00\x00\x01\x00\x00\x00\x00") == Ok(()));
     let mut want = [0; PAYLOAD_BYTES];
     want[0] = 3;
     want[3] = 1;
@@ -133,15 +130,15 @@ fn refuses(rt: &impl Abort, payload: &Payload, place: usize, byte: u8, want: Mal
     let mut bad = *payload;
     assert!(rt; place < PAYLOAD_BYTES);
     bad[place] = byte;
-    assert_eq!(rt; read_page(&bad).err(), Some(want), "place {place}");
+    assert!(rt; read_page(&bad).err() == Some(want), "place {place}");
 }
 
 #[test]
 fn the_first_failed_test_is_named(rt: HostRuntime) {
     let mut payload = [0; PAYLOAD_BYTES];
     write_bucket(&mut payload, 1, 1, 0);
-    assert_eq!(rt; puts(&rt, &mut payload, 1, 16), Ok(()));
-    assert_eq!(rt; puts(&rt, &mut payload, 2, 16), Ok(()));
+    assert!(rt; puts(&rt, &mut payload, 1, 16) == Ok(()));
+    assert!(rt; puts(&rt, &mut payload, 2, 16) == Ok(()));
     refuses(&rt, &payload, 0, 1, Malformed::Kind);
     refuses(&rt, &payload, 1, 18, Malformed::Depth);
     refuses(&rt, &payload, 7, 2, Malformed::Pattern);
@@ -167,7 +164,7 @@ fn the_other_pages_are_read_as_they_were_written(rt: HostRuntime) {
     let Ok(PageKind::Directory(directory)) = read_page(&payload) else {
         panic!(rt; "no directory page");
     };
-    assert_eq!(rt; directory.entry(511), 9);
+    assert!(rt; directory.entry(511) == 9);
     set_entry(&mut payload, 1, 300);
     assert!(rt; payload[22] == 1 && payload[23] == 44 && payload[2063] == 9);
     refuses(&rt, &payload, 2064, 1, Malformed::Padding);
@@ -178,12 +175,12 @@ fn three_long_records_fit_and_a_fourth_does_not(rt: HostRuntime) {
     let mut payload = [0; PAYLOAD_BYTES];
     write_bucket(&mut payload, 0, 0, 0);
     for number in [2, 0, 1] {
-        assert_eq!(rt; puts(&rt, &mut payload, number, LONG), Ok(()));
+        assert!(rt; puts(&rt, &mut payload, number, LONG) == Ok(()));
     }
-    assert_eq!(rt; bucket(&rt, &payload).used(), 3225);
-    assert_eq!(rt; puts(&rt, &mut payload, 3, LONG), Err(DoesNotFit));
-    assert_eq!(rt; puts(&rt, &mut payload, 3, 824), Err(DoesNotFit));
-    assert_eq!(rt; puts(&rt, &mut payload, 3, 823), Ok(()));
+    assert!(rt; bucket(&rt, &payload).used() == 3225);
+    assert!(rt; puts(&rt, &mut payload, 3, LONG) == Err(DoesNotFit));
+    assert!(rt; puts(&rt, &mut payload, 3, 824) == Err(DoesNotFit));
+    assert!(rt; puts(&rt, &mut payload, 3, 823) == Ok(()));
 }
 
 #[test]
@@ -191,7 +188,7 @@ fn records_are_replaced_and_removed(rt: HostRuntime) {
     let mut payload = [0; PAYLOAD_BYTES];
     write_bucket(&mut payload, 0, 0, 0);
     for number in [1, 2, 3] {
-        assert_eq!(rt; puts(&rt, &mut payload, number, 18), Ok(()));
+        assert!(rt; puts(&rt, &mut payload, number, 18) == Ok(()));
     }
     replaces(&rt, &mut payload, 2, b"two");
     assert!(rt; bucket(&rt, &payload).find(&key(2)) == Some(b"two".as_slice()));
@@ -201,29 +198,41 @@ fn records_are_replaced_and_removed(rt: HostRuntime) {
 }
 
 #[test]
-fn a_full_bucket_is_cut_by_the_lowest_bit_and_then_by_the_next(rt: HostRuntime) {
+fn a_full_bucket_is_cut_by_the_lowest_bit(rt: HostRuntime) {
     let mut full = [0; PAYLOAD_BYTES];
     let mut even = [0; PAYLOAD_BYTES];
     let mut odd = [0; PAYLOAD_BYTES];
     write_bucket(&mut full, 0, 0, 9);
     for number in [0, 1, 2] {
-        assert_eq!(rt; puts(&rt, &mut full, number, LONG), Ok(()));
+        assert!(rt; puts(&rt, &mut full, number, LONG) == Ok(()));
     }
     cuts(&rt, &full, 300, &mut even, &mut odd);
-    assert_eq!(rt; puts(&rt, &mut odd, 3, LONG), Ok(()));
+    assert!(rt; puts(&rt, &mut odd, 3, LONG) == Ok(()));
     assert!(rt; holds(&rt, &even, &[0, 2], 2150));
     assert!(rt; holds(&rt, &odd, &[1, 3], 2150));
-    let right = bucket(&rt, &odd);
-    assert!(rt; right.depth() == 1 && right.pattern() == 1 && right.next() == 9);
-    let left = bucket(&rt, &even);
-    assert!(rt; left.depth() == 1 && left.pattern() == 0 && left.next() == 300);
-    assert_eq!(rt; puts(&rt, &mut even, 4, LONG), Ok(()));
-    full = even;
-    cuts(&rt, &full, 301, &mut even, &mut odd);
-    assert!(rt; holds(&rt, &even, &[0, 4], 2150));
-    assert!(rt; holds(&rt, &odd, &[2], 1075));
-    let right = bucket(&rt, &odd);
-    assert!(rt; right.depth() == 2 && right.pattern() == 2 && right.next() == 300);
+    assert!(rt; is_headed(&rt, &odd, 1, 1, 9));
+    assert!(rt; is_headed(&rt, &even, 1, 0, 300));
+}
+
+/// Whether a bucket has this depth, this pattern and this bucket behind it.
+fn is_headed(rt: &impl Abort, payload: &Payload, depth: u8, pattern: u32, next: u32) -> bool {
+    let bucket = bucket(rt, payload);
+    bucket.depth() == depth && bucket.pattern() == pattern && bucket.next() == next
+}
+
+#[test]
+fn a_half_is_cut_by_the_next_bit(rt: HostRuntime) {
+    let mut full = [0; PAYLOAD_BYTES];
+    let mut lower = [0; PAYLOAD_BYTES];
+    let mut upper = [0; PAYLOAD_BYTES];
+    write_bucket(&mut full, 1, 0, 300);
+    for number in [0, 2, 4] {
+        assert!(rt; puts(&rt, &mut full, number, LONG) == Ok(()));
+    }
+    cuts(&rt, &full, 301, &mut lower, &mut upper);
+    assert!(rt; holds(&rt, &lower, &[0, 4], 2150));
+    assert!(rt; holds(&rt, &upper, &[2], 1075));
+    assert!(rt; is_headed(&rt, &upper, 2, 2, 300));
 }
 
 /// A join asks for no more than that the records fit.
@@ -234,15 +243,14 @@ fn buddies_are_joined(rt: HostRuntime) {
     let mut whole = [1; PAYLOAD_BYTES];
     write_bucket(&mut left, 2, 1, 300);
     write_bucket(&mut right, 2, 3, 400);
-    assert_eq!(rt; puts(&rt, &mut left, 5, 1012), Ok(()));
-    assert_eq!(rt; puts(&rt, &mut right, 3, 500), Ok(()));
-    assert_eq!(rt; puts(&rt, &mut right, 7, 512), Ok(()));
+    assert!(rt; puts(&rt, &mut left, 5, 1012) == Ok(()));
+    assert!(rt; puts(&rt, &mut right, 3, 500) == Ok(()));
+    assert!(rt; puts(&rt, &mut right, 7, 512) == Ok(()));
     joins(&rt, &left, &right, &mut whole);
     assert!(rt; holds(&rt, &whole, &[3, 5, 7], 2024));
-    let joined = bucket(&rt, &whole);
-    assert!(rt; joined.depth() == 1 && joined.pattern() == 1 && joined.next() == 400);
+    assert!(rt; is_headed(&rt, &whole, 1, 1, 400));
     removes(&rt, &mut right, 7);
-    assert_eq!(rt; puts(&rt, &mut right, 7, 513), Ok(()));
+    assert!(rt; puts(&rt, &mut right, 7, 513) == Ok(()));
     joins(&rt, &left, &right, &mut whole);
     assert!(rt; holds(&rt, &whole, &[3, 5, 7], 2025));
 }
@@ -254,8 +262,8 @@ fn pseudokeys_are_those_of_another_program(rt: HostRuntime) {
         queue: 0,
         number: 0,
     };
-    assert_eq!(rt; ShaKey.of(&counter), 0x8150_a65e);
-    assert_eq!(rt; ShaKey.of(&key(1)), 0x08bd_5146);
-    assert_eq!(rt; NumberKey.of(&key(0x0001_0000_0002)), 2);
-    assert_eq!(rt; ConstantKey(9).of(&key(1)), 9);
+    assert!(rt; ShaKey.of(&counter) == 0x8150_a65e);
+    assert!(rt; ShaKey.of(&key(1)) == 0x08bd_5146);
+    assert!(rt; NumberKey.of(&key(0x0001_0000_0002)) == 2);
+    assert!(rt; ConstantKey(9).of(&key(1)) == 9);
 }

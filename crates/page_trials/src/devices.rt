@@ -54,7 +54,7 @@ fn faults_have_their_numbers(rt: HostRuntime) {
         (DeviceFault::NoMemory, 60),
     ];
     for (fault, number) in faults {
-        assert_eq!(rt; fault.number(), number);
+        assert!(rt; fault.number() == number);
     }
 }
 
@@ -80,91 +80,108 @@ fn a_page_reads_as_it_was_written(rt: HostRuntime) -> Result<(), Fail> {
     let mut device = MemDevice::new(rt.alloc());
     fill(&mut device)?;
     assert!(rt; is_filled(&mut device)?);
+    assert!(rt; ends_at_2(&mut device));
+    assert!(rt; device.faults() == 0);
+    Ok(())
+}
+
+/// Page 2 is past the end.
+fn ends_at_2<D: PageDevice>(device: &mut D) -> bool {
     let mut page = [0; PAGE_BYTES];
-    assert_eq!(rt; device.read(2, &mut page), Err(DeviceFault::PastEnd));
-    assert_eq!(rt; device.write(2, &page), Err(DeviceFault::PastEnd));
-    assert_eq!(rt; device.faults(), 0);
+    device.read(2, &mut page) == Err(DeviceFault::PastEnd)
+        && device.write(2, &page) == Err(DeviceFault::PastEnd)
+}
+
+#[test]
+fn each_transfer_fails_in_turn(rt: HostRuntime) {
+    for nth in 1..=6 {
+        let mut device = FaultyDevice::new(MemDevice::new(rt.alloc()), nth);
+        let run = fill(&mut device).and_then(|()| is_filled(&mut device));
+        assert!(rt; run == Err(DeviceFault::Device), "transfer {nth}");
+        assert!(rt; device.faults() == 1, "transfer {nth}");
+        let inner = device.into_inner();
+        assert!(rt; inner.faults() == 0, "transfer {nth}");
+        assert!(rt; inner.pages() == (nth as u32 - 1).min(2), "transfer {nth}");
+    }
+}
+
+#[test]
+fn no_transfer_fails_where_none_is_named(rt: HostRuntime) -> Result<(), Fail> {
+    let mut device = FaultyDevice::new(MemDevice::new(rt.alloc()), 0);
+    fill(&mut device)?;
+    assert!(rt; is_filled(&mut device)?);
+    assert!(rt; device.faults() == 0);
+    Ok(())
+}
+
+/// Makes a file of the pages of `fill` in a new folder.
+fn written(rt: &HostRuntime, folder: &str, path: &str) -> Result<(), Fail> {
+    let _ = fs::remove_dir_all(rt, folder);
+    fs::create_dir(rt, folder)?;
+    fill(&mut FileDevice::create(rt, path)?)?;
     Ok(())
 }
 
 #[test]
-fn each_transfer_fails_in_turn(rt: HostRuntime) -> Result<(), Fail> {
-    for nth in 1..=6 {
-        let mut device = FaultyDevice::new(MemDevice::new(rt.alloc()), nth);
-        let run = fill(&mut device).and_then(|()| is_filled(&mut device));
-        assert_eq!(rt; run, Err(DeviceFault::Device), "transfer {nth}");
-        assert_eq!(rt; device.faults(), 1, "transfer {nth}");
-        let inner = device.into_inner();
-        assert_eq!(rt; inner.faults(), 0, "transfer {nth}");
-        assert_eq!(rt; inner.pages(), (nth as u32 - 1).min(2), "transfer {nth}");
-    }
-    let mut device = FaultyDevice::new(MemDevice::new(rt.alloc()), 0);
-    fill(&mut device)?;
-    assert!(rt; is_filled(&mut device)?);
-    assert_eq!(rt; device.faults(), 0);
+fn a_file_is_written_and_opened_again(rt: HostRuntime) -> Result<(), Fail> {
+    written(&rt, "device_again", "device_again/pages")?;
+    assert!(rt; fs::metadata(&rt, "device_again/pages")?.len() == 8192);
+    let mut device = FileDevice::open(&rt, "device_again/pages")?;
+    assert!(rt; is_filled(&mut device)? && ends_at_2(&mut device));
+    fs::remove_dir_all(&rt, "device_again")?;
     Ok(())
 }
 
-const FOLDER: &str = "page_device_test";
-
-const PATH: &str = "page_device_test/pages";
-
 /// Makes the file as long as this, and opens it.
 fn pages_at<R: Files>(rt: &R, len: u64) -> Result<u32, Fail> {
-    OpenOptions::new().write(true).open(rt, PATH)?.set_len(len)?;
-    match FileDevice::open(rt, PATH) {
+    let path = "device_lengths/pages";
+    OpenOptions::new().write(true).open(rt, path)?.set_len(len)?;
+    match FileDevice::open(rt, path) {
         Ok(device) => Ok(device.pages()),
         Err(fault) => Ok(1000 + fault.number() as u32),
     }
 }
 
 #[test]
-fn a_file_is_written_and_opened_again(rt: HostRuntime) -> Result<(), Fail> {
-    let _ = fs::remove_dir_all(&rt, FOLDER);
-    fs::create_dir(&rt, FOLDER)?;
-    let mut device = FileDevice::create(&rt, PATH)?;
-    assert_eq!(rt; device.pages(), 0);
-    fill(&mut device)?;
-    assert!(rt; is_filled(&mut device)?);
-    let mut page = [0; PAGE_BYTES];
-    assert_eq!(rt; device.read(2, &mut page), Err(DeviceFault::PastEnd));
-    drop(device);
-    assert_eq!(rt; fs::metadata(&rt, PATH)?.len(), 8192);
-    let mut device = FileDevice::open(&rt, PATH)?;
-    assert!(rt; is_filled(&mut device)?);
-    drop(device);
-    for (len, want) in [(8192, 2), (8193, 1022), (8092, 1022), (4096, 1), (0, 0)] {
-        assert_eq!(rt; pages_at(&rt, len)?, want, "{len} bytes");
+fn a_file_has_its_whole_pages_or_is_refused(rt: HostRuntime) -> Result<(), Fail> {
+    written(&rt, "device_lengths", "device_lengths/pages")?;
+    for (len, want) in [
+        (8192, 2),
+        (8193, 1022),
+        (8092, 1022),
+        (4096, 1),
+        (0, 0),
+        (65_600 * 4096, 65_537),
+    ] {
+        assert!(rt; pages_at(&rt, len)? == want, "{len} bytes");
     }
-    assert_eq!(rt; pages_at(&rt, 65_600 * 4096)?, 65_537);
-    fs::remove_dir_all(&rt, FOLDER)?;
+    fs::remove_dir_all(&rt, "device_lengths")?;
     Ok(())
 }
 
+/// There is something, a folder, no folder, and a folder where nobody may write.
 #[test]
-fn what_the_system_refuses_is_a_fault(rt: HostRuntime) -> Result<(), Fail> {
-    let _ = fs::remove_dir_all(&rt, "page_device_refused");
-    fs::create_dir(&rt, "page_device_refused")?;
-    fs::write(&rt, "page_device_refused/there", b"".as_slice())?;
-    // There is something, a folder, no folder, and a folder where nobody may write.
+fn what_the_system_does_not_make_is_a_fault(rt: HostRuntime) -> Result<(), Fail> {
+    let _ = fs::remove_dir_all(&rt, "device_made");
+    fs::create_dir(&rt, "device_made")?;
+    fs::write(&rt, "device_made/there", b"".as_slice())?;
     for path in [
-        "page_device_refused/there",
-        "page_device_refused",
-        "page_device_refused/none/pages",
+        "device_made/there",
+        "device_made",
+        "device_made/none/pages",
         "/proc/pages",
     ] {
         let made = FileDevice::create(&rt, path);
         assert!(rt; matches!(made, Err(DeviceFault::Device)), "{path}");
     }
-    for path in [
-        "page_device_refused/none",
-        "page_device_refused",
-        "/dev/null",
-        "",
-    ] {
+    fs::remove_dir_all(&rt, "device_made")?;
+    Ok(())
+}
+
+#[test]
+fn what_the_system_does_not_open_is_a_fault(rt: HostRuntime) {
+    for path in ["none/pages", "/proc", "/dev/null", ""] {
         let opened = FileDevice::open(&rt, path);
         assert!(rt; matches!(opened, Err(DeviceFault::Device)), "{path}");
     }
-    fs::remove_dir_all(&rt, "page_device_refused")?;
-    Ok(())
 }

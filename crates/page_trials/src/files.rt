@@ -28,7 +28,7 @@ fn new_file(alloc: Global, pages: u32) -> Result<MemDevice, DeviceFault>
 /// The payload of a sealed page.
 fn payload_of(rt: &impl Abort, device: &mut MemDevice, page: u32) -> Payload {
     let mut bytes = [0; PAGE_BYTES];
-    assert_eq!(rt; device.read(page, &mut bytes), Ok(()));
+    assert!(rt; device.read(page, &mut bytes) == Ok(()));
     match unseal(page, &bytes) {
         Ok(payload) => payload,
         Err(_) => panic!(rt; "page {page}"),
@@ -47,7 +47,7 @@ fn begins(rt: &impl Abort, device: &mut MemDevice, page: u32, front: &[u8]) {
 #[test]
 fn a_new_file_has_the_bytes_of_the_layout(rt: HostRuntime) -> Result<(), Fail> {
     let mut device = new_file(rt.alloc(), 260)?;
-    assert_eq!(rt; device.pages(), 260);
+    assert!(rt; device.pages() == 260);
     begins(
         &rt,
         &mut device,
@@ -84,14 +84,17 @@ fn a_new_file_has_the_bytes_of_the_layout(rt: HostRuntime) -> Result<(), Fail> {
 fn each_transfer_of_a_new_file_fails_in_turn(rt: HostRuntime) {
     for nth in 1..=260 {
         let mut device = FaultyDevice::new(MemDevice::new(rt.alloc()), nth);
-        assert_eq!(rt; device.pages(), 0);
+        assert!(rt; device.pages() == 0);
         let want = if nth <= 259 {
             Err(DeviceFault::Device)
         } else {
             Ok(())
         };
-        assert_eq!(rt; format(&mut device, 258), want, "transfer {nth}");
-        assert_eq!(rt; device.pages() as u64, (nth - 1).min(258), "transfer {nth}");
+        assert!(rt; format(&mut device, 258) == want, "transfer {nth}");
+        assert!(rt;
+            device.pages() as u64 == (nth - 1).min(258),
+            "transfer {nth}"
+        );
     }
 }
 
@@ -137,7 +140,7 @@ fn replaces<D: PageDevice>(rt: &impl Abort, file: &mut OneBucket<D>, number: u64
     let Some(old) = file.find(&key) else {
         panic!(rt; "no record {number}");
     };
-    assert_eq!(rt; old.len(), value.len());
+    assert!(rt; old.len() == value.len());
     file.replace(&key, value);
 }
 
@@ -150,18 +153,18 @@ fn removes<D: PageDevice>(rt: &impl Abort, file: &mut OneBucket<D>, number: u64)
 #[test]
 fn records_are_found_when_the_file_is_opened_again(rt: HostRuntime) -> Result<(), Fail> {
     let mut file = opens(rt.alloc(), new_file(rt.alloc(), 258)?)?;
-    assert_eq!(rt; puts(&rt, &mut file, 2, b"two"), Ok(()));
-    assert_eq!(rt; puts(&rt, &mut file, 1, b"one"), Ok(()));
+    assert!(rt; puts(&rt, &mut file, 2, b"two") == Ok(()));
+    assert!(rt; puts(&rt, &mut file, 1, b"one") == Ok(()));
     // The Counter has 23 bytes, these two have 18 each.
-    assert_eq!(rt; puts(&rt, &mut file, 3, &[3; 3975]), Err(DoesNotFit));
-    assert_eq!(rt; puts(&rt, &mut file, 3, &[3; 3974]), Ok(()));
+    assert!(rt; puts(&rt, &mut file, 3, &[3; 3975]) == Err(DoesNotFit));
+    assert!(rt; puts(&rt, &mut file, 3, &[3; 3974]) == Ok(()));
     file.ascends();
     let mut file = opens(rt.alloc(), closes(file)?)?;
     assert!(rt; file.find(&key(1)) == Some(b"one".as_slice()));
     replaces(&rt, &mut file, 2, b"owt");
     removes(&rt, &mut file, 3);
     let mut file = opens(rt.alloc(), closes(file)?)?;
-    assert_eq!(rt; puts(&rt, &mut file, 4, b"lost"), Ok(()));
+    assert!(rt; puts(&rt, &mut file, 4, b"lost") == Ok(()));
     let file = opens(rt.alloc(), file.abandon())?;
     assert!(rt; file.find(&key(4)).is_none());
     assert!(rt; file.find(&key(2)) == Some(b"owt".as_slice()));
@@ -182,12 +185,12 @@ fn each_transfer_of_an_open_file_fails_in_turn(rt: HostRuntime) -> Result<(), Fa
                 continue;
             }
         };
-        assert_eq!(rt; puts(&rt, &mut file, 1, b"one"), Ok(()));
+        assert!(rt; puts(&rt, &mut file, 1, b"one") == Ok(()));
         match closes(file) {
             Ok(device) => assert!(rt; device.faults() == 0 && nth == 5, "transfer {nth}"),
             Err(fault) => {
                 assert!(rt; fault == CloseFault::Device && nth >= 3, "transfer {nth}");
-                assert_eq!(rt; fault.number(), 20);
+                assert!(rt; fault.number() == 20);
             }
         }
     }
@@ -228,27 +231,39 @@ fn what_is_no_file_is_refused(rt: HostRuntime) -> Result<(), Fail> {
         // The first free page is no matter of the opening.
         (19, 9, 0),
     ] {
-        assert_eq!(rt;
-            refused(&rt, rt.alloc(), place, byte)?,
-            number,
+        assert!(rt;
+            refused(&rt, rt.alloc(), place, byte)? == number,
             "byte {place}"
         );
     }
+    Ok(())
+}
+
+#[test]
+fn a_file_without_a_header_is_refused(rt: HostRuntime) -> Result<(), Fail> {
     let mut device = new_file(rt.alloc(), 258)?;
     device.write(0, &[1; PAGE_BYTES])?;
-    assert_eq!(rt; refusal(rt.alloc(), device)?, 21);
-    assert_eq!(rt; refusal(rt.alloc(), MemDevice::new(rt.alloc()))?, 22);
-    let (device, fault) = match OneBucket::open(rt.alloc(), new_file(rt.alloc(), 258)?, 0) {
+    assert!(rt; refusal(rt.alloc(), device)? == 21);
+    assert!(rt; refusal(rt.alloc(), MemDevice::new(rt.alloc()))? == 22);
+    Ok(())
+}
+
+#[test]
+fn a_file_is_not_opened_without_a_frame(rt: HostRuntime) -> Result<(), Fail> {
+    match OneBucket::open(rt.alloc(), new_file(rt.alloc(), 258)?, 0) {
         Ok(file) => {
             closes(file)?;
             panic!(rt; "no frame")
         }
-        Err(refusal) => refusal,
-    };
-    assert!(rt; fault.number() == 30 && device.pages() == 258);
-    assert_eq!(rt; OpenFault::Device.number(), 20);
-    assert_eq!(rt; OpenFault::NoMemory.number(), 60);
+        Err((device, fault)) => assert!(rt; fault.number() == 30 && device.pages() == 258),
+    }
     Ok(())
+}
+
+#[test]
+fn faults_of_the_opening_have_their_numbers(rt: HostRuntime) {
+    assert!(rt; OpenFault::Device.number() == 20);
+    assert!(rt; OpenFault::NoMemory.number() == 60);
 }
 
 #[test]
@@ -285,7 +300,7 @@ fn breaks(rt: &impl Abort, alloc: Global, page: &Page) -> Result<(), Fail> {
         Ok(_) => panic!(rt; "it was closed"),
         Err(refusal) => refusal,
     };
-    assert_eq!(rt; fault.number(), 62);
+    assert!(rt; fault.number() == 62);
     let mut now = [0; PAGE_BYTES];
     device.read(257, &mut now)?;
     assert!(rt; now == *page);

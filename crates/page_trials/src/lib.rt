@@ -8,6 +8,8 @@ mod bucket;
 #[cfg(test)]
 mod buckets;
 #[cfg(test)]
+mod calls;
+#[cfg(test)]
 mod devices;
 #[cfg(test)]
 mod directories;
