@@ -2,3 +2,4 @@ pub mod Words
 pub mod Fault
 pub mod Records
 pub mod Right
+pub mod Ids

@@ -4,6 +4,7 @@ ghost use Rattle.std.specs.Prelude.{◌≡◌};
 ghost use Rattle.file_check.specs.Fault.{number_of};
 
 use file_walk::StructureFault;
+use std::alloc::AllocFailed;
 use thiserror::Error;
 
 /// The number of a record that no system has there.
@@ -60,5 +61,17 @@ impl From<StructureFault> for CheckFault {
 
     fn from(fault: StructureFault) -> CheckFault {
         CheckFault::Structure(fault)
+    }
+}
+
+impl<T: Drop> From<AllocFailed<T>> for CheckFault {
+    ghost use Rattle.std.specs.Prelude.{◌≡◌};
+    ghost use Rattle.file_check.specs.declared.fault.CheckFault.TheVariants.{Structure};
+    ghost use Rattle.file_walk.specs.declared.fault.StructureFault.TheVariants.{NoMemory};
+
+    ghost from_gives = { λ _ fault. fault ≡ Structure NoMemory };
+
+    fn from(_: AllocFailed<T>) -> CheckFault {
+        CheckFault::Structure(StructureFault::NoMemory)
     }
 }

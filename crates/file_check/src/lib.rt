@@ -5,10 +5,12 @@
 mod bucket;
 mod check;
 mod fault;
+mod ids;
 mod laws;
 mod records;
 
 pub use check::check_records;
 pub use fault::CheckFault;
+pub use ids::queue_ids;
 pub use laws::{a_right_file_has_no_fault, a_right_file_is_sound};
 pub use records::test_records;
