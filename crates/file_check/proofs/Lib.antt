@@ -1,3 +1,5 @@
 pub mod RecordLemmas
 pub mod RightLemmas
 pub mod IdsLemmas
+pub mod NeedsLemmas
+pub mod StrayLemmas

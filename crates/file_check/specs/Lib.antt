@@ -3,3 +3,4 @@ pub mod Fault
 pub mod Records
 pub mod Right
 pub mod Ids
+pub mod Strays

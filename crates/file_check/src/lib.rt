@@ -7,10 +7,13 @@ mod check;
 mod fault;
 mod ids;
 mod laws;
+mod needs;
 mod records;
+mod strays;
 
 pub use check::check_records;
 pub use fault::CheckFault;
 pub use ids::queue_ids;
 pub use laws::{a_right_file_has_no_fault, a_right_file_is_sound};
 pub use records::test_records;
+pub use strays::test_strays;
