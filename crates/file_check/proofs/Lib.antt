@@ -3,3 +3,4 @@ pub mod RightLemmas
 pub mod IdsLemmas
 pub mod NeedsLemmas
 pub mod StrayLemmas
+pub mod WholeLemmas

@@ -4,3 +4,4 @@ pub mod Records
 pub mod Right
 pub mod Ids
 pub mod Strays
+pub mod Whole
