@@ -20,9 +20,12 @@ pub record Source : Type 0 where
   pub honest : Bool
   pub faults : ℕ
 
--- what the file on a device holds at a key
+-- what the file on these pages holds at a key
+abbrev pub held_in : List (List ℕ) → RecordKey → Option (List ℕ)
+held_in content key = contents (file_of content) key
+
 abbrev pub held_on : Source → RecordKey → Option (List ℕ)
-held_on source key = contents (file_of source.content) key
+held_on source = held_in source.content
 
 abbrev pub source : List (List ℕ) → Bool → ℕ → Source
 source content honest faults = record { content = content; honest = honest; faults = faults }
