@@ -17,6 +17,8 @@ impl<D: PageDevice, K: PseudoKey + Drop> Records for FileRecords<D, K> {
 
     ghost held = { held_on };
 
+    ghost pages = { λ f. f.content };
+
     ghost is_honest = { λ f. f.honest };
 
     ghost fault_count = { λ f. f.faults };
