@@ -1,2 +1,6 @@
 pub mod RecordLemmas
 pub mod RightLemmas
+pub mod IdsLemmas
+pub mod NeedsLemmas
+pub mod StrayLemmas
+pub mod WholeLemmas

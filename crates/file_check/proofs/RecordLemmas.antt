@@ -47,6 +47,14 @@ module _ (content : List (List ℕ)) (n : ℕ) (payload : List ℕ) (live : IsLi
       let clash = sym live.right.formed ∙ wrong.2 in
       absurd cc
 
+-- two answers that are the same are of the same bucket
+pub bucket_is : (b c : Bucket) → ◌≡◌ {A = Result Bucket CheckFault} (Ok b) (Ok c) → b ≡ c
+bucket_is b c e = cc
+
+-- and no answer is a fault
+pub is_read : (fault : CheckFault) (b : Bucket) → ◌≡◌ {A = Result Bucket CheckFault} (Err fault) (Ok b) → ⊥
+is_read fault b e = absurd cc
+
 -- ---- the pages of a chain are buckets
 
 low_bucket : (content : List (List ℕ)) (n : ℕ) → n < ROOT_PAGE → has_bucket (file_of content) n ≡ false

@@ -118,8 +118,7 @@ right_not_wrong hash s ns fault right w = by_fault fault w.wrong
         none_first hash (bucket_at s n) _ _ (λ q good bad. bad.elsewhere good.at_home) here h.1
     by_fault (faults.BadRecord p kind queue number) h =
         none_first hash (bucket_at s n) _ _ (λ q good bad. bad.senseless good.spelled) here h.1
-    by_fault (faults.Structure f) h = absurd h
-    by_fault (faults.Changed p) h = absurd h
+    by_fault fault h = absurd h
 
 -- a file has one chain
 on_chain : (hash : RecordKey → ℕ) (content : List (List ℕ)) (ns : List ℕ) (fault : CheckFault) →
@@ -133,22 +132,21 @@ pub right_has_no_fault : (hash : RecordKey → ℕ) (content : List (List ℕ)) 
     IsRightFile hash content ns → IsFirstWrongThing hash content fault → ⊥
 right_has_no_fault hash content ns (faults.Structure fault) right h =
     structure_has_no_fault content ns fault right.structure h
-right_has_no_fault hash content ns (faults.Changed page) right h = absurd h
 right_has_no_fault hash content ns (faults.Misplaced page kind queue number) right h =
     right_not_wrong hash (file_of content) ns (faults.Misplaced page kind queue number) right.records
     (on_chain hash content ns (faults.Misplaced page kind queue number) right.structure h)
 right_has_no_fault hash content ns (faults.BadRecord page kind queue number) right h =
     right_not_wrong hash (file_of content) ns (faults.BadRecord page kind queue number) right.records
     (on_chain hash content ns (faults.BadRecord page kind queue number) right.structure h)
+right_has_no_fault hash content ns fault right h = absurd h
 
 -- what is answered of the records, once the structure is right
 pub records_fault : (hash : RecordKey → ℕ) (content : List (List ℕ)) (ns : List ℕ) (fault : CheckFault) →
     IsRightStructure content ns → IsOfMachineToo fault ⊎ IsFirstWrongRecord hash (file_of content) ns fault →
     IsFirstFault hash content fault
 records_fault hash content ns fault r (inl machine) = inl machine
-records_fault hash content ns (faults.Structure fault) r (inr w) = absurd w.wrong
-records_fault hash content ns (faults.Changed page) r (inr w) = absurd w.wrong
 records_fault hash content ns (faults.Misplaced page kind queue number) r (inr w) =
     inr (record { chain = ns; structure = r; wrong = w })
 records_fault hash content ns (faults.BadRecord page kind queue number) r (inr w) =
     inr (record { chain = ns; structure = r; wrong = w })
+records_fault hash content ns fault r (inr w) = absurd w.wrong

@@ -53,8 +53,7 @@ IsWrongIn hash b page (faults.Misplaced p kind queue number) =
     (p ≡ page) × IsFirstIn b (IsRightRecord hash b) (IsAstray hash b) (key_of_parts kind queue number)
 IsWrongIn hash b page (faults.BadRecord p kind queue number) =
     (p ≡ page) × IsFirstIn b (IsRightRecord hash b) (IsNoRecord hash b) (key_of_parts kind queue number)
-IsWrongIn hash b page (faults.Structure fault) = ⊥
-IsWrongIn hash b page (faults.Changed p) = ⊥
+IsWrongIn hash b page fault = ⊥
 
 -- all records of the bucket on page n are right
 abbrev pub AreRightIn : (RecordKey → ℕ) → Store → ℕ → Type 0

@@ -26,11 +26,11 @@ pub record IsWrongAmongRecords (hash : RecordKey → ℕ) (content : List (List 
 -- what is wrong with the structure, or else with the first record that is wrong
 abbrev pub IsFirstWrongThing : (RecordKey → ℕ) → List (List ℕ) → CheckFault → Type 0
 IsFirstWrongThing hash content (faults.Structure fault) = walk.IsFirstWrongThing content fault
-IsFirstWrongThing hash content (faults.Changed page) = ⊥
 IsFirstWrongThing hash content (faults.Misplaced page kind queue number) =
     IsWrongAmongRecords hash content (faults.Misplaced page kind queue number)
 IsFirstWrongThing hash content (faults.BadRecord page kind queue number) =
     IsWrongAmongRecords hash content (faults.BadRecord page kind queue number)
+IsFirstWrongThing hash content fault = ⊥
 
 -- what is answered: it is that, unless the machine lacked something
 abbrev pub IsFirstFault : (RecordKey → ℕ) → List (List ℕ) → CheckFault → Type 0

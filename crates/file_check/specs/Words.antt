@@ -7,8 +7,9 @@ pub use Rattle.file_walk.specs.declared.fault.StructureFault.{StructureFault}
 pub use Rattle.file_walk.specs.Files.{file_of, page_on, payload_on, said_on}
 pub use Rattle.file_walk.specs.Structure.{IsRightStructure, IsStructureOf}
 pub use Rattle.hash_file.specs.Store.{Store, has_bucket, bucket_at, bucket_of, is_bucket, range_of, records_at}
-pub use Rattle.hash_file.specs.Chain.{IsPlaced}
+pub use Rattle.hash_file.specs.Chain.{IsPlaced, chain, contents, pairs_on}
 pub use Rattle.positions.specs.Ranges.{Covers}
+pub use Rattle.queue_model.specs.State.{State}
 pub use Rattle.queue_records.specs.declared.record.Record.{Record}
 pub use Rattle.queue_records.specs.Records.{Spells}
 pub use Rattle.file_check.specs.declared.fault.CheckFault.{CheckFault}

@@ -1,6 +1,6 @@
 //! The buckets of a file are read once more, and their records tested.
 
-ghost use Rattle.std.specs.Prelude.{◌≡◌, ◌≤◌, ◌⊎◌, length, IsTrue, IfErr, OnOk};
+ghost use Rattle.std.specs.Prelude.{◌≡◌, ◌≤◌, ◌⊎◌, ℕ, List, length, IsTrue, Ok, IfOk, IfErr, OnOk};
 ghost use Rattle.std.specs.List.{All};
 ghost use Rattle.positions.specs.declared.pseudokey.TheConstants.{PSEUDOKEY_BITS};
 ghost use Rattle.file_check.specs.Fault.{IsOfMachineToo};
@@ -39,6 +39,22 @@ pub(crate) fn read_again<D: PageDevice>(
     Ok(())
 }
 
+/// The bucket of a payload that is known to be a bucket's.
+pub(crate) fn bucket_in(payload: &Payload, page: u32) -> Result<BucketView<'_>, CheckFault>
+    ensures ok { (content : List (List ℕ)) → IsLivePage content page →
+        payload.now ≡ payload_on content page → result ≡ Ok (bucket_at (file_of content) page) }
+    ensures within { IfOk result (λ bucket. bucket.depth ≤ PSEUDOKEY_BITS) }
+    ensures err { IfErr result (λ fault. fault ≡ CheckFault.Changed page) }
+{
+    match read_page(payload) {
+        Ok(PageKind::Bucket(bucket)) => Ok(bucket),
+        Ok(PageKind::Directory(_)) => Err(CheckFault::Changed { page }),
+        Ok(PageKind::Tombstone { .. }) => Err(CheckFault::Changed { page }),
+        Ok(PageKind::Free { .. }) => Err(CheckFault::Changed { page }),
+        Err(_) => Err(CheckFault::Changed { page }),
+    }
+}
+
 /// Tests the records of the bucket on a page of the chain.
 pub(crate) fn test_page<D: PageDevice, K: PseudoKey>(
     device: &mut D,
@@ -57,13 +73,7 @@ pub(crate) fn test_page<D: PageDevice, K: PseudoKey>(
 {
     let mut payload = [0; PAYLOAD_BYTES];
     read_again(device, page, &mut payload)?;
-    match read_page(&payload) {
-        Ok(PageKind::Bucket(bucket)) => test_bucket(keys, page, &bucket),
-        Ok(PageKind::Directory(_)) => Err(CheckFault::Changed { page }),
-        Ok(PageKind::Tombstone { .. }) => Err(CheckFault::Changed { page }),
-        Ok(PageKind::Free { .. }) => Err(CheckFault::Changed { page }),
-        Err(_) => Err(CheckFault::Changed { page }),
-    }
+    test_bucket(keys, page, &bucket_in(&payload, page)?)
 }
 
 /// Tests the records of a bucket, from the lowest key on.

@@ -4,9 +4,11 @@ ghost use Rattle.std.specs.Prelude.{◌≡◌};
 ghost use Rattle.file_check.specs.Fault.{number_of};
 
 use file_walk::StructureFault;
+use record_walk::WalkFault;
+use std::alloc::AllocFailed;
 use thiserror::Error;
 
-/// The number of a record that no system has there.
+/// The number of a record that stands where no system has it.
 pub const STRAY: u8 = 74;
 
 /// The first thing that is wrong with a file, and where it stands.
@@ -36,6 +38,22 @@ pub enum CheckFault {
         queue: u32,
         number: u64,
     },
+    /// There is no Counter, or not that of these queues.
+    #[error("the counter is missing, or does not count the queues")]
+    WrongCounter,
+    /// The links of a queue's records do not lead through all of them, or one of them has another value.
+    #[error("the records of queue {queue} are not those of a queue")]
+    WrongQueue {
+        queue: u32,
+    },
+    /// The system of the other records has no such record.
+    #[error("the record of kind {kind}, queue {queue}, number {number} on page {page} is of no queue")]
+    Stray {
+        page: u32,
+        kind: u8,
+        queue: u32,
+        number: u64,
+    },
 }
 
 impl CheckFault {
@@ -48,6 +66,9 @@ impl CheckFault {
             CheckFault::Changed { .. } => faults::MALFORMED,
             CheckFault::Misplaced { .. } => STRAY,
             CheckFault::BadRecord { .. } => faults::BAD_RECORD,
+            CheckFault::WrongCounter => WalkFault::WrongCounter.number(),
+            CheckFault::WrongQueue { queue } => WalkFault::WrongQueue { queue }.number(),
+            CheckFault::Stray { .. } => STRAY,
         }
     }
 }
@@ -60,5 +81,34 @@ impl From<StructureFault> for CheckFault {
 
     fn from(fault: StructureFault) -> CheckFault {
         CheckFault::Structure(fault)
+    }
+}
+
+impl From<WalkFault> for CheckFault {
+    ghost use Rattle.std.specs.Prelude.{◌≡◌};
+    ghost use Rattle.file_check.specs.Fault.{of_walk};
+
+    ghost from_gives = { λ fault given. given ≡ of_walk fault };
+
+    fn from(fault: WalkFault) -> CheckFault {
+        match fault {
+            WalkFault::Device => CheckFault::Structure(StructureFault::Device),
+            WalkFault::NoMemory => CheckFault::Structure(StructureFault::NoMemory),
+            WalkFault::Changed { page } => CheckFault::Changed { page },
+            WalkFault::WrongCounter => CheckFault::WrongCounter,
+            WalkFault::WrongQueue { queue } => CheckFault::WrongQueue { queue },
+        }
+    }
+}
+
+impl<T: Drop> From<AllocFailed<T>> for CheckFault {
+    ghost use Rattle.std.specs.Prelude.{◌≡◌};
+    ghost use Rattle.file_check.specs.declared.fault.CheckFault.TheVariants.{Structure};
+    ghost use Rattle.file_walk.specs.declared.fault.StructureFault.TheVariants.{NoMemory};
+
+    ghost from_gives = { λ _ fault. fault ≡ Structure NoMemory };
+
+    fn from(_: AllocFailed<T>) -> CheckFault {
+        CheckFault::Structure(StructureFault::NoMemory)
     }
 }

@@ -5,10 +5,17 @@
 mod bucket;
 mod check;
 mod fault;
+mod ids;
 mod laws;
+mod needs;
 mod records;
+mod strays;
 
 pub use check::check_records;
 pub use fault::CheckFault;
-pub use laws::{a_right_file_has_no_fault, a_right_file_is_sound};
+pub use ids::queue_ids;
+pub use laws::{
+    a_right_file_has_no_fault, a_right_file_is_sound, the_file_of_a_system_has_no_fault,
+};
 pub use records::test_records;
+pub use strays::test_strays;

@@ -15,9 +15,10 @@ linked_of e = record {
   next = e.next;
 }
 
--- records that were only read: they stand as before, and the count of failed transfers did not fall
-pub record IsStill {F : Type 0} (held : F → RecordKey → Option (List ℕ)) (honest : F → Bool) (count : F → ℕ)
-    (old now : F) : Type 0 where
+-- records that were only read: they and their pages stand as before, and the count of failed transfers did not fall
+pub record IsStill {F : Type 0} (held : F → RecordKey → Option (List ℕ)) (pages : F → List (List ℕ))
+    (honest : F → Bool) (count : F → ℕ) (old now : F) : Type 0 where
   pub same : held now ≡ held old
+  pub kept : pages now ≡ pages old
   pub honesty : honest now ≡ honest old
   pub later : count old ≤ count now

@@ -22,7 +22,7 @@ pub(crate) fn walk<F: Records>(
         IfOk result (λ messages. IsWalkOf (F.held file.old) id first messages) }
     ensures err { IsTrue (F.is_honest file.old) →
         IfErr result (λ fault. IsOfMachine fault ⊎ IsNoWalkOf (F.held file.old) id first) }
-    ensures still { IsStill F.held F.is_honest F.fault_count file.old file.new }
+    ensures still { IsStill F.held F.pages F.is_honest F.fault_count file.old file.new }
     ensures cause { IsCaused (F.fault_count file.old) (F.fault_count file.new) result }
 {
     let mut messages = Messages::new(alloc);

@@ -23,7 +23,7 @@ pub fn read_queue<F: Records>(file: &mut F, alloc: Global, id: u32) -> Result<Qu
         IfOk result (λ queue. IsQueueOf (F.held file.old) id queue) }
     ensures err { IsTrue (F.is_honest file.old) →
         IfErr result (λ fault. IsOfMachine fault ⊎ IsNoQueueOf (F.held file.old) id) }
-    ensures still { IsStill F.held F.is_honest F.fault_count file.old file.new }
+    ensures still { IsStill F.held F.pages F.is_honest F.fault_count file.old file.new }
     ensures cause { IsCaused (F.fault_count file.old) (F.fault_count file.new) result }
 {
     let Some(entry) = file.queue(id)? else {
@@ -67,7 +67,7 @@ fn has_queue<F: Records>(file: &mut F, alloc: Global, queue: &Queue) -> Result<b
     ensures ok { IsTrue (F.is_honest file.old) →
         IfOk result (λ has. IsTrue has ↔ HasQueue (F.held file.old) queue.now) }
     ensures err { IsTrue (F.is_honest file.old) → IfErr result (λ fault. IsOfMachine fault) }
-    ensures still { IsStill F.held F.is_honest F.fault_count file.old file.new }
+    ensures still { IsStill F.held F.pages F.is_honest F.fault_count file.old file.new }
     ensures cause { IsCaused (F.fault_count file.old) (F.fault_count file.new) result }
 {
     if !queue.is_lawful() {
@@ -92,7 +92,7 @@ fn has_key<F: Records>(file: &mut F, queue: &Queue) -> Result<bool, WalkFault>
     ensures ok { IsTrue (F.is_honest file.old) → IfOk result (λ has.
         IsTrue has ↔ All (Holds (F.held file.old)) (key_records queue.now)) }
     ensures err { IsTrue (F.is_honest file.old) → IfErr result (λ fault. IsOfMachine fault) }
-    ensures still { IsStill F.held F.is_honest F.fault_count file.old file.new }
+    ensures still { IsStill F.held F.pages F.is_honest F.fault_count file.old file.new }
     ensures cause { IsCaused (F.fault_count file.old) (F.fault_count file.new) result }
 {
     match queue.key {
@@ -112,7 +112,7 @@ fn has_types<F: Records>(
     ensures ok { IsTrue (F.is_honest file.old) → IfOk result (λ has.
         IsTrue has ↔ All (Holds (F.held file.old)) (type_records queue.now)) }
     ensures err { IsTrue (F.is_honest file.old) → IfErr result (λ fault. IsOfMachine fault) }
-    ensures still { IsStill F.held F.is_honest F.fault_count file.old file.new }
+    ensures still { IsStill F.held F.pages F.is_honest F.fault_count file.old file.new }
     ensures cause { IsCaused (F.fault_count file.old) (F.fault_count file.new) result }
 {
     for mtype in kinds {
@@ -136,7 +136,7 @@ fn has_messages<F: Records>(
     ensures ok { IsTrue (F.is_honest file.old) → IfOk result (λ has.
         IsTrue has ↔ All (Holds (F.held file.old)) (message_records queue.now)) }
     ensures err { IsTrue (F.is_honest file.old) → IfErr result (λ fault. IsOfMachine fault) }
-    ensures still { IsStill F.held F.is_honest F.fault_count file.old file.new }
+    ensures still { IsStill F.held F.pages F.is_honest F.fault_count file.old file.new }
     ensures cause { IsCaused (F.fault_count file.old) (F.fault_count file.new) result }
 {
     for place in 0..queue.messages.len() {

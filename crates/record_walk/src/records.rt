@@ -23,6 +23,9 @@ pub trait Records {
     /// The value at a key, none where there is no record.
     ghost held: { Self → RecordKey → Option (List ℕ) };
 
+    /// The pages on which they stand, with all else that stands there.
+    ghost pages: { Self → List (List ℕ) };
+
     /// They are read as they stand.
     ghost is_honest: { Self → Bool };
 
@@ -34,7 +37,7 @@ pub trait Records {
         ensures ok { IsTrue (is_honest self.old) → IfOk result (λ found. (c : Counter) →
             Holds (held self.old) (records.Counter c) → found ≡ Some c) }
         ensures err { IsTrue (is_honest self.old) → IfErr result (λ fault. IsOfMachine fault) }
-        ensures still { IsStill held is_honest fault_count self.old self.new }
+        ensures still { IsStill held pages is_honest fault_count self.old self.new }
         ensures cause { IsCaused (fault_count self.old) (fault_count self.new) result };
 
     /// The Queue of an id, where it stands.
@@ -42,7 +45,7 @@ pub trait Records {
         ensures ok { IsTrue (is_honest self.old) → IfOk result (λ found. (e : QueueEntry) →
             Holds (held self.old) (records.Queue e) → e.id ≡ id → found ≡ Some e) }
         ensures err { IsTrue (is_honest self.old) → IfErr result (λ fault. IsOfMachine fault) }
-        ensures still { IsStill held is_honest fault_count self.old self.new }
+        ensures still { IsStill held pages is_honest fault_count self.old self.new }
         ensures cause { IsCaused (fault_count self.old) (fault_count self.new) result };
 
     /// The Message of a serial, where it stands.
@@ -51,7 +54,7 @@ pub trait Records {
             Holds (held self.old) (records.Message e) → e.id ≡ id → e.serial ≡ serial →
             found ≡ Some (linked_of e)) }
         ensures err { IsTrue (is_honest self.old) → IfErr result (λ fault. IsOfMachine fault) }
-        ensures still { IsStill held is_honest fault_count self.old self.new }
+        ensures still { IsStill held pages is_honest fault_count self.old self.new }
         ensures cause { IsCaused (fault_count self.old) (fault_count self.new) result };
 
     /// Whether a record stands at its key.
@@ -59,6 +62,6 @@ pub trait Records {
         ensures ok { IsTrue (is_honest self.old) →
             IfOk result (λ stands. IsTrue stands ↔ Holds (held self.old) wanted.now) }
         ensures err { IsTrue (is_honest self.old) → IfErr result (λ fault. IsOfMachine fault) }
-        ensures still { IsStill held is_honest fault_count self.old self.new }
+        ensures still { IsStill held pages is_honest fault_count self.old self.new }
         ensures cause { IsCaused (fault_count self.old) (fault_count self.new) result };
 }

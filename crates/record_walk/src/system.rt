@@ -24,7 +24,7 @@ pub fn read_system<F: Records>(
         IfOk result (λ system. IsSystemOf (F.held file.old) system) }
     ensures err { IsTrue (F.is_honest file.old) →
         IfErr result (λ fault. IsOfMachine fault ⊎ HasNoSystem (F.held file.old)) }
-    ensures still { IsStill F.held F.is_honest F.fault_count file.old file.new }
+    ensures still { IsStill F.held F.pages F.is_honest F.fault_count file.old file.new }
     ensures cause { IsCaused (F.fault_count file.old) (F.fault_count file.new) result }
 {
     let Some(counter) = file.counter()? else {
@@ -55,7 +55,7 @@ fn read_queues<F: Records>(
         IfOk result (λ queues. AreQueuesOf (F.held file.old) ids.now queues.items) }
     ensures err { IsTrue (F.is_honest file.old) →
         IfErr result (λ fault. IsOfMachine fault ⊎ LacksQueue (F.held file.old) ids.now) }
-    ensures still { IsStill F.held F.is_honest F.fault_count file.old file.new }
+    ensures still { IsStill F.held F.pages F.is_honest F.fault_count file.old file.new }
     ensures cause { IsCaused (F.fault_count file.old) (F.fault_count file.new) result }
 {
     let mut queues = Vec::new(alloc);

@@ -9,7 +9,7 @@ use Rattle.record_walk.proofs.messages.walk.Given as goal
 
 abbrev pub invariant-walk : goal.invariant-walk
 invariant-walk g l = record {
-  still : IsStill g.F.Records.held g.F.Records.is_honest g.F.Records.fault_count l.fn.file l.file;
+  still : IsStill g.F.Records.held g.F.Records.pages g.F.Records.is_honest g.F.Records.fault_count l.fn.file l.file;
   few : length l.messages ≤ MAX_MESSAGES;
   walked : IsTrue (g.F.Records.is_honest l.fn.file) → (q : Queue) → HasQueue (g.F.Records.held l.fn.file) q →
       q.id ≡ l.fn.id → l.fn.first ≡ first_of (serials q.messages) → IsWalkedTo q l.messages l.next;

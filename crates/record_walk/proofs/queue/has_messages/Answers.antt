@@ -32,7 +32,7 @@ loop-place-preserved g c =
     let still = c.loop-place.invariant.still in
     let q = c.args.queue.now in
     record {
-      still = still_more g.F.Records.held g.F.Records.is_honest g.F.Records.fault_count _ _ _ still
+      still = still_more g.F.Records.held g.F.Records.pages g.F.Records.is_honest g.F.Records.fault_count _ _ _ still
           c.in_ok-holds.ensures.still;
       stand = λ is.
           let told = c.in_ok-holds.ensures.ok (subst IsTrue (sym still.honesty) is) in

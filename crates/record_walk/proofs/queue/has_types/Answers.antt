@@ -39,7 +39,7 @@ loop-mtype-preserved g c =
     let x : ℤ = slice_index_or c.args.kinds.now c.loop-mtype.mtype-index (pos 0) in
     let fits : SFits w64 x = search rules in
     record {
-      still = still_more g.F.Records.held g.F.Records.is_honest g.F.Records.fault_count _ _ _ still
+      still = still_more g.F.Records.held g.F.Records.pages g.F.Records.is_honest g.F.Records.fault_count _ _ _ still
           c.in_ok-holds.ensures.still;
       stand = λ is.
           let told = c.in_ok-holds.ensures.ok (subst IsTrue (sym still.honesty) is) in

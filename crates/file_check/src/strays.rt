@@ -1,0 +1,82 @@
+//! The records of a file that its system does not need.
+
+ghost use Rattle.std.specs.Prelude.{◌≡◌, ◌⊎◌, IsTrue, IfErr, OnOk};
+ghost use Rattle.std.specs.List.{All};
+ghost use Rattle.file_check.specs.Fault.{IsOfMachineToo};
+ghost use Rattle.file_check.specs.Records.{HasCheckCause, IsLivePage};
+ghost use Rattle.file_check.specs.Strays.{AreNeeded, AreNeededOn, IsFirstStray, IsNeeded, IsStrayIn};
+ghost use Rattle.file_check.specs.Words.{IsRightStructure, bucket_at, file_of};
+
+use crate::bucket::{bucket_in, read_again};
+use crate::fault::CheckFault;
+use crate::needs::needs;
+use bucket_page::{BucketView, RecordKey};
+use page_device::{PAYLOAD_BYTES, PageDevice};
+use queue_model::System;
+
+/// Tests of each record of a file whose structure is right that a system needs it. They are tested in the order of the
+/// chain, on each page from the lowest key on; the first that it does not need is answered. Nothing is written.
+pub fn test_strays<D: PageDevice>(
+    device: &mut D,
+    chain: &[u32],
+    system: &System,
+) -> Result<(), CheckFault>
+    requires { IsTrue (D.is_honest device.old) →
+        IsRightStructure (D.content device.old) chain.now }
+    ensures ok { IsTrue (D.is_honest device.old) →
+        OnOk result (AreNeeded system.now (file_of (D.content device.old)) chain.now) }
+    ensures err { IsTrue (D.is_honest device.old) → IfErr result (λ fault. IsOfMachineToo fault
+        ⊎ IsFirstStray system.now (file_of (D.content device.old)) chain.now fault) }
+    ensures same { D.content device.new ≡ D.content device.old }
+    ensures honest { D.is_honest device.new ≡ D.is_honest device.old }
+    ensures cause { HasCheckCause (D.fault_count device.old) (D.fault_count device.new) result }
+{
+    for page in chain {
+        test_strays_on(device, *page, system)?;
+    }
+    Ok(())
+}
+
+/// Tests the records on a page of the chain.
+fn test_strays_on<D: PageDevice>(
+    device: &mut D,
+    page: u32,
+    system: &System,
+) -> Result<(), CheckFault>
+    requires { IsTrue (D.is_honest device.old) → IsLivePage (D.content device.old) page }
+    ensures ok { IsTrue (D.is_honest device.old) →
+        OnOk result (AreNeededOn system.now (file_of (D.content device.old)) page) }
+    ensures err { IsTrue (D.is_honest device.old) → IfErr result (λ fault. IsOfMachineToo fault
+        ⊎ IsStrayIn system.now (bucket_at (file_of (D.content device.old)) page) page fault) }
+    ensures same { D.content device.new ≡ D.content device.old }
+    ensures honest { D.is_honest device.new ≡ D.is_honest device.old }
+    ensures cause { HasCheckCause (D.fault_count device.old) (D.fault_count device.new) result }
+{
+    let mut payload = [0; PAYLOAD_BYTES];
+    read_again(device, page, &mut payload)?;
+    test_strays_in(page, &bucket_in(&payload, page)?, system)
+}
+
+/// Tests the records of a bucket, from the lowest key on.
+fn test_strays_in(page: u32, bucket: &BucketView, system: &System) -> Result<(), CheckFault>
+    ensures ok { OnOk result (All (IsNeeded system.now) bucket.now.records) }
+    ensures err { IfErr result (IsStrayIn system.now bucket.now page) }
+{
+    for record in bucket.records() {
+        if !needs(system, &record.key) {
+            return Err(stray(page, &record.key));
+        }
+    }
+    Ok(())
+}
+
+fn stray(page: u32, key: &RecordKey) -> CheckFault
+    ensures { result ≡ CheckFault.Stray page key.now.kind key.now.queue key.now.number }
+{
+    CheckFault::Stray {
+        page,
+        kind: key.kind,
+        queue: key.queue,
+        number: key.number,
+    }
+}

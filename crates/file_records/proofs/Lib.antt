@@ -1,0 +1,3 @@
+pub mod ValueLemmas
+pub mod PageLemmas
+pub mod BucketLemmas

@@ -1,0 +1,63 @@
+-- The value at a key is the spelling of the record that stands there.
+use Rattle.std.proofs.Common.{◌≡◌, ℕ, ℤ, List, Option, Some, None, Result, Ok, sym, ap, subst, ◌∙◌}
+use Rattle.queue_records.specs.declared.bad_record.BadRecord.{BadRecord}
+use Rattle.file_records.specs.Answers.{IsRecordAt}
+use Rattle.file_records.specs.Words.{RecordKey, Holds, Linked, MessageEntry, Record, Spells, key_of, linked_of}
+
+module _ (held : RecordKey → Option (List ℕ)) (key : RecordKey) where
+  pub none_at : held key ≡ None → IsRecordAt held key None
+  none_at none r keyed = (
+    (λ e. absurd cc),
+    (λ h.
+        let found = subst (λ (k : RecordKey). held k ≡ Some h.value) keyed h.found in
+        let clash : ◌≡◌ {A = Option (List ℕ)} None (Some h.value) = sym none ∙ found in
+        absurd cc),
+  )
+
+  pub some_at : (value : List ℕ) (found : Record) → held key ≡ Some value → Spells found key value →
+      ((r : Record) → Spells r key value → found ≡ r) → IsRecordAt held key (Some found)
+  some_at value found is spelled only r keyed = (
+    (λ e.
+        let same : found ≡ r = cc in
+        record {
+          value = value;
+          found = subst (λ (k : RecordKey). held k ≡ Some value) (sym keyed) is;
+          spelled = subst (λ (k : RecordKey). Spells r k value) (sym keyed)
+              (subst (λ (x : Record). Spells x key value) same spelled);
+        }),
+    (λ h.
+        let there = subst (λ (k : RecordKey). held k ≡ Some h.value) keyed h.found in
+        let both : ◌≡◌ {A = Option (List ℕ)} (Some h.value) (Some value) = sym there ∙ is in
+        let same : h.value ≡ value = cc in
+        let so = subst (λ (k : RecordKey). Spells r k h.value) keyed h.spelled in
+        ap (λ (x : Record). Some x) (only r (subst (Spells r key) same so))),
+  )
+
+pub only_one : (key : RecordKey) (value : List ℕ) (found : Record) →
+    ((r : Record) → Spells r key value → ◌≡◌ {A = Result Record BadRecord} (Ok found) (Ok r)) → (r : Record) →
+    Spells r key value → found ≡ r
+only_one key value found only r spelled =
+    let e : ◌≡◌ {A = Result Record BadRecord} (Ok found) (Ok r) = only r spelled in
+    let same : found ≡ r = cc in
+    same
+
+-- where a record of this key stands, it is what is found
+pub found_is : (held : RecordKey → Option (List ℕ)) (key : RecordKey) (found : Option Record) (here r : Record) →
+    IsRecordAt held key found → found ≡ Some here → key_of r ≡ key → Holds held r → here ≡ r
+found_is held key found here r at is keyed h =
+    let both : ◌≡◌ {A = Option Record} (Some here) (Some r) = sym is ∙ (at r keyed).1 h in
+    let same : here ≡ r = cc in
+    same
+
+abbrev pub linked : MessageEntry → ℤ → List ℕ → Linked
+linked m mtype bytes = record {
+  message = record { serial = m.serial; sender = m.sender; mtype = mtype; bytes = bytes };
+  next = m.next;
+}
+
+-- a message is told with its bytes copied
+pub linked_is : (m other : MessageEntry) (mtype : ℤ) (bytes : List ℕ) → m ≡ other → mtype ≡ m.mtype → bytes ≡ m.body →
+    Some (linked m mtype bytes) ≡ Some (linked_of other)
+linked_is m other mtype bytes same typed copied =
+    ap (λ (t : ℤ). Some (linked m t bytes)) typed ∙ ap (λ (b : List ℕ). Some (linked m m.mtype b)) copied
+    ∙ ap (λ (e : MessageEntry). Some (linked_of e)) same

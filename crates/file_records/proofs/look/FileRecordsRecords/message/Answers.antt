@@ -1,0 +1,21 @@
+-- What is found at its key is the Message.
+use Rattle.std.proofs.Common.{◌≡◌, w64, sym, subst, ap, ◌∙◌}
+use Rattle.std.specs.Prelude.{FitsSigned}
+use Rattle.std.proofs.lemmas.Int.{to_z-of_z}
+use Rattle.queue_records.specs.declared.record.Record.TheVariants as records
+use Rattle.queue_records.specs.Keys.{key_of_message}
+use Rattle.file_records.specs.Words.{MessageEntry}
+use Rattle.file_records.proofs.ValueLemmas.{found_is, linked_is}
+use Rattle.file_records.proofs.look.FileRecordsRecords.message.Goals as goal
+
+pub returns-in_ok-from_slice-in-Some-Message-clause-ok : goal.returns-in_ok-from_slice-in-Some-Message-clause-ok
+returns-in_ok-from_slice-in-Some-Message-clause-ok g c = λ is other h its serial.
+    let same : records.Message c.in-Some-Message.message ≡ records.Message other =
+    sym c.in-Some-Message.field-0-is
+    ∙ found_is _ _ _ _ _ (c.in_ok-message.ensures.ok _ (c.in_ok-page.ensures.ok is)) c.in-Some-Message.is
+    (ap (λ id. key_of_message id other.serial) its ∙ ap (key_of_message c.args.id) serial
+    ∙ sym c.message_key-key.ensures) h in
+    let it : c.in-Some-Message.message ≡ other = cc in
+    linked_is _ other _ _ it
+    (to_z-of_z w64 _ (subst (λ (e : MessageEntry). FitsSigned w64 e.mtype) (sym it) h.spelled.fits.mtype))
+    (c.new.ensures ∙ c.in_ok-from_slice-in-Some-Message.ensures.items ∙ c.as_slice.ensures)

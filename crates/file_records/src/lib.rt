@@ -1,0 +1,10 @@
+//! The records of a file are looked up by their keys.
+
+#![tactic(auto)]
+
+mod file_records;
+mod look;
+mod page;
+mod values;
+
+pub use file_records::FileRecords;
