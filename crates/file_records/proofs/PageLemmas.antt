@@ -10,7 +10,7 @@ use Rattle.bucket_page.specs.declared.page.Malformed.{Malformed}
 use Rattle.bucket_page.specs.declared.page.PageKind.{PageKind}
 use Rattle.bucket_page.specs.declared.page.PageKind.TheVariants as kinds
 use Rattle.bucket_page.specs.Keys.{is_same}
-use Rattle.bucket_page.specs.Reading.{answer, fault_of, page_at}
+use Rattle.bucket_page.specs.Reading.{answer, fault_of, page_in}
 use Rattle.bucket_page.specs.Records.{pair}
 use Rattle.bucket_page.proofs.KeyLaws.{same_is}
 use Rattle.file_walk.specs.Files.{pages_on, said_by, said_on}
@@ -49,7 +49,7 @@ is_kind (kinds.Directory es) e = absurd cc
 is_kind (kinds.Tombstone link) e = absurd cc
 is_kind (kinds.Free link) e = absurd cc
 
-said_is : (content : List (List ℕ)) (n : ℕ) → said_on content n ≡ page_at (payload_on content n)
+said_is : (content : List (List ℕ)) (n : ℕ) → said_on content n ≡ page_in (payload_on content n)
 unfolding said_by
 said_is content n = refl
 
@@ -84,10 +84,10 @@ module _ (content : List (List ℕ)) (ns : List ℕ) (r : IsRightStructure conte
       let behind = behind_root (nat_lt n ROOT_PAGE) refl in
       let right : IsRightPage content n = r.pages.pages n (omega (arith, behind)) within in
       let sound : fault_of (payload_on content n) ≡ None = no_fault _ _ right.formed in
-      let is : slice_index_or (pages_on content) n (kinds.Free 0) ≡ page_at (payload_on content n) =
+      let is : slice_index_or (pages_on content) n (kinds.Free 0) ≡ page_in (payload_on content n) =
       pages_at content n (kinds.Free 0) behind within ∙ said_is content n in
       ap reading same
-      ∙ ap (λ (fault : Option Malformed). answer fault (page_at (payload_on content n))) sound
+      ∙ ap (λ (fault : Option Malformed). answer fault (page_in (payload_on content n))) sound
       ∙ ap (λ (page : PageKind). Ok page) (sym is ∙ is_kind _ live)
 
 -- ---- a record of a bucket
