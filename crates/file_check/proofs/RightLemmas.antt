@@ -82,7 +82,7 @@ live_ascends content n live =
 
 module _ (hash : RecordKey → ℕ) (content : List (List ℕ)) (ns : List ℕ) (r : IsRightStructure content ns)
     (right : AreRightRecords hash (file_of content) ns) where
-  placed : (n : ℕ) → Contains ns n → IsPlaced hash (bucket_at (file_of content) n)
+  pub placed : (n : ℕ) → Contains ns n → IsPlaced hash (bucket_at (file_of content) n)
   placed n on =
       let here : AreRightIn hash (file_of content) n =
       subst (AreRightIn hash (file_of content)) on.2 (right on.0 n on.1) in

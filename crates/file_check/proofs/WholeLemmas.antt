@@ -1,5 +1,5 @@
 -- The file of a system has just its records, and nothing is wrong with it.
-use Rattle.std.proofs.Common.{ℕ, ◌≡◌, List, [], Option, Some, None, ◌⊎◌, inl, inr, refl, sym, subst, ◌∙◌}
+use Rattle.std.proofs.Common.{ℕ, ◌≡◌, Bool, IsTrue, List, [], Option, Some, None, ◌⊎◌, inl, inr, refl, sym, subst, ◌∙◌}
 use Rattle.std.specs.List.{Contains}
 use Rattle.std.specs.Prelude.{slice_index, slice_index_or}
 use Rattle.std.proofs.lemmas.List.{get_or_default}
@@ -16,13 +16,19 @@ use Rattle.type_chains.specs.RecordOf.{record_of}
 use Rattle.type_chains.proofs.Images.{image_agrees}
 use Rattle.type_chains.proofs.Members.{from_flat_map, in_flat_map}
 use Rattle.file_check.specs.declared.fault.CheckFault.TheVariants as faults
-use Rattle.file_check.specs.Fault.{IsOfMachineToo}
-use Rattle.file_check.specs.Right.{IsRightFile}
+use Rattle.record_walk.specs.Fault.{IsOfMachine}
+use Rattle.record_walk.specs.declared.fault.WalkFault.{WalkFault}
+use Rattle.record_walk.specs.declared.fault.WalkFault.TheVariants as walked
+use Rattle.file_records.specs.Files.{HasRecords, Source, source}
+use Rattle.file_check.specs.Fault.{IsOfMachineToo, of_walk}
+use Rattle.file_check.specs.Ids.{HasChain}
+use Rattle.file_check.specs.Right.{IsFirstFault, IsRightFile, IsRightFileOf}
+use Rattle.file_check.specs.Records.{AreRightIn}
 use Rattle.file_check.specs.Strays.{AreNeeded, IsFirstStray, IsNeeded, IsStrayIn}
-use Rattle.file_check.specs.Whole.{HasJust, IsFileOf, IsOfNoSystem, IsToldOf, IsWrongBeside, IsWrongTogether, IsWrongWith}
-use Rattle.file_check.specs.Words.{CheckFault, Pair, Record, RecordKey, Spells, State, Store, bucket_at, chain, contents, file_of, pairs_on, records_at}
+use Rattle.file_check.specs.Whole.{HasJust, IsFileOf, IsToldOf, IsWrongBeside, IsWrongTogether, IsWrongWith}
+use Rattle.file_check.specs.Words.{CheckFault, Pair, Record, RecordKey, Spells, State, Store, bucket_at, contents, file_of, pairs_on, records_at}
 use Rattle.file_check.proofs.RecordLemmas.{stands_on}
-use Rattle.file_check.proofs.RightLemmas.{right_has_no_fault, right_sound}
+use Rattle.file_check.proofs.RightLemmas.{placed, right_has_no_fault, right_sound}
 
 -- ---- just the records of a system
 
@@ -88,12 +94,40 @@ module _ (hash : RecordKey → ℕ) (st : Store) (ns : List ℕ) (quiet : IsQuie
 
 -- ---- the file of a system
 
+module _ (hash : RecordKey → ℕ) (content : List (List ℕ)) (outline : Store) (ns : List ℕ)
+    (right : IsRightFileOf hash content outline ns) where
+  pub is_right : IsRightFile hash content ns
+  is_right = record { structure = right.structure.right; records = right.records }
+
+  pub has_records : HasRecords hash content outline
+  has_records = record {
+    chain = ns;
+    structure = right.structure;
+    placed = placed hash content ns right.structure.right right.records;
+    spelled = λ n on k d within.
+        (subst (AreRightIn hash (file_of content)) on.2 (right.records on.0 n on.1) k d within).spelled;
+  }
+
+-- records are honest where their device is
+module _ (x : Source) (content : List (List ℕ)) (honest : Bool) (count : ℕ) (is : x ≡ source content honest count) where
+  pub is_honest_too : IsTrue x.honest → IsTrue honest
+  is_honest_too h = subst (λ (y : Source). IsTrue y.honest) is h
+
+  pub is_honest_back : IsTrue honest → IsTrue x.honest
+  is_honest_back h = subst (λ (y : Source). IsTrue y.honest) (sym is) h
+
+-- what the first tests tell
+pub first_told : (hash : RecordKey → ℕ) (content : List (List ℕ)) (fault : CheckFault) →
+    IsFirstFault hash content fault → IsToldOf hash content fault
+first_told hash content fault (inl machine) = inl machine
+first_told hash content fault (inr w) = inr (inl w)
+
 module _ (hash : RecordKey → ℕ) (content : List (List ℕ)) (ns : List ℕ) (right : IsRightFile hash content ns) where
   quiet : IsQuietFile hash (file_of content) ns
   quiet = right_sound hash content ns right.structure right.records
 
-  pub is_chained : chain (file_of content) ≡ ns
-  is_chained = quiet.chained
+  pub has_chain : HasChain content ns
+  has_chain = record { structure = right.structure; chained = quiet.chained }
 
   pub is_file : (s : State) → IsSystemOf (contents (file_of content)) s → AreNeeded s (file_of content) ns →
       IsFileOf hash content s
@@ -105,9 +139,17 @@ module _ (hash : RecordKey → ℕ) (content : List (List ℕ)) (ns : List ℕ) 
     just = has_just hash (file_of content) ns quiet s system.has needed;
   }
 
-  pub no_system_told : (fault : CheckFault) → HasNoSystem (contents (file_of content)) →
-      (IsOfNoSystem hash content → IsWrongTogether hash content fault) → IsToldOf hash content fault
-  no_system_told fault none so = inr (inr (so (record { chain = ns; right = right; none = none })))
+  -- what a walk tells
+  pub walk_told : (fault : WalkFault) → IsOfMachine fault ⊎ HasNoSystem (contents (file_of content)) →
+      IsToldOf hash content (of_walk fault)
+  walk_told walked.Device w = inl tt
+  walk_told walked.NoMemory w = inl tt
+  walk_told (walked.Changed page) (inl machine) = absurd machine
+  walk_told (walked.Changed page) (inr none) = inr (inr (record { chain = ns; right = right; none = none }))
+  walk_told walked.WrongCounter (inl machine) = absurd machine
+  walk_told walked.WrongCounter (inr none) = inr (inr (record { chain = ns; right = right; none = none }))
+  walk_told (walked.WrongQueue queue) (inl machine) = absurd machine
+  walk_told (walked.WrongQueue queue) (inr none) = inr (inr (record { chain = ns; right = right; none = none }))
 
   pub stray_told : (s : State) (fault : CheckFault) → IsSystemOf (contents (file_of content)) s →
       IsOfMachineToo fault ⊎ IsFirstStray s (file_of content) ns fault → IsToldOf hash content fault
@@ -127,6 +169,7 @@ module _ (hash : RecordKey → ℕ) (content : List (List ℕ)) (s : State) (fil
       (subst (λ (t : State). IsFirstStray t (file_of content) w.chain fault) systems w.stray))
 
   not_together : (fault : CheckFault) → IsWrongTogether hash content fault → ⊥
+  not_together (faults.Unwalked page) w = w.none s file.system.has
   not_together faults.WrongCounter w = w.none s file.system.has
   not_together (faults.WrongQueue queue) w = w.none s file.system.has
   not_together (faults.Stray page kind queue number) w = not_beside (faults.Stray page kind queue number) w

@@ -17,6 +17,7 @@ number_of (faults.Structure fault) = walk.number_of fault
 number_of (faults.Changed page) = MALFORMED
 number_of (faults.Misplaced page kind queue number) = STRAY
 number_of (faults.BadRecord page kind queue number) = BAD_RECORD
+number_of (faults.Unwalked page) = NO_SYSTEM
 number_of faults.WrongCounter = NO_SYSTEM
 number_of (faults.WrongQueue queue) = NO_SYSTEM
 number_of (faults.Stray page kind queue number) = STRAY
@@ -25,7 +26,7 @@ number_of (faults.Stray page kind queue number) = STRAY
 abbrev pub of_walk : WalkFault → CheckFault
 of_walk walked.Device = faults.Structure structure.Device
 of_walk walked.NoMemory = faults.Structure structure.NoMemory
-of_walk (walked.Changed page) = faults.Changed page
+of_walk (walked.Changed page) = faults.Unwalked page
 of_walk walked.WrongCounter = faults.WrongCounter
 of_walk (walked.WrongQueue queue) = faults.WrongQueue queue
 
@@ -35,6 +36,7 @@ IsOfMachineToo (faults.Structure fault) = IsOfMachine fault
 IsOfMachineToo (faults.Changed page) = ⊥
 IsOfMachineToo (faults.Misplaced page kind queue number) = ⊥
 IsOfMachineToo (faults.BadRecord page kind queue number) = ⊥
+IsOfMachineToo (faults.Unwalked page) = ⊥
 IsOfMachineToo faults.WrongCounter = ⊥
 IsOfMachineToo (faults.WrongQueue queue) = ⊥
 IsOfMachineToo (faults.Stray page kind queue number) = ⊥

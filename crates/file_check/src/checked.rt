@@ -68,11 +68,16 @@ pub fn check<D: PageDevice, K: PseudoKey + Drop>(alloc: Global, device: D, keys:
             };
         }
     };
-    let found = match test_strays(&mut device, chain.as_slice(), &system) {
-        Ok(()) => Ok(system),
-        Err(fault) => Err(fault),
-    };
-    Checked { device, found }
+    match test_strays(&mut device, chain.as_slice(), &system) {
+        Ok(()) => Checked {
+            device,
+            found: Ok(system),
+        },
+        Err(fault) => Checked {
+            device,
+            found: Err(fault),
+        },
+    }
 }
 
 /// Tests the structure and the records of the file on a device, and takes the ids of its Queues.
@@ -116,13 +121,17 @@ fn walk<D: PageDevice, K: PseudoKey + Drop>(
     ensures cause { HasCheckCause (D.fault_count device) (D.fault_count result.device) result.found }
 {
     let mut records = FileRecords::new(device, outline, keys);
-    let found = match read_system(&mut records, alloc, ids) {
-        Ok(system) => Ok(system),
-        Err(fault) => Err(CheckFault::from(fault)),
-    };
-    Checked {
-        device: records.into_device(),
-        found,
+    let read = read_system(&mut records, alloc, ids);
+    let device = records.into_device();
+    match read {
+        Ok(system) => Checked {
+            device,
+            found: Ok(system),
+        },
+        Err(fault) => Checked {
+            device,
+            found: Err(CheckFault::from(fault)),
+        },
     }
 }
 

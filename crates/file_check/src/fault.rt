@@ -38,6 +38,11 @@ pub enum CheckFault {
         queue: u32,
         number: u64,
     },
+    /// A page reads otherwise than when it was tested, so that the records can't be walked.
+    #[error("page {page} has changed while the records were walked")]
+    Unwalked {
+        page: u32,
+    },
     /// There is no Counter, or not that of these queues.
     #[error("the counter is missing, or does not count the queues")]
     WrongCounter,
@@ -66,6 +71,7 @@ impl CheckFault {
             CheckFault::Changed { .. } => faults::MALFORMED,
             CheckFault::Misplaced { .. } => STRAY,
             CheckFault::BadRecord { .. } => faults::BAD_RECORD,
+            CheckFault::Unwalked { .. } => WalkFault::WrongCounter.number(),
             CheckFault::WrongCounter => WalkFault::WrongCounter.number(),
             CheckFault::WrongQueue { queue } => WalkFault::WrongQueue { queue }.number(),
             CheckFault::Stray { .. } => STRAY,
@@ -94,7 +100,7 @@ impl From<WalkFault> for CheckFault {
         match fault {
             WalkFault::Device => CheckFault::Structure(StructureFault::Device),
             WalkFault::NoMemory => CheckFault::Structure(StructureFault::NoMemory),
-            WalkFault::Changed { page } => CheckFault::Changed { page },
+            WalkFault::Changed { page } => CheckFault::Unwalked { page },
             WalkFault::WrongCounter => CheckFault::WrongCounter,
             WalkFault::WrongQueue { queue } => CheckFault::WrongQueue { queue },
         }

@@ -3,7 +3,7 @@
 #![tactic(auto)]
 
 mod bucket;
-mod check;
+mod checked;
 mod fault;
 mod ids;
 mod laws;
@@ -11,7 +11,7 @@ mod needs;
 mod records;
 mod strays;
 
-pub use check::check_records;
+pub use checked::{Checked, check, check_records};
 pub use fault::CheckFault;
 pub use ids::queue_ids;
 pub use laws::{
