@@ -55,14 +55,26 @@ fn main(rt: HostRuntime) -> anyhow::Result<()> {
 fn once(rt: &HostRuntime) -> anyhow::Result<()> {
     let marks = (sealing::digests(1), sealing::seals(1), sealing::unseals(1));
     println!(rt; "sealing: {marks:?}")?;
+    once_pinned(rt)?;
+    once_called(rt)?;
+    once_locked(rt)?;
+    once_stepped(rt)
+}
+
+/// Pins pages once, few.
+fn once_pinned(rt: &HostRuntime) -> anyhow::Result<()> {
     let mut pool = pinning::pool_over(rt.alloc(), 4, 2)?;
     let mark = pinning::pins(&mut pool, 0, 4, 8)?;
     println!(rt; "pinning: {mark}")?;
-    once_called(rt)?;
+    Ok(())
+}
+
+/// Grants locks once, few.
+fn once_locked(rt: &HostRuntime) -> anyhow::Result<()> {
     let mut table = locking::table_of(rt.alloc(), 64, 6)?;
     let granted = locking::grants(&mut table, 64, 100);
     println!(rt; "granted: {granted}")?;
-    once_stepped(rt)
+    Ok(())
 }
 
 /// Runs calls and decisions once, small.
@@ -149,28 +161,31 @@ fn locks(rt: &HostRuntime, seats: u8) -> anyhow::Result<()> {
 
 /// Times steps on pages that are in frames.
 fn steps(rt: &HostRuntime) -> anyhow::Result<()> {
+    reads(rt)?;
+    looks(rt)?;
+    writes(rt)
+}
+
+fn reads(rt: &HostRuntime) -> anyhow::Result<()> {
     let mut pool = stepping::full_file(rt.alloc())?;
     let start = Instant::now(rt)?;
     let mark = stepping::entries(&mut pool, STEPS)?;
-    report(rt, "an entry read", (mark % 256) as u8, start, STEPS)?;
+    report(rt, "an entry read", (mark % 256) as u8, start, STEPS)
+}
+
+fn looks(rt: &HostRuntime) -> anyhow::Result<()> {
+    let mut pool = stepping::full_file(rt.alloc())?;
     let start = Instant::now(rt)?;
-    let mark = stepping::looks(&mut pool, STEPS)?;
-    report(
-        rt,
-        "a look in a full bucket",
-        (mark % 256) as u8,
-        start,
-        STEPS,
-    )?;
+    let mark = (stepping::looks(&mut pool, STEPS)? % 256) as u8;
+    report(rt, "a look in a full bucket", mark, start, STEPS)
+}
+
+fn writes(rt: &HostRuntime) -> anyhow::Result<()> {
+    let mut pool = stepping::full_file(rt.alloc())?;
     let start = Instant::now(rt)?;
     stepping::writes(&mut pool, STEPS)?;
-    report(
-        rt,
-        "a record of 64 bytes replaced in a full bucket",
-        0,
-        start,
-        STEPS,
-    )
+    let name = "a record of 64 bytes replaced in a full bucket";
+    report(rt, name, 0, start, STEPS)
 }
 
 /// Times digests, and pages sealed and unsealed.

@@ -14,9 +14,7 @@ pub fn pool_over(alloc: Global, pages: u32, frames: usize) -> Result<Pool<MemDev
 {
     let mut device = MemDevice::new(alloc);
     for page in 0..pages {
-        device
-            .extend(&seal(page, FilePage::blank().payload()))
-            .map_err(PoolFault::Device)?;
+        device.extend(&seal(page, FilePage::blank().payload()))?;
     }
     match Pool::open(alloc, device, frames) {
         Ok(pool) => Ok(pool),
@@ -46,10 +44,7 @@ fn pin_once(pool: &mut Pool<MemDevice>, page: u32) -> Result<u8, PoolFault>
     requires { IsAtRest pool.old }
     ensures { IsAtRest pool.new }
 {
-    let frame = match pool.pin(page) {
-        Ok(frame) => frame,
-        Err(fault) => return Err(fault),
-    };
+    let frame = pool.pin(page)?;
     let first = pool.image(&frame).payload()[0];
     pool.unpin(frame);
     Ok(first)
