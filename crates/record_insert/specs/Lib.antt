@@ -1,0 +1,3 @@
+pub mod Words
+pub mod SecondTries
+pub mod SecondSteps
