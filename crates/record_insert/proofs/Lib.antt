@@ -1,0 +1,11 @@
+pub mod MoveLemmas
+pub mod HomeLemmas
+pub mod CallerLemmas
+pub mod LookLemmas
+pub mod HopLemmas
+pub mod WriteLemmas
+pub mod ApproachLemmas
+pub mod OrderLemmas
+pub mod SplitLemmas
+pub mod ReleaseLemmas
+pub mod InsertLemmas

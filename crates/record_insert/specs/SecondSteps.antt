@@ -1,0 +1,68 @@
+-- What a step of the second try of an Insert does. docs/STEPS.md, "Insert, Replace, Delete".
+use Rattle.std.specs.Prelude.{ℕ, ◌≡◌, ◌↔◌, ◌<◌, Bool, true, false, not, List, Option, Some, None, IsSome, ⊤}
+use Rattle.step_rules.specs.declared.kind.Kind.TheVariants as kinds
+use Rattle.record_insert.specs.Words.{RecordKey, Pair, pair, PoolState, Table, Lock, Change, Progress, Moved, Fault, Ended, World, is_fault, HasNoFileLock, row_of, store_of, OnlyWrites, HasNoRoom, Tells, Owns, FaultIsDevices, FollowsRow, world, Sees, Step, Tried, IsPut, IsThere, IsFull, SecondPlace, Approaching}
+use Rattle.record_insert.specs.SecondTries.{SecondTryView, second_locks, second_facts, second_turn, second_left, tried_at, said_at}
+
+abbrev pub is_on_way : SecondPlace → Bool
+is_on_way (Approaching a) = true
+is_on_way place = false
+
+-- what it is about stays, and it has ended where it gave all locks back. After a fault it is where it was, but on its
+-- way to the bucket may be so anywhere there
+pub record KeepsSecondTry {F : Type 0} (did : Progress F) (old new : SecondTryView) : Type 0 where
+  pub key : new.key ≡ old.key
+  pub pseudokey : new.pseudokey ≡ old.pseudokey
+  pub bytes : new.bytes ≡ old.bytes
+  pub ended : (did ≡ Ended) ↔ IsSome (tried_at old.place)
+  pub stays : is_fault did ≡ true → is_on_way old.place ≡ false → new.place ≡ old.place
+
+-- a move leaves fewer steps, and a fault is the device's and changes no page
+abbrev pub NearsOrSpares : {F : Type 0} → Progress F → (left left' : ℕ) → PoolState → PoolState → Type 0
+NearsOrSpares (Moved kind) left left' pool pool' = left' < left
+NearsOrSpares (Fault fault) left left' pool pool' = FaultIsDevices pool pool'
+NearsOrSpares did left left' pool pool' = ⊤
+
+-- the key was seen, by a Look at a page that answers for it
+pub record IsSeenThere {F : Type 0} (hash : RecordKey → ℕ) (seat : ℕ) (did : Progress F) (key : RecordKey) (w : World)
+    : Type 0 where
+  pub looked : did ≡ Moved kinds.Look
+  pub page : ℕ
+  pub bytes : ℕ
+  pub tells : Tells hash seat page key (Some bytes) w
+
+-- what it has come to stays so. It comes to it by a Look that sees the key, or by the WriteRecord, or by a step behind
+-- which the record has no room
+abbrev pub SaysAt : {F : Type 0} → (RecordKey → ℕ) → ℕ → Progress F → Pair → (before after : Option Tried) →
+    (old new : World) → Type 0
+SaysAt hash seat did p (Some tried) after old new = after ≡ Some tried
+SaysAt hash seat did p None None old new = ⊤
+SaysAt hash seat did p None (Some IsThere) old new = IsSeenThere hash seat did p.key old
+SaysAt hash seat did p None (Some IsPut) old new = did ≡ Moved kinds.WriteRecord
+SaysAt hash seat did p None (Some IsFull) old new = HasNoRoom hash p new
+
+-- one step of a second try at the pseudokeys that this function gives
+pub record MakesStep {F : Type 0} (hash : RecordKey → ℕ) (seat : ℕ) (value : List ℕ) (did : Progress F)
+    (old new : SecondTryView) (pool pool' : PoolState) (locks locks' : Table) : Type 0 where
+  -- whatever the device gives
+  pub writes : OnlyWrites (not (is_fault did)) pool pool'
+  pub aim : KeepsSecondTry did old new
+  pub row : FollowsRow seat (second_locks old) (second_locks new) locks locks'
+  -- on an honest device, in a sound world
+  pub progress : (change : Change) → hash old.key ≡ old.pseudokey →
+      Sees hash seat (second_facts old) pool locks change →
+      NearsOrSpares did (second_left old (store_of pool.images)) (second_left new (store_of pool'.images)) pool pool'
+  pub step : (change : Change) (before : List Lock) → HasNoFileLock before → Owns before old.key →
+      row_of locks seat ≡ second_locks old before → hash old.key ≡ old.pseudokey →
+      Sees hash seat (second_facts old) pool locks change → is_fault did ≡ false →
+      Step hash seat (second_turn old value) did (second_facts new) pool pool' locks locks' change
+  pub answer : (change : Change) → hash old.key ≡ old.pseudokey →
+      Sees hash seat (second_facts old) pool locks change → is_fault did ≡ false →
+      SaysAt hash seat did (pair old.key value) (said_at old.place) (said_at new.place)
+      (world pool.images locks change) (world pool'.images locks' change)
+
+-- whatever seat makes it, where it leaves the locks
+abbrev pub MakesStepHere : {F : Type 0} → List ℕ → Progress F → (old new : SecondTryView) → (pool pool' : PoolState) →
+    Type 0
+MakesStepHere value did old new pool pool' = (hash : RecordKey → ℕ) (seat : ℕ) (locks : Table) →
+    MakesStep hash seat value did old new pool pool' locks locks

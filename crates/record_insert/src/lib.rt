@@ -1,0 +1,13 @@
+//! Inserts in a file of records that other seats use, step by step: a bucket that has no room for the record is split.
+
+#![tactic(auto)]
+
+mod insert;
+mod laws;
+mod second_place;
+mod second_try;
+
+pub use insert::{Insert, InsertStage};
+pub use laws::{a_second_try_keeps_what_its_caller_knows, an_insert_keeps_what_its_caller_knows};
+pub use second_place::SecondPlace;
+pub use second_try::SecondTry;
