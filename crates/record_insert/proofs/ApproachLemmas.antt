@@ -10,7 +10,7 @@ use Rattle.stale_search.specs.declared.place.ApproachPlace.{ApproachPlace}
 use Rattle.stale_search.specs.declared.place.ApproachPlace.TheVariants.{GrantDirectory, ReadDepth, ReadEntry, GrantPage, At}
 use Rattle.bucket_merge.proofs.MoveLemmas.{read_only}
 use Rattle.bucket_merge.proofs.RowLemmas.{page_held}
-use Rattle.record_insert.specs.Words.{RecordKey, pair, Put, PoolState, Table, IsSeat, Lock, Selective, Page, kind_of, row_of, held, with_row, store_of, OnlyReads, Progress, Moved, Blocked, Fault, Ended, World, AllKnown, is_fault, HasNoFileLock, world, ApproachView, approach_locks, approach_facts, approach_left, reached_at, FollowsRow, SecondPlace, Approaching, Look}
+use Rattle.record_insert.specs.Words.{RecordKey, pair, Put, PoolState, Table, IsSeat, Lock, Selective, Page, kind_of, row_of, held, with_row, store_of, OnlyReads, Progress, Moved, Blocked, Fault, Ended, World, AllKnown, is_fault, HasNoFileLock, Stays, world, ApproachView, approach_locks, approach_facts, approach_left, reached_at, FollowsRow, SecondPlace, Approaching, Look}
 use Rattle.record_insert.specs.SecondTries.{IsOnWayTo, splits_left, left_at, on_one}
 use Rattle.record_insert.specs.SecondSteps.{KeepsSecondTry, NearsOrSpares}
 use Rattle.record_insert.proofs.HomeLemmas.{look_is_less, near_bucket}
@@ -40,6 +40,14 @@ not_reached (ReadEntry depth) other = refl
 not_reached (GrantPage depth page) other = refl
 not_reached (At depth page) other = absurd (other depth page refl)
 
+-- where an approach did not move it is what it was, and so is what is the same while it is
+stays_by : {T : Type 0} (did : Progress FileFault) (a a' : ApproachView) (old new : T) → Stays did a a' →
+    (a' ≡ a → new ≡ old) → Stays did old new
+stays_by (Moved kind) a a' old new still same = tt
+stays_by (Blocked other) a a' old new still same = same still
+stays_by (Fault fault) a a' old new still same = same still
+stays_by Ended a a' old new still same = same still
+
 module _ (hash : RecordKey → ℕ) (seat : ℕ) (key : RecordKey) (k bytes : ℕ) (value : List ℕ) (pool pool' : PoolState)
     (locks locks' : Table) (a a' : ApproachView) (did : Progress FileFault) (way : IsOnWayTo k a)
     (reads : OnlyReads (not (is_fault did)) pool pool') (goal : KeepsGoal did a a')
@@ -47,9 +55,10 @@ module _ (hash : RecordKey → ℕ) (seat : ℕ) (key : RecordKey) (k bytes : �
     (nears : Advances seat (approach_facts a) did (approach_left a) (approach_left a') pool pool' locks)
     (step : MakesApproachStep seat (approach_locks a) (approach_facts a) (approach_facts a') (approach_turn a) did pool
     pool' locks locks') where
-  aim : (place : SecondPlace) → KeepsSecondTry did (view_at hash seat key k bytes value pool locks (Approaching a))
+  aim : (place : SecondPlace) → (a' ≡ a → place ≡ Approaching a) →
+      KeepsSecondTry did (view_at hash seat key k bytes value pool locks (Approaching a))
       (view_at hash seat key k bytes value pool locks place)
-  aim place = record {
+  aim place same = record {
     key = refl;
     pseudokey = refl;
     bytes = refl;
@@ -58,14 +67,14 @@ module _ (hash : RecordKey → ℕ) (seat : ℕ) (key : RecordKey) (k bytes : �
           true≢false (sym (subst IsSome way.going some))),
       λ d. absurd cc,
     );
-    stays = λ f on. absurd cc;
+    stays = stays_by did a a' _ _ goal.stays (λ is. ap (view_at hash seat key k bytes value pool locks) (same is));
   }
 
   -- it goes on
   pub goes_on : Makes hash seat key k bytes value pool locks did (Approaching a) (Approaching a') pool' locks'
   goes_on = record {
     writes = read_only (not (is_fault did)) pool pool' reads;
-    aim = aim (Approaching a');
+    aim = aim (Approaching a') (λ same. ap Approaching same);
     row = row;
     progress = λ change keyed sees. spares did (approach_left a) (approach_left a') (splits_left 0 + 7) pool pool'
         (reads.images sees.honest) (nears hash change sees);
@@ -79,7 +88,7 @@ module _ (hash : RecordKey → ℕ) (seat : ℕ) (key : RecordKey) (k bytes : �
       Makes hash seat key k bytes value pool locks did (Approaching a) (Look depth n) pool' locks'
   arrives seated depth n is = record {
     writes = read_only (not (is_fault did)) pool pool' reads;
-    aim = aim (Look depth n);
+    aim = aim (Look depth n) (λ same. absurd (moved same));
     row = there;
     progress = λ change keyed sees. comes did (approach_left a) (approach_left a') (splits_left 0 + 7)
         (left_at (Look depth n) k (store_of pool'.images)) pool pool'
@@ -114,6 +123,12 @@ module _ (hash : RecordKey → ℕ) (seat : ℕ) (key : RecordKey) (k bytes : �
     answer = λ change keyed sees fine. tt;
   }
     where
+      -- it was on its way
+      moved : a' ≡ a → ⊥
+      moved same =
+          let both : None ≡ Some (depth, n) =
+          sym way.going ∙ sym (ap (λ (x : ApproachView). reached_at x.place) same) ∙ ap reached_at is in cc
+
       there : (before : List Lock) → HasNoFileLock before → row_of locks seat ≡ approach_locks a before →
           locks' ≡ with_row locks seat (on_one n before)
       there before bare here = row before bare here

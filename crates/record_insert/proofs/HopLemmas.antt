@@ -118,7 +118,7 @@ module _ (hash : RecordKey → ℕ) (seat : ℕ) (key : RecordKey) (k bytes : �
           pseudokey = refl;
           bytes = refl;
           ended = (λ e. absurd cc, λ d. absurd cc);
-          stays = λ f on. refl;
+          stays = refl;
         };
         row = same_row hash seat key k bytes value pool locks (Hop depth n) (Hop depth n) (λ before. refl);
         progress = λ change keyed sees. tt;

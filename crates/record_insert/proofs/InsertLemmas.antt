@@ -9,9 +9,9 @@ use Rattle.record_file.specs.FirstTries.{FirstTryView, GivesUp, KeepsFirstTry, f
 use Rattle.record_file.specs.FirstTries.{facts_in as first_facts_in, left_in as first_left_in, locks_in as first_locks_in, tried_at as found_in}
 use Rattle.record_file.specs.declared.first_try.FirstTryStage.{FirstTryStage}
 use Rattle.record_file.specs.declared.first_try.FirstTryStage.TheVariants.{Searching, Written, Ended as FirstEnded}
-use Rattle.record_file.proofs.AnswerLemmas.{nears_on}
-use Rattle.record_insert.specs.Words.{RecordKey, Pair, pair, PoolState, Table, Lock, Change, Progress, Moved, Blocked, Fault, Ended, World, Known, Turn, is_fault, HasNoFileLock, Owns, row_of, with_row, store_of, OnlyWrites, Tells, world, Sees, Step, Tried, IsPut, IsThere}
-use Rattle.record_insert.specs.SecondSteps.{IsSeenThere, MakesStep, SaysAt}
+use Rattle.stale_search.proofs.StayLemmas.{Stays-of}
+use Rattle.record_insert.specs.Words.{RecordKey, Pair, pair, PoolState, Table, Lock, Change, Progress, Moved, Blocked, Fault, Ended, World, Known, Turn, is_fault, HasNoFileLock, Owns, row_of, with_row, store_of, Stays, Tells, WritesOrSpares, world, Sees, Step, Tried, IsPut, IsThere}
+use Rattle.record_insert.specs.SecondSteps.{IsSeenThere, MakesStep, NearsOrSpares, SaysAt}
 use Rattle.record_insert.specs.SecondTries.{SecondTryView, said_at}
 use Rattle.record_insert.specs.Inserts.{InsertView, IsFirstAt, IsOver, IsSecondAt, SECOND_STEPS, is_ended, is_there}
 use Rattle.record_insert.specs.InsertSteps.{MakesInsert}
@@ -51,13 +51,29 @@ sees_key hash seat did key before after w none some (inr f) = by f.found f.is f.
     by None is tells = absurd (true≢false (sym some ∙ ap is_there is))
     by (Some bytes) is tells = record { looked = f.looked; page = f.page; bytes = bytes; tells = tells }
 
+-- further by as many, where a fault changes no page
+nears_more : (did : Progress FileFault) (left left' more : ℕ) (pool pool' : PoolState) →
+    (is_fault did ≡ true → pool'.images ≡ pool.images) → Nears did left left' pool pool' →
+    NearsOrSpares did (left + more) (left' + more) pool pool'
+nears_more (Moved kind) left left' more pool pool' same n = omega (arith, n)
+nears_more (Blocked other) left left' more pool pool' same n = tt
+nears_more (Fault fault) left left' more pool pool' same n = record { risen = n; images = same refl }
+nears_more Ended left left' more pool pool' same n = tt
+
+-- where a first try is not what it was, it moved
+stays_else : {T : Type 0} (did : Progress FileFault) (t t' : FirstTryView) (old new : T) → Stays did t t' →
+    (t' ≡ t → ⊥) → Stays did old new
+stays_else (Moved kind) t t' old new still other = tt
+stays_else (Blocked seat) t t' old new still other = absurd (other still)
+stays_else (Fault fault) t t' old new still other = absurd (other still)
+stays_else Ended t t' old new still other = absurd (other still)
+
 -- the second try begins where the first has no step left
 nears_to : (did : Progress FileFault) (left left' : ℕ) (pool pool' : PoolState) → left' ≡ 0 →
-    Nears did left left' pool pool' → Nears did (left + SECOND_STEPS) SECOND_STEPS pool pool'
-nears_to (Moved kind) left left' pool pool' none n = omega (arith, none, n)
-nears_to (Blocked other) left left' pool pool' none n = n
-nears_to (Fault fault) left left' pool pool' none n = n
-nears_to Ended left left' pool pool' none n = n
+    NearsOrSpares did (left + SECOND_STEPS) (left' + SECOND_STEPS) pool pool' →
+    NearsOrSpares did (left + SECOND_STEPS) SECOND_STEPS pool pool'
+nears_to did left left' pool pool' none near =
+    subst (λ (n : ℕ). NearsOrSpares did (left + SECOND_STEPS) (n + SECOND_STEPS) pool pool') none near
 
 module _ (hash : RecordKey → ℕ) (seat : ℕ) (key : RecordKey) (k : ℕ) (value : List ℕ) (pool pool' : PoolState)
     (locks locks' : Table) (did : Progress FileFault) where
@@ -69,7 +85,7 @@ module _ (hash : RecordKey → ℕ) (seat : ℕ) (key : RecordKey) (k : ℕ) (va
       MakesInsert hash seat value did (insert_at stage) (insert_at stage') pool pool' locks locks'
 
   module _ (t t' : FirstTryView) (said : Option Tried) (inv : IsFirstAt key k t said)
-      (writes : OnlyWrites (not (is_fault did)) pool pool') (aim : KeepsFirstTry did t t')
+      (writes : WritesOrSpares did pool pool') (aim : KeepsFirstTry did t t')
       (row : (before : List Lock) → HasNoFileLock before → row_of locks seat ≡ first_try_locks t before →
       locks' ≡ with_row locks seat (first_try_locks t' before))
       (nears : (hash : RecordKey → ℕ) (change : Change) → Sees hash seat (first_try_facts t) pool locks change →
@@ -89,16 +105,22 @@ module _ (hash : RecordKey → ℕ) (seat : ℕ) (key : RecordKey) (k : ℕ) (va
     ends : (did ≡ Ended → IsOver (First t said)) × (IsOver (First t said) → did ≡ Ended)
     ends = (λ e. is_ended_by t.stage (aim.ended.0 e), λ over. aim.ended.1 (ended_is t.stage over))
 
-    goes_on : (said' : Option Tried) → ((change : Change) → hash key ≡ k →
+    nears_on : (change : Change) → Sees hash seat (first_try_facts t) pool locks change →
+        NearsOrSpares did (first_try_left t (store_of pool.images) + SECOND_STEPS)
+        (first_try_left t' (store_of pool'.images) + SECOND_STEPS) pool pool'
+    nears_on change sees = nears_more did (first_try_left t (store_of pool.images))
+        (first_try_left t' (store_of pool'.images)) SECOND_STEPS pool pool' (λ f. writes.spares f sees.honest)
+        (nears hash change sees)
+
+    goes_on : (said' : Option Tried) → Stays did (insert_at (First t said)) (insert_at (First t' said')) → ((change : Change) → hash key ≡ k →
         Sees hash seat (first_try_facts t) pool locks change → is_fault did ≡ false →
         SaysAt hash seat did (pair key value) said said' (world pool.images locks change)
         (world pool'.images locks' change)) → Inserts (First t said) (First t' said')
-    goes_on said' says = record {
-      writes = writes;
-      aim = record { key = refl; pseudokey = refl; ended = ends; goes = tt; lent = λ lent. tt };
+    goes_on said' stays says = record {
+      writes = writes.writes;
+      aim = record { key = refl; pseudokey = refl; ended = ends; stays = stays; goes = tt; lent = λ lent. tt };
       row = row;
-      progress = λ change keyed sees. nears_on did SECOND_STEPS (first_try_left t (store_of pool.images))
-          (first_try_left t' (store_of pool'.images)) pool pool' (nears hash change sees);
+      progress = λ change keyed sees. nears_on change sees;
       step = λ change before bare owns here keyed sees fine. step hash change before bare
           (subst (Owns before) (sym inv.key_is) owns) here (keyed_first keyed) sees fine;
       answer = says;
@@ -106,19 +128,22 @@ module _ (hash : RecordKey → ℕ) (seat : ℕ) (key : RecordKey) (k : ℕ) (va
 
     -- it came to nothing, or had come to something before
     pub says_on : Inserts (First t said) (First t' said)
-    says_on = goes_on said (λ change keyed sees fine. says_same hash seat did (pair key value) said
+    says_on = goes_on said (Stays-of (λ (x : FirstTryView). insert_at (First x said)) did t t' aim.stays) (λ change keyed sees fine. says_same hash seat did (pair key value) said
         (world pool.images locks change) (world pool'.images locks' change))
 
     module _ (none : said ≡ None) where
       -- the record is put
       pub has_put : did ≡ Moved kinds.WriteRecord → Inserts (First t said) (First t' (Some IsPut))
-      has_put wrote = goes_on (Some IsPut) (λ change keyed sees fine. subst (λ (x : Option Tried).
+      has_put wrote = goes_on (Some IsPut) (subst (λ (d : Progress FileFault). Stays d (insert_at (First t said))
+          (insert_at (First t' (Some IsPut)))) (sym wrote) tt) (λ change keyed sees fine. subst (λ (x : Option Tried).
           SaysAt hash seat did (pair key value) x (Some IsPut) (world pool.images locks change)
           (world pool'.images locks' change)) (sym none) wrote)
 
       -- the key was seen
       pub has_seen : is_there (found_in t') ≡ true → Inserts (First t said) (First t' (Some IsThere))
-      has_seen there = goes_on (Some IsThere) (λ change keyed sees fine. subst (λ (x : Option Tried).
+      has_seen there = goes_on (Some IsThere) (stays_else did t t' _ _ aim.stays (λ same.
+          true≢false (sym there ∙ ap (λ (x : FirstTryView). is_there (found_in x)) same ∙ inv.unseen none)))
+          (λ change keyed sees fine. subst (λ (x : Option Tried).
           SaysAt hash seat did (pair key value) x (Some IsThere) (world pool.images locks change)
           (world pool'.images locks' change)) (sym none)
           (sees_key hash seat did key (found_in t) (found_in t') (world pool.images locks change) (inv.unseen none)
@@ -139,14 +164,22 @@ module _ (hash : RecordKey → ℕ) (seat : ℕ) (key : RecordKey) (k : ℕ) (va
       passes_on over =
           let is = (ended_is t'.stage over).1 in
           record {
-            writes = writes;
-            aim = record { key = refl; pseudokey = refl; ended = ends; goes = tt; lent = λ lent. refl };
+            writes = writes.writes;
+            aim = record {
+              key = refl;
+              pseudokey = refl;
+              ended = ends;
+              stays = stays_else did t t' _ _ aim.stays (λ same.
+                  true≢false (sym over ∙ ap (λ (x : FirstTryView). is_ended x.stage) same ∙ inv.going none));
+              goes = tt;
+              lent = λ lent. refl;
+            };
             row = λ before bare here. row before bare here
                 ∙ ap (λ (x : FirstTryStage). with_row locks seat (first_locks_in x t'.search before)) is;
             progress = λ change keyed sees. nears_to did (first_try_left t (store_of pool.images))
                 (first_try_left t' (store_of pool'.images)) pool pool'
                 (ap (λ (x : FirstTryStage). first_left_in x t'.search (store_of pool'.images)) is)
-                (nears hash change sees);
+                (nears_on change sees);
             step = λ change before bare owns here keyed sees fine.
                 subst (λ (x : FirstTryStage). Step hash seat (first_try_turn t value) did (first_facts_in x t'.search)
                 pool pool' locks locks' change) is
@@ -168,6 +201,7 @@ module _ (hash : RecordKey → ℕ) (seat : ℕ) (key : RecordKey) (k : ℕ) (va
           key = refl;
           pseudokey = refl;
           ended = made.aim.ended;
+          stays = Stays-of (λ (x : SecondTryView). insert_at (Second x)) did t t' made.aim.stays;
           goes = made.aim;
           lent = λ lent. lent ∙ sym made.aim.bytes;
         };

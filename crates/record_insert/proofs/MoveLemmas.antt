@@ -49,7 +49,7 @@ module _ (hash : RecordKey → ℕ) (seat : ℕ) (key : RecordKey) (k bytes : �
     pseudokey = refl;
     bytes = refl;
     ended = (λ e. absurd cc, λ d. absurd (not_ended place going d));
-    stays = λ f. absurd cc;
+    stays = tt;
   }
 
   -- its row stays
@@ -97,7 +97,7 @@ module _ (hash : RecordKey → ℕ) (seat : ℕ) (key : RecordKey) (k bytes : �
       pseudokey = refl;
       bytes = refl;
       ended = (λ e. absurd cc, λ d. absurd (not_ended place going d));
-      stays = λ f on. refl;
+      stays = refl;
     };
     row = same_row place place (λ before. refl);
     progress = λ change keyed sees. record { risen = risen change keyed sees; images = spares sees.honest };
@@ -177,7 +177,7 @@ module _ (hash : RecordKey → ℕ) (seat : ℕ) (key : RecordKey) (k bytes : �
       pseudokey = refl;
       bytes = refl;
       ended = (λ e. refl, λ d. refl);
-      stays = λ f on. refl;
+      stays = refl;
     };
     row = same_row (HasEnded tried) (HasEnded tried) (λ before. refl);
     progress = λ change keyed sees. tt;

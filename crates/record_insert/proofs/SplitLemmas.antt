@@ -13,7 +13,7 @@ use Rattle.step_rules.specs.Turns.{DoesTied, TurnsAt}
 use Rattle.split_merge.specs.Splits.{FullMeans, IsWanted, KeepsAim, Progresses, locks_at as split_locks_at, facts_at as split_facts_at, split_turn}
 use Rattle.split_merge.specs.declared.place.SplitPlace.{SplitPlace}
 use Rattle.split_merge.specs.declared.place.SplitPlace.TheVariants.{SetCounts, Done, Full}
-use Rattle.record_insert.specs.Words.{RecordKey, Pair, pair, PoolState, Table, Lock, Change, range_at, next_at, row_of, with_row, store_of, OnlyWrites, Progress, Moved, Blocked, Fault, Ended, World, AllKnown, is_fault, EndsRow, HasNoFileLock, world, Sees, Step, SplitView, split_locks, split_facts, split_left, has_ended, Wanted, IsFull, SecondPlace, Look, Splitting, GiveBackDirectory}
+use Rattle.record_insert.specs.Words.{RecordKey, Pair, pair, PoolState, Table, Lock, Change, range_at, next_at, row_of, with_row, store_of, OnlyWrites, Progress, Moved, Blocked, Fault, Ended, World, AllKnown, is_fault, EndsRow, HasNoFileLock, Stays, world, Sees, Step, SplitView, split_locks, split_facts, split_left, has_ended, Wanted, IsFull, SecondPlace, Look, Splitting, GiveBackDirectory}
 use Rattle.record_insert.specs.SecondTries.{IsSplitFor, splits_left, look_left, near_facts, locks_at, on_one}
 use Rattle.record_insert.specs.SecondSteps.{KeepsSecondTry, NearsOrSpares}
 use Rattle.record_insert.proofs.HomeLemmas.{look_at_depth}
@@ -29,12 +29,13 @@ nears_by (Blocked other) v v' left left' pool pool' less p = tt
 nears_by (Fault fault) v v' left left' pool pool' less p = p
 nears_by Ended v v' left left' pool pool' less p = tt
 
--- after a fault a split is where it was
-stays_at : (did : Progress FileFault) (v v' : SplitView) → KeepsAim did v v' → is_fault did ≡ true → v' ≡ v
-stays_at (Moved kind) v v' aim f = absurd cc
-stays_at (Blocked other) v v' aim f = absurd cc
-stays_at (Fault fault) v v' aim f = aim.goes
-stays_at Ended v v' aim f = absurd cc
+-- where a split did not move it is what it was, and so is what is the same while it is
+stays_by : {T : Type 0} (did : Progress FileFault) (v v' : SplitView) (old new : T) → KeepsAim did v v' →
+    (v' ≡ v → new ≡ old) → Stays did old new
+stays_by (Moved kind) v v' old new aim same = tt
+stays_by (Blocked other) v v' old new aim same = same aim.goes
+stays_by (Fault fault) v v' old new aim same = same aim.goes
+stays_by Ended v v' old new aim same = same aim.goes
 
 module _ (hash : RecordKey → ℕ) (seat : ℕ) (key : RecordKey) (k bytes : ℕ) (value : List ℕ) (pool pool' : PoolState)
     (locks locks' : Table) (n : ℕ) (v v' : SplitView) (did : Progress FileFault)
@@ -69,7 +70,7 @@ module _ (hash : RecordKey → ℕ) (seat : ℕ) (key : RecordKey) (k bytes : �
   kept_wanted : v'.wanted.pseudokey ≡ k
   kept_wanted = ap (λ (x : SplitView). x.wanted.pseudokey) aim.task ∙ ap (λ (w : Wanted). w.pseudokey) for.wanted_is
 
-  -- the aim, where it stays after a fault
+  -- the aim, where it stays with the split
   aim_to : (place : SecondPlace) → (v' ≡ v → place ≡ Splitting n v) →
       KeepsSecondTry did (view_at hash seat key k bytes value pool locks (Splitting n v))
       (view_at hash seat key k bytes value pool locks place)
@@ -78,7 +79,7 @@ module _ (hash : RecordKey → ℕ) (seat : ℕ) (key : RecordKey) (k bytes : �
     pseudokey = refl;
     bytes = refl;
     ended = (λ e. absurd (true≢false (sym (aim.ended.0 e) ∙ for.going)), λ d. absurd cc);
-    stays = λ f on. same (stays_at did v v' aim f);
+    stays = stays_by did v v' _ _ aim (λ is. ap (view_at hash seat key k bytes value pool locks) (same is));
   }
 
   -- at an end it has moved

@@ -1,7 +1,6 @@
 -- What a step of an insert does. docs/STEPS.md, "Insert, Replace, Delete".
 use Rattle.std.specs.Prelude.{ℕ, ◌≡◌, ◌↔◌, false, not, List, length, ⊤}
-use Rattle.stale_search.specs.Steps.{Nears}
-use Rattle.record_insert.specs.Words.{RecordKey, pair, PoolState, Table, Lock, Change, Progress, Ended, is_fault, HasNoFileLock, row_of, store_of, OnlyWrites, Owns, FollowsRow, world, Sees, Step}
+use Rattle.record_insert.specs.Words.{RecordKey, pair, PoolState, Table, Lock, Change, Progress, Ended, is_fault, HasNoFileLock, row_of, store_of, OnlyWrites, Owns, FollowsRow, Stays, world, Sees, Step}
 use Rattle.record_insert.specs.SecondSteps.{KeepsSecondTry, NearsOrSpares, SaysAt}
 use Rattle.record_insert.specs.Inserts.{InsertView, IsLent, IsOver, insert_facts, insert_left, insert_locks, insert_turn, said_of}
 use Rattle.record_insert.specs.declared.insert.InsertStage.{InsertStage}
@@ -13,19 +12,15 @@ GoesOn did (First t said) new = ⊤
 GoesOn did (Second t) (First t' said) = ⊥
 GoesOn did (Second t) (Second t') = KeepsSecondTry did t t'
 
--- what it is about stays, it has ended where it gave all locks back, and the value of so many bytes that was lent may
--- be lent again
+-- what it is about stays, it has ended where it gave all locks back, where it did not move it is what it was, and the
+-- value of so many bytes that was lent may be lent again
 pub record KeepsInsert {F : Type 0} (bytes : ℕ) (did : Progress F) (old new : InsertView) : Type 0 where
   pub key : new.key ≡ old.key
   pub pseudokey : new.pseudokey ≡ old.pseudokey
   pub ended : (did ≡ Ended) ↔ IsOver old.stage
+  pub stays : Stays did old new
   pub goes : GoesOn did old.stage new.stage
   pub lent : IsLent bytes old.stage → IsLent bytes new.stage
-
--- a move leaves fewer steps, and a fault is the device's; in the second try it changes no page
-abbrev pub NearsIn : {F : Type 0} → InsertStage → Progress F → (left left' : ℕ) → PoolState → PoolState → Type 0
-NearsIn (First t said) did left left' pool pool' = Nears did left left' pool pool'
-NearsIn (Second t) did left left' pool pool' = NearsOrSpares did left left' pool pool'
 
 -- one step of an insert at the pseudokeys that this function gives
 pub record MakesInsert {F : Type 0} (hash : RecordKey → ℕ) (seat : ℕ) (value : List ℕ) (did : Progress F)
@@ -37,7 +32,7 @@ pub record MakesInsert {F : Type 0} (hash : RecordKey → ℕ) (seat : ℕ) (val
   -- on an honest device, in a sound world
   pub progress : (change : Change) → hash old.key ≡ old.pseudokey →
       Sees hash seat (insert_facts old) pool locks change →
-      NearsIn old.stage did (insert_left old (store_of pool.images)) (insert_left new (store_of pool'.images)) pool pool'
+      NearsOrSpares did (insert_left old (store_of pool.images)) (insert_left new (store_of pool'.images)) pool pool'
   pub step : (change : Change) (before : List Lock) → HasNoFileLock before → Owns before old.key →
       row_of locks seat ≡ insert_locks old before → hash old.key ≡ old.pseudokey →
       Sees hash seat (insert_facts old) pool locks change → is_fault did ≡ false →

@@ -1,21 +1,16 @@
 -- What a step of the second try of an Insert does. docs/STEPS.md, "Insert, Replace, Delete".
-use Rattle.std.specs.Prelude.{ℕ, ◌≡◌, ◌↔◌, ◌<◌, Bool, true, false, not, List, Option, Some, None, IsSome, ⊤}
+use Rattle.std.specs.Prelude.{ℕ, ◌≡◌, ◌↔◌, ◌<◌, false, not, List, Option, Some, None, IsSome, ⊤}
 use Rattle.step_rules.specs.declared.kind.Kind.TheVariants as kinds
-use Rattle.record_insert.specs.Words.{RecordKey, Pair, pair, PoolState, Table, Lock, Change, Progress, Moved, Fault, Ended, World, is_fault, HasNoFileLock, row_of, store_of, OnlyWrites, HasNoRoom, Tells, Owns, FaultIsDevices, FollowsRow, world, Sees, Step, Tried, IsPut, IsThere, IsFull, SecondPlace, Approaching}
+use Rattle.record_insert.specs.Words.{RecordKey, Pair, pair, PoolState, Table, Lock, Change, Progress, Moved, Fault, Ended, World, is_fault, HasNoFileLock, row_of, store_of, OnlyWrites, HasNoRoom, Tells, Owns, FaultIsDevices, FollowsRow, Stays, world, Sees, Step, Tried, IsPut, IsThere, IsFull}
 use Rattle.record_insert.specs.SecondTries.{SecondTryView, second_locks, second_facts, second_turn, second_left, tried_at, said_at}
 
-abbrev pub is_on_way : SecondPlace → Bool
-is_on_way (Approaching a) = true
-is_on_way place = false
-
--- what it is about stays, and it has ended where it gave all locks back. After a fault it is where it was, but on its
--- way to the bucket may be so anywhere there
+-- what it is about stays, it has ended where it gave all locks back, and where it did not move it is what it was
 pub record KeepsSecondTry {F : Type 0} (did : Progress F) (old new : SecondTryView) : Type 0 where
   pub key : new.key ≡ old.key
   pub pseudokey : new.pseudokey ≡ old.pseudokey
   pub bytes : new.bytes ≡ old.bytes
   pub ended : (did ≡ Ended) ↔ IsSome (tried_at old.place)
-  pub stays : is_fault did ≡ true → is_on_way old.place ≡ false → new.place ≡ old.place
+  pub stays : Stays did old new
 
 -- a move leaves fewer steps, and a fault is the device's and changes no page
 abbrev pub NearsOrSpares : {F : Type 0} → Progress F → (left left' : ℕ) → PoolState → PoolState → Type 0

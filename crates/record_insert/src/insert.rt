@@ -4,9 +4,9 @@ ghost use Rattle.std.specs.Prelude.{◌≡◌, ℕ, List, IsSome, None, false, l
 ghost use Rattle.record_file.specs.declared.first_try.FirstTryStage.{FirstTryStage};
 ghost use Rattle.stale_search.specs.declared.place.SearchPlace.{SearchPlace};
 ghost use Rattle.record_insert.specs.Words.{RecordKey, pair, Lock, Change, Selective, IsReady, IsSeat, row_of, store_of, OnlyWrites, is_fault, EndsRow, HasNoFileLock, Owns, FollowsRow, Sees, Step, world};
-ghost use Rattle.record_insert.specs.SecondSteps.{SaysAt};
+ghost use Rattle.record_insert.specs.SecondSteps.{NearsOrSpares, SaysAt};
 ghost use Rattle.record_insert.specs.Inserts.{IsLent, IsOver, insert_facts, insert_left, insert_locks, insert_turn, is_ended, is_there, said_of};
-ghost use Rattle.record_insert.specs.InsertSteps.{KeepsInsert, MakesInsert, NearsIn};
+ghost use Rattle.record_insert.specs.InsertSteps.{KeepsInsert, MakesInsert};
 
 use crate::second_try::SecondTry;
 use bucket_page::{PseudoKey, RecordKey};
@@ -106,7 +106,7 @@ impl Insert {
         // on an honest device, in a sound world
         ensures progress { (change : Change) → K.of_key keys.now self.old.key ≡ self.old.pseudokey →
             Sees (K.of_key keys.now) seat (insert_facts self.old) pool.old locks.old change →
-            NearsIn self.old.stage result (insert_left self.old (store_of pool.old.images))
+            NearsOrSpares result (insert_left self.old (store_of pool.old.images))
             (insert_left self.new (store_of pool.new.images)) pool.old pool.new }
         ensures step { (change : Change) (before : List Lock) → HasNoFileLock before →
             Owns before self.old.key → row_of locks.old seat ≡ insert_locks self.old before →
