@@ -3,8 +3,15 @@ use Rattle.std.proofs.Common.{◌≡◌, refl, ◌∙◌, ℕ, List, ◌==◌, B
 use Rattle.queue_records.specs.declared.layout.TheConstants.{COUNTER, KEY}
 use Rattle.step_rules.specs.Words.{LockName, Key, Counter, Queue}
 use Rattle.stale_search.specs.Callers.{AddsFileLocks, IsAside}
-use Rattle.stale_search.proofs.CallerLemmas.{approach_adds_locks, in_aside, on_aside}
+use Rattle.stale_search.proofs.CallerLemmas.{approach_adds_locks, in_aside, on_aside, search_adds_locks}
 use Rattle.record_file.specs.Callers.{KeepsNames}
+use Rattle.record_file.specs.FirstTries.{locks_in as first_locks_in}
+use Rattle.record_file.specs.Words.{SearchView}
+use Rattle.record_file.specs.declared.first_try.FirstTryStage.{FirstTryStage}
+use Rattle.record_file.specs.declared.first_try.FirstTryStage.TheVariants.{Searching, Written, Ended as FirstEnded}
+use Rattle.record_insert.specs.Inserts.{InsertView, insert_locks, locks_in}
+use Rattle.record_insert.specs.declared.insert.InsertStage.{InsertStage}
+use Rattle.record_insert.specs.declared.insert.InsertStage.TheVariants.{First, Second}
 use Rattle.record_insert.specs.Words.{RecordKey, Lock, Selective, kind_of, guard_of, in_directory, SecondPlace, Approaching, Look, Hop, Write, Splitting, GiveBackPage, GiveBackDirectory, HasEnded}
 use Rattle.record_insert.specs.SecondTries.{SecondTryView, second_locks, locks_at, on_one}
 use Rattle.split_merge.specs.Splits.{locks_at as split_locks_at}
@@ -51,3 +58,22 @@ second_adds_locks t before name aside = adds name aside t.place before
 
 pub second_aside : (t : SecondTryView) → KeepsNames (second_locks t)
 second_aside t before key = adds (guard_of key) (guard_aside key) t.place before
+
+-- ---- inserts
+
+module _ (name : LockName) (aside : IsAside name) where
+  first_adds : (stage : FirstTryStage) (search : SearchView) (xs : List Lock) →
+      kind_of (first_locks_in stage search xs) name ≡ kind_of xs name
+  first_adds Searching search xs = search_adds_locks search xs name aside
+  first_adds (Written n) search xs = on_aside name aside n Selective xs
+  first_adds (FirstEnded tried) search xs = refl
+
+  stage_adds : (stage : InsertStage) (xs : List Lock) → kind_of (locks_in stage xs) name ≡ kind_of xs name
+  stage_adds (First t said) xs = first_adds t.stage t.search xs
+  stage_adds (Second t) xs = second_adds_locks t xs name aside
+
+pub insert_adds_locks : (i : InsertView) → AddsFileLocks (insert_locks i)
+insert_adds_locks i before name aside = stage_adds name aside i.stage before
+
+pub insert_aside : (i : InsertView) → KeepsNames (insert_locks i)
+insert_aside i before key = insert_adds_locks i before (guard_of key) (guard_aside key)

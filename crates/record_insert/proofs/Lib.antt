@@ -8,3 +8,4 @@ pub mod ApproachLemmas
 pub mod OrderLemmas
 pub mod SplitLemmas
 pub mod ReleaseLemmas
+pub mod InsertLemmas

@@ -1,3 +1,5 @@
 pub mod Words
 pub mod SecondTries
 pub mod SecondSteps
+pub mod Inserts
+pub mod InsertSteps

@@ -1,7 +1,8 @@
-//! The law of inserts.
+//! The laws of inserts.
 
 ghost use Rattle.record_file.specs.Callers.{KeepsNames};
 ghost use Rattle.stale_search.specs.Callers.{CallerKeeps};
+ghost use Rattle.record_insert.specs.Inserts.{InsertView, insert_locks};
 ghost use Rattle.record_insert.specs.SecondTries.{SecondTryView, second_locks};
 
 /// What the caller of a second try knows of records under its own locks stays through each step, where the file holds
@@ -9,4 +10,10 @@ ghost use Rattle.record_insert.specs.SecondTries.{SecondTryView, second_locks};
 pub fn a_second_try_keeps_what_its_caller_knows()
     ensures names { (t : SecondTryView) → KeepsNames (second_locks t) }
     ensures keeps { (t t' : SecondTryView) → CallerKeeps (second_locks t) (second_locks t') }
+{}
+
+/// So does what the caller of an insert knows.
+pub fn an_insert_keeps_what_its_caller_knows()
+    ensures names { (i : InsertView) → KeepsNames (insert_locks i) }
+    ensures keeps { (i i' : InsertView) → CallerKeeps (insert_locks i) (insert_locks i') }
 {}

@@ -2,10 +2,12 @@
 
 #![tactic(auto)]
 
+mod insert;
 mod laws;
 mod second_place;
 mod second_try;
 
-pub use laws::a_second_try_keeps_what_its_caller_knows;
+pub use insert::{Insert, InsertStage};
+pub use laws::{a_second_try_keeps_what_its_caller_knows, an_insert_keeps_what_its_caller_knows};
 pub use second_place::SecondPlace;
 pub use second_try::SecondTry;

@@ -81,6 +81,18 @@ impl SecondTry {
         }
     }
 
+    /// What it has come to, from the step on by which it did.
+    pub fn said(&self) -> Option<Tried>
+        ensures { result ≡ said_at self.now.place }
+    {
+        match &self.place {
+            SecondPlace::GiveBackPage(_, tried) => Some(*tried),
+            SecondPlace::GiveBackDirectory(tried) => Some(*tried),
+            SecondPlace::Ended(tried) => Some(*tried),
+            _ => None,
+        }
+    }
+
     /// One step. The value that is to be put is lent to it.
     pub fn step<D: PageDevice, K: PseudoKey>(
         &mut self,

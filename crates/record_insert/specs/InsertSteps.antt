@@ -1,0 +1,48 @@
+-- What a step of an insert does. docs/STEPS.md, "Insert, Replace, Delete".
+use Rattle.std.specs.Prelude.{ℕ, ◌≡◌, ◌↔◌, false, not, List, length, ⊤}
+use Rattle.stale_search.specs.Steps.{Nears}
+use Rattle.record_insert.specs.Words.{RecordKey, pair, PoolState, Table, Lock, Change, Progress, Ended, is_fault, HasNoFileLock, row_of, store_of, OnlyWrites, Owns, FollowsRow, world, Sees, Step}
+use Rattle.record_insert.specs.SecondSteps.{KeepsSecondTry, NearsOrSpares, SaysAt}
+use Rattle.record_insert.specs.Inserts.{InsertView, IsLent, IsOver, insert_facts, insert_left, insert_locks, insert_turn, said_of}
+use Rattle.record_insert.specs.declared.insert.InsertStage.{InsertStage}
+use Rattle.record_insert.specs.declared.insert.InsertStage.TheVariants.{First, Second}
+
+-- the second try is not left, and keeps what a second try keeps
+abbrev pub GoesOn : {F : Type 0} → Progress F → (old new : InsertStage) → Type 0
+GoesOn did (First t said) new = ⊤
+GoesOn did (Second t) (First t' said) = ⊥
+GoesOn did (Second t) (Second t') = KeepsSecondTry did t t'
+
+-- what it is about stays, it has ended where it gave all locks back, and the value of so many bytes that was lent may
+-- be lent again
+pub record KeepsInsert {F : Type 0} (bytes : ℕ) (did : Progress F) (old new : InsertView) : Type 0 where
+  pub key : new.key ≡ old.key
+  pub pseudokey : new.pseudokey ≡ old.pseudokey
+  pub ended : (did ≡ Ended) ↔ IsOver old.stage
+  pub goes : GoesOn did old.stage new.stage
+  pub lent : IsLent bytes old.stage → IsLent bytes new.stage
+
+-- a move leaves fewer steps, and a fault is the device's; in the second try it changes no page
+abbrev pub NearsIn : {F : Type 0} → InsertStage → Progress F → (left left' : ℕ) → PoolState → PoolState → Type 0
+NearsIn (First t said) did left left' pool pool' = Nears did left left' pool pool'
+NearsIn (Second t) did left left' pool pool' = NearsOrSpares did left left' pool pool'
+
+-- one step of an insert at the pseudokeys that this function gives
+pub record MakesInsert {F : Type 0} (hash : RecordKey → ℕ) (seat : ℕ) (value : List ℕ) (did : Progress F)
+    (old new : InsertView) (pool pool' : PoolState) (locks locks' : Table) : Type 0 where
+  -- whatever the device gives
+  pub writes : OnlyWrites (not (is_fault did)) pool pool'
+  pub aim : KeepsInsert (length value) did old new
+  pub row : FollowsRow seat (insert_locks old) (insert_locks new) locks locks'
+  -- on an honest device, in a sound world
+  pub progress : (change : Change) → hash old.key ≡ old.pseudokey →
+      Sees hash seat (insert_facts old) pool locks change →
+      NearsIn old.stage did (insert_left old (store_of pool.images)) (insert_left new (store_of pool'.images)) pool pool'
+  pub step : (change : Change) (before : List Lock) → HasNoFileLock before → Owns before old.key →
+      row_of locks seat ≡ insert_locks old before → hash old.key ≡ old.pseudokey →
+      Sees hash seat (insert_facts old) pool locks change → is_fault did ≡ false →
+      Step hash seat (insert_turn old value) did (insert_facts new) pool pool' locks locks' change
+  pub answer : (change : Change) → hash old.key ≡ old.pseudokey →
+      Sees hash seat (insert_facts old) pool locks change → is_fault did ≡ false →
+      SaysAt hash seat did (pair old.key value) (said_of old.stage) (said_of new.stage)
+      (world pool.images locks change) (world pool'.images locks' change)
