@@ -1,16 +1,16 @@
 -- An insert in its first try, which passes on to the second, and in its second one.
-use Rattle.std.proofs.Common.{◌≡◌, refl, sym, ap, ◌∙◌, subst, ℕ, ◌+◌, ◌<◌, Bool, true, false, not, List, [], Option, Some, None, is_some, IsSome, length, arith, inl, inr}
+use Rattle.std.proofs.Common.{◌≡◌, refl, sym, ap, ◌∙◌, subst, ℕ, ◌+◌, true, false, List, Option, Some, None, is_some, length, arith, inl, inr}
 use Rattle.std.proofs.lemmas.Bool.{true≢false}
 use Rattle.file_pages.specs.declared.fault.FileFault.{FileFault}
 use Rattle.step_rules.specs.declared.kind.Kind.TheVariants as kinds
 use Rattle.stale_search.specs.Steps.{Nears}
-use Rattle.record_file.specs.Machines.{FindsAt, IsFoundAtLook}
+use Rattle.record_file.specs.Machines.{FindsAt}
 use Rattle.record_file.specs.FirstTries.{FirstTryView, GivesUp, KeepsFirstTry, first_try_facts, first_try_left, first_try_locks, first_try_turn}
 use Rattle.record_file.specs.FirstTries.{facts_in as first_facts_in, left_in as first_left_in, locks_in as first_locks_in, tried_at as found_in}
 use Rattle.record_file.specs.declared.first_try.FirstTryStage.{FirstTryStage}
 use Rattle.record_file.specs.declared.first_try.FirstTryStage.TheVariants.{Searching, Written, Ended as FirstEnded}
 use Rattle.stale_search.proofs.StayLemmas.{Stays-of}
-use Rattle.record_insert.specs.Words.{RecordKey, Pair, pair, PoolState, Table, Lock, Change, Progress, Moved, Blocked, Fault, Ended, World, Known, Turn, is_fault, HasNoFileLock, Owns, row_of, with_row, store_of, Stays, Tells, WritesOrSpares, world, Sees, Step, Tried, IsPut, IsThere}
+use Rattle.record_insert.specs.Words.{RecordKey, Pair, pair, PoolState, Table, Lock, Change, Progress, Moved, Blocked, Fault, Ended, World, is_fault, HasNoFileLock, Owns, row_of, with_row, store_of, Stays, Tells, WritesOrSpares, world, Sees, Step, Tried, IsPut, IsThere}
 use Rattle.record_insert.specs.SecondSteps.{IsSeenThere, MakesStep, NearsOrSpares, SaysAt}
 use Rattle.record_insert.specs.SecondTries.{SecondTryView, said_at}
 use Rattle.record_insert.specs.Inserts.{InsertView, IsFirstAt, IsOver, IsSecondAt, SECOND_STEPS, is_ended, is_there}
