@@ -3,4 +3,6 @@
 #![tactic(auto)]
 
 #[cfg(test)]
+mod systems;
+#[cfg(test)]
 mod tests;

@@ -12,14 +12,14 @@ use std::process::Abort;
 use std::test::Fail;
 
 /// Pages of the file.
-const PAGES: u32 = 288;
+pub(crate) const PAGES: u32 = 288;
 
 /// A byte that is changed: its page, its place in the payload, and what it becomes.
 #[derive(Clone, Copy, Debug)]
-struct Edit(u32, usize, u8);
+pub(crate) struct Edit(pub u32, pub usize, pub u8);
 
 /// No change.
-const NONE: Edit = Edit(PAGES, 0, 0);
+pub(crate) const NONE: Edit = Edit(PAGES, 0, 0);
 
 /// The header: depth 1, two buckets of local depth 1, and the free pages from 259 on.
 fn header() -> Header
@@ -47,7 +47,7 @@ fn entries(page: u32) -> [u32; PAGE_ENTRIES] {
 }
 
 /// The payload of a page of the file.
-fn payload_of(page: u32) -> Payload {
+pub(crate) fn payload_of(page: u32) -> Payload {
     let mut payload = [0; PAYLOAD_BYTES];
     match page {
         0 => write_header(&header(), &mut payload),
@@ -73,7 +73,7 @@ fn page_with(rt: &impl Abort, page: u32, edits: &[Edit]) -> Page {
 }
 
 /// A device with so many pages of the file.
-fn device(rt: &impl Abort, alloc: Global, pages: u32) -> Result<MemDevice, Fail> {
+pub(crate) fn device(rt: &impl Abort, alloc: Global, pages: u32) -> Result<MemDevice, Fail> {
     let mut device = MemDevice::new(alloc);
     for page in 0..pages {
         device.extend(&page_with(rt, page, &[]))?;

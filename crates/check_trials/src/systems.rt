@@ -1,0 +1,327 @@
+//! The file of two queues after a fourth Send, made record by record, and each change of it alone, sealed again.
+
+ghost use Rattle.std.specs.Prelude.{◌≡◌};
+ghost use Rattle.bucket_page.specs.Changes.{IsBucketPage};
+ghost use Rattle.bucket_page.specs.Reading.{bucket_at};
+
+use crate::tests::{Edit, NONE, PAGES, payload_of};
+use bucket_page::{BucketView, NumberKey, PageKind, RecordKey, put, read_page, remove};
+use file_check::{CheckFault, Checked, check};
+use file_walk::StructureFault;
+use page_device::{MemDevice, PAYLOAD_BYTES, PageDevice, Payload, seal};
+use queue_model::System;
+use queue_records::{Body, Counter, KeyEntry, MessageEntry, QueueEntry, Record, TypeEntry, Value};
+use std::alloc::Global;
+use std::process::Abort;
+use std::test::Fail;
+
+/// The bytes of the long messages.
+const LONG: [u8; 1024] = [7; 1024];
+
+/// The payloads of pages 257 and 258: the records with even and with odd numbers.
+#[derive(Clone, Copy)]
+struct Buckets {
+    even: Payload,
+    odd: Payload,
+}
+
+/// The bucket of a payload that is one.
+fn bucket<'a>(rt: &impl Abort, payload: &'a Payload) -> BucketView<'a>
+    ensures page { IsBucketPage payload.now }
+    ensures value { result ≡ bucket_at payload.now }
+{
+    match read_page(payload) {
+        Ok(PageKind::Bucket(bucket)) => bucket,
+        _ => panic!(rt; "no bucket"),
+    }
+}
+
+/// Puts a value at a key, where there is none.
+fn puts(rt: &impl Abort, payload: &mut Payload, key: &RecordKey, value: &[u8]) {
+    assert!(rt; bucket(rt, payload).find(key).is_none());
+    assert!(rt; put(payload, key, value).is_ok());
+}
+
+/// Takes out the record of a key.
+fn takes(rt: &impl Abort, payload: &mut Payload, key: &RecordKey) {
+    assert!(rt; bucket(rt, payload).find(key).is_some());
+    remove(payload, key);
+}
+
+/// Puts a record into the bucket of its number.
+fn adds(rt: &impl Abort, buckets: &mut Buckets, record: &Record) {
+    let mut value = Value::new();
+    if !record.is_in_range() {
+        panic!(rt; "a record over its limits");
+    }
+    record.encode(&mut value);
+    let key = record.key();
+    if key.number % 2 == 0 {
+        puts(rt, &mut buckets.even, &key, value.as_slice());
+    } else {
+        puts(rt, &mut buckets.odd, &key, value.as_slice());
+    }
+}
+
+/// A queue of pid 1 and user 0.
+fn queue(id: u32, key: u32) -> QueueEntry {
+    QueueEntry {
+        id,
+        key: Some(key),
+        qbytes: 16_384,
+        cbytes: 4096,
+        qnum: 4,
+        lspid: 1,
+        lrpid: 0,
+        stime: 5,
+        rtime: 0,
+        ctime: 1,
+        next_serial: 5,
+        first: Some(1),
+        last: Some(4),
+        lowest: Some(1),
+        uid: 0,
+        gid: 0,
+        cuid: 0,
+        cgid: 0,
+        mode: 0o666,
+    }
+}
+
+/// A message of queue 1, which are all of one type.
+fn message(serial: u64, previous: Option<u64>, next: Option<u64>) -> MessageEntry<'static> {
+    MessageEntry {
+        id: 1,
+        serial,
+        mtype: 1,
+        sender: 1,
+        previous,
+        next,
+        next_of_type: next,
+        body: Body::new(&LONG),
+    }
+}
+
+/// Queue 1 with key 7 has four messages of type 1 and 1,024 bytes, queue 2 with key 9 one of type 2, its second.
+fn two_queues(rt: &impl Abort) -> Buckets {
+    let mut buckets = Buckets {
+        even: payload_of(257),
+        odd: payload_of(258),
+    };
+    let records = [
+        Record::Counter(Counter {
+            next_id: 3,
+            queues_alive: 2,
+        }),
+        Record::Key(KeyEntry { key: 7, id: 1 }),
+        Record::Key(KeyEntry { key: 9, id: 2 }),
+        Record::Queue(queue(1, 7)),
+        Record::Queue(QueueEntry {
+            cbytes: 1,
+            qnum: 1,
+            lrpid: 1,
+            rtime: 4,
+            next_serial: 3,
+            first: Some(2),
+            last: Some(2),
+            lowest: Some(2),
+            ..queue(2, 9)
+        }),
+        Record::Type(TypeEntry {
+            id: 1,
+            mtype: 1,
+            first: 1,
+            last: 4,
+            lower: None,
+            higher: None,
+        }),
+        Record::Type(TypeEntry {
+            id: 2,
+            mtype: 2,
+            first: 2,
+            last: 2,
+            lower: None,
+            higher: None,
+        }),
+        Record::Message(message(1, None, Some(2))),
+        Record::Message(message(2, Some(1), Some(3))),
+        Record::Message(message(3, Some(2), Some(4))),
+        Record::Message(message(4, Some(3), None)),
+        Record::Message(MessageEntry {
+            id: 2,
+            serial: 2,
+            mtype: 2,
+            sender: 1,
+            previous: None,
+            next: None,
+            next_of_type: None,
+            body: Body::new(b"b"),
+        }),
+    ];
+    for record in &records {
+        adds(rt, &mut buckets, record);
+    }
+    buckets
+}
+
+/// Writes a page of the file, changed and sealed.
+fn writes(
+    rt: &impl Abort,
+    device: &mut MemDevice,
+    buckets: &Buckets,
+    page: u32,
+    edits: &[Edit],
+) -> Result<(), Fail> {
+    let mut payload = match page {
+        257 => buckets.even,
+        258 => buckets.odd,
+        _ => payload_of(page),
+    };
+    for edit in edits {
+        if edit.0 == page {
+            assert!(rt; edit.1 < PAYLOAD_BYTES);
+            payload[edit.1] = edit.2;
+        }
+    }
+    device.write(page, &seal(page, &payload))?;
+    Ok(())
+}
+
+/// A device with the file.
+fn device(rt: &impl Abort, alloc: Global, buckets: &Buckets) -> Result<MemDevice, Fail> {
+    let mut device = crate::tests::device(rt, alloc, PAGES)?;
+    writes(rt, &mut device, buckets, 257, &[])?;
+    writes(rt, &mut device, buckets, 258, &[])?;
+    Ok(device)
+}
+
+/// What is found; a call that found no memory is made again.
+fn finds(alloc: Global, device: MemDevice) -> Checked<MemDevice> {
+    let Checked { device, found } = check(alloc, device, NumberKey);
+    if let Err(CheckFault::Structure(StructureFault::NoMemory)) = found {
+        return check(alloc, device, NumberKey);
+    }
+    Checked { device, found }
+}
+
+/// The number of what is wrong, 0 where two queues with five messages are found.
+fn number(rt: &impl Abort, found: &Result<System, CheckFault>) -> u8 {
+    match found {
+        Ok(system) => {
+            assert_eq!(rt; system.queues(), 2);
+            assert_eq!(rt; system.messages(), 5);
+            0
+        }
+        Err(fault) => fault.number(),
+    }
+}
+
+/// Each row alone is written over the file, tested, and taken back.
+fn tells(rt: &impl Abort, alloc: Global, rows: &[([Edit; 2], u8)]) -> Result<(), Fail> {
+    let buckets = two_queues(rt);
+    let mut file = device(rt, alloc, &buckets)?;
+    for (edits, want) in rows {
+        for edit in edits {
+            if edit.0 < PAGES {
+                writes(rt, &mut file, &buckets, edit.0, edits)?;
+            }
+        }
+        let Checked { device, found } = finds(alloc, file);
+        file = device;
+        assert_eq!(rt; number(rt, &found), *want, "{edits:?}");
+        for edit in edits {
+            if edit.0 < PAGES {
+                writes(rt, &mut file, &buckets, edit.0, &[])?;
+            }
+        }
+    }
+    Ok(())
+}
+
+#[test]
+fn a_changed_byte_of_a_system_has_its_number(rt: HostRuntime) -> Result<(), Fail> {
+    let rows = [
+        // nothing
+        ([NONE, NONE], 0),
+        // the next of 258 is 257; the first free page is 0; entry 1 is 257
+        ([Edit(258, 10, 1), Edit(258, 11, 1)], 70),
+        ([Edit(0, 18, 0), Edit(0, 19, 0)], 71),
+        ([Edit(1, 23, 1), NONE], 72),
+        // the qnum of queue 1 is 3; behind its message 4 stands its message 1
+        ([Edit(257, 70, 3), NONE], 73),
+        ([Edit(257, 1431, 1), NONE], 73),
+        // the first two records of 258 are exchanged; its last byte is 1
+        ([Edit(258, 30, 9), Edit(258, 49, 7)], 40),
+        ([Edit(258, 4063, 1), NONE], 40),
+    ];
+    tells(&rt, rt.alloc(), &rows)
+}
+
+/// What is told of the file with these buckets.
+fn told(rt: &impl Abort, alloc: Global, buckets: &Buckets) -> Result<u8, Fail> {
+    let file = device(rt, alloc, buckets)?;
+    let Checked { device: _, found } = finds(alloc, file);
+    Ok(number(rt, &found))
+}
+
+#[test]
+fn a_record_too_many_or_too_few_has_its_number(rt: HostRuntime) -> Result<(), Fail> {
+    let key = RecordKey {
+        kind: 2,
+        queue: 0,
+        number: 7,
+    };
+    let whole = two_queues(&rt);
+    let mut moved = whole;
+    takes(&rt, &mut moved.odd, &key);
+    puts(&rt, &mut moved.even, &key, &[0, 0, 0, 1]);
+    assert_eq!(rt; told(&rt, rt.alloc(), &moved)?, 74);
+
+    let mut typed = whole;
+    let stray = TypeEntry {
+        id: 1,
+        mtype: 4,
+        first: 1,
+        last: 4,
+        lower: None,
+        higher: None,
+    };
+    adds(&rt, &mut typed, &Record::Type(stray));
+    assert_eq!(rt; told(&rt, rt.alloc(), &typed)?, 74);
+
+    let mut unknown = whole;
+    let sixth = RecordKey {
+        kind: 6,
+        queue: 0,
+        number: 0,
+    };
+    puts(&rt, &mut unknown.even, &sixth, &[0, 0, 0, 1]);
+    assert_eq!(rt; told(&rt, rt.alloc(), &unknown)?, 43);
+
+    let mut uncounted = whole;
+    let counter = RecordKey {
+        kind: 1,
+        queue: 0,
+        number: 0,
+    };
+    takes(&rt, &mut uncounted.even, &counter);
+    assert_eq!(rt; told(&rt, rt.alloc(), &uncounted)?, 73);
+    Ok(())
+}
+
+#[test]
+fn a_file_of_a_system_is_one_page_longer_or_unsealed(rt: HostRuntime) -> Result<(), Fail> {
+    let buckets = two_queues(&rt);
+    let mut long = device(&rt, rt.alloc(), &buckets)?;
+    long.extend(&seal(PAGES, &payload_of(PAGES)))?;
+    let Checked { device: _, found } = finds(rt.alloc(), long);
+    assert_eq!(rt; number(&rt, &found), 41);
+
+    let mut unsealed = device(&rt, rt.alloc(), &buckets)?;
+    let mut page = seal(258, &buckets.odd);
+    page[2000] ^= 1;
+    unsealed.write(258, &page)?;
+    let Checked { device: _, found } = finds(rt.alloc(), unsealed);
+    assert_eq!(rt; number(&rt, &found), 21);
+    Ok(())
+}
