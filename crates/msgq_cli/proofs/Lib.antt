@@ -3,5 +3,6 @@ pub mod NumberLemmas
 pub mod CommandLemmas
 pub mod OutputLemmas
 pub mod RunLemmas
+pub mod ReportLemmas
 pub mod ScriptLemmas
 pub mod ServeLemmas

@@ -5,6 +5,7 @@ pub mod Numbers
 pub mod Options
 pub mod Outputs
 pub mod Reading
+pub mod Reports
 pub mod Runs
 pub mod Scripts
 pub mod Serves

@@ -103,16 +103,8 @@ fn pages(word: &[u8]) -> Option<u32>
 
 /// What the command line may say.
 fn command<'a>(alloc: Global) -> Result<Command<'a>, AllocError> {
-    let new = Command::new(alloc, "new")
-        .about("Makes a file of message queues")
-        .after_help(NEW_PRINTS)
-        .arg(argument(alloc, FILE).help("Where it is made; there may be nothing"))?
-        .arg(argument(alloc, PAGES).help("How many pages of 4,096 bytes it has: 258 to 65,536"))?;
-    let run = Command::new(alloc, "run")
-        .about("Runs a script on a file of message queues")
-        .after_help(RUN_PRINTS)
-        .arg(argument(alloc, FILE).help("The file"))?
-        .arg(argument(alloc, SCRIPT).help("The script, or - for that of standard input"))?;
+    let new = new_command(alloc)?;
+    let run = run_command(alloc)?;
     Command::new(alloc, "msgq")
         .version("0.1.0")
         .about("Message queues (XSI, POSIX.1-2017) kept in one file")
@@ -120,6 +112,26 @@ fn command<'a>(alloc: Global) -> Result<Command<'a>, AllocError> {
         .disable_help_subcommand(true)
         .subcommand(new)?
         .subcommand(run)
+}
+
+/// `new FILE PAGES`.
+fn new_command<'a>(alloc: Global) -> Result<Command<'a>, AllocError> {
+    let pages = argument(alloc, PAGES).help("How many pages of 4,096 bytes it has: 258 to 65,536");
+    Command::new(alloc, "new")
+        .about("Makes a file of message queues")
+        .after_help(NEW_PRINTS)
+        .arg(argument(alloc, FILE).help("Where it is made; there may be nothing"))?
+        .arg(pages)
+}
+
+/// `run FILE SCRIPT`.
+fn run_command<'a>(alloc: Global) -> Result<Command<'a>, AllocError> {
+    let script = argument(alloc, SCRIPT).help("The script, or - for that of standard input");
+    Command::new(alloc, "run")
+        .about("Runs a script on a file of message queues")
+        .after_help(RUN_PRINTS)
+        .arg(argument(alloc, FILE).help("The file"))?
+        .arg(script)
 }
 
 /// An argument that has to be given.

@@ -28,14 +28,9 @@ pub fn carry<D: PageDevice, I: Inquiry>(
         Exceed file.old.records (I.plan arguments.now inquiry.now).trials }
     ensures same { ChangesRecords file.old file.new }
 {
-    match insert_all(file, inquiry, arguments) {
-        Ok(()) => {}
-        Err(fault) => return Err(fault),
-    }
-    match write_all(file, inquiry, arguments) {
-        Ok(()) => Ok(()),
-        Err(_) => Err(CallFault::Failed),
-    }
+    insert_all(file, inquiry, arguments)?;
+    write_all(file, inquiry, arguments)?;
+    Ok(())
 }
 
 /// Inserts records on trial.
@@ -57,10 +52,7 @@ fn insert_all<D: PageDevice, I: Inquiry>(
     let Some(first) = inquiry.trial(arguments, 0) else {
         return Ok(());
     };
-    match insert(file, &first) {
-        Ok(()) => {}
-        Err(fault) => return Err(fault),
-    }
+    insert(file, &first)?;
     let Some(second) = inquiry.trial(arguments, 1) else {
         return Ok(());
     };
@@ -88,10 +80,7 @@ pub fn write_all<D: PageDevice, I: Inquiry>(
 {
     let mut from = 0;
     while let Some((slot, write)) = next_write(inquiry, arguments, from) {
-        match write_one(file, &write) {
-            Ok(()) => {}
-            Err(fault) => return Err(fault),
-        }
+        write_one(file, &write)?;
         from = slot + 1;
     }
     Ok(())

@@ -58,14 +58,12 @@ impl<D: PageDevice> OneCaller<D> {
         ensures cause { IfErr result (λ refusal. HasCauseToRefuse
             (D.fault_count device) (D.fault_count refusal.0) refusal.1) }
     {
-        match OneBucket::open(alloc, device, frames) {
-            Ok(file) => Ok(OneCaller {
-                file,
-                stopped: false,
-                failed: false,
-            }),
-            Err(refusal) => Err(refusal),
-        }
+        let file = OneBucket::open(alloc, device, frames)?;
+        Ok(OneCaller {
+            file,
+            stopped: false,
+            failed: false,
+        })
     }
 
     /// Serves a call of a caller. Where the file holds a system, the call is answered with its outcome by the rules, and

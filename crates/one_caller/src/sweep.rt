@@ -36,10 +36,7 @@ pub fn sweep<D: PageDevice>(
     let mut next = first;
     for _place in 0..MAX_MESSAGES {
         let Some(serial) = next else { return Ok(()) };
-        match sweep_one(file, id, serial) {
-            Ok(behind) => next = behind,
-            Err(fault) => return Err(fault),
-        }
+        next = sweep_one(file, id, serial)?;
     }
     match next {
         None => Ok(()),
@@ -60,16 +57,10 @@ fn sweep_one<D: PageDevice>(
         Gives result (IsSweptTo id (count + 1) s q file.new.records) }
     ensures same { ChangesRecords file.old file.new }
 {
-    let turn = match read_turn(file, id, serial) {
-        Ok(turn) => turn,
-        Err(fault) => return Err(fault),
-    };
+    let turn = read_turn(file, id, serial)?;
     for slot in 0..MAX_WRITES {
         if let Some(write) = turn.write(slot) {
-            match write_one(file, &write) {
-                Ok(()) => {}
-                Err(fault) => return Err(fault),
-            }
+            write_one(file, &write)?;
         }
     }
     Ok(turn.next())
@@ -84,12 +75,7 @@ fn read_turn<D: PageDevice>(file: &OneBucket<D>, id: u32, serial: u64) -> Result
         Gives result (λ turn. IsTurn id count q s (turn_next turn) (turn_plan turn)) }
 {
     let mut turn = Turn::new(id, serial);
-    let found = match record_at(file, &message_key(id, serial)) {
-        Ok(found) => found,
-        Err(fault) => return Err(fault),
-    };
-    match turn.take(found) {
-        Ok(()) => Ok(turn),
-        Err(fault) => Err(fault),
-    }
+    let found = record_at(file, &message_key(id, serial))?;
+    turn.take(found)?;
+    Ok(turn)
 }

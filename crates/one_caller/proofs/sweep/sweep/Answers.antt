@@ -16,7 +16,7 @@ loop-place-preserved g c =
           ∙ ap (λ (file : OneBucketState). record file { records = c.sweep_one.new.file.records }) so_far.same;
       swept_to = λ s q filed alive first has.
           let it = so_far.swept_to s q filed alive first has in
-          c.in-Ok.ensures.ok s q c.loop-place._place filed alive (sym it.next_is ∙ c.in-Some.is) it.values;
+          c.in_ok-next.ensures.ok s q c.loop-place._place filed alive (sym it.next_is ∙ c.in-Some.is) it.values;
     }
 
 pub returns-in_default-clause-ok : goal.returns-in_default-clause-ok

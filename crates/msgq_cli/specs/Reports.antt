@@ -1,0 +1,25 @@
+-- What is told of a system that a file holds. docs/SCRIPTS.md, "Runs".
+use Rattle.std.specs.Prelude.{ℕ, List, [], ◌∷◌, ◌++◌, length, codes}
+use Rattle.std.specs.List.{sum_by}
+use Rattle.std.specs.Fmt.{decimal}
+use Rattle.queue_model.specs.Rules.{info_of, messages_of}
+use Rattle.queue_model.specs.State.{State}
+use Rattle.queue_model.specs.declared.queue.Queue.{Queue}
+use Rattle.msgq_cli.specs.Answers.{info_text, line_of}
+
+-- how many queues a system has, and messages on them
+abbrev pub ok_text : State → List ℕ
+ok_text s = line_of (codes "ok" ∷ decimal (length s.queues) ∷ decimal (sum_by messages_of s.queues) ∷ [])
+
+-- the state of each queue, in order of id
+abbrev pub infos_text : List Queue → List ℕ
+infos_text [] = []
+infos_text (queue ∷ queues) = info_text (info_of queue) ++ infos_text queues
+
+-- the id of the next queue
+abbrev pub next_text : ℕ → List ℕ
+next_text id = line_of (codes "next" ∷ decimal id ∷ [])
+
+-- the state of each queue, and the next id
+abbrev pub system_text : State → List ℕ
+system_text s = infos_text s.queues ++ next_text s.next_id

@@ -1,0 +1,36 @@
+//! What is told of a system that a file holds.
+
+ghost use Rattle.msgq_cli.specs.Outputs.{Prints};
+ghost use Rattle.msgq_cli.specs.Reports.{ok_text, system_text};
+
+use crate::output::Output;
+use crate::printed_word::PrintedWord;
+use crate::reply::print_info;
+use queue_model::System;
+use std::io::Write;
+
+/// Prints how many queues a system has, and messages on them.
+pub fn print_ok<W: Write + Drop>(system: &System, output: &mut Output<W>)
+    ensures { Prints output.old output.new (ok_text system.now) }
+{
+    output.line(&[
+        PrintedWord::Text(b"ok"),
+        PrintedWord::Number(system.queues() as u64),
+        PrintedWord::Number(system.messages() as u64),
+    ]);
+}
+
+/// Prints the state of each queue of a system, in order of id, and the next id.
+pub fn print_system<W: Write + Drop>(system: &System, output: &mut Output<W>)
+    ensures { Prints output.old output.new (system_text system.now) }
+{
+    for place in 0..system.queues() {
+        if let Some(info) = system.info(place) {
+            print_info(&info, output);
+        }
+    }
+    output.line(&[
+        PrintedWord::Text(b"next"),
+        PrintedWord::Number(u64::from(system.next_id())),
+    ]);
+}
