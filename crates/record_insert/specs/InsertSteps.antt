@@ -37,7 +37,8 @@ pub record MakesInsert {F : Type 0} (hash : RecordKey → ℕ) (seat : ℕ) (val
   -- on an honest device, in a sound world
   pub progress : (change : Change) → hash old.key ≡ old.pseudokey →
       Sees hash seat (insert_facts old) pool locks change →
-      NearsIn old.stage did (insert_left old (store_of pool.images)) (insert_left new (store_of pool'.images)) pool pool'
+      NearsIn old.stage did (insert_left old (store_of pool.images)) (insert_left new (store_of pool'.images)) pool
+      pool'
   pub step : (change : Change) (before : List Lock) → HasNoFileLock before → Owns before old.key →
       row_of locks seat ≡ insert_locks old before → hash old.key ≡ old.pseudokey →
       Sees hash seat (insert_facts old) pool locks change → is_fault did ≡ false →
