@@ -4,22 +4,12 @@ use Rattle.std.proofs.lemmas.List.{length_push}
 use Rattle.std.proofs.lemmas.List.Elements.{filter-append}
 use Rattle.std.specs.List.{Contains}
 use Rattle.std.specs.Prelude.{IsTrue}
-use Rattle.directory.specs.declared.layout.TheConstants.{ROOT_PAGE}
 use Rattle.page_locks.specs.declared.row.TheConstants.{MAX_LOCKS}
-use Rattle.page_locks.specs.Table.{IsOpposed, Opposes, with_lock}
-use Rattle.page_locks.specs.Writers.{may_write}
 use Rattle.page_locks.proofs.ChangeLemmas.{without_lock-with_lock}
 use Rattle.page_locks.proofs.TableLemmas.{row_of-same}
 use Rattle.page_locks.proofs.WriterLemmas.{IsFree-unopposed}
-use Rattle.file_pages.specs.declared.fault.FileFault.{FileFault}
 use Rattle.file_pages.specs.declared.sight.Sight.TheVariants.{Covering as SeesCovering, Naming}
-use Rattle.file_pages.specs.Reads.{IsOnWay, IsSight}
-use Rattle.hash_file.specs.Store.{page_at}
 use Rattle.step_rules.specs.declared.kind.Kind.TheVariants as kinds
-use Rattle.step_rules.specs.Does.{KeepsOthers}
-use Rattle.step_rules.specs.LockSteps.{MovesOn}
-use Rattle.step_rules.specs.Structure.{IsNear}
-use Rattle.step_rules.specs.Turns.{HopsJust}
 use Rattle.step_rules.specs.Words.{chain}
 use Rattle.step_rules.proofs.BuddyLemmas.{hop_goes_elsewhere}
 use Rattle.step_rules.proofs.KindLemmas.{kind_keeps}
@@ -31,6 +21,7 @@ use Rattle.record_insert.specs.Words.{RecordKey, PoolState, HasRisen, Table, IsS
 use Rattle.record_insert.specs.SecondTries.{near_facts, locks_at, home_at, splits_left, look_left, on_one}
 use Rattle.record_insert.proofs.HomeLemmas.{home_here, home_on, look_here, next_answers, next_live, next_near}
 use Rattle.record_insert.proofs.MoveLemmas.{Makes, was, moved_aim, same_row, read, faulted}
+use Rattle.record_insert.proofs.Names.{FileFault, HopsJust, IsNear, IsOnWay, IsOpposed, IsSight, KeepsOthers, MovesOn, Opposes, ROOT_PAGE, may_write, page_at, with_lock}
 
 -- a page is given back for the next one
 hopped : (xs : List Lock) (n m : ℕ) → kind_of xs (Page n) ≡ None → m ≢ n →
@@ -177,7 +168,8 @@ module _ (hash : RecordKey → ℕ) (seat : ℕ) (key : RecordKey) (k bytes : �
                 let next = (sight sees.honest).1 in
                 let answers : Answers s m k = subst (λ (x : ℕ). Answers s x k) next
                 (next_answers hash (old change) n k sees.sound sees.known.0.1 sees.known.1.1.0.1 (other sees.honest)) in
-                let home = ap (λ (x : ℕ). splits_left (range_at s x).depth) (home_on s n k (other sees.honest) ∙ next) in
+                let home =
+                ap (λ (x : ℕ). splits_left (range_at s x).depth) (home_on s n k (other sees.honest) ∙ next) in
                 subst (λ (images : List (List ℕ)). look_left (store_of images) m k
                 < splits_left (range_at s (home_at s n k)).depth + 5) (sym (reads.images sees.honest))
                 (omega (arith, look_here s m k answers, home));

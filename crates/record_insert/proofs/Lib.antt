@@ -1,3 +1,4 @@
+pub mod Names
 pub mod MoveLemmas
 pub mod HomeLemmas
 pub mod CallerLemmas
@@ -9,3 +10,4 @@ pub mod OrderLemmas
 pub mod SplitLemmas
 pub mod ReleaseLemmas
 pub mod InsertLemmas
+pub mod FewLemmas

@@ -1,22 +1,14 @@
 -- A page is looked at, by a seat that may split it.
 use Rattle.std.proofs.Common.{◌≡◌, refl, sym, ap, ◌∙◌, subst, ℕ, ◌+◌, ◌%◌, ◌^◌, ◌<◌, ◌≤◌, true, false, List, Option, Some, None, IsSome, is_some, length, arith, inl, inr}
-use Rattle.hash_file.specs.Search.{PageLeads}
-use Rattle.page_locks.specs.Writers.{IsWriter}
 use Rattle.std.specs.Option.{option_map}
 use Rattle.std.specs.Prelude.{IsTrue}
 use Rattle.bucket_page.proofs.Steps.{length-pair}
 use Rattle.positions.specs.declared.range.Range.{Range}
 use Rattle.positions.specs.Ranges.{Covers}
-use Rattle.file_pages.specs.declared.fault.FileFault.{FileFault}
-use Rattle.file_pages.specs.declared.sight.BucketSight.{BucketSight}
 use Rattle.file_pages.specs.declared.sight.Sight.TheVariants.{Covering as SeesCovering, Naming}
-use Rattle.file_pages.specs.Reads.{IsOnWay, IsSight, IsSeen}
 use Rattle.file_pages.proofs.ReadLemmas.{risen_after, reads_on}
 use Rattle.file_pages.proofs.StoreLemmas.{layout_is}
-use Rattle.directory.specs.declared.layout.TheConstants.{ROOT_PAGE}
-use Rattle.hash_file.specs.Store.{page_at, is_bucket}
 use Rattle.step_rules.specs.declared.kind.Kind.TheVariants as kinds
-use Rattle.step_rules.specs.Turns.{DoesTied}
 use Rattle.step_rules.specs.Words.{IsBucketOf}
 use Rattle.step_rules.proofs.AnswerLemmas.{look_may_tell}
 use Rattle.step_rules.proofs.LockLemmas.{IsHeld-writer}
@@ -28,6 +20,7 @@ use Rattle.record_insert.specs.Words.{RECORD_HEAD_BYTES, ROOM_BYTES, GREATEST_DE
 use Rattle.record_insert.specs.SecondTries.{facts_at, locks_at, second_turn, splits_left}
 use Rattle.record_insert.proofs.HomeLemmas.{home_on, look_here, look_on, look_is_more}
 use Rattle.record_insert.proofs.MoveLemmas.{Makes, IfSeen, view_at, was, read, faulted}
+use Rattle.record_insert.proofs.Names.{BucketSight, DoesTied, FileFault, IsOnWay, IsSeen, IsSight, IsWriter, PageLeads, ROOT_PAGE, is_bucket, page_at}
 
 pub no_length : (found : Option ℕ) → is_some found ≡ false → found ≡ None
 no_length None none = refl

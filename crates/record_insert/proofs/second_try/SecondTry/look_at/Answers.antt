@@ -82,8 +82,8 @@ returns g c = λ value lent hash seat locks.
     let lent' = rw (← c.self.view_is) at lent in
     let v = c.self.inside in
     let none = no_length c.in-Ok-Covering.found (sym c.is_some.ensures ∙ c.if-is_some.false) in
-    rw (← c.self.view_is, is, c.new.ensures) (splits hash seat v.key v.pseudokey v.bytes value c.args.pool.now locks c.args.depth
-    c.args.page c.look.new.pool c.read_bucket.new.pool c.in-Ok-Covering.ensures.reads
+    rw (← c.self.view_is, is, c.new.ensures) (splits hash seat v.key v.pseudokey v.bytes value c.args.pool.now
+    locks c.args.depth c.args.page c.look.new.pool c.read_bucket.new.pool c.in-Ok-Covering.ensures.reads
     (λ honest. rw (c.in-Ok-Covering.field-0-is, none) at (c.in-Ok-Covering.ensures.ok honest))
     c.in-Ok.ensures.reads c.in-Ok.sight c.in-Ok.ensures.ok lent'
     (no_room_is c.in-Ok.sight.used v.bytes (sym c.has_room.ensures ∙ c.if-has_room.false))
