@@ -1,0 +1,29 @@
+//! Trials of the machines of the file from outside. They stand here, so that they are proved without those crates being
+//! proved once more.
+
+#![tactic(auto)]
+
+mod machine;
+mod putting;
+mod seat;
+mod trial;
+
+pub use machine::{Machine, Operation, Outcome};
+pub use putting::Putting;
+pub use seat::{Seat, Turn};
+pub use trial::Trial;
+
+#[cfg(test)]
+mod bytes;
+#[cfg(test)]
+mod files;
+#[cfg(test)]
+mod merges;
+#[cfg(test)]
+mod searches;
+#[cfg(test)]
+mod soundness;
+#[cfg(test)]
+mod splits;
+#[cfg(test)]
+mod three_seats;

@@ -1,0 +1,120 @@
+//! A merge over the 32 pages of a directory of depth 14, and each of its transfers failed.
+
+use crate::files::{count, empty_file, key, run};
+use crate::machine::Operation::{Delete, Insert};
+use crate::machine::Outcome::{Found, Tried};
+use crate::seat::Turn;
+use crate::soundness::{covers_once, is_in_place, pictured};
+use crate::trial::Trial;
+use bucket_page::NumberKey;
+use page_device::{DeviceFault, FaultyDevice, MemDevice, PAGE_BYTES, PageDevice};
+use record_file::Tried::IsPut;
+use std::alloc::Global;
+use std::process::Abort;
+use std::test::Fail;
+use step_rules::Kind;
+
+/// Records 5 and 7 are left of eight: 5 on page 258, 7 on page 272, behind a directory of depth 14.
+fn two_halves(rt: &impl Abort, alloc: Global) -> Result<Trial<MemDevice, NumberKey>, Fail> {
+    let mut trial = empty_file(rt, alloc, NumberKey)?;
+    for number in [0, 8192, 16384, 24576] {
+        assert_eq!(rt; run(&mut trial, Insert, number), Some(Tried(IsPut)));
+    }
+    let Some(seen) = pictured(alloc, &mut trial) else {
+        panic!(rt; "not sound");
+    };
+    assert_eq!(rt; seen.depth, 14);
+    assert_eq!(rt; seen.leaves.len(), 15);
+    assert!(rt;
+        seen.leaf(258)
+            .is_some_and(|leaf| leaf.depth == 1 && leaf.pattern == 1)
+    );
+    for number in [1, 3, 5, 7] {
+        assert_eq!(rt; run(&mut trial, Insert, number), Some(Tried(IsPut)));
+    }
+    let Some(seen) = pictured(alloc, &mut trial) else {
+        panic!(rt; "not sound");
+    };
+    assert!(rt; seen.has(258, &[1, 5]) && seen.has(272, &[3, 7]));
+    for (number, page) in [(1, 258), (3, 272)] {
+        assert_eq!(rt;
+            count(&mut trial, Delete, number, Kind::Tombstone),
+            Some((Found(page, Some(1060)), 0))
+        );
+    }
+    Ok(trial)
+}
+
+/// Page 272 is free again, and page 258 covers its records.
+fn is_merged<D: PageDevice + Drop>(alloc: Global, trial: &mut Trial<D, NumberKey>) -> bool {
+    match pictured(alloc, trial) {
+        Some(seen) => {
+            seen.leaves.len() == 15
+                && seen.depth == 14
+                && seen.has(258, &[5])
+                && seen.others() == Some(0)
+                && covers_once(&seen.leaves)
+                && is_in_place(&seen)
+        }
+        None => false,
+    }
+}
+
+#[test]
+fn a_merge_goes_through_the_directory(rt: HostRuntime) -> Result<(), Fail> {
+    let mut trial = two_halves(&rt, rt.alloc())?;
+    assert_eq!(rt;
+        count(&mut trial, Delete, 7, Kind::Retarget),
+        Some((Found(272, Some(1060)), 32))
+    );
+    assert!(rt; is_merged(rt.alloc(), &mut trial));
+    Ok(())
+}
+
+/// The same pages on another device.
+fn copy_of(alloc: Global, device: &mut MemDevice) -> Result<MemDevice, DeviceFault> {
+    let mut copy = MemDevice::new(alloc);
+    let mut page = [0; PAGE_BYTES];
+    for number in 0..device.pages() {
+        device.read(number, &mut page)?;
+        copy.extend(&page)?;
+    }
+    Ok(copy)
+}
+
+/// Deletes record 7. A step may fail, once, and is made again. None where another fault came, or it did not end.
+fn delete_once_more<D: PageDevice + Drop>(trial: &mut Trial<D, NumberKey>) -> Option<u32> {
+    let mut failed: u32 = 0;
+    let seat = trial.begin(Delete, key(7), 0)?;
+    for _ in 0..1000 {
+        match trial.step(seat, &[])? {
+            Turn::Moved(_) => {}
+            Turn::Failed(20) if failed == 0 => failed = 1,
+            Turn::Ended(Found(272, Some(1060))) => return Some(failed),
+            _ => return None,
+        }
+    }
+    None
+}
+
+#[test]
+fn each_transfer_of_a_merge_fails_in_turn(rt: HostRuntime) -> Result<(), Fail> {
+    let mut device = two_halves(&rt, rt.alloc())?.close()?;
+    let mut met: u64 = 0;
+    for nth in 1..=500 {
+        let faulty = FaultyDevice::new(copy_of(rt.alloc(), &mut device)?, nth);
+        let mut trial = Trial::open(rt.alloc(), faulty, 12, NumberKey)?;
+        let failed = delete_once_more(&mut trial);
+        assert!(rt; failed.is_some(), "transfer {nth}");
+        if failed == Some(0) {
+            assert_eq!(rt; trial.faults(), 0, "transfer {nth}");
+            break;
+        }
+        assert_eq!(rt; trial.faults(), 1, "transfer {nth}");
+        assert!(rt; is_merged(rt.alloc(), &mut trial), "transfer {nth}");
+        met = nth;
+    }
+    // the header, 32 pages of the directory, two buckets, and the free page behind them
+    assert!(rt; met >= 35 && met < 500, "{met} transfers");
+    Ok(())
+}
