@@ -1,4 +1,4 @@
--- What is told of a system that a file holds. docs/SCRIPTS.md, "Runs".
+-- What is told of a system that a file holds.
 use Rattle.std.specs.Prelude.{ℕ, List, [], ◌∷◌, ◌++◌, length, codes}
 use Rattle.std.specs.List.{sum_by}
 use Rattle.std.specs.Fmt.{decimal}

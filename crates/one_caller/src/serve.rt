@@ -36,25 +36,17 @@ pub fn serve<D: PageDevice>(
 {
     let mut room = room;
     let mut inquiry = AnyInquiry::begin(caller, call);
-    match ask(file, &mut inquiry, call, &mut room) {
-        Ok(()) => {}
-        Err(_) => return Err(CallFault::Failed),
-    }
-    match inquiry.decide(call) {
-        Ok(Decision::PutOff) => Ok(None),
-        Ok(Decision::Answers(verdict)) => match carry(file, &inquiry, call) {
-            Ok(()) => Ok(Some(verdict.answer_in(room))),
-            Err(fault) => Err(fault),
-        },
-        Ok(Decision::Sweeps(swept)) => {
-            let Ok(()) = sweep(file, swept.id, swept.first) else {
-                return Err(CallFault::Failed);
-            };
-            match write_all(file, &inquiry, call) {
-                Ok(()) => Ok(Some(Answer::Done)),
-                Err(_) => Err(CallFault::Failed),
-            }
+    ask(file, &mut inquiry, call, &mut room)?;
+    match inquiry.decide(call)? {
+        Decision::PutOff => Ok(None),
+        Decision::Answers(verdict) => {
+            carry(file, &inquiry, call)?;
+            Ok(Some(verdict.answer_in(room)))
         }
-        Err(_) => Err(CallFault::Failed),
+        Decision::Sweeps(swept) => {
+            sweep(file, swept.id, swept.first)?;
+            write_all(file, &inquiry, call)?;
+            Ok(Some(Answer::Done))
+        }
     }
 }
