@@ -2,7 +2,7 @@
 
 ghost use Rattle.std.specs.Prelude.{◌≡◌};
 ghost use Rattle.bucket_page.specs.Changes.{IsBucketPage};
-ghost use Rattle.bucket_page.specs.Reading.{bucket_at};
+ghost use Rattle.bucket_page.specs.Reading.{bucket_in};
 
 use crate::tests::{Edit, NONE, PAGES, payload_of};
 use bucket_page::{BucketView, NumberKey, PageKind, RecordKey, put, read_page, remove};
@@ -28,7 +28,7 @@ struct Buckets {
 /// The bucket of a payload that is one.
 fn bucket<'a>(rt: &impl Abort, payload: &'a Payload) -> BucketView<'a>
     ensures page { IsBucketPage payload.now }
-    ensures value { result ≡ bucket_at payload.now }
+    ensures value { result ≡ bucket_in payload.now }
 {
     match read_page(payload) {
         Ok(PageKind::Bucket(bucket)) => bucket,
