@@ -6,10 +6,12 @@ mod calling;
 mod deciding;
 mod locking;
 mod making;
+mod operating;
 mod pinning;
 mod sealing;
 mod stepping;
 
+use machine_trials::Operation;
 use page_device::MAX_PAGES;
 use std::time::Instant;
 
@@ -28,6 +30,21 @@ const GRANTS: u32 = 5_000_000;
 /// How often a step on pages in frames is made.
 const STEPS: u32 = 1_000_000;
 
+/// Records of a small file, and the depth of its directory.
+const FEW: (u32, u8) = (1_000, 5);
+
+/// Records of a large file, and the depth of its directory. There are as many for a bucket as in the small one.
+const MANY: (u32, u8) = (1_000_000, 15);
+
+/// Records that are put into a file that grows.
+const GROWN: u32 = 60_000;
+
+/// Records that are found, inserted and deleted.
+const TRIED: u32 = 6_000;
+
+/// How often each of them is.
+const TIMES: u32 = 20;
+
 fn main(rt: HostRuntime) -> anyhow::Result<()> {
     let words: Vec<String> = std::env::args(&rt)?.collect(rt.alloc())?;
     let Some(path) = words.get(1) else {
@@ -42,6 +59,10 @@ fn main(rt: HostRuntime) -> anyhow::Result<()> {
     }
     seals(&rt)?;
     steps(&rt)?;
+    splits(&rt)?;
+    for (records, depth) in [FEW, MANY] {
+        operates(&rt, records, depth)?;
+    }
     for frames in [64, MAX_PAGES] {
         pins(&rt, frames)?;
     }
@@ -97,6 +118,16 @@ fn once_stepped(rt: &HostRuntime) -> anyhow::Result<()> {
     );
     stepping::writes(&mut pool, 3)?;
     println!(rt; "steps: {marks:?}")?;
+    once_operated(rt)
+}
+
+/// Finds, inserts and deletes once, few.
+fn once_operated(rt: &HostRuntime) -> anyhow::Result<()> {
+    let mut file = operating::empty_file(rt.alloc(), 3, 8)?;
+    let standing = operating::fill(rt.alloc(), &mut file, 40)?;
+    let numbers = operating::plain_numbers(rt.alloc(), &mut file, 40, 10)?;
+    let found = operating::make(&mut file, Operation::Find, 7);
+    println!(rt; "operations: {:?}", (standing, numbers.len(), found))?;
     Ok(())
 }
 
@@ -186,6 +217,52 @@ fn writes(rt: &HostRuntime) -> anyhow::Result<()> {
     stepping::writes(&mut pool, STEPS)?;
     let name = "a record of 64 bytes replaced in a full bucket";
     report(rt, name, 0, start, STEPS)
+}
+
+/// Times inserts that split their bucket, in a file that grows from one bucket on.
+fn splits(rt: &HostRuntime) -> anyhow::Result<()> {
+    let mut file = operating::empty_file(rt.alloc(), 0, GROWN / 20)?;
+    let sum = operating::splits(rt, &mut file, GROWN)?;
+    tell(rt, "an insert that splits its bucket", sum)
+}
+
+/// Times finds, inserts and deletes of one seat in a file of so many records.
+fn operates(rt: &HostRuntime, records: u32, depth: u8) -> anyhow::Result<()> {
+    let mut file = operating::empty_file(rt.alloc(), depth, records.wrapping_div(300))?;
+    let standing = operating::fill(rt.alloc(), &mut file, records)?;
+    println!(rt; "with {standing} records:")?;
+    let finds = operating::spread_numbers(rt.alloc(), records, TRIED)?;
+    let plain = operating::plain_numbers(rt.alloc(), &mut file, records, TRIED)?;
+    let mut sums = [(0_u128, 0_u32); 3];
+    for _ in 0..TIMES {
+        add(
+            &mut sums[0],
+            operating::times(rt, &mut file, Operation::Find, &finds)?,
+        );
+        add(
+            &mut sums[1],
+            operating::times(rt, &mut file, Operation::Insert, &plain)?,
+        );
+        add(
+            &mut sums[2],
+            operating::times(rt, &mut file, Operation::Delete, &plain)?,
+        );
+    }
+    tell(rt, "a find of a standing key", sums[0])?;
+    tell(rt, "an insert in a bucket with room", sums[1])?;
+    tell(rt, "a delete that leaves no small bucket", sums[2])
+}
+
+fn add(sum: &mut (u128, u32), more: (u128, u32)) {
+    sum.0 = sum.0.saturating_add(more.0);
+    sum.1 = sum.1.saturating_add(more.1);
+}
+
+/// Prints the nanoseconds of one of so many operations.
+fn tell(rt: &HostRuntime, name: &str, sum: (u128, u32)) -> anyhow::Result<()> {
+    let nanoseconds = sum.0.checked_div(u128::from(sum.1)).unwrap_or(0);
+    println!(rt; "{name}: {nanoseconds} ns ({} of them)", sum.1)?;
+    Ok(())
 }
 
 /// Times digests, and pages sealed and unsealed.
