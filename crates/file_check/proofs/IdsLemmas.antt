@@ -74,7 +74,8 @@ stands id (p ∷ ps) some = by_test (is_same p.key (key_of_queue id)) refl (stan
         let is : p.key.queue ≡ id = grind (arith, nat_tests, same) in
         let here : id_in p ≡ p.key.queue ∷ [] = ap (λ b. if b then p.key.queue ∷ [] else []) queue in
         Contains-append_left (id_in p) (ids_in ps) id
-        (subst (λ xs. Contains xs id) (sym here) (subst (Contains (p.key.queue ∷ [])) is (contains_head p.key.queue []))))
+        (subst (λ xs. Contains xs id) (sym here)
+        (subst (Contains (p.key.queue ∷ [])) is (contains_head p.key.queue []))))
     by_test false other rest =
         Contains-append_right (id_in p) (ids_in ps) id
         (rest (λ none. some (ap (λ b. if b then Some p.value else lookup (key_of_queue id) ps) other ∙ none)))
@@ -109,8 +110,8 @@ looked_up id (p ∷ ps) on none =
 pub are_queue_ids : (s : Store) (ns all sorted ids : List ℕ) → chain s ≡ ns → all ≡ ids_in (pairs_on s ns) →
     IsPermutation all sorted → IsSorted nat_cmp sorted → ids ≡ dedup nat_eq sorted → AreQueueIds (contents s) ids
 are_queue_ids s ns all sorted ids chained are moved order once = record {
-  ascend = AllPairs-from_increasing ids (IsStrictlyIncreasing-from_sorted ids (subst (IsStrictlySortedBy nat_cmp) (sym once)
-      (IsStrictlySortedBy-dedup nat_cmp_total (λ x y. grind (arith, nat_tests)) sorted order)));
+  ascend = AllPairs-from_increasing ids (IsStrictlyIncreasing-from_sorted ids
+      (subst (IsStrictlySortedBy nat_cmp) (sym once) (IsStrictlySortedBy-dedup nat_cmp_total (λ x y. grind (arith, nat_tests)) sorted order)));
   all = λ id held. subst (λ xs. Contains xs id) (sym once)
       (Contains-dedup_nat sorted id (Contains-permutation all sorted id moved
       (subst (λ xs. Contains xs id) (sym are)

@@ -30,9 +30,10 @@ pub record IsFileOf (hash : RecordKey → ℕ) (content : List (List ℕ)) (s : 
   pub just : HasJust (contents (file_of content)) s
 
 -- structure and records are right, this is kept of the structure, and these are the ids of all Queues
-pub record IsPrepared (hash : RecordKey → ℕ) (content : List (List ℕ)) (outline : Store) (ns ids : List ℕ) : Type 0 where
-  pub right : IsRightFileOf hash content outline ns
-  pub counted : AreQueueIds (contents (file_of content)) ids
+pub record IsPrepared (hash : RecordKey → ℕ) (content : List (List ℕ)) (outline : Store) (ns ids : List ℕ) : Type 0
+  where
+    pub right : IsRightFileOf hash content outline ns
+    pub counted : AreQueueIds (contents (file_of content)) ids
 
 -- ---- the first thing that is wrong
 

@@ -43,7 +43,8 @@ pub fn check<D: PageDevice, K: PseudoKey + Drop>(alloc: Global, device: D, keys:
         IfErr result.found (IsToldOf (K.of_key keys) (D.content device)) }
     ensures same { D.content result.device ≡ D.content device }
     ensures honest { D.is_honest result.device ≡ D.is_honest device }
-    ensures cause { HasCheckCause (D.fault_count device) (D.fault_count result.device) result.found }
+    ensures cause { HasCheckCause
+        (D.fault_count device) (D.fault_count result.device) result.found }
 {
     let mut device = device;
     let prepared = match prepare(alloc, &mut device, &keys) {
@@ -118,7 +119,8 @@ fn walk<D: PageDevice, K: PseudoKey + Drop>(
         IfErr result.found (IsWalkFault (contents (file_of (D.content device)))) }
     ensures same { D.content result.device ≡ D.content device }
     ensures honest { D.is_honest result.device ≡ D.is_honest device }
-    ensures cause { HasCheckCause (D.fault_count device) (D.fault_count result.device) result.found }
+    ensures cause { HasCheckCause
+        (D.fault_count device) (D.fault_count result.device) result.found }
 {
     let mut records = FileRecords::new(device, outline, keys);
     let read = read_system(&mut records, alloc, ids);

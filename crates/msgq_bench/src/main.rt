@@ -39,11 +39,14 @@ const MANY: (u32, u8) = (1_000_000, 15);
 /// Records that are put into a file that grows.
 const GROWN: u32 = 60_000;
 
-/// Records that are found, inserted and deleted.
-const TRIED: u32 = 6_000;
+/// Records that are found.
+const FOUND: u32 = 6_000;
 
-/// How often each of them is.
-const TIMES: u32 = 20;
+/// Records that stand together beside those of the file, so few that no bucket becomes full.
+const PUT: u32 = 12;
+
+/// How often they are put and deleted again, each time others where there are some.
+const TIMES: u32 = 2_000;
 
 fn main(rt: HostRuntime) -> anyhow::Result<()> {
     let words: Vec<String> = std::env::args(&rt)?.collect(rt.alloc())?;
@@ -231,14 +234,17 @@ fn operates(rt: &HostRuntime, records: u32, depth: u8) -> anyhow::Result<()> {
     let mut file = operating::empty_file(rt.alloc(), depth, records.wrapping_div(300))?;
     let standing = operating::fill(rt.alloc(), &mut file, records)?;
     println!(rt; "with {standing} records:")?;
-    let finds = operating::spread_numbers(rt.alloc(), records, TRIED)?;
-    let plain = operating::plain_numbers(rt.alloc(), &mut file, records, TRIED)?;
+    let finds = operating::spread_numbers(rt.alloc(), records, FOUND)?;
     let mut sums = [(0_u128, 0_u32); 3];
-    for _ in 0..TIMES {
+    for _ in 0..TIMES / 100 {
         add(
             &mut sums[0],
             operating::times(rt, &mut file, Operation::Find, &finds)?,
         );
+    }
+    for time in 0..TIMES {
+        let from = records.wrapping_add(time.wrapping_mul(PUT));
+        let plain = operating::plain_numbers(rt.alloc(), &mut file, from, PUT)?;
         add(
             &mut sums[1],
             operating::times(rt, &mut file, Operation::Insert, &plain)?,

@@ -8,8 +8,8 @@ module _ {F : Type 0} (held : F → RecordKey → Option (List ℕ)) (pages : F 
   pub still_none : (old : F) → IsStill held pages honest count old old
   still_none old = record { same = refl; kept = refl; honesty = refl; later = omega arith }
 
-  pub still_more : (old now next : F) → IsStill held pages honest count old now → IsStill held pages honest count now next →
-      IsStill held pages honest count old next
+  pub still_more : (old now next : F) → IsStill held pages honest count old now →
+      IsStill held pages honest count now next → IsStill held pages honest count old next
   still_more old now next h k = record {
     same = k.same ∙ h.same;
     kept = k.kept ∙ h.kept;

@@ -1,11 +1,12 @@
 -- The first tests, then the walk, then the strays: the pages stay, so each speaks of the same file.
-use Rattle.std.proofs.Common.{IsTrue, sym, subst, ◌∙◌}
+use Rattle.std.proofs.Common.{ℕ, ◌⊎◌, IsTrue, List, sym, subst, ◌∙◌}
 use Rattle.record_walk.specs.Systems.{IsSystemOf}
 use Rattle.file_records.specs.Files.{HasRecords}
-use Rattle.file_check.specs.Strays.{AreNeeded}
+use Rattle.file_check.specs.Fault.{IsOfMachineToo}
+use Rattle.file_check.specs.Strays.{AreNeeded, IsFirstStray}
 use Rattle.file_check.specs.Whole.{IsToldOf, IsWalkFault}
 use Rattle.file_check.specs.Words.{IsRightStructure, contents, file_of}
-use Rattle.file_check.proofs.WholeLemmas.{first_told, has_records, is_file, is_right, walk_told}
+use Rattle.file_check.proofs.WholeLemmas.{first_told, has_records, is_file, is_right, stray_told, walk_told}
 use Rattle.file_check.proofs.checked.check.Goals as goal
 
 pub returns-in-Err-clause-err : goal.returns-in-Err-clause-err
@@ -48,3 +49,19 @@ returns-in-Ok-test_strays-clause-ok g c = λ is.
     (subst (λ pages. IsSystemOf (contents (file_of pages)) system) prepared.same stands)
     (subst (AreNeeded system (file_of (g.D.PageDevice.content c.args.device))) c.as_slice-2.ensures.value
     (subst (λ pages. AreNeeded system (file_of pages) c.as_slice-2.result.now) (walked.same ∙ prepared.same) needed))
+
+pub returns-clause-err : goal.returns-clause-err
+returns-clause-err g c = λ is.
+    let prepared = c.in-Ok.ensures in
+    let walked = c.walk-walked.ensures in
+    let system = c.in-Ok-found.system in
+    let fault = c.in-Err-test_strays.fault in
+    let read = subst IsTrue (sym prepared.honest) is in
+    let stands = rw c.in-Ok-found.is at (walked.ok read) in
+    let stray = c.in-Err-test_strays.ensures.err (subst IsTrue (sym walked.honest) read) in
+    stray_told _ _ _ (is_right _ _ _ _ (prepared.ok is).right) system fault
+    (subst (λ pages. IsSystemOf (contents (file_of pages)) system) prepared.same stands)
+    (subst (λ (ns : List ℕ). IsOfMachineToo fault
+    ⊎ IsFirstStray system (file_of (g.D.PageDevice.content c.args.device)) ns fault) c.as_slice-2.ensures.value
+    (subst (λ pages. IsOfMachineToo fault ⊎ IsFirstStray system (file_of pages) c.as_slice-2.result.now fault)
+    (walked.same ∙ prepared.same) stray))

@@ -6,4 +6,5 @@ use Rattle.queue_model.specs.Rules.{has_key}
 use Rattle.file_check.proofs.needs.has_key.Given as goal
 
 abbrev pub invariant-loop-place : goal.invariant-loop-place
-invariant-loop-place l = (k : ℕ) (d : Queue) → k < l.place → has_key l.number (slice_index_or l.system.queues k d) ≡ false
+invariant-loop-place l = (k : ℕ) (d : Queue) → k < l.place →
+    has_key l.number (slice_index_or l.system.queues k d) ≡ false

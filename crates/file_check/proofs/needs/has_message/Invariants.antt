@@ -6,4 +6,5 @@ use Rattle.type_chains.specs.RecordOf.{has_serial}
 use Rattle.file_check.proofs.needs.has_message.Given as goal
 
 abbrev pub invariant-loop-place : goal.invariant-loop-place
-invariant-loop-place l = (k : ℕ) (d : Message) → k < l.place → has_serial l.serial (slice_index_or l.messages k d) ≡ false
+invariant-loop-place l = (k : ℕ) (d : Message) → k < l.place →
+    has_serial l.serial (slice_index_or l.messages k d) ≡ false

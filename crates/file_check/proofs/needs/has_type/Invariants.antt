@@ -6,4 +6,5 @@ use Rattle.type_chains.specs.RecordOf.{has_number}
 use Rattle.file_check.proofs.needs.has_type.Given as goal
 
 abbrev pub invariant-loop-place : goal.invariant-loop-place
-invariant-loop-place l = (k : ℕ) (d : Message) → k < l.place → has_number l.number (slice_index_or l.messages k d).mtype ≡ false
+invariant-loop-place l = (k : ℕ) (d : Message) → k < l.place →
+    has_number l.number (slice_index_or l.messages k d).mtype ≡ false

@@ -23,8 +23,8 @@ pub walk-preserved : goal.walk-preserved
 walk-preserved g c =
     let before = c.walk.invariant in
     record {
-      still = still_more g.F.Records.held g.F.Records.pages g.F.Records.is_honest g.F.Records.fault_count _ _ _ before.still
-          c.in_ok-found.ensures.still;
+      still = still_more g.F.Records.held g.F.Records.pages g.F.Records.is_honest g.F.Records.fault_count _ _ _
+          before.still c.in_ok-found.ensures.still;
       few =
           (let longer = ap length c.in_ok-push.ensures.ok ∙ length-append c.walk.messages _ in
           let long = c.len.ensures in let less = c.if-len.false in let few = before.few in

@@ -12,8 +12,8 @@ loop-id-preserved g c =
     let before = c.loop-id.invariant in
     let id = slice_index c.args.ids.now c.loop-id.id-index in
     record {
-      still = still_more g.F.Records.held g.F.Records.pages g.F.Records.is_honest g.F.Records.fault_count _ _ _ before.still
-          c.in_ok-read_queue.ensures.still;
+      still = still_more g.F.Records.held g.F.Records.pages g.F.Records.is_honest g.F.Records.fault_count _ _ _
+          before.still c.in_ok-read_queue.ensures.still;
       number =
           ap length c.in_ok-push.ensures.items ∙ length-append c.loop-id.queues.items _
           ∙ ap (λ n. n + 1) before.number;
