@@ -11,7 +11,8 @@ use Rattle.msgq_cli.specs.Reports.{infos_text}
 use Rattle.msgq_cli.proofs.OutputLemmas.{Prints-then}
 
 -- one queue more
-infos_more : (queues : List Queue) (place : ℕ) (info : QueueInfo) → option_map info_of (slice_get queues place) ≡ Some info
+infos_more : (queues : List Queue) (place : ℕ) (info : QueueInfo)
+    → option_map info_of (slice_get queues place) ≡ Some info
     → infos_text (take (suc place) queues) ≡ infos_text (take place queues) ++ info_text info
 infos_more [] place info is = absurd cc
 infos_more (queue ∷ queues) zero info is =

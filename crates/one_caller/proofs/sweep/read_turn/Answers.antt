@@ -21,7 +21,8 @@ returns g c = λ s q count filed alive first has.
 
 pub returns-in_err-take : goal.returns-in_err-take
 returns-in_err-take g c = λ s q count filed alive first has.
-    absurd (turn_read {E = NotASystem} c.args.id c.args.serial count s q c.new-turn.result c.in_ok-found.found None nothing
+    absurd (turn_read {E = NotASystem} c.args.id c.args.serial count s q c.new-turn.result c.in_ok-found.found None
+    nothing
     (Err c.in_err-take.field-0.0)
     c.new-turn.ensures alive first
     (c.in_ok-found.ensures s (swept c.args.id count s) filed (swept_among c.args.id count s) has
