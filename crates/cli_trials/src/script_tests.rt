@@ -130,7 +130,7 @@ fn receive(mtype: i64, nowait: bool, noerror: bool, moment: u64) -> Call {
 }
 
 /// The line of this number is this call of a seat.
-fn is_call(rt: &impl Abort, line: &Line, number: u64, seat: u8, call: Call) {
+fn expect_call(rt: &impl Abort, line: &Line, number: u64, seat: u8, call: Call) {
     let wanted = Line {
         number,
         seat,
@@ -145,19 +145,19 @@ fn each_get_send_and_receive_is_read(rt: HostRuntime) -> Result<(), Fail> {
     let script = read_script(alloc, SCRIPT)?;
     let lines = script.lines();
     assert!(rt; lines.len() == 11);
-    is_call(&rt, &lines[0], 5, 1, get(Some(7), true, false, 0o666, 5));
-    is_call(
+    expect_call(&rt, &lines[0], 5, 1, get(Some(7), true, false, 0o666, 5));
+    expect_call(
         &rt,
         &lines[1],
         6,
         1,
         send(1, 5, b"a".to_vec(alloc)?, false, 6),
     );
-    is_call(&rt, &lines[2], 7, 1, receive(0, false, false, 7));
-    is_call(&rt, &lines[3], 8, 2, receive(i64::MIN, true, true, 8));
-    is_call(&rt, &lines[5], 10, 1, get(None, false, true, 0o640, 10));
-    is_call(&rt, &lines[6], 11, 1, send(7, 0, Vec::new(alloc), true, 11));
-    is_call(
+    expect_call(&rt, &lines[2], 7, 1, receive(0, false, false, 7));
+    expect_call(&rt, &lines[3], 8, 2, receive(i64::MIN, true, true, 8));
+    expect_call(&rt, &lines[5], 10, 1, get(None, false, true, 0o640, 10));
+    expect_call(&rt, &lines[6], 11, 1, send(7, 0, Vec::new(alloc), true, 11));
+    expect_call(
         &rt,
         &lines[7],
         12,
@@ -180,9 +180,9 @@ fn each_other_command_is_read(rt: HostRuntime) -> Result<(), Fail> {
         mode: None,
         moment: 9,
     };
-    is_call(&rt, &lines[4], 9, 4, Call::Set(set));
-    is_call(&rt, &lines[8], 13, 1, Call::Stat { id: 4_294_967_295 });
-    is_call(&rt, &lines[9], 15, 64, Call::Remove { id: 0 });
+    expect_call(&rt, &lines[4], 9, 4, Call::Set(set));
+    expect_call(&rt, &lines[8], 13, 1, Call::Stat { id: 4_294_967_295 });
+    expect_call(&rt, &lines[9], 15, 64, Call::Remove { id: 0 });
     let stop = Line {
         number: 16,
         seat: 1,

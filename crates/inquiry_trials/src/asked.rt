@@ -23,7 +23,7 @@ pub struct Asked<I: Inquiry> {
 
 impl<I: Inquiry> Asked<I> {
     /// It asks for the record at this key, and is told it.
-    pub fn is_told(&mut self, rt: &impl Abort, key: RecordKey, found: Option<Record<'_>>) {
+    pub fn expect_told(&mut self, rt: &impl Abort, key: RecordKey, found: Option<Record<'_>>) {
         match self.inquiry.wants(&self.arguments) {
             Some(Wanted::At(wanted)) => {
                 assert!(rt; wanted == key);
@@ -42,12 +42,17 @@ impl<I: Inquiry> Asked<I> {
         found: Option<Record<'_>>,
         errno: Errno,
     ) {
-        self.is_told(rt, key, found);
-        self.is_refused(rt, errno);
+        self.expect_told(rt, key, found);
+        self.expect_refused(rt, errno);
     }
 
     /// It asks for the record at this key, and what it is told is of no system: it asks for it again.
-    pub fn is_told_wrongly(&mut self, rt: &impl Abort, key: RecordKey, found: Option<Record<'_>>) {
+    pub fn expect_told_wrongly(
+        &mut self,
+        rt: &impl Abort,
+        key: RecordKey,
+        found: Option<Record<'_>>,
+    ) {
         match self.inquiry.wants(&self.arguments) {
             Some(Wanted::At(wanted)) => {
                 assert!(rt; wanted == key);
@@ -60,7 +65,7 @@ impl<I: Inquiry> Asked<I> {
     }
 
     /// It asks whether this id was given out, and is told.
-    pub fn is_told_of(&mut self, rt: &impl Abort, id: u32, given: bool) {
+    pub fn expect_told_of(&mut self, rt: &impl Abort, id: u32, given: bool) {
         match self.inquiry.wants(&self.arguments) {
             Some(Wanted::Given(wanted)) => {
                 assert!(rt; wanted == id);
@@ -83,7 +88,7 @@ impl<I: Inquiry> Asked<I> {
     }
 
     /// It is refused so, and writes nothing.
-    pub fn is_refused(&self, rt: &impl Abort, errno: Errno) {
+    pub fn expect_refused(&self, rt: &impl Abort, errno: Errno) {
         let decision = self.decides(rt);
         let refused =
             matches!(&decision, Some(Decision::Answers(Verdict::Refused(e))) if *e == errno);
@@ -92,7 +97,7 @@ impl<I: Inquiry> Asked<I> {
     }
 
     /// It is put off, and writes nothing.
-    pub fn is_put_off(&self, rt: &impl Abort) {
+    pub fn expect_put_off(&self, rt: &impl Abort) {
         let decision = self.decides(rt);
         assert!(rt; matches!(&decision, Some(Decision::PutOff)));
         self.writes(rt, &[], &[]);

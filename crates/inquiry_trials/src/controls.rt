@@ -85,8 +85,8 @@ const KEY: Record<'static> = Record::Key(KeyEntry { key: 7, id: 1 });
 #[test]
 fn a_get_makes_a_queue(rt: HostRuntime) -> Result<(), Fail> {
     let mut made = get(rt.alloc(), CREATOR, Some(7), true, true)?;
-    made.is_told(&rt, key_key(7), None);
-    made.is_told(&rt, counter_key(), Some(counter(1, 0)));
+    made.expect_told(&rt, key_key(7), None);
+    made.expect_told(&rt, counter_key(), Some(counter(1, 0)));
     gives_1(&rt, &made);
     makes(&rt, &made, Record::Queue(MADE), Some(KEY));
     Ok(())
@@ -95,7 +95,7 @@ fn a_get_makes_a_queue(rt: HostRuntime) -> Result<(), Fail> {
 #[test]
 fn a_get_makes_a_private_queue(rt: HostRuntime) -> Result<(), Fail> {
     let mut private = get(rt.alloc(), CREATOR, None, false, false)?;
-    private.is_told(&rt, counter_key(), Some(counter(1, 0)));
+    private.expect_told(&rt, counter_key(), Some(counter(1, 0)));
     gives_1(&rt, &private);
     let keyless = QueueEntry { key: None, ..MADE };
     makes(&rt, &private, Record::Queue(keyless), None);
@@ -105,7 +105,7 @@ fn a_get_makes_a_private_queue(rt: HostRuntime) -> Result<(), Fail> {
 #[test]
 fn a_get_finds_a_queue(rt: HostRuntime) -> Result<(), Fail> {
     let mut found = get(rt.alloc(), STRANGER, Some(7), false, true)?;
-    found.is_told(&rt, key_key(7), Some(KEY));
+    found.expect_told(&rt, key_key(7), Some(KEY));
     gives_1(&rt, &found);
     found.writes(&rt, &[], &[]);
     Ok(())
@@ -143,7 +143,7 @@ fn stat(alloc: Global, by: Caller, id: u32) -> Result<Asked<StatInquiry>, Fail> 
 #[test]
 fn a_stat_tells_whom_the_mode_lets_read(rt: HostRuntime) -> Result<(), Fail> {
     let mut told = stat(rt.alloc(), CREATOR, 1)?;
-    told.is_told(&rt, queue(), Some(Record::Queue(MADE)));
+    told.expect_told(&rt, queue(), Some(Record::Queue(MADE)));
     match told.decides(&rt) {
         Some(Decision::Answers(Verdict::Info(info))) => {
             assert!(rt; info.qbytes == 16_384 && info.ctime == 1 && info.permissions.cuid == 21);
@@ -160,11 +160,11 @@ fn a_stat_is_refused_in_the_order_of_the_rules(rt: HostRuntime) -> Result<(), Fa
     stat(alloc, STRANGER, 1)?.refuses(&rt, queue(), Some(Record::Queue(MADE)), Errno::EACCES);
     for (id, given, errno) in [(1, true, Errno::EIDRM), (2, false, Errno::EINVAL)] {
         let mut gone = stat(alloc, CREATOR, id)?;
-        gone.is_told(&rt, queue_key(id), None);
-        gone.is_told_of(&rt, id, given);
-        gone.is_refused(&rt, errno);
+        gone.expect_told(&rt, queue_key(id), None);
+        gone.expect_told_of(&rt, id, given);
+        gone.expect_refused(&rt, errno);
     }
-    stat(alloc, CREATOR, 0)?.is_refused(&rt, Errno::EINVAL);
+    stat(alloc, CREATOR, 0)?.expect_refused(&rt, Errno::EINVAL);
     Ok(())
 }
 
@@ -187,7 +187,7 @@ fn set(alloc: Global, by: Caller, qbytes: u32) -> Result<Asked<SetInquiry>, Fail
 #[test]
 fn a_set_is_refused_in_the_order_of_the_rules(rt: HostRuntime) -> Result<(), Fail> {
     let alloc = rt.alloc();
-    set(alloc, CREATOR, 65_537)?.is_refused(&rt, Errno::EINVAL);
+    set(alloc, CREATOR, 65_537)?.expect_refused(&rt, Errno::EINVAL);
     for (by, qbytes) in [(STRANGER, 3), (CREATOR, 16_385)] {
         let mut refused = set(alloc, by, qbytes)?;
         refused.refuses(&rt, queue(), Some(Record::Queue(MADE)), Errno::EPERM);
@@ -198,7 +198,7 @@ fn a_set_is_refused_in_the_order_of_the_rules(rt: HostRuntime) -> Result<(), Fai
 #[test]
 fn a_set_changes_what_is_given_where_its_caller_may(rt: HostRuntime) -> Result<(), Fail> {
     let mut done = set(rt.alloc(), CREATOR, 3)?;
-    done.is_told(&rt, queue(), Some(Record::Queue(MADE)));
+    done.expect_told(&rt, queue(), Some(Record::Queue(MADE)));
     let decision = done.decides(&rt);
     assert!(rt; matches!(&decision, Some(Decision::Answers(Verdict::Done))));
     let after = QueueEntry {

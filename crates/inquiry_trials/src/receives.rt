@@ -64,10 +64,10 @@ fn gives(rt: &impl std::process::Abort, asked: Asked<ReceiveInquiry>, serial: u6
 #[test]
 fn the_last_message_of_a_type_takes_it_off_the_types(rt: HostRuntime) -> Result<(), Fail> {
     let mut asked = begun(rt.alloc(), receive(3))?;
-    asked.is_told(&rt, queue(), Some(Record::Queue(held())));
+    asked.expect_told(&rt, queue(), Some(Record::Queue(held())));
     let three = mtype(3, (3, 3), Some(2), Some(5));
-    asked.is_told(&rt, type_key(1, 3), Some(Record::Type(three)));
-    asked.is_told(&rt, message_key(1, 3), Some(found(3, 3, Some(4))));
+    asked.expect_told(&rt, type_key(1, 3), Some(Record::Type(three)));
+    asked.expect_told(&rt, message_key(1, 3), Some(found(3, 3, Some(4))));
     let left = QueueEntry {
         cbytes: 9,
         qnum: 3,
@@ -116,15 +116,15 @@ fn the_last_message_of_a_type_takes_it_off_the_types(rt: HostRuntime) -> Result<
 #[test]
 fn a_type_below_0_takes_the_first_of_the_lowest(rt: HostRuntime) -> Result<(), Fail> {
     let mut asked = begun(rt.alloc(), receive(i64::MIN))?;
-    asked.is_told(&rt, queue(), Some(Record::Queue(held())));
+    asked.expect_told(&rt, queue(), Some(Record::Queue(held())));
     let two = mtype(2, (2, 4), None, Some(3));
-    asked.is_told(&rt, type_key(1, 2), Some(Record::Type(two)));
+    asked.expect_told(&rt, type_key(1, 2), Some(Record::Type(two)));
     let second = MessageEntry {
         next: Some(3),
         next_of_type: Some(4),
         ..last(2, 2, b"abc")
     };
-    asked.is_told(&rt, message_key(1, 2), Some(Record::Message(second)));
+    asked.expect_told(&rt, message_key(1, 2), Some(Record::Message(second)));
     let left = QueueEntry {
         cbytes: 9,
         qnum: 3,
@@ -167,10 +167,10 @@ fn type_0_takes_the_first_and_its_type_where_it_was_the_last_of_it(
     rt: HostRuntime,
 ) -> Result<(), Fail> {
     let mut asked = begun(rt.alloc(), receive(0))?;
-    asked.is_told(&rt, queue(), Some(Record::Queue(held())));
-    asked.is_told(&rt, message_key(1, 1), Some(found(1, 5, Some(2))));
+    asked.expect_told(&rt, queue(), Some(Record::Queue(held())));
+    asked.expect_told(&rt, message_key(1, 1), Some(found(1, 5, Some(2))));
     let five = mtype(5, (1, 1), Some(3), None);
-    asked.is_told(&rt, type_key(1, 5), Some(Record::Type(five)));
+    asked.expect_told(&rt, type_key(1, 5), Some(Record::Type(five)));
     let left = QueueEntry {
         cbytes: 9,
         qnum: 3,
@@ -221,17 +221,17 @@ fn waiting() -> ReceiveArguments {
 #[test]
 fn a_receive_of_a_type_that_is_not_there_is_put_off(rt: HostRuntime) -> Result<(), Fail> {
     let mut asked = begun(rt.alloc(), waiting())?;
-    asked.is_told(&rt, queue(), Some(Record::Queue(held())));
-    asked.is_told(&rt, type_key(1, 4), None);
-    asked.is_put_off(&rt);
+    asked.expect_told(&rt, queue(), Some(Record::Queue(held())));
+    asked.expect_told(&rt, type_key(1, 4), None);
+    asked.expect_put_off(&rt);
     Ok(())
 }
 
 #[test]
 fn a_receive_from_an_empty_queue_is_put_off(rt: HostRuntime) -> Result<(), Fail> {
     let mut asked = begun(rt.alloc(), waiting())?;
-    asked.is_told(&rt, queue(), Some(Record::Queue(EMPTY)));
-    asked.is_put_off(&rt);
+    asked.expect_told(&rt, queue(), Some(Record::Queue(EMPTY)));
+    asked.expect_put_off(&rt);
     Ok(())
 }
 
@@ -242,7 +242,7 @@ fn a_message_that_is_too_long_is_refused(rt: HostRuntime) -> Result<(), Fail> {
         ..receive(0)
     };
     let mut asked = begun(rt.alloc(), whole)?;
-    asked.is_told(&rt, queue(), Some(Record::Queue(held())));
+    asked.expect_told(&rt, queue(), Some(Record::Queue(held())));
     let first = found(1, 5, Some(2));
     asked.refuses(&rt, message_key(1, 1), Some(first), Errno::E2BIG);
     Ok(())
@@ -251,9 +251,9 @@ fn a_message_that_is_too_long_is_refused(rt: HostRuntime) -> Result<(), Fail> {
 #[test]
 fn a_receive_from_a_removed_queue_is_refused(rt: HostRuntime) -> Result<(), Fail> {
     let mut removed = begun(rt.alloc(), receive(0))?;
-    removed.is_told(&rt, queue(), None);
-    removed.is_told_of(&rt, 1, true);
-    removed.is_refused(&rt, Errno::EIDRM);
+    removed.expect_told(&rt, queue(), None);
+    removed.expect_told_of(&rt, 1, true);
+    removed.expect_refused(&rt, Errno::EIDRM);
     Ok(())
 }
 
@@ -264,8 +264,8 @@ fn bytes_that_the_queue_does_not_count_are_of_no_system(rt: HostRuntime) -> Resu
         cbytes: 2,
         ..held()
     };
-    uncounted.is_told(&rt, queue(), Some(Record::Queue(counted)));
+    uncounted.expect_told(&rt, queue(), Some(Record::Queue(counted)));
     let first = followed(last(1, 5, b"abc"), Some(2), Some(2));
-    uncounted.is_told_wrongly(&rt, message_key(1, 1), Some(first));
+    uncounted.expect_told_wrongly(&rt, message_key(1, 1), Some(first));
     Ok(())
 }

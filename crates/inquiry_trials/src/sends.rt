@@ -33,7 +33,7 @@ fn begun(
     })
 }
 
-fn is_sent(rt: &impl Abort, asked: &Asked<SendInquiry>, serial: u64) {
+fn expect_sent(rt: &impl Abort, asked: &Asked<SendInquiry>, serial: u64) {
     let decision = asked.decides(rt);
     assert!(rt;
         matches!(&decision, Some(Decision::Answers(Verdict::Sent(sent))) if *sent == serial)
@@ -43,9 +43,9 @@ fn is_sent(rt: &impl Abort, asked: &Asked<SendInquiry>, serial: u64) {
 #[test]
 fn a_first_type_has_no_neighbours(rt: HostRuntime) -> Result<(), Fail> {
     let mut asked = begun(rt.alloc(), ROOT, 5, b"a", 10)?;
-    asked.is_told(&rt, queue(), Some(Record::Queue(EMPTY)));
-    asked.is_told(&rt, type_key(1, 5), None);
-    is_sent(&rt, &asked, 1);
+    asked.expect_told(&rt, queue(), Some(Record::Queue(EMPTY)));
+    asked.expect_told(&rt, type_key(1, 5), None);
+    expect_sent(&rt, &asked, 1);
     let five = mtype(5, (1, 1), None, None);
     asked.writes(
         &rt,
@@ -80,11 +80,11 @@ fn higher_is(mtype: i64) -> TypeLinks {
 #[test]
 fn a_lowest_type_is_linked_below_the_lowest(rt: HostRuntime) -> Result<(), Fail> {
     let mut asked = begun(rt.alloc(), ROOT, 2, b"b", 11)?;
-    asked.is_told(&rt, queue(), Some(Record::Queue(sent(1, 10, 5))));
-    asked.is_told(&rt, type_key(1, 2), None);
+    asked.expect_told(&rt, queue(), Some(Record::Queue(sent(1, 10, 5))));
+    asked.expect_told(&rt, type_key(1, 2), None);
     let five = mtype(5, (1, 1), None, None);
-    asked.is_told(&rt, type_key(1, 5), Some(Record::Type(five)));
-    is_sent(&rt, &asked, 2);
+    asked.expect_told(&rt, type_key(1, 5), Some(Record::Type(five)));
+    expect_sent(&rt, &asked, 2);
     let two = mtype(2, (2, 2), None, Some(5));
     asked.writes(
         &rt,
@@ -101,13 +101,13 @@ fn a_lowest_type_is_linked_below_the_lowest(rt: HostRuntime) -> Result<(), Fail>
 #[test]
 fn a_new_type_is_linked_between_its_neighbours(rt: HostRuntime) -> Result<(), Fail> {
     let mut asked = begun(rt.alloc(), ROOT, 3, b"c", 12)?;
-    asked.is_told(&rt, queue(), Some(Record::Queue(sent(2, 11, 2))));
-    asked.is_told(&rt, type_key(1, 3), None);
+    asked.expect_told(&rt, queue(), Some(Record::Queue(sent(2, 11, 2))));
+    asked.expect_told(&rt, type_key(1, 3), None);
     let two = mtype(2, (2, 2), None, Some(5));
-    asked.is_told(&rt, type_key(1, 2), Some(Record::Type(two)));
+    asked.expect_told(&rt, type_key(1, 2), Some(Record::Type(two)));
     let five = mtype(5, (1, 1), Some(2), None);
-    asked.is_told(&rt, type_key(1, 5), Some(Record::Type(five)));
-    is_sent(&rt, &asked, 3);
+    asked.expect_told(&rt, type_key(1, 5), Some(Record::Type(five)));
+    expect_sent(&rt, &asked, 3);
     let three = mtype(3, (3, 3), Some(2), Some(5));
     asked.writes(
         &rt,
@@ -125,10 +125,10 @@ fn a_new_type_is_linked_between_its_neighbours(rt: HostRuntime) -> Result<(), Fa
 #[test]
 fn a_type_that_stands_gets_another_last_message(rt: HostRuntime) -> Result<(), Fail> {
     let mut asked = begun(rt.alloc(), ROOT, 2, b"d", 13)?;
-    asked.is_told(&rt, queue(), Some(Record::Queue(sent(3, 12, 2))));
+    asked.expect_told(&rt, queue(), Some(Record::Queue(sent(3, 12, 2))));
     let two = mtype(2, (2, 2), None, Some(3));
-    asked.is_told(&rt, type_key(1, 2), Some(Record::Type(two)));
-    is_sent(&rt, &asked, 4);
+    asked.expect_told(&rt, type_key(1, 2), Some(Record::Type(two)));
+    expect_sent(&rt, &asked, 4);
     asked.writes(
         &rt,
         &[Record::Message(last(4, 2, b"d"))],
@@ -156,16 +156,16 @@ fn a_type_that_stands_gets_another_last_message(rt: HostRuntime) -> Result<(), F
 
 #[test]
 fn a_send_of_type_0_is_refused(rt: HostRuntime) -> Result<(), Fail> {
-    begun(rt.alloc(), ROOT, 0, b"a", 10)?.is_refused(&rt, Errno::EINVAL);
+    begun(rt.alloc(), ROOT, 0, b"a", 10)?.expect_refused(&rt, Errno::EINVAL);
     Ok(())
 }
 
 #[test]
 fn a_send_to_no_queue_is_refused(rt: HostRuntime) -> Result<(), Fail> {
     let mut unknown = begun(rt.alloc(), ROOT, 5, b"a", 10)?;
-    unknown.is_told(&rt, queue(), None);
-    unknown.is_told_of(&rt, 1, false);
-    unknown.is_refused(&rt, Errno::EINVAL);
+    unknown.expect_told(&rt, queue(), None);
+    unknown.expect_told_of(&rt, 1, false);
+    unknown.expect_refused(&rt, Errno::EINVAL);
     Ok(())
 }
 
@@ -189,17 +189,17 @@ fn a_send_of_whom_the_mode_keeps_out_is_refused(rt: HostRuntime) -> Result<(), F
 fn a_send_to_a_full_queue_is_put_off(rt: HostRuntime) -> Result<(), Fail> {
     let full = QueueEntry { qbytes: 0, ..EMPTY };
     let mut asked = begun(rt.alloc(), ROOT, 5, b"a", 10)?;
-    asked.is_told(&rt, queue(), Some(Record::Queue(full)));
-    asked.is_put_off(&rt);
+    asked.expect_told(&rt, queue(), Some(Record::Queue(full)));
+    asked.expect_put_off(&rt);
     Ok(())
 }
 
 #[test]
 fn types_that_do_not_ascend_are_of_no_system(rt: HostRuntime) -> Result<(), Fail> {
     let mut asked = begun(rt.alloc(), ROOT, 5, b"a", 10)?;
-    asked.is_told(&rt, queue(), Some(Record::Queue(sent(1, 10, 2))));
-    asked.is_told(&rt, type_key(1, 5), None);
+    asked.expect_told(&rt, queue(), Some(Record::Queue(sent(1, 10, 2))));
+    asked.expect_told(&rt, type_key(1, 5), None);
     let back_to_itself = mtype(2, (1, 1), None, Some(2));
-    asked.is_told_wrongly(&rt, type_key(1, 2), Some(Record::Type(back_to_itself)));
+    asked.expect_told_wrongly(&rt, type_key(1, 2), Some(Record::Type(back_to_itself)));
     Ok(())
 }

@@ -44,10 +44,10 @@ fn a_remove_reads_its_queue_twice_and_the_counter_and_then_sweeps(
     rt: HostRuntime,
 ) -> Result<(), Fail> {
     let mut asked = remove(rt.alloc(), CREATOR, 1)?;
-    asked.is_told(&rt, queue(), Some(held()));
+    asked.expect_told(&rt, queue(), Some(held()));
     assert!(rt; asked.inquiry.key() == Some(Some(7)));
-    asked.is_told(&rt, queue(), Some(held()));
-    asked.is_told(&rt, counter_key(), Some(counter(2, 1)));
+    asked.expect_told(&rt, queue(), Some(held()));
+    asked.expect_told(&rt, counter_key(), Some(counter(2, 1)));
     let decision = asked.decides(&rt);
     assert!(rt; matches!(&decision, Some(Decision::Sweeps(sweep)) if *sweep == SWEEP));
     let writes = [
@@ -62,8 +62,8 @@ fn a_remove_reads_its_queue_twice_and_the_counter_and_then_sweeps(
 #[test]
 fn a_remove_of_whom_it_does_not_belong_to_is_refused(rt: HostRuntime) -> Result<(), Fail> {
     let mut asked = remove(rt.alloc(), STRANGER, 1)?;
-    asked.is_told(&rt, queue(), Some(held()));
-    asked.is_told(&rt, queue(), Some(held()));
+    asked.expect_told(&rt, queue(), Some(held()));
+    asked.expect_told(&rt, queue(), Some(held()));
     asked.refuses(&rt, counter_key(), Some(counter(2, 1)), Errno::EPERM);
     Ok(())
 }
@@ -71,8 +71,8 @@ fn a_remove_of_whom_it_does_not_belong_to_is_refused(rt: HostRuntime) -> Result<
 #[test]
 fn a_remove_of_a_queue_that_went_meanwhile_is_refused(rt: HostRuntime) -> Result<(), Fail> {
     let mut asked = remove(rt.alloc(), CREATOR, 1)?;
-    asked.is_told(&rt, queue(), Some(held()));
-    asked.is_told(&rt, queue(), None);
+    asked.expect_told(&rt, queue(), Some(held()));
+    asked.expect_told(&rt, queue(), None);
     asked.refuses(&rt, counter_key(), Some(counter(2, 0)), Errno::EIDRM);
     Ok(())
 }
@@ -80,9 +80,9 @@ fn a_remove_of_a_queue_that_went_meanwhile_is_refused(rt: HostRuntime) -> Result
 #[test]
 fn a_remove_of_an_id_that_was_not_given_is_refused(rt: HostRuntime) -> Result<(), Fail> {
     let mut asked = remove(rt.alloc(), CREATOR, 3)?;
-    asked.is_told(&rt, queue_key(3), None);
-    asked.is_told_of(&rt, 3, false);
-    asked.is_refused(&rt, Errno::EINVAL);
+    asked.expect_told(&rt, queue_key(3), None);
+    asked.expect_told_of(&rt, 3, false);
+    asked.expect_refused(&rt, Errno::EINVAL);
     Ok(())
 }
 

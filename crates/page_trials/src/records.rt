@@ -59,7 +59,7 @@ fn a_message() -> MessageEntry<'static> {
     }
 }
 
-fn is_spelled(rt: &impl Abort, record: Record, at: RecordKey, bytes: &[u8]) {
+fn expect_spelled(rt: &impl Abort, record: Record, at: RecordKey, bytes: &[u8]) {
     let mut value = Value::new();
     assert!(rt; record.is_in_range());
     if record.is_in_range() {
@@ -76,19 +76,19 @@ fn each_record_is_spelled_as_the_format_says(rt: HostRuntime) -> Result<(), Fail
         next_id: 1,
         queues_alive: 0,
     };
-    is_spelled(
+    expect_spelled(
         &rt,
         Record::Counter(counter),
         key(1, 0, 0),
         &[0, 0, 0, 1, 0, 0, 0, 0],
     );
-    is_spelled(
+    expect_spelled(
         &rt,
         Record::Key(KeyEntry { key: 7, id: 1 }),
         key(2, 0, 7),
         &[0, 0, 0, 1],
     );
-    is_spelled(&rt, Record::Queue(queue()), key(3, 1, 0), &QUEUE_VALUE);
+    expect_spelled(&rt, Record::Queue(queue()), key(3, 1, 0), &QUEUE_VALUE);
     let entry = TypeEntry {
         id: 1,
         mtype: 2,
@@ -101,12 +101,12 @@ fn each_record_is_spelled_as_the_format_says(rt: HostRuntime) -> Result<(), Fail
         0, 0, 0, 0, 0, 0, 0, 2, 0, 0, 0, 0, 0, 0, 0, 4, 0, 0, 0, 0, 0, 0, 0, 0, 0, 0, 0, 0, 0, 0,
         0, 3,
     ];
-    is_spelled(&rt, Record::Type(entry), key(4, 1, 2), &of_type);
+    expect_spelled(&rt, Record::Type(entry), key(4, 1, 2), &of_type);
     let message = [
         0, 0, 0, 0, 0, 0, 0, 5, 0, 0, 0, 1, 0, 0, 0, 0, 0, 0, 0, 0, 0, 0, 0, 0, 0, 0, 0, 0, 0, 0,
         0, 0, 0, 0, 0, 0, 0x61,
     ];
-    is_spelled(&rt, Record::Message(a_message()), key(5, 1, 1), &message);
+    expect_spelled(&rt, Record::Message(a_message()), key(5, 1, 1), &message);
     assert!(rt; BadRecord.number() == 43);
     Ok(())
 }
@@ -133,8 +133,8 @@ fn what_a_queue_record_breaks_is_refused(rt: HostRuntime) -> Result<(), Fail> {
         (73, 0x80),
         (97, 2),
     ] {
-        let is_refused = QueueEntry::decode(&at, &with(place, byte)).is_err();
-        assert!(rt; is_refused == (place != 80), "at {place}");
+        let expect_refused = QueueEntry::decode(&at, &with(place, byte)).is_err();
+        assert!(rt; expect_refused == (place != 80), "at {place}");
     }
     assert!(rt; QueueEntry::decode(&at, &with(56, 0)).is_err());
     for wrong in [
