@@ -70,12 +70,12 @@ fn are_told(told: &[Result<Served, CallFault>]) -> bool {
     matches!(before, Ok(Served::Answer(Answer::Refused(Errno::EINVAL))))
         && matches!(got, Ok(Served::Answer(Answer::Id(1))))
         && matches!(sent, Ok(Served::Answer(Answer::Sent(1))))
-        && matches!(received, Ok(Served::Answer(Answer::Received(message))) if expect_sent(message))
+        && matches!(received, Ok(Served::Answer(Answer::Received(message))) if is_sent(message))
         && matches!(waits, Ok(Served::Waits))
 }
 
 /// The message of the Send.
-fn expect_sent(message: &Message) -> bool {
+fn is_sent(message: &Message) -> bool {
     message.serial == 1
         && message.sender == 1
         && message.mtype == 5
