@@ -225,6 +225,9 @@ fn writes(rt: &HostRuntime) -> anyhow::Result<()> {
 /// Times inserts that split their bucket, in a file that grows from one bucket on.
 fn splits(rt: &HostRuntime) -> anyhow::Result<()> {
     let mut file = operating::empty_file(rt.alloc(), 0, GROWN / 20)?;
+    // all pages come into frames
+    operating::splits(rt, &mut file, GROWN)?;
+    operating::clear(rt.alloc(), &mut file, GROWN)?;
     let sum = operating::splits(rt, &mut file, GROWN)?;
     tell(rt, "an insert that splits its bucket", sum)
 }

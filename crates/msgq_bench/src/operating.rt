@@ -180,6 +180,17 @@ pub fn fill(alloc: Global, file: &mut File, records: u32) -> anyhow::Result<u32>
     Ok(standing)
 }
 
+/// Deletes the records of the numbers below this one.
+pub fn clear(alloc: Global, file: &mut File, records: u32) -> anyhow::Result<()> {
+    for number in 0..records {
+        if file.idle() == 0 {
+            file.renew(alloc)?;
+        }
+        make(file, Operation::Delete, number);
+    }
+    Ok(())
+}
+
 /// So many numbers from this one on whose records can be inserted and deleted without a change of the structure.
 pub fn plain_numbers(
     alloc: Global,
