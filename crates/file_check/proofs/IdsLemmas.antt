@@ -111,7 +111,8 @@ pub are_queue_ids : (s : Store) (ns all sorted ids : List ℕ) → chain s ≡ n
     IsPermutation all sorted → IsSorted nat_cmp sorted → ids ≡ dedup nat_eq sorted → AreQueueIds (contents s) ids
 are_queue_ids s ns all sorted ids chained are moved order once = record {
   ascend = AllPairs-from_increasing ids (IsStrictlyIncreasing-from_sorted ids
-      (subst (IsStrictlySortedBy nat_cmp) (sym once) (IsStrictlySortedBy-dedup nat_cmp_total (λ x y. grind (arith, nat_tests)) sorted order)));
+      (subst (IsStrictlySortedBy nat_cmp) (sym once) (IsStrictlySortedBy-dedup nat_cmp_total
+      (λ x y. grind (arith, nat_tests)) sorted order)));
   all = λ id held. subst (λ xs. Contains xs id) (sym once)
       (Contains-dedup_nat sorted id (Contains-permutation all sorted id moved
       (subst (λ xs. Contains xs id) (sym are)

@@ -66,7 +66,8 @@ shows_pinned pool page content header images seals kept = record {
     records rs it = ap records_in same ∙ ap (λ (b : Bucket). b.records) (read_again (root_bucket rs) _ it)
 
 pub shows_broken : (pool : PoolState) (content : List (List ℕ)) → HasHeader content → pool.images ≡ payloads_of content
-    → ((rs : List Pair) → IsSealed ROOT_PAGE (bytes_at content ROOT_PAGE) → IsRoot rs (payload_at content ROOT_PAGE) → ⊥)
+    → ((rs : List Pair) → IsSealed ROOT_PAGE (bytes_at content ROOT_PAGE)
+    → IsRoot rs (payload_at content ROOT_PAGE) → ⊥)
     → Shows content (shown pool None)
 shows_broken pool content header images wrong = record {
   header = header;

@@ -112,7 +112,8 @@ module _ (hash : RecordKey → ℕ) (seat : ℕ) (key : RecordKey) (k : ℕ) (va
         (first_try_left t' (store_of pool'.images)) SECOND_STEPS pool pool' (λ f. writes.spares f sees.honest)
         (nears hash change sees)
 
-    goes_on : (said' : Option Tried) → Stays did (insert_at (First t said)) (insert_at (First t' said')) → ((change : Change) → hash key ≡ k →
+    goes_on : (said' : Option Tried) → Stays did (insert_at (First t said)) (insert_at (First t' said')) →
+        ((change : Change) → hash key ≡ k →
         Sees hash seat (first_try_facts t) pool locks change → is_fault did ≡ false →
         SaysAt hash seat did (pair key value) said said' (world pool.images locks change)
         (world pool'.images locks' change)) → Inserts (First t said) (First t' said')
@@ -128,7 +129,8 @@ module _ (hash : RecordKey → ℕ) (seat : ℕ) (key : RecordKey) (k : ℕ) (va
 
     -- it came to nothing, or had come to something before
     pub says_on : Inserts (First t said) (First t' said)
-    says_on = goes_on said (Stays-of (λ (x : FirstTryView). insert_at (First x said)) did t t' aim.stays) (λ change keyed sees fine. says_same hash seat did (pair key value) said
+    says_on = goes_on said (Stays-of (λ (x : FirstTryView). insert_at (First x said)) did t t' aim.stays)
+        (λ change keyed sees fine. says_same hash seat did (pair key value) said
         (world pool.images locks change) (world pool'.images locks' change))
 
     module _ (none : said ≡ None) where
