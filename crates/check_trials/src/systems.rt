@@ -5,7 +5,9 @@ ghost use Rattle.bucket_page.specs.Changes.{IsBucketPage};
 ghost use Rattle.bucket_page.specs.Reading.{bucket_in};
 
 use crate::tests::{Edit, NONE, PAGES, payload_of};
-use bucket_page::{BucketView, NumberKey, PageKind, RecordKey, put, read_page, remove};
+use bucket_page::{
+    BucketView, Malformed, NumberKey, PageKind, RecordKey, put, read_page, remove, write_tombstone,
+};
 use file_check::{CheckFault, Checked, check};
 use file_walk::StructureFault;
 use page_device::{MemDevice, PAYLOAD_BYTES, PageDevice, Payload, seal};
@@ -216,45 +218,119 @@ fn number(rt: &impl Abort, found: &Result<System, CheckFault>) -> u8 {
     }
 }
 
+/// What is found of the file with changed bytes, which are taken back.
+fn finds_changed(
+    rt: &impl Abort,
+    alloc: Global,
+    file: MemDevice,
+    buckets: &Buckets,
+    edits: &[Edit],
+) -> Result<Checked<MemDevice>, Fail> {
+    let mut file = file;
+    for edit in edits {
+        if edit.0 < PAGES {
+            writes(rt, &mut file, buckets, edit.0, edits)?;
+        }
+    }
+    let Checked { mut device, found } = finds(alloc, file);
+    for edit in edits {
+        if edit.0 < PAGES {
+            writes(rt, &mut device, buckets, edit.0, &[])?;
+        }
+    }
+    Ok(Checked { device, found })
+}
+
 /// Each row alone is written over the file, tested, and taken back.
 fn tells(rt: &impl Abort, alloc: Global, rows: &[([Edit; 2], u8)]) -> Result<(), Fail> {
     let buckets = two_queues(rt);
     let mut file = device(rt, alloc, &buckets)?;
     for (edits, want) in rows {
-        for edit in edits {
-            if edit.0 < PAGES {
-                writes(rt, &mut file, &buckets, edit.0, edits)?;
-            }
-        }
-        let Checked { device, found } = finds(alloc, file);
+        let Checked { device, found } = finds_changed(rt, alloc, file, &buckets, edits)?;
         file = device;
         assert_eq!(rt; number(rt, &found), *want, "{edits:?}");
-        for edit in edits {
-            if edit.0 < PAGES {
-                writes(rt, &mut file, &buckets, edit.0, &[])?;
-            }
-        }
     }
     Ok(())
 }
 
 #[test]
-fn a_changed_byte_of_a_system_has_its_number(rt: HostRuntime) -> Result<(), Fail> {
+fn a_changed_chain_of_a_system_has_its_number(rt: HostRuntime) -> Result<(), Fail> {
     let rows = [
-        // nothing
+        // nothing; entry 2 is 9999, which nothing reads
         ([NONE, NONE], 0),
-        // the next of 258 is 257; the first free page is 0; entry 1 is 257
+        ([Edit(1, 26, 0x27), Edit(1, 27, 0x0f)], 0),
+        // the next of 258 is 257, 5, 259, 288; its pattern is 0
         ([Edit(258, 10, 1), Edit(258, 11, 1)], 70),
+        ([Edit(258, 11, 5), NONE], 70),
+        ([Edit(258, 10, 1), Edit(258, 11, 3)], 70),
+        ([Edit(258, 10, 1), Edit(258, 11, 0x20)], 70),
+        ([Edit(258, 7, 0), NONE], 70),
+    ];
+    tells(&rt, rt.alloc(), &rows)
+}
+
+#[test]
+fn a_changed_free_list_of_a_system_has_its_number(rt: HostRuntime) -> Result<(), Fail> {
+    let rows = [
+        // the first free page is 0; the link of 287 is 259, 288; page 287 is a tombstone
         ([Edit(0, 18, 0), Edit(0, 19, 0)], 71),
+        ([Edit(287, 6, 1), Edit(287, 7, 3)], 71),
+        ([Edit(287, 6, 1), Edit(287, 7, 0x20)], 71),
+        ([Edit(287, 0, 4), NONE], 71),
+    ];
+    tells(&rt, rt.alloc(), &rows)
+}
+
+#[test]
+fn a_changed_entry_or_record_of_a_system_has_its_number(rt: HostRuntime) -> Result<(), Fail> {
+    let rows = [
+        // entry 1 is 257; the depth is 0, 2; there are 3 buckets of depth 1
         ([Edit(1, 23, 1), NONE], 72),
+        ([Edit(0, 2, 0), NONE], 72),
+        ([Edit(0, 2, 2), NONE], 72),
+        ([Edit(0, 27, 3), NONE], 72),
         // the qnum of queue 1 is 3; behind its message 4 stands its message 1
         ([Edit(257, 70, 3), NONE], 73),
         ([Edit(257, 1431, 1), NONE], 73),
-        // the first two records of 258 are exchanged; its last byte is 1
-        ([Edit(258, 30, 9), Edit(258, 49, 7)], 40),
-        ([Edit(258, 4063, 1), NONE], 40),
     ];
     tells(&rt, rt.alloc(), &rows)
+}
+
+#[test]
+fn a_malformed_page_of_a_system_has_its_reason(rt: HostRuntime) -> Result<(), Fail> {
+    let rows = [
+        // the pattern of 258 is 2; its first two records are exchanged; its last byte is 1; its kind is 6
+        ([Edit(258, 7, 2), NONE], 258, Malformed::Pattern),
+        ([Edit(258, 30, 9), Edit(258, 49, 7)], 258, Malformed::Order),
+        ([Edit(258, 4063, 1), NONE], 258, Malformed::Padding),
+        ([Edit(258, 0, 6), NONE], 258, Malformed::Kind),
+        // page 2 is a free page
+        ([Edit(2, 0, 5), NONE], 2, Malformed::Kind),
+    ];
+    let buckets = two_queues(&rt);
+    let mut file = device(&rt, rt.alloc(), &buckets)?;
+    for (edits, page, reason) in &rows {
+        let Checked { device, found } = finds_changed(&rt, rt.alloc(), file, &buckets, edits)?;
+        file = device;
+        let want = CheckFault::Structure(StructureFault::Malformed {
+            page: *page,
+            reason: *reason,
+        });
+        assert_eq!(rt; found.err(), Some(want), "{edits:?}");
+    }
+    Ok(())
+}
+
+#[test]
+fn a_tombstone_of_a_system_is_on_no_chain(rt: HostRuntime) -> Result<(), Fail> {
+    let buckets = two_queues(&rt);
+    let mut file = device(&rt, rt.alloc(), &buckets)?;
+    let mut payload = [0; PAYLOAD_BYTES];
+    write_tombstone(&mut payload, 258);
+    file.write(257, &seal(257, &payload))?;
+    let Checked { device: _, found } = finds(rt.alloc(), file);
+    assert_eq!(rt; number(&rt, &found), 70);
+    Ok(())
 }
 
 /// What is told of the file with these buckets.

@@ -41,3 +41,18 @@ pub const NO_MEMORY: u8 = 60;
 
 /// A file is broken, or holds the records of no system.
 pub const FAILED: u8 = 62;
+
+/// The chain of a file is broken.
+pub const CHAIN_BROKEN: u8 = 70;
+
+/// A page is on neither the chain nor the free list, or the free list is broken.
+pub const PAGE_LOST: u8 = 71;
+
+/// A depth, an entry or a count of the directory is wrong.
+pub const ENTRY_WRONG: u8 = 72;
+
+/// The records are those of no system.
+pub const NO_SYSTEM: u8 = 73;
+
+/// A record stands where no system has it.
+pub const STRAY: u8 = 74;

@@ -2,9 +2,10 @@
 use Rattle.std.proofs.Common.{ℕ, ◌≡◌, Bool, IsTrue, List, ◌⊎◌, inl, inr, sym, subst}
 use Rattle.file_walk.specs.Laws.{IsQuietFile}
 use Rattle.file_walk.proofs.FaultLemmas.{one_chain}
-use Rattle.record_walk.specs.Systems.{HasNoSystem, IsSystemOf}
+use Rattle.record_walk.specs.Systems.{IsSystemOf}
+use Rattle.record_walk.specs.Told.{IsToldOfSystem}
+use Rattle.record_walk.proofs.SystemLemmas.{wrong_queue}
 use Rattle.file_check.specs.declared.fault.CheckFault.TheVariants as faults
-use Rattle.record_walk.specs.Fault.{IsOfMachine}
 use Rattle.record_walk.specs.declared.fault.WalkFault.{WalkFault}
 use Rattle.record_walk.specs.declared.fault.WalkFault.TheVariants as walked
 use Rattle.file_records.specs.Files.{HasRecords, Source, source}
@@ -66,16 +67,13 @@ module _ (hash : RecordKey → ℕ) (content : List (List ℕ)) (ns : List ℕ) 
   }
 
   -- what a walk tells
-  pub walk_told : (fault : WalkFault) → IsOfMachine fault ⊎ HasNoSystem (contents (file_of content)) →
+  pub walk_told : (fault : WalkFault) → IsToldOfSystem (contents (file_of content)) fault →
       IsToldOf hash content (of_walk fault)
   walk_told walked.Device w = inl tt
   walk_told walked.NoMemory w = inl tt
-  walk_told (walked.Changed page) (inl machine) = absurd machine
-  walk_told (walked.Changed page) (inr none) = inr (inr (record { chain = ns; right = right; none = none }))
-  walk_told walked.WrongCounter (inl machine) = absurd machine
-  walk_told walked.WrongCounter (inr none) = inr (inr (record { chain = ns; right = right; none = none }))
-  walk_told (walked.WrongQueue queue) (inl machine) = absurd machine
-  walk_told (walked.WrongQueue queue) (inr none) = inr (inr (record { chain = ns; right = right; none = none }))
+  walk_told (walked.Changed page) w = absurd w
+  walk_told walked.WrongCounter none = inr (inr (record { chain = ns; right = right; none = none }))
+  walk_told (walked.WrongQueue queue) first = inr (inr (record { chain = ns; right = right; first = first }))
 
   pub stray_told : (s : State) (fault : CheckFault) → IsSystemOf (contents (file_of content)) s →
       IsOfMachineToo fault ⊎ IsFirstStray s (file_of content) ns fault → IsToldOf hash content fault
@@ -95,9 +93,9 @@ module _ (hash : RecordKey → ℕ) (content : List (List ℕ)) (s : State) (fil
       (subst (λ (t : State). IsFirstStray t (file_of content) w.chain fault) systems w.stray))
 
   not_together : (fault : CheckFault) → IsWrongTogether hash content fault → ⊥
-  not_together (faults.Unwalked page) w = w.none s file.system.has
   not_together faults.WrongCounter w = w.none s file.system.has
-  not_together (faults.WrongQueue queue) w = w.none s file.system.has
+  not_together (faults.WrongQueue queue) w =
+      wrong_queue (contents (file_of content)) queue w.first s file.system.has
   not_together (faults.Stray page kind queue number) w = not_beside (faults.Stray page kind queue number) w
   not_together fault w = absurd w
 

@@ -1,13 +1,11 @@
 -- The numbers of faults.
 use Rattle.std.specs.Prelude.{ℕ}
-use Rattle.faults.specs.declared.TheConstants.{BAD_RECORD, MALFORMED}
+use Rattle.faults.specs.declared.TheConstants.{BAD_RECORD, MALFORMED, NO_SYSTEM, STRAY}
 use Rattle.file_walk.specs.Fault as walk
 use Rattle.file_walk.specs.Order.{IsOfMachine}
 use Rattle.file_walk.specs.declared.fault.StructureFault.TheVariants as structure
-use Rattle.record_walk.specs.declared.fault.TheConstants.{NO_SYSTEM}
 use Rattle.record_walk.specs.declared.fault.WalkFault.{WalkFault}
 use Rattle.record_walk.specs.declared.fault.WalkFault.TheVariants as walked
-use Rattle.file_check.specs.declared.fault.TheConstants.{STRAY}
 use Rattle.file_check.specs.Words.{CheckFault}
 use Rattle.file_check.specs.declared.fault.CheckFault.TheVariants as faults
 
@@ -17,7 +15,6 @@ number_of (faults.Structure fault) = walk.number_of fault
 number_of (faults.Changed page) = MALFORMED
 number_of (faults.Misplaced page kind queue number) = STRAY
 number_of (faults.BadRecord page kind queue number) = BAD_RECORD
-number_of (faults.Unwalked page) = NO_SYSTEM
 number_of faults.WrongCounter = NO_SYSTEM
 number_of (faults.WrongQueue queue) = NO_SYSTEM
 number_of (faults.Stray page kind queue number) = STRAY
@@ -26,7 +23,7 @@ number_of (faults.Stray page kind queue number) = STRAY
 abbrev pub of_walk : WalkFault → CheckFault
 of_walk walked.Device = faults.Structure structure.Device
 of_walk walked.NoMemory = faults.Structure structure.NoMemory
-of_walk (walked.Changed page) = faults.Unwalked page
+of_walk (walked.Changed page) = faults.Changed page
 of_walk walked.WrongCounter = faults.WrongCounter
 of_walk (walked.WrongQueue queue) = faults.WrongQueue queue
 
@@ -36,7 +33,6 @@ IsOfMachineToo (faults.Structure fault) = IsOfMachine fault
 IsOfMachineToo (faults.Changed page) = ⊥
 IsOfMachineToo (faults.Misplaced page kind queue number) = ⊥
 IsOfMachineToo (faults.BadRecord page kind queue number) = ⊥
-IsOfMachineToo (faults.Unwalked page) = ⊥
 IsOfMachineToo faults.WrongCounter = ⊥
 IsOfMachineToo (faults.WrongQueue queue) = ⊥
 IsOfMachineToo (faults.Stray page kind queue number) = ⊥

@@ -3,8 +3,8 @@
 use Rattle.std.specs.Prelude.{◌≡◌, ℕ, List, Option, Some, None, ◌⊎◌}
 use Rattle.file_walk.specs.Laws.{IsQuietFile}
 use Rattle.record_walk.specs.declared.fault.WalkFault.{WalkFault}
-use Rattle.record_walk.specs.Fault.{IsOfMachine}
 use Rattle.record_walk.specs.Systems.{AreQueueIds, HasNoSystem, IsSystemOf}
+use Rattle.record_walk.specs.Told.{IsFirstWrongQueue, IsToldOfSystem}
 use Rattle.type_chains.specs.RecordOf.{record_of}
 use Rattle.file_check.specs.declared.fault.CheckFault.TheVariants as faults
 use Rattle.file_check.specs.Fault.{IsOfMachineToo, of_walk}
@@ -40,13 +40,19 @@ pub record IsPrepared (hash : RecordKey → ℕ) (content : List (List ℕ)) (ou
 -- what a walk tells of these records
 abbrev pub IsWalkFault : (RecordKey → Option (List ℕ)) → CheckFault → Type 0
 IsWalkFault held fault =
-    (walked : WalkFault) × (fault ≡ of_walk walked) × (IsOfMachine walked ⊎ HasNoSystem held)
+    (walked : WalkFault) × (fault ≡ of_walk walked) × IsToldOfSystem held walked
 
 -- with all records together: each is right, and no system has them
 pub record IsOfNoSystem (hash : RecordKey → ℕ) (content : List (List ℕ)) : Type 0 where
   pub chain : List ℕ
   pub right : IsRightFile hash content chain
   pub none : HasNoSystem (contents (file_of content))
+
+-- and this is the lowest id of which there is a Queue and no queue
+pub record IsOfWrongQueue (hash : RecordKey → ℕ) (content : List (List ℕ)) (queue : ℕ) : Type 0 where
+  pub chain : List ℕ
+  pub right : IsRightFile hash content chain
+  pub first : IsFirstWrongQueue (contents (file_of content)) queue
 
 -- with a record beside them: one system has them all but this, which is the first
 pub record IsWrongBeside (hash : RecordKey → ℕ) (content : List (List ℕ)) (fault : CheckFault) : Type 0 where
@@ -57,9 +63,8 @@ pub record IsWrongBeside (hash : RecordKey → ℕ) (content : List (List ℕ)) 
   pub stray : IsFirstStray system (file_of content) chain fault
 
 abbrev pub IsWrongTogether : (RecordKey → ℕ) → List (List ℕ) → CheckFault → Type 0
-IsWrongTogether hash content (faults.Unwalked page) = IsOfNoSystem hash content
 IsWrongTogether hash content faults.WrongCounter = IsOfNoSystem hash content
-IsWrongTogether hash content (faults.WrongQueue queue) = IsOfNoSystem hash content
+IsWrongTogether hash content (faults.WrongQueue queue) = IsOfWrongQueue hash content queue
 IsWrongTogether hash content (faults.Stray page kind queue number) =
     IsWrongBeside hash content (faults.Stray page kind queue number)
 IsWrongTogether hash content fault = ⊥

@@ -8,9 +8,6 @@ use record_walk::WalkFault;
 use std::alloc::AllocFailed;
 use thiserror::Error;
 
-/// The number of a record that stands where no system has it.
-pub const STRAY: u8 = 74;
-
 /// The first thing that is wrong with a file, and where it stands.
 #[derive(Clone, Copy, Debug, PartialEq, Eq, Error)]
 pub enum CheckFault {
@@ -38,11 +35,6 @@ pub enum CheckFault {
         queue: u32,
         number: u64,
     },
-    /// A page reads otherwise than when it was tested, so that the records can't be walked.
-    #[error("page {page} has changed while the records were walked")]
-    Unwalked {
-        page: u32,
-    },
     /// There is no Counter, or not that of these queues.
     #[error("the counter is missing, or does not count the queues")]
     WrongCounter,
@@ -69,12 +61,11 @@ impl CheckFault {
         match self {
             CheckFault::Structure(fault) => fault.number(),
             CheckFault::Changed { .. } => faults::MALFORMED,
-            CheckFault::Misplaced { .. } => STRAY,
+            CheckFault::Misplaced { .. } => faults::STRAY,
             CheckFault::BadRecord { .. } => faults::BAD_RECORD,
-            CheckFault::Unwalked { .. } => WalkFault::WrongCounter.number(),
-            CheckFault::WrongCounter => WalkFault::WrongCounter.number(),
-            CheckFault::WrongQueue { queue } => WalkFault::WrongQueue { queue }.number(),
-            CheckFault::Stray { .. } => STRAY,
+            CheckFault::WrongCounter => faults::NO_SYSTEM,
+            CheckFault::WrongQueue { .. } => faults::NO_SYSTEM,
+            CheckFault::Stray { .. } => faults::STRAY,
         }
     }
 }
@@ -100,7 +91,7 @@ impl From<WalkFault> for CheckFault {
         match fault {
             WalkFault::Device => CheckFault::Structure(StructureFault::Device),
             WalkFault::NoMemory => CheckFault::Structure(StructureFault::NoMemory),
-            WalkFault::Changed { page } => CheckFault::Unwalked { page },
+            WalkFault::Changed { page } => CheckFault::Changed { page },
             WalkFault::WrongCounter => CheckFault::WrongCounter,
             WalkFault::WrongQueue { queue } => CheckFault::WrongQueue { queue },
         }

@@ -1,8 +1,9 @@
 //! Whether a system has a record at a key.
 
-ghost use Rattle.std.specs.Prelude.{◌≡◌, Option, None, IfSome, IfNone};
+ghost use Rattle.std.specs.Prelude.{◌≡◌, ◌<◌, Option, None, IfSome, IfNone};
 ghost use Rattle.std.specs.Option.{is_some};
-ghost use Rattle.std.specs.List.{find};
+ghost use Rattle.std.specs.List.{AllPairs, find};
+ghost use Rattle.queue_model.specs.declared.message.Message.{Message};
 ghost use Rattle.queue_model.specs.Found.{IsFoundAt};
 ghost use Rattle.queue_model.specs.Rules.{has_id, has_key, is_key};
 ghost use Rattle.type_chains.specs.Lists.{types};
@@ -43,17 +44,28 @@ fn needs_message(system: &System, key: &RecordKey) -> bool
     let Some(place) = place_of(system, key.queue) else {
         return false;
     };
+    system.keeps_limits();
     has_message(&system.queue(place).messages, key.number)
 }
 
-/// The place of the queue of an id.
+/// The place of the queue of an id. Ids ascend, so each look halves the places that are left.
 fn place_of(system: &System, id: u32) -> Option<usize>
     ensures some { IfSome result (IsFoundAt (has_id id) system.now.queues) }
     ensures none { IfNone result (find (has_id id) system.now.queues ≡ None) }
 {
-    for place in 0..system.queues() {
-        if system.queue(place).id == id {
-            return Some(place);
+    system.keeps_limits();
+    let mut low = 0;
+    let mut high = system.queues();
+    'search: while low < high {
+        let middle = low + (high - low) / 2;
+        let other = system.queue(middle).id;
+        if other == id {
+            return Some(middle);
+        }
+        if other < id {
+            low = middle + 1;
+        } else {
+            high = middle;
         }
     }
     None
@@ -107,13 +119,23 @@ fn has_number(mtype: i64, number: u64) -> bool
     mtype.cast_unsigned() == number
 }
 
-/// Whether one of these messages has this serial.
+/// Whether one of these messages has this serial. Serials ascend, so each look halves the places that are left.
 fn has_message(messages: &Messages, serial: u64) -> bool
+    requires { AllPairs (λ (m n : Message). m.serial < n.serial) messages.now }
     ensures { result ≡ is_some (find (has_serial serial) messages.now) }
 {
-    for place in 0..messages.len() {
-        if messages.get(place).serial == serial {
+    let mut low = 0;
+    let mut high = messages.len();
+    'search: while low < high {
+        let middle = low + (high - low) / 2;
+        let other = messages.get(middle).serial;
+        if other == serial {
             return true;
+        }
+        if other < serial {
+            low = middle + 1;
+        } else {
+            high = middle;
         }
     }
     false

@@ -7,15 +7,6 @@ use bucket_page::Malformed;
 use std::alloc::{AllocError, AllocFailed};
 use thiserror::Error;
 
-/// The number of a fault of the chain.
-pub const CHAIN_BROKEN: u8 = 70;
-
-/// The number of a fault of the free pages.
-pub const PAGE_LOST: u8 = 71;
-
-/// The number of a fault of the directory.
-pub const ENTRY_WRONG: u8 = 72;
-
 /// The first thing that is wrong with the structure of a file, and where it stands.
 #[derive(Clone, Copy, Debug, PartialEq, Eq, Error)]
 pub enum StructureFault {
@@ -73,11 +64,11 @@ impl StructureFault {
             StructureFault::BadHeader => faults::BAD_HEADER,
             StructureFault::BadVersion => faults::BAD_VERSION,
             StructureFault::NoMemory => faults::NO_MEMORY,
-            StructureFault::ChainBroken { .. } => CHAIN_BROKEN,
-            StructureFault::NotFree { .. } | StructureFault::PageLost { .. } => PAGE_LOST,
+            StructureFault::ChainBroken { .. } => faults::CHAIN_BROKEN,
+            StructureFault::NotFree { .. } | StructureFault::PageLost { .. } => faults::PAGE_LOST,
             StructureFault::TooDeep { .. }
             | StructureFault::WrongEntry { .. }
-            | StructureFault::WrongCount { .. } => ENTRY_WRONG,
+            | StructureFault::WrongCount { .. } => faults::ENTRY_WRONG,
         }
     }
 }

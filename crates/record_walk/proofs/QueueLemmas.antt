@@ -1,10 +1,10 @@
 -- What is read of a queue determines it.
-use Rattle.std.proofs.Common.{ℕ, ◌≡◌, ◌⊎◌, Bool, List, Option, Some, None, Result, Ok, Err, IfOk, IsTrue, ◌↔◌, refl, sym, ap, subst, ◌∙◌, inl, inr}
+use Rattle.std.proofs.Common.{ℕ, ◌≡◌, Bool, List, Option, Some, None, Result, Ok, Err, IfOk, IsTrue, ◌↔◌, refl, sym, ap, subst, ◌∙◌, inl, inr}
 use Rattle.std.specs.List.{All}
 use Rattle.queue_records.specs.declared.record.Record.TheVariants as records
-use Rattle.record_walk.specs.Fault.{IsOfMachine}
 use Rattle.record_walk.specs.Held.{Holds}
 use Rattle.record_walk.specs.Systems.{HasQueue, IsQueueOf, IsNoQueueOf, IsWalkOf, IsNoWalkOf, queue_in}
+use Rattle.record_walk.specs.Told.{IsToldOfQueue, IsToldOfWalk}
 use Rattle.record_walk.specs.Words.{RecordKey, Record, WalkFault, Message, Queue, QueueEntry, queue_entry}
 
 module _ (held : RecordKey → Option (List ℕ)) (id : ℕ) (found : Option QueueEntry)
@@ -64,8 +64,10 @@ told_whole (Err e) h there back = tt
 -- a walk that failed
 pub walk_failed : (now held : RecordKey → Option (List ℕ)) (id : ℕ) (entry : QueueEntry) (fault : WalkFault) →
     ((e : QueueEntry) → Holds held (records.Queue e) → e.id ≡ id → Some entry ≡ Some e) → now ≡ held →
-    IsOfMachine fault ⊎ IsNoWalkOf now id entry.first → IsOfMachine fault ⊎ IsNoQueueOf held id
+    IsToldOfWalk now id entry.first fault → IsToldOfQueue held id fault
 walk_failed now held id entry fault told same (inl machine) = inl machine
-walk_failed now held id entry fault told same (inr none) =
-    inr (none_walked held id entry told
-    (subst (λ (h : RecordKey → Option (List ℕ)). IsNoWalkOf h id entry.first) same none))
+walk_failed now held id entry fault told same (inr wrong) = inr (
+  wrong.0,
+  none_walked held id entry told
+      (subst (λ (h : RecordKey → Option (List ℕ)). IsNoWalkOf h id entry.first) same wrong.1),
+)

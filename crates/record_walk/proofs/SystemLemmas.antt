@@ -1,9 +1,9 @@
 -- The queues of a system are those of the ids that stand, and all its records stand.
-use Rattle.std.proofs.Common.{ℕ, ◌≡◌, ◌+◌, ◌-◌, ◌<◌, ◌⊎◌, nat_lt, Bool, true, false, List, [], ◌∷◌, ◌++◌, length, map, Option, Some, None, get_or, refl, sym, ap, subst, ◌∙◌, inl, inr, arith}
+use Rattle.std.proofs.Common.{ℕ, ◌≡◌, ◌+◌, ◌-◌, ◌<◌, ◌≤◌, nat_lt, Bool, true, false, List, [], ◌∷◌, ◌++◌, length, map, Option, Some, None, get_or, refl, sym, ap, subst, ◌∙◌, inl, inr, arith}
 use Rattle.std.specs.Prelude.{slice_index, slice_index_or}
 use Rattle.std.specs.List.{All, AllPairs, Contains, flat_map}
 use Rattle.std.proofs.Math.Seq.{get_or-append_right}
-use Rattle.std.proofs.lemmas.List.{ext_get_or, get_or_append_left, get_or-map, length-append, length-map}
+use Rattle.std.proofs.lemmas.List.{ext_get_or, get_or_default, get_or_append_left, get_or-map, length-append, length-map}
 use Rattle.std.proofs.lemmas.Bool.Decides.{nat_tests}
 use Rattle.std.proofs.lemmas.List.Concat.{flat_map-cons}
 use Rattle.std.proofs.lemmas.List.Elements.{All-nil, All-cons, All-append, All-contains}
@@ -11,9 +11,10 @@ use Rattle.queue_records.specs.declared.record.Record.TheVariants as records
 use Rattle.type_chains.proofs.Members.{contains_head, contains_tail, head_or_tail}
 use Rattle.type_chains.proofs.Pairs.{All-flat_map}
 use Rattle.type_chains.proofs.Unique.{pairs_head, pairs_tail}
-use Rattle.record_walk.specs.Fault.{IsOfMachine}
+use Rattle.record_walk.specs.declared.fault.WalkFault.TheVariants as faults
 use Rattle.record_walk.specs.Held.{Holds}
-use Rattle.record_walk.specs.Systems.{AreQueueIds, AreQueuesOf, HasNoSystem, HasQueue, HasSystem, IsQueueOf, LacksQueue}
+use Rattle.record_walk.specs.Systems.{AreQueueIds, AreQueuesOf, HasNoSystem, HasQueue, HasSystem, IsQueueOf}
+use Rattle.record_walk.specs.Told.{IsFirstWrongQueue, IsToldOfQueue, IsToldOfQueues, IsToldOfSystem, LacksQueue}
 use Rattle.record_walk.specs.Words.{RecordKey, WalkFault, Counter, Queue, State, IsLawful, counter_of, key_of_queue, key_records, message_records, queue_entry, queue_records, type_records}
 
 -- some queue
@@ -120,7 +121,53 @@ module _ (held : RecordKey → Option (List ℕ)) where
       (All-cons (Holds held) (records.Queue (queue_entry q)) _ h.queue
       (All-append (Holds held) (type_records q) (message_records q) h.types h.messages))
 
+  -- no queue of one id, no system
+  pub wrong_queue : (id : ℕ) → IsFirstWrongQueue held id → HasNoSystem held
+  wrong_queue id w s h =
+      let f : Queue → ℕ = λ q. q.id in
+      let on = h.queues id w.stands in
+      let inside : on.0 < length s.queues = subst (λ n. on.0 < n) (length-map s.queues f) on.1 in
+      w.none (slice_index_or s.queues on.0 empty_queue) (has_queues s h on.0 empty_queue inside)
+      (sym (get_or-map f s.queues on.0 empty_queue id inside) ∙ on.2)
+
   module _ (ids : List ℕ) (given : AreQueueIds held ids) where
+    -- the first of the ids that has no queue is the lowest
+    first_wrong : (fault : WalkFault) (w : LacksQueue held ids fault) →
+        IsFirstWrongQueue held (slice_index ids w.place)
+    first_wrong fault w = record {
+      stands = given.only (slice_index ids w.place) (
+        w.place,
+        w.within,
+        sym (get_or_default ids w.place 0 (slice_index ids w.place) w.within),
+      );
+      none = w.none;
+      before = λ lower less stands. by_place lower less (given.all lower stands);
+    }
+      where
+        by_place : (lower : ℕ) → lower < slice_index ids w.place → Contains ids lower →
+            (q : Queue) × IsQueueOf held lower q
+        by_place lower less on = by_test (nat_lt on.0 w.place) refl
+          where
+            by_test : (b : Bool) → nat_lt on.0 w.place ≡ b → (q : Queue) × IsQueueOf held lower q
+            by_test true e = (
+                let below : on.0 < w.place = grind (arith, nat_tests, e) in
+                let is : slice_index ids on.0 ≡ lower = get_or_default ids on.0 0 lower on.1 ∙ on.2 in
+                subst (λ n. (q : Queue) × IsQueueOf held n q) is (w.before on.0 below))
+            by_test false e = (
+                let is : slice_index ids on.0 ≡ lower = get_or_default ids on.0 0 lower on.1 ∙ on.2 in
+                let rest = by_order (nat_lt w.place on.0) refl in
+                absurd (omega (arith, rest, is, less)))
+              where
+                by_order : (b : Bool) → nat_lt w.place on.0 ≡ b → slice_index ids w.place ≤ slice_index ids on.0
+                by_order true f = (
+                    let above : w.place < on.0 = grind (arith, nat_tests, f) in
+                    let order = given.ascend w.place on.0 0 above on.1 in
+                    omega (arith, order))
+                by_order false f = (
+                    let same : w.place ≡ on.0 = grind (arith, nat_tests, e, f) in
+                    let equal = ap (slice_index ids) same in
+                    omega (arith, equal))
+
     -- the ids of a system's queues are those that stand
     ids_are : (s : State) → HasSystem held s → map (λ (q : Queue). q.id) s.queues ≡ ids
     ids_are s h = same_ascending (map (λ (q : Queue). q.id) s.queues) ids h.lawful.ids_ascend given.ascend there back
@@ -140,17 +187,6 @@ module _ (held : RecordKey → Option (List ℕ)) where
 
         back : (id : ℕ) → Contains ids id → Contains (map (λ (q : Queue). q.id) s.queues) id
         back id on = h.queues id (given.only id on)
-
-    -- no queue of one id, no system
-    pub lacking : LacksQueue held ids → HasNoSystem held
-    lacking w s h =
-        let ids_same = ids_are s h in
-        let i : ℕ = w.place in
-        let long : length s.queues ≡ length ids =
-        sym (length-map s.queues (λ (q : Queue). q.id)) ∙ ap length ids_same in
-        let inside : i < length s.queues = (let at = w.within in omega (arith, at, long)) in
-        w.none (slice_index_or s.queues i empty_queue) (has_queues s h i empty_queue inside)
-        (sym (get_or-map (λ (q : Queue). q.id) s.queues i empty_queue 0 inside) ∙ ap (λ xs. get_or xs i 0) ids_same)
 
     module _ (qs : List Queue) (read : AreQueuesOf held ids qs) where
       -- the queues of a system are those that were read
@@ -236,11 +272,33 @@ no_counter held found told none s h =
 
 -- queues that could not be read
 pub queues_failed : (now held : RecordKey → Option (List ℕ)) (ids : List ℕ) (fault : WalkFault) →
-    AreQueueIds held ids → now ≡ held → IsOfMachine fault ⊎ LacksQueue now ids →
-    IsOfMachine fault ⊎ HasNoSystem held
-queues_failed now held ids fault given same (inl machine) = inl machine
-queues_failed now held ids fault given same (inr lacks) =
-    inr (lacking held ids given (subst (λ (h : RecordKey → Option (List ℕ)). LacksQueue h ids) same lacks))
+    AreQueueIds held ids → now ≡ held → IsToldOfQueues now ids fault → IsToldOfSystem held fault
+queues_failed now held ids faults.Device given same w = tt
+queues_failed now held ids faults.NoMemory given same w = tt
+queues_failed now held ids (faults.Changed page) given same (inl machine) = machine
+queues_failed now held ids faults.WrongCounter given same (inl machine) = absurd machine
+queues_failed now held ids (faults.WrongQueue queue) given same (inl machine) = absurd machine
+queues_failed now held ids (faults.Changed page) given same (inr w) = let named = w.named in absurd cc
+queues_failed now held ids faults.WrongCounter given same (inr w) = let named = w.named in absurd cc
+queues_failed now held ids (faults.WrongQueue queue) given same (inr w) =
+    let named = w.named in
+    let is : slice_index ids w.place ≡ queue = cc in
+    subst (IsFirstWrongQueue held) is (first_wrong held ids given (faults.WrongQueue queue)
+    (subst (λ (h : RecordKey → Option (List ℕ)). LacksQueue h ids (faults.WrongQueue queue)) same w))
+
+-- one of the ids has no queue
+pub lacks_one : (held : RecordKey → Option (List ℕ)) (ids : List ℕ) (qs : List Queue) (n : ℕ) (fault : WalkFault) →
+    n < length ids →
+    ((i : ℕ) (d : Queue) → i < n → IsQueueOf held (slice_index ids i) (slice_index_or qs i d)) →
+    IsToldOfQueue held (slice_index ids n) fault → IsToldOfQueues held ids fault
+lacks_one held ids qs n fault within before (inl machine) = inl machine
+lacks_one held ids qs n fault within before (inr w) = inr (record {
+  place = n;
+  within = within;
+  before = λ i less. (slice_index_or qs i empty_queue, before i empty_queue less);
+  none = w.1;
+  named = w.0;
+})
 
 -- the Counter that is looked for is that of the system
 pub counted_so : (next alive : ℕ) (s : State) (qs : List Queue) (next_id : ℕ) →

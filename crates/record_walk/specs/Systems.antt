@@ -70,12 +70,6 @@ pub record AreQueuesOf (held : RecordKey → Option (List ℕ)) (ids : List ℕ)
   pub number : length qs ≡ length ids
   pub each : (i : ℕ) (d : Queue) → i < length ids → IsQueueOf held (slice_index ids i) (slice_index_or qs i d)
 
--- one of these ids has no queue
-pub record LacksQueue (held : RecordKey → Option (List ℕ)) (ids : List ℕ) : Type 0 where
-  pub place : ℕ
-  pub within : place < length ids
-  pub none : IsNoQueueOf held (slice_index ids place)
-
 -- the one system that the records have
 pub record IsSystemOf (held : RecordKey → Option (List ℕ)) (s : State) : Type 0 where
   pub has : HasSystem held s

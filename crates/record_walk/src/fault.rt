@@ -6,9 +6,6 @@ ghost use Rattle.record_walk.specs.Fault.{number_of};
 use std::alloc::{AllocError, AllocFailed};
 use thiserror::Error;
 
-/// The number of records that are those of no system.
-pub const NO_SYSTEM: u8 = 73;
-
 /// Why the walk along the links ends.
 #[derive(Clone, Copy, Debug, PartialEq, Eq, Error)]
 pub enum WalkFault {
@@ -38,8 +35,8 @@ impl WalkFault {
             WalkFault::Device => faults::DEVICE,
             WalkFault::Changed { .. } => faults::MALFORMED,
             WalkFault::NoMemory => faults::NO_MEMORY,
-            WalkFault::WrongCounter => NO_SYSTEM,
-            WalkFault::WrongQueue { .. } => NO_SYSTEM,
+            WalkFault::WrongCounter => faults::NO_SYSTEM,
+            WalkFault::WrongQueue { .. } => faults::NO_SYSTEM,
         }
     }
 }

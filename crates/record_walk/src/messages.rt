@@ -1,9 +1,10 @@
 //! The messages of a queue are walked along their links.
 
-ghost use Rattle.std.specs.Prelude.{◌≡◌, ◌⊎◌, IsTrue, IfOk, IfErr};
-ghost use Rattle.record_walk.specs.Fault.{IsCaused, IsOfMachine};
+ghost use Rattle.std.specs.Prelude.{IsTrue, IfOk, IfErr};
+ghost use Rattle.record_walk.specs.Fault.{IsCaused};
 ghost use Rattle.record_walk.specs.Held.{IsStill};
-ghost use Rattle.record_walk.specs.Systems.{HasQueue, IsWalkOf, IsNoWalkOf};
+ghost use Rattle.record_walk.specs.Systems.{IsWalkOf};
+ghost use Rattle.record_walk.specs.Told.{IsToldOfWalk};
 
 use crate::fault::WalkFault;
 use crate::records::Records;
@@ -21,7 +22,7 @@ pub(crate) fn walk<F: Records>(
     ensures ok { IsTrue (F.is_honest file.old) →
         IfOk result (λ messages. IsWalkOf (F.held file.old) id first messages) }
     ensures err { IsTrue (F.is_honest file.old) →
-        IfErr result (λ fault. IsOfMachine fault ⊎ IsNoWalkOf (F.held file.old) id first) }
+        IfErr result (IsToldOfWalk (F.held file.old) id first) }
     ensures still { IsStill F.held F.pages F.is_honest F.fault_count file.old file.new }
     ensures cause { IsCaused (F.fault_count file.old) (F.fault_count file.new) result }
 {

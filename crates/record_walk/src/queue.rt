@@ -1,10 +1,11 @@
 //! A queue is read, and all its records are compared with those that stand.
 
-ghost use Rattle.std.specs.Prelude.{◌≡◌, ◌⊎◌, ◌↔◌, IsTrue, IfOk, IfErr};
+ghost use Rattle.std.specs.Prelude.{◌≡◌, ◌↔◌, IsTrue, IfOk, IfErr};
 ghost use Rattle.std.specs.List.{All};
 ghost use Rattle.record_walk.specs.Fault.{IsCaused, IsOfMachine};
 ghost use Rattle.record_walk.specs.Held.{Holds, IsStill};
-ghost use Rattle.record_walk.specs.Systems.{HasQueue, IsNoQueueOf, IsQueueOf, queue_in};
+ghost use Rattle.record_walk.specs.Systems.{HasQueue, IsQueueOf, queue_in};
+ghost use Rattle.record_walk.specs.Told.{IsToldOfQueue};
 ghost use Rattle.record_walk.specs.Words.{IsLawfulQueue, key_records, message_records, serials, type_records, types};
 
 use crate::entries::{message_entry, queue_entry, type_entry};
@@ -22,7 +23,7 @@ pub fn read_queue<F: Records>(file: &mut F, alloc: Global, id: u32) -> Result<Qu
     ensures ok { IsTrue (F.is_honest file.old) →
         IfOk result (λ queue. IsQueueOf (F.held file.old) id queue) }
     ensures err { IsTrue (F.is_honest file.old) →
-        IfErr result (λ fault. IsOfMachine fault ⊎ IsNoQueueOf (F.held file.old) id) }
+        IfErr result (IsToldOfQueue (F.held file.old) id) }
     ensures still { IsStill F.held F.pages F.is_honest F.fault_count file.old file.new }
     ensures cause { IsCaused (F.fault_count file.old) (F.fault_count file.new) result }
 {

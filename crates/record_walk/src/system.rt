@@ -1,9 +1,10 @@
 //! The system of all records is read, queue by queue.
 
-ghost use Rattle.std.specs.Prelude.{◌≡◌, ◌⊎◌, IsTrue, IfOk, IfErr};
-ghost use Rattle.record_walk.specs.Fault.{IsCaused, IsOfMachine};
+ghost use Rattle.std.specs.Prelude.{IsTrue, IfOk, IfErr};
+ghost use Rattle.record_walk.specs.Fault.{IsCaused};
 ghost use Rattle.record_walk.specs.Held.{IsStill};
-ghost use Rattle.record_walk.specs.Systems.{AreQueueIds, AreQueuesOf, HasNoSystem, IsSystemOf, LacksQueue};
+ghost use Rattle.record_walk.specs.Systems.{AreQueueIds, AreQueuesOf, IsSystemOf};
+ghost use Rattle.record_walk.specs.Told.{IsToldOfQueues, IsToldOfSystem};
 
 use crate::fault::WalkFault;
 use crate::queue::read_queue;
@@ -13,7 +14,8 @@ use queue_records::{Counter, Record};
 use std::alloc::Global;
 
 /// The one system of which all records stand, and to whose queues all Queue records belong. The ids are those of the Queue
-/// records. It is refused exactly where there is no such system.
+/// records. It is refused exactly where there is no such system: at the lowest id of which there is a Queue and no queue, or
+/// at the Counter.
 pub fn read_system<F: Records>(
     file: &mut F,
     alloc: Global,
@@ -23,7 +25,7 @@ pub fn read_system<F: Records>(
     ensures ok { IsTrue (F.is_honest file.old) →
         IfOk result (λ system. IsSystemOf (F.held file.old) system) }
     ensures err { IsTrue (F.is_honest file.old) →
-        IfErr result (λ fault. IsOfMachine fault ⊎ HasNoSystem (F.held file.old)) }
+        IfErr result (IsToldOfSystem (F.held file.old)) }
     ensures still { IsStill F.held F.pages F.is_honest F.fault_count file.old file.new }
     ensures cause { IsCaused (F.fault_count file.old) (F.fault_count file.new) result }
 {
@@ -54,7 +56,7 @@ fn read_queues<F: Records>(
     ensures ok { IsTrue (F.is_honest file.old) →
         IfOk result (λ queues. AreQueuesOf (F.held file.old) ids.now queues.items) }
     ensures err { IsTrue (F.is_honest file.old) →
-        IfErr result (λ fault. IsOfMachine fault ⊎ LacksQueue (F.held file.old) ids.now) }
+        IfErr result (IsToldOfQueues (F.held file.old) ids.now) }
     ensures still { IsStill F.held F.pages F.is_honest F.fault_count file.old file.new }
     ensures cause { IsCaused (F.fault_count file.old) (F.fault_count file.new) result }
 {

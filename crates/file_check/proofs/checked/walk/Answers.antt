@@ -1,7 +1,7 @@
 -- What the walk along the links of these records tells.
-use Rattle.std.proofs.Common.{◌⊎◌, sym, subst}
-use Rattle.record_walk.specs.Fault.{IsOfMachine}
-use Rattle.record_walk.specs.Systems.{AreQueueIds, HasNoSystem, IsSystemOf}
+use Rattle.std.proofs.Common.{sym, subst}
+use Rattle.record_walk.specs.Systems.{AreQueueIds, IsSystemOf}
+use Rattle.record_walk.specs.Told.{IsToldOfSystem}
 use Rattle.file_records.specs.Files.{Source, held_on}
 use Rattle.file_check.proofs.WholeLemmas.{is_honest_too, is_honest_back}
 use Rattle.file_check.proofs.checked.walk.Goals as goal
@@ -20,6 +20,6 @@ pub returns-in-Err-clause-err : goal.returns-in-Err-clause-err
 returns-in-Err-clause-err g c = λ is. (
   c.in-Err.fault,
   c.from.ensures,
-  subst (λ (x : Source). IsOfMachine c.in-Err.fault ⊎ HasNoSystem (held_on x)) c.new-records.ensures
+  subst (λ (x : Source). IsToldOfSystem (held_on x) c.in-Err.fault) c.new-records.ensures
       (c.in-Err.ensures.err (is_honest_back _ _ _ _ c.new-records.ensures is)),
 )

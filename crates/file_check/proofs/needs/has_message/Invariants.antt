@@ -1,10 +1,12 @@
--- None of those so far is it.
-use Rattle.std.proofs.Common.{◌≡◌, ℕ, ◌<◌, false}
-use Rattle.std.specs.Prelude.{slice_index_or}
+-- The message can stand between two places alone.
+use Rattle.std.proofs.Common.{◌-◌}
 use Rattle.queue_model.specs.declared.message.Message.{Message}
-use Rattle.type_chains.specs.RecordOf.{has_serial}
+use Rattle.file_check.proofs.NeedsLemmas.{IsHalved}
 use Rattle.file_check.proofs.needs.has_message.Given as goal
 
-abbrev pub invariant-loop-place : goal.invariant-loop-place
-invariant-loop-place l = (k : ℕ) (d : Message) → k < l.place →
-    has_serial l.serial (slice_index_or l.messages k d) ≡ false
+abbrev pub invariant-search : goal.invariant-search
+invariant-search l = IsHalved (λ (m : Message). m.serial) l.messages l.serial l.low l.high
+
+-- they come nearer
+abbrev pub decreases-search : goal.decreases-search
+decreases-search l = l.high - l.low

@@ -1,9 +1,12 @@
--- None of those so far is it.
-use Rattle.std.proofs.Common.{◌≡◌, ℕ, ◌<◌, false}
-use Rattle.std.specs.Prelude.{slice_index_or}
+-- The queue can stand between two places alone.
+use Rattle.std.proofs.Common.{◌-◌}
 use Rattle.queue_model.specs.declared.queue.Queue.{Queue}
-use Rattle.queue_model.specs.Rules.{has_id}
+use Rattle.file_check.proofs.NeedsLemmas.{IsHalved}
 use Rattle.file_check.proofs.needs.place_of.Given as goal
 
-abbrev pub invariant-loop-place : goal.invariant-loop-place
-invariant-loop-place l = (k : ℕ) (d : Queue) → k < l.place → has_id l.id (slice_index_or l.system.queues k d) ≡ false
+abbrev pub invariant-search : goal.invariant-search
+invariant-search l = IsHalved (λ (q : Queue). q.id) l.system.queues l.id l.low l.high
+
+-- they come nearer
+abbrev pub decreases-search : goal.decreases-search
+decreases-search l = l.high - l.low

@@ -1,5 +1,5 @@
 -- A message brings the walk nearer to its end.
-use Rattle.std.proofs.Common.{ℕ, List, Option, IsTrue, length, length-append, sym, ap, subst, ◌∙◌, inr, arith}
+use Rattle.std.proofs.Common.{ℕ, List, Option, IsTrue, length, length-append, refl, sym, ap, subst, ◌∙◌, inr, arith}
 use Rattle.queue_records.specs.declared.record.Record.TheVariants as records
 use Rattle.record_walk.specs.Held.{Holds}
 use Rattle.record_walk.specs.Words.{RecordKey}
@@ -8,16 +8,19 @@ use Rattle.record_walk.proofs.WalkLemmas.{IsWalkedTo, walked_there, walked_more,
 use Rattle.record_walk.proofs.messages.walk.Goals as goal
 
 pub returns-in_default-2-clause-err : goal.returns-in_default-2-clause-err
-returns-in_default-2-clause-err g c = λ is. inr (λ q has its e.
-    let before = c.walk.invariant in
-    let so = subst (IsWalkedTo q c.walk.messages) c.in-Some.is (before.walked is q has its e) in
-    let told = c.in_ok-found.ensures.ok (subst IsTrue (sym before.still.honesty) is) in
-    let there = walked_there (g.F.Records.held c.args.file.now) q has c.args.id c.args.first its c.walk.messages
-    c.in-Some.serial c.in_ok-found.field-0 so
-    (λ m h a b. told m (subst (λ (held : RecordKey → Option (List ℕ)). Holds held (records.Message m))
-    (sym before.still.same) h) a b) in
-    let none = sym c.in_default-2.is ∙ there.1 in
-    absurd cc)
+returns-in_default-2-clause-err g c = λ is. inr (
+  refl,
+  λ q has its e.
+      let before = c.walk.invariant in
+      let so = subst (IsWalkedTo q c.walk.messages) c.in-Some.is (before.walked is q has its e) in
+      let told = c.in_ok-found.ensures.ok (subst IsTrue (sym before.still.honesty) is) in
+      let there = walked_there (g.F.Records.held c.args.file.now) q has c.args.id c.args.first its c.walk.messages
+      c.in-Some.serial c.in_ok-found.field-0 so
+      (λ m h a b. told m (subst (λ (held : RecordKey → Option (List ℕ)). Holds held (records.Message m))
+      (sym before.still.same) h) a b) in
+      let none = sym c.in_default-2.is ∙ there.1 in
+      absurd cc,
+)
 
 pub walk-preserved : goal.walk-preserved
 walk-preserved g c =

@@ -1,5 +1,5 @@
 -- What is read is the queue, or there is none.
-use Rattle.std.proofs.Common.{ℕ, List, Option, IsTrue, sym, subst, ◌∙◌, inr}
+use Rattle.std.proofs.Common.{ℕ, List, Option, IsTrue, refl, sym, subst, ◌∙◌, inr}
 use Rattle.std.proofs.lemmas.Result.{err_from_is_err_and}
 use Rattle.record_walk.specs.Systems.{HasQueue, IsQueueOf, IsWalkOf}
 use Rattle.record_walk.specs.Words.{RecordKey}
@@ -8,8 +8,11 @@ use Rattle.record_walk.proofs.queue.read_queue.Goals as goal
 
 pub returns-in_default-clause-err : goal.returns-in_default-clause-err
 returns-in_default-clause-err g c = λ is.
-    inr (none_there (g.F.Records.held c.args.file.now) c.args.id c.in_ok-entry.field-0 (c.in_ok-entry.ensures.ok is)
-    c.in_default.is)
+    inr (
+      refl,
+      none_there (g.F.Records.held c.args.file.now) c.args.id c.in_ok-entry.field-0
+          (c.in_ok-entry.ensures.ok is) c.in_default.is,
+    )
 
 pub returns-in_err-messages-clause-err : goal.returns-in_err-messages-clause-err
 returns-in_err-messages-clause-err g c = λ is.
@@ -28,14 +31,17 @@ returns-then-not-branch-clause-err g c = λ is.
     let told = c.in_ok-has_queue.ensures.ok (subst IsTrue (sym two.honesty) is1) in
     let walked = subst (λ (h : RecordKey → Option (List ℕ)). IsWalkOf h c.args.id c.in-Some.entry.first
     c.in_ok-messages.messages) one.same (c.in_ok-messages.ensures.ok is1) in
-    inr (none_read (g.F.Records.held c.args.file.now) c.args.id c.in-Some.entry
-    (λ e h a. sym c.in-Some.is ∙ c.in_ok-entry.ensures.ok is e h a) c.in_ok-messages.messages walked
-    (λ h.
-    let t = told.1 (subst (λ (x : RecordKey → Option (List ℕ)). HasQueue x c.queue_in-queue.result)
-    (sym (two.same ∙ one.same))
-    (subst (HasQueue (g.F.Records.held c.args.file.now)) (sym c.queue_in-queue.ensures) h)) in
-    let f = c.if-not-branch.true in
-    absurd cc))
+    inr (
+      refl,
+      none_read (g.F.Records.held c.args.file.now) c.args.id c.in-Some.entry
+          (λ e h a. sym c.in-Some.is ∙ c.in_ok-entry.ensures.ok is e h a) c.in_ok-messages.messages walked
+          (λ h.
+          let t = told.1 (subst (λ (x : RecordKey → Option (List ℕ)). HasQueue x c.queue_in-queue.result)
+          (sym (two.same ∙ one.same))
+          (subst (HasQueue (g.F.Records.held c.args.file.now)) (sym c.queue_in-queue.ensures) h)) in
+          let f = c.if-not-branch.true in
+          absurd cc),
+    )
 
 pub returns-clause-ok : goal.returns-clause-ok
 returns-clause-ok g c = λ is.

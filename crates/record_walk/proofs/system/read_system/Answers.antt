@@ -1,5 +1,5 @@
 -- What is read is the system, or there is none.
-use Rattle.std.proofs.Common.{ℕ, List, Option, IsTrue, sym, subst, ◌∙◌, inr}
+use Rattle.std.proofs.Common.{ℕ, List, Option, IsTrue, sym, subst, ◌∙◌}
 use Rattle.std.proofs.lemmas.Result.{err_from_is_err_and}
 use Rattle.record_walk.specs.Systems.{AreQueuesOf, HasSystem}
 use Rattle.record_walk.specs.Words.{IsLawful, RecordKey}
@@ -9,8 +9,8 @@ use Rattle.record_walk.proofs.system.read_system.Goals as goal
 
 pub returns-in_default-clause-err : goal.returns-in_default-clause-err
 returns-in_default-clause-err g c = λ is.
-    inr (no_counter (g.F.Records.held c.args.file.now) c.in_ok-counter.field-0 (c.in_ok-counter.ensures.ok is)
-    c.in_default.is)
+    no_counter (g.F.Records.held c.args.file.now) c.in_ok-counter.field-0 (c.in_ok-counter.ensures.ok is)
+    c.in_default.is
 
 pub returns-in_err-queues-clause-err : goal.returns-in_err-queues-clause-err
 returns-in_err-queues-clause-err g c = λ is.
@@ -25,9 +25,9 @@ returns-in_default-of_queues-clause-err g c = λ is.
     let still = c.in_ok-counter.ensures.still in
     let read = subst (λ (h : RecordKey → Option (List ℕ)). AreQueuesOf h c.args.ids.now c.in_ok-queues.queues.items)
     still.same (c.in_ok-queues.ensures.ok (subst IsTrue (sym still.honesty) is)) in
-    inr (no_system (g.F.Records.held c.args.file.now) c.args.ids.now (c.requires is) c.in_ok-queues.queues.items read
+    no_system (g.F.Records.held c.args.file.now) c.args.ids.now (c.requires is) c.in_ok-queues.queues.items read
     c.in-Some.counter (λ d h. sym c.in-Some.is ∙ c.in_ok-counter.ensures.ok is d h)
-    (λ h. c.in_default-of_queues.ensures.none h.lawful))
+    (λ h. c.in_default-of_queues.ensures.none h.lawful)
 
 pub returns-then-not-branch-clause-err : goal.returns-then-not-branch-clause-err
 returns-then-not-branch-clause-err g c = λ is.
@@ -42,13 +42,13 @@ returns-then-not-branch-clause-err g c = λ is.
     let made = c.in-Some-of_queues.ensures.some in
     let counted = counted_so c.next_id.result c.queues.result c.in-Some-of_queues.system items
     c.in-Some.counter.next_id made c.next_id.ensures c.queues.ensures in
-    inr (no_system held c.args.ids.now (c.requires is) items read
+    no_system held c.args.ids.now (c.requires is) items read
     c.in-Some.counter (λ d h. sym c.in-Some.is ∙ c.in_ok-counter.ensures.ok is d h)
     (λ h.
     let stands = counter_stands held items c.in-Some.counter.next_id h in
     let t = told.1 (holds_now _ held _ _ (two.same ∙ one.same) counted stands) in
     let f = c.if-not-branch.true in
-    absurd cc))
+    absurd cc)
 
 pub returns-clause-ok : goal.returns-clause-ok
 returns-clause-ok g c = λ is.
