@@ -108,14 +108,8 @@ fn read(bytes: &[u8]) -> Result<PageKind, Malformed>
     ensures { result ≡ reading bytes.now }
 {
     match bytes[0] {
-        BUCKET => match read_bucket(bytes) {
-            Ok(bucket) => Ok(PageKind::Bucket(bucket)),
-            Err(fault) => Err(fault),
-        },
-        DIRECTORY => match read_entries(bytes) {
-            Some(entries) => Ok(PageKind::Directory(entries)),
-            None => Err(Malformed::Padding),
-        },
+        BUCKET => Ok(PageKind::Bucket(read_bucket(bytes)?)),
+        DIRECTORY => Ok(PageKind::Directory(read_entries(bytes).ok_or(Malformed::Padding)?)),
         TOMBSTONE => Ok(PageKind::Tombstone {
             link: read_link(bytes)?,
         }),

@@ -102,6 +102,13 @@ pub record PoolHasCause {T : Type 0} (MayTell : PoolFault → Type 0) (old new :
   pub failed : IsErrOf result (Device device.Device) → HasRisen old new
   pub told : IfErr result MayTell
 
+-- what the opening of a pool may tell
+abbrev pub MayNotOpen : PoolFault → Type 0
+MayNotOpen (Device fault) = ⊥
+MayNotOpen Malformed = ⊥
+MayNotOpen TooFewFrames = ⊤
+MayNotOpen NoMemory = ⊤
+
 -- what the pinning of a page may tell: of an honest device no wrong digest of a page that is sealed, and no page
 -- malformed whose image spells one
 abbrev pub MayNotPin : ℕ → PoolState → PoolFault → Type 0

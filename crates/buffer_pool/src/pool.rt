@@ -1,7 +1,7 @@
 //! Pools: the images of a device's pages, in frames.
 ghost use Rattle.std.specs.Prelude.{◌≡◌, ◌↔◌, ◌+◌, ◌-◌, ◌^◌, ◌<◌, ◌≤◌, length, is_ok, Some, IsTrue, IfOk, IfErr, IsErrAnd, IsErrOf, OnOk, slice_get, slice_set, if◌then◌else◌};
 ghost use Rattle.page_device.specs.declared.fault.DeviceFault.TheVariants.{PastEnd};
-ghost use Rattle.buffer_pool.specs.Pool.{pins_at, opened, IsAtRest, payloads_of, IsCrowded, KeepsImages, PoolHasCause, MayNotPin, MayNotFlush};
+ghost use Rattle.buffer_pool.specs.Pool.{pins_at, opened, IsAtRest, payloads_of, IsCrowded, KeepsImages, PoolHasCause, MayNotOpen, MayNotPin, MayNotFlush};
 ghost use Rattle.std.specs.Borrow.{sem};
 ghost use Rattle.buffer_pool.specs.Lending.{LendsImage};
 
@@ -51,6 +51,7 @@ impl<D: PageDevice> Pool<D> {
         ensures few { IsErrAnd result (λ refusal. refusal.1 ≡ PoolFault.TooFewFrames) ↔
             (frames ≡ 0) }
         ensures device { IfErr result (λ refusal. refusal.0 ≡ device) }
+        ensures cause { IfErr result (λ refusal. MayNotOpen refusal.1) }
     {
         if frames == 0 {
             return Err((device, PoolFault::TooFewFrames));

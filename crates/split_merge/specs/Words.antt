@@ -11,6 +11,9 @@ pub use Rattle.page_locks.specs.declared.lock.Lock.{Lock}
 pub use Rattle.page_locks.specs.declared.lock.LockKind.TheVariants.{Selective}
 pub use Rattle.page_locks.specs.declared.lock.LockName.TheVariants.{Directory, Page}
 pub use Rattle.page_locks.specs.Locks.{lock_of}
+pub use Rattle.page_locks.specs.Table.{IsSeat, row_of, with_row}
+pub use Rattle.file_pages.specs.Files.{IsReady}
+pub use Rattle.file_pages.specs.Writes.{OnlyWrites}
 pub use Rattle.hash_file.specs.Change.{Change, Quiet, Taken, Filled, Linked}
 pub use Rattle.step_rules.specs.declared.kind.Kind.TheVariants.{WriteRecord}
 pub use Rattle.step_rules.specs.declared.progress.Progress.{Progress}
@@ -20,5 +23,8 @@ pub use Rattle.step_rules.specs.Known.{Known, OnPage, Live, Built, Told, IsKnown
 pub use Rattle.step_rules.specs.Sound.{IsSoundWorld}
 pub use Rattle.step_rules.specs.Structure.{InPhase, HasDepth, Copied, Retargeted, Shaped, BucketOf, Near}
 pub use Rattle.step_rules.specs.Pages.{Lacking, Using}
+pub use Rattle.step_rules.specs.Turns.{is_fault}
+pub use Rattle.stale_search.specs.Searches.{HasNoFileLock}
+pub use Rattle.stale_search.specs.Steps.{Sees, Step, world}
 pub use Rattle.split_merge.specs.declared.place.SplitPlace.{SplitPlace}
 pub use Rattle.split_merge.specs.declared.place.SplitPlace.TheVariants.{TakePage, CopyDirectory, RaiseDepth, WriteNew, WriteOld, Retarget, SetCounts, Done, Full}

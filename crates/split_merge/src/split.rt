@@ -1,17 +1,7 @@
 //! The machine.
 
 ghost use Rattle.std.specs.Prelude.{◌≡◌, ◌<◌, ◌≤◌, ◌+◌, ◌%◌, ◌^◌, ℕ, List, false, not};
-ghost use Rattle.bucket_page.specs.declared.layout.TheConstants.{RECORD_HEAD_BYTES, ROOM_BYTES};
-ghost use Rattle.bucket_page.specs.Records.{Pair};
-ghost use Rattle.directory.specs.declared.layout.TheConstants.{GREATEST_DEPTH};
-ghost use Rattle.page_locks.specs.declared.lock.Lock.{Lock};
-ghost use Rattle.page_locks.specs.Table.{IsSeat, row_of, with_row};
-ghost use Rattle.file_pages.specs.Files.{IsReady};
-ghost use Rattle.file_pages.specs.Writes.{OnlyWrites};
-ghost use Rattle.hash_file.specs.Change.{Change};
-ghost use Rattle.step_rules.specs.Turns.{is_fault};
-ghost use Rattle.stale_search.specs.Searches.{HasNoFileLock};
-ghost use Rattle.stale_search.specs.Steps.{Sees, Step, world};
+ghost use Rattle.split_merge.specs.Words.{RECORD_HEAD_BYTES, ROOM_BYTES, Pair, GREATEST_DEPTH, Lock, IsSeat, row_of, with_row, IsReady, OnlyWrites, Change, is_fault, HasNoFileLock, Sees, Step, world};
 ghost use Rattle.split_merge.specs.Splits.{FullMeans, IsWanted, KeepsAim, Progresses, split_facts, split_locks, split_turn};
 
 use crate::free_page::take_free;
@@ -112,7 +102,8 @@ impl Split {
 
     /// The depth of the directory, which the split may have raised.
     pub fn depth(&self) -> u8
-        ensures { result ≡ self.now.depth }
+        ensures value { result ≡ self.now.depth }
+        ensures within { result ≤ GREATEST_DEPTH }
     {
         self.depth
     }
