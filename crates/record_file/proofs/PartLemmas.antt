@@ -1,15 +1,16 @@
 -- A delete in its removal, which passes on to the merge, and in its merge.
-use Rattle.std.proofs.Common.{◌≡◌, refl, sym, ap, ◌∙◌, ℕ, ◌+◌, ◌≤◌, Bool, true, false, List, [], Some, None, ◌⊎◌, inl, inr, arith}
+use Rattle.std.proofs.Common.{◌≡◌, refl, sym, ap, ◌∙◌, subst, ℕ, ◌+◌, ◌≤◌, Bool, true, false, List, [], Option, Some, None, ◌⊎◌, inl, inr, arith}
 use Rattle.bucket_merge.specs.Places.{MergeView, is_done, locks_at as merge_locks_at, merge_locks}
-use Rattle.bucket_merge.specs.Facts.{facts_at as merge_facts_at, left_at as merge_left_at, merge_facts, steps_left as merge_left}
+use Rattle.bucket_merge.specs.Facts.{facts_at as merge_facts_at, left_at as merge_left_at, merge_facts, merge_turn, steps_left as merge_left}
 use Rattle.bucket_merge.specs.declared.place.MergePlace.{MergePlace}
 use Rattle.stale_search.specs.declared.place.ApproachPlace.{ApproachPlace}
 use Rattle.stale_search.specs.Approaches.{approach_facts_at, approach_locks_at}
 use Rattle.buffer_pool.specs.Pool.{PoolState}
 use Rattle.file_pages.specs.declared.fault.FileFault.{FileFault}
-use Rattle.record_file.specs.Words.{RecordKey, Lock, Store, Progress, Moved, Blocked, Fault, Ended, World, SearchView, Nears}
-use Rattle.record_file.specs.Deletes.{IsBegun, IsOver, part}
-use Rattle.record_file.specs.Removals.{TurnsAwayIn, ended_in, facts_in, left_in, locks_in}
+use Rattle.record_file.specs.Words.{RecordKey, Remove, Table, Lock, Change, Store, Progress, Moved, Blocked, Fault, Ended, World, Known, Turn, SearchView, Nears, Step}
+use Rattle.step_rules.specs.Turns.{Ask}
+use Rattle.record_file.specs.Deletes.{IsBegun, IsOver, delete_facts, delete_turn, part}
+use Rattle.record_file.specs.Removals.{RemovalView, TurnsAwayIn, ended_in, facts_in, left_in, locks_in, removal_facts, removal_turn}
 use Rattle.record_file.specs.declared.removal.RemovalStage.{RemovalStage}
 use Rattle.record_file.specs.declared.removal.RemovalStage.TheVariants.{Searching, Written, Ended as HasEnded}
 
@@ -97,6 +98,24 @@ module _ (m : MergeView) (begun : IsBegun m) where
   passed_left (Written n due) search s = omega arith
   passed_left (HasEnded true) search s = omega arith
   passed_left (HasEnded false) search s = omega arith
+
+-- the merge makes a step, of which the turn is that of the removed key
+module _ (hash : RecordKey → ℕ) (seat : ℕ) (did : Progress FileFault) (pool pool' : PoolState) (locks locks' : Table)
+    (change : Change) where
+  pub merges_on : (r : RemovalView) (m m' : MergeView) → m.key ≡ r.search.key → ended_in r.stage ≡ Some true →
+      Step hash seat (merge_turn m) did (merge_facts m') pool pool' locks locks' change →
+      Step hash seat (delete_turn (record { removal = r; merge = m })) did
+      (delete_facts (record { removal = r; merge = m' })) pool pool' locks locks' change
+  merges_on r m m' key is made =
+      let turn : Option Ask → RecordKey → Turn =
+      λ (ask : Option Ask) (k : RecordKey). record { ask = ask; write = Some (Remove k) } in
+      subst (λ (k : RecordKey). Step hash seat (turn (delete_turn (record { removal = r; merge = m })).ask k) did
+      (delete_facts (record { removal = r; merge = m' })) pool pool' locks locks' change) key
+      (subst (λ (ask : Option Ask). Step hash seat (turn ask m.key) did
+      (delete_facts (record { removal = r; merge = m' })) pool pool' locks locks' change)
+      (sym (in_merge (removal_turn r).ask None (merge_turn m).ask r.stage is))
+      (subst (λ (facts : List Known). Step hash seat (merge_turn m) did facts pool pool' locks locks' change)
+      (sym (in_merge (removal_facts r) [] (merge_facts m') r.stage is)) made))
 
 -- fewer steps are fewer still
 pub nears_more : (did : Progress FileFault) (left left' less : ℕ) (pool pool' : PoolState) → less ≤ left' →

@@ -1,12 +1,12 @@
 -- What a delete holds, knows and asks for at each place: a removal, and then a merge where one is due.
 -- docs/STEPS.md, "Insert, Replace, Delete".
-use Rattle.std.specs.Prelude.{ℕ, ◌≡◌, ◌↔◌, ◌+◌, ◌⊎◌, true, false, List, [], Some, ⊤}
+use Rattle.std.specs.Prelude.{ℕ, ◌≡◌, ◌↔◌, ◌+◌, ◌⊎◌, true, false, List, [], Some, None, ⊤}
 use Rattle.bucket_merge.specs.Places.{MergeView, merge_locks, is_done}
 use Rattle.bucket_merge.specs.Facts.{merge_facts, merge_turn, steps_left as merge_left}
 use Rattle.bucket_merge.specs.declared.place.MergePlace.{MergePlace}
 use Rattle.bucket_merge.specs.declared.place.MergePlace.TheVariants.{Approaching}
 use Rattle.stale_search.specs.declared.place.ApproachPlace.TheVariants.{GrantDirectory}
-use Rattle.record_file.specs.Words.{Lock, Store, Progress, Ended, Stays, Known, Turn}
+use Rattle.record_file.specs.Words.{Remove, Lock, Store, Progress, Ended, Stays, Known, Turn}
 use Rattle.record_file.specs.declared.removal.RemovalStage.{RemovalStage}
 use Rattle.record_file.specs.declared.removal.RemovalStage.TheVariants.{Ended as HasEnded}
 use Rattle.record_file.specs.Removals.{RemovalView, ended_in, removal_locks, removal_facts, removal_turn, removal_left}
@@ -46,8 +46,12 @@ delete_locks d before = part d.removal.stage (removal_locks d.removal before) be
 abbrev pub delete_facts : DeleteView → List Known
 delete_facts d = part d.removal.stage (removal_facts d.removal) [] (merge_facts d.merge)
 
+-- the record of its key is to be removed, and of that key alone
 abbrev pub delete_turn : DeleteView → Turn
-delete_turn d = part d.removal.stage (removal_turn d.removal) (removal_turn d.removal) (merge_turn d.merge)
+delete_turn d = record {
+  ask = part d.removal.stage (removal_turn d.removal).ask None (merge_turn d.merge).ask;
+  write = Some (Remove d.removal.search.key);
+}
 
 -- what it is about stays, it has ended where it was over, and where it did not move it is what it was
 pub record KeepsDelete {F : Type 0} (did : Progress F) (old new : DeleteView) : Type 0 where

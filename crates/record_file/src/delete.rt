@@ -1,6 +1,6 @@
 //! A record that is deleted.
 
-ghost use Rattle.std.specs.Prelude.{◌≡◌, ℕ, List, Option, false};
+ghost use Rattle.std.specs.Prelude.{◌≡◌, ◌↔◌, ℕ, List, Option, true, false};
 ghost use Rattle.bucket_merge.specs.Steps.{TurnsAwayAt};
 ghost use Rattle.stale_search.specs.declared.place.ApproachPlace.{ApproachPlace};
 ghost use Rattle.stale_search.specs.declared.place.SearchPlace.{SearchPlace};
@@ -10,10 +10,10 @@ ghost use Rattle.record_file.specs.Words.{RecordKey, Lock, IsSeat, row_of, with_
 ghost use Rattle.record_file.specs.Machines.{FindsAt};
 ghost use Rattle.record_file.specs.Writers.{Owns};
 ghost use Rattle.record_file.specs.Removals.{TurnsAwayIn, removed_at};
-ghost use Rattle.record_file.specs.Deletes.{KeepsDelete, delete_facts, delete_left, delete_locks, delete_turn};
+ghost use Rattle.record_file.specs.Deletes.{IsOver, KeepsDelete, delete_facts, delete_left, delete_locks, delete_turn};
 
 use crate::removal::Removal;
-use bucket_merge::Merge;
+use bucket_merge::{Merge, MergePlace};
 use bucket_page::RecordKey;
 use buffer_pool::Pool;
 use file_pages::FileFault;
@@ -76,6 +76,17 @@ impl Delete {
         ensures { result ≡ removed_at self.now.removal }
     {
         self.removal.found()
+    }
+
+    /// Whether it has given all locks back.
+    pub fn has_ended(&self) -> bool
+        ensures { (result ≡ true) ↔ IsOver self.now.removal.stage self.now.merge.place }
+    {
+        match self.removal.ended() {
+            None => false,
+            Some(false) => true,
+            Some(true) => matches!(self.merge.place(), MergePlace::Done),
+        }
     }
 
     /// One step.

@@ -66,6 +66,13 @@ impl Find {
         }
     }
 
+    /// Whether it has given its page back.
+    pub fn has_ended(&self) -> bool
+        ensures { result ≡ self.now.ended }
+    {
+        self.ended
+    }
+
     /// How often its search went on from a page that did not answer to another one.
     pub fn hops(&self) -> u32
         ensures { result ≡ self.now.search.hops }

@@ -1,6 +1,6 @@
 //! A record whose value is replaced.
 
-ghost use Rattle.std.specs.Prelude.{◌≡◌, ℕ, List, Option, false};
+ghost use Rattle.std.specs.Prelude.{◌≡◌, ◌↔◌, ℕ, List, Option, true, false};
 ghost use Rattle.stale_search.specs.declared.place.SearchPlace.{SearchPlace};
 ghost use Rattle.record_file.specs.Words.{RecordKey, Lock, IsSeat, row_of, with_row, IsReady, Change, WritesOrSpares, Selective, is_fault, Sees, Step, world, EndsRow, HasNoFileLock, Nears, store_of};
 ghost use Rattle.record_file.specs.Machines.{FindsAt};
@@ -79,6 +79,13 @@ impl Replace {
             SearchPlace::Found(page, found) => Some((page, found)),
             _ => None,
         }
+    }
+
+    /// Whether it has given all locks back.
+    pub fn has_ended(&self) -> bool
+        ensures { (result ≡ true) ↔ (self.now.stage ≡ ReplaceStage.Ended) }
+    {
+        matches!(self.stage, ReplaceStage::Ended)
     }
 
     /// One step. The bytes that replace the first ones of the value are lent to it.

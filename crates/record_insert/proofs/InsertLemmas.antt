@@ -1,5 +1,5 @@
 -- An insert in its first try, which passes on to the second, and in its second one.
-use Rattle.std.proofs.Common.{◌≡◌, refl, sym, ap, ◌∙◌, subst, ℕ, ◌+◌, true, false, List, Option, Some, None, is_some, length, arith, inl, inr}
+use Rattle.std.proofs.Common.{◌≡◌, refl, sym, ap, ◌∙◌, subst, ℕ, ◌+◌, true, false, List, [], Option, Some, None, is_some, length, arith, inl, inr}
 use Rattle.std.proofs.lemmas.Bool.{true≢false}
 use Rattle.file_pages.specs.declared.fault.FileFault.{FileFault}
 use Rattle.step_rules.specs.declared.kind.Kind.TheVariants as kinds
@@ -10,9 +10,9 @@ use Rattle.record_file.specs.FirstTries.{facts_in as first_facts_in, left_in as 
 use Rattle.record_file.specs.declared.first_try.FirstTryStage.{FirstTryStage}
 use Rattle.record_file.specs.declared.first_try.FirstTryStage.TheVariants.{Searching, Written, Ended as FirstEnded}
 use Rattle.stale_search.proofs.StayLemmas.{Stays-of}
-use Rattle.record_insert.specs.Words.{RecordKey, Pair, pair, PoolState, Table, Lock, Change, Progress, Moved, Blocked, Fault, Ended, World, is_fault, HasNoFileLock, Owns, row_of, with_row, store_of, Stays, Tells, WritesOrSpares, world, Sees, Step, Tried, IsPut, IsThere}
+use Rattle.record_insert.specs.Words.{RecordKey, Pair, pair, Put, Known, Ask, Turn, PoolState, Table, Lock, Change, Progress, Moved, Blocked, Fault, Ended, World, is_fault, HasNoFileLock, Owns, row_of, with_row, store_of, Stays, Tells, WritesOrSpares, world, Sees, Step, Tried, IsPut, IsThere}
 use Rattle.record_insert.specs.SecondSteps.{IsSeenThere, MakesStep, NearsOrSpares, SaysAt}
-use Rattle.record_insert.specs.SecondTries.{SecondTryView, said_at}
+use Rattle.record_insert.specs.SecondTries.{SecondTryView, said_at, second_facts, second_turn}
 use Rattle.record_insert.specs.Inserts.{InsertView, IsFirstAt, IsOver, IsSecondAt, SECOND_STEPS, is_ended, is_there}
 use Rattle.record_insert.specs.InsertSteps.{MakesInsert}
 use Rattle.record_insert.specs.declared.insert.InsertStage.{InsertStage}
@@ -84,6 +84,16 @@ module _ (hash : RecordKey → ℕ) (seat : ℕ) (key : RecordKey) (k : ℕ) (va
   Inserts stage stage' =
       MakesInsert hash seat value did (insert_at stage) (insert_at stage') pool pool' locks locks'
 
+  -- a try at this key puts the value there
+  abbrev put_at : Option Ask → RecordKey → Turn
+  put_at ask own = record { ask = ask; write = Some (Put (pair own value)) }
+
+  puts_at : (own : RecordKey) (ask : Option Ask) (facts : List Known) (change : Change) → own ≡ key →
+      Step hash seat (put_at ask own) did facts pool pool' locks locks' change →
+      Step hash seat (put_at ask key) did facts pool pool' locks locks' change
+  puts_at own ask facts change same made =
+      subst (λ (x : RecordKey). Step hash seat (put_at ask x) did facts pool pool' locks locks' change) same made
+
   module _ (t t' : FirstTryView) (said : Option Tried) (inv : IsFirstAt key k t said)
       (writes : WritesOrSpares did pool pool') (aim : KeepsFirstTry did t t')
       (row : (before : List Lock) → HasNoFileLock before → row_of locks seat ≡ first_try_locks t before →
@@ -122,8 +132,9 @@ module _ (hash : RecordKey → ℕ) (seat : ℕ) (key : RecordKey) (k : ℕ) (va
       aim = record { key = refl; pseudokey = refl; ended = ends; stays = stays; goes = tt; lent = λ lent. tt };
       row = row;
       progress = λ change keyed sees. nears_on change sees;
-      step = λ change before bare owns here keyed sees fine. step hash change before bare
-          (subst (Owns before) (sym inv.key_is) owns) here (keyed_first keyed) sees fine;
+      step = λ change before bare owns here keyed sees fine. puts_at t.search.key (first_try_turn t value).ask
+          (first_try_facts t') change inv.key_is
+          (step hash change before bare (subst (Owns before) (sym inv.key_is) owns) here (keyed_first keyed) sees fine);
       answer = says;
     }
 
@@ -183,10 +194,11 @@ module _ (hash : RecordKey → ℕ) (seat : ℕ) (key : RecordKey) (k : ℕ) (va
                 (ap (λ (x : FirstTryStage). first_left_in x t'.search (store_of pool'.images)) is)
                 (nears_on change sees);
             step = λ change before bare owns here keyed sees fine.
-                subst (λ (x : FirstTryStage). Step hash seat (first_try_turn t value) did (first_facts_in x t'.search)
+                puts_at t.search.key (first_try_turn t value).ask [] change inv.key_is
+                (subst (λ (x : FirstTryStage). Step hash seat (first_try_turn t value) did (first_facts_in x t'.search)
                 pool pool' locks locks' change) is
                 (step hash change before bare (subst (Owns before) (sym inv.key_is) owns) here (keyed_first keyed) sees
-                fine);
+                fine));
             answer = λ change keyed sees fine. subst (λ (x : Option Tried). SaysAt hash seat did (pair key value) x
                 None (world pool.images locks change) (world pool'.images locks' change)) (sym none) tt;
           }
@@ -209,8 +221,9 @@ module _ (hash : RecordKey → ℕ) (seat : ℕ) (key : RecordKey) (k : ℕ) (va
         };
         row = made.row;
         progress = λ change keyed sees. made.progress change (keyed_second keyed) sees;
-        step = λ change before bare owns here keyed sees fine. made.step change before bare
-            (subst (Owns before) (sym inv.key_is) owns) here (keyed_second keyed) sees fine;
+        step = λ change before bare owns here keyed sees fine. puts_at t.key (second_turn t value).ask
+            (second_facts t') change inv.key_is (made.step change before bare
+            (subst (Owns before) (sym inv.key_is) owns) here (keyed_second keyed) sees fine);
         answer = λ change keyed sees fine. subst (λ (x : RecordKey). SaysAt hash seat did (pair x value)
             (said_at t.place) (said_at t'.place) (world pool.images locks change) (world pool'.images locks' change))
             inv.key_is (made.answer change (keyed_second keyed) sees fine);

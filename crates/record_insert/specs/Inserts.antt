@@ -1,12 +1,14 @@
 -- What an insert holds, knows and asks for: its first try, and then the second one. docs/STEPS.md, "Insert, Replace,
 -- Delete".
 use Rattle.std.specs.Prelude.{ℕ, ◌≡◌, ◌+◌, Bool, true, false, List, Option, Some, None, IsSome, ⊤}
-use Rattle.record_file.specs.FirstTries.{FirstTryView, first_try_facts, first_try_left, first_try_locks, first_try_turn}
+use Rattle.stale_search.specs.Searches.{ask_at as search_ask_at}
+use Rattle.record_file.specs.FirstTries.{FirstTryView, first_try_facts, first_try_left, first_try_locks}
 use Rattle.record_file.specs.FirstTries.{tried_at as found_in}
 use Rattle.record_file.specs.declared.first_try.FirstTryStage.{FirstTryStage}
 use Rattle.record_file.specs.declared.first_try.FirstTryStage.TheVariants.{Searching, Written, Ended as FirstEnded}
-use Rattle.record_insert.specs.Words.{RecordKey, Lock, Store, Known, Turn, Tried}
-use Rattle.record_insert.specs.SecondTries.{SecondTryView, second_facts, second_left, second_locks, second_turn, said_at, splits_left, tried_at}
+use Rattle.record_insert.specs.Words.{RecordKey, pair, Put, Lock, Store, Known, Ask, Turn, Tried}
+use Rattle.record_insert.specs.SecondTries.{SecondTryView, second_facts, second_left, second_locks, said_at, splits_left, tried_at}
+use Rattle.record_insert.specs.SecondTries.{ask_at as second_ask_at}
 use Rattle.record_insert.specs.declared.insert.InsertStage.{InsertStage}
 use Rattle.record_insert.specs.declared.insert.InsertStage.TheVariants.{First, Second}
 
@@ -61,13 +63,13 @@ facts_in (Second t) = second_facts t
 abbrev pub insert_facts : InsertView → List Known
 insert_facts i = facts_in i.stage
 
-abbrev pub turn_in : InsertStage → List ℕ → Turn
-turn_in (First t said) value = first_try_turn t value
-turn_in (Second t) value = second_turn t value
+abbrev pub ask_in : InsertStage → Option Ask
+ask_in (First t said) = search_ask_at t.search.place t.search.kind t.search.pseudokey
+ask_in (Second t) = second_ask_at t.place t.pseudokey
 
--- this value is to be put
+-- this value is to be put, at the key and no other
 abbrev pub insert_turn : InsertView → List ℕ → Turn
-insert_turn i value = turn_in i.stage value
+insert_turn i value = record { ask = ask_in i.stage; write = Some (Put (pair i.key value)) }
 
 -- what it has come to
 abbrev pub said_of : InsertStage → Option Tried

@@ -1,6 +1,6 @@
 //! A record that is inserted.
 
-ghost use Rattle.std.specs.Prelude.{◌≡◌, ℕ, List, IsSome, None, false, length, not};
+ghost use Rattle.std.specs.Prelude.{◌≡◌, ◌↔◌, ℕ, List, IsSome, None, true, false, length, not};
 ghost use Rattle.record_file.specs.declared.first_try.FirstTryStage.{FirstTryStage};
 ghost use Rattle.stale_search.specs.declared.place.SearchPlace.{SearchPlace};
 ghost use Rattle.record_insert.specs.Words.{RecordKey, pair, Lock, Change, Selective, IsReady, IsSeat, row_of, store_of, OnlyWrites, is_fault, EndsRow, HasNoFileLock, Owns, FollowsRow, Sees, Step, world};
@@ -82,6 +82,16 @@ impl Insert {
         match &self.stage {
             InsertStage::First(_, said) => *said,
             InsertStage::Second(second) => second.said(),
+        }
+    }
+
+    /// Whether it has given all locks back.
+    pub fn has_ended(&self) -> bool
+        ensures { (result ≡ true) ↔ IsOver self.now.stage }
+    {
+        match &self.stage {
+            InsertStage::First(first, _) => is_ended(first.stage()),
+            InsertStage::Second(second) => second.tried().is_some(),
         }
     }
 

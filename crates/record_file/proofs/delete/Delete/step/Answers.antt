@@ -1,13 +1,14 @@
 -- The removal goes on, or the merge behind it.
-use Rattle.std.proofs.Common.{◌≡◌, refl, sym, ap, ◌∙◌, subst, ℕ, ◌+◌, Bool, true, false, List, [], Some, inl, arith}
+use Rattle.std.proofs.Common.{◌≡◌, refl, sym, ap, ◌∙◌, subst, ℕ, ◌+◌, Bool, true, false, List, [], Option, Some, None, inl, arith}
 use Rattle.bucket_merge.specs.Places.{merge_locks}
 use Rattle.bucket_merge.specs.Facts.{merge_facts, merge_turn, steps_left as merge_left}
-use Rattle.record_file.specs.Words.{Known, Turn, Nears, Sees, Step, with_row, store_of}
+use Rattle.step_rules.specs.Turns.{Ask}
+use Rattle.record_file.specs.Words.{Remove, Known, Turn, Nears, Sees, Step, with_row, store_of}
 use Rattle.record_file.specs.Deletes.{part}
 use Rattle.stale_search.proofs.StayLemmas.{Stays-of}
 use Rattle.record_file.specs.Removals.{RemovalView, removal_facts, removal_left, removal_locks, removal_turn}
 use Rattle.record_file.proofs.AnswerLemmas.{nears_on}
-use Rattle.record_file.proofs.PartLemmas.{begun_left, in_merge, in_removal, nears_more, not_ended, not_over, passed_facts, passed_left, passed_locks, still_begun, turned_before}
+use Rattle.record_file.proofs.PartLemmas.{begun_left, in_merge, in_removal, merges_on, nears_more, not_ended, not_over, passed_facts, passed_left, passed_locks, still_begun, turned_before}
 use Rattle.record_file.proofs.delete.Delete.step.Goals as goal
 
 -- ---- the removal goes on
@@ -88,11 +89,12 @@ returns-in-None-clause-step g c = λ hash change before bare owns row keyed sees
     (in_removal (removal_facts r) [] (merge_facts m) r.stage none) sees' in
     let done = c.step.ensures.step hash change before bare owns'
     (row' ∙ in_removal (removal_locks r before) before (merge_locks m before) r.stage none) keyed' sees'' fine in
+    let removing : Option Ask → Turn = λ (ask : Option Ask). record { ask = ask; write = Some (Remove r.search.key) } in
     rw (← c.self.view_is)
-    (subst (λ (turn : Turn). Step hash c.args.seat turn c.step.result
+    (subst (λ (ask : Option Ask). Step hash c.args.seat (removing ask) c.step.result
     (part c.step.new.self.stage (removal_facts c.step.new.self) [] (merge_facts m)) c.args.pool.now c.step.new.pool
     c.args.locks.now c.step.new.locks change)
-    (sym (in_removal (removal_turn r) (removal_turn r) (merge_turn m) r.stage none))
+    (sym (in_removal (removal_turn r).ask None (merge_turn m).ask r.stage none))
     (subst (λ (facts : List Known). Step hash c.args.seat (removal_turn r) c.step.result facts c.args.pool.now
     c.step.new.pool c.args.locks.now c.step.new.locks change)
     (passed_facts m begun c.step.new.self.stage c.step.new.self.search) done))
@@ -131,6 +133,25 @@ returns-in-Some-true-clause-progress g c = λ hash change sees.
     (sym (in_merge (removal_left r t + merge_left c.step-in-Some-true.new.self t) 0
     (merge_left c.step-in-Some-true.new.self t) r.stage is))
     (c.step-in-Some-true.ensures.progress hash change sees'')))
+
+pub returns-in-Some-true-clause-step : goal.returns-in-Some-true-clause-step
+returns-in-Some-true-clause-step g c = λ hash change before bare owns row keyed sees fine.
+    let sees' = rw (← c.self.view_is) at sees in
+    let row' = rw (← c.self.view_is) at row in
+    let keyed' = rw (← c.self.view_is) at keyed in
+    let r = c.self.inside.removal in
+    let m = c.self.inside.merge in
+    let m' = c.step-in-Some-true.new.self in
+    let is = sym c.ended.ensures ∙ c.in-Some-true.is
+    ∙ ap (λ (b : Bool). Some b) c.in-Some-true.field-0-test in
+    let sees'' = subst (λ (facts : List Known). Sees hash c.args.seat facts c.args.pool.now c.args.locks.now change)
+    (in_merge (removal_facts r) [] (merge_facts m) r.stage is) sees' in
+    let keyed'' = ap hash c.self.invariant.key ∙ keyed' ∙ sym c.self.invariant.pseudokey in
+    let done = (c.step-in-Some-true.ensures.step hash change before keyed'' bare
+    (row' ∙ in_merge (removal_locks r before) before (merge_locks m before) r.stage is) sees'' fine).step in
+    rw (← c.self.view_is) (merges_on hash c.args.seat c.step-in-Some-true.result c.args.pool.now
+    c.step-in-Some-true.new.pool c.args.locks.now c.step-in-Some-true.new.locks change r m m'
+    c.self.invariant.key is done)
 
 pub returns-in-Some-true-clause-answer : goal.returns-in-Some-true-clause-answer
 returns-in-Some-true-clause-answer g c = λ hash change keyed sees fine.

@@ -47,7 +47,7 @@ returns-in-Done g c =
     let lent = rw (← c.self.view_is) at c.requires.lent in
     let row = rw (← c.self.view_is, c.in-Splitting.is) at c.requires.row in
     let e = c.step-did-in-Splitting.ensures in
-    rw (← c.self.view_is, c.in-Splitting.is, c.depth.ensures) (is_split _ c.args.seat v.key v.pseudokey v.bytes
+    rw (← c.self.view_is, c.in-Splitting.is, c.depth.ensures.value) (is_split _ c.args.seat v.key v.pseudokey v.bytes
     c.args.value.now c.args.pool.now c.step-did-in-Splitting.new.pool c.args.locks.now
     c.step-did-in-Splitting.new.locks c.in-Splitting.page c.in-Splitting.split c.step-did-in-Splitting.new.self
     c.step-did-in-Splitting.result split lent e.writes e.aim e.row e.progress e.step e.answer row

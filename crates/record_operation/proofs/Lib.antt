@@ -1,0 +1,4 @@
+pub mod Names
+pub mod KindLemmas
+pub mod CallerLemmas
+pub mod LengthLemmas

@@ -1,0 +1,5 @@
+pub mod Words
+pub mod Operations
+pub mod OperationSteps
+pub mod Callers
+pub mod Lengths

@@ -1,0 +1,140 @@
+-- What an operation on a record is about, holds, knows and asks for: each as the machine of its kind says.
+-- docs/STEPS.md, "Search" and "Insert, Replace, Delete".
+use Rattle.std.specs.Prelude.{ℕ, ◌≡◌, true, false, List, [], Option, Some, None, IsSome, ⊤, unwrap_or}
+use Rattle.bucket_merge.specs.declared.place.MergePlace.TheVariants.{Approaching}
+use Rattle.stale_search.specs.Searches.{SearchView}
+use Rattle.stale_search.specs.declared.place.ApproachPlace.TheVariants.{GrantDirectory as ToDirectory}
+use Rattle.stale_search.specs.declared.place.SearchPlace.TheVariants.{GrantDirectory}
+use Rattle.step_rules.specs.Words.{LockKind}
+use Rattle.record_file.specs.Deletes.{IsOver as IsDeleteOver}
+use Rattle.record_file.specs.declared.first_try.FirstTryStage.TheVariants as tries
+use Rattle.record_file.specs.declared.removal.RemovalStage.TheVariants as removals
+use Rattle.record_file.specs.declared.replace.ReplaceStage.TheVariants as replaces
+use Rattle.record_insert.specs.Inserts.{IsOver as IsInsertOver}
+use Rattle.record_insert.specs.declared.insert.InsertStage.TheVariants.{First}
+use Rattle.record_operation.specs.Words.{RecordKey, Lock, Read, Selective, Store, contents, Known, Turn, Owns, find_facts, find_left, find_locks, find_turn, found_of, IsFrontAt, with_front, replace_facts, replace_left, replace_locks, replace_turn, replaced_at, removed_at, delete_facts, delete_left, delete_locks, delete_turn, Tried, IsLent, insert_facts, insert_left, insert_locks, insert_turn, said_of, RecordOperation, Find, Insert, Replace, Delete}
+
+-- ---- its beginning
+
+abbrev pub begun_search : RecordKey → ℕ → LockKind → SearchView
+begun_search key k kind = record { key = key; pseudokey = k; kind = kind; place = GrantDirectory; hops = 0 }
+
+abbrev pub begun_find : RecordKey → ℕ → RecordOperation
+begun_find key k = Find (record { search = begun_search key k Read; ended = false })
+
+abbrev pub begun_insert : RecordKey → ℕ → RecordOperation
+begun_insert key k = Insert (record {
+  key = key;
+  pseudokey = k;
+  stage = First (record { search = begun_search key k Selective; stage = tries.Searching }) None;
+})
+
+abbrev pub begun_replace : RecordKey → ℕ → RecordOperation
+begun_replace key k = Replace (record { search = begun_search key k Selective; stage = replaces.Searching })
+
+abbrev pub begun_delete : RecordKey → ℕ → RecordOperation
+begun_delete key k = Delete (record {
+  removal = record { search = begun_search key k Selective; stage = removals.Searching };
+  merge = record {
+    key = key;
+    approach = record { pseudokey = k; place = ToDirectory };
+    place = Approaching;
+  };
+})
+
+-- ---- what it is about
+
+abbrev pub operation_key : RecordOperation → RecordKey
+operation_key (Find f) = f.search.key
+operation_key (Insert i) = i.key
+operation_key (Replace r) = r.search.key
+operation_key (Delete d) = d.removal.search.key
+
+abbrev pub operation_pseudokey : RecordOperation → ℕ
+operation_pseudokey (Find f) = f.search.pseudokey
+operation_pseudokey (Insert i) = i.pseudokey
+operation_pseudokey (Replace r) = r.search.pseudokey
+operation_pseudokey (Delete d) = d.removal.search.pseudokey
+
+-- the pseudokey is that of its key
+abbrev pub IsKeyed : (RecordKey → ℕ) → RecordOperation → Type 0
+IsKeyed hash o = hash (operation_key o) ≡ operation_pseudokey o
+
+-- ---- what it asks of its caller
+
+-- as many bytes may be lent to it: to an insert, in its second try, as many as at the end of its first
+abbrev pub MayBeLent : ℕ → RecordOperation → Type 0
+MayBeLent bytes (Insert i) = IsLent bytes i.stage
+MayBeLent bytes o = ⊤
+
+-- the bytes that a replace writes are no more than the value has
+abbrev pub SuitsFile : Store → RecordOperation → List ℕ → Type 0
+SuitsFile s (Replace r) bytes = IsFrontAt s r.search.key bytes
+SuitsFile s o bytes = ⊤
+
+-- the lock of a record that is to be written is held exclusively; a find writes none
+abbrev pub OwnsWritten : List Lock → RecordOperation → Type 0
+OwnsWritten before (Find f) = ⊤
+OwnsWritten before o = Owns before (operation_key o)
+
+-- ---- locks, facts and turns
+
+-- its locks, behind those that the seat had before
+abbrev pub operation_locks : RecordOperation → List Lock → List Lock
+operation_locks (Find f) before = find_locks f before
+operation_locks (Insert i) before = insert_locks i before
+operation_locks (Replace r) before = replace_locks r before
+operation_locks (Delete d) before = delete_locks d before
+
+abbrev pub operation_facts : RecordOperation → List Known
+operation_facts (Find f) = find_facts f
+operation_facts (Insert i) = insert_facts i
+operation_facts (Replace r) = replace_facts r
+operation_facts (Delete d) = delete_facts d
+
+-- where these bytes are lent
+abbrev pub operation_turn : RecordOperation → List ℕ → Store → Turn
+operation_turn (Find f) bytes s = find_turn f
+operation_turn (Insert i) bytes s = insert_turn i bytes
+operation_turn (Replace r) bytes s = replace_turn r bytes s
+operation_turn (Delete d) bytes s = delete_turn d
+
+-- what its WriteRecord leaves at its key
+abbrev pub operation_writes : RecordOperation → List ℕ → Store → Option (List ℕ)
+operation_writes (Find f) bytes s = contents s f.search.key
+operation_writes (Insert i) bytes s = Some bytes
+operation_writes (Replace r) bytes s = Some (with_front bytes (unwrap_or (contents s r.search.key) []))
+operation_writes (Delete d) bytes s = None
+
+-- the steps that are left, if no other seat steps
+abbrev pub operation_left : RecordOperation → Store → ℕ
+operation_left (Find f) s = find_left f s
+operation_left (Insert i) s = insert_left i s
+operation_left (Replace r) s = replace_left r s
+operation_left (Delete d) s = delete_left d s
+
+-- ---- what it tells, and its end
+
+-- the page that answered, and the length of the key's value
+abbrev pub operation_found : RecordOperation → Option (ℕ × Option ℕ)
+operation_found (Find f) = found_of f
+operation_found (Insert i) = None
+operation_found (Replace r) = replaced_at r
+operation_found (Delete d) = removed_at d.removal
+
+-- what an insert has come to
+abbrev pub operation_tried : RecordOperation → Option Tried
+operation_tried (Insert i) = said_of i.stage
+operation_tried o = None
+
+-- it gave all its locks back
+abbrev pub HasEnded : RecordOperation → Type 0
+HasEnded (Find f) = f.ended ≡ true
+HasEnded (Insert i) = IsInsertOver i.stage
+HasEnded (Replace r) = r.stage ≡ replaces.Ended
+HasEnded (Delete d) = IsDeleteOver d.removal.stage d.merge.place
+
+-- an insert that has ended came to something
+abbrev pub TriedAtEnd : RecordOperation → Type 0
+TriedAtEnd (Insert i) = IsInsertOver i.stage → IsSome (said_of i.stage)
+TriedAtEnd o = ⊤

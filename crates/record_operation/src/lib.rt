@@ -1,0 +1,9 @@
+//! One operation on one record of a file that other seats use, whichever it is: found, inserted, replaced or deleted.
+
+#![tactic(auto)]
+
+mod laws;
+mod operation;
+
+pub use laws::{an_operation_has_few_steps, an_operation_keeps_what_its_caller_knows};
+pub use operation::RecordOperation;
