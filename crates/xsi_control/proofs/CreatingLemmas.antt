@@ -1,16 +1,9 @@
 -- A Get makes a queue: its Queue and its Key are inserted, then the Counter counts it.
-use Rattle.std.proofs.Common.{◌≡◌, ℕ, ◌+◌, ◌<◌, false, List, [], ◌∷◌, ◌++◌, length, Option, Some, None, refl, sym, ap, ◌∙◌, subst, arith}
-use Rattle.std.specs.Prelude.{◌==◌, ◌&&◌, nat_lt, option_map}
-use Rattle.xsi_control.specs.Words.{All, Contains, is_same, length-counter, in_range, by_guard, Write, Replace, AscendOnTrial, trial_rank, Fills, IsNew, Misses, MissesRecord, leads_by, RecordKey, LockName, Get, GetArguments, Caller, END_OF_IDS, MAX_QUEUES, Queue, IsLawful, IsFreshKey, create, new_queue, outcome, State, Counter, Record, guard_of, key_of, counter_of, key_entry, queue_entry, record_of, IsAnswered, IsFiled, AreAbsent, Leads, key_written, key_of_key}
-use Rattle.std.proofs.lemmas.Bool.Decides.{nat_tests}
-use Rattle.std.proofs.lemmas.List.Elements.{All-cons, All-head, All-nil, All-tail}
-use Rattle.fields.proofs.Tests.{both_true}
+use Rattle.xsi_control.proofs.Names.{All, All-cons, All-head, All-nil, All-tail, AreAbsent, AscendOnTrial, Caller, Contains, Counted, Counter, END_OF_IDS, Fills, Get, GetArguments, IsAnswered, IsFiled, IsFreshKey, IsLawful, IsNew, IsToMake, Leads, List, LockName, MAX_QUEUES, Misses, MissesRecord, None, Option, Queue, Record, RecordKey, Replace, Some, State, Write, [], ap, arith, both_true, by_guard, counter_of, create, false, get_locked, get_plan, guard_of, in_range, is_same, key_entry, key_made, key_names, key_of, key_of_key, key_written, leads_by, length, length-counter, made_names, nat_lt, nat_tests, new_queue, one_more, option_map, outcome, plan_made, queue_entry, record_of, refl, subst, sym, trial_rank, with_new_queue, ℕ, ◌&&◌, ◌++◌, ◌+◌, ◌<◌, ◌==◌, ◌∙◌, ◌∷◌, ◌≡◌}
 use Rattle.page_locks.specs.declared.lock.LockName.TheVariants as names
 use Rattle.queue_model.specs.declared.answer.Answer.TheVariants as answers
 use Rattle.queue_records.specs.declared.record.Record.TheVariants as records
 use Rattle.xsi_inquiry.specs.declared.verdict.Verdict.TheVariants as verdicts
-use Rattle.xsi_control.specs.declared.get_inquiry.Getting.TheVariants.{Counted}
-use Rattle.xsi_control.specs.Getting.{IsToMake, get_locked, get_plan, key_made, key_names, made_names, one_more, plan_made, with_new_queue}
 use Rattle.xsi_control.proofs.MadeLemmas.{IsOther, counter_then, key_then, next_of, others_same, queue_then, then_lawful, unused}
 
 -- ---- the Counter leaves a place and an id

@@ -1,3 +1,4 @@
+pub mod Names
 pub mod CreatingLemmas
 pub mod MadeLemmas
 pub mod ReadingLemmas

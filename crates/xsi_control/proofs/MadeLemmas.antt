@@ -1,19 +1,6 @@
 -- The system with a new queue, which stands last and has the next id, and its records.
-use Rattle.std.proofs.Common.{◌≡◌, ℕ, ◌+◌, ◌<◌, ◌≤◌, Bool, true, false, cond, List, [], ◌∷◌, ◌++◌, length, Option, Some, None, refl, sym, ap, ◌∙◌, arith}
-use Rattle.std.specs.Prelude.{◌==◌, ◌&&◌, option_map, option_and_then}
-use Rattle.xsi_control.specs.Words.{find, is_same, IsLawful-create, RecordKey, GetArguments, Caller, END_OF_IDS, MAX_QUEUES, Queue, IsLawful, IsFreshKey, has_id, has_key, is_key, new_queue, State, Counter, Record, key_of, counter_of, key_entry, queue_entry, at_counter, at_key, at_queue, at_queue_of, message_record, record_of, type_record, counter_key, key_of_key, key_of_queue}
-use Rattle.std.specs.Option.{option_or}
-use Rattle.std.proofs.lemmas.Bool.{eqb-true}
-use Rattle.std.proofs.lemmas.Bool.Decides.{Decides-eqb, nat_tests}
-use Rattle.std.proofs.lemmas.List.{length-append}
-use Rattle.std.proofs.lemmas.List.Folds.{find-append}
-use Rattle.queue_model.proofs.ListLemmas.{find-None, position_None}
-use Rattle.queue_records.specs.declared.layout.TheConstants.{COUNTER, KEY, QUEUE, TYPE, MESSAGE}
+use Rattle.xsi_control.proofs.Names.{Bool, COUNTER, Caller, Counter, Decides-eqb, END_OF_IDS, GetArguments, IsFreshKey, IsLawful, IsLawful-create, KEY, List, MAX_QUEUES, MESSAGE, None, Option, QUEUE, Queue, Record, RecordKey, Some, State, TYPE, [], all_of, ap, arith, at_counter, at_key, at_queue, at_queue_of, cond, counter_key, counter_of, eqb-true, false, find, find-None, find-append, has_id, has_key, image_has, is_key, is_same, key_entry, key_has, key_of, key_of_key, key_of_queue, length, length-append, message_record, nat_tests, new_queue, option_and_then, option_map, option_or, position_None, queue_entry, record_of, refl, sym, true, type_record, with_new_queue, ℕ, ◌&&◌, ◌++◌, ◌+◌, ◌<◌, ◌==◌, ◌∙◌, ◌∷◌, ◌≡◌, ◌≤◌}
 use Rattle.queue_records.specs.declared.record.Record.TheVariants as records
-use Rattle.type_chains.proofs.Elements.{image_has}
-use Rattle.type_chains.proofs.Pairs.{all_of}
-use Rattle.type_chains.proofs.Unique.{key_has}
-use Rattle.xsi_control.specs.Getting.{with_new_queue}
 
 -- ---- one more stands last
 

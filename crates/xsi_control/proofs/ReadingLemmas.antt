@@ -1,11 +1,6 @@
 -- What the record at its key, or the Counter, tells a Get.
-use Rattle.std.proofs.Common.{◌≡◌, ℕ, Bool, true, false, Option, Some, None, refl, sym, ap, ◌∙◌, subst}
-use Rattle.std.specs.Prelude.{IsSome, option_map, if◌then◌else◌}
-use Rattle.xsi_control.specs.Words.{find, mapped, GetArguments, Caller, ENOENT, Queue, IsFreshKey, create, get_by, get_found, has_key, outcome_of_get, refuse, State, Counter, Record, key_of_key, counter_key, counter_of, key_entry, IsTold}
-use Rattle.queue_records.specs.declared.key_entry.KeyEntry.{KeyEntry}
+use Rattle.xsi_control.proofs.Names.{At, Bool, Caller, Counter, ENOENT, GetArguments, IsFreshKey, IsSome, IsTold, KeyEntry, KnowsOfGet, None, Option, Queue, Record, Some, State, absent_or_counted, ap, counter_key, counter_of, create, false, find, get_by, get_found, has_key, id_found, if◌then◌else◌, key_entry, key_of_key, key_wanted, mapped, option_map, outcome_of_get, refl, refuse, subst, sym, true, ℕ, ◌∙◌, ◌≡◌}
 use Rattle.queue_records.specs.declared.record.Record.TheVariants as records
-use Rattle.xsi_inquiry.specs.declared.wanted.Wanted.TheVariants.{At}
-use Rattle.xsi_control.specs.Getting.{KnowsOfGet, absent_or_counted, id_found, key_wanted}
 
 -- ---- the Counter always stands
 

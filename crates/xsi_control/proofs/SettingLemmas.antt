@@ -1,16 +1,9 @@
 -- A queue that takes settings, and its Queue.
-use Rattle.std.proofs.Common.{◌≡◌, ℕ, Bool, true, false, cond, List, [], ◌∷◌, Some, refl, sym, ap, ◌∙◌, subst, arith}
-use Rattle.xsi_control.specs.Words.{nat_lt, not, option_map, Result, Ok, Err, Contains, find, is_owner, IsLawful-Effect, length-queue, in_range, Write, Replace, IsBefore, Fills, Misses, leads_by, RecordKey, Set, SetArguments, Caller, Errno, EINVAL, EPERM, MAX_QBYTES, Queue, IsLawful, Outcome, has_id, on_queue, outcome, raises, refuse, set_to, with_queue, with_settings, State, QueueEntry, Record, guard_of, key_of, queue_entry, record_of, IsAnswered, IsEntryOf, IsFiled, Leads, Plan, key_written, nothing, value_length}
-use Rattle.std.proofs.lemmas.Bool.Decides.{nat_tests}
-use Rattle.std.proofs.lemmas.List.Elements.{All-cons, All-head, All-nil}
+use Rattle.xsi_control.proofs.Names.{All-cons, All-head, All-nil, Bool, Caller, Contains, EINVAL, EPERM, Effect-outcome, Err, Errno, Fills, Found, IsAnswered, IsBefore, IsEntryOf, IsFiled, IsLawful, IsLawful-Effect, Leads, List, MAX_QBYTES, Misses, Ok, Outcome, Plan, Queue, QueueEntry, Record, RecordKey, Replace, Result, Set, SetArguments, Some, State, Write, [], agree_but, ap, arith, cond, false, find, found_new, guard_of, has_id, in_range, is_owner, key_of, key_written, leads_by, length-queue, nat_lt, nat_tests, not, nothing, on_queue, option_map, outcome, plan_by, queue_entry, raises, record_of, refl, refuse, set_entry, set_plan, set_to, subst, sym, true, value_length, with_queue, with_settings, ℕ, ◌∙◌, ◌∷◌, ◌≡◌}
 use Rattle.page_locks.specs.declared.lock.LockName.TheVariants as names
 use Rattle.queue_model.specs.declared.answer.Answer.TheVariants as answers
-use Rattle.queue_model.proofs.EffectLemmas.{Effect-outcome}
 use Rattle.queue_records.specs.declared.record.Record.TheVariants as records
-use Rattle.type_chains.proofs.OneQueueChanged.{agree_but, found_new}
-use Rattle.xsi_inquiry.specs.declared.sought.Sought.TheVariants.{Found}
 use Rattle.xsi_inquiry.specs.declared.verdict.Verdict.TheVariants as verdicts
-use Rattle.xsi_control.specs.Setting.{plan_by, set_entry, set_plan}
 
 -- no queue may have such a limit
 pub set_over : (c : Caller) (a : SetArguments) (s : State) → nat_lt MAX_QBYTES a.qbytes ≡ true →

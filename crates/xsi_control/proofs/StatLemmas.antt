@@ -1,8 +1,5 @@
 -- What Stat is answered on the Queue that was read.
-use Rattle.std.proofs.Common.{◌≡◌, ℕ, Bool, true, false, Some, refl, sym, ap, ◌∙◌}
-use Rattle.queue_model.specs.declared.answer.Answer.TheVariants.{Info}
-use Rattle.queue_model.specs.declared.call.Call.TheVariants.{Stat}
-use Rattle.xsi_control.specs.Words.{Caller, EACCES, Read, lacks_access, Outcome, info_of, outcome, refuse, stat_of, State, QueueEntry, info_in, permissions_in, IsEntryOf}
+use Rattle.xsi_control.proofs.Names.{Bool, Caller, EACCES, Info, IsEntryOf, Outcome, QueueEntry, Read, Some, Stat, State, ap, false, info_in, info_of, lacks_access, outcome, permissions_in, refl, refuse, stat_of, sym, true, ℕ, ◌∙◌, ◌≡◌}
 
 module _ (c : Caller) (id : ℕ) (s : State) (e : QueueEntry) (is : IsEntryOf id e s) where
   -- what is read off the entry is so of the queue

@@ -123,9 +123,13 @@ abbrev pub made_names : ℕ → Option Counter → List LockName
 made_names id None = []
 made_names id (Some n) = names.Queue id ∷ []
 
+-- the Counter, and the queue that is made
+abbrev pub making_names : Getting → List LockName
+making_names AtKey = []
+making_names (Found id) = []
+making_names Absent = []
+making_names AtCounter = names.Counter ∷ []
+making_names (Counted n) = names.Counter ∷ made_names n.next_id (one_more n)
+
 abbrev pub get_locked : GetArguments → Getting → List LockName
-get_locked a AtKey = key_names a.key
-get_locked a (Found id) = key_names a.key
-get_locked a Absent = key_names a.key
-get_locked a AtCounter = key_names a.key ++ names.Counter ∷ []
-get_locked a (Counted n) = key_names a.key ++ names.Counter ∷ made_names n.next_id (one_more n)
+get_locked a getting = key_names a.key ++ making_names getting

@@ -3,8 +3,9 @@
 ghost use Rattle.std.specs.Prelude.{◌≡◌, slice_get};
 ghost use Rattle.queue_model.specs.Rules.{new_queue};
 ghost use Rattle.type_chains.specs.Entries.{queue_entry};
-ghost use Rattle.xsi_control.specs.Getting.{absent_or_counted, made_trials, one_more};
+ghost use Rattle.xsi_control.specs.Getting.{absent_or_counted, get_locked, made_trials, making_names, one_more};
 
+use page_locks::LockName;
 use queue_model::{Caller, DEFAULT_QBYTES, Errno, GetArguments, Permissions};
 use queue_records::{
     Counter, END_OF_IDS, KeyEntry, MAX_QUEUES, QueueEntry, Record, counter_key, key_key,
@@ -37,6 +38,36 @@ pub struct GetInquiry {
 }
 
 const _: () = prove!(size_of::<GetInquiry>() <= 400);
+
+impl GetInquiry {
+    /// The name at this place among those that it holds Exclusive, in the order in which they are taken: its key, where
+    /// it has one; to make a queue the Counter, and then the queue of the next id.
+    pub fn name(&self, arguments: &GetArguments, place: usize) -> Option<LockName>
+        ensures { result ≡ slice_get (get_locked arguments.now self.now.getting) place }
+    {
+        match (arguments.key, place) {
+            (None, _) => self.getting.name(place),
+            (Some(key), 0) => Some(LockName::Key(key)),
+            (Some(_), _) => self.getting.name(place - 1),
+        }
+    }
+}
+
+impl Getting {
+    /// The name at this place among those that are held to make a queue.
+    fn name(&self, place: usize) -> Option<LockName>
+        ensures { result ≡ slice_get (making_names self.now) place }
+    {
+        match (self, place) {
+            (Getting::AtCounter | Getting::Counted(_), 0) => Some(LockName::Counter),
+            (Getting::Counted(counter), 1) => {
+                one_more(counter)?;
+                Some(LockName::Queue(counter.next_id))
+            }
+            (_, _) => None,
+        }
+    }
+}
 
 impl Inquiry for GetInquiry {
     ghost use Rattle.queue_model.specs.declared.call.Call.TheVariants as calls;

@@ -1,5 +1,6 @@
 -- Writes in slots.
-use Rattle.std.specs.Prelude.{List, [], ◌∷◌, Option, Some, None, ⊤}
+use Rattle.std.specs.Prelude.{◌≡◌, List, [], ◌∷◌, Option, Some, None, option_map, ⊤}
+use Rattle.std.proofs.Common.{refl}
 use Rattle.std.specs.List.{All}
 use Rattle.std.proofs.lemmas.List.Elements.{All-nil, All-cons, All-head, All-tail}
 use Rattle.xsi_inquiry.specs.declared.write.Write.{Write}
@@ -10,6 +11,11 @@ module _ {X : Type 0} (P : X → Type 0) where
   abbrev pub InSlot : Option X → Type 0
   InSlot None = ⊤
   InSlot (Some x) = P x
+
+  -- what is made of what may be there is so
+  pub slot_all : {Y : Type 0} (f : Y → X) (o : Option Y) → ((y : Y) → o ≡ Some y → P (f y)) → InSlot (option_map f o)
+  slot_all f None each = tt
+  slot_all f (Some y) each = each y refl
 
   -- what is so in each slot is so of what stands in them
   pub somes_all : (os : List (Option X)) → All InSlot os → All P (somes os)

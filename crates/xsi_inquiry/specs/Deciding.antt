@@ -1,6 +1,6 @@
 -- What a decision means for the system of which the records were read.
 -- docs/QUEUES.md, "Calls".
-use Rattle.std.specs.Prelude.{◌≡◌, ◌⊎◌, ℕ, List, [], length, Option, Some, None, Result, Ok, Err, ⊤, if◌then◌else◌}
+use Rattle.std.specs.Prelude.{◌≡◌, ◌⊎◌, ℕ, List, [], length, Some, None, Result, Ok, Err, ⊤, if◌then◌else◌}
 use Rattle.std.specs.List.{All, find}
 use Rattle.page_locks.specs.declared.lock.LockName.{LockName}
 use Rattle.queue_model.specs.declared.answer.Answer.{Answer}

@@ -1,18 +1,8 @@
 -- What becomes of a message that is taken, and what is decided then.
-use Rattle.std.proofs.Common.{◌≡◌, ℕ, ℤ, Bool, true, List, [], ◌∷◌, Option, Some, None, refl, sym, ap, ◌∙◌, subst, arith}
-use Rattle.xsi_receive.proofs.Names.{All-nil, Answers, Decides, IsAnswered, LockName, nat_le, option_map, ◌&&◌}
-use Rattle.xsi_receive.specs.Words.{All, Contains, position_or_len, remove, Receive, ReceiveArguments, Caller, Message, Queue, IsLawfulQueue, receive_found, with_queue, without_message, selects, State, QueueEntry, TypeEntry, guard_of, key_of_message, key_of_type, message_entry, queue_entry, type_entry, serials_of_type, types, first_of, Write, Replace, Relink, Delete, Roomful, IsFiled, key_written, InSlot, somes_all}
+use Rattle.xsi_receive.proofs.Names.{All, All-nil, Answers, Begins, Bool, Caller, Contains, Decides, Delete, Goes, InSlot, IsAnswered, IsFiled, IsItsType, IsLawfulQueue, KnowsHead, KnowsRemoval, List, LockName, Message, MessageHead, None, Option, Queue, QueueEntry, Receive, ReceiveArguments, Relink, Removal, Replace, Roomful, Some, State, TypeEntry, TypeLeft, Write, [], ap, arith, deletion_by, fine, first_of, guard_of, head_of, higher_by, is_counted, key_of_message, key_of_type, key_written, left_by, lowest_left, message_entry, nat_le, next_write, own_by, position_or_len, previous_write, queue_entry, queue_left, receive_found, received, refl, removal_plan, remove, selects, serials_of_type, slot_all, slots_of, somes_all, subst, sym, to_higher, to_lower, to_next, to_previous, true, type_entry, types, where_none, with_queue, without_message, ℕ, ℤ, ◌&&◌, ◌∙◌, ◌∷◌, ◌≡◌}
 use Rattle.page_locks.specs.declared.lock.LockName.TheVariants as names
 use Rattle.queue_model.specs.declared.answer.Answer.TheVariants as answers
 use Rattle.queue_records.specs.declared.record.Record.TheVariants as records
-use Rattle.xsi_receive.specs.declared.head.MessageHead.{MessageHead}
-use Rattle.xsi_receive.specs.declared.removal.Removal.{Removal}
-use Rattle.xsi_receive.specs.declared.removal.TypeLeft.{TypeLeft}
-use Rattle.xsi_receive.specs.declared.removal.TypeLeft.TheVariants.{Begins, Goes}
-use Rattle.xsi_receive.specs.Asking.{received}
-use Rattle.xsi_receive.specs.Heads.{head_of}
-use Rattle.xsi_receive.specs.Knowing.{IsItsType, KnowsHead, KnowsRemoval}
-use Rattle.xsi_receive.specs.Removing.{deletion_by, higher_by, is_counted, left_by, lowest_left, next_write, own_by, previous_write, queue_left, removal_plan, slots_of, to_higher, to_lower, to_next, to_previous, where_none}
 use Rattle.xsi_receive.proofs.FirstOfTypeLemmas.{IsTakenAt, taken_at}
 use Rattle.xsi_receive.proofs.FitLemmas.{place_of}
 use Rattle.xsi_receive.proofs.KnowingLemmas.{on_selected}
@@ -20,8 +10,8 @@ use Rattle.xsi_receive.proofs.LeadLemmas.{leads}
 use Rattle.xsi_receive.proofs.OrderLemmas.{in_order}
 use Rattle.xsi_receive.proofs.RankLemmas.{all_seven}
 use Rattle.xsi_receive.proofs.MessageLemmas.{next_of_type_is}
-use Rattle.xsi_receive.proofs.QueueLemmas.{counted, fewer_bytes, queue_other_lowest, queue_same_lowest}
-use Rattle.xsi_receive.proofs.StandLemmas.{fine}
+use Rattle.xsi_receive.proofs.QueueLemmas.{counted, fewer_bytes, lowest_without, queue_without}
+use Rattle.xsi_receive.proofs.TypeLemmas.{types_stay}
 use Rattle.xsi_receive.proofs.TypesLemmas.{its_type_stands}
 
 both_pass : (a b : Bool) → a ≡ true → b ≡ true → (a && b) ≡ true
@@ -49,7 +39,7 @@ module _ (c : Caller) (a : ReceiveArguments) (e : QueueEntry) (m : MessageHead) 
   its_taken = taken_at a.mtype q.messages x known.selects.is_selected
 
   lawful : IsLawfulQueue q
-  lawful = fine s filed a.id q known.selects.its.found
+  lawful = fine s filed.lawful a.id q known.selects.its.found
 
   -- the Queue counts the message
   pub is_counted_here : is_counted e m ≡ true
@@ -91,7 +81,8 @@ module _ (c : Caller) (a : ReceiveArguments) (e : QueueEntry) (m : MessageHead) 
     before = e;
     known = known_alone;
     queue = same_queue (Begins f)
-        ∙ sym (queue_same_lowest q lawful c.pid a.moment i x its_taken f (sym next_by ∙ some));
+        ∙ sym (queue_without q lawful c.pid a.moment i x its_taken (first_of (types q.messages))
+        (ap first_of (types_stay q c.pid a.moment i x its_taken f (sym next_by ∙ some))));
     type_left = ap (λ (o : Option ℕ). left_by o (type_entry q x.mtype)) (sym some);
   }
 
@@ -113,7 +104,8 @@ module _ (c : Caller) (a : ReceiveArguments) (e : QueueEntry) (m : MessageHead) 
             ∙ ap (λ (o : Option ℤ). record (queue_left c.pid a (queue_entry q) (head_of (message_entry q x))
             (Goes type_is.lower type_is.higher)) { lowest = o })
             (sym (lowest_same type_is.lower type_is.higher (first_of (types q.messages))))
-            ∙ sym (queue_other_lowest q lawful c.pid a.moment i x its_taken (sym next_by ∙ none) j at_j);
+            ∙ sym (queue_without q lawful c.pid a.moment i x its_taken _
+            (lowest_without q lawful c.pid a.moment i x its_taken (sym next_by ∙ none) j at_j));
         type_left = lefts ∙ ap (λ (o : Option ℕ). left_by o type_is) (sym none);
       }
 
@@ -154,25 +146,15 @@ module _ (c : Caller) (a : ReceiveArguments) (r : Removal) (room : Roomful) (s :
   held : (n : ℕ) → n ≡ a.id → Contains names_held (names.Queue n)
   held n same = (0, omega arith, ap names.Queue (sym same))
 
-  messages_his : (o : Option ℕ) (f : ℕ → Write) → ((n : ℕ) → guard_of (key_written (f n)) ≡ names.Queue a.id) →
-      InSlot IsHis (option_map f o)
-  messages_his None f is = tt
-  messages_his (Some n) f is = subst (Contains names_held) (sym (is n)) (held a.id refl)
-
-  types_his : (o : Option ℤ) (f : ℤ → Write) → ((t : ℤ) → guard_of (key_written (f t)) ≡ names.Queue a.id) →
-      InSlot IsHis (option_map f o)
-  types_his None f is = tt
-  types_his (Some t) f is = subst (Contains names_held) (sym (is t)) (held a.id refl)
-
   own_his : (mtype : ℤ) (left : TypeLeft) → InSlot IsHis (own_by a.id mtype left)
   own_his mtype (Begins f) = held a.id refl
-  own_his mtype (Goes lower higher) = types_his lower (λ (t : ℤ). Relink (key_of_type a.id t) (to_higher higher))
-      (λ t. refl)
+  own_his mtype (Goes lower higher) = slot_all IsHis (λ (t : ℤ). Relink (key_of_type a.id t) (to_higher higher))
+      lower (λ t is. held a.id refl)
 
   higher_his : (left : TypeLeft) → InSlot IsHis (higher_by a.id left)
   higher_his (Begins f) = tt
-  higher_his (Goes lower higher) = types_his higher (λ (t : ℤ). Relink (key_of_type a.id t) (to_lower lower))
-      (λ t. refl)
+  higher_his (Goes lower higher) = slot_all IsHis (λ (t : ℤ). Relink (key_of_type a.id t) (to_lower lower))
+      higher (λ t is. held a.id refl)
 
   deletion_his : (mtype : ℤ) (left : TypeLeft) → InSlot IsHis (deletion_by a.id mtype left)
   deletion_his mtype (Begins f) = tt
@@ -183,10 +165,10 @@ module _ (c : Caller) (a : ReceiveArguments) (r : Removal) (room : Roomful) (s :
       (next_write a.id whole) (own_by a.id message.mtype whole.type_left) (higher_by a.id whole.type_left)
       (Some (Delete (key_of_message a.id message.serial))) (deletion_by a.id message.mtype whole.type_left)
       (held queue.id known.known.selects.its.its_id)
-      (messages_his whole.message.previous
-      (λ (serial : ℕ). Relink (key_of_message a.id serial) (to_next whole.message.next)) (λ n. refl))
-      (messages_his whole.message.next
-      (λ (serial : ℕ). Relink (key_of_message a.id serial) (to_previous whole.message.previous)) (λ n. refl))
+      (slot_all IsHis (λ (serial : ℕ). Relink (key_of_message a.id serial) (to_next whole.message.next))
+      whole.message.previous (λ n is. held a.id refl))
+      (slot_all IsHis (λ (serial : ℕ). Relink (key_of_message a.id serial) (to_previous whole.message.previous))
+      whole.message.next (λ n is. held a.id refl))
       (own_his message.mtype whole.type_left) (higher_his whole.type_left) (held a.id refl)
       (deletion_his message.mtype whole.type_left)
 

@@ -1,10 +1,5 @@
 -- The message that a receive selects stands at a place, and is the first of its type.
-use Rattle.std.proofs.Common.{◌≡◌, ℕ, zero, suc, ◌<◌, ℤ, pos, negsuc, Bool, true, false, List, ◌∷◌, Option, Some, None, refl, sym, ap, ◌∙◌, get_or}
-use Rattle.std.specs.Prelude.{◌≢◌, slice_get}
-use Rattle.xsi_receive.specs.Words.{position_or_len, remove, int_eq, Message, selects, selected, has_type, lowest_type, find-Some, serials, serials_of_type, is_of_type}
-use Rattle.std.proofs.lemmas.Bool.Decides.{Decides-int_eq}
-use Rattle.std.proofs.lemmas.List.Folds.{find_at}
-use Rattle.std.proofs.lemmas.List.Sums.{fails_before_first}
+use Rattle.xsi_receive.proofs.Names.{Bool, Decides-int_eq, List, Message, None, Option, Some, ap, fails_before_first, false, find-Some, find_at, get_or, has_type, int_eq, is_of_type, lowest_type, negsuc, pos, position_or_len, refl, remove, selected, selects, serials, serials_of_type, slice_get, suc, sym, true, zero, ℕ, ℤ, ◌<◌, ◌∙◌, ◌∷◌, ◌≡◌, ◌≢◌}
 use Rattle.xsi_receive.proofs.ListLemmas.{filter_first, filter_without}
 
 -- a receive of a type tells messages apart by their types alone

@@ -1,23 +1,10 @@
 -- Each write of a Receive makes the record that stands at its key afterwards.
-use Rattle.std.proofs.Common.{◌≡◌, ℕ, zero, suc, ◌<◌, ℤ, pos, ◌≤ℤ◌, false, List, length, Option, Some, None, refl, sym, ap, ◌∙◌, subst, get_or, arith}
-use Rattle.std.specs.Prelude.{◌≢◌, ◌==◌, IsSome, option_map, option_and_then, slice_get}
-use Rattle.xsi_receive.specs.Words.{Contains, find, position_or_len, remove, Message, Queue, IsLawful, has_id, with_queue, State, MessageEntry, Record, TypeEntry, type_number, key_of_message, key_of_queue, key_of_type, message_entry, queue_entry, type_entry, serials, serials_of_type, types, before_place, first_of, has_number, message_record, record_of, type_record, found_new, mapped, Write, Replace, Relink, Delete, IsFiled, value_length, Fills, InSlot}
-use Rattle.std.proofs.lemmas.Bool.Decides.{nat_tests}
-use Rattle.std.proofs.lemmas.List.Folds.{find_at}
-use Rattle.std.proofs.lemmas.Option.{get_or_from_slice_get, slice_get-get_or, slice_get-map, slice_get_within}
-use Rattle.queue_model.proofs.LawfulLemmas.{IsLawful-set, IsLawfulQueue-remove}
-use Rattle.queue_records.specs.declared.links.Link.TheVariants.{Stays}
+use Rattle.xsi_receive.proofs.Names.{Contains, Delete, Fills, InSlot, IsFiled, IsLawful, IsLawful-set, IsLawfulQueue-remove, IsSome, List, Message, MessageEntry, MessageLinks, None, Option, Queue, Relink, Replace, Some, State, Stays, TypeEntry, TypeLinks, Write, ap, arith, before_place, by_number, by_serial, false, find, find_at, fine, first_of, found_new, get_or, get_or_from_slice_get, has_id, has_number, key_of_message, key_of_queue, key_of_type, length, length-queue, link_to, linked, mapped, message_entry, message_record, message_stands, nat_tests, option_and_then, option_map, pos, position_or_len, queue_entry, queue_stands, record_of, refl, relinked, remove, same_number, serials, serials_of_type, slice_get, slice_get-get_or, slice_get-map, slice_get_within, subst, suc, sym, to_first, to_higher, to_lower, to_next, to_previous, type_entry, type_number, type_record, type_stands, typed, types, value_length, with_message_links, with_queue, with_type_links, zero, ℕ, ℤ, ◌<◌, ◌==◌, ◌∙◌, ◌≡◌, ◌≢◌, ◌≤ℤ◌}
 use Rattle.queue_records.specs.declared.links.Links.TheVariants as links
-use Rattle.queue_records.specs.declared.links.MessageLinks.{MessageLinks}
-use Rattle.queue_records.specs.declared.links.TypeLinks.{TypeLinks}
 use Rattle.queue_records.specs.declared.record.Record.TheVariants as records
-use Rattle.queue_records.specs.Relinking.{linked, relinked, with_message_links, with_type_links}
-use Rattle.queue_records.proofs.Lengths.{length-queue}
-use Rattle.xsi_receive.specs.Removing.{link_to, to_first, to_higher, to_lower, to_next, to_previous}
 use Rattle.xsi_receive.proofs.FirstOfTypeLemmas.{IsTakenAt}
 use Rattle.xsi_receive.proofs.ListLemmas.{find_none_left, find_without}
 use Rattle.xsi_receive.proofs.MessageLemmas.{entry_next, entry_previous, none_at_its_serial, same_at_other_serial, serials_other, without}
-use Rattle.xsi_receive.proofs.StandLemmas.{by_number, by_serial, fine, message_stands, numbers_differ, type_stands, typed}
 use Rattle.xsi_receive.proofs.TypeLemmas.{own_entry, place_other, type_higher, type_lower, types_go, types_stay}
 use Rattle.xsi_receive.proofs.TypesLemmas.{its_type_stands}
 
@@ -61,7 +48,7 @@ module _ (s : State) (filed : IsFiled s) (id : ℕ) (q : Queue) (found : find (h
       let place = position_or_len (has_id id) s.queues in
       let at = get_or_from_slice_get s.queues place q q (sym (find_at (has_id id) s.queues) ∙ found) in
       IsLawful-set s place q new at refl refl
-      (IsLawfulQueue-remove q i pid moment (slice_get_within q.messages i m taken.at) (fine s filed id q found))
+      (IsLawfulQueue-remove q i pid moment (slice_get_within q.messages i m taken.at) (fine s filed.lawful id q found))
       filed.lawful
 
   pub message_after : (serial : ℕ) → record_of after (key_of_message id serial) ≡ message_record serial new
@@ -72,14 +59,12 @@ module _ (s : State) (filed : IsFiled s) (id : ℕ) (q : Queue) (found : find (h
 
   -- ---- the Queue
 
-  abbrev as_queue : Option Queue → Option Record
-  as_queue o = option_map (λ (x : Queue). records.Queue (queue_entry x)) o
-
   pub queue_fits : Right (Replace (records.Queue (queue_entry new)))
   queue_fits = (
-    ap (λ (n : ℕ). record_of after (key_of_queue n)) its ∙ ap as_queue (found_new id s q new found refl refl),
+    ap (λ (n : ℕ). record_of after (key_of_queue n)) its
+        ∙ queue_stands after lawful_after id new (found_new id s q new found refl refl),
     ap (option_map value_length)
-        (ap (λ (n : ℕ). record_of s (key_of_queue n)) its ∙ ap as_queue found)
+        (ap (λ (n : ℕ). record_of s (key_of_queue n)) its ∙ queue_stands s filed.lawful id q found)
         ∙ ap Some (length-queue (queue_entry q) ∙ sym (length-queue (queue_entry new))),
   )
 
@@ -89,12 +74,12 @@ module _ (s : State) (filed : IsFiled s) (id : ℕ) (q : Queue) (found : find (h
       message_entry new n ≡ with_message_links l (message_entry q n) →
       Right (Relink (key_of_message id n.serial) (links.Message l))
   message_fits k n at other l same =
-      let lawful = fine s filed id q found in
+      let lawful = fine s filed.lawful id q found in
       let stands = stands_at q.messages k n at in
-      let was = message_stands s filed id q found n stands in
+      let was = message_stands s filed.lawful id q found n stands in
       let apart = serials_other q lawful pid moment i m taken k n at other in
       let kept = same_at_other_serial q lawful pid moment i m taken n.serial (λ same. apart (sym same))
-      ∙ by_serial s filed id q found n stands in
+      ∙ by_serial s filed.lawful id q found n stands in
       let now = message_after n.serial
       ∙ ap (option_map (λ (x : Message). records.Message (message_entry new x))) kept
       ∙ ap (λ (e : MessageEntry). Some (records.Message e)) same in
@@ -110,7 +95,7 @@ module _ (s : State) (filed : IsFiled s) (id : ℕ) (q : Queue) (found : find (h
       subst (λ (y : ℕ). Right (Relink (key_of_message id y) (to_next next))) same
       (message_fits k x at (omega (arith, here)) (record
       { previous = Stays; next = link_to next; next_of_type = Stays })
-      (entry_previous q (fine s filed id q found) pid moment i m taken k x at here
+      (entry_previous q (fine s filed.lawful id q found) pid moment i m taken k x at here
       ∙ sym (ap (λ (o : Option ℕ). record (message_entry q x) { next = o })
       (link_leads next (message_entry q x).next))))
 
@@ -124,16 +109,16 @@ module _ (s : State) (filed : IsFiled s) (id : ℕ) (q : Queue) (found : find (h
       subst (λ (y : ℕ). Right (Relink (key_of_message id y) (to_previous previous))) same
       (message_fits (suc i) x at (omega arith)
       (record { previous = link_to previous; next = Stays; next_of_type = Stays })
-      (entry_next q (fine s filed id q found) pid moment i m taken i x at refl
+      (entry_next q (fine s filed.lawful id q found) pid moment i m taken i x at refl
       ∙ sym (ap (λ (o : Option ℕ). record (message_entry q x) { previous = o })
       (link_leads previous (message_entry q x).previous))))
 
   pub message_goes : Right (Delete (key_of_message id m.serial))
   message_goes =
-      let lawful = fine s filed id q found in
+      let lawful = fine s filed.lawful id q found in
       let now = message_after m.serial ∙ ap (option_map (λ (x : Message). records.Message (message_entry new x)))
       (none_at_its_serial q lawful pid moment i m taken) in
-      let was = message_stands s filed id q found m (stands_at q.messages i m taken.at) in
+      let was = message_stands s filed.lawful id q found m (stands_at q.messages i m taken.at) in
       (subst IsSome (sym was) refl, now)
 
   -- ---- Types
@@ -143,7 +128,7 @@ module _ (s : State) (filed : IsFiled s) (id : ℕ) (q : Queue) (found : find (h
       (l : TypeLinks) → type_entry new t ≡ with_type_links l (type_entry q t) →
       Right (Relink (key_of_type id t) (links.Type l))
   type_fits t stands left l same =
-      let was = type_stands s filed id q found t stands in
+      let was = type_stands s filed.lawful id q found t stands in
       let now = type_after t ∙ ap (option_map (λ (u : ℤ). records.Type (type_entry new u))) left
       ∙ ap (λ (e : TypeEntry). Some (records.Type e)) same in
       ((type_entry q t, was), now ∙ sym (ap (option_map (relinked (links.Type l))) was))
@@ -154,7 +139,8 @@ module _ (s : State) (filed : IsFiled s) (id : ℕ) (q : Queue) (found : find (h
   own_fits f first =
       let stands = its_type_stands q.messages i m taken in
       let stay = types_stay q pid moment i m taken f first in
-      let left = ap (find (has_number (type_number m.mtype))) stay ∙ by_number s filed id q found m.mtype stands in
+      let left = ap (find (has_number (type_number m.mtype))) stay
+      ∙ by_number s filed.lawful id q found m.mtype stands in
       type_fits m.mtype stands left (record { first = Some f; last = None; lower = Stays; higher = Stays })
       (own_entry q pid moment i m taken f first)
 
@@ -165,7 +151,7 @@ module _ (s : State) (filed : IsFiled s) (id : ℕ) (q : Queue) (found : find (h
     go = types_go q pid moment i m taken none j at_j
 
     own_type_one : pos 1 ≤ℤ m.mtype
-    own_type_one = typed s filed id q found m.mtype (its_type_stands q.messages i m taken)
+    own_type_one = typed s filed.lawful id q found m.mtype (its_type_stands q.messages i m taken)
 
     -- another type is found as before
     pub found_other : (n : ℕ) → (type_number m.mtype == n) ≡ false →
@@ -178,8 +164,8 @@ module _ (s : State) (filed : IsFiled s) (id : ℕ) (q : Queue) (found : find (h
     other_number k t at other =
         let apart = place_other q pid moment i m taken none j at_j k t at other in
         let differ : type_number m.mtype ≢ type_number t = λ same.
-        apart (numbers_differ m.mtype t own_type_one
-        (typed s filed id q found t (stands_at (types q.messages) k t at)) same) in
+        apart (same_number m.mtype t own_type_one
+        (typed s filed.lawful id q found t (stands_at (types q.messages) k t at)) same) in
         apart_numbers (type_number m.mtype) (type_number t) differ
 
     beside_fits : (k : ℕ) (t : ℤ) → slice_get (types q.messages) k ≡ Some t → k ≢ j → (l : TypeLinks) →
@@ -187,7 +173,7 @@ module _ (s : State) (filed : IsFiled s) (id : ℕ) (q : Queue) (found : find (h
     beside_fits k t at other l same =
         let stands = stands_at (types q.messages) k t at in
         type_fits t stands
-        (found_other (type_number t) (other_number k t at other) ∙ by_number s filed id q found t stands) l same
+        (found_other (type_number t) (other_number k t at other) ∙ by_number s filed.lawful id q found t stands) l same
 
     pub lower_fits : (place : ℕ) → place ≡ j → (o : Option ℤ) → before_place (types q.messages) place ≡ o →
         InSlot Right (option_map (λ (t : ℤ). Relink (key_of_type id t) (to_higher (type_entry q m.mtype).higher)) o)
@@ -222,5 +208,5 @@ module _ (s : State) (filed : IsFiled s) (id : ℕ) (q : Queue) (found : find (h
         (ap (find (has_number (type_number m.mtype))) go
         ∙ find_none_left (has_number (type_number m.mtype)) (types q.messages) j
         (slice_get_within (types q.messages) j m.mtype at_j) fails) in
-        let was = type_stands s filed id q found m.mtype (its_type_stands q.messages i m taken) in
+        let was = type_stands s filed.lawful id q found m.mtype (its_type_stands q.messages i m taken) in
         (subst IsSome (sym was) refl, now)

@@ -1,24 +1,8 @@
 -- What a Receive knows by what it was told.
-use Rattle.std.proofs.Common.{◌≡◌, ℕ, zero, suc, ◌<◌, ◌≤◌, ℤ, pos, negsuc, ◌≤ℤ◌, ◌<ℤ◌, Bool, true, false, List, length, Option, Some, None, ◌⊎◌, inl, inr, refl, sym, ap, ◌∙◌, arith}
-use Rattle.std.specs.Prelude.{Result, Ok, Err, int_lt, is_none, nat_abs, take, ◌&&◌, slice_index}
-use Rattle.xsi_receive.specs.Words.{Contains, find, position_or_len, Receive, ReceiveArguments, Caller, Message, Queue, outcome, put_off, receive_found, receive_from, refuse, selected, selects, State, find-Some, MessageEntry, QueueEntry, Record, TypeEntry, key_of_message, key_of_type, message_entry, queue_entry, type_entry, is_of_type, record_of, Roomful, IsFiled, IsTold}
-use Rattle.std.proofs.lemmas.Int.{ints, clamps}
-use Rattle.std.proofs.lemmas.List.{length-take, take_all}
-use Rattle.queue_model.specs.Access.{lacks_access}
-use Rattle.queue_model.specs.declared.errno.Errno.TheVariants.{E2BIG, ENOMSG}
-use Rattle.queue_model.specs.declared.permissions.Access.TheVariants.{Read}
+use Rattle.xsi_receive.proofs.Names.{At, Bool, Caller, Contains, E2BIG, ENOMSG, Err, HasRoomFor, IsEntryOf, IsFiled, IsTold, KnowsAt, KnowsHead, KnowsSerial, List, Message, MessageEntry, MessageHead, None, Ok, Option, Queue, QueueEntry, Read, Receive, ReceiveArguments, Record, Result, Roomful, SelectsMessage, SelectsType, Some, State, TypeEntry, ap, arith, clamps, clash, false, find, find-Some, head_of, inl, inr, int_lt, ints, is_long, is_none, is_of_type, key_of_message, key_of_type, lacks_access, length, length-take, message_entry, message_stands, nat_abs, negsuc, outcome, permissions_in, pos, position_or_len, put_off, put_off_at, queue_entry, receive_found, receive_from, record_of, refl, refuse, selected, selects, short, slice_index, suc, sym, take, take_all, true, type_absent, type_entry, type_stands, typed, zero, ℕ, ℤ, ◌&&◌, ◌<ℤ◌, ◌<◌, ◌∙◌, ◌≡◌, ◌≤ℤ◌, ◌≤◌, ◌⊎◌}
 use Rattle.queue_records.specs.declared.record.Record.TheVariants as records
-use Rattle.type_chains.specs.Reading.{permissions_in}
-use Rattle.xsi_inquiry.specs.declared.wanted.Wanted.TheVariants.{At}
-use Rattle.xsi_inquiry.specs.Seeking.{IsEntryOf}
-use Rattle.xsi_inquiry.proofs.SeekLemmas.{clash}
-use Rattle.xsi_receive.specs.declared.head.MessageHead.{MessageHead}
-use Rattle.xsi_receive.specs.Asking.{is_long, put_off_at}
-use Rattle.xsi_receive.specs.Heads.{head_of}
-use Rattle.xsi_receive.specs.Knowing.{HasRoomFor, KnowsAt, KnowsHead, KnowsSerial, SelectsMessage, SelectsType}
 use Rattle.xsi_receive.proofs.FirstOfTypeLemmas.{serials_of_its_type, taken_at}
 use Rattle.xsi_receive.proofs.SelectingLemmas.{first_some, lowest_stands, none_of, selects_above, selects_below_in, selects_below_none, selects_below_out, stands_of, type_found}
-use Rattle.xsi_receive.proofs.StandLemmas.{message_stands, short, type_absent, type_stands, typed}
 
 above_zero : (t : ℤ) → (t ≤ℤ pos 0 → ⊥) → pos 0 <ℤ t
 above_zero (pos zero) never = absurd (never (omega (arith, ints)))
@@ -74,7 +58,7 @@ module _ (c : Caller) (a : ReceiveArguments) (e : QueueEntry) (s : State) (its :
     lowest_is u some = ap (λ (x : QueueEntry). x.lowest) (sym its.entry) ∙ some
 
     lowest_typed : (u : ℤ) → e.lowest ≡ Some u → pos 1 ≤ℤ u
-    lowest_typed u some = typed s filed a.id q its.found u (lowest_stands q.messages u (lowest_is u some))
+    lowest_typed u some = typed s filed.lawful a.id q its.found u (lowest_stands q.messages u (lowest_is u some))
 
     pub knows_out : (u : ℤ) → a.mtype <ℤ pos 0 → e.lowest ≡ Some u → nat_abs a.mtype < nat_abs u →
         KnowsAt c a (put_off_at a.nowait) room s
@@ -131,7 +115,7 @@ module _ (c : Caller) (a : ReceiveArguments) (e : QueueEntry) (s : State) (filed
     its_message serial same found told =
         told (key_of_message a.id serial) refl
         ∙ ap (λ (n : ℕ). record_of s (key_of_message a.id n)) same
-        ∙ message_stands s filed a.id taken_of known.its.found known.message stands
+        ∙ message_stands s filed.lawful a.id taken_of known.its.found known.message stands
 
     pub its_type : (mtype : ℤ) → mtype ≡ known.message.mtype → (found : Option Record) →
         IsTold s (Some (At (key_of_type a.id mtype))) found →
@@ -139,11 +123,11 @@ module _ (c : Caller) (a : ReceiveArguments) (e : QueueEntry) (s : State) (filed
     its_type mtype same found told =
         told (key_of_type a.id mtype) refl
         ∙ ap (λ (t : ℤ). record_of s (key_of_type a.id t)) same
-        ∙ type_stands s filed a.id taken_of known.its.found known.message.mtype
+        ∙ type_stands s filed.lawful a.id taken_of known.its.found known.message.mtype
         (stands_of taken_of.messages known.message stands)
 
     pub is_short : length known.message.bytes ≤ 1024
-    is_short = short s filed a.id taken_of known.its.found known.message stands
+    is_short = short s filed.lawful a.id taken_of known.its.found known.message stands
 
     -- a Type names its first message
     pub first_is : (t : TypeEntry) → t ≡ type_entry taken_of known.message.mtype → t.first ≡ known.message.serial
@@ -174,7 +158,7 @@ module _ (c : Caller) (a : ReceiveArguments) (e : QueueEntry) (s : State) (filed
         by None none =
             let absent = none_of queue.messages mtype none in
             inr (
-              at ∙ type_absent s filed a.id queue known.its.found mtype known.typed absent,
+              at ∙ type_absent s filed.lawful a.id queue known.its.found mtype known.typed absent,
               above_zero a.mtype (λ below. absent (known.stands below)),
               known.by_type ∙ none,
             )
@@ -188,7 +172,7 @@ module _ (c : Caller) (a : ReceiveArguments) (e : QueueEntry) (s : State) (filed
             } in
             inl (
               selects_it,
-              at ∙ type_stands s filed a.id queue known.its.found mtype its.1
+              at ∙ type_stands s filed.lawful a.id queue known.its.found mtype its.1
                   ∙ ap (λ (t : ℤ). Some (records.Type (type_entry queue t))) (sym its.0),
             )
 

@@ -1,21 +1,9 @@
 -- The writes of a Receive lead from the records of a system to those of the system after it.
-use Rattle.std.proofs.Common.{◌≡◌, ℕ, zero, suc, ◌≤◌, ℤ, Bool, true, false, List, Option, Some, None, ◌⊎◌, inl, inr, refl, sym, ap, ◌∙◌, subst, arith}
-use Rattle.std.specs.Prelude.{◌≢◌, ◌==◌, option_map, slice_get}
-use Rattle.xsi_receive.specs.Words.{All, find, remove, int_eq, RecordKey, Message, Queue, IsLawfulQueue, has_id, with_queue, State, find-Some, MessageEntry, TypeEntry, type_number, key_of_message, key_of_type, message_entry, queue_entry, type_entry, serials, serials_of_type, types, before_place, first_of, has_number, has_serial, message_record, record_of, type_record, in_range, agree_but, key_is, Write, Replace, Relink, Delete, IsFiled, Leads, Fills, Misses, leads_by, InSlot, somes_all, somes_each}
-use Rattle.std.proofs.lemmas.Bool.{cases_lt, eqb-true}
-use Rattle.std.proofs.lemmas.Bool.Decides.{Decides-eqb, Decides-int_eq}
-use Rattle.std.proofs.lemmas.List.Elements.{All-nil}
-use Rattle.std.proofs.lemmas.Option.{slice_get-map}
+use Rattle.xsi_receive.proofs.Names.{All, All-nil, Begins, Bool, Decides-eqb, Decides-int_eq, Delete, Fills, Goes, InSlot, IsFiled, IsLawfulQueue, Leads, List, Message, MessageEntry, Misses, None, Option, Queue, RecordKey, Relink, Removal, Replace, Some, State, TypeEntry, TypeLeft, Write, agree_but, ap, arith, before_place, cases_lt, deletion_by, eqb-true, false, find, find-Some, fine, first_of, has_id, has_number, has_serial, head_of, higher_by, in_range, inl, inr, int_eq, key_is, key_of_message, key_of_type, leads_by, left_by, message_entry, message_record, next_write, option_map, own_by, previous_write, queue_entry, record_of, refl, removal_plan, remove, serials, serials_of_type, slice_get, slice_get-map, slots_of, somes_all, somes_each, subst, suc, sym, to_higher, to_lower, to_next, to_previous, true, type_deletion, type_entry, type_number, type_record, types, with_queue, zero, ℕ, ℤ, ◌==◌, ◌∙◌, ◌≡◌, ◌≢◌, ◌≤◌, ◌⊎◌}
 use Rattle.queue_records.specs.declared.record.Record.TheVariants as records
-use Rattle.xsi_receive.specs.declared.removal.Removal.{Removal}
-use Rattle.xsi_receive.specs.declared.removal.TypeLeft.{TypeLeft}
-use Rattle.xsi_receive.specs.declared.removal.TypeLeft.TheVariants.{Begins, Goes}
-use Rattle.xsi_receive.specs.Heads.{head_of}
-use Rattle.xsi_receive.specs.Removing.{deletion_by, higher_by, left_by, next_write, own_by, previous_write, removal_plan, slots_of, to_higher, to_lower, to_next, to_previous, type_deletion}
 use Rattle.xsi_receive.proofs.FirstOfTypeLemmas.{IsTakenAt}
 use Rattle.xsi_receive.proofs.FitLemmas.{found_other, higher_fits, lawful_after, lower_fits, message_goes, next_fits, own_fits, place_of, previous_fits, queue_fits, type_goes}
 use Rattle.xsi_receive.proofs.MessageLemmas.{entry_later, entry_sooner, next_is, next_of_type_is, previous_is, same_at_other_serial, without}
-use Rattle.xsi_receive.proofs.StandLemmas.{fine}
 use Rattle.xsi_receive.proofs.TypeLemmas.{entry_stays, higher_is, lower_is, type_later, type_sooner, types_stay}
 use Rattle.xsi_receive.proofs.TypesLemmas.{its_type_stands}
 use Rattle.xsi_receive.proofs.RankLemmas.{all_seven, WritesAt, missed, not_at}
@@ -48,7 +36,7 @@ module _ (s : State) (filed : IsFiled s) (id : ℕ) (q : Queue) (found : find (h
   slots = slots_of id removal
 
   lawful_queue : IsLawfulQueue q
-  lawful_queue = fine s filed id q found
+  lawful_queue = fine s filed.lawful id q found
 
   -- ---- each write fits
 

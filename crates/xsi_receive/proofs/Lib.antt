@@ -10,6 +10,5 @@ pub mod OrderLemmas
 pub mod QueueLemmas
 pub mod RankLemmas
 pub mod SelectingLemmas
-pub mod StandLemmas
 pub mod TypeLemmas
 pub mod TypesLemmas

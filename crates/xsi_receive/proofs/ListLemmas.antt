@@ -1,12 +1,5 @@
 -- What stands beside an element of a list, when another goes; and what searches find then.
-use Rattle.std.proofs.Common.{◌≡◌, ℕ, zero, suc, ◌-◌, ◌<◌, ◌≤◌, Bool, true, false, cond, List, [], ◌∷◌, length, Option, Some, None, refl, sym, ap, ◌∙◌, get_or, arith}
-use Rattle.std.specs.Prelude.{◌≢◌, slice_get}
-use Rattle.xsi_receive.specs.Words.{All, AllPairs, find, filter, position_or_len, remove, before_place, before, behind, first_of, last_of}
-use Rattle.std.proofs.lemmas.Option.{same_Some, slice_get_within, get_or_from_slice_get}
-use Rattle.std.proofs.lemmas.List.Edits.{length-remove}
-use Rattle.std.proofs.lemmas.List.Elements.{All-head}
-use Rattle.std.proofs.lemmas.List.Quantifiers.{all_pairs_remove}
-use Rattle.std.proofs.lemmas.List.Sums.{position_or_len_is}
+use Rattle.xsi_receive.proofs.Names.{AllPairs, Bool, List, None, Option, Some, [], all_pairs_remove, ap, arith, before, before_place, behind, cond, false, filter, find, find-None, first_of, get_or, get_or_from_slice_get, last_of, length, length-remove, position_None, position_or_len, position_or_len_is, refl, remove, same_Some, slice_get, slice_get_within, suc, sym, true, zero, ℕ, ◌-◌, ◌<◌, ◌∙◌, ◌∷◌, ◌≡◌, ◌≢◌, ◌≤◌}
 
 -- ---- places of a list without one
 
@@ -181,13 +174,8 @@ pub find_none_left : {X : Type 0} (test : X → Bool) (xs : List X) (i : ℕ) �
     ((k : ℕ) (d : X) → k < length xs → k ≢ i → test (get_or xs k d) ≡ false) → find test (remove xs i) ≡ None
 find_none_left test [] i within none = absurd (omega (arith, within))
 find_none_left test (y ∷ ys) zero within none =
-    nothing test ys (λ k d inside. none (suc k) d (omega (arith, inside)) (omega arith))
-  where
-    nothing : {X : Type 0} (test : X → Bool) (xs : List X) → All (λ (x : X). test x ≡ false) xs → find test xs ≡ None
-    nothing test [] all = refl
-    nothing test (x ∷ xs) all =
-        let over : test x ≡ false = All-head (λ y. test y ≡ false) x xs all in
-        rw over (nothing test xs (λ k d inside. all (suc k) d (omega (arith, inside))))
+    find-None test ys (position_None test ys
+    (λ k d inside. none (suc k) d (omega (arith, inside)) (omega arith)))
 find_none_left test (y ∷ ys) (suc i) within none =
     let over : test y ≡ false = none zero y (omega arith) (omega arith) in
     rw over (find_none_left test ys i (omega (arith, within))

@@ -1,11 +1,5 @@
 -- The Messages of a queue without the message that a receive takes.
-use Rattle.std.proofs.Common.{◌≡◌, ℕ, suc, ◌+◌, ◌<◌, ◌≤◌, ℤ, Bool, true, false, List, ◌∷◌, length, Option, Some, None, ◌⊎◌, inl, inr, refl, sym, ap, ◌∙◌, subst, get_or, arith}
-use Rattle.std.specs.Prelude.{◌≢◌, ◌==◌, option_map, slice_get}
-use Rattle.xsi_receive.specs.Words.{find, position_or_len, remove, int_eq, Message, Queue, IsLawfulQueue, map-remove, MessageEntry, message_entry, is_number, serials, serials_of_type, first_of, before, behind, before_place, has_serial}
-use Rattle.std.proofs.lemmas.Bool.{cases_lt}
-use Rattle.std.proofs.lemmas.Bool.Decides.{Decides-eqb, Decides-int_eq, nat_tests}
-use Rattle.std.proofs.lemmas.List.{get_or-map, length-map}
-use Rattle.std.proofs.lemmas.Option.{slice_get-get_or, slice_get-map, slice_get_within, get_or_from_slice_get}
+use Rattle.xsi_receive.proofs.Names.{Bool, Decides-eqb, Decides-int_eq, IsLawfulQueue, List, Message, MessageEntry, None, Option, Queue, Some, ap, arith, before, before_place, behind, cases_lt, false, find, first_of, get_or, get_or-map, get_or_from_slice_get, has_serial, inl, inr, int_eq, is_number, length, length-map, map-remove, message_entry, nat_tests, option_map, position_or_len, refl, remove, serials, serials_of_type, slice_get, slice_get-get_or, slice_get-map, slice_get_within, subst, suc, sym, true, ℕ, ℤ, ◌+◌, ◌<◌, ◌==◌, ◌∙◌, ◌∷◌, ◌≡◌, ◌≢◌, ◌≤◌, ◌⊎◌}
 use Rattle.xsi_receive.proofs.FirstOfTypeLemmas.{IsTakenAt, serials_of_its_type, serials_of_other_type}
 use Rattle.xsi_receive.proofs.ListLemmas.{AreToldApart, before_it, behind_it, before_sooner, behind_sooner, behind_previous, behind_later, before_later, before_next, find_none_left, find_without}
 

@@ -1,19 +1,12 @@
 -- The writes of a Receive stand in the order of their ranks.
-use Rattle.std.proofs.Common.{◌≡◌, ℕ, zero, suc, ◌<◌, ℤ, ◌<ℤ◌, List, [], ◌∷◌, Option, Some, None, inr, refl, sym, ap, ◌∙◌, subst, get_or, arith}
-use Rattle.xsi_receive.specs.Words.{option_map, slice_get, All, find, remove, Message, Queue, IsLawfulQueue, has_id, with_queue, State, MessageEntry, TypeEntry, type_number, key_of_message, key_of_type, message_entry, queue_entry, type_entry, serials, serials_of_type, types, before_place, first_of, record_of, types_ascend, Write, Replace, Relink, Delete, Ascend, IsBefore, write_rank, IsFiled, somes, Fills, InSlot, SlotsAscend, somes_ascend}
-use Rattle.std.proofs.lemmas.Option.{get_or_from_slice_get, slice_get_within}
+use Rattle.xsi_receive.proofs.Names.{All, Ascend, Delete, Fills, InSlot, IsBefore, IsFiled, IsLawfulQueue, List, Message, MessageEntry, None, Option, Queue, Relink, Removal, Replace, SlotsAscend, Some, State, TypeEntry, TypeLeft, Write, [], ap, arith, before_place, find, fine, first_of, get_or, get_or_from_slice_get, has_id, head_of, higher_by, inr, key_of_message, key_of_type, left_by, message_entry, next_write, numbers_ascend, option_map, own_by, previous_write, queue_entry, record_of, refl, remove, serials, serials_of_type, slice_get, slice_get_within, slot_all, slots_of, somes, somes_ascend, subst, suc, sym, to_higher, to_lower, to_next, to_previous, type_deletion, type_entry, type_number, typed, types, types_ascend, with_queue, write_rank, zero, ℕ, ℤ, ◌<ℤ◌, ◌<◌, ◌∙◌, ◌∷◌, ◌≡◌}
 use Rattle.queue_records.specs.declared.record.Record.TheVariants as records
-use Rattle.xsi_receive.specs.declared.removal.Removal.{Removal}
-use Rattle.xsi_receive.specs.declared.removal.TypeLeft.{TypeLeft}
-use Rattle.xsi_receive.specs.Heads.{head_of}
-use Rattle.xsi_receive.specs.Removing.{higher_by, left_by, next_write, own_by, previous_write, slots_of, to_higher, to_lower, to_next, to_previous, type_deletion}
 use Rattle.xsi_receive.proofs.FirstOfTypeLemmas.{IsTakenAt}
 use Rattle.xsi_receive.proofs.FitLemmas.{numbered, place_of, stands_at}
 use Rattle.xsi_receive.proofs.MessageLemmas.{next_is, next_of_type_is, previous_is, without}
-use Rattle.xsi_receive.proofs.StandLemmas.{fine, typed}
 use Rattle.xsi_receive.proofs.TypeLemmas.{higher_is, lower_is}
 use Rattle.xsi_receive.proofs.TypesLemmas.{its_type_stands}
-use Rattle.xsi_receive.proofs.RankLemmas.{put, none_in, HasRank, message_rank, own_rank, higher_rank, deletion_rank, before, each, of_rank, numbers_ascend}
+use Rattle.xsi_receive.proofs.RankLemmas.{put, none_in, HasRank, own_rank, higher_rank, deletion_rank, before, each, of_rank}
 
 module _ (s : State) (filed : IsFiled s) (id : ℕ) (q : Queue) (found : find (has_id id) s.queues ≡ Some q)
     (its : q.id ≡ id) (pid moment i : ℕ) (m : Message) (taken : IsTakenAt m q.messages i) where
@@ -42,7 +35,7 @@ module _ (s : State) (filed : IsFiled s) (id : ℕ) (q : Queue) (found : find (h
   slots = slots_of id removal
 
   lawful_queue : IsLawfulQueue q
-  lawful_queue = fine s filed id q found
+  lawful_queue = fine s filed.lawful id q found
 
   next_by : entry.next_of_type ≡ first_of (serials_of_type m.mtype (remove q.messages i))
   next_by = next_of_type_is q lawful_queue pid moment i m taken
@@ -89,7 +82,7 @@ module _ (s : State) (filed : IsFiled s) (id : ℕ) (q : Queue) (found : find (h
       let one = get_or_from_slice_get (types q.messages) k t t lower in
       let two = get_or_from_slice_get (types q.messages) (suc j) u t higher in
       let ascends = subst (λ (x : ℤ). x <ℤ u) one (subst (λ (x : ℤ). get_or (types q.messages) k t <ℤ x) two less) in
-      numbers_ascend t u (typed s filed id q found t (stands_at (types q.messages) k t lower)) ascends
+      numbers_ascend t u (typed s filed.lawful id q found t (stands_at (types q.messages) k t lower)) ascends
 
   types_in_order : (o : Option ℕ) → entry.next_of_type ≡ o → (w : Write) → own_by id m.mtype (left_by o own) ≡ Some w →
       InSlot (IsBefore w) (higher_by id (left_by o own))
@@ -123,12 +116,12 @@ module _ (s : State) (filed : IsFiled s) (id : ℕ) (q : Queue) (found : find (h
   from_own = own_by id m.mtype left ∷ higher_by id left ∷ deletions
 
   previous_rank : HasRank 1 (previous_write id removal)
-  previous_rank = message_rank id entry.previous
-      (λ (serial : ℕ). Relink (key_of_message id serial) (to_next entry.next)) (λ serial. refl)
+  previous_rank = slot_all (λ (w : Write). write_rank w ≡ 1)
+      (λ (serial : ℕ). Relink (key_of_message id serial) (to_next entry.next)) entry.previous (λ serial is. refl)
 
   next_rank : HasRank 1 (next_write id removal)
-  next_rank = message_rank id entry.next
-      (λ (serial : ℕ). Relink (key_of_message id serial) (to_previous entry.previous)) (λ serial. refl)
+  next_rank = slot_all (λ (w : Write). write_rank w ≡ 1)
+      (λ (serial : ℕ). Relink (key_of_message id serial) (to_previous entry.previous)) entry.next (λ serial is. refl)
 
   before_deletions : (w : Write) (rank : ℕ) → write_rank w ≡ rank → rank < 3 → All (InSlot (IsBefore w)) deletions
   before_deletions w rank is less =

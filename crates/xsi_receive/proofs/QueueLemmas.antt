@@ -1,15 +1,9 @@
 -- The Queue without the message that a receive takes.
-use Rattle.std.proofs.Common.{◌≡◌, ℕ, zero, suc, ◌+◌, ◌-◌, ◌<◌, ◌≤◌, ℤ, List, [], ◌∷◌, length, Option, Some, None, refl, sym, ap, ◌∙◌, arith}
-use Rattle.xsi_receive.specs.Words.{slice_get, remove, Message, Queue, IsLawfulQueue, total_bytes, message_entry, queue_entry, type_entry, serials, serials_of_type, types, before_place, first_of, last_of}
-use Rattle.std.proofs.lemmas.List.{length-map}
-use Rattle.std.proofs.lemmas.List.Edits.{length-remove}
-use Rattle.std.proofs.lemmas.List.Sums.{sum_by-remove}
-use Rattle.std.proofs.lemmas.Option.{slice_get_within, get_or_from_slice_get}
-use Rattle.xsi_receive.specs.Removing.{where_none}
+use Rattle.xsi_receive.proofs.Names.{IsLawfulQueue, List, Message, None, Option, Queue, Some, [], ap, arith, before_place, first_of, get_or_from_slice_get, last_of, length, length-map, length-remove, message_entry, queue_entry, refl, remove, serials, serials_of_type, slice_get, slice_get_within, suc, sum_by-remove, sym, total_bytes, type_entry, types, where_none, zero, ℕ, ℤ, ◌+◌, ◌-◌, ◌<◌, ◌∙◌, ◌∷◌, ◌≡◌, ◌≤◌}
 use Rattle.xsi_receive.proofs.FirstOfTypeLemmas.{IsTakenAt}
 use Rattle.xsi_receive.proofs.ListLemmas.{first_after, first_left, last_before, last_left}
 use Rattle.xsi_receive.proofs.MessageLemmas.{next_is, previous_is, serials_left, without}
-use Rattle.xsi_receive.proofs.TypeLemmas.{higher_is, lower_is, types_go, types_stay}
+use Rattle.xsi_receive.proofs.TypeLemmas.{higher_is, lower_is, types_go}
 
 -- ---- both ends of a list without one
 
@@ -82,7 +76,7 @@ module _ (q : Queue) (lawful : IsLawfulQueue q) (pid moment i : ℕ) (m : Messag
       (previous_is q lawful pid moment i m taken))
 
   -- the Queue with another lowest type
-  made : (lowest : Option ℤ) → first_of (types (remove q.messages i)) ≡ lowest →
+  pub queue_without : (lowest : Option ℤ) → first_of (types (remove q.messages i)) ≡ lowest →
       queue_entry (without pid moment i q) ≡ record (queue_entry q) {
         cbytes = total_bytes q.messages - length m.bytes;
         qnum = length q.messages - 1;
@@ -92,7 +86,7 @@ module _ (q : Queue) (lawful : IsLawfulQueue q) (pid moment i : ℕ) (m : Messag
         last = where_none (message_entry q m).next (message_entry q m).previous (last_of (serials q.messages));
         lowest = lowest;
       }
-  made lowest is =
+  queue_without lowest is =
       let bytes : total_bytes (remove q.messages i) ≡ total_bytes q.messages - length m.bytes =
       omega (arith, fewer_bytes) in
       let fewer = length-remove q.messages i within in
@@ -119,34 +113,13 @@ module _ (q : Queue) (lawful : IsLawfulQueue q) (pid moment i : ℕ) (m : Messag
         mode = q.permissions.mode;
       }
 
-  -- while a message of its type is left the lowest type stays
-  pub queue_same_lowest : (f : ℕ) → first_of (serials_of_type m.mtype (remove q.messages i)) ≡ Some f →
-      queue_entry (without pid moment i q) ≡ record (queue_entry q) {
-        cbytes = total_bytes q.messages - length m.bytes;
-        qnum = length q.messages - 1;
-        lrpid = pid;
-        rtime = moment;
-        first = where_none (message_entry q m).previous (message_entry q m).next (first_of (serials q.messages));
-        last = where_none (message_entry q m).next (message_entry q m).previous (last_of (serials q.messages));
-      }
-  queue_same_lowest f first = made (first_of (types q.messages))
-      (ap first_of (types_stay q pid moment i m taken f first))
-
-  -- else it is raised where it was its own
-  pub queue_other_lowest : first_of (serials_of_type m.mtype (remove q.messages i)) ≡ None → (j : ℕ) →
-      slice_get (types q.messages) j ≡ Some m.mtype →
-      queue_entry (without pid moment i q) ≡ record (queue_entry q) {
-        cbytes = total_bytes q.messages - length m.bytes;
-        qnum = length q.messages - 1;
-        lrpid = pid;
-        rtime = moment;
-        first = where_none (message_entry q m).previous (message_entry q m).next (first_of (serials q.messages));
-        last = where_none (message_entry q m).next (message_entry q m).previous (last_of (serials q.messages));
-        lowest = where_none (type_entry q m.mtype).lower (type_entry q m.mtype).higher (first_of (types q.messages));
-      }
-  queue_other_lowest none j at_j = made _ (ap first_of (types_go q pid moment i m taken none j at_j)
+  -- it is raised where it was the message's own, and the last of it goes
+  pub lowest_without : first_of (serials_of_type m.mtype (remove q.messages i)) ≡ None → (j : ℕ) →
+      slice_get (types q.messages) j ≡ Some m.mtype → first_of (types (remove q.messages i))
+      ≡ where_none (type_entry q m.mtype).lower (type_entry q m.mtype).higher (first_of (types q.messages))
+  lowest_without none j at_j = ap first_of (types_go q pid moment i m taken none j at_j)
       ∙ first_now (types q.messages) j (slice_get_within (types q.messages) j m.mtype at_j)
       ∙ sym (ap (λ (o : Option ℤ). where_none o (type_entry q m.mtype).higher (first_of (types q.messages)))
       (lower_is q pid moment i m taken none j at_j)
       ∙ ap (λ (o : Option ℤ). where_none (before_place (types q.messages) j) o (first_of (types q.messages)))
-      (higher_is q pid moment i m taken none j at_j)))
+      (higher_is q pid moment i m taken none j at_j))

@@ -1,13 +1,5 @@
 -- Slots of writes, and the ranks of what stands in them.
-use Rattle.std.proofs.Common.{◌≡◌, ℕ, ◌<◌, ℤ, pos, negsuc, ◌≤ℤ◌, ◌<ℤ◌, true, false, List, [], ◌∷◌, Option, Some, None, inl, refl, sym, ap, ◌∙◌, arith}
-use Rattle.xsi_receive.specs.Words.{option_map, All, RecordKey, type_number, Write, IsBefore, write_rank, key_written, Misses, InSlot}
-use Rattle.std.proofs.lemmas.Bool.Decides.{Decides-eqb}
-use Rattle.std.proofs.lemmas.Int.{ints}
-use Rattle.std.proofs.lemmas.List.Elements.{All-cons, All-nil}
-use Rattle.bucket_page.specs.Keys.{is_same}
-use Rattle.xsi_receive.specs.declared.removal.TypeLeft.{TypeLeft}
-use Rattle.xsi_receive.specs.declared.removal.TypeLeft.TheVariants.{Begins, Goes}
-use Rattle.xsi_receive.specs.Removing.{deletion_by, higher_by, own_by}
+use Rattle.xsi_receive.proofs.Names.{All, All-cons, All-nil, Begins, Decides-eqb, Goes, InSlot, IsBefore, List, Misses, None, Option, RecordKey, Some, TypeLeft, Write, [], ap, arith, deletion_by, false, higher_by, inl, is_same, key_written, own_by, refl, slot_all, sym, true, write_rank, ℕ, ℤ, ◌<◌, ◌∙◌, ◌∷◌, ◌≡◌}
 
 -- ---- slots
 
@@ -57,22 +49,13 @@ not_at key (Some w) misses at = missed key w at misses
 abbrev pub HasRank : ℕ → Option Write → Type 0
 HasRank rank o = InSlot (λ (w : Write). write_rank w ≡ rank) o
 
-pub message_rank : (id : ℕ) (o : Option ℕ) (l : ℕ → Write) → ((serial : ℕ) → write_rank (l serial) ≡ 1) →
-    HasRank 1 (option_map l o)
-message_rank id None l is = tt
-message_rank id (Some serial) l is = is serial
-
-pub type_rank : (o : Option ℤ) (l : ℤ → Write) → ((t : ℤ) → write_rank (l t) ≡ 2) → HasRank 2 (option_map l o)
-type_rank None l is = tt
-type_rank (Some t) l is = is t
-
 pub own_rank : (id : ℕ) (mtype : ℤ) (left : TypeLeft) → HasRank 2 (own_by id mtype left)
 own_rank id mtype (Begins first) = refl
-own_rank id mtype (Goes lower higher) = type_rank lower _ (λ t. refl)
+own_rank id mtype (Goes lower higher) = slot_all (λ (w : Write). write_rank w ≡ 2) _ lower (λ t is. refl)
 
 pub higher_rank : (id : ℕ) (left : TypeLeft) → HasRank 2 (higher_by id left)
 higher_rank id (Begins first) = tt
-higher_rank id (Goes lower higher) = type_rank higher _ (λ t. refl)
+higher_rank id (Goes lower higher) = slot_all (λ (w : Write). write_rank w ≡ 2) _ higher (λ t is. refl)
 
 pub deletion_rank : (id : ℕ) (mtype : ℤ) (left : TypeLeft) → HasRank 4 (deletion_by id mtype left)
 deletion_rank id mtype (Begins first) = tt
@@ -93,10 +76,3 @@ each (Some w) os is = is w refl
 pub of_rank : (o : Option Write) (rank : ℕ) (w : Write) → HasRank rank o → o ≡ Some w → write_rank w ≡ rank
 of_rank None rank w has is = absurd cc
 of_rank (Some v) rank w has is = let same : v ≡ w = cc in sym (ap write_rank same) ∙ has
-
--- ---- types by their numbers
-
-pub numbers_ascend : (t u : ℤ) → pos 1 ≤ℤ t → t <ℤ u → type_number t < type_number u
-numbers_ascend (pos m) (pos k) one less = omega (arith, ints, less)
-numbers_ascend (pos m) (negsuc k) one less = absurd (omega (arith, ints, less))
-numbers_ascend (negsuc m) u one less = absurd (omega (arith, ints, one))

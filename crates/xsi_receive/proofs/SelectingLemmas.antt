@@ -1,11 +1,5 @@
 -- Which message the Queue's first serial, its lowest type and a Type name.
-use Rattle.std.proofs.Common.{◌≡◌, ℕ, zero, suc, ◌<◌, ◌≤◌, ℤ, pos, negsuc, ◌≤ℤ◌, ◌<ℤ◌, true, false, List, [], ◌∷◌, Option, Some, None, inl, inr, refl, sym, ap, ◌∙◌, subst, arith}
-use Rattle.xsi_receive.specs.Words.{nat_abs, AllPairs, Contains, find, Message, selects, selected, find-None-All, find-Some, is_of_type, serials, types, first_of, contains_head, head_or_tail, are_types_of, pairs_head, types_ascend}
-use Rattle.std.proofs.lemmas.Bool.Decides.{Decides-int_eq}
-use Rattle.std.proofs.lemmas.Int.{ints}
-use Rattle.std.proofs.lemmas.List.Elements.{All-contains}
-use Rattle.queue_model.specs.Laws.{SelectsLowestWithin}
-use Rattle.queue_model.proofs.LowestLemmas.{SelectsLowestWithin-selected}
+use Rattle.xsi_receive.proofs.Names.{All-contains, AllPairs, Contains, Decides-int_eq, List, Message, None, Option, SelectsLowestWithin, SelectsLowestWithin-selected, Some, [], ap, are_types_of, arith, contains_head, false, find, find-None-All, find-Some, first_of, head_or_tail, inl, inr, ints, is_of_type, nat_abs, negsuc, pairs_head, pos, refl, selected, selects, serials, subst, suc, sym, true, types, types_ascend, zero, ℕ, ℤ, ◌<ℤ◌, ◌<◌, ◌∙◌, ◌∷◌, ◌≡◌, ◌≤ℤ◌, ◌≤◌}
 
 -- ---- the first message
 

@@ -1,10 +1,5 @@
 -- The Types of a queue without the message that a receive takes.
-use Rattle.std.proofs.Common.{◌≡◌, ℕ, suc, ◌-◌, ◌<◌, ◌≤◌, ℤ, Bool, true, false, List, [], ◌∷◌, length, Option, Some, None, refl, sym, ap, ◌∙◌, get_or, arith}
-use Rattle.std.specs.Prelude.{◌≢◌, slice_get, slice_index}
-use Rattle.xsi_receive.specs.Words.{Contains, filter, position_or_len, remove, int_eq, Message, Queue, TypeEntry, type_entry, is_same_type, serials, serials_of_type, types, is_of_type, first_of, before, behind, before_place, contains_head, contains_tail, types_ascend}
-use Rattle.std.proofs.lemmas.Bool.Decides.{Decides-int_eq}
-use Rattle.std.proofs.lemmas.Int.{ints}
-use Rattle.type_chains.proofs.Elements.{filter_holds}
+use Rattle.xsi_receive.proofs.Names.{Bool, Contains, Decides-int_eq, List, Message, None, Option, Queue, Some, TypeEntry, [], ap, arith, before, before_place, behind, contains_head, contains_tail, false, filter, filter_holds, first_of, get_or, int_eq, ints, is_of_type, is_same_type, length, position_or_len, refl, remove, serials, serials_of_type, slice_get, slice_index, suc, sym, true, type_entry, types, types_ascend, ℕ, ℤ, ◌-◌, ◌<◌, ◌∙◌, ◌∷◌, ◌≡◌, ◌≢◌, ◌≤◌}
 use Rattle.xsi_receive.proofs.FirstOfTypeLemmas.{IsTakenAt, its_type, other_type, serials_of_its_type, serials_of_other_type}
 use Rattle.xsi_receive.proofs.ListLemmas.{AreToldApart, before_it, behind_it, before_sooner, behind_sooner, behind_previous, behind_later, before_later, before_next, first_at}
 use Rattle.xsi_receive.proofs.MessageLemmas.{without}

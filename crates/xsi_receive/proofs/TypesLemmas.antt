@@ -1,14 +1,5 @@
 -- The types of messages without the first of one type: the same while one of that type is left, else without it.
-use Rattle.std.proofs.Common.{◌≡◌, ℕ, ◌+◌, ◌-◌, ℤ, ◌<ℤ◌, Bool, true, false, List, [], ◌∷◌, Some, inl, inr, refl, sym, ap, ◌∙◌, subst, get_or, arith}
-use Rattle.std.specs.Prelude.{◌≢◌, slice_get}
-use Rattle.xsi_receive.specs.Words.{AllPairs, Contains, remove, int_eq, Message, types, contains_head, contains_tail, head_or_tail, are_types_of, pairs_head, pairs_tail}
-use Rattle.std.proofs.lemmas.Bool.{cases_lt}
-use Rattle.std.proofs.lemmas.Bool.Decides.{Decides-int_eq}
-use Rattle.std.proofs.lemmas.Int.{ints}
-use Rattle.std.proofs.lemmas.Option.{slice_get_within, get_or_from_slice_get}
-use Rattle.std.proofs.lemmas.List.Edits.{length-remove, get_or-remove_below, get_or-remove_above}
-use Rattle.std.proofs.lemmas.List.Elements.{All-contains}
-use Rattle.std.proofs.lemmas.List.Quantifiers.{all_pairs_remove}
+use Rattle.xsi_receive.proofs.Names.{All-contains, AllPairs, Bool, Contains, Decides-int_eq, List, Message, Some, [], all_pairs_remove, ap, are_types_of, arith, cases_lt, contains_head, contains_tail, false, get_or, get_or-remove_above, get_or-remove_below, get_or_from_slice_get, head_or_tail, inl, inr, int_eq, ints, length-remove, pairs_head, pairs_tail, refl, remove, slice_get, slice_get_within, subst, sym, true, types, ℕ, ℤ, ◌+◌, ◌-◌, ◌<ℤ◌, ◌∙◌, ◌∷◌, ◌≡◌, ◌≢◌}
 use Rattle.xsi_receive.proofs.FirstOfTypeLemmas.{IsTakenAt}
 
 abbrev Ascends : List ℤ → Type 0

@@ -2,14 +2,34 @@
 pub use Rattle.bucket_page.specs.Keys.{is_same}
 pub use Rattle.queue_model.proofs.EffectLemmas.{Effect-outcome}
 pub use Rattle.queue_model.proofs.LawfulLemmas.{IsLawful-Effect}
+pub use Rattle.queue_model.specs.Selection.{total_bytes}
 pub use Rattle.queue_records.proofs.Lengths.{length-queue}
 pub use Rattle.queue_records.specs.declared.links.TypeLinks.{TypeLinks}
 pub use Rattle.queue_records.specs.declared.message_entry.MessageEntry.{MessageEntry}
+pub use Rattle.std.proofs.Common.{Bool, List, None, Option, Some, [], ap, arith, cond, false, get_or, inl, inr, length, map, of_z, pos, refl, rules, subst, suc, sym, to_z, true, zero, ℕ, ℤ, ◌++◌, ◌+◌, ◌-◌, ◌<ℤ◌, ◌<◌, ◌∙◌, ◌∷◌, ◌≡◌, ◌≤ℤ◌, ◌≤◌, ◌⊎◌}
+pub use Rattle.std.proofs.lemmas.Bool.Decides.{Decides-eqb, Decides-int_eq, nat_tests}
 pub use Rattle.std.proofs.lemmas.Bool.{eqb-true}
-pub use Rattle.std.proofs.lemmas.Bool.Decides.{Decides-eqb, nat_tests}
-pub use Rattle.std.proofs.lemmas.Int.{ints}
-pub use Rattle.std.proofs.lemmas.List.{append-nil}
-pub use Rattle.std.proofs.lemmas.List.Elements.{All-cons, All-contains, All-head, All-nil, All-tail, All-weaker, Contains-append_cases, Contains-append_left}
-pub use Rattle.std.specs.Prelude.{option_and_then, option_map, ◌==◌}
+pub use Rattle.std.proofs.lemmas.Int.{ints, to_z-of_z}
+pub use Rattle.std.proofs.lemmas.List.Elements.{All-cons, All-contains, All-contains_itself, All-filter, All-head, All-map, All-nil, All-push, All-tail, All-weaker, Contains-append_cases, Contains-append_left, Contains-append_right, filter-append, filter_passes}
+pub use Rattle.std.proofs.lemmas.List.Sums.{fold_push}
+pub use Rattle.std.proofs.lemmas.List.{append-nil, append_assoc, get_or-append-add, length-append, length-map, map-append}
+pub use Rattle.std.proofs.lemmas.Option.{same_Some, slice_get-get_or, slice_get-map}
+pub use Rattle.std.specs.Option.{option_eq}
+pub use Rattle.std.specs.Prelude.{FitsSigned, nat_eq, nat_le, nat_lt, option_and_then, option_map, slice_get, slice_index, ◌==◌, ◌^◌, ◌≢◌}
+pub use Rattle.type_chains.proofs.Elements.{All-types}
 pub use Rattle.type_chains.proofs.Sends.{made_of_the_queue}
+pub use Rattle.type_chains.proofs.Tests.{mapped}
 pub use Rattle.type_chains.proofs.TypesStand.{are_types_of}
+pub use Rattle.type_chains.specs.Fits.{HasFittingMessage, HasFittingQueue}
+pub use Rattle.xsi_inquiry.proofs.SlotLemmas.{slot_all}
+pub use Rattle.xsi_inquiry.proofs.StandLemmas.{message_stands, none_of_type, numbers_ascend, queue_stands, same_number, serial_tells, stands, type_found, type_stands}
+pub use Rattle.xsi_inquiry.specs.Deciding.{IsAnswered}
+pub use Rattle.xsi_send.specs.Knowing.{IsOpen, KnowsAt}
+pub use Rattle.xsi_send.specs.Places.{IsBetween, IsPlaceOf, IsWalked}
+pub use Rattle.xsi_send.specs.Planning.{behind_end, higher_write, link_if, links_behind, lower_write, new_type, plan_at, queue_write, takes_more, type_write}
+pub use Rattle.xsi_send.specs.Words.{All, AllPairs, At, Caller, Contains, END_OF_SERIALS, Fills, InSlot, IsBefore, IsFiled, IsInRange, IsLawful, IsLawfulMessage, IsLawfulQueue, IsNew, IsOrdered, IsTold, IsType, IsUnder, Leads, LeadsTo, MAX_MESSAGES, MESSAGE, Message, Misses, MissesRecord, Plan, QUEUE, Queue, QueueEntry, Record, RecordKey, Relink, Replace, Send, SendArguments, Sent, State, Stays, TYPE, TypeEntry, Write, agree_but, all_of, all_types, before, before_place, behind, clash, contains_head, contains_tail, filter, find, find-None, find-Some, first_of, fold, found_new, guard_of, has_id, has_number, has_serial, head_or_tail, in_range, int_eq, int_lt, is_number, is_of_type, is_same_type, key_of, key_of_message, key_of_type, key_written, last_message, last_of, lawful_queue, leads_by, linked, message_entry, message_of, message_record, pairs_head, pairs_tail, position_None, position_or_len, queue_entry, record_of, relinked, serials, serials_of_type, somes, somes_all, somes_ascend, somes_each, trial_rank, type_entry, type_number, type_record, types, types_ascend, types_stand, unwrap_or, value_length, w64, with_message, with_message_links, with_one_more, with_queue, with_type, with_type_links}
+pub use Rattle.xsi_send.specs.declared.stage.Stage.TheVariants.{Done}
+pub use Rattle.xsi_send.specs.declared.stage.Walk.{Walk}
+pub use Rattle.xsi_send.specs.declared.type_place.TypePlace.TheVariants.{Between, Standing}
+pub use Rattle.xsi_send.specs.declared.type_place.TypePlace.{TypePlace}
+pub use mir.Val.{SFits}

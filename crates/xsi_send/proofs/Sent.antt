@@ -1,20 +1,8 @@
 -- The plan of a Send leads to the records of the system with the message, in order.
-use Rattle.std.proofs.Common.{◌≡◌, ℕ, ℤ, true, false, cond, List, [], ◌∷◌, Option, Some, None, refl, sym, ap, ◌∙◌, subst}
-use Rattle.std.specs.Prelude.{◌==◌, nat_eq, option_map}
-use Rattle.std.specs.Option.{option_eq}
-use Rattle.xsi_send.specs.Words.{filter, SendArguments, Caller, Message, Queue, with_message, with_queue, State, QueueEntry, queue_entry, is_of_type, serials, last_of, record_of, Sent, Send, key_of_message, last_message, Write, Relink, IsFiled, Plan}
-use Rattle.std.proofs.lemmas.Bool.Decides.{Decides-int_eq}
-use Rattle.std.proofs.lemmas.List.Elements.{All-contains, filter_passes}
+use Rattle.xsi_send.proofs.Names.{All-contains, Between, Caller, Decides-int_eq, Done, IsAnswered, IsFiled, IsOpen, IsPlaceOf, List, Message, None, Option, Plan, Queue, QueueEntry, Relink, Send, SendArguments, Sent, Some, Standing, State, TypePlace, Write, [], ap, behind_end, cond, false, filter, filter_passes, higher_write, is_of_type, key_of_message, last_message, last_of, links_behind, lower_write, nat_eq, new_type, option_eq, option_map, plan_at, queue_entry, record_of, refl, serials, subst, sym, true, type_write, with_message, with_queue, ℕ, ℤ, ◌==◌, ◌∙◌, ◌∷◌, ◌≡◌}
 use Rattle.page_locks.specs.declared.lock.LockName.TheVariants as names
 use Rattle.queue_records.specs.declared.record.Record.TheVariants as records
 use Rattle.xsi_inquiry.specs.declared.verdict.Verdict.TheVariants as verdicts
-use Rattle.xsi_inquiry.specs.Deciding.{IsAnswered}
-use Rattle.xsi_send.specs.declared.stage.Stage.TheVariants.{Done}
-use Rattle.xsi_send.specs.declared.type_place.TypePlace.{TypePlace}
-use Rattle.xsi_send.specs.declared.type_place.TypePlace.TheVariants.{Standing, Between}
-use Rattle.xsi_send.specs.Knowing.{IsOpen}
-use Rattle.xsi_send.specs.Places.{IsPlaceOf}
-use Rattle.xsi_send.specs.Planning.{behind_end, higher_write, links_behind, lower_write, new_type, plan_at, type_write}
 use Rattle.xsi_send.proofs.Beside.{in_last, last-map, some_last}
 use Rattle.xsi_send.proofs.SentBetween.{right_between}
 use Rattle.xsi_send.proofs.SentParts.{IsRightPlan, queue_is}

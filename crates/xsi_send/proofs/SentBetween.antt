@@ -1,19 +1,11 @@
 -- The plan of a Send of a type that does not stand on the queue.
-use Rattle.std.proofs.Common.{◌≡◌, ℕ, ◌<◌, ℤ, ◌<ℤ◌, Bool, true, false, List, [], ◌∷◌, ◌++◌, Option, Some, None, ◌⊎◌, inl, inr, refl, sym, ap, ◌∙◌, subst, arith}
-use Rattle.xsi_send.specs.Words.{option_map, option_and_then, All, Contains, find, RecordKey, SendArguments, Caller, Message, Queue, with_message, with_queue, State, TYPE, Stays, LeadsTo, QueueEntry, Record, TypeEntry, type_number, guard_of, key_of, queue_entry, type_entry, serials, serials_of_type, types, is_of_type, first_of, last_of, has_number, record_of, type_record, with_one_more, last_message, contains_tail, agree_but, all_of, Write, Replace, IsBefore, IsOrdered, trial_rank, IsFiled, Plan, key_written, somes, IsNew, Fills, Misses, MissesRecord, leads_by, InSlot, somes_all, somes_ascend, somes_each}
-use Rattle.std.proofs.lemmas.Bool.{eqb-true}
-use Rattle.std.proofs.lemmas.Bool.Decides.{Decides-int_eq}
-use Rattle.std.proofs.lemmas.Int.{ints}
-use Rattle.std.proofs.lemmas.List.Elements.{All-cons, All-contains, All-nil, Contains-append_cases, Contains-append_left, Contains-append_right}
+use Rattle.xsi_send.proofs.Names.{All, All-cons, All-contains, All-nil, Bool, Caller, Contains, Contains-append_cases, Contains-append_left, Contains-append_right, Decides-int_eq, Fills, InSlot, IsBefore, IsBetween, IsFiled, IsNew, IsOpen, IsOrdered, LeadsTo, List, Message, Misses, MissesRecord, None, Option, Plan, Queue, QueueEntry, Record, RecordKey, Replace, SendArguments, Some, State, Stays, TYPE, TypeEntry, Write, [], agree_but, all_of, ap, arith, behind_end, contains_tail, eqb-true, false, find, first_of, guard_of, has_number, higher_write, inl, inr, ints, is_of_type, key_of, key_written, last_message, last_of, leads_by, lower_write, new_type, numbers_ascend, option_and_then, option_map, queue_entry, record_of, refl, same_number, serials, serials_of_type, slot_all, somes, somes_all, somes_ascend, somes_each, subst, sym, trial_rank, true, type_entry, type_number, type_record, type_stands, types, with_message, with_one_more, with_queue, ℕ, ℤ, ◌++◌, ◌<ℤ◌, ◌<◌, ◌∙◌, ◌∷◌, ◌≡◌, ◌⊎◌}
 use Rattle.page_locks.specs.declared.lock.LockName.TheVariants as names
 use Rattle.queue_records.specs.declared.record.Record.TheVariants as records
-use Rattle.xsi_send.specs.Knowing.{IsOpen}
-use Rattle.xsi_send.specs.Places.{IsBetween}
-use Rattle.xsi_send.specs.Planning.{behind_end, higher_write, lower_write, new_type}
 use Rattle.xsi_send.proofs.Beside.{contains_at, in_first, in_last}
 use Rattle.xsi_send.proofs.Sorted.{less_apart}
-use Rattle.xsi_send.proofs.SentParts.{IsRightPlan, each_of, empty_filter, find_nothing, find_over, four, lawful_t, linked_fills, message_hit, message_new, messages_same, mine, misses_key, new_in_range, new_stands, no_message, number_less, of_type_stands, queue_fills, queue_missed, slot_all, type_fills, type_hit, types_of_q, types_same}
-use Rattle.xsi_send.proofs.Told.{same_number, type_stands, typed}
+use Rattle.xsi_send.proofs.SentParts.{IsRightPlan, each_of, empty_filter, find_nothing, find_over, four, lawful_t, linked_fills, message_hit, message_new, messages_same, mine, misses_key, new_in_range, found_then, no_message, of_type_stands, queue_fills, queue_missed, type_fills, type_hit, types_of_q, types_same}
+use Rattle.xsi_send.proofs.Told.{typed}
 use Rattle.xsi_send.proofs.TypeLinks.{entry_above, entry_below, entry_higher, entry_lower, entry_new, types_after}
 
 module _ (c : Caller) (a : SendArguments) (e : QueueEntry) (s : State) (filed : IsFiled s) (known : IsOpen c a e s)
@@ -109,8 +101,8 @@ module _ (c : Caller) (a : SendArguments) (e : QueueEntry) (s : State) (filed : 
 
       type_new : IsNew old_records new_records (records.Type entry)
       type_new = subst (λ x. new_records (key_of (records.Type x)) ≡ Some (records.Type x))
-          (entry_new c.pid a q low high between no_serials) (type_stands t (lawful_t c a e s filed known) new
-          (new_stands c a e s filed known) a.mtype new_there)
+          (entry_new c.pid a q low high between no_serials) (type_stands t
+          (lawful_t c a e s filed known) q.id new (found_then c a e s filed known) a.mtype new_there)
 
       other_number : (u : ℤ) → Contains (types q.messages) u → has_number (type_number a.mtype) u ≡ false
       other_number u has = by (has_number (type_number a.mtype) u) refl
@@ -219,7 +211,7 @@ module _ (c : Caller) (a : SendArguments) (e : QueueEntry) (s : State) (filed : 
           let second = in_first between.above v (first_high v higher) in
           let one = All-contains (λ (t : ℤ). t <ℤ a.mtype) between.below u between.less first in
           let two = All-contains (λ (t : ℤ). a.mtype <ℤ t) between.above v between.more second in
-          number_less u v (types_of_q c a e s filed known u (in_below u first)) (omega (arith, ints, one, two))
+          numbers_ascend u v (types_of_q c a e s filed known u (in_below u first)) (omega (arith, ints, one, two))
 
       ordered : IsOrdered plan
       ordered =

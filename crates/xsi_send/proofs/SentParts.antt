@@ -1,36 +1,19 @@
 -- The records that a Send writes to its queue, and those that it leaves.
-use Rattle.std.proofs.Common.{◌≡◌, ℕ, ◌<◌, ℤ, pos, negsuc, ◌≤ℤ◌, ◌<ℤ◌, Bool, true, false, cond, List, [], ◌∷◌, ◌++◌, length, Option, Some, None, inl, inr, refl, sym, ap, ◌∙◌, subst, arith}
-use Rattle.xsi_send.proofs.Names.{All-cons, All-contains, All-head, All-nil, All-tail, All-weaker, Contains-append_cases, Contains-append_left, Decides-eqb, Effect-outcome, IsLawful-Effect, MessageEntry, TypeLinks, append-nil, are_types_of, eqb-true, ints, is_same, length-queue, made_of_the_queue, nat_tests, option_and_then, option_map, ◌==◌}
-use Rattle.xsi_send.specs.Words.{All, AllPairs, Contains, filter, find, RecordKey, Sent, Send, SendArguments, Caller, Message, Queue, IsLawful, IsLawfulQueue, IsLawfulMessage, has_id, with_message, with_queue, State, find-None, find-Some, position_None, QUEUE, TYPE, MESSAGE, QueueEntry, Record, TypeEntry, type_number, IsInRange, IsType, key_of, queue_entry, type_entry, message_entry, types, is_of_type, last_of, has_number, has_serial, type_record, message_record, record_of, message_of, with_one_more, last_message, all_types, in_range, lawful_queue, contains_tail, head_or_tail, Write, Replace, Relink, IsFiled, Leads, Plan, value_length, key_of_message, key_of_type, relinked, with_type_links, IsOrdered, IsUnder, InSlot, found_new, IsNew, Fills}
+use Rattle.xsi_send.proofs.Names.{All, All-cons, All-contains, All-head, All-nil, All-tail, All-weaker, AllPairs, Bool, Caller, Contains, Contains-append_cases, Contains-append_left, Effect-outcome, Fills, IsFiled, IsInRange, IsLawful, IsLawful-Effect, IsLawfulMessage, IsLawfulQueue, IsNew, IsOpen, IsOrdered, IsType, IsUnder, Leads, List, MESSAGE, Message, MessageEntry, None, Option, Plan, QUEUE, Queue, QueueEntry, Record, RecordKey, Relink, Replace, Send, SendArguments, Sent, Some, State, TYPE, TypeEntry, TypeLinks, Write, [], all_types, ap, append-nil, are_types_of, arith, cond, contains_tail, eqb-true, false, filter, find, find-None, find-Some, found_new, has_id, has_number, has_serial, head_or_tail, in_range, inl, inr, is_of_type, is_same, key_of, key_of_message, key_of_type, last_message, last_of, lawful_queue, length, length-queue, links_behind, made_of_the_queue, message_entry, message_of, message_record, message_stands, nat_tests, option_and_then, option_map, pos, position_None, queue_entry, queue_stands, queue_write, record_of, refl, relinked, stands, subst, sym, takes_more, true, type_entry, type_number, type_record, type_stands, types, value_length, with_message, with_one_more, with_queue, with_type_links, ℕ, ℤ, ◌++◌, ◌<◌, ◌==◌, ◌∙◌, ◌∷◌, ◌≡◌, ◌≤ℤ◌}
 use Rattle.queue_records.specs.declared.record.Record.TheVariants as records
 use Rattle.page_locks.specs.declared.lock.LockName.TheVariants as names
 use Rattle.queue_records.specs.declared.links.Links.TheVariants as links
-use Rattle.xsi_send.specs.Knowing.{IsOpen}
-use Rattle.xsi_send.specs.Planning.{links_behind, queue_write, takes_more}
 use Rattle.xsi_send.proofs.Beside.{contains_at, split_last}
 use Rattle.xsi_send.proofs.Sorted.{pairs_front}
 use Rattle.xsi_send.proofs.Walked.{more_taken}
 use Rattle.xsi_send.proofs.Links.{is_linked}
-use Rattle.xsi_send.proofs.Told.{message_stands, queue_stands, stands, type_stands, typed}
-
--- ---- what is replaced where there is something
-
-pub slot_all : {X : Type 0} (P : Write → Type 0) (f : X → Write) (o : Option X) → ((x : X) → o ≡ Some x → P (f x)) →
-    InSlot P (option_map f o)
-slot_all P f None each = tt
-slot_all P f (Some x) each = each x refl
+use Rattle.xsi_send.proofs.Told.{typed}
 
 -- a plan of a call that holds the queue of an id: what it leads to, where it writes, and in which order
 pub record IsRightPlan (id : ℕ) (p : Plan) (old new : RecordKey → Option Record) : Type 0 where
   pub leads : Leads p old new
   pub own : IsUnder (names.Queue id ∷ []) p
   pub ordered : IsOrdered p
-
--- types from 1 on have numbers in their order
-pub number_less : (t u : ℤ) → pos 1 ≤ℤ t → t <ℤ u → type_number t < type_number u
-number_less (negsuc m) u begun less = absurd (omega (arith, ints, begun))
-number_less (pos m) (negsuc k) begun less = absurd (omega (arith, ints, less))
-number_less (pos m) (pos k) begun less = let it : m < k = omega (arith, ints, less) in it
 
 -- four slots
 pub four : (P : Option Write → Type 0) (a b c d : Option Write) → P a → P b → P c → P d → All P (a ∷ b ∷ c ∷ d ∷ [])
@@ -52,12 +35,7 @@ each_of P a b c d all =
 pub misses_key : (key k : RecordKey) → is_same key k ≡ false → key.kind ≡ k.kind → key.queue ≡ k.queue →
     key.number ≡ k.number → ⊥
 misses_key key k misses kind queue number =
-    let a = (Decides-eqb key.kind k.kind).1 kind in
-    let b = (Decides-eqb key.queue k.queue).1 queue in
-    let c = (Decides-eqb key.number k.number).1 number in
-    let hits : is_same key k ≡ true = rw (a, b, c) refl in
-    let clash : ◌≡◌ {A = Bool} false true = sym misses ∙ hits in
-    absurd cc
+    absurd (grind (arith, nat_tests, kind, queue, number, misses))
 
 -- ---- searches
 
@@ -109,7 +87,7 @@ module _ (c : Caller) (a : SendArguments) (e : QueueEntry) (s : State) (filed : 
     new_records = record_of t
 
     pub its_stands : Contains s.queues q
-    its_stands = stands s filed.lawful a.id q known.found known.its_id
+    its_stands = stands s filed.lawful a.id q known.found
 
     pub lawful_q : IsLawfulQueue q
     lawful_q = lawful_queue s filed.lawful q its_stands
@@ -118,8 +96,13 @@ module _ (c : Caller) (a : SendArguments) (e : QueueEntry) (s : State) (filed : 
     lawful_t = IsLawful-Effect c (Send a) (Sent q.next_serial) s t
         (Effect-outcome c (Send a) (Sent q.next_serial) s t known.outcome) filed.lawful
 
-    pub new_stands : Contains t.queues new
-    new_stands = (find-Some (has_id a.id) t.queues new (found_new a.id s q new known.found refl refl)).1
+    -- by its own id both are found
+    found_own : find (has_id q.id) s.queues ≡ Some q
+    found_own = subst (λ (n : ℕ). find (has_id n) s.queues ≡ Some q) (sym known.its_id) known.found
+
+    pub found_then : find (has_id q.id) t.queues ≡ Some new
+    found_then = subst (λ (n : ℕ). find (has_id n) t.queues ≡ Some new) (sym known.its_id)
+        (found_new a.id s q new known.found refl refl)
 
     -- each message that stood stands, and the new one does
     pub kept : (x : Message) → Contains q.messages x → Contains new.messages x
@@ -145,13 +128,13 @@ module _ (c : Caller) (a : SendArguments) (e : QueueEntry) (s : State) (filed : 
     queue_fills =
         fills (records.Queue (with_one_more c.pid a (queue_entry q))) (records.Queue (queue_entry q))
         (records.Queue (queue_entry new)) (ap records.Queue (made_of_the_queue c.pid a q lawful_q).queue)
-        (queue_stands t lawful_t new new_stands) (queue_stands s filed.lawful q its_stands)
+        (queue_stands t lawful_t q.id new found_then) (queue_stands s filed.lawful q.id q found_own)
         (length-queue (queue_entry q) ∙ sym (length-queue (with_one_more c.pid a (queue_entry q))))
 
     pub message_new : IsNew old_records new_records (records.Message (last_message c.pid a (queue_entry q)))
     message_new = subst (λ x. new_records (key_of (records.Message x)) ≡ Some (records.Message x))
         (made_of_the_queue c.pid a q lawful_q).message
-        (message_stands t lawful_t new new_stands m (contains_at q.messages [] m))
+        (message_stands t lawful_t q.id new found_then m (contains_at q.messages [] m))
 
     -- a Message behind which the new one comes
     pub linked_fills : (x : Message) → Contains q.messages x → (on_queue of_type : Bool) →
@@ -162,8 +145,8 @@ module _ (c : Caller) (a : SendArguments) (e : QueueEntry) (s : State) (filed : 
         (links_behind q.next_serial on_queue of_type))
     linked_fills x there on_queue of_type last no_last typed no_typed =
         let turn = option_map (relinked (links_behind q.next_serial on_queue of_type)) in
-        let stood = message_stands s filed.lawful q its_stands x there in
-        let now = message_stands t lawful_t new new_stands x (kept x there) in (
+        let stood = message_stands s filed.lawful q.id q found_own x there in
+        let now = message_stands t lawful_t q.id new found_then x (kept x there) in (
           (message_entry q x, stood),
           now ∙ ap (λ (m : MessageEntry). Some (records.Message m))
               (is_linked c.pid a q lawful_q x there on_queue of_type last no_last typed no_typed)
@@ -176,8 +159,8 @@ module _ (c : Caller) (a : SendArguments) (e : QueueEntry) (s : State) (filed : 
         Fills old_records new_records (Relink (key_of_type q.id u) (links.Type l))
     type_fills u l is there still =
         let turn = option_map (relinked (links.Type l)) in
-        let stood = type_stands s filed.lawful q its_stands u there in
-        let now = type_stands t lawful_t new new_stands u still in (
+        let stood = type_stands s filed.lawful q.id q found_own u there in
+        let now = type_stands t lawful_t q.id new found_then u still in (
           (type_entry q u, stood),
           now ∙ ap (λ (r : TypeEntry). Some (records.Type r)) is ∙ sym (ap turn stood),
         )

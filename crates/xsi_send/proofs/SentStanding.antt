@@ -1,18 +1,10 @@
 -- The plan of a Send of a type that stands on the queue.
-use Rattle.std.proofs.Common.{◌≡◌, ◌<◌, Bool, true, false, cond, List, [], ◌∷◌, Option, Some, None, inl, inr, refl, sym, ap, ◌∙◌, subst, arith}
-use Rattle.std.specs.Prelude.{◌==◌}
-use Rattle.xsi_send.specs.Words.{All, Contains, filter, RecordKey, SendArguments, Caller, Message, Queue, with_message, with_queue, State, MESSAGE, Stays, QueueEntry, Record, type_number, guard_of, key_of_message, key_of, queue_entry, types, is_of_type, last_of, record_of, with_one_more, last_message, agree_but, Write, Replace, Relink, IsBefore, IsOrdered, IsFiled, Plan, key_written, somes, IsNew, Fills, Misses, MissesRecord, leads_by, InSlot, somes_all, somes_ascend, somes_each}
-use Rattle.std.proofs.lemmas.Bool.{eqb-true}
-use Rattle.std.proofs.lemmas.Bool.Decides.{Decides-eqb}
-use Rattle.std.proofs.lemmas.Option.{same_Some}
-use Rattle.std.proofs.lemmas.List.Elements.{All-cons, All-contains, All-nil}
+use Rattle.xsi_send.proofs.Names.{All, All-cons, All-contains, All-nil, Bool, Caller, Contains, Decides-eqb, Fills, InSlot, IsBefore, IsFiled, IsNew, IsOpen, IsOrdered, List, MESSAGE, Message, Misses, MissesRecord, None, Option, Plan, Queue, QueueEntry, Record, RecordKey, Relink, Replace, SendArguments, Some, State, Stays, Write, [], agree_but, ap, arith, behind_end, cond, eqb-true, false, filter, guard_of, inl, inr, is_of_type, key_of, key_of_message, key_written, last_message, last_of, leads_by, links_behind, queue_entry, record_of, refl, same_Some, serial_tells, somes, somes_all, somes_ascend, somes_each, subst, sym, true, type_number, type_write, types, with_message, with_one_more, with_queue, ◌<◌, ◌==◌, ◌∙◌, ◌∷◌, ◌≡◌}
 use Rattle.page_locks.specs.declared.lock.LockName.TheVariants as names
 use Rattle.queue_records.specs.declared.record.Record.TheVariants as records
-use Rattle.xsi_send.specs.Knowing.{IsOpen}
-use Rattle.xsi_send.specs.Planning.{behind_end, links_behind, type_write}
 use Rattle.xsi_send.proofs.Beside.{contains_at, in_last}
 use Rattle.xsi_send.proofs.SentParts.{IsRightPlan, each_of, four, lawful_q, less_than_last, linked_fills, message_hit, message_new, messages_same, mine, new_in_range, no_message, queue_fills, queue_missed, type_fills, type_hit, types_same}
-use Rattle.xsi_send.proofs.Told.{has_first, of_filter, serial_tells}
+use Rattle.xsi_send.proofs.Told.{has_first, of_filter}
 use Rattle.xsi_send.proofs.TypeLinks.{other_entry, same_types, standing_entry}
 
 module _ (c : Caller) (a : SendArguments) (e : QueueEntry) (s : State) (filed : IsFiled s) (known : IsOpen c a e s)
@@ -69,7 +61,8 @@ module _ (c : Caller) (a : SendArguments) (e : QueueEntry) (s : State) (filed : 
 
       -- the last of the queue is the last of the type where their serials are one
       one : (x.serial == y.serial) ≡ true → y ≡ x
-      one same = serial_tells (lawful_q c a e s filed known) y x y_there x_there (sym (eqb-true x.serial y.serial same))
+      one same = serial_tells q (lawful_q c a e s filed known) y x y_there x_there
+          (sym (eqb-true x.serial y.serial same))
 
       apart : (x.serial == y.serial) ≡ false → x ≡ y → ⊥
       apart other same =
@@ -151,7 +144,7 @@ module _ (c : Caller) (a : SendArguments) (e : QueueEntry) (s : State) (filed : 
                       refl,
                       less_than_last c a e s filed known x y y_there last
                           (λ same. apart (at ∙ no) (sym
-                          (serial_tells (lawful_q c a e s filed known) y x y_there x_there same))),
+                          (serial_tells q (lawful_q c a e s filed known) y x y_there x_there same))),
                     ))
                     (All-cons (InSlot (IsBefore typed_end)) its [] (inl links_less) (All-nil _))) is,
                 (All-cons (InSlot (IsBefore (queue_end b))) its [] (inl links_less) (All-nil _), (All-nil _, tt)),

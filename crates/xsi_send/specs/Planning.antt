@@ -2,26 +2,18 @@
 -- docs/STEPS.md, "What a call writes".
 use Rattle.std.specs.Prelude.{ℕ, ◌+◌, ◌==◌, nat_eq, nat_le, nat_lt, ℤ, Bool, true, false, ◌&&◌, List, [], ◌∷◌, length, Option, Some, None, Result, Ok, Err, option_map, if◌then◌else◌}
 use Rattle.std.specs.Option.{option_eq}
-use Rattle.queue_model.specs.declared.call.SendArguments.{SendArguments}
 use Rattle.queue_model.specs.declared.errno.Errno.TheVariants.{EAGAIN}
 use Rattle.queue_records.specs.declared.links.Link.{Link}
-use Rattle.queue_records.specs.declared.links.Link.TheVariants.{Stays, LeadsTo}
 use Rattle.queue_records.specs.declared.links.Links.{Links}
 use Rattle.queue_records.specs.declared.links.Links.TheVariants as links
-use Rattle.queue_records.specs.declared.queue_entry.QueueEntry.{QueueEntry}
-use Rattle.queue_records.specs.declared.record.Record.{Record}
 use Rattle.queue_records.specs.declared.record.Record.TheVariants as records
-use Rattle.queue_records.specs.declared.type_entry.TypeEntry.{TypeEntry}
-use Rattle.queue_records.specs.Keys.{key_of_message, key_of_type}
-use Rattle.type_chains.specs.Sending.{with_one_more, last_message}
 use Rattle.xsi_inquiry.specs.declared.decision.Decision.{Decision}
 use Rattle.xsi_inquiry.specs.declared.decision.Decision.TheVariants.{PutOff, Answers}
 use Rattle.xsi_inquiry.specs.declared.inquiry.NotASystem.{NotASystem}
 use Rattle.xsi_inquiry.specs.declared.verdict.Verdict.TheVariants as verdicts
-use Rattle.xsi_inquiry.specs.declared.write.Write.{Write}
-use Rattle.xsi_inquiry.specs.declared.write.Write.TheVariants.{Replace, Relink}
 use Rattle.xsi_inquiry.specs.Deciding.{refuses}
-use Rattle.xsi_inquiry.specs.Writing.{Plan, nothing}
+use Rattle.xsi_inquiry.specs.Writing.{nothing}
+use Rattle.xsi_send.specs.Words.{LeadsTo, Plan, QueueEntry, Record, Relink, Replace, SendArguments, Stays, TypeEntry, Write, key_of_message, key_of_type, last_message, with_one_more}
 use Rattle.xsi_send.specs.declared.stage.Stage.{Stage}
 use Rattle.xsi_send.specs.declared.stage.Stage.TheVariants.{Seeking, Refused, Full, AtType, AtNeighbour, Done}
 use Rattle.xsi_send.specs.declared.type_place.TypePlace.{TypePlace}

@@ -1,15 +1,16 @@
 //! A Remove as it asks for records.
 
-ghost use Rattle.std.specs.Prelude.{◌≡◌, ℕ, IfSome, None, Option};
+ghost use Rattle.std.specs.Prelude.{◌≡◌, ℕ, IfSome, None, Option, slice_get};
 ghost use Rattle.std.specs.List.{Contains};
 ghost use Rattle.page_locks.specs.declared.lock.LockName.{LockName};
 ghost use Rattle.queue_model.specs.State.{State};
 ghost use Rattle.xsi_inquiry.specs.Rooms.{Roomful};
 ghost use Rattle.xsi_inquiry.specs.Seeking.{IsKeyed};
-ghost use Rattle.xsi_sweep.specs.Asking.{key_at};
+ghost use Rattle.xsi_sweep.specs.Asking.{key_at, locked_at};
 ghost use Rattle.xsi_sweep.specs.Removing.{names_of};
 
 use crate::stage::Stage;
+use page_locks::LockName;
 use queue_model::Caller;
 use queue_records::{Record, counter_key, queue_key};
 use xsi_inquiry::{Decision, Inquiry, NotASystem, Room, Sweep, Wanted, Write};
@@ -38,6 +39,23 @@ impl RemoveInquiry {
             Stage::Keyed(key) => Some(*key),
             Stage::Seeking(_) | Stage::Refused(_) | Stage::Counting(..) | Stage::Removing(_) =>
                 None,
+        }
+    }
+
+    /// The name at this place among those that it holds Exclusive, in the order in which they are taken: the queue's key,
+    /// where it has one, the Counter and the queue. In its first phase there is none.
+    pub fn name(&self, id: u32, place: usize) -> Option<LockName>
+        ensures { result ≡ slice_get (locked_at id self.now.stage) place }
+    {
+        let key = match &self.stage {
+            Stage::Seeking(_) | Stage::Refused(_) => return None,
+            Stage::Keyed(key) | Stage::Counting(key, _) => *key,
+            Stage::Removing(removal) => removal.key,
+        };
+        match (key, place) {
+            (None, _) => name_behind(id, place),
+            (Some(key), 0) => Some(LockName::Key(key)),
+            (Some(_), _) => name_behind(id, place - 1),
         }
     }
 
@@ -138,5 +156,16 @@ impl Inquiry for RemoveInquiry {
             Stage::Removing(removal) => removal.write(*id, slot),
             Stage::Seeking(_) | Stage::Refused(_) | Stage::Keyed(_) | Stage::Counting(..) => None,
         }
+    }
+}
+
+/// The name at this place behind that of a key: the Counter, and then the queue.
+fn name_behind(id: u32, place: usize) -> Option<LockName>
+    ensures { result ≡ slice_get (names_of id None) place }
+{
+    match place {
+        0 => Some(LockName::Counter),
+        1 => Some(LockName::Queue(id)),
+        _ => None,
     }
 }

@@ -1,11 +1,6 @@
-use Rattle.std.proofs.Common.{◌∙◌, ap, sym, subst, arith, rules, Some, None, ◌<ℤ◌, ◌+◌, ◌≡◌, true, false, to_z, of_z}
-use Rattle.std.proofs.lemmas.Int.{ints, to_z-of_z}
-use mir.Val.{SFits}
-use mir.Syntax.{w64}
-use Rattle.xsi_send.specs.Words.{TypeEntry, clash}
-use Rattle.xsi_send.specs.Places.{IsBetween, IsWalked}
+use Rattle.xsi_send.proofs.Names.{IsBetween, IsWalked, None, SFits, Some, TypeEntry, ap, arith, clash, false, ints, of_z, rules, subst, sym, to_z, to_z-of_z, true, w64, ◌+◌, ◌<ℤ◌, ◌∙◌, ◌≡◌}
 use Rattle.xsi_send.proofs.Told.{less_of_z, never_none, same_found, same_of_z, same_type}
-use Rattle.xsi_send.proofs.Walked.{higher_fits, next_apart, next_there, next_told, type_fits, walk_ascends, walk_ends_above, walk_ends_behind, walk_goes_on, walk_has_left}
+use Rattle.xsi_send.proofs.Walked.{higher_fits, next_apart, next_fits, next_told, walk_ascends, walk_ends_above, walk_ends_behind, walk_goes_on, walk_has_left}
 use Rattle.xsi_send.proofs.reading.take_neighbour.Goals as goal
 
 -- the next type stands
@@ -13,7 +8,7 @@ pub returns-in_default-clause-told : goal.returns-in_default-clause-told
 returns-in_default-clause-told c s filed (known, walked) told =
     let a = c.args.arguments.now in
     let w = c.args.walk in
-    let is = next_told c.args.caller a w.queue s filed known w.lower w.next w.left c.args.found walked told in
+    let is = next_told c.args.caller a w.queue s filed known w walked c.args.found told in
     absurd (never_none c.args.found _ is c.in_default.is)
 
 -- a queue has no more types than messages
@@ -22,14 +17,14 @@ returns-in_default-checked_sub-clause-told c s filed (known, walked) told =
     let w = c.args.walk in
     let none = c.in_default-checked_sub.ensures in
     let zero_left : w.left ≡ 0 = grind (arith, none) in
-    walk_has_left c.args.caller c.args.arguments.now w.queue s filed known w.lower w.next w.left walked zero_left
+    walk_has_left c.args.caller c.args.arguments.now w.queue s filed known w walked zero_left
 
 -- and is a Type
 pub returns-in_err-entry-clause-told : goal.returns-in_err-entry-clause-told
 returns-in_err-entry-clause-told c s filed (known, walked) told =
     let a = c.args.arguments.now in
     let w = c.args.walk in
-    let is = next_told c.args.caller a w.queue s filed known w.lower w.next w.left c.args.found walked told in
+    let is = next_told c.args.caller a w.queue s filed known w walked c.args.found told in
     let one = same_found c.args.found _ _ c.in-Some.is is in
     absurd (clash _ _ (c.type_in.ensures.only _ one) _ c.in_err-entry.was)
 
@@ -39,9 +34,8 @@ returns-then-walk-arguments-clause-told c s filed (known, walked) told =
     let a = c.args.arguments.now in
     let w = c.args.walk in
     let its : SFits w64 a.mtype = search rules in
-    let fits = type_fits c.args.caller a w.queue s filed known w.next
-    (next_there c.args.caller a w.queue s filed known w.lower w.next w.left walked) in
-    absurd (next_apart c.args.caller a w.queue s filed known w.lower w.next w.left walked
+    let fits = next_fits c.args.caller a w.queue s filed known w walked in
+    absurd (next_apart c.args.caller a w.queue s filed known w walked
     (same_of_z w.next a.mtype fits its c.if-walk-arguments.true))
 
 -- a greater one
@@ -50,13 +44,12 @@ returns-then-walk-arguments-2-clause-told c s filed (known, walked) told =
     let a = c.args.arguments.now in
     let w = c.args.walk in
     let its : SFits w64 a.mtype = search rules in
-    let fits = type_fits c.args.caller a w.queue s filed known w.next
-    (next_there c.args.caller a w.queue s filed known w.lower w.next w.left walked) in
+    let fits = next_fits c.args.caller a w.queue s filed known w walked in
     let test = less_of_z a.mtype w.next true its fits c.if-walk-arguments-2.true in
     let more : a.mtype <ℤ w.next = grind (arith, ints, test) in (
       known,
       subst (λ n. IsBetween a.mtype w.lower (Some n) known.queue) (sym (to_z-of_z w64 w.next fits))
-          (walk_ends_above c.args.caller a w.queue s filed known w.lower w.next w.left walked more),
+          (walk_ends_above c.args.caller a w.queue s filed known w walked more),
     )
 
 -- the highest one
@@ -64,18 +57,17 @@ pub returns-in_default-higher-clause-told : goal.returns-in_default-higher-claus
 returns-in_default-higher-clause-told c s filed (known, walked) told =
     let a = c.args.arguments.now in
     let w = c.args.walk in
-    let is = next_told c.args.caller a w.queue s filed known w.lower w.next w.left c.args.found walked told in
+    let is = next_told c.args.caller a w.queue s filed known w walked c.args.found told in
     let entry = same_type _ _ (sym c.in_ok-entry.ensures.ok ∙ same_found c.args.found _ _ c.in-Some.is is) in
     let its : SFits w64 a.mtype = search rules in
-    let fits = type_fits c.args.caller a w.queue s filed known w.next
-    (next_there c.args.caller a w.queue s filed known w.lower w.next w.left walked) in
-    let apart = next_apart c.args.caller a w.queue s filed known w.lower w.next w.left walked in
+    let fits = next_fits c.args.caller a w.queue s filed known w walked in
+    let apart = next_apart c.args.caller a w.queue s filed known w walked in
     let no_more = less_of_z a.mtype w.next false its fits c.if-walk-arguments-2.false in
     let less : w.next <ℤ a.mtype = grind (arith, ints, no_more, apart) in
     let none = sym (ap (λ (x : TypeEntry). x.higher) entry) ∙ c.in_default-higher.is in (
       known,
       subst (λ n. IsBetween a.mtype (Some n) None known.queue) (sym (to_z-of_z w64 w.next fits))
-          (walk_ends_behind c.args.caller a w.queue s filed known w.lower w.next w.left walked less none),
+          (walk_ends_behind c.args.caller a w.queue s filed known w walked less none),
     )
 
 -- types ascend
@@ -83,15 +75,14 @@ pub returns-then-next-walk-clause-told : goal.returns-then-next-walk-clause-told
 returns-then-next-walk-clause-told c s filed (known, walked) told =
     let a = c.args.arguments.now in
     let w = c.args.walk in
-    let is = next_told c.args.caller a w.queue s filed known w.lower w.next w.left c.args.found walked told in
+    let is = next_told c.args.caller a w.queue s filed known w walked c.args.found told in
     let entry = same_type _ _ (sym c.in_ok-entry.ensures.ok ∙ same_found c.args.found _ _ c.in-Some.is is) in
     let its : SFits w64 a.mtype = search rules in
-    let fits = type_fits c.args.caller a w.queue s filed known w.next
-    (next_there c.args.caller a w.queue s filed known w.lower w.next w.left walked) in
+    let fits = next_fits c.args.caller a w.queue s filed known w walked in
     let higher = c.in-Some-higher.next in
     let some = sym (ap (λ (x : TypeEntry). x.higher) entry) ∙ c.in-Some-higher.is in
-    let above = walk_ascends c.args.caller a w.queue s filed known w.lower w.next w.left higher walked some in
-    let higher_fit = higher_fits c.args.caller a w.queue s filed known w.lower w.next w.left higher walked some in
+    let above = walk_ascends c.args.caller a w.queue s filed known w walked higher some in
+    let higher_fit = higher_fits c.args.caller a w.queue s filed known w walked higher some in
     let no_more = simp to_z-of_z at c.if-next-walk.true in
     absurd (grind (arith, ints, above, no_more))
 
@@ -100,21 +91,20 @@ pub returns-clause-told : goal.returns-clause-told
 returns-clause-told c s filed (known, walked) told =
     let a = c.args.arguments.now in
     let w = c.args.walk in
-    let is = next_told c.args.caller a w.queue s filed known w.lower w.next w.left c.args.found walked told in
+    let is = next_told c.args.caller a w.queue s filed known w walked c.args.found told in
     let entry = same_type _ _ (sym c.in_ok-entry.ensures.ok ∙ same_found c.args.found _ _ c.in-Some.is is) in
     let its : SFits w64 a.mtype = search rules in
-    let fits = type_fits c.args.caller a w.queue s filed known w.next
-    (next_there c.args.caller a w.queue s filed known w.lower w.next w.left walked) in
-    let apart = next_apart c.args.caller a w.queue s filed known w.lower w.next w.left walked in
+    let fits = next_fits c.args.caller a w.queue s filed known w walked in
+    let apart = next_apart c.args.caller a w.queue s filed known w walked in
     let no_more = less_of_z a.mtype w.next false its fits c.if-walk-arguments-2.false in
     let less : w.next <ℤ a.mtype = grind (arith, ints, no_more, apart) in
     let higher = c.in-Some-higher.next in
     let some = sym (ap (λ (x : TypeEntry). x.higher) entry) ∙ c.in-Some-higher.is in
-    let higher_fit = higher_fits c.args.caller a w.queue s filed known w.lower w.next w.left higher walked some in
+    let higher_fit = higher_fits c.args.caller a w.queue s filed known w walked higher some in
     let one = c.in-Some-checked_sub.ensures in
     let fewer : c.in-Some-checked_sub.left + 1 ≡ w.left = grind (arith, one) in
-    let further = walk_goes_on c.args.caller a w.queue s filed known w.lower w.next w.left higher
-    c.in-Some-checked_sub.left fewer walked less some in (
+    let further = walk_goes_on c.args.caller a w.queue s filed known w walked higher some
+    c.in-Some-checked_sub.left fewer less in (
       known,
       subst (λ n. IsWalked a.mtype (record {
         queue = w.queue;

@@ -1,5 +1,4 @@
-use Rattle.std.proofs.Common.{◌∙◌, refl, ap, sym}
-use Rattle.xsi_send.specs.Words.{TypeEntry, key_of_type, clash}
+use Rattle.xsi_send.proofs.Names.{TypeEntry, ap, clash, key_of_type, refl, sym, ◌∙◌}
 use Rattle.xsi_send.proofs.Told.{same_type, type_told}
 use Rattle.xsi_send.proofs.reading.take_type.Goals as goal
 

@@ -1,7 +1,4 @@
-use Rattle.std.proofs.Common.{subst, sym, w64, None}
-use Rattle.std.proofs.lemmas.Int.{to_z-of_z}
-use Rattle.xsi_send.specs.Words.{MAX_MESSAGES}
-use Rattle.xsi_send.specs.Places.{IsWalked}
+use Rattle.xsi_send.proofs.Names.{IsWalked, MAX_MESSAGES, None, subst, sym, to_z-of_z, w64}
 use Rattle.xsi_send.proofs.Walked.{lowest_fits, nothing_between, walk_begins}
 use Rattle.xsi_send.proofs.reading.walk.Goals as goal
 

@@ -1,4 +1,4 @@
-use Rattle.std.proofs.Common.{sym, ◌∙◌}
+use Rattle.xsi_control.proofs.Names.{sym, ◌∙◌}
 use Rattle.xsi_control.proofs.CreatingLemmas.{made}
 use Rattle.xsi_control.proofs.get_inquiry.GetInquiryInquiry.decide.Goals as goal
 

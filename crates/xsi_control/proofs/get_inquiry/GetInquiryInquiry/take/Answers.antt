@@ -1,5 +1,4 @@
-use Rattle.std.proofs.Common.{refl}
-use Rattle.xsi_inquiry.proofs.SeekLemmas.{clash}
+use Rattle.xsi_control.proofs.Names.{clash, refl}
 use Rattle.xsi_control.proofs.ReadingLemmas.{absent_told, counter_is, counter_missing, found_told, key_told, same_counter}
 use Rattle.xsi_control.proofs.get_inquiry.GetInquiryInquiry.take.Goals as goal
 

@@ -1,6 +1,4 @@
-use Rattle.std.proofs.Common.{◌≡◌, true, false, [], ◌∷◌, sym, ◌∙◌, arith}
-use Rattle.xsi_control.specs.Words.{nat_lt, EINVAL, MAX_QBYTES, set_to, decides_refused}
-use Rattle.std.proofs.lemmas.Bool.Decides.{nat_tests}
+use Rattle.xsi_control.proofs.Names.{EINVAL, MAX_QBYTES, [], arith, decides_refused, false, nat_lt, nat_tests, set_to, sym, true, ◌∙◌, ◌∷◌, ◌≡◌}
 use Rattle.page_locks.specs.declared.lock.LockName.TheVariants as names
 use Rattle.queue_model.specs.declared.call.Call.TheVariants as calls
 use Rattle.xsi_control.proofs.SettingLemmas.{refused_plan, set_answered, set_by_id, set_over, set_refused}

@@ -1,7 +1,5 @@
-use Rattle.std.proofs.Common.{sym, ap, ◌∙◌, []}
+use Rattle.xsi_control.proofs.Names.{EACCES, Permissions, Read, [], ap, decides_left, decides_refused, info_in, lacks_access, stat_of, sym, ◌∙◌}
 use Rattle.queue_model.specs.declared.call.Call.TheVariants as calls
-use Rattle.xsi_control.specs.Words.{EACCES, Read, lacks_access, stat_of, info_in, decides_left, decides_refused}
-use Rattle.queue_model.specs.declared.permissions.Permissions.{Permissions}
 use Rattle.xsi_inquiry.specs.declared.verdict.Verdict.TheVariants as verdicts
 use Rattle.xsi_control.proofs.StatLemmas.{stat_refused, stat_told}
 use Rattle.xsi_control.proofs.stat_inquiry.StatInquiryInquiry.decide.Goals as goal

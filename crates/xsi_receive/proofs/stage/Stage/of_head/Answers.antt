@@ -1,5 +1,5 @@
+use Rattle.xsi_receive.proofs.Names.{refl, sym}
 use Rattle.xsi_receive.proofs.stage.Stage.of_head.Goals as goal
-use Rattle.std.proofs.Common.{sym, refl}
 use Rattle.xsi_receive.proofs.DecidingLemmas.{begins, goes, is_counted_here}
 
 -- the Queue of a system counts the message

@@ -1,6 +1,5 @@
+use Rattle.xsi_receive.proofs.Names.{refl, sym, take, ◌∙◌}
 use Rattle.xsi_receive.proofs.stage.Stage.take.Goals as goal
-use Rattle.std.proofs.Common.{refl, sym, ◌∙◌}
-use Rattle.xsi_receive.specs.Words.{take}
 use Rattle.xsi_receive.proofs.KnowingLemmas.{is_absent, last_type_is_found, last_type_is_taken, message_is_found, message_is_taken, not_absent, nothing_of_type, too_long, type_is_found, type_is_taken}
 
 -- a type above 0 has no message

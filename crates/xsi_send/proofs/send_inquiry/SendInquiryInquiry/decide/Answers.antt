@@ -1,6 +1,4 @@
-use Rattle.std.proofs.Common.{◌≡◌, ◌∙◌, sym, subst, Bool, true, false}
-use Rattle.xsi_send.specs.Knowing.{KnowsAt}
-use Rattle.xsi_send.specs.Planning.{takes_more}
+use Rattle.xsi_send.proofs.Names.{Bool, KnowsAt, false, subst, sym, takes_more, true, ◌∙◌, ◌≡◌}
 use Rattle.xsi_send.proofs.Sent.{answered}
 use Rattle.xsi_send.proofs.Walked.{more_taken}
 use Rattle.xsi_send.proofs.send_inquiry.SendInquiryInquiry.decide.Goals as goal

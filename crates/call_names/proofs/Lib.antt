@@ -1,0 +1,5 @@
+pub mod AskLemmas
+pub mod GrowLemmas
+pub mod Words
+pub mod NamesLemmas
+pub mod WriteLemmas
