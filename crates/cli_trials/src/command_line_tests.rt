@@ -1,6 +1,6 @@
 //! Command lines, and the exit status of those that are wrong.
 
-use msgq_cli::{Task, read_command_line};
+use msgq_cli::{Report, Task, read_command_line};
 use std::process::Abort;
 use std::test::Fail;
 
@@ -25,11 +25,14 @@ fn reads<R: Abort + AllocGlobal>(rt: &R, line: &str, wanted: Option<Task>) -> Re
 fn each_command_line_is_read_or_wrong(rt: HostRuntime) -> Result<(), Fail> {
     let new = |pages| Some(Task::New { file: "q", pages });
     let run = |script| Some(Task::Run { file: "q", script });
+    let tells = |report| Some(Task::Report { file: "q", report });
     reads(&rt, "msgq", Some(Task::Serve))?;
     reads(&rt, "msgq new q 258", new(258))?;
     reads(&rt, "msgq new q 065536", new(65_536))?;
     reads(&rt, "msgq run q s", run("s"))?;
     reads(&rt, "msgq run q -", run("-"))?;
+    reads(&rt, "msgq check q", tells(Report::Counts))?;
+    reads(&rt, "msgq stat q", tells(Report::Queues))?;
     for line in [
         "msgq new q 257",
         "msgq new q 65537",
@@ -40,6 +43,8 @@ fn each_command_line_is_read_or_wrong(rt: HostRuntime) -> Result<(), Fail> {
         "msgq new q",
         "msgq new q 300 300",
         "msgq run q",
+        "msgq check",
+        "msgq stat q q",
         "msgq go",
     ] {
         reads(&rt, line, None)?;

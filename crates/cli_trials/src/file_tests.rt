@@ -1,8 +1,12 @@
 //! Scripts run on files that are not as they should be, and on files of the system.
 
 use crate::trial::{buffered, printed, unbuffered};
+use bucket_page::Malformed;
 use directory::LEAST_PAGES;
+use file_check::CheckFault;
+use file_walk::StructureFault;
 use msgq_cli::{Ending, Failure, Stage, new_file, new_on, read_script, run_file, run_on};
+use one_caller::OpenFault;
 use page_device::{FaultyDevice, MemDevice, PAGE_BYTES, PageDevice, seal, unseal};
 use std::alloc::Global;
 use std::fs;
@@ -12,13 +16,13 @@ use std::rt::Files;
 use std::test::Fail;
 
 /// A new file in memory, as small as there are.
-fn new_device(alloc: Global) -> MemDevice {
+pub fn new_device(alloc: Global) -> MemDevice {
     let mut output = unbuffered(alloc, Vec::new(alloc));
     new_on(MemDevice::new(alloc), LEAST_PAGES, &mut output).0
 }
 
 /// A script whose lines are answered.
-const FIRST: &str = "1 get 7 create\n1 snd 1 5 61\n";
+pub const FIRST: &str = "1 get 7 create\n1 snd 1 5 61\n";
 
 /// Runs a script, which has to print this and to end so, and gives the device back.
 fn prints<R: Abort + AllocGlobal, D: PageDevice + Drop>(
@@ -38,13 +42,24 @@ fn prints<R: Abort + AllocGlobal, D: PageDevice + Drop>(
     Ok(device)
 }
 
-/// How a run ends at the opening of its file, or at its closing.
-fn failed(stage: Stage, fault: u8) -> Ending {
-    Ending::Failed(Failure { stage, fault })
+/// How a run ends whose file is not closed well.
+const UNCLOSED: Ending = Ending::Failed(Failure {
+    stage: Stage::Closing,
+    fault: 20,
+});
+
+/// How a run ends with whose file this is wrong.
+fn wrong(fault: CheckFault) -> Ending {
+    Ending::Unopened(OpenFault::Wrong(fault))
+}
+
+/// Or this with its structure.
+fn broken(fault: StructureFault) -> Ending {
+    wrong(CheckFault::Structure(fault))
 }
 
 /// Changes a byte of a page's payload, and seals the page again.
-fn changed(device: &mut MemDevice, page: u32, place: usize, byte: u8) -> Result<(), Fail> {
+pub fn changed(device: &mut MemDevice, page: u32, place: usize, byte: u8) -> Result<(), Fail> {
     let mut bytes = [0; PAGE_BYTES];
     device.read(page, &mut bytes)?;
     let mut payload = unseal(page, &bytes)?;
@@ -56,7 +71,7 @@ fn changed(device: &mut MemDevice, page: u32, place: usize, byte: u8) -> Result<
 }
 
 /// Changes a byte of a page, which is not sealed again.
-fn spoilt(device: &mut MemDevice, page: u32) -> Result<(), Fail> {
+pub fn spoilt(device: &mut MemDevice, page: u32) -> Result<(), Fail> {
     let mut bytes = [0; PAGE_BYTES];
     device.read(page, &mut bytes)?;
     bytes[3000] = 1;
@@ -68,48 +83,96 @@ fn spoilt(device: &mut MemDevice, page: u32) -> Result<(), Fail> {
 fn a_file_of_another_form_is_not_opened(rt: HostRuntime) -> Result<(), Fail> {
     let alloc = rt.alloc();
     for (place, byte, wanted, fault) in [
-        (1, 1, "fault 42\n", 42),
-        (1, 0, "fault 42\n", 42),
-        (4, b'm', "fault 41\n", 41),
-        (4000, 1, "fault 41\n", 41),
+        (1, 1, "fault 42\n", StructureFault::BadVersion),
+        (1, 0, "fault 42\n", StructureFault::BadVersion),
+        (4, b'm', "fault 41\n", StructureFault::BadHeader),
+        (4000, 1, "fault 41\n", StructureFault::BadHeader),
     ] {
         let mut device = new_device(alloc);
         changed(&mut device, 0, place, byte)?;
-        prints(&rt, device, FIRST, wanted, failed(Stage::Opening, fault))?;
+        prints(&rt, device, FIRST, wanted, broken(fault))?;
     }
-    let mut device = new_device(alloc);
-    spoilt(&mut device, 0)?;
-    prints(&rt, device, FIRST, "fault 21\n", failed(Stage::Opening, 21))?;
     let empty = MemDevice::new(alloc);
-    prints(&rt, empty, FIRST, "fault 22\n", failed(Stage::Opening, 22))?;
+    prints(
+        &rt,
+        empty,
+        FIRST,
+        "fault 22\n",
+        broken(StructureFault::PastEnd),
+    )?;
     Ok(())
 }
 
-/// Its digest is wrong, or it is no bucket.
+/// No line of a script is run.
 #[test]
-fn a_root_page_that_was_changed_answers_no_call(rt: HostRuntime) -> Result<(), Fail> {
-    let mut spoiled = new_device(rt.alloc());
-    spoilt(&mut spoiled, 257)?;
-    let mut formless = new_device(rt.alloc());
-    changed(&mut formless, 257, 0, 9)?;
-    for device in [spoiled, formless] {
-        let wanted = "1 fault 62\n2 fault 62\nfault 62\n";
-        prints(&rt, device, FIRST, wanted, failed(Stage::Closing, 62))?;
+fn a_page_that_was_changed_is_told(rt: HostRuntime) -> Result<(), Fail> {
+    let alloc = rt.alloc();
+    for page in [0, 1, 257] {
+        let mut device = new_device(alloc);
+        spoilt(&mut device, page)?;
+        let ending = broken(StructureFault::BadDigest { page });
+        prints(&rt, device, FIRST, "fault 21\n", ending)?;
+    }
+    let formless = broken(StructureFault::Malformed {
+        page: 257,
+        reason: Malformed::Kind,
+    });
+    for (place, byte, wanted, ending) in [
+        (0, 9, "fault 40\n", formless),
+        // The Counter counts a queue.
+        (38, 1, "fault 73\n", wrong(CheckFault::WrongCounter)),
+    ] {
+        let mut device = new_device(alloc);
+        changed(&mut device, 257, place, byte)?;
+        prints(&rt, device, FIRST, wanted, ending)?;
     }
     Ok(())
 }
 
-/// Two reads at the opening, a write and a sync at the closing.
+/// Page, place and byte: of a new file of 260 pages another page becomes the bucket of the odd pseudokeys. That of the
+/// Counter is even.
+const SPLIT: [(u32, usize, u8); 13] = [
+    (0, 2, 1),
+    (0, 19, 3),
+    (0, 23, 0),
+    (0, 27, 2),
+    (1, 22, 1),
+    (1, 23, 2),
+    (257, 1, 1),
+    (257, 10, 1),
+    (257, 11, 2),
+    (258, 0, 3),
+    (258, 1, 1),
+    (258, 6, 0),
+    (258, 7, 1),
+];
+
+#[test]
+fn a_file_of_two_buckets_is_not_opened(rt: HostRuntime) -> Result<(), Fail> {
+    let mut output = unbuffered(rt.alloc(), Vec::new(rt.alloc()));
+    let mut device = new_on(MemDevice::new(rt.alloc()), 260, &mut output).0;
+    for (page, place, byte) in SPLIT {
+        changed(&mut device, page, place, byte)?;
+    }
+    let ending = Ending::Unopened(OpenFault::ManyBuckets);
+    prints(&rt, device, FIRST, "fault 62\n", ending)?;
+    Ok(())
+}
+
+/// The check reads each page, and the root page five times more; then two reads open the file, and a write and
+/// a sync close it.
 #[test]
 fn each_transfer_fails_in_turn(rt: HostRuntime) -> Result<(), Fail> {
     let answers = "1 id 1\n2 sent 1\n";
     let and_fault = "1 id 1\n2 sent 1\nfault 20\n";
+    let opening = broken(StructureFault::Device);
     for (nth, wanted, ending) in [
-        (1, "fault 20\n", failed(Stage::Opening, 20)),
-        (2, "fault 20\n", failed(Stage::Opening, 20)),
-        (3, and_fault, failed(Stage::Closing, 20)),
-        (4, and_fault, failed(Stage::Closing, 20)),
-        (5, answers, Ending::Done),
+        (1, "fault 20\n", opening),
+        (258, "fault 20\n", opening),
+        (265, "fault 20\n", opening),
+        (266, and_fault, UNCLOSED),
+        (267, and_fault, UNCLOSED),
+        (268, answers, Ending::Done),
     ] {
         let device = FaultyDevice::new(new_device(rt.alloc()), nth);
         prints(&rt, device, FIRST, wanted, ending)?;
@@ -246,9 +309,10 @@ fn a_file_that_is_cut_is_told_so(rt: HostRuntime) -> Result<(), Fail> {
     makes(&rt, "cut/queues", "made 258\n", "")?;
     let mut how = fs::OpenOptions::new();
     how.write(true);
-    let cut = "msgq: cut/queues: it can't be opened: it is cut: it has fewer pages than its \
+    let cut = "msgq: cut/queues: it can't be opened: the file is cut\n";
+    let in_a_page = "msgq: cut/queues: it can't be opened: it is cut: it has fewer pages than its \
         header says, or a part of one\n";
-    for len in [257 * 4096, 257 * 4096 + 100, 0] {
+    for (len, cut) in [(257 * 4096, cut), (257 * 4096 + 100, in_a_page), (0, cut)] {
         how.open(&rt, "cut/queues")?.set_len(len)?;
         runs(&rt, "cut/queues", "cut/first", "fault 22\n", cut)?;
     }

@@ -3,6 +3,8 @@
 #![tactic(auto)]
 
 #[cfg(test)]
+mod check_tests;
+#[cfg(test)]
 mod command_line_tests;
 #[cfg(test)]
 mod file_tests;

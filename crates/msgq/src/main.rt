@@ -1,9 +1,11 @@
-//! Message queues (XSI, POSIX.1-2017) kept in one file: makes a file, and runs scripts of calls.
+//! Message queues (XSI, POSIX.1-2017) kept in one file: makes files, runs scripts of calls on them, and checks them.
 
 #![tactic(auto)]
 
 use clap::error::ErrorKind;
-use msgq_cli::{Output, Task, new_file, print_fault, read_command_line, run_file, serve};
+use msgq_cli::{
+    Output, Task, new_file, print_fault, read_command_line, report_file, run_file, serve,
+};
 use std::io;
 use std::io::BufWriter;
 use std::process::ExitCode;
@@ -22,6 +24,9 @@ fn main(rt: HostRuntime) -> ExitCode {
         Ok(Task::Serve) => serve(alloc, &mut rt.reader(), &mut output, &mut errors),
         Ok(Task::New { file, pages }) => new_file(&rt, file, pages, &mut output, &mut errors),
         Ok(Task::Run { file, script }) => run_file(&rt, file, script, &mut output, &mut errors),
+        Ok(Task::Report { file, report }) => {
+            report_file(&rt, file, report, &mut output, &mut errors)
+        }
         Err(error) if error.kind() == ErrorKind::OutOfMemory => return without_memory(&rt),
         Err(error) => {
             let _ = error.print(&rt);

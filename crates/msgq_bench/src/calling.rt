@@ -1,5 +1,6 @@
 //! Calls served one at a time over a file in memory.
 
+use bucket_page::ShaKey;
 use one_caller::{CallFault, CloseFault, OneCaller, OpenFault, Served};
 use page_device::MemDevice;
 use queue_model::{Body, Call, Caller, GetArguments, ReceiveArguments, SendArguments};
@@ -63,7 +64,7 @@ fn sending(alloc: Global, bytes: &[u8]) -> Result<Call, AllocError> {
 }
 
 fn opened(alloc: Global, device: MemDevice) -> Result<OneCaller<MemDevice>, OpenFault> {
-    match OneCaller::open(alloc, device, 2) {
+    match OneCaller::open(alloc, device, ShaKey, 2) {
         Ok(caller) => Ok(caller),
         Err((_, fault)) => Err(fault),
     }

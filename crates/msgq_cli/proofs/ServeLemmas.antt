@@ -1,5 +1,5 @@
 -- Files opened, run on and closed.
-use Rattle.std.proofs.Common.{◌≡◌, ◌⊎◌, inl, inr, ℕ, ◌≤◌, refl, arith}
+use Rattle.std.proofs.Common.{◌≡◌, ◌≢◌, ◌⊎◌, inl, inr, List, ℕ, ◌≤◌, refl, subst, arith}
 use Rattle.std.specs.Bool.{⊤}
 use Rattle.page_device.specs.Device.{HasRisen}
 use Rattle.page_device.specs.Fault.{number_of}
@@ -7,15 +7,19 @@ use Rattle.page_device.specs.declared.fault.DeviceFault.{DeviceFault}
 use Rattle.page_device.specs.declared.fault.DeviceFault.TheVariants as device
 use Rattle.queue_model.specs.State.{State}
 use Rattle.one_caller.specs.declared.file_fault.OpenFault.{OpenFault}
-use Rattle.one_caller.specs.declared.file_fault.OpenFault.TheVariants as opens
+use Rattle.one_caller.specs.declared.file_fault.OpenFault.TheVariants.{TooFewFrames, Wrong}
 use Rattle.one_caller.specs.FileFault as open_faults
+use Rattle.one_caller.specs.FileFault.{device_failed}
 use Rattle.record_file.specs.Files.{MayNotFormat}
-use Rattle.one_caller.specs.FileLaws.{IsOfMachine}
-use Rattle.one_caller.specs.Opening.{HasCauseToRefuse}
+use Rattle.bucket_page.specs.Pseudokeys.{sha_key}
+use Rattle.file_check.specs.declared.fault.CheckFault.TheVariants.{Structure}
+use Rattle.file_walk.specs.declared.fault.StructureFault.TheVariants as structure
+use Rattle.one_bucket_file.specs.Files.{IsOneBucketFile}
+use Rattle.one_caller.specs.Laws.{IsNeverRefused, IsOfMachine}
 use Rattle.msgq_cli.specs.Outputs.{OutputState}
 use Rattle.msgq_cli.specs.Runs.{IsRun}
 use Rattle.msgq_cli.specs.Scripts.{Parts}
-use Rattle.msgq_cli.specs.Serves.{IsFaultAlone, RunsOn}
+use Rattle.msgq_cli.specs.Serves.{IsFaultAlone, IsRunAndKept, RunsOn}
 use Rattle.msgq_cli.specs.declared.ending.Ending.{Ending}
 
 -- a run whose caller's file was closed, or is looked at no more
@@ -49,25 +53,32 @@ no_memory device.PastEnd may failed = absurd may
 no_memory device.DeviceFull may failed = absurd may
 no_memory device.NoMemory may failed = refl
 
--- a file in memory is run on, or there is no memory for it
-pub RunsNew-memory : (script : Parts) (s : State) (IsLeft : State → Type 0) (old new : OutputState) (ending : Ending)
-    → RunsOn script s IsLeft 0 0 old new ending
-    → IsRun script s (λ t. ⊤) old new ending ⊎ IsFaultAlone 60 old new ending
-RunsNew-memory script s IsLeft old new ending (inl run) =
-    inl (IsRun-weaker script s IsLeft (λ t. ⊤) old new ending (λ t held. tt) run)
-RunsNew-memory script s IsLeft old new ending (inr (inl alone)) = inr alone
-RunsNew-memory script s IsLeft old new ending (inr (inr (failed, which))) = absurd (never_fails 0 failed)
+-- ---- a new file in memory
 
--- the file of a system is refused by its device or for want of memory alone, where there is a frame
-pub refused_alone : (script : Parts) (s : State) (IsLeft : State → Type 0) (was faults : ℕ) (old new : OutputState)
-    (ending : Ending) (fault : OpenFault) → IsOfMachine fault → HasCauseToRefuse was faults fault
-    → (fault ≡ opens.TooFewFrames → ⊥) → IsFaultAlone (open_faults.number_of fault) old new ending
-    → RunsOn script s IsLeft was faults old new ending
-refused_alone script s IsLeft was faults old new ending opens.Device may cause frames alone =
-    inr (inr (cause, inl alone))
-refused_alone script s IsLeft was faults old new ending opens.BadDigest may cause frames alone = absurd may
-refused_alone script s IsLeft was faults old new ending opens.PastEnd may cause frames alone = absurd may
-refused_alone script s IsLeft was faults old new ending opens.TooFewFrames may cause frames alone = absurd (frames refl)
-refused_alone script s IsLeft was faults old new ending opens.BadHeader may cause frames alone = absurd may
-refused_alone script s IsLeft was faults old new ending opens.BadVersion may cause frames alone = absurd may
-refused_alone script s IsLeft was faults old new ending opens.NoMemory may cause frames alone = inr (inl alone)
+-- nothing but want of memory refuses it
+machine_alone : (fault : OpenFault) → IsOfMachine fault → fault ≢ TooFewFrames → (fault ≡ device_failed → HasRisen 0 0)
+    → open_faults.number_of fault ≡ 60
+machine_alone TooFewFrames may framed failed = absurd (framed refl)
+machine_alone (Wrong (Structure structure.Device)) may framed failed = absurd (never_fails 0 (failed refl))
+machine_alone (Wrong (Structure structure.NoMemory)) may framed failed = refl
+machine_alone fault may framed failed = absurd may
+
+-- a file in memory is run on from its system, or there is no memory for it
+module _ (script : Parts) (content : List (List ℕ)) (s : State) (IsLeft : State → Type 0) (old new : OutputState)
+    (ending : Ending) (file : IsOneBucketFile sha_key content s) where
+  never_closed_ill : (t : State) → IsRunAndKept script t IsLeft 0 0 old new ending →
+      IsRun script t IsLeft old new ending
+  never_closed_ill t (inl run) = run
+  never_closed_ill t (inr (failed, run)) = absurd (never_fails 0 failed)
+
+  pub runs_in_memory : IsNeverRefused → RunsOn script content IsLeft 0 0 old new ending
+      → IsRun script s (λ t. ⊤) old new ending ⊎ IsFaultAlone 60 old new ending
+  runs_in_memory never (inl runs) =
+      let same : runs.system ≡ s = file.file.system.only runs.system runs.file.file.system.has in
+      inl (subst (λ t. IsRun script t (λ u. ⊤) old new ending) same
+      (IsRun-weaker script runs.system IsLeft (λ t. ⊤) old new ending (λ t held. tt)
+      (never_closed_ill runs.system runs.run)))
+  runs_in_memory never (inr refused) =
+      let machine = never sha_key content s refused.fault file refused.cause in
+      inr (subst (λ n. IsFaultAlone n old new ending)
+      (machine_alone refused.fault machine refused.framed refused.failed) refused.alone)

@@ -1,9 +1,11 @@
 pub mod Answers
+pub mod Checks
 pub mod Commands
 pub mod Lines
 pub mod Numbers
 pub mod Options
 pub mod Outputs
+pub mod Progress
 pub mod Reading
 pub mod Reports
 pub mod Runs

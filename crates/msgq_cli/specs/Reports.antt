@@ -6,6 +6,8 @@ use Rattle.queue_model.specs.Rules.{info_of, messages_of}
 use Rattle.queue_model.specs.State.{State}
 use Rattle.queue_model.specs.declared.queue.Queue.{Queue}
 use Rattle.msgq_cli.specs.Answers.{info_text, line_of}
+use Rattle.msgq_cli.specs.declared.reports.Report.{Report}
+use Rattle.msgq_cli.specs.declared.reports.Report.TheVariants.{Counts, Queues}
 
 -- how many queues a system has, and messages on them
 abbrev pub ok_text : State → List ℕ
@@ -23,3 +25,8 @@ next_text id = line_of (codes "next" ∷ decimal id ∷ [])
 -- the state of each queue, and the next id
 abbrev pub system_text : State → List ℕ
 system_text s = infos_text s.queues ++ next_text s.next_id
+
+-- what a report tells of a system
+abbrev pub report_text : Report → State → List ℕ
+report_text Counts s = ok_text s
+report_text Queues s = system_text s

@@ -1,12 +1,17 @@
 -- What is printed where a script is run on a file, and what that leaves. docs/SCRIPTS.md, "Runs".
-use Rattle.std.specs.Prelude.{◌≡◌, ◌⊎◌, ℕ, Bool, IsTrue, List, Option, Some, None, Result, Ok, Err, ⊤}
+use Rattle.std.specs.Prelude.{◌≡◌, ◌≢◌, ◌⊎◌, ℕ, Bool, IsTrue, List, Option, Some, None, Result, Ok, Err, ⊤}
 use Rattle.std.specs.declared.io.ErrorKind.{ErrorKind}
 use Rattle.std.specs.declared.io.ErrorKind.TheVariants.{OutOfMemory}
 use Rattle.faults.specs.declared.TheConstants.{DEVICE, NO_MEMORY}
 use Rattle.page_device.specs.Device.{HasRisen}
 use Rattle.queue_model.specs.State.{State}
-use Rattle.one_caller.specs.Filing.{IsFileOf}
-use Rattle.one_caller.specs.Laws.{no_queues}
+use Rattle.bucket_page.specs.Pseudokeys.{sha_key}
+use Rattle.one_bucket_file.specs.Files.{IsOneBucketFile, no_queues}
+use Rattle.one_caller.specs.FileFault.{device_failed, number_of}
+use Rattle.one_caller.specs.Opening.{MayRefuse}
+use Rattle.one_caller.specs.Serving.{restarted}
+use Rattle.one_caller.specs.declared.file_fault.OpenFault.{OpenFault}
+use Rattle.one_caller.specs.declared.file_fault.OpenFault.TheVariants.{TooFewFrames}
 use Rattle.msgq_cli.specs.Answers.{fault_text, made_text}
 use Rattle.msgq_cli.specs.Outputs.{OutputState, Prints}
 use Rattle.msgq_cli.specs.Runs.{IsPrinted, IsRun}
@@ -15,13 +20,14 @@ use Rattle.record_file.specs.Files.{IsNewFile}
 use Rattle.msgq_cli.specs.declared.script.ScriptError.{ScriptError}
 use Rattle.msgq_cli.specs.declared.script.ScriptError.TheVariants as errors
 use Rattle.msgq_cli.specs.declared.ending.Ending.{Ending}
-use Rattle.msgq_cli.specs.declared.ending.Ending.TheVariants.{Done, Faulty, Failed, WrongLine}
+use Rattle.msgq_cli.specs.declared.ending.Ending.TheVariants.{Done, Faulty, Failed, Unopened, WrongLine}
 
 -- a run ends by a fault of this number that no line met
 abbrev pub EndsBy : ℕ → Ending → Type 0
 EndsBy fault Done = ⊥
 EndsBy fault Faulty = ⊥
 EndsBy fault (Failed failure) = failure.fault ≡ fault
+EndsBy fault (Unopened refusal) = number_of refusal ≡ fault
 EndsBy fault (WrongLine line) = ⊥
 
 -- a fault that no line met is printed, and nothing else
@@ -42,17 +48,37 @@ pub record IsRunAndFault (script : Parts) (s : State) (fault : ℕ) (old new : O
   pub run : IsRun script s (λ t. ⊤) old run_to run_ending
   pub alone : IsFaultAlone fault run_to new ending
 
--- the pages of an honest device are a file of a system
+-- the pages of an honest device are a file of a system; whether that is stopped stands in no record
 abbrev pub IsKept : Bool → List (List ℕ) → State → Type 0
-IsKept honest content s = IsTrue honest → IsFileOf s content
+IsKept honest content s = IsTrue honest → IsOneBucketFile sha_key content (restarted s)
 
--- a script was run on a file of s, and the file is one of the system that it left; or there was no memory to
--- open the file; or a transfer failed since the device had failed so often, at the opening or at the closing
-abbrev pub RunsOn : Parts → State → (State → Type 0) → ℕ → ℕ → OutputState → OutputState → Ending → Type 0
-RunsOn script s IsLeft was faults old new ending =
-    IsRun script s IsLeft old new ending
-    ⊎ IsFaultAlone NO_MEMORY old new ending
-    ⊎ (HasRisen was faults × (IsFaultAlone DEVICE old new ending ⊎ IsRunAndFault script s DEVICE old new ending))
+-- a script was run from s, and the file is one of the system that it left; or a transfer failed at the closing, since
+-- the device had failed so often
+abbrev pub IsRunAndKept : Parts → State → (State → Type 0) → ℕ → ℕ → OutputState → OutputState → Ending → Type 0
+IsRunAndKept script s IsLeft was faults old new ending =
+    IsRun script s IsLeft old new ending ⊎ (HasRisen was faults × IsRunAndFault script s DEVICE old new ending)
+
+-- a script was run so from the system of a file
+pub record RunsFrom (script : Parts) (content : List (List ℕ)) (IsLeft : State → Type 0) (was faults : ℕ)
+    (old new : OutputState) (ending : Ending) : Type 0 where
+  pub system : State
+  pub file : IsOneBucketFile sha_key content system
+  pub run : IsRunAndKept script system IsLeft was faults old new ending
+
+-- a file was refused by the first thing that is wrong with it, or since it has many buckets, and the number of that is
+-- printed; or there was no memory, or a transfer failed since the device had failed so often
+pub record IsUnopened (content : List (List ℕ)) (was faults : ℕ) (old new : OutputState) (ending : Ending)
+    : Type 0 where
+  pub fault : OpenFault
+  pub framed : fault ≢ TooFewFrames
+  pub cause : MayRefuse sha_key content fault
+  pub failed : fault ≡ device_failed → HasRisen was faults
+  pub alone : IsFaultAlone (number_of fault) old new ending
+
+abbrev pub RunsOn :
+    Parts → List (List ℕ) → (State → Type 0) → ℕ → ℕ → OutputState → OutputState → Ending → Type 0
+RunsOn script content IsLeft was faults old new ending =
+    RunsFrom script content IsLeft was faults old new ending ⊎ IsUnopened content was faults old new ending
 
 -- a line was printed for each line of a script, and then a fault
 pub record IsPrintedAndFault (script : Parts) (fault : ℕ) (old new : OutputState) (ending : Ending) : Type 0 where

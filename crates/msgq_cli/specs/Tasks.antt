@@ -5,7 +5,7 @@ use Rattle.directory.specs.declared.layout.TheConstants.{LEAST_PAGES}
 use Rattle.msgq_cli.specs.Numbers.{number_of}
 use Rattle.msgq_cli.specs.Reading.{◌>>=◌}
 use Rattle.msgq_cli.specs.declared.command_line.Task.{Task}
-use Rattle.msgq_cli.specs.declared.command_line.Task.TheVariants.{Serve, New, Run}
+use Rattle.msgq_cli.specs.declared.command_line.Task.TheVariants.{Serve, New, Run, Report}
 
 -- a file can have so many pages
 pub record IsFileSize (pages : ℕ) : Type 0 where
@@ -24,3 +24,4 @@ abbrev pub HasPages : Task → Type 0
 HasPages Serve = ⊤
 HasPages (New file pages) = IsFileSize pages
 HasPages (Run file script) = ⊤
+HasPages (Report file report) = ⊤

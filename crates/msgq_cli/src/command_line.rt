@@ -4,6 +4,7 @@ ghost use Rattle.std.specs.Prelude.{◌≡◌, IfOk, IfSome};
 ghost use Rattle.msgq_cli.specs.Tasks.{HasPages, IsFileSize, pages_of};
 
 use crate::numbers::number;
+use crate::reports::Report;
 use clap::error::ErrorKind;
 use clap::{Arg, ArgAction, Command, Error};
 use directory::LEAST_PAGES;
@@ -29,6 +30,13 @@ pub enum Task<'a> {
         /// The script.
         script: &'a str,
     },
+    /// A report of the system that a file holds.
+    Report {
+        /// The file.
+        file: &'a str,
+        /// What is told.
+        report: Report,
+    },
 }
 
 /// Names of arguments.
@@ -46,7 +54,7 @@ Printed on standard output: for each line of a script that has a command its num
 'refused NAME' or 'fault N'. A fault that no line met is 'fault N' alone, and standard error says why.
 
 Exit status:
-  0  every line was answered or refused; help and version
+  0  every line was answered or refused; the file is right; help and version
   1  a fault was printed, or standard output refused a write
   2  the command line or the script is wrong, and nothing was run; standard error says what is wrong
 
@@ -63,6 +71,19 @@ Prints the number and the answer of each line; 'fault 20' alone where SCRIPT can
 FILE is not opened, 'fault N' behind the answers where FILE is not closed well.
 Exit status 0, 1 where a fault was printed or standard output refused a write, 2 where the command line or SCRIPT is
 wrong: then nothing was run, and standard error says 'script line N' and what stands there.";
+
+/// Behind the help of `check`.
+const CHECK_PRINTS: &str = "\
+Reads all of FILE and tests each page, each record, and that all records are those of one system of queues.
+Prints 'ok QUEUES MESSAGES', or 'fault N' for the first thing that is wrong; standard error says what and where.
+Exit status 0, 1 where a fault was printed or standard output refused a write, 2 where the command line is wrong.";
+
+/// Behind the help of `stat`.
+const STAT_PRINTS: &str = "\
+Checks FILE as 'check' does, and prints for each queue, in order of id,
+  info ID KEY QNUM CBYTES QBYTES LSPID LRPID STIME RTIME CTIME UID GID CUID CGID MODE
+and behind them 'next ID', the id of the next queue; or 'fault N' alone.
+Exit status 0, 1 where a fault was printed or standard output refused a write, 2 where the command line is wrong.";
 
 /// What is wrong with a PAGES that is no number of pages.
 const WRONG_PAGES: &str = "PAGES is a decimal number from 258 to 65536, without a sign";
@@ -81,6 +102,18 @@ pub fn read_command_line<'a>(alloc: Global, words: &'a [String]) -> Result<Task<
     if name == "run" {
         let script = arguments.get_str(SCRIPT).unwrap_or("");
         return Ok(Task::Run { file, script });
+    }
+    if name == "check" {
+        return Ok(Task::Report {
+            file,
+            report: Report::Counts,
+        });
+    }
+    if name == "stat" {
+        return Ok(Task::Report {
+            file,
+            report: Report::Queues,
+        });
     }
     match pages(arguments.get_str(PAGES).unwrap_or("").as_bytes()) {
         Some(pages) => Ok(Task::New { file, pages }),
@@ -105,13 +138,22 @@ fn pages(word: &[u8]) -> Option<u32>
 fn command<'a>(alloc: Global) -> Result<Command<'a>, AllocError> {
     let new = new_command(alloc)?;
     let run = run_command(alloc)?;
+    let check = report_command(
+        alloc,
+        "check",
+        "Checks a file of message queues",
+        CHECK_PRINTS,
+    )?;
+    let stat = report_command(alloc, "stat", "Shows the queues of a file", STAT_PRINTS)?;
     Command::new(alloc, "msgq")
         .version("0.1.0")
         .about("Message queues (XSI, POSIX.1-2017) kept in one file")
         .after_help(ENDING)
         .disable_help_subcommand(true)
         .subcommand(new)?
-        .subcommand(run)
+        .subcommand(run)?
+        .subcommand(check)?
+        .subcommand(stat)
 }
 
 /// `new FILE PAGES`.
@@ -132,6 +174,19 @@ fn run_command<'a>(alloc: Global) -> Result<Command<'a>, AllocError> {
         .after_help(RUN_PRINTS)
         .arg(argument(alloc, FILE).help("The file"))?
         .arg(script)
+}
+
+/// A subcommand with the one argument FILE.
+fn report_command<'a>(
+    alloc: Global,
+    name: &'a str,
+    about: &'a str,
+    prints: &'a str,
+) -> Result<Command<'a>, AllocError> {
+    Command::new(alloc, name)
+        .about(about)
+        .after_help(prints)
+        .arg(argument(alloc, FILE).help("The file, which is not written"))
 }
 
 /// An argument that has to be given.

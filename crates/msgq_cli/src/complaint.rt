@@ -22,8 +22,10 @@ pub(crate) fn complain<E: Write, D: Display + Drop>(
 
 /// Says of a run on a file that ended by a fault that no line met what this was.
 pub(crate) fn complain_of<E: Write>(file: &str, ending: Ending, errors: &mut E) {
-    if let Ending::Failed(failure) = ending {
-        complain(file, what(failure.stage), why(failure), errors);
+    match ending {
+        Ending::Failed(failure) => complain(file, what(failure.stage), why(failure), errors),
+        Ending::Unopened(fault) => complain(file, what(Stage::Opening), fault, errors),
+        Ending::Done | Ending::Faulty | Ending::WrongLine(_) => {}
     }
 }
 
@@ -33,6 +35,7 @@ fn what(stage: Stage) -> &'static str {
         Stage::Reading => "it can't be read",
         Stage::Making => "it can't be made",
         Stage::Opening => "it can't be opened",
+        Stage::Checking => "it can't be checked",
         Stage::Closing => "it can't be closed",
     }
 }
@@ -41,11 +44,7 @@ fn what(stage: Stage) -> &'static str {
 pub(crate) fn why(failure: Failure) -> &'static str {
     match failure.fault {
         faults::DEVICE => "it is no file, or the system failed to read or write it",
-        faults::BAD_DIGEST => "page 0 was changed: its digest is wrong",
         faults::PAST_END => "it is cut: it has fewer pages than its header says, or a part of one",
-        faults::BAD_HEADER =>
-            "it is no file of message queues, or has more pages than its header says",
-        faults::BAD_VERSION => "it is a file of another version",
         faults::NO_MEMORY => "there is no memory",
         faults::FAILED => "the page of its records was changed, or holds what no queues have",
         _ => "it has another form",

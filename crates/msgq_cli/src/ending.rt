@@ -4,6 +4,7 @@ ghost use Rattle.std.specs.Prelude.{◌≡◌, if◌then◌else◌};
 ghost use Rattle.msgq_cli.specs.Runs.{is_fault, status_of};
 
 use crate::reply::Reply;
+use one_caller::OpenFault;
 
 /// How a run ends.
 #[derive(Clone, Copy, Debug, PartialEq, Eq)]
@@ -14,6 +15,8 @@ pub enum Ending {
     Faulty,
     /// A fault that no line met was printed.
     Failed(Failure),
+    /// The file was not opened, and the number of this fault was printed.
+    Unopened(OpenFault),
     /// The script's line of this number is wrong, and nothing was run.
     WrongLine(u64),
 }
@@ -36,6 +39,8 @@ pub enum Stage {
     Making,
     /// The file is opened.
     Opening,
+    /// The file is checked.
+    Checking,
     /// The file is closed.
     Closing,
 }
@@ -48,7 +53,7 @@ impl Ending {
     {
         match self {
             Ending::WrongLine(_) => 2,
-            Ending::Faulty | Ending::Failed(_) => 1,
+            Ending::Faulty | Ending::Failed(_) | Ending::Unopened(_) => 1,
             Ending::Done => u8::from(refused),
         }
     }

@@ -117,7 +117,13 @@ where
         }
         Err(fault) => {
             let ending = fail(Stage::Opening, fault.number(), output);
-            complain_unopened(rt, file, ending, errors);
+            complain_unopened(
+                rt,
+                OpenOptions::new().read(true).write(true),
+                file,
+                ending,
+                errors,
+            );
             ending
         }
     }
@@ -136,10 +142,14 @@ where
     read_text(rt.alloc(), &mut file)
 }
 
-/// Says why a file was not opened: in the system's words, where it does not open it.
-fn complain_unopened<R: Files, E: Write>(rt: &R, file: &str, ending: Ending, errors: &mut E) {
-    let mut how = OpenOptions::new();
-    how.read(true).write(true);
+/// Says why a file was not opened so: in the system's words, where it does not open it.
+pub(crate) fn complain_unopened<R: Files, E: Write>(
+    rt: &R,
+    how: &OpenOptions,
+    file: &str,
+    ending: Ending,
+    errors: &mut E,
+) {
     match how.open(rt, file) {
         Ok(_) => complain_of(file, ending, errors),
         Err(error) => complain(file, "it can't be opened", &error, errors),

@@ -3,6 +3,7 @@
 
 #![tactic(auto)]
 
+mod checks;
 mod command;
 mod command_line;
 mod complaint;
@@ -14,6 +15,7 @@ mod numbers;
 mod options;
 mod output;
 mod printed_word;
+mod progress;
 mod refusal;
 mod reply;
 mod reports;
@@ -22,6 +24,7 @@ mod script;
 mod serving;
 mod words;
 
+pub use checks::{report_file, report_on};
 pub use command::{Command, DEFAULT_MODE};
 pub use command_line::{Task, read_command_line};
 pub use ending::{Ending, Failure, Stage};
@@ -30,7 +33,7 @@ pub use line::{Line, SeatIds};
 pub use numbers::SEATS;
 pub use output::Output;
 pub use reply::{Reply, print_fault, print_info, print_made};
-pub use reports::{print_ok, print_system};
+pub use reports::{Report, print_ok, print_system};
 pub use runs::run;
 pub use script::{Script, ScriptError, read_script};
 pub use serving::{MEMORY_PAGES, MOST_FRAMES, run_on, serve, serve_text};

@@ -1,13 +1,34 @@
 //! What is told of a system that a file holds.
 
 ghost use Rattle.msgq_cli.specs.Outputs.{Prints};
-ghost use Rattle.msgq_cli.specs.Reports.{ok_text, system_text};
+ghost use Rattle.msgq_cli.specs.Reports.{ok_text, report_text, system_text};
 
 use crate::output::Output;
 use crate::printed_word::PrintedWord;
 use crate::reply::print_info;
 use queue_model::System;
 use std::io::Write;
+
+/// What is told of a system.
+#[derive(Clone, Copy, Debug, PartialEq, Eq)]
+pub enum Report {
+    /// How many queues it has, and messages on them.
+    Counts,
+    /// The state of each queue, and the next id.
+    Queues,
+}
+
+impl Report {
+    /// Prints it of a system.
+    pub fn print<W: Write + Drop>(self, system: &System, output: &mut Output<W>)
+        ensures { Prints output.old output.new (report_text self system.now) }
+    {
+        match self {
+            Report::Counts => print_ok(system, output),
+            Report::Queues => print_system(system, output),
+        }
+    }
+}
 
 /// Prints how many queues a system has, and messages on them.
 pub fn print_ok<W: Write + Drop>(system: &System, output: &mut Output<W>)

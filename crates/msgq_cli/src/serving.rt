@@ -3,9 +3,9 @@
 ghost use Rattle.std.specs.Prelude.{◌≡◌, ℕ, ◌≤◌, IfOk, IsTrue};
 ghost use Rattle.std.specs.IoError.{error_kind};
 ghost use Rattle.queue_model.specs.State.{State};
-ghost use Rattle.one_caller.specs.Filing.{IsFileOf};
-ghost use Rattle.one_caller.specs.Serving.{Holds, restarted};
-ghost use Rattle.msgq_cli.specs.Serves.{AreKnownAs, IsFaultAlone, IsKept, IsRefused, PrintsRun};
+ghost use Rattle.one_caller.specs.FileFault.{number_of};
+ghost use Rattle.one_caller.specs.Serving.{Holds};
+ghost use Rattle.msgq_cli.specs.Serves.{AreKnownAs, IsFaultAlone, IsKept, IsRefused, IsRunAndKept, PrintsRun};
 ghost use Rattle.msgq_cli.specs.Serves.{RunsInput, RunsOn, RunsText, read_fault_of};
 
 use crate::complaint::{complain, complain_of, complain_of_line};
@@ -14,7 +14,9 @@ use crate::output::Output;
 use crate::reply::print_fault;
 use crate::runs::run;
 use crate::script::{Script, ScriptError, read_script};
-use one_caller::{OneCaller, a_new_file_is_that_of_no_queue};
+use bucket_page::ShaKey;
+use one_bucket_file::a_new_file_has_no_queues;
+use one_caller::{OneCaller, OpenFault, a_file_of_one_bucket_is_never_refused};
 use page_device::{MemDevice, PageDevice};
 use record_file::format;
 use std::alloc::Global;
@@ -68,7 +70,8 @@ pub fn serve_text<W: Write + Drop, E: Write>(
         complain_of(MEMORY, ending, errors);
         return ending;
     }
-    a_new_file_is_that_of_no_queue();
+    a_new_file_has_no_queues();
+    a_file_of_one_bucket_is_never_refused();
     let ending = run_on(alloc, device, &script, output).1;
     complain_of(MEMORY, ending, errors);
     ending
@@ -76,9 +79,10 @@ pub fn serve_text<W: Write + Drop, E: Write>(
 
 /// Runs a script on the file of a device, and closes the file.
 ///
-/// Where the device is honest and its pages are a file of a system, the script is run from that system, and the
-/// file is one of the system that it leaves; fault 60 alone where there is no memory to open it. The device
-/// may fail when the file is opened, then fault 20 stands alone, or when it is closed, then behind the answers.
+/// The file is checked first. Where the device is honest, it is that of one system, from which the script is run, and
+/// the file is then one of the system that it leaves; or the first thing that is wrong is told by its number alone, or
+/// fault 62 of a file with more than one bucket. Fault 60 alone where there is no memory to open it. The device may
+/// fail when the file is opened, then fault 20 stands alone, or when it is closed, then behind the answers.
 ///
 /// Of any device: a line is printed for each line of the script, and one fault behind them where the file is not
 /// closed well; or one fault alone.
@@ -88,15 +92,15 @@ pub fn run_on<D: PageDevice, W: Write + Drop>(
     script: &Script,
     output: &mut Output<W>,
 ) -> (D, Ending)
-    ensures served { (s : State) → IsTrue (D.is_honest device) → IsFileOf s (D.content device) →
-        RunsOn script.now (restarted s) (IsKept (D.is_honest result.0) (D.content result.0))
+    ensures served { IsTrue (D.is_honest device) → RunsOn script.now (D.content device)
+        (IsKept (D.is_honest result.0) (D.content result.0))
         (D.fault_count device) (D.fault_count result.0) output.old output.new result.1 }
     ensures lines { PrintsRun script.now output.old output.new result.1 }
 {
     let frames = (device.pages() as usize).clamp(1, MOST_FRAMES);
-    match OneCaller::open(alloc, device, frames) {
+    match OneCaller::open(alloc, device, ShaKey, frames) {
         Ok(caller) => run_open(alloc, caller, script, output),
-        Err((device, fault)) => (device, fail(Stage::Opening, fault.number(), output)),
+        Err((device, fault)) => (device, leave_unopened(fault, output)),
     }
 }
 
@@ -108,7 +112,7 @@ fn run_open<D: PageDevice, W: Write + Drop>(
     output: &mut Output<W>,
 ) -> (D, Ending)
     ensures served { (was : ℕ) (s : State) → Holds caller s → was ≤ caller.file.faults →
-        RunsOn script.now s (IsKept (D.is_honest result.0) (D.content result.0))
+        IsRunAndKept script.now s (IsKept (D.is_honest result.0) (D.content result.0))
         was (D.fault_count result.0) output.old output.new result.1 }
     ensures lines { PrintsRun script.now output.old output.new result.1 }
 {
@@ -173,6 +177,14 @@ fn read_fault(kind: ErrorKind) -> u8
         ErrorKind::OutOfMemory => faults::NO_MEMORY,
         _ => faults::DEVICE,
     }
+}
+
+/// Ends a run whose file is refused.
+fn leave_unopened<W: Write + Drop>(fault: OpenFault, output: &mut Output<W>) -> Ending
+    ensures { IsFaultAlone (number_of fault) output.old output.new result }
+{
+    print_fault(fault.number(), output);
+    Ending::Unopened(fault)
 }
 
 /// Prints a fault that no line met.

@@ -1,19 +1,27 @@
 -- A caller holds a system: when it is opened, behind a call, and when it is closed.
-use Rattle.std.proofs.Common.{◌≡◌, refl, ◌∙◌, sym, subst, ℕ, Bool, false, List, Result, Ok, Err, IfOk, IsTrue}
+use Rattle.std.proofs.Common.{◌≡◌, refl, ◌∙◌, sym, subst, ℕ, Bool, true, false, List, Result, Ok, Err, IfOk, IsTrue}
 use Rattle.queue_model.specs.declared.call.Call.{Call}
 use Rattle.queue_model.specs.declared.caller.Caller.{Caller}
 use Rattle.queue_model.specs.State.{State}
 use Rattle.one_caller.specs.OneBucket.{Leaves, OneBucketState, Shows, device_in}
 use Rattle.one_caller.specs.declared.file_fault.CloseFault.{CloseFault}
-use Rattle.one_caller.proofs.FileLaws.{closes, opens}
+use Rattle.bucket_page.specs.declared.record_key.RecordKey.{RecordKey}
+use Rattle.directory.specs.declared.layout.TheConstants.{ROOT_PAGE}
+use Rattle.file_check.specs.Whole.{IsFileOf}
+use Rattle.one_bucket_file.specs.Files.{root_records}
+use Rattle.one_caller.proofs.FileLaws.{changes_root_page, root_within}
+use Rattle.one_caller.proofs.PseudokeyLemmas.{any_pseudokeys}
+use Rattle.one_bucket_file.proofs.KeptLaws.{keeps_structure}
+use Rattle.one_bucket_file.proofs.RootLaws.{one_bucket_shows, root_is_alone}
+use Rattle.one_caller.specs.Opening.{HasManyBuckets}
 use Rattle.type_chains.specs.Fits.{HasFittingCall, HasFittingCaller}
 use Rattle.type_chains.specs.RecordOf.{record_of}
 use Rattle.one_caller.specs.declared.fault.CallFault.{CallFault}
 use Rattle.one_caller.specs.declared.fault.CallFault.TheVariants.{NoRoom, NoMemory, Failed}
 use Rattle.one_caller.specs.declared.served.Served.{Served}
 use Rattle.one_caller.specs.declared.served.Served.TheVariants.{Answer, Waits}
-use Rattle.one_caller.specs.Filing.{ChangesRecords, HasValues, HoldsRecords, IsFileOf, IsOpen}
-use Rattle.one_caller.specs.Serving.{CallerState, Holds, Tells, fails, restarted}
+use Rattle.one_caller.specs.Filing.{ChangesRecords, HasValues, HoldsRecords, IsOneBucketFile, IsOpen}
+use Rattle.one_caller.specs.Serving.{CallerState, Holds, HoldsFile, Tells, fails, restarted}
 use Rattle.one_caller.proofs.AfterLemmas.{keeps_filed, keeps_stopped}
 use Rattle.xsi_inquiry.specs.Telling.{IsFiled}
 use Rattle.xsi_inquiry.specs.Writing.{Records}
@@ -33,32 +41,66 @@ filed_still s b it = record {
   fits = it.fits;
 }
 
-pub held_open : (s : State) (content : List (List ℕ)) (file : OneBucketState) → IsFileOf s content → Shows content file
-    → Holds (record { file = file; stopped = false; failed = false }) (restarted s)
-held_open s content file it shown =
-    let opened = opens it.pages it.records content file it.file shown in
+pub held_open : (hash : RecordKey → ℕ) (s : State) (content : List (List ℕ)) (file : OneBucketState)
+    → IsOneBucketFile hash content s → Shows content file
+    → Holds (record { file = file; stopped = false; failed = false }) s
+held_open hash s content file it shown =
+    let says = one_bucket_shows hash content s it in
+    let within = root_within content says.header in
+    let root = shown.root (root_records content) (says.sealed ROOT_PAGE within) says.root in
     record {
-      filed = filed_still s false it.filed;
+      filed = record { lawful = says.records.lawful; fits = says.records.fits };
       sound = refl;
-      stopped = refl;
+      stopped = says.records.running;
       file = record {
-        whole = opened.is_open.whole;
-        values = subst (HasValues (record_of s)) (sym opened.records) it.values;
-        pages = λ _. record { pages = it.pages; is_open = opened.is_open };
+        whole = root.0;
+        values = subst (HasValues (record_of s)) (sym root.1) says.records.values;
+        pages = λ _. record {
+          hash = hash;
+          content = content;
+          system = s;
+          was = it;
+          others = shown.others;
+          sealed = λ page there. shown.seals root.0 page (says.sealed page there);
+        };
       };
     }
 
-pub held_closed : (c : CallerState) (s : State) (content : List (List ℕ)) → Holds c s → IsTrue c.file.honest
-    → Leaves c.file content → IsFileOf s content
-held_closed c s content held honest left =
+-- a file that is opened and not broken has one bucket
+pub holds_file : (hash : RecordKey → ℕ) (s : State) (content : List (List ℕ)) (file : OneBucketState)
+    → IsFileOf hash content s → Shows content file → file.broken ≡ false
+    → HoldsFile hash content (record { file = file; stopped = false; failed = false })
+holds_file hash s content file it shown whole =
+    let one = root_is_alone hash content s file.records it (shown.is_root whole) in
+    record { system = s; file = one; held = held_open hash s content file one shown }
+
+-- a file that is broken when it is opened, and with which nothing is wrong, has many
+pub has_many : (hash : RecordKey → ℕ) (s : State) (content : List (List ℕ)) (file : OneBucketState)
+    → IsFileOf hash content s → Shows content file → file.broken ≡ true → HasManyBuckets hash content
+has_many hash s content file it shown broken = record {
+  system = s;
+  file = it;
+  more = λ root.
+      let whole = (held_open hash s content file (record { file = it; root = root }) shown).file.whole in
+      absurd (clash (sym whole ∙ broken));
+}
+  where
+    clash : ◌≡◌ {A = Bool} false true → ⊥
+    clash same = cc
+
+pub held_closed : (hash : RecordKey → ℕ) (c : CallerState) (s : State) (content : List (List ℕ)) → Holds c s
+    → IsTrue c.file.honest → Leaves c.file content → IsOneBucketFile hash content (restarted s)
+held_closed hash c s content held honest left =
     let it = held.file.pages honest in
-    record {
-      pages = it.pages;
-      records = c.file.records;
-      file = closes it.pages content c.file it.is_open left;
+    let filed = filed_still s false held.filed in
+    any_pseudokeys it.hash hash content (restarted s)
+    (keeps_structure it.hash it.content content it.system (restarted s) c.file.records it.was
+    (changes_root_page c.file it content left) left.root (record {
+      lawful = filed.lawful;
+      fits = filed.fits;
+      running = refl;
       values = held.file.values;
-      filed = held.filed;
-    }
+    }))
 
 -- ---- behind a call
 
@@ -75,14 +117,12 @@ holds_records old new before after same held values =
   where
     again : IsOpen old → IsOpen (record old { records = new.records })
     again it = record {
-      pages = it.pages;
-      is_open = record {
-        least = it.is_open.least;
-        most = it.is_open.most;
-        whole = it.is_open.whole;
-        sealed = it.is_open.sealed;
-        others = it.is_open.others;
-      };
+      hash = it.hash;
+      content = it.content;
+      system = it.system;
+      was = it.was;
+      others = it.others;
+      sealed = it.sealed;
     }
 
 module _ (c : Caller) (call : Call) (old new : CallerState) (s : State) (caller : HasFittingCaller c)
@@ -116,11 +156,11 @@ module _ (c : Caller) (call : Call) (old new : CallerState) (s : State) (caller 
 
 -- ---- closed
 
-pub closed_held : {D : Type 0} (content : D → List (List ℕ)) (is_honest : D → Bool) (r : Result D (D × CloseFault))
-    (c : CallerState) (s : State) → Holds c s → (IsTrue c.file.honest → IfOk r (λ d. Leaves c.file (content d)))
+pub closed_held : {D : Type 0} (hash : RecordKey → ℕ) (content : D → List (List ℕ)) (is_honest : D → Bool)
+    (r : Result D (D × CloseFault)) (c : CallerState) (s : State) → Holds c s → (IsTrue c.file.honest → IfOk r (λ d. Leaves c.file (content d)))
     → is_honest (device_in r) ≡ c.file.honest
-    → IfOk r (λ d. IsTrue (is_honest d) → IsFileOf s (content d))
-closed_held content is_honest (Ok d) c s held left same = λ is.
+    → IfOk r (λ d. IsTrue (is_honest d) → IsOneBucketFile hash (content d) (restarted s))
+closed_held hash content is_honest (Ok d) c s held left same = λ is.
     let honest = subst IsTrue same is in
-    held_closed c s (content d) held honest (left honest)
-closed_held content is_honest (Err refusal) c s held left same = tt
+    held_closed hash c s (content d) held honest (left honest)
+closed_held hash content is_honest (Err refusal) c s held left same = tt

@@ -3,10 +3,11 @@ pub mod BucketLemmas
 pub mod CallListLemmas
 pub mod CarryLemmas
 pub mod ChangeLemmas
-pub mod EmptyLemmas
 pub mod FileLaws
 pub mod HoldLemmas
+pub mod Names
 pub mod OpenLemmas
+pub mod PseudokeyLemmas
 pub mod ReadLemmas
 pub mod RoomLemmas
 pub mod ServeLemmas

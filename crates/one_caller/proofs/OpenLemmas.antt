@@ -21,7 +21,9 @@ use Rattle.bucket_page.specs.Reading.{records_in}
 use Rattle.bucket_page.specs.Records.{Pair}
 use Rattle.record_file.specs.Files.{root_bucket}
 use Rattle.record_file.proofs.FileLemmas.{read_again}
-use Rattle.one_caller.specs.Opening.{HasHeader, bytes_at, payload_at}
+use Rattle.file_walk.specs.Files.{page_on, payload_on}
+use Rattle.file_walk.specs.Order.{HasHeader}
+use Rattle.file_walk.specs.Readings.{IsPayloadOf}
 use Rattle.one_caller.specs.OneBucket.{OneBucketState, IsKept, IsPinnedRoot, IsRoot, Leaves, Shows, root_payload, shown, without_root}
 
 pub false_not_true : ◌≡◌ {A = Bool} false true → ⊥
@@ -29,8 +31,15 @@ false_not_true same = cc
 
 -- the root page's payload among those of all pages
 pub payload_among : (content : List (List ℕ)) →
-    slice_index_or (payloads_of content) ROOT_PAGE [] ≡ payload_at content ROOT_PAGE
+    slice_index_or (payloads_of content) ROOT_PAGE [] ≡ payload_on content ROOT_PAGE
 payload_among content = get_or-map payload_of content ROOT_PAGE []
+
+-- page 0 that was read and unsealed
+pub header_payload : (content : List (List ℕ)) (page payload : List ℕ) → slice_get content 0 ≡ Some page
+    → IsSealed 0 page → payload ≡ payload_of page → IsPayloadOf content 0 payload
+header_payload content page payload found sealed is =
+    let same : page_on content 0 ≡ page = get_or_from_slice_get content 0 page [] found in
+    record { sealed = subst (IsSealed 0) (sym same) sealed; value = is ∙ ap payload_of (sym same) }
 
 -- ---- the test of the root page
 
@@ -59,15 +68,15 @@ shows_pinned pool page content header images seals kept = record {
   is_root = λ _. subst (λ x. IsRoot (records_in (root_payload pool)) x) same kept.bucket;
 }
   where
-    same : root_payload pool ≡ payload_at content ROOT_PAGE
+    same : root_payload pool ≡ payload_on content ROOT_PAGE
     same = ap (λ xs. slice_index_or xs ROOT_PAGE []) images ∙ payload_among content
 
-    records : (rs : List Pair) → IsRoot rs (payload_at content ROOT_PAGE) → records_in (root_payload pool) ≡ rs
+    records : (rs : List Pair) → IsRoot rs (payload_on content ROOT_PAGE) → records_in (root_payload pool) ≡ rs
     records rs it = ap records_in same ∙ ap (λ (b : Bucket). b.records) (read_again (root_bucket rs) _ it)
 
 pub shows_broken : (pool : PoolState) (content : List (List ℕ)) → HasHeader content → pool.images ≡ payloads_of content
-    → ((rs : List Pair) → IsSealed ROOT_PAGE (bytes_at content ROOT_PAGE)
-    → IsRoot rs (payload_at content ROOT_PAGE) → ⊥)
+    → ((rs : List Pair) → IsSealed ROOT_PAGE (page_on content ROOT_PAGE)
+    → IsRoot rs (payload_on content ROOT_PAGE) → ⊥)
     → Shows content (shown pool None)
 shows_broken pool content header images wrong = record {
   header = header;
@@ -92,7 +101,7 @@ leaves pool root page now content view is whole images seals =
     kept : IsPinnedRoot pool page
     kept = subst (IsKept pool) is whole
 
-    same : root_payload pool ≡ payload_at content ROOT_PAGE
+    same : root_payload pool ≡ payload_on content ROOT_PAGE
     same = ap (λ xs. slice_index_or xs ROOT_PAGE []) (sym images) ∙ payload_among content
 
 -- ---- a pool that was opened and has pinned a page
@@ -142,10 +151,10 @@ pinned_root pool page before image is pins found root = record {
 
 pub not_root : (images content : List (List ℕ)) (page : ℕ) (image : List ℕ) → page ≡ ROOT_PAGE
     → slice_get images page ≡ Some image → images ≡ payloads_of content → (IsRoot (records_in image) image → ⊥)
-    → (rs : List Pair) → IsSealed ROOT_PAGE (bytes_at content ROOT_PAGE) → IsRoot rs (payload_at content ROOT_PAGE) → ⊥
+    → (rs : List Pair) → IsSealed ROOT_PAGE (page_on content ROOT_PAGE) → IsRoot rs (payload_on content ROOT_PAGE) → ⊥
 not_root images content page image is found all wrong rs sealed it = wrong (subst (λ ps. IsRoot ps image) records here)
   where
-    same : image ≡ payload_at content ROOT_PAGE
+    same : image ≡ payload_on content ROOT_PAGE
     same = sym (get_or_from_slice_get images page image [] found) ∙ ap (λ n. slice_index_or images n []) is
         ∙ ap (λ xs. slice_index_or xs ROOT_PAGE []) all ∙ payload_among content
 
@@ -161,13 +170,13 @@ pub not_pinned : (s : PoolState) (fault : PoolFault) (content : List (List ℕ))
     → (fault ≡ pools.Device device.Device → ⊥)
     → (IsErrOf {T = ℕ} (Err fault) (pools.Device device.PastEnd) → length s.images ≤ ROOT_PAGE)
     → (IsErrOf {T = ℕ} (Err fault) pools.TooFewFrames → IsCrowded ROOT_PAGE s) → MayNotPin ROOT_PAGE s fault
-    → (rs : List Pair) → IsSealed ROOT_PAGE (bytes_at content ROOT_PAGE) → IsRoot rs (payload_at content ROOT_PAGE) → ⊥
+    → (rs : List Pair) → IsSealed ROOT_PAGE (page_on content ROOT_PAGE) → IsRoot rs (payload_on content ROOT_PAGE) → ⊥
 not_pinned s (pools.Device device.Device) content honest images stored rest some least other past crowded told rs
     sealed it =
     other refl
 not_pinned s (pools.Device device.BadDigest) content honest images stored rest some least other past crowded told rs
     sealed it =
-    told honest (subst (λ (pages : List (List ℕ)). IsSealed ROOT_PAGE (bytes_at pages ROOT_PAGE)) (sym stored) sealed)
+    told honest (subst (λ (pages : List (List ℕ)). IsSealed ROOT_PAGE (page_on pages ROOT_PAGE)) (sym stored) sealed)
 not_pinned s (pools.Device device.PastEnd) content honest images stored rest some least other past crowded told rs
     sealed it =
     absurd (omega (arith, past refl, least))
@@ -179,7 +188,7 @@ not_pinned s (pools.Device device.NoMemory) content honest images stored rest so
     absurd told
 not_pinned s pools.Malformed content honest images stored rest some least other past crowded told rs sealed it =
     told honest (subst IsWell (sym (ap (λ xs. slice_index_or xs ROOT_PAGE []) images ∙ payload_among content))
-    (page_well (kinds.Bucket (root_bucket rs)) (payload_at content ROOT_PAGE) it))
+    (page_well (kinds.Bucket (root_bucket rs)) (payload_on content ROOT_PAGE) it))
 not_pinned s pools.TooFewFrames content honest images stored rest some least other past crowded told rs sealed it =
     absurd (omega (arith, (crowded refl).all_pinned, count_none s.pins rest, some))
 not_pinned s pools.NoMemory content honest images stored rest some least other past crowded told rs sealed it =

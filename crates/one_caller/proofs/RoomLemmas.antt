@@ -5,37 +5,17 @@ use Rattle.std.specs.Option.{option_map}
 use Rattle.std.proofs.lemmas.List.{length-append}
 use Rattle.std.proofs.lemmas.List.Sums.{sum_by-cons}
 use Rattle.std.proofs.lemmas.List.Elements.{All-cons, All-head, All-nil, All-tail}
-use Rattle.bucket_page.specs.declared.layout.TheConstants.{RECORD_HEAD_BYTES, ROOM_BYTES}
-use Rattle.bucket_page.specs.declared.record_key.RecordKey.{RecordKey}
 use Rattle.bucket_page.specs.Changes as buckets
-use Rattle.bucket_page.specs.Keys.{is_below, is_same}
-use Rattle.bucket_page.specs.Records.{Pair, pair, record_bytes}
-use Rattle.bucket_page.proofs.KeyLaws.{same_is}
-use Rattle.bucket_page.proofs.Steps.{length-cons}
-use Rattle.queue_records.specs.declared.links.Links.{Links}
 use Rattle.queue_records.specs.declared.links.Links.TheVariants as kinds
-use Rattle.queue_records.specs.declared.record.Record.{Record}
-use Rattle.queue_records.specs.Relinking.{HasSuch, relinked, with_message_links, with_type_links}
-use Rattle.queue_records.specs.Spelling.{key_of, message_bytes, type_bytes, value_of}
-use Rattle.queue_records.specs.declared.message_entry.MessageEntry.{MessageEntry}
-use Rattle.queue_records.specs.declared.type_entry.TypeEntry.{TypeEntry}
-use Rattle.fields.proofs.NumberLaws.{length-eight, length-four}
-use Rattle.queue_model.specs.declared.call.Call.{Call}
-use Rattle.queue_model.specs.declared.caller.Caller.{Caller}
-use Rattle.queue_model.specs.State.{State}
-use Rattle.page_locks.specs.declared.lock.LockName.{LockName}
 use Rattle.type_chains.specs.RecordOf.{record_of}
 use Rattle.one_caller.specs.Inserting.{Exceed, StandsAsLong, bucket_bytes}
 use Rattle.one_caller.specs.OneBucket.{OneBucketState}
 use Rattle.one_caller.specs.Serving.{IsInsertion, IsOutOfRoom}
 use Rattle.one_caller.proofs.ChangeLemmas.{same_self}
-use Rattle.xsi_inquiry.specs.declared.decision.Decision.TheVariants.{Answers}
-use Rattle.xsi_inquiry.specs.declared.verdict.Verdict.{Verdict}
 use Rattle.xsi_inquiry.specs.declared.verdict.Verdict.TheVariants as verdicts
-use Rattle.xsi_inquiry.specs.declared.write.Write.{Write}
-use Rattle.xsi_inquiry.specs.declared.write.Write.TheVariants.{Replace, Relink, Delete}
 use Rattle.xsi_inquiry.specs.Deciding.{InsertsOnlyFor, IsAnswered, IsIdle, MayInsert, answer_of}
 use Rattle.xsi_inquiry.specs.Writing.{AreAbsent, CanAllBe, KeepsAll, Plan, Records, inserted, nothing, somes, value_length, with_at, written, written_by}
+use Rattle.one_caller.proofs.Names.{Answers, Call, Caller, Delete, HasSuch, Links, LockName, MessageEntry, Pair, RECORD_HEAD_BYTES, ROOM_BYTES, Record, RecordKey, Relink, Replace, State, TypeEntry, Verdict, Write, is_below, is_same, key_of, length-cons, length-eight, length-four, message_bytes, pair, record_bytes, relinked, same_is, type_bytes, value_of, with_message_links, with_type_links}
 
 -- ---- what is inserted stands
 

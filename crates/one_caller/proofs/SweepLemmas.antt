@@ -3,18 +3,7 @@ use Rattle.std.proofs.Common.{◌≡◌, refl, ◌∙◌, sym, ap, subst, ℕ, z
 use Rattle.std.proofs.lemmas.Bool.Decides.{nat_tests}
 use Rattle.std.specs.List.{find, list_any}
 use Rattle.std.specs.Prelude.{◌==◌, ◌&&◌, option_and_then}
-use Rattle.bucket_page.specs.declared.record_key.RecordKey.{RecordKey}
 use Rattle.std.proofs.lemmas.List.Elements.{All-contains}
-use Rattle.bucket_page.specs.Records.{Pair}
-use Rattle.queue_model.specs.declared.message.Message.{Message}
-use Rattle.queue_model.specs.declared.queue.Queue.{Queue}
-use Rattle.queue_model.specs.Lawful.{IsLawfulQueue}
-use Rattle.queue_model.specs.Rules.{has_id}
-use Rattle.queue_model.specs.State.{State}
-use Rattle.queue_model.proofs.ListLemmas.{find-Some}
-use Rattle.queue_records.specs.declared.layout.TheConstants.{TYPE, MESSAGE}
-use Rattle.queue_records.specs.declared.record.Record.{Record}
-use Rattle.queue_records.specs.Keys.{key_of_message}
 use Rattle.one_caller.specs.OneBucket.{OneBucketState}
 use Rattle.type_chains.specs.Lists.{serials}
 use Rattle.type_chains.specs.Neighbours.{first_of}
@@ -22,14 +11,10 @@ use Rattle.type_chains.specs.RecordOf.{record_of, at_queue_of, has_serial, messa
 use Rattle.one_caller.specs.Filing.{AreAmong, ChangesRecords, HasValues}
 use Rattle.one_caller.specs.Sweeping.{IsSweptTo}
 use Rattle.one_caller.proofs.CarryLemmas.{IsWritten, Remains, same_values}
-use Rattle.xsi_inquiry.specs.declared.write.Write.{Write}
 use Rattle.xsi_inquiry.specs.Sweeping.{IsTurn, swept, unswept, has_type_number, type_left, message_left}
 use Rattle.xsi_inquiry.specs.Telling.{Gives, IsFiled}
 use Rattle.xsi_inquiry.specs.Writing.{CanAllBe, Leads, Plan, Records, inserted, somes, written, writes_of}
-use Rattle.xsi_sweep.specs.declared.turn.MessageRead.{MessageRead}
-use Rattle.xsi_sweep.specs.declared.turn.Turn.{Turn}
-use Rattle.xsi_sweep.specs.Turns.{IsAtTurn, begun_turn, turn_plan, turn_slots}
-use Rattle.xsi_sweep.proofs.SweepLemmas.{begins_whole}
+use Rattle.one_caller.proofs.Names.{IsAtTurn, IsLawfulQueue, MESSAGE, Message, MessageRead, Pair, Queue, Record, RecordKey, State, TYPE, Turn, Write, begins_whole, begun_turn, find-Some, has_id, key_of_message, turn_plan, turn_slots}
 
 -- a plan without trials is carried out by its writes
 pub can_write : (p : Plan) (old new : Records) → p.trials ≡ [] → Leads p old new → CanAllBe (writes_of p) old

@@ -2,7 +2,6 @@ pub mod CallLists
 pub mod Carrying
 pub mod Fault
 pub mod FileFault
-pub mod FileLaws
 pub mod Filing
 pub mod Inserting
 pub mod Laws

@@ -5,13 +5,13 @@ use Rattle.page_device.specs.Device.{HasRisen}
 use Rattle.page_device.specs.Sealed.{IsSealed}
 use Rattle.buffer_pool.specs.Pool.{PoolState, KeepsSeals, payloads_of, pins_at}
 use Rattle.directory.specs.declared.layout.TheConstants.{ROOT_PAGE}
-use Rattle.bucket_page.specs.Changes.{SpellsBucket}
 use Rattle.bucket_page.specs.Reading.{records_in}
 use Rattle.bucket_page.specs.Records.{Pair}
 use Rattle.one_caller.specs.declared.file_fault.CloseFault.{CloseFault}
 use Rattle.one_caller.specs.declared.file_fault.CloseFault.TheVariants.{Device, Failed}
-use Rattle.record_file.specs.Files.{root_bucket}
-use Rattle.one_caller.specs.Opening.{HasHeader, bytes_at, payload_at}
+use Rattle.file_walk.specs.Files.{page_on, payload_on}
+use Rattle.file_walk.specs.Order.{HasHeader}
+pub use Rattle.one_bucket_file.specs.Files.{IsRoot}
 
 pub record OneBucketState : Type 0 where
   -- the records, in the order of their keys; none where the root page is no root bucket
@@ -28,10 +28,6 @@ pub record OneBucketState : Type 0 where
 -- pages but the root page
 abbrev pub without_root : List (List ℕ) → List (List ℕ)
 without_root payloads = slice_set payloads ROOT_PAGE []
-
--- the payload is that of a root bucket with these records
-abbrev pub IsRoot : List Pair → List ℕ → Type 0
-IsRoot rs payload = SpellsBucket (root_bucket rs) payload
 
 -- ---- what is kept
 
@@ -76,15 +72,15 @@ pub record Shows (content : List (List ℕ)) (file : OneBucketState) : Type 0 wh
   -- a page that was sealed is so still
   pub seals : file.broken ≡ false → KeepsSeals content file.stored
   -- the file is not broken where the root page is sealed and a root bucket's, and what is shown is its records
-  pub root : (rs : List Pair) → IsSealed ROOT_PAGE (bytes_at content ROOT_PAGE) →
-      IsRoot rs (payload_at content ROOT_PAGE) → (file.broken ≡ false) × (file.records ≡ rs)
-  pub is_root : file.broken ≡ false → IsRoot file.records (payload_at content ROOT_PAGE)
+  pub root : (rs : List Pair) → IsSealed ROOT_PAGE (page_on content ROOT_PAGE) →
+      IsRoot rs (payload_on content ROOT_PAGE) → (file.broken ≡ false) × (file.records ≡ rs)
+  pub is_root : file.broken ≡ false → IsRoot file.records (payload_on content ROOT_PAGE)
 
 -- what was closed leaves its records in the root bucket, and the other pages
 pub record Leaves (file : OneBucketState) (content : List (List ℕ)) : Type 0 where
   pub others : without_root (payloads_of content) ≡ file.others
   pub seals : KeepsSeals file.stored content
-  pub root : IsRoot file.records (payload_at content ROOT_PAGE)
+  pub root : IsRoot file.records (payload_on content ROOT_PAGE)
 
 -- the device that comes back either way
 abbrev pub device_in : {D F : Type 0} → Result D (D × F) → D

@@ -1,71 +1,44 @@
--- Which files are opened, and why the others are not.
--- docs/FORMAT.md, "Pages".
-use Rattle.std.specs.Prelude.{◌≡◌, ◌⊎◌, ℕ, ◌<◌, ◌≤◌, List, [], length, slice_index_or, Result, Ok, Err, IfErr, ⊤}
-use Rattle.page_device.specs.Device.{HasRisen}
-use Rattle.page_device.specs.Sealed.{IsSealed, payload_of}
-use Rattle.directory.specs.declared.header.Header.{Header}
-use Rattle.directory.specs.declared.read.HeaderFault.TheVariants as headers
-use Rattle.directory.specs.Reading.{reading}
+-- Why a file is not opened.
+-- docs/FAULTS.md; docs/FORMAT.md, "Pages".
+use Rattle.std.specs.Prelude.{◌≡◌, ◌≢◌, ◌⊎◌, ℕ, List, ⊤}
+use Rattle.bucket_page.specs.declared.record_key.RecordKey.{RecordKey}
+use Rattle.directory.specs.declared.layout.TheConstants.{ROOT_PAGE}
+use Rattle.file_check.specs.Whole.{IsFileOf, IsToldOf}
+use Rattle.file_check.specs.declared.fault.CheckFault.TheVariants.{Structure}
+use Rattle.file_walk.specs.Files.{payload_on}
+use Rattle.file_walk.specs.Order.{IsHeaderFault, IsOfMachine}
+use Rattle.one_bucket_file.specs.Files.{IsRoot, root_records}
+use Rattle.one_caller.specs.FileFault.{device_failed}
 use Rattle.one_caller.specs.declared.file_fault.OpenFault.{OpenFault}
-use Rattle.one_caller.specs.declared.file_fault.OpenFault.TheVariants.{Device, BadDigest, PastEnd, TooFewFrames, BadHeader, BadVersion, NoMemory}
+use Rattle.one_caller.specs.declared.file_fault.OpenFault.TheVariants.{TooFewFrames, Wrong, ManyBuckets}
+use Rattle.page_device.specs.Device.{HasRisen}
+use Rattle.queue_model.specs.State.{State}
 
--- page n of a file, and its payload
-abbrev pub bytes_at : List (List ℕ) → ℕ → List ℕ
-bytes_at content n = slice_index_or content n []
+-- the file of some system
+abbrev pub HasSystem : (RecordKey → ℕ) → List (List ℕ) → Type 0
+HasSystem hash content = (s : State) × IsFileOf hash content s
 
-abbrev pub payload_at : List (List ℕ) → ℕ → List ℕ
-payload_at content n = payload_of (bytes_at content n)
+-- the file of a system, whose root page is no root bucket's: its bucket has not the range of all pseudokeys
+pub record HasManyBuckets (hash : RecordKey → ℕ) (content : List (List ℕ)) : Type 0 where
+  pub system : State
+  pub file : IsFileOf hash content system
+  pub more : IsRoot (root_records content) (payload_on content ROOT_PAGE) → ⊥
 
--- page 0 is the header of a file of so many pages
-pub record HasHeader (content : List (List ℕ)) : Type 0 where
-  pub header : Header
-  pub sealed : IsSealed 0 (bytes_at content 0)
-  pub read : reading (payload_at content 0) ≡ Ok header
-  pub as_many : header.pages ≡ length content
+-- why a caller does not open these pages: it is the first thing that is wrong with them, or they have many buckets,
+-- unless the machine lacked something
+abbrev pub MayRefuse : (RecordKey → ℕ) → List (List ℕ) → OpenFault → Type 0
+MayRefuse hash content TooFewFrames = ⊤
+MayRefuse hash content (Wrong fault) = IsToldOf hash content fault
+MayRefuse hash content ManyBuckets = HasManyBuckets hash content
 
--- the header tells of more pages than there are
-pub record IsCut (content : List (List ℕ)) : Type 0 where
-  pub header : Header
-  pub read : reading (payload_at content 0) ≡ Ok header
-  pub more : length content < header.pages
+-- a check takes no frames, and a failure of the device comes only where its count of faults rose
+pub record IsOfCheck (old new : ℕ) (fault : OpenFault) : Type 0 where
+  pub framed : fault ≢ TooFewFrames
+  pub failed : fault ≡ device_failed → HasRisen old new
 
--- the header tells of fewer pages than there are
-pub record IsTooLong (content : List (List ℕ)) : Type 0 where
-  pub header : Header
-  pub read : reading (payload_at content 0) ≡ Ok header
-  pub fewer : header.pages < length content
-
--- what is wrong with a file that is refused so
-abbrev pub MayRefuse : List (List ℕ) → OpenFault → Type 0
-MayRefuse content Device = ⊤
-MayRefuse content BadDigest = IsSealed 0 (bytes_at content 0) → ⊥
-MayRefuse content PastEnd = (length content ≡ 0) ⊎ IsCut content
-MayRefuse content TooFewFrames = ⊤
-MayRefuse content BadHeader = (reading (payload_at content 0) ≡ Err headers.BadHeader) ⊎ IsTooLong content
-MayRefuse content BadVersion = reading (payload_at content 0) ≡ Err headers.BadVersion
-MayRefuse content NoMemory = ⊤
-
--- a failure of the device comes only where its count of faults rose
-abbrev pub HasCauseToRefuse : ℕ → ℕ → OpenFault → Type 0
-HasCauseToRefuse old new Device = HasRisen old new
-HasCauseToRefuse old new BadDigest = ⊤
-HasCauseToRefuse old new PastEnd = ⊤
-HasCauseToRefuse old new TooFewFrames = ⊤
-HasCauseToRefuse old new BadHeader = ⊤
-HasCauseToRefuse old new BadVersion = ⊤
-HasCauseToRefuse old new NoMemory = ⊤
-
--- the test of a header takes neither frames nor memory
-abbrev pub IsOfHeader : ℕ → ℕ → OpenFault → Type 0
-IsOfHeader old new Device = HasRisen old new
-IsOfHeader old new BadDigest = ⊤
-IsOfHeader old new PastEnd = ⊤
-IsOfHeader old new TooFewFrames = ⊥
-IsOfHeader old new BadHeader = ⊤
-IsOfHeader old new BadVersion = ⊤
-IsOfHeader old new NoMemory = ⊥
-
--- the count of faults never falls, and what is told is of the header
-pub record HasHeaderCause (old new : ℕ) (result : Result (Unit {0}) OpenFault) : Type 0 where
-  pub later : old ≤ new
-  pub told : IfErr result (IsOfHeader old new)
+-- so by page 0 alone
+abbrev pub MayRefuseHeader : List (List ℕ) → OpenFault → Type 0
+MayRefuseHeader content TooFewFrames = ⊤
+MayRefuseHeader content (Wrong (Structure fault)) = IsOfMachine fault ⊎ IsHeaderFault content fault
+MayRefuseHeader content (Wrong fault) = ⊥
+MayRefuseHeader content ManyBuckets = ⊥

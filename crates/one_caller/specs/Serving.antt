@@ -1,6 +1,7 @@
 -- What a call tells where a file holds a system.
 -- docs/QUEUES.md, "Calls"; docs/FAULTS.md.
-use Rattle.std.specs.Prelude.{◌≡◌, ◌≢◌, Bool, true, false, List, Option, Some, None, Result, Ok, Err, ⊤}
+use Rattle.std.specs.Prelude.{◌≡◌, ◌≢◌, ℕ, Bool, true, false, List, Option, Some, None, Result, Ok, Err, ⊤}
+use Rattle.bucket_page.specs.declared.record_key.RecordKey.{RecordKey}
 use Rattle.bucket_page.specs.Records.{Pair}
 use Rattle.queue_model.specs.declared.answer.Answer as answers
 use Rattle.queue_model.specs.declared.answer.Answer.TheVariants.{Id, Sent, Received, Info, Done, Refused}
@@ -14,7 +15,7 @@ use Rattle.one_caller.specs.declared.fault.CallFault.{CallFault}
 use Rattle.one_caller.specs.declared.fault.CallFault.TheVariants.{NoRoom, NoMemory, Failed}
 use Rattle.one_caller.specs.declared.served.Served.{Served}
 use Rattle.one_caller.specs.declared.served.Served.TheVariants.{Answer, Waits}
-use Rattle.one_caller.specs.Filing.{HoldsRecords}
+use Rattle.one_caller.specs.Filing.{HoldsRecords, IsOneBucketFile}
 use Rattle.one_caller.specs.Inserting.{LacksRoom}
 use Rattle.xsi_inquiry.specs.Deciding.{waits_or_ends}
 pub use Rattle.xsi_inquiry.specs.Rooms.{IsReceive}
@@ -32,6 +33,12 @@ pub record Holds (c : CallerState) (s : State) : Type 0 where
   pub sound : c.failed ≡ false
   pub stopped : s.stopped ≡ c.stopped
   pub file : HoldsRecords (record_of s) c.file
+
+-- the pages were the file of a system, and the caller holds that system
+pub record HoldsFile (hash : RecordKey → ℕ) (content : List (List ℕ)) (c : CallerState) : Type 0 where
+  pub system : State
+  pub file : IsOneBucketFile hash content system
+  pub held : Holds c system
 
 -- an answer with which records are inserted: the id of a new queue, or the serial of a message
 abbrev pub IsInsertion : answers.Answer → State → State → Type 0

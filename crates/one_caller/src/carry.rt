@@ -59,10 +59,8 @@ fn insert_all<D: PageDevice, I: Inquiry>(
     let Err(fault) = insert(file, &second) else {
         return Ok(());
     };
-    match delete(file, &first.key()) {
-        Ok(()) => Err(fault),
-        Err(_) => Err(CallFault::Failed),
-    }
+    delete(file, &first.key())?;
+    Err(fault)
 }
 
 /// Carries out the writes that follow a decision, in the order of their slots.

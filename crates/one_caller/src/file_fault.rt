@@ -1,35 +1,24 @@
 //! Why a file is not opened, and why it is not closed well.
 
 ghost use Rattle.std.specs.Prelude.{◌≡◌};
-ghost use Rattle.one_caller.specs.FileFault.{close_number_of, fault_of, number_of};
+ghost use Rattle.one_caller.specs.FileFault.{close_number_of, number_of};
 
-use directory::HeaderFault;
+use file_check::CheckFault;
+use file_walk::StructureFault;
 use thiserror::Error;
 
 /// Why a file is not opened. Nothing was written.
 #[derive(Clone, Copy, Debug, PartialEq, Eq, Error)]
 pub enum OpenFault {
-    /// A transfer failed.
-    #[error("the device failed")]
-    Device,
-    /// The header has a wrong digest.
-    #[error("the header has a wrong digest")]
-    BadDigest,
-    /// There is no page, or the header tells of more pages than there are.
-    #[error("the file is cut")]
-    PastEnd,
     /// No frame was asked for.
     #[error("there are too few frames")]
     TooFewFrames,
-    /// Page 0 is no header, or tells of fewer pages than there are.
-    #[error("not a file of records")]
-    BadHeader,
-    /// The file is of another version.
-    #[error("a file of another version")]
-    BadVersion,
-    /// There is no memory for the frames.
-    #[error("out of memory")]
-    NoMemory,
+    /// It is wrong with the file, or a transfer failed, or there is no memory.
+    #[error(transparent)]
+    Wrong(CheckFault),
+    /// Nothing is wrong with the file, but one caller serves no more than one bucket.
+    #[error("a file with more than one bucket")]
+    ManyBuckets,
 }
 
 impl OpenFault {
@@ -38,24 +27,22 @@ impl OpenFault {
         ensures { result ≡ number_of self }
     {
         match self {
-            OpenFault::Device => faults::DEVICE,
-            OpenFault::BadDigest => faults::BAD_DIGEST,
-            OpenFault::PastEnd => faults::PAST_END,
             OpenFault::TooFewFrames => faults::TOO_FEW_FRAMES,
-            OpenFault::BadHeader => faults::BAD_HEADER,
-            OpenFault::BadVersion => faults::BAD_VERSION,
-            OpenFault::NoMemory => faults::NO_MEMORY,
+            OpenFault::Wrong(fault) => fault.number(),
+            OpenFault::ManyBuckets => faults::FAILED,
         }
     }
+}
 
-    /// What a header that is refused means for its file.
-    pub(crate) fn of_header(fault: HeaderFault) -> OpenFault
-        ensures { result ≡ fault_of fault }
-    {
-        match fault {
-            HeaderFault::BadHeader => OpenFault::BadHeader,
-            HeaderFault::BadVersion => OpenFault::BadVersion,
-        }
+impl From<StructureFault> for OpenFault {
+    ghost use Rattle.std.specs.Prelude.{◌≡◌};
+    ghost use Rattle.file_check.specs.declared.fault.CheckFault.TheVariants.{Structure};
+    ghost use Rattle.one_caller.specs.declared.file_fault.OpenFault.TheVariants.{Wrong};
+
+    ghost from_gives = { λ fault given. given ≡ Wrong (Structure fault) };
+
+    fn from(fault: StructureFault) -> OpenFault {
+        OpenFault::Wrong(CheckFault::Structure(fault))
     }
 }
 

@@ -7,6 +7,7 @@ mod ask;
 mod call_list;
 mod carry;
 mod change;
+mod checked;
 mod fault;
 mod file_fault;
 mod header_test;
@@ -20,10 +21,7 @@ mod sweep;
 pub use call_list::Asked;
 pub use fault::CallFault;
 pub use file_fault::{CloseFault, OpenFault};
-pub use laws::{
-    a_file_is_closed_as_one, a_file_is_never_refused, a_file_opens_with_its_records,
-    a_new_file_is_that_of_no_queue,
-};
+pub use laws::a_file_of_one_bucket_is_never_refused;
 pub use one_bucket::OneBucket;
 pub use one_caller::OneCaller;
 pub use served::Served;

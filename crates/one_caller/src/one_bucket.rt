@@ -8,7 +8,9 @@ ghost use Rattle.bucket_page.specs.declared.layout.TheConstants.{RECORD_HEAD_BYT
 ghost use Rattle.bucket_page.specs.Changes.{HasValueOf, fronted, inserted, removed, replaced, value_of_key};
 ghost use Rattle.bucket_page.specs.Records.{ascend, lookup, pair, record_bytes};
 ghost use Rattle.bucket_page.specs.Reading.{records_in};
-ghost use Rattle.one_caller.specs.Opening.{HasCauseToRefuse, MayRefuse};
+ghost use Rattle.page_device.specs.Device.{HasRisen};
+ghost use Rattle.one_caller.specs.FileFault.{device_failed};
+ghost use Rattle.one_caller.specs.Opening.{MayRefuseHeader};
 ghost use Rattle.one_caller.specs.OneBucket.{HasCauseToFail, IsRoot, Leaves, Shows, device_in};
 
 use crate::file_fault::{CloseFault, OpenFault};
@@ -16,6 +18,7 @@ use crate::header_test::test_header;
 use bucket_page::{DoesNotFit, RecordKey, bucket_of};
 use buffer_pool::{Frame, Pool, PoolFault};
 use directory::ROOT_PAGE;
+use file_walk::StructureFault;
 use page_device::{DeviceFault, PageDevice};
 use page_forms::FilePage;
 use std::alloc::Global;
@@ -54,12 +57,12 @@ impl<D: PageDevice> OneBucket<D> {
         ensures few { IsErrAnd result (λ refusal. refusal.1 ≡ OpenFault.TooFewFrames) ↔
             (frames ≡ 0) }
         ensures refused { IsTrue (D.is_honest device) →
-            IfErr result (λ refusal. MayRefuse (D.content device) refusal.1) }
+            IfErr result (λ refusal. MayRefuseHeader (D.content device) refusal.1) }
         ensures err { IfErr result (λ refusal.
-            (refusal.1 ≢ OpenFault.Device → D.content refusal.0 ≡ D.content device)
+            (refusal.1 ≢ device_failed → D.content refusal.0 ≡ D.content device)
             × (D.is_honest refusal.0 ≡ D.is_honest device)) }
-        ensures cause { IfErr result (λ refusal. HasCauseToRefuse
-            (D.fault_count device) (D.fault_count refusal.0) refusal.1) }
+        ensures cause { IfErr result (λ refusal. refusal.1 ≡ device_failed →
+            HasRisen (D.fault_count device) (D.fault_count refusal.0)) }
     {
         let mut device = device;
         if frames == 0 {
@@ -67,17 +70,18 @@ impl<D: PageDevice> OneBucket<D> {
         }
         match test_header(&mut device) {
             Ok(()) => {}
-            Err(fault) => return Err((device, fault)),
+            Err(fault) => return Err((device, OpenFault::from(fault))),
         }
         let mut pool = match Pool::open(alloc, device, frames) {
             Ok(pool) => pool,
-            Err((device, _)) => return Err((device, OpenFault::NoMemory)),
+            Err((device, _)) => return Err((device, OpenFault::from(StructureFault::NoMemory))),
         };
         let root = match pool.pin(ROOT_PAGE) {
             Ok(root) => root,
             Err(fault) => {
                 if fault == PoolFault::Device(DeviceFault::Device) {
-                    return Err((pool.into_device(), OpenFault::Device));
+                    let fault = OpenFault::from(StructureFault::Device);
+                    return Err((pool.into_device(), fault));
                 }
                 return Ok(OneBucket { pool, root: None });
             }

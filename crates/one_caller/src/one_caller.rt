@@ -1,20 +1,23 @@
 //! One caller at a time over a file.
 
-ghost use Rattle.std.specs.Prelude.{◌≡◌, ◌≢◌, ◌↔◌, ◌≤◌, true, false, Err, IsErrAnd, IsTrue, IfOk, IfErr};
+ghost use Rattle.std.specs.Prelude.{◌≡◌, ◌≢◌, ◌↔◌, ◌≤◌, ℕ, true, false, Err, IsErrAnd, IsTrue, IfOk, IfErr};
 ghost use Rattle.page_device.specs.Device.{HasRisen};
+ghost use Rattle.bucket_page.specs.declared.record_key.RecordKey.{RecordKey};
 ghost use Rattle.queue_model.specs.State.{State};
-ghost use Rattle.one_caller.specs.FileLaws.{IsOfMachine};
-ghost use Rattle.one_caller.specs.Opening.{HasCauseToRefuse};
 ghost use Rattle.type_chains.specs.RecordOf.{record_of};
-ghost use Rattle.one_caller.specs.Filing.{ChangesRecords, HasValues, IsFileOf};
-ghost use Rattle.one_caller.specs.Serving.{Holds, IsOutOfRoom, Tells, fails, restarted};
+ghost use Rattle.one_caller.specs.FileFault.{device_failed};
+ghost use Rattle.one_caller.specs.Filing.{ChangesRecords, HasValues, IsOneBucketFile};
+ghost use Rattle.one_caller.specs.Opening.{MayRefuse};
+ghost use Rattle.one_caller.specs.Serving.{Holds, HoldsFile, IsOutOfRoom, Tells, fails, restarted};
 ghost use Rattle.xsi_inquiry.specs.Telling.{IsFiled};
 
+use crate::checked::checked;
 use crate::fault::CallFault;
 use crate::file_fault::{CloseFault, OpenFault};
 use crate::one_bucket::OneBucket;
 use crate::serve::serve;
 use crate::served::Served;
+use bucket_page::PseudoKey;
 use page_device::PageDevice;
 use queue_model::{Answer, Call, Caller, Errno};
 use std::alloc::Global;
@@ -39,26 +42,38 @@ impl<D: PageDevice> Model for OneCaller<D> {
 }
 
 impl<D: PageDevice> OneCaller<D> {
-    /// Opens the file on a device, with so many frames for its pages. The system is not stopped. Each refusal gives the
-    /// device back.
-    pub fn open(alloc: Global, device: D, frames: usize) -> Result<OneCaller<D>, (D, OpenFault)>
-        ensures ok { (s : State) → IsTrue (D.is_honest device) → IsFileOf s (D.content device) →
-            IfOk result (λ caller. Holds caller (restarted s)) }
+    /// Checks the file on a device and opens it, with so many frames for its pages. The system is not stopped. A file
+    /// with which anything is wrong is refused by the first thing that is, and one with more than one bucket too. Each
+    /// refusal gives the device back.
+    pub fn open<K: PseudoKey + Drop>(
+        alloc: Global,
+        device: D,
+        keys: K,
+        frames: usize,
+    ) -> Result<OneCaller<D>, (D, OpenFault)>
+        ensures ok { IsTrue (D.is_honest device) →
+            IfOk result (HoldsFile (K.of_key keys) (D.content device)) }
         // The count of failed transfers never falls.
         ensures later { IfOk result (λ caller. D.fault_count device ≤ caller.file.faults) }
-        // Nothing but a transfer, no frame or want of memory refuses the file of a system.
-        ensures refused { (s : State) →
-            IsTrue (D.is_honest device) → IsFileOf s (D.content device) →
-            IfErr result (λ refusal. IsOfMachine refusal.1) }
         ensures few { IsErrAnd result (λ refusal. refusal.1 ≡ OpenFault.TooFewFrames) ↔
             (frames ≡ 0) }
+        ensures refused { IsTrue (D.is_honest device) → IfErr result (λ refusal.
+            MayRefuse (K.of_key keys) (D.content device) refusal.1) }
         ensures err { IfErr result (λ refusal.
-            (refusal.1 ≢ OpenFault.Device → D.content refusal.0 ≡ D.content device)
+            (refusal.1 ≢ device_failed → refusal.1 ≢ OpenFault.ManyBuckets →
+            D.content refusal.0 ≡ D.content device)
             × (D.is_honest refusal.0 ≡ D.is_honest device)) }
-        ensures cause { IfErr result (λ refusal. HasCauseToRefuse
-            (D.fault_count device) (D.fault_count refusal.0) refusal.1) }
+        ensures cause { IfErr result (λ refusal. refusal.1 ≡ device_failed →
+            HasRisen (D.fault_count device) (D.fault_count refusal.0)) }
     {
+        if frames == 0 {
+            return Err((device, OpenFault::TooFewFrames));
+        }
+        let device = checked(alloc, device, keys)?;
         let file = OneBucket::open(alloc, device, frames)?;
+        if file.is_broken() {
+            return Err((file.abandon(), OpenFault::ManyBuckets));
+        }
         Ok(OneCaller {
             file,
             stopped: false,
@@ -104,8 +119,9 @@ impl<D: PageDevice> OneCaller<D> {
 
     /// Writes the records to the device, and gives the device back. Where a call has failed nothing is written.
     pub fn close(self) -> Result<D, (D, CloseFault)>
-        ensures ok { (s : State) → Holds self s → IfOk result (λ device.
-            IsTrue (D.is_honest device) → IsFileOf s (D.content device)) }
+        ensures ok { (hash : RecordKey → ℕ) (s : State) → Holds self s → IfOk result (λ device.
+            IsTrue (D.is_honest device) →
+            IsOneBucketFile hash (D.content device) (restarted s)) }
         // The close of a caller that holds a system fails by the device alone.
         ensures held { (s : State) → Holds self s →
             IfErr result (λ refusal. refusal.1 ≡ CloseFault.Device) }
@@ -153,9 +169,7 @@ fn answer<D: PageDevice>(
         result ≡ Err CallFault.NoRoom → IsOutOfRoom caller call.now s file.old.records }
     ensures same { ChangesRecords file.old file.new }
 {
-    let Ok(room) = Room::new(alloc, call) else {
-        return Err(CallFault::NoMemory);
-    };
+    let room = Room::new(alloc, call)?;
     match serve(file, caller, call, room) {
         Ok(Some(answer)) => Ok(Served::Answer(answer)),
         Ok(None) if stopped => Ok(Served::Answer(Answer::Refused(Errno::EINTR))),

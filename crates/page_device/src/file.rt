@@ -1,6 +1,6 @@
 //! A device in a file.
-ghost use Rattle.std.specs.Prelude.{◌≡◌, ◌↔◌, ◌+◌, ◌/◌, ◌%◌, ◌≤◌, min, if◌then◌else◌, is_ok, IsOk, IfOk, IfErr, IsOkUnless, IsTrue};
-ghost use Rattle.std.specs.Fs.{asks_create_new, asks_read, asks_write};
+ghost use Rattle.std.specs.Prelude.{◌≡◌, ◌↔◌, ◌+◌, ◌/◌, ◌%◌, ◌≤◌, min, if◌then◌else◌, is_ok, IsOk, IfOk, IfErr, IsOkUnless, IsTrue, true};
+ghost use Rattle.std.specs.Fs.{asks_create_new, asks_read, asks_write, new_options, with_read, with_write};
 ghost use Rattle.page_device.specs.Device.{MOST_FAULTS, HasRisen, MayMeetTheEnd};
 ghost use Rattle.page_device.specs.declared.page.TheConstants.{MAX_PAGES, PAGE_BYTES};
 
@@ -135,7 +135,27 @@ impl<F: Read + Write + Seek + OpenFile + Drop> FileDevice<SystemFile<F>> {
         ensures failed { IfOk result (λ device. failed_of device ≡ 0) }
         ensures refused { IfErr result MayMeetTheEnd }
     {
-        match opened(rt, path) {
+        Self::open_as(&changing(), rt, path)
+    }
+
+    /// Opens a file of pages for reads alone, and refuses what `open` refuses. No write succeeds.
+    pub fn open_read_only<R: Files<File = F>>(rt: &R, path: &str) -> Result<Self, DeviceFault>
+        ensures failed { IfOk result (λ device. failed_of device ≡ 0) }
+        ensures refused { IfErr result MayMeetTheEnd }
+    {
+        Self::open_as(&reading(), rt, path)
+    }
+
+    /// Opens a file of pages so.
+    fn open_as<R: Files<File = F>>(
+        how: &OpenOptions,
+        rt: &R,
+        path: &str,
+    ) -> Result<Self, DeviceFault>
+        ensures failed { IfOk result (λ device. failed_of device ≡ 0) }
+        ensures refused { IfErr result MayMeetTheEnd }
+    {
+        match opened(how, rt, path) {
             Ok((file, len)) => Ok(FileDevice::new(SystemFile::new(file), pages_in(len)?)),
             Err(_) => Err(DeviceFault::Device),
         }
@@ -153,9 +173,27 @@ fn making() -> OpenOptions
     how
 }
 
-/// A file that is there, and its length.
-fn opened<R: Files>(rt: &R, path: &str) -> io::Result<(R::File, u64)> {
-    let file = OpenOptions::new().read(true).write(true).open(rt, path)?;
+/// How a file that is there is opened to be read and written.
+fn changing() -> OpenOptions
+    ensures { result ≡ with_write (with_read new_options true) true }
+{
+    let mut how = OpenOptions::new();
+    how.read(true).write(true);
+    how
+}
+
+/// How a file that is there is opened to be read alone.
+fn reading() -> OpenOptions
+    ensures { result ≡ with_read new_options true }
+{
+    let mut how = OpenOptions::new();
+    how.read(true);
+    how
+}
+
+/// A file that is there, opened so, and its length.
+fn opened<R: Files>(how: &OpenOptions, rt: &R, path: &str) -> io::Result<(R::File, u64)> {
+    let file = how.open(rt, path)?;
     let found = file.metadata()?;
     if !found.is_file() {
         return Err(io::ErrorKind::Unsupported.into());

@@ -1,5 +1,6 @@
 //! Calls served in a list, and what waits.
 
+use bucket_page::ShaKey;
 use one_caller::{Asked, CallFault, OneCaller, OpenFault, Served};
 use page_device::MemDevice;
 use queue_model::{
@@ -26,7 +27,7 @@ const RECEIVE: Call = Call::Receive(ReceiveArguments {
 });
 
 fn opens(alloc: Global, device: MemDevice) -> Result<OneCaller<MemDevice>, OpenFault> {
-    match OneCaller::open(alloc, device, 2) {
+    match OneCaller::open(alloc, device, ShaKey, 2) {
         Ok(caller) => Ok(caller),
         Err((_, fault)) => Err(fault),
     }

@@ -5,6 +5,7 @@ ghost use Rattle.page_device.specs.declared.page.TheConstants.{MAX_PAGES};
 ghost use Rattle.directory.specs.declared.layout.TheConstants.{LEAST_PAGES};
 
 use bucket_page::{DoesNotFit, RecordKey, write_bucket};
+use file_walk::StructureFault;
 use one_caller::{CloseFault, OneBucket, OpenFault};
 use page_device::{
     DeviceFault, FaultyDevice, MemDevice, PAGE_BYTES, PAYLOAD_BYTES, Page, PageDevice, Payload,
@@ -114,6 +115,11 @@ fn opens<D: PageDevice + Drop>(alloc: Global, device: D) -> Result<OneBucket<D>,
     }
 }
 
+/// A transfer failed at the opening.
+fn device_failed() -> OpenFault {
+    OpenFault::from(StructureFault::Device)
+}
+
 /// Closes a file, or tells the fault.
 fn closes<D: PageDevice + Drop>(file: OneBucket<D>) -> Result<D, CloseFault> {
     match file.close() {
@@ -181,7 +187,7 @@ fn each_transfer_of_an_open_file_fails_in_turn(rt: HostRuntime) -> Result<(), Fa
         let mut file = match opens(rt.alloc(), device) {
             Ok(file) => file,
             Err(fault) => {
-                assert!(rt; fault == OpenFault::Device && nth <= 2, "transfer {nth}");
+                assert!(rt; fault == device_failed() && nth <= 2, "transfer {nth}");
                 continue;
             }
         };
@@ -262,8 +268,9 @@ fn a_file_is_not_opened_without_a_frame(rt: HostRuntime) -> Result<(), Fail> {
 
 #[test]
 fn faults_of_the_opening_have_their_numbers(rt: HostRuntime) {
-    assert!(rt; OpenFault::Device.number() == 20);
-    assert!(rt; OpenFault::NoMemory.number() == 60);
+    assert!(rt; device_failed().number() == 20);
+    assert!(rt; OpenFault::from(StructureFault::NoMemory).number() == 60);
+    assert!(rt; OpenFault::ManyBuckets.number() == 62);
 }
 
 #[test]

@@ -1,4 +1,5 @@
 use Rattle.std.proofs.Common.{◌≡◌, inl, inr}
+use Rattle.bucket_page.specs.Pseudokeys.{sha_key}
 use Rattle.one_caller.specs.declared.file_fault.CloseFault.TheVariants.{Device}
 use Rattle.msgq_cli.proofs.ServeLemmas.{IsRun-weaker, risen_since}
 use Rattle.msgq_cli.proofs.serving.run_open.Goals as goal
@@ -6,7 +7,8 @@ use Rattle.msgq_cli.proofs.serving.run_open.Goals as goal
 -- what the caller held is in the file that was closed
 pub returns-in-Ok-clause-served : goal.returns-in-Ok-clause-served
 returns-in-Ok-clause-served g c = λ was s held later.
-    inl (IsRun-weaker _ s _ _ _ _ _ (λ t holds. c.in-Ok.ensures.ok t holds) (c.run-ending.ensures.served s held))
+    inl (IsRun-weaker _ s _ _ _ _ _ (λ t holds. c.in-Ok.ensures.ok sha_key t holds)
+    (c.run-ending.ensures.served s held))
 
 -- the device failed, since the caller held a system
 pub returns-in-Err-clause-served : goal.returns-in-Err-clause-served
@@ -14,15 +16,15 @@ returns-in-Err-clause-served g c = λ was s held later.
     let run = c.run-ending.ensures.served s held in
     let failed : c.in-Err.fault ≡ Device = c.in-Err.ensures.held run.left run.held in
     let alone = rw (c.number.ensures, failed) at c.fail.ensures in
-    inr (inr (
+    inr (
       risen_since was _ _ (rw c.run-ending.ensures.faults later) (c.in-Err.ensures.cause failed),
-      inr (record {
+      record {
         run_to = c.run-ending.new.output;
         run_ending = c.run-ending.result;
         run = IsRun-weaker _ s _ _ _ _ _ (λ t holds. tt) run;
         alone = alone;
-      }),
-    ))
+      },
+    )
 
 pub returns-in-Ok-clause-lines : goal.returns-in-Ok-clause-lines
 returns-in-Ok-clause-lines g c = inl c.run-ending.ensures.lines

@@ -27,8 +27,8 @@ returns-in_default-insert-clause-ok g c = λ records has absent range.
     both_inserted plan.trials c.in-Some.first c.in-Some-trial.second records _ both
     (c.in_default-insert.ensures.ok _ it.values it.absent it.in_range)
 
-pub returns-in-Ok-clause-ok : goal.returns-in-Ok-clause-ok
-returns-in-Ok-clause-ok g c = λ records has absent range.
+pub returns-clause-ok : goal.returns-clause-ok
+returns-clause-ok g c = λ records has absent range.
     let plan = g.I.Inquiry.plan c.args.arguments.now c.args.inquiry.now in
     let both = two_of plan.trials c.in-Some.first c.in-Some-trial.second (sym c.trial.ensures ∙ c.in-Some.is)
     (sym c.trial-2.ensures ∙ c.in-Some-trial.is)
@@ -39,21 +39,21 @@ returns-in-Ok-clause-ok g c = λ records has absent range.
     (both_in c.in-Some.first c.in-Some-trial.second records) c.insert-2.new.file c.delete.new.file it.absent_first
     (c.in-Err.ensures.ok _ it.values it.absent it.in_range)
     (λ found values. subst (λ k. HasValues (with_at k None found) c.delete.new.file.records) c.key.ensures
-    (c.in-Ok.ensures.ok found values))
+    (c.in_ok-delete.ensures.ok found values))
 
-pub returns-in-Err-delete-clause-ok : goal.returns-in-Err-delete-clause-ok
-returns-in-Err-delete-clause-ok g c = λ records has absent range.
+pub returns-in_err-delete-clause-ok : goal.returns-in_err-delete-clause-ok
+returns-in_err-delete-clause-ok g c = λ records has absent range.
     let plan = g.I.Inquiry.plan c.args.arguments.now c.args.inquiry.now in
     let both = two_of plan.trials c.in-Some.first c.in-Some-trial.second (sym c.trial.ensures ∙ c.in-Some.is)
     (sym c.trial-2.ensures ∙ c.in-Some-trial.is)
     (g.met.I.Inquiry.few c.args.arguments.now c.args.inquiry.now).trials in
     let it = first_of_two plan.trials c.in-Some.first c.in-Some-trial.second _ _ both c.in_ok-insert.ensures.ok
     records has absent range in
-    first_stands c.in-Err.fault c.in-Some.first records (both_in c.in-Some.first c.in-Some-trial.second records)
-    c.insert-2.new.file
+    absurd (first_stands c.in-Err.fault c.in-Some.first records
+    (both_in c.in-Some.first c.in-Some-trial.second records) c.insert-2.new.file
     (c.in-Err.ensures.ok _ it.values it.absent it.in_range)
-    (λ found values can. absurd (no_error c.in-Err-delete.field-0 (c.in-Err-delete.ensures.can found values
-    (subst (λ k. CanBe (Delete k) found) (sym c.key.ensures) can))))
+    (λ found values can. absurd (no_error c.in_err-delete.field-0.0 (c.in_err-delete.ensures.can found values
+    (subst (λ k. CanBe (Delete k) found) (sym c.key.ensures) can)))))
 
 pub returns-in_err-insert-clause-full : goal.returns-in_err-insert-clause-full
 returns-in_err-insert-clause-full g c =
@@ -63,8 +63,8 @@ returns-in_err-insert-clause-full g c =
     (λ none. first_exceeds plan.trials c.in-Some.first c.args.file.now.records (sym c.trial.ensures ∙ c.in-Some.is)
     (c.in_err-insert.ensures.full none))
 
-pub returns-in-Ok-clause-full : goal.returns-in-Ok-clause-full
-returns-in-Ok-clause-full g c = λ none.
+pub returns-clause-full : goal.returns-clause-full
+returns-clause-full g c = λ none.
     let plan = g.I.Inquiry.plan c.args.arguments.now c.args.inquiry.now in
     let both = two_of plan.trials c.in-Some.first c.in-Some-trial.second (sym c.trial.ensures ∙ c.in-Some.is)
     (sym c.trial-2.ensures ∙ c.in-Some-trial.is)

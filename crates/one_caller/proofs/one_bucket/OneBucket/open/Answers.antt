@@ -1,15 +1,9 @@
 -- What the pool has pinned is what the device has.
-use Rattle.std.proofs.Common.{◌≡◌, ◌∙◌, refl, ap, subst, sym, true, IsTrue, Some, List, ℕ, length, arith, slice_get, slice_index_or, []}
+use Rattle.std.proofs.Common.{◌≡◌, ◌∙◌, refl, ap, subst, sym, IsTrue, length, arith}
 use Rattle.std.proofs.lemmas.List.{length-map}
 use Rattle.std.proofs.lemmas.Bool.Decides.{nat_tests}
 use Rattle.page_device.specs.Sealed.{payload_of}
-use Rattle.std.proofs.lemmas.Option.{get_or_from_slice_get}
-use Rattle.directory.specs.declared.layout.TheConstants.{ROOT_PAGE}
 use Rattle.buffer_pool.specs.Pool.{PoolState, payloads_of}
-use Rattle.bucket_page.specs.Reading.{records_in}
-use Rattle.bucket_page.specs.Records.{Pair}
-use Rattle.one_caller.specs.Opening.{payload_at}
-use Rattle.one_caller.specs.OneBucket.{IsPinnedRoot, IsRoot}
 use Rattle.one_caller.proofs.OpenLemmas.{opened_images, opened_seals, not_root, pinned_root, not_pinned, shows_broken, shows_pinned, false_not_true}
 use Rattle.one_caller.proofs.one_bucket.OneBucket.open.Goals as goal
 

@@ -1,0 +1,152 @@
+//! Files that are checked, and what is told of them.
+
+use crate::file_tests::{FIRST, changed, new_device, spoilt};
+use crate::trial::{Screen, buffered, printed};
+use msgq_cli::{Ending, Report, new_file, new_on, read_script, report_file, report_on, run_on};
+use page_device::{FaultyDevice, MemDevice, PageDevice};
+use std::fs;
+use std::fs::{File, OpenOptions};
+use std::process::Abort;
+use std::rt::Files;
+use std::test::Fail;
+
+/// The file of a device, when it is checked, prints this.
+fn tells<R: Abort + AllocGlobal, D: PageDevice + Drop>(
+    rt: &R,
+    device: D,
+    report: Report,
+    wanted: &str,
+) -> Result<D, Fail> {
+    let alloc = rt.alloc();
+    let mut output = buffered(alloc)?;
+    let mut screen = Screen::new(alloc, true);
+    let device = report_on(alloc, device, report, &mut output, &mut screen).0;
+    let told = String::from_utf8(printed(output))?;
+    assert_eq!(rt; told.as_str(), wanted);
+    assert!(rt; screen.into_said().is_empty());
+    Ok(device)
+}
+
+#[test]
+fn a_file_is_told_as_its_system(rt: HostRuntime) -> Result<(), Fail> {
+    let alloc = rt.alloc();
+    let device = new_device(alloc);
+    let device = tells(&rt, device, Report::Counts, "ok 0 0\n")?;
+    let device = tells(&rt, device, Report::Queues, "next 1\n")?;
+    let script = read_script(
+        alloc,
+        b"2 get 7 create\n1 snd 1 5 61\n1 get private create mode=600\n",
+    )?;
+    let mut output = buffered(alloc)?;
+    let device = run_on(alloc, device, &script, &mut output).0;
+    let device = tells(&rt, device, Report::Counts, "ok 2 1\n")?;
+    let wanted = "info 1 7 1 1 16384 1 0 2 0 1 0 0 0 0 666\n\
+        info 2 private 0 0 16384 0 0 0 0 3 0 0 0 0 600\nnext 3\n";
+    tells(&rt, device, Report::Queues, wanted)?;
+    Ok(())
+}
+
+/// A byte of a page changed, and the page sealed again: the first byte is its kind.
+#[test]
+fn what_is_wrong_is_told_by_its_number(rt: HostRuntime) -> Result<(), Fail> {
+    let alloc = rt.alloc();
+    for (page, place, byte, wanted) in [
+        (0, 1, 1, "fault 42\n"),
+        (0, 4, b'm', "fault 41\n"),
+        (0, 15, 3, "fault 22\n"),
+        (257, 0, 9, "fault 40\n"),
+        (257, 11, 1, "fault 70\n"),
+        (1, 19, 0, "fault 72\n"),
+    ] {
+        let mut device = new_device(alloc);
+        changed(&mut device, page, place, byte)?;
+        let device = tells(&rt, device, Report::Counts, wanted)?;
+        tells(&rt, device, Report::Queues, wanted)?;
+    }
+    let mut device = new_device(alloc);
+    spoilt(&mut device, 257)?;
+    tells(&rt, device, Report::Counts, "fault 21\n")?;
+    tells(&rt, MemDevice::new(alloc), Report::Counts, "fault 22\n")?;
+    let device = FaultyDevice::new(new_device(alloc), 258);
+    tells(&rt, device, Report::Counts, "fault 20\n")?;
+    Ok(())
+}
+
+/// Of a file of 5,120 pages each is read once, and the root bucket again for its records.
+#[test]
+fn a_terminal_shows_how_far_it_is(rt: HostRuntime) -> Result<(), Fail> {
+    let alloc = rt.alloc();
+    for is_terminal in [true, false] {
+        let mut output = buffered(alloc)?;
+        let device = new_on(MemDevice::new(alloc), 5_120, &mut output).0;
+        let mut screen = Screen::new(alloc, is_terminal);
+        let found = report_on(alloc, device, Report::Counts, &mut output, &mut screen).1;
+        assert!(rt; found.is_ok());
+        let said = String::from_utf8(screen.into_said())?;
+        let wanted = "\r\u{1b}[Kmsgq: checked 5120 of 5120 pages";
+        assert!(rt; said.contains(wanted) == is_terminal);
+        assert!(rt; said.ends_with("\r\u{1b}[K") == is_terminal);
+        assert!(rt; said.is_empty() != is_terminal);
+    }
+    Ok(())
+}
+
+/// A file, when it is checked, prints this, and this is said on standard error.
+fn is_told<R: Abort + AllocGlobal + Files<File = File>>(
+    rt: &R,
+    file: &str,
+    wanted: &str,
+    errors: &str,
+) -> Result<(), Fail> {
+    let alloc = rt.alloc();
+    let mut output = buffered(alloc)?;
+    let mut screen = Screen::new(alloc, true);
+    let ended = report_file(rt, file, Report::Counts, &mut output, &mut screen);
+    assert!(rt; (ended == Ending::Done) == errors.is_empty(), "{file}");
+    assert!(rt;
+        ended.status(false) == u8::from(ended != Ending::Done),
+        "{file}"
+    );
+    let told = String::from_utf8(printed(output))?;
+    assert_eq!(rt; told.as_str(), wanted, "{file}");
+    let said = String::from_utf8(screen.into_said())?;
+    assert_eq!(rt; said.as_str(), errors, "{file}");
+    Ok(())
+}
+
+/// The system's words are those of the C library.
+#[test]
+fn files_are_checked_and_told_why(rt: HostRuntime) -> Result<(), Fail> {
+    let alloc = rt.alloc();
+    let _ = fs::remove_dir_all(&rt, "checked");
+    fs::create_dir(&rt, "checked")?;
+    let none = "msgq: checked/none: it can't be opened: No such file or directory (os error 2)\n";
+    is_told(&rt, "checked/none", "fault 20\n", none)?;
+    let mut output = buffered(alloc)?;
+    let mut screen = Screen::new(alloc, true);
+    let file = "checked/queues";
+    assert!(rt; new_file(&rt, file, 258, &mut output, &mut screen) == Ending::Done);
+    is_told(&rt, file, "ok 0 0\n", "")?;
+    fs::write(&rt, "checked/first", FIRST)?;
+    is_told(&rt, "checked/first", "fault 22\n", CUT_FIRST)?;
+    let part = "msgq: checked/queues: it can't be opened: it is cut: it has fewer pages than its \
+        header says, or a part of one\n";
+    let cut = "msgq: checked/queues: it is wrong: the file is cut\n";
+    let mut how = OpenOptions::new();
+    how.write(true);
+    for (len, errors) in [
+        (258 * 4096 + 1, part),
+        (257 * 4096, cut),
+        (257 * 4096 + 100, part),
+        (0, cut),
+    ] {
+        how.open(&rt, file)?.set_len(len)?;
+        is_told(&rt, file, "fault 22\n", errors)?;
+    }
+    fs::remove_dir_all(&rt, "checked")?;
+    Ok(())
+}
+
+/// What is said of a script in the place of a file.
+const CUT_FIRST: &str = "msgq: checked/first: it can't be opened: it is cut: it has fewer pages \
+    than its header says, or a part of one\n";

@@ -1,0 +1,100 @@
+//! Files checked, and what is told of the systems that they hold: subcommands of the program that write no file.
+
+ghost use Rattle.std.specs.Prelude.{◌≡◌, IsTrue, IfOk, IfErr};
+ghost use Rattle.bucket_page.specs.Pseudokeys.{sha_key};
+ghost use Rattle.file_check.specs.Records.{HasCheckCause};
+ghost use Rattle.file_check.specs.Whole.{IsFileOf, IsToldOf};
+ghost use Rattle.msgq_cli.specs.Checks.{IsReportOrFault, found_text};
+ghost use Rattle.msgq_cli.specs.Outputs.{Prints};
+
+use crate::complaint::complain;
+use crate::ending::{Ending, Failure, Stage};
+use crate::files::complain_unopened;
+use crate::output::Output;
+use crate::progress::Shown;
+use crate::reply::print_fault;
+use crate::reports::Report;
+use crate::serving::fail;
+use bucket_page::ShaKey;
+use file_check::{CheckFault, Checked, check};
+use page_device::{FileDevice, PageDevice};
+use queue_model::System;
+use std::alloc::Global;
+use std::fs::{OpenFile, OpenOptions};
+use std::io::{IsTerminal, Read, Seek, Write};
+use std::rt::Files;
+
+/// `check FILE` and `stat FILE`: checks a file, which is opened to be read alone, and prints a report of its system.
+///
+/// `fault N` alone where the file is not opened, where something is wrong with it, or where the machine lacks
+/// something: a transfer fails (20), or there is no memory (60). Then it is said on standard error what and where.
+pub fn report_file<R, F, W, E>(
+    rt: &R,
+    file: &str,
+    report: Report,
+    output: &mut Output<W>,
+    errors: &mut E,
+) -> Ending
+where
+    R: Files<File = F> + AllocGlobal,
+    F: Read + Write + Seek + OpenFile + Drop,
+    W: Write + Drop,
+    E: Write + IsTerminal,
+    ensures { IsReportOrFault report output.old output.new result }
+{
+    let device = match FileDevice::open_read_only(rt, file) {
+        Ok(device) => device,
+        Err(fault) => {
+            let ending = fail(Stage::Opening, fault.number(), output);
+            complain_unopened(rt, OpenOptions::new().read(true), file, ending, errors);
+            return ending;
+        }
+    };
+    let fault = match report_on(rt.alloc(), device, report, output, errors).1 {
+        Ok(_) => return Ending::Done,
+        Err(fault) => fault,
+    };
+    complain(file, what(fault), fault, errors);
+    Ending::Failed(Failure {
+        stage: Stage::Checking,
+        fault: fault.number(),
+    })
+}
+
+/// Checks the file of a device, and prints a report of the system that it holds, or `fault N`.
+///
+/// Where the device is honest the report is of the one system whose file its pages are, and a fault is the first
+/// thing that is wrong with them, unless a transfer failed or there was no memory. Nothing is written to the device.
+/// Where it is large and `errors` a terminal, that shows how far the check has come.
+pub fn report_on<D: PageDevice, W: Write + Drop, E: Write + IsTerminal>(
+    alloc: Global,
+    device: D,
+    report: Report,
+    output: &mut Output<W>,
+    errors: &mut E,
+) -> (D, Result<System, CheckFault>)
+    ensures ok { IsTrue (D.is_honest device) →
+        IfOk result.1 (IsFileOf sha_key (D.content device)) }
+    ensures err { IsTrue (D.is_honest device) →
+        IfErr result.1 (IsToldOf sha_key (D.content device)) }
+    ensures prints { Prints output.old output.new (found_text report result.1) }
+    ensures same { D.content result.0 ≡ D.content device }
+    ensures honest { D.is_honest result.0 ≡ D.is_honest device }
+    ensures cause { HasCheckCause (D.fault_count device) (D.fault_count result.0) result.1 }
+{
+    let Checked { device, found } = check(alloc, Shown::new(device, errors), ShaKey);
+    let device = device.into_device();
+    match &found {
+        Ok(system) => report.print(system, output),
+        Err(fault) => print_fault(fault.number(), output),
+    }
+    (device, found)
+}
+
+/// What a fault says of the check.
+fn what(fault: CheckFault) -> &'static str {
+    match fault.number() {
+        faults::DEVICE | faults::NO_MEMORY => "it can't be checked",
+        _ => "it is wrong",
+    }
+}
