@@ -6,3 +6,5 @@
 mod systems;
 #[cfg(test)]
 mod tests;
+#[cfg(test)]
+mod two_queues;

@@ -157,8 +157,8 @@ module _ (c : Caller) (call : Call) (old new : CallerState) (s : State) (caller 
 -- ---- closed
 
 pub closed_held : {D : Type 0} (hash : RecordKey → ℕ) (content : D → List (List ℕ)) (is_honest : D → Bool)
-    (r : Result D (D × CloseFault)) (c : CallerState) (s : State) → Holds c s → (IsTrue c.file.honest → IfOk r (λ d. Leaves c.file (content d)))
-    → is_honest (device_in r) ≡ c.file.honest
+    (r : Result D (D × CloseFault)) (c : CallerState) (s : State) → Holds c s
+    → (IsTrue c.file.honest → IfOk r (λ d. Leaves c.file (content d))) → is_honest (device_in r) ≡ c.file.honest
     → IfOk r (λ d. IsTrue (is_honest d) → IsOneBucketFile hash (content d) (restarted s))
 closed_held hash content is_honest (Ok d) c s held left same = λ is.
     let honest = subst IsTrue same is in

@@ -1,5 +1,5 @@
--- What a walk tells of honest records: that the machine lacked something, or why they have no system. That one has changed
--- is never told.
+-- What a walk tells of honest records: that the machine lacked something, or why they have no system.
+-- That a record has changed is never told.
 use Rattle.std.specs.Prelude.{◌≡◌, ◌≢◌, ℕ, ◌<◌, ⊤, List, length, Option, None, slice_index, ◌⊎◌}
 use Rattle.record_walk.specs.Words.{RecordKey, Queue, WalkFault, key_of_queue}
 use Rattle.record_walk.specs.declared.fault.WalkFault.TheVariants as faults
