@@ -1,6 +1,6 @@
 -- The steps of a merge by what its parts answer.
 use Rattle.std.proofs.Common.{◌≡◌, refl, sym, ap, ◌∙◌, subst, ℕ, ◌<◌, true, false, List, [], ◌∷◌, ◌++◌, Some, None, length, arith}
-use Rattle.bucket_merge.proofs.Names.{AllAnchored, AllKnown, AllKnown-relocked, Contains, Converts, Err, FileFault, HasRisen, IsDone, IsErr, IsFree-unopposed, IsReached, IsReady, IsSeat, IsTrue, Kind, MAX_LOCKS, MayBeGranted, Ok, OnErr, OnOk, OnlyReads, OnlyWrites, Result, busy, converted, held, is_ok, kind_keeps, kind_of, lock_of, may_write, row_of-same, without_lock}
+use Rattle.bucket_merge.proofs.Names.{AllAnchored, AllKnown, AllKnown-relocked, Contains, Converts, Err, FileFault, IfErr, IsDevicesFault, IsDone, IsFree-unopposed, IsReached, IsReady, IsSeat, IsTrue, Kind, MAX_LOCKS, MayBeGranted, Ok, OnErr, OnOk, OnlyReads, OnlyWrites, Result, busy, converted, held, is_ok, kind_keeps, kind_of, lock_of, may_write, row_of-same, without_lock}
 use Rattle.step_rules.specs.declared.kind.Kind.TheVariants as kinds
 use Rattle.bucket_merge.specs.Words.{RecordKey, Lock, LockKind, Selective, Exclusive, LockName, Directory, Page, Table, row_of, with_row, PoolState, store_of, Store, Change, Progress, Moved, Blocked, Fault, Ended, World, ForLock, ToExclusive, HasNoFileLock, in_directory, world, Joint, MergePlace, Convert, GrantAlone}
 use Rattle.bucket_merge.specs.Places.{MergeView, at, locks_at, is_done, is_given_up}
@@ -41,12 +41,12 @@ module _ (seat : ℕ) (pool : PoolState) (locks : Table) (v : MergeView) where
       MakesStep seat did v new pool pool locks locks'
   grants (Moved k) place place' page kind new locks' is (moved, is_new, nobody, is_locks) asked going on facts ends
       ready seated room fresh reached may falls =
-      here place is (λ u. MakesStep {F = FileFault} seat (Moved k) u new pool pool locks locks')
+      here place is (λ u. MakesStep seat (Moved k) u new pool pool locks locks')
       (rw (moved, is_new) (granted seat v.key v.approach pool locks place place' page kind locks' asked going on facts
       ends ready seated room fresh nobody is_locks reached may falls))
   grants (Blocked other) place place' page kind new locks' is (is_old, opposes, same) asked going on facts ends
       ready seated room fresh reached may falls =
-      rw (is_old, same) (here place is (λ u. MakesStep {F = FileFault} seat (Blocked other) u u pool pool locks locks)
+      rw (is_old, same) (here place is (λ u. MakesStep seat (Blocked other) u u pool pool locks locks)
       (blocked seat v.key v.approach pool locks place (ForLock (Page page) kind) other asked going ready
       (λ change. opposes)))
   grants (Fault f) place place' page kind new locks' is none asked going on facts ends ready seated room fresh reached
@@ -61,7 +61,7 @@ module _ (seat : ℕ) (pool : PoolState) (locks : Table) (v : MergeView) where
       (IsTrue pool.honest → OnErr r (pool'.images ≡ pool.images)) → (kind ≡ kinds.WriteRecord → ⊥) →
       is_done place ≡ false → is_given_up place' ≡ false →
       ((before : List Lock) → locks_at place' v.approach before ≡ locks_at place v.approach before) →
-      seen place (λ hash change. IsErr r → HasRisen pool.faults pool'.faults) →
+      seen place (λ hash change. IfErr r (IsDevicesFault pool pool')) →
       seen place (λ hash change. left_at place' v.approach t < left_at place v.approach (store_of pool.images)) →
       ((before : List Lock) → HasNoFileLock before → row_of locks seat ≡ locks_at place v.approach before →
       seen place (λ hash change. hash v.key ≡ v.approach.pseudokey →
@@ -70,7 +70,7 @@ module _ (seat : ℕ) (pool : PoolState) (locks : Table) (v : MergeView) where
   goes_on (Ok x) did place place' kind pool' t new is (moved, is_new) writes becomes spares other going on same
       risen falls
       written =
-      here place is (λ u. MakesStep {F = FileFault} seat did u new pool pool' locks locks)
+      here place is (λ u. MakesStep seat did u new pool pool' locks locks)
       (rw (moved, is_new) (wrote seat v.key v.approach pool locks place place' kind pool' t writes becomes other
       going on same
       falls written))
@@ -78,8 +78,7 @@ module _ (seat : ℕ) (pool : PoolState) (locks : Table) (v : MergeView) where
       same risen
       falls written =
       rw (failed, is_old) (here place is (λ u. MakesStep seat (Fault fault) u u pool pool' locks locks)
-      (faulted seat v.key v.approach pool locks place fault pool' writes spares going
-      (λ hash change sees. risen hash change sees refl)))
+      (faulted seat v.key v.approach pool locks place fault pool' writes spares going risen))
 
   -- the last lock is given back
   pub releases : (did : Progress FileFault) (place place' : MergePlace) (name : LockName) (kind : LockKind)
@@ -101,7 +100,7 @@ module _ (seat : ℕ) (pool : PoolState) (locks : Table) (v : MergeView) where
       MakesStep seat did v new pool pool' locks locks'
   releases did place place' name kind pool' new locks' is moved is_new is_locks reads going up ends fresh seated idle
       done known anchored falls =
-      here place is (λ u. MakesStep {F = FileFault} seat did u new pool pool' locks locks')
+      here place is (λ u. MakesStep seat did u new pool pool' locks locks')
       (rw (moved, is_new) (released seat v.key v.approach pool locks place place' name kind pool' locks' reads going up
       ends fresh seated is_locks idle done known anchored falls))
 
@@ -110,7 +109,7 @@ module _ (seat : ℕ) (pool : PoolState) (locks : Table) (v : MergeView) where
       IsConverted did seat v (at (GrantAlone j) v) new locks locks' → IsReady pool → IsSeat locks seat →
       MakesStep seat did v new pool pool locks locks'
   converts (Moved k) j new locks' is (moved, is_new, nobody, is_locks) ready seated =
-      here (Convert j) is (λ u. MakesStep {F = FileFault} seat (Moved k) u new pool pool locks locks')
+      here (Convert j) is (λ u. MakesStep seat (Moved k) u new pool pool locks locks')
       (rw (moved, is_new) (record {
         writes = record { writes = nothing_written pool ready; spares = λ f. absurd cc };
         aim = record {
@@ -158,7 +157,7 @@ module _ (seat : ℕ) (pool : PoolState) (locks : Table) (v : MergeView) where
           ∙ ap (with_row locks seat) (converted_last before bare)
   converts (Blocked other) j new locks' is (is_old, opposes, same) ready seated =
       rw (is_old, same) (here (Convert j) is
-      (λ u. MakesStep {F = FileFault} seat (Blocked other) u u pool pool locks locks)
+      (λ u. MakesStep seat (Blocked other) u u pool pool locks locks)
       (blocked seat v.key v.approach pool locks (Convert j) ToExclusive other refl refl ready (λ change. opposes)))
   converts (Fault f) j new locks' is none ready seated = absurd none
   converts Ended j new locks' is none ready seated = absurd none

@@ -3,7 +3,7 @@ use Rattle.std.proofs.Common.{◌≡◌, ◌≢◌, ◌⊎◌, refl, sym, ap, �
 use Rattle.std.proofs.lemmas.Bool.{cases_lt}
 use Rattle.std.specs.Prelude.{IsTrue}
 use Rattle.std.specs.List.{Contains}
-use Rattle.page_device.specs.Device.{HasRisen}
+use Rattle.file_pages.specs.Fault.{IsDevicesFault}
 use Rattle.page_locks.specs.Locks.{kind_of}
 use Rattle.page_locks.specs.Writers.{may_write}
 use Rattle.file_pages.specs.declared.fault.FileFault.{FileFault}
@@ -43,7 +43,7 @@ module _ (seat : ℕ) (key : RecordKey) (a : ApproachView) (pool pool' : PoolSta
 
   -- a page that could not be read
   pub side_not_read : (place : MergePlace) (page : ℕ) (fault : FileFault) → OnlyReads false pool pool' →
-      (IsTrue pool.honest → IsFilePool pool → IsLivePage pool.images page → HasRisen pool.faults pool'.faults) →
+      (IsTrue pool.honest → IsFilePool pool → IsLivePage pool.images page → IsDevicesFault pool pool' fault) →
       ((hash : RecordKey → ℕ) (change : Change) → Sees hash seat (facts_at place a) pool locks change →
       Contains (chain store) page) → is_done place ≡ false →
       MakesStep seat (Fault fault) (at_place place) (at_place place) pool pool' locks locks
@@ -64,7 +64,7 @@ module _ (seat : ℕ) (key : RecordKey) (a : ApproachView) (pool pool' : PoolSta
     module _ (ok : IsTrue pool.honest → IsSeen sight (page_at store b.left))
         (r : EndsRow (locks_at (LookLeft b) a) 3 (row_of locks seat)) where
       pub left_differs : sight.depth ≢ b.range.depth →
-          MakesStep {F = FileFault} seat (Moved kinds.Look) (at_place (LookLeft b))
+          MakesStep seat (Moved kinds.Look) (at_place (LookLeft b))
           (at_place (GiveUpRight b.left b.right)) pool pool' locks locks
       left_differs other = read seat key a pool locks (LookLeft b) (GiveUpRight b.left b.right) kinds.Look pool' reads
           refl (λ before. refl)
@@ -83,7 +83,7 @@ module _ (seat : ℕ) (key : RecordKey) (a : ApproachView) (pool pool' : PoolSta
           (λ same _. other (sym (seen_depth store b.left sight (ok sees.honest)) ∙ same)))
 
       pub left_seen : sight.depth ≡ b.range.depth →
-          MakesStep {F = FileFault} seat (Moved kinds.Look) (at_place (LookLeft b))
+          MakesStep seat (Moved kinds.Look) (at_place (LookLeft b))
           (at_place (LookRight b (record { next = sight.next; used = sight.used }))) pool pool' locks locks
       left_seen same = read seat key a pool locks (LookLeft b)
           (LookRight b (record { next = sight.next; used = sight.used })) kinds.Look pool' reads
@@ -141,7 +141,7 @@ module _ (seat : ℕ) (key : RecordKey) (a : ApproachView) (pool pool' : PoolSta
           Sees hash seat (facts_at (LookRight b left) a) pool locks change →
           ((range_at store b.left).depth ≡ b.range.depth → (range_at store b.right).depth ≡ b.range.depth → ⊥)
           ⊎ (MERGED_BYTES < used_on store b.left + used_on store b.right)) →
-          MakesStep {F = FileFault} seat (Moved kinds.Look) (at_place (LookRight b left))
+          MakesStep seat (Moved kinds.Look) (at_place (LookRight b left))
           (at_place (GiveUpRight b.left b.right)) pool pool' locks locks
       gives_up why = read seat key a pool locks (LookRight b left) (GiveUpRight b.left b.right) kinds.Look pool' reads
           refl (λ before. refl)
@@ -164,13 +164,13 @@ module _ (seat : ℕ) (key : RecordKey) (a : ApproachView) (pool pool' : PoolSta
           ])
 
       pub right_differs : sight.depth ≢ b.range.depth →
-          MakesStep {F = FileFault} seat (Moved kinds.Look) (at_place (LookRight b left))
+          MakesStep seat (Moved kinds.Look) (at_place (LookRight b left))
           (at_place (GiveUpRight b.left b.right)) pool pool' locks locks
       right_differs other = gives_up (λ hash change sees.
           inl (λ _ same. other (sym (seen_depth store b.right sight (ok sees.honest)) ∙ same)))
 
       pub too_many : (left.used + sight.used ≤ MERGED_BYTES → ⊥) →
-          MakesStep {F = FileFault} seat (Moved kinds.Look) (at_place (LookRight b left))
+          MakesStep seat (Moved kinds.Look) (at_place (LookRight b left))
           (at_place (GiveUpRight b.left b.right)) pool pool' locks locks
       too_many many = gives_up (λ hash change sees. inr (
           let uses_left : used_on store b.left ≡ left.used = sees.known.1.1.1.1.1.1.0.1 in
@@ -184,7 +184,7 @@ module _ (seat : ℕ) (key : RecordKey) (a : ApproachView) (pool pool' : PoolSta
           ]
 
       pub right_seen : sight.depth ≡ b.range.depth →
-          MakesStep {F = FileFault} seat (Moved kinds.Look) (at_place (LookRight b left))
+          MakesStep seat (Moved kinds.Look) (at_place (LookRight b left))
           (at_place (WriteLeft b left (record { next = sight.next; used = sight.used }))) pool pool' locks locks
       right_seen same = read seat key a pool locks (LookRight b left)
           (WriteLeft b left (record { next = sight.next; used = sight.used })) kinds.Look pool' reads

@@ -1,6 +1,6 @@
 -- The steps of a merge that write pages: from the counts on.
-use Rattle.std.proofs.Common.{◌≡◌, ◌≢◌, refl, sym, ap, ◌∙◌, subst, ℕ, suc, ◌+◌, ◌^◌, ◌<◌, ◌≤◌, Bool, true, false, List, [], ◌∷◌, Some, length, arith, eq-eqb, ne_eqb, if◌then◌else◌, inl, inr, ◌==◌}
-use Rattle.bucket_merge.proofs.Names.{Err, FileFault, HasRisen, Header, IsErr, IsFilePool, IsSoundFile, IsThere, IsTrue, Layout, LinksFree, LowersDepth, MAX_PAGES, MayMergeCount, Ok, OnErr, OnOk, OnlyReads, OnlyWrites, Result, SetsCounts, SpellsFile, Store, WritesFree, bucket_at, chain, contains_head, count_at, header_is, held, how_many, is_ok, kind_of, layout_is, link_free, lower_depth, merge_counts, set_counts, ways_are_short, write_free}
+use Rattle.std.proofs.Common.{◌≡◌, ◌≢◌, refl, sym, ap, ◌∙◌, subst, ℕ, suc, ◌+◌, ◌^◌, ◌<◌, ◌≤◌, Bool, true, false, List, [], ◌∷◌, Some, length, arith, eq-eqb, ne_eqb, if◌then◌else◌, inr, ◌==◌}
+use Rattle.bucket_merge.proofs.Names.{Err, FileFault, Header, IfErr, IsDevicesFault, IsFilePool, IsSoundFile, IsThere, IsTrue, Layout, LinksFree, LowersDepth, MAX_PAGES, MayMergeCount, Ok, OnErr, OnOk, OnlyReads, OnlyWrites, Result, SetsCounts, SpellsFile, Store, WritesFree, bucket_at, chain, contains_head, count_at, header_is, held, how_many, is_ok, kind_of, layout_is, link_free, lower_depth, merge_counts, set_counts, ways_are_short, write_free}
 use Rattle.step_rules.specs.declared.kind.Kind.TheVariants as kinds
 use Rattle.bucket_merge.specs.Words.{RecordKey, Range, Lock, Exclusive, Directory, Page, Table, row_of, PoolState, store_of, Quiet, Buried, Drained, Freed, Progress, HasNoFileLock, world, Joint, SetCounts, ReleaseRight, WriteFree, LinkFree, LowerDepth}
 use Rattle.bucket_merge.specs.Places.{MergeView, IsJoint, at, alone_on}
@@ -61,13 +61,13 @@ module _ (seat : ℕ) (pool : PoolState) (locks : Table) (v : MergeView) (r : Re
   pub counts : (j : Joint) → IsJoint j → v.place ≡ SetCounts j →
       GoesOn r did kinds.SetCounts v (at (ReleaseRight j) v) new →
       (IsTrue pool.honest → OnOk r (store_of pool'.images ≡ counted_store j)) →
-      (IsTrue pool.honest → IsFilePool pool → IsErr r → MayMergeCount j.whole.depth s →
-      HasRisen pool.faults pool'.faults) →
+      (IsTrue pool.honest → IsFilePool pool → MayMergeCount j.whole.depth s →
+      IfErr r (IsDevicesFault pool pool')) →
       MakesStep seat did v new pool pool' locks locks
   counts j is_joint is given becomes fault = goes_on seat pool locks v r did (SetCounts j) (ReleaseRight j)
       kinds.SetCounts pool' (counted_store j) new is given writes becomes spares (λ e. absurd cc) refl refl
       (λ before. refl)
-      (λ hash change sees err. fault sees.honest sees.file err
+      (λ hash change sees. fault sees.honest sees.file
       (may_merge_count hash pool.images j.left j.right j.whole
       (subst (IsSoundFile hash s) sees.known.0.1 sees.sound.file) sees.file.file))
       (λ hash change sees. omega arith)
@@ -97,12 +97,12 @@ module _ (seat : ℕ) (pool : PoolState) (locks : Table) (v : MergeView) (r : Re
 
   pub frees : (j : Joint) → v.place ≡ WriteFree j → GoesOn r did kinds.WriteFree v (at (LinkFree j.right) v) new →
       (IsTrue pool.honest → OnOk r (store_of pool'.images ≡ write_free j.right s)) →
-      (IsTrue pool.honest → IsFilePool pool → IsErr r → IsThere j.right s → HasRisen pool.faults pool'.faults) →
+      (IsTrue pool.honest → IsFilePool pool → IsThere j.right s → IfErr r (IsDevicesFault pool pool')) →
       MakesStep seat did v new pool pool' locks locks
   frees j is given becomes fault = goes_on seat pool locks v r did (WriteFree j) (LinkFree j.right)
       kinds.WriteFree pool' (write_free j.right s) new is given writes becomes spares (λ e. absurd cc) refl refl
       (λ before. refl)
-      (λ hash change sees err. fault sees.honest sees.file err
+      (λ hash change sees. fault sees.honest sees.file
       (owned_there hash pool.images (Drained j.left j.right) j.right
       (subst (IsSoundFile hash s) sees.known.0.1 sees.sound.file) (contains_head j.right [])))
       (λ hash change sees. omega arith)
@@ -120,12 +120,12 @@ module _ (seat : ℕ) (pool : PoolState) (locks : Table) (v : MergeView) (r : Re
 
   pub links : (page : ℕ) → v.place ≡ LinkFree page → GoesOn r did kinds.LinkFree v (at (LowerDepth page) v) new →
       (IsTrue pool.honest → OnOk r (store_of pool'.images ≡ link_free page s)) →
-      (IsTrue pool.honest → IsFilePool pool → IsErr r → HasRisen pool.faults pool'.faults) →
+      (IsTrue pool.honest → IsFilePool pool → IfErr r (IsDevicesFault pool pool')) →
       MakesStep seat did v new pool pool' locks locks
   links page is given becomes fault = goes_on seat pool locks v r did (LinkFree page) (LowerDepth page)
       kinds.LinkFree pool' (link_free page s) new is given writes becomes spares (λ e. absurd cc) refl refl
       (λ before. refl)
-      (λ hash change sees err. fault sees.honest sees.file err)
+      (λ hash change sees. fault sees.honest sees.file)
       (λ hash change sees.
       let greatest : s.layout.greatest ≡ 17 = ap (λ (l : Layout). l.greatest) (layout_is pool.images) in
       omega (arith, sees.sound.file.layout.depth, greatest))
@@ -144,13 +144,13 @@ module _ (seat : ℕ) (pool : PoolState) (locks : Table) (v : MergeView) (r : Re
       GoesOn r did kinds.LowerDepth v (at (LowerDepth page) v) new →
       (IsTrue pool.honest → s.header.depth ≡ depth) → 0 < depth → (IsTrue pool.honest → count_at s depth ≡ 0) →
       (IsTrue pool.honest → OnOk r (store_of pool'.images ≡ lower_depth s)) →
-      (IsTrue pool.honest → IsFilePool pool → IsErr r → HasRisen pool.faults pool'.faults) →
+      (IsTrue pool.honest → IsFilePool pool → IfErr r (IsDevicesFault pool pool')) →
       MakesStep seat did v new pool pool' locks locks
   lowers page depth is given deep some none becomes fault = goes_on seat pool locks v r did (LowerDepth page)
       (LowerDepth page) kinds.LowerDepth pool' (lower_depth s) new is given writes becomes spares (λ e. absurd cc)
       refl refl
       (λ before. refl)
-      (λ hash change sees err. fault sees.honest sees.file err)
+      (λ hash change sees. fault sees.honest sees.file)
       (λ hash change sees. omega (arith, deep sees.honest, some))
       (λ before bare row hash change sees keyed.
       let known = sees.known in
@@ -172,10 +172,6 @@ read_then_written fine pool middle pool' reads writes = record {
   later = omega (arith, reads.later, writes.later);
   file = λ honest done file. writes.file (reads.honest ∙ honest) done (reads.file honest refl file);
 }
-
-pub risen_later : (a b c : ℕ) → a ≤ b → HasRisen b c → HasRisen a c
-risen_later a b c later (inl more) = inl (omega (arith, later, more))
-risen_later a b c later (inr most) = inr most
 
 -- what is so of the store before a read is so behind it
 pub ok_through : (r : Result Unit FileFault) (P Q : Type 0) → (P → Q) → OnOk r P → OnOk r Q

@@ -1,6 +1,6 @@
 -- The steps of a merge that write pages: up to the counts.
 use Rattle.std.proofs.Common.{◌≡◌, ◌⊎◌, refl, sym, ap, ◌∙◌, subst, ℕ, suc, ◌+◌, ◌-◌, ◌*◌, ◌^◌, ◌<◌, ◌≤◌, nat_lt, Bool, true, false, List, [], ◌∷◌, length, slice_index_or, if◌then◌else◌, arith, inl, inr}
-use Rattle.bucket_merge.proofs.Names.{All, All-head, All-tail, AllKnown, AreHalvesOf, AreJoinable, Bucket, Contains, FileFault, HasRisen, IsBucketOf, IsErr, IsFilePool, IsPlaced, IsRetargetedBefore, IsSoundFile, IsThere, IsTrue, MayJoin, MayRetarget, OnErr, OnOk, OnlyWrites, PSEUDOKEY_BITS, Pair, Result, Retargets, ShareNoKey, Store, World, WritesLeft, WritesTombstone, absent_elsewhere, bucket_at, cases_Bool, chain, contains_head, halves_apart, is_ok, kind_of, layout_is, ltb-false, may_write, numbered, owned, pages_are, parent_valid, pow_mono, range_of, record_bytes, retarget, retargets_on, target_of, used_on, write_left, write_tombstone}
+use Rattle.bucket_merge.proofs.Names.{All, All-head, All-tail, AllKnown, AreHalvesOf, AreJoinable, Bucket, Contains, FileFault, IfErr, IsBucketOf, IsDevicesFault, IsFilePool, IsPlaced, IsRetargetedBefore, IsSoundFile, IsThere, IsTrue, MayJoin, MayRetarget, OnErr, OnOk, OnlyWrites, PSEUDOKEY_BITS, Pair, Result, Retargets, ShareNoKey, Store, World, WritesLeft, WritesTombstone, absent_elsewhere, bucket_at, cases_Bool, chain, contains_head, halves_apart, is_ok, kind_of, layout_is, ltb-false, may_write, numbered, owned, pages_are, parent_valid, pow_mono, range_of, record_bytes, retarget, retargets_on, target_of, used_on, write_left, write_tombstone}
 use Rattle.step_rules.specs.declared.kind.Kind.TheVariants as kinds
 use Rattle.bucket_merge.specs.Words.{RecordKey, Range, Covers, IsRange, is_lower, parent_of, upper_half_of, MERGED_BYTES, ROOT_PAGE, page_of, Lock, Directory, Page, Table, row_of, PoolState, store_of, Change, Absorbed, Buried, Progress, ApproachView, Sees, world, Seen, Buddies, Joint, MergePlace, WriteLeft, Tombstone, Retarget, SetCounts}
 use Rattle.bucket_merge.specs.Places.{MergeView, AreBuddies, IsJoint, HasEntry, at, own_of, joint_of, first_entry, entry_behind, stride_of, retargets_from, locks_at, on_both, is_given_up}
@@ -183,13 +183,13 @@ module _ (seat : ℕ) (pool : PoolState) (locks : Table) (v : MergeView) (r : Re
 
     pub joins : v.place ≡ here_at → GoesOn r did kinds.WriteLeft v (at (Tombstone (joint_of b)) v) new →
         (IsTrue pool.honest → OnOk r (store_of pool'.images ≡ joined_store)) →
-        (IsTrue pool.honest → IsFilePool pool → IsErr r → MayJoin b.left b.right s →
-        HasRisen pool.faults pool'.faults) →
+        (IsTrue pool.honest → IsFilePool pool → MayJoin b.left b.right s →
+        IfErr r (IsDevicesFault pool pool')) →
         MakesStep seat did v new pool pool' locks locks
     joins is given becomes fault = goes_on seat pool locks v r did here_at (Tombstone (joint_of b))
         kinds.WriteLeft pool'
         joined_store new is given writes becomes spares (λ e. absurd cc) refl refl (λ before. refl)
-        (λ hash change sees err. fault sees.honest sees.file err (may_join hash change sees))
+        (λ hash change sees. fault sees.honest sees.file (may_join hash change sees))
         (λ hash change sees. omega arith)
         (λ before bare row hash change sees keyed. writes_both hash change sees keyed)
 
@@ -203,12 +203,12 @@ module _ (seat : ℕ) (pool : PoolState) (locks : Table) (v : MergeView) (r : Re
 
     pub buries : v.place ≡ Tombstone j → GoesOn r did kinds.Tombstone v (at (retargets_from j (first_entry j)) v) new →
         (IsTrue pool.honest → OnOk r (store_of pool'.images ≡ buried_store)) →
-        (IsTrue pool.honest → IsFilePool pool → IsErr r → IsThere j.right s → HasRisen pool.faults pool'.faults) →
+        (IsTrue pool.honest → IsFilePool pool → IsThere j.right s → IfErr r (IsDevicesFault pool pool')) →
         MakesStep seat did v new pool pool' locks locks
     buries is given becomes fault = goes_on seat pool locks v r did (Tombstone j) (retargets_from j (first_entry j))
         kinds.Tombstone pool' buried_store new is given writes becomes spares (λ e. absurd cc) refl
         (onward_not_up j (first_entry j) v.approach) (onward_locks j (first_entry j) v.approach)
-        (λ hash change sees err. fault sees.honest sees.file err
+        (λ hash change sees. fault sees.honest sees.file
         (owned_there hash pool.images (Absorbed j.left j.right j.whole) j.right
         (subst (IsSoundFile hash s) sees.known.0.1 sees.sound.file) (contains_head j.right [])))
         (λ hash change sees. onward_left j (first_entry j) v.approach buried_store 283 (omega arith) (omega arith))
@@ -281,17 +281,17 @@ module _ (seat : ℕ) (pool : PoolState) (locks : Table) (v : MergeView) (r : Re
       pub names_left : v.place ≡ Retarget j entry →
           GoesOn r did kinds.Retarget v (at (retargets_from j (entry_behind j entry)) v) new →
           (IsTrue pool.honest → OnOk r (store_of pool'.images ≡ named_store)) →
-          (IsTrue pool.honest → IsFilePool pool → IsErr r → MayRetarget (page_of entry) upper →
-          HasRisen pool.faults pool'.faults) →
+          (IsTrue pool.honest → IsFilePool pool → MayRetarget (page_of entry) upper →
+          IfErr r (IsDevicesFault pool pool')) →
           MakesStep seat did v new pool pool' locks locks
       names_left is given becomes fault =
           let within : page_of entry < 257 = page_within entry j.depth is_joint.depth has.below in
           goes_on seat pool locks v r did (Retarget j entry) (retargets_from j (entry_behind j entry))
           kinds.Retarget pool' named_store new is given writes becomes spares (λ e. absurd cc) refl
           (onward_not_up j (entry_behind j entry) v.approach) (onward_locks j (entry_behind j entry) v.approach)
-          (λ hash change sees err.
+          (λ hash change sees.
           let file = subst (IsSoundFile hash s) sees.known.0.1 sees.sound.file in
-          fault sees.honest sees.file err (record {
+          fault sees.honest sees.file (record {
             first = omega arith;
             last = omega (arith, within);
             shallow = omega (arith, file.phase.shallow, sees.known.1.0.1, is_joint.depth);

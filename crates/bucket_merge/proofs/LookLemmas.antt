@@ -1,6 +1,6 @@
 -- The steps that read the two buckets.
 use Rattle.std.proofs.Common.{◌≡◌, refl, sym, ap, ◌∙◌, subst, ℕ, ◌%◌, ◌^◌, ◌≤◌, true, false, List, [], Some, arith}
-use Rattle.bucket_merge.proofs.Names.{AllKnown, ApproachPlace, At, BucketSight, FileFault, HasRisen, HasShape, IsBucketOf, IsFilePool, IsHeld-some, IsKnown, IsSeen, IsSoundWorld, IsTrue, IsWhole, OnlyReads, approach_facts_at, approach_locks_at, buddy_is_other_half, chain_valid, entry_at, entry_is_bucket, kind_of, lower_buddies, may_write, page_at}
+use Rattle.bucket_merge.proofs.Names.{AllKnown, ApproachPlace, At, BucketSight, FileFault, HasShape, IsBucketOf, IsDevicesFault, IsFilePool, IsHeld-some, IsKnown, IsSeen, IsSoundWorld, IsTrue, IsWhole, OnlyReads, approach_facts_at, approach_locks_at, buddy_is_other_half, chain_valid, entry_at, entry_is_bucket, kind_of, lower_buddies, may_write, page_at}
 use Rattle.step_rules.specs.declared.kind.Kind.TheVariants as kinds
 use Rattle.bucket_merge.specs.Words.{RecordKey, Range, IsRange, is_lower, buddy_of, lower_half_of, parent_of, Lock, Selective, Directory, Page, Table, row_of, PoolState, store_of, Change, Moved, Fault, Built, BucketOf, ApproachView, HasNoFileLock, EndsRow, world, Own, MergePlace, Approaching, ReadBuddy, GrantRight, GiveBack, GiveUp}
 use Rattle.bucket_merge.specs.Places.{MergeView, IsOwn, HasMergeRow, beside, locks_at, on_one}
@@ -36,7 +36,7 @@ module _ (seat : ℕ) (key : RecordKey) (a : ApproachView) (pool pool' : PoolSta
         ∙ page_held before bare Selective Selective page
 
     pub own_not_read : (fault : FileFault) → OnlyReads false pool pool' →
-        (IsTrue pool.honest → IsFilePool pool → IsLivePage pool.images page → HasRisen pool.faults pool'.faults) →
+        (IsTrue pool.honest → IsFilePool pool → IsLivePage pool.images page → IsDevicesFault pool pool' fault) →
         MakesStep seat (Fault fault) (at_place Approaching) (at_place Approaching) pool pool' locks locks
     own_not_read fault reads risen = faulted seat key a pool locks Approaching fault pool'
         (read_only false pool pool' reads) reads.images refl
@@ -56,7 +56,7 @@ module _ (seat : ℕ) (key : RecordKey) (a : ApproachView) (pool pool' : PoolSta
           (at_bucket change sees.known).1.1.0.1.0))))
 
       pub own_is_whole : sight.depth ≡ 0 →
-          MakesStep {F = FileFault} seat (Moved kinds.Look) (at_place Approaching) (at_place (GiveUp page)) pool pool'
+          MakesStep seat (Moved kinds.Look) (at_place Approaching) (at_place (GiveUp page)) pool pool'
           locks locks
       own_is_whole none = read seat key a pool locks Approaching (GiveUp page) kinds.Look pool' reads refl on_bucket
           (λ hash change sees. ((at_bucket change sees.known).0, tt))
@@ -82,7 +82,7 @@ module _ (seat : ℕ) (key : RecordKey) (a : ApproachView) (pool pool' : PoolSta
       }
 
       pub own_seen : HasMergeRow (at_place Approaching) (row_of locks seat) →
-          MakesStep {F = FileFault} seat (Moved kinds.Look) (at_place Approaching) (at_place (ReadBuddy own)) pool pool'
+          MakesStep seat (Moved kinds.Look) (at_place Approaching) (at_place (ReadBuddy own)) pool pool'
           locks locks
       own_seen r = read seat key a pool locks Approaching (ReadBuddy own) kinds.Look pool' reads refl on_bucket
           (λ hash change sees.
@@ -125,7 +125,7 @@ module _ (seat : ℕ) (key : RecordKey) (a : ApproachView) (pool pool' : PoolSta
         ∙ directory_beside before bare Selective Selective o.page
 
     pub buddy_not_read : (fault : FileFault) → OnlyReads false pool pool' →
-        (IsTrue pool.honest → IsFilePool pool → HasRisen pool.faults pool'.faults) →
+        (IsTrue pool.honest → IsFilePool pool → IsDevicesFault pool pool' fault) →
         MakesStep seat (Fault fault) (at_place (ReadBuddy o)) (at_place (ReadBuddy o)) pool pool' locks locks
     buddy_not_read fault reads risen = faulted seat key a pool locks (ReadBuddy o) fault pool'
         (read_only false pool pool' reads) reads.images refl (λ hash change sees. risen sees.honest sees.file)
@@ -158,7 +158,7 @@ module _ (seat : ℕ) (key : RecordKey) (a : ApproachView) (pool pool' : PoolSta
           (λ hash change sees. absurd (not_itself hash change sees.honest sees.sound sees.known same))
 
       pub own_is_left : is_lower o.range ≡ true →
-          MakesStep {F = FileFault} seat (Moved kinds.ReadEntry) (at_place (ReadBuddy o))
+          MakesStep seat (Moved kinds.ReadEntry) (at_place (ReadBuddy o))
           (at_place (GrantRight (beside o o.page buddy) o.seen)) pool pool' locks locks
       own_is_left low = read seat key a pool locks (ReadBuddy o) (GrantRight (beside o o.page buddy) o.seen)
           kinds.ReadEntry pool' reads refl (λ before. refl)
@@ -193,7 +193,7 @@ module _ (seat : ℕ) (key : RecordKey) (a : ApproachView) (pool pool' : PoolSta
           (λ hash change sees keyed given up. absurd cc)
 
       pub own_is_right : is_lower o.range ≡ false →
-          MakesStep {F = FileFault} seat (Moved kinds.ReadEntry) (at_place (ReadBuddy o))
+          MakesStep seat (Moved kinds.ReadEntry) (at_place (ReadBuddy o))
           (at_place (GiveBack (beside o buddy o.page))) pool pool' locks locks
       own_is_right high = read seat key a pool locks (ReadBuddy o) (GiveBack (beside o buddy o.page))
           kinds.ReadEntry pool' reads refl (λ before. refl)

@@ -1,6 +1,6 @@
 -- The steps of a merge, one lemma for each way in which a place is left.
 use Rattle.std.proofs.Common.{◌≡◌, refl, sym, ap, ◌∙◌, subst, ℕ, ◌<◌, Bool, true, false, List, [], ◌∷◌, ◌++◌, Option, Some, None, length, arith}
-use Rattle.bucket_merge.proofs.Names.{AllAnchored, AllKnown, AllKnown-relocked, Contains, DoesTied, FileFault, HasRisen, IsDone, IsHeld-some, IsOpposed, IsReached, IsReady, IsSeat, IsTrue, KeepsContents, KeepsOthers, KeepsOthers-same, Kind, MAX_LOCKS, MayBeGranted, OnlyReads, OnlyWrites, Releases, Remove, StandsInWay, busy, held, is_of_its_kind, kind_keeps, kind_keeps_contents, kind_of, lock_of, row_of-same, true≢false, turn_keeps, with_lock, with_row-own, without, without_lock}
+use Rattle.bucket_merge.proofs.Names.{AllAnchored, AllKnown, AllKnown-relocked, Contains, DoesTied, FileFault, IsDevicesFault, IsDone, IsHeld-some, IsOpposed, IsReached, IsReady, IsSeat, IsTrue, KeepsContents, KeepsOthers, KeepsOthers-same, Kind, MAX_LOCKS, MayBeGranted, OnlyReads, OnlyWrites, Releases, Remove, StandsInWay, busy, held, is_of_its_kind, kind_keeps, kind_keeps_contents, kind_of, lock_of, row_of-same, true≢false, turn_keeps, with_lock, with_row-own, without, without_lock}
 use Rattle.step_rules.specs.declared.kind.Kind.TheVariants as kinds
 use Rattle.stale_search.proofs.StepLemmas.{granted as granted_lock, read as read_page}
 use Rattle.bucket_merge.specs.Words.{RecordKey, Lock, LockKind, LockName, Directory, Page, Table, row_of, with_row, PoolState, store_of, Store, Change, Moved, Blocked, Fault, Ended, World, Ask, ForLock, ApproachView, HasNoFileLock, Sees, world, MergePlace}
@@ -75,7 +75,7 @@ module _ (seat : ℕ) (key : RecordKey) (a : ApproachView) (pool : PoolState) (l
   -- another seat stands in the way
   pub blocked : (place : MergePlace) (ask : Ask) (other : ℕ) → ask_at place a ≡ Some ask → is_done place ≡ false →
       IsReady pool → ((change : Change) → StandsInWay (Some ask) seat other (was change)) →
-      MakesStep {F = FileFault} seat (Blocked other) (view_at place) (view_at place) pool pool locks locks
+      MakesStep seat (Blocked other) (view_at place) (view_at place) pool pool locks locks
   blocked place ask other asked going ready stands = record {
     writes = record { writes = nothing_written pool ready; spares = λ f. absurd cc };
     aim = record {
@@ -110,7 +110,7 @@ module _ (seat : ℕ) (key : RecordKey) (a : ApproachView) (pool : PoolState) (l
       IfSeen place (λ hash change. IsReached (was change) page) →
       IfSeen place (λ hash change. MayBeGranted (Page page) kind seat (was change)) →
       ((s : Store) → left_at place' a s < left_at place a s) →
-      MakesStep {F = FileFault} seat (Moved kinds.Grant) (view_at place) (view_at place') pool pool locks locks'
+      MakesStep seat (Moved kinds.Grant) (view_at place) (view_at place') pool pool locks locks'
   granted place place' page kind locks' asked going on facts ends ready seated room fresh nobody is reached may
       falls = record {
         writes = record { writes = nothing_written pool ready; spares = λ f. absurd cc };
@@ -141,7 +141,7 @@ module _ (seat : ℕ) (key : RecordKey) (a : ApproachView) (pool : PoolState) (l
       ((s s' : Store) → left_at place' a s' < left_at place a s) →
       IfSeen place (λ hash change. hash key ≡ a.pseudokey →
       TurnsAwayAt hash seat (view_at place) (view_at place') (was change)) →
-      MakesStep {F = FileFault} seat (Moved kind) (view_at place) (view_at place') pool pool' locks locks
+      MakesStep seat (Moved kind) (view_at place) (view_at place') pool pool' locks locks
   read place place' kind pool' reads going same known does falls turns = record {
     writes = record { writes = read_only true pool pool' reads; spares = λ f. absurd cc };
     aim = moved_aim place place' kind going;
@@ -160,7 +160,7 @@ module _ (seat : ℕ) (key : RecordKey) (a : ApproachView) (pool : PoolState) (l
   -- the device failed
   pub faulted : (place : MergePlace) (fault : FileFault) (pool' : PoolState) → OnlyWrites false pool pool' →
       (IsTrue pool.honest → pool'.images ≡ pool.images) → is_done place ≡ false →
-      IfSeen place (λ hash change. HasRisen pool.faults pool'.faults) →
+      IfSeen place (λ hash change. IsDevicesFault pool pool' fault) →
       MakesStep seat (Fault fault) (view_at place) (view_at place) pool pool' locks locks
   faulted place fault pool' writes spares going risen = record {
     writes = record { writes = writes; spares = λ f honest. spares honest };
@@ -192,7 +192,7 @@ module _ (seat : ℕ) (key : RecordKey) (a : ApproachView) (pool : PoolState) (l
       IfSeen place (λ hash change. left_at place' a t < left_at place a (store_of pool.images)) →
       ((before : List Lock) → HasNoFileLock before → row_of locks seat ≡ locks_at place a before →
       IfSeen place (λ hash change. hash key ≡ a.pseudokey → IsWritten hash change place place' kind t)) →
-      MakesStep {F = FileFault} seat (Moved kind) (view_at place) (view_at place') pool pool' locks locks
+      MakesStep seat (Moved kind) (view_at place) (view_at place') pool pool' locks locks
   wrote place place' kind pool' t writes becomes other going on same falls written = record {
     writes = record { writes = writes; spares = λ f. absurd cc };
     aim = moved_aim place place' kind going;
@@ -232,7 +232,7 @@ module _ (seat : ℕ) (key : RecordKey) (a : ApproachView) (pool : PoolState) (l
       IfSeen place (λ hash change. AllKnown seat (was change) (facts_at place' a)) →
       ((before : List Lock) → HasNoFileLock before → AllAnchored (locks_at place' a before) (facts_at place' a)) →
       IfSeen place (λ hash change. left_at place' a (store_of pool'.images) < left_at place a (store_of pool.images)) →
-      MakesStep {F = FileFault} seat (Moved kinds.Release) (view_at place) (view_at place') pool pool' locks locks'
+      MakesStep seat (Moved kinds.Release) (view_at place) (view_at place') pool pool' locks locks'
   released place place' name kind pool' locks' reads going up ends fresh seated is idle done known anchored falls
       = record {
         writes = record { writes = read_only true pool pool' reads; spares = λ f. absurd cc };
@@ -278,7 +278,7 @@ module _ (seat : ℕ) (key : RecordKey) (a : ApproachView) (pool : PoolState) (l
 
   -- it had ended
   pub ended : (place : MergePlace) → is_done place ≡ true → IsReady pool →
-      MakesStep {F = FileFault} seat Ended (view_at place) (view_at place) pool pool locks locks
+      MakesStep seat Ended (view_at place) (view_at place) pool pool locks locks
   ended place done ready = record {
     writes = record { writes = nothing_written pool ready; spares = λ f. absurd cc };
     aim = record { key = refl; pseudokey = refl; ended = (λ e. done, λ d. refl); stays = refl };

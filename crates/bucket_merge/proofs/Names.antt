@@ -6,6 +6,7 @@ pub use Rattle.directory.specs.declared.header.Header.{Header}
 pub use Rattle.file_pages.proofs.StoreLemmas.{header_is, layout_is, pages_are}
 pub use Rattle.file_pages.specs.Buckets.{AreJoinable, IsThere, MayJoin}
 pub use Rattle.file_pages.specs.Entries.{MayRetarget}
+pub use Rattle.file_pages.specs.Fault.{IsDevicesFault}
 pub use Rattle.file_pages.specs.Files.{IsFilePool, IsReady, SpellsFile}
 pub use Rattle.file_pages.specs.Headers.{MayMergeCount}
 pub use Rattle.file_pages.specs.Reads.{IsSeen, OnlyReads}
@@ -23,7 +24,6 @@ pub use Rattle.hash_file.specs.Changes.{Remove, link_free, lower_depth, merge_co
 pub use Rattle.hash_file.specs.Kept.{KeepsContents}
 pub use Rattle.hash_file.specs.Sound.{IsSoundFile}
 pub use Rattle.hash_file.specs.Store.{Layout, Store, bucket_at, count_at, entry_at, page_at, range_of}
-pub use Rattle.page_device.specs.Device.{HasRisen}
 pub use Rattle.page_device.specs.declared.page.TheConstants.{MAX_PAGES}
 pub use Rattle.page_locks.proofs.ChangeLemmas.{with_row-own}
 pub use Rattle.page_locks.proofs.TableLemmas.{row_of-same}
@@ -45,7 +45,7 @@ pub use Rattle.std.proofs.lemmas.Bool.{cases_Bool, ltb-false, true≢false}
 pub use Rattle.std.proofs.lemmas.List.{length_push}
 pub use Rattle.std.proofs.lemmas.List.Elements.{All-head, All-tail}
 pub use Rattle.std.specs.List.{All, Contains}
-pub use Rattle.std.specs.Prelude.{Err, IsErr, IsTrue, Ok, OnErr, OnOk, Result, is_ok}
+pub use Rattle.std.specs.Prelude.{Err, IfErr, IsTrue, Ok, OnErr, OnOk, Result, is_ok}
 pub use Rattle.step_rules.proofs.BuddyLemmas.{buddy_is_other_half}
 pub use Rattle.step_rules.proofs.FallLemmas.{retargets_on}
 pub use Rattle.step_rules.proofs.KindLemmas.{kind_keeps, kind_keeps_contents}

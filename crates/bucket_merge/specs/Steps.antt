@@ -1,5 +1,6 @@
 -- What a step of a merge does. docs/STEPS.md, "Merge".
-use Rattle.std.specs.Prelude.{ℕ, ◌≡◌, ◌↔◌, true, false, not, IsTrue, List, Result, Ok, Err}
+use Rattle.std.specs.Prelude.{ℕ, ◌≡◌, ◌↔◌, true, false, List, Result, Ok, Err}
+use Rattle.file_pages.specs.declared.fault.FileFault.{FileFault}
 use Rattle.page_locks.specs.Table.{with_lock, with_kind, Opposes, IsOpposed}
 use Rattle.stale_search.specs.Steps.{Stays, WritesOrSpares}
 use Rattle.step_rules.specs.Turns.{is_fault}
@@ -19,7 +20,7 @@ pub record KeepsAim {F : Type 0} (did : Progress F) (old new : MergeView) : Type
   pub stays : Stays did old new
 
 -- a move brings the end nearer, and a fault is the device's
-abbrev pub Progresses : {F : Type 0} → Progress F → MergeView → MergeView → PoolState → PoolState → Type 0
+abbrev pub Progresses : Progress FileFault → MergeView → MergeView → PoolState → PoolState → Type 0
 Progresses did old new pool pool' =
     Nears did (steps_left old (store_of pool.images)) (steps_left new (store_of pool'.images)) pool pool'
 
@@ -35,7 +36,7 @@ TurnsAwayAt hash seat old new w =
     is_given_up old.place ≡ false → is_given_up new.place ≡ true → TurnsAway hash old.key seat w
 
 -- one step of a merge
-pub record MakesStep {F : Type 0} (seat : ℕ) (did : Progress F) (old new : MergeView) (pool pool' : PoolState)
+pub record MakesStep (seat : ℕ) (did : Progress FileFault) (old new : MergeView) (pool pool' : PoolState)
     (locks locks' : Table) : Type 0 where
   -- whatever the device gives
   pub writes : WritesOrSpares did pool pool'
@@ -79,6 +80,6 @@ GoesOn (Ok _) did kind old next new = (did ≡ Moved kind) × (new ≡ next)
 GoesOn (Err fault) did kind old next new = (did ≡ Fault fault) × (new ≡ old)
 
 -- a step that leaves the locks, whatever they are
-abbrev pub MakesStepHere : {F : Type 0} → Progress F → (old new : MergeView) → (pool pool' : PoolState) → Type 0
+abbrev pub MakesStepHere : Progress FileFault → (old new : MergeView) → (pool pool' : PoolState) → Type 0
 MakesStepHere did old new pool pool' = (seat : ℕ) (locks : Table) → HasMergeRow old (row_of locks seat) →
     MakesStep seat did old new pool pool' locks locks

@@ -1,7 +1,6 @@
 -- A header that was read, changed and written.
-use Rattle.std.proofs.Common.{◌≡◌, ◌∙◌, refl, sym, ap, subst, ℕ, ◌≤◌, List, IsTrue, Result, Ok, Err, IsErr, IfOk, OnOk, OnErr, true}
+use Rattle.std.proofs.Common.{◌≡◌, ◌∙◌, sym, ap, subst, ℕ, ◌≤◌, List, IsTrue, Result, Ok, Err, IfOk, OnOk, OnErr, true}
 use Rattle.std.proofs.Common.{◌+◌, ◌-◌, ◌<◌, length, suc, arith, slice_index, slice_set, Option, Some, None, IfNone}
-use Rattle.page_device.specs.Device.{HasRisen}
 use Rattle.buffer_pool.specs.Pool.{PoolState}
 use Rattle.directory.specs.declared.header.Header.{Header}
 use Rattle.bucket_page.specs.declared.page.PageKind.{PageKind}
@@ -9,12 +8,11 @@ use Rattle.bucket_page.specs.declared.page.PageKind.TheVariants as kinds
 use Rattle.hash_file.specs.Store.{IsFreePage, Store, bucket_of, next_at, page_at}
 use Rattle.hash_file.specs.Changes.{merge_counts, split_counts, with_header}
 use Rattle.file_pages.specs.declared.fault.FileFault.{FileFault}
-use Rattle.file_pages.specs.Files.{IsFilePool, store_of}
+use Rattle.file_pages.specs.Files.{store_of}
 use Rattle.directory.specs.declared.layout.TheConstants.{ROOT_PAGE}
 use Rattle.file_pages.specs.Headers.{HasFreePage}
 use Rattle.file_pages.specs.Reads.{OnlyReads}
 use Rattle.file_pages.proofs.StoreLemmas.{pages_are}
-use Rattle.file_pages.proofs.ReadLemmas.{risen_after}
 
 -- the header that was read is the file's, so what is written is the change of the file's
 pub header_changed : {T E : Type 0} (r : Result T E) (s t v : PoolState) (header changed : Header)
@@ -32,13 +30,6 @@ pub nothing_changed : {T E : Type 0} (r : Result T E) (s t v : PoolState) → Is
     → (IsTrue t.honest → OnErr r (v.images ≡ t.images)) → OnErr r (v.images ≡ s.images)
 nothing_changed (Ok value) s t v honest reads same = tt
 nothing_changed (Err fault) s t v honest reads same = same (reads.honest ∙ honest) ∙ reads.images honest
-
--- why a write behind a read fails
-pub fails_after : {T E : Type 0} (r : Result T E) (s t v : PoolState) → IsTrue s.honest → IsFilePool s
-    → OnlyReads true s t
-    → (IsTrue t.honest → IsFilePool t → IsErr r → HasRisen t.faults v.faults) → IsErr r → HasRisen s.faults v.faults
-fails_after r s t v honest file reads fault failed =
-    risen_after reads.later (fault (reads.honest ∙ honest) (reads.file honest refl file) failed)
 
 -- what a free page names is what follows it
 pub next_is : (s : Store) (page : ℕ) {read : PageKind} (r : Result ℕ FileFault) → page_at s page ≡ read

@@ -1,5 +1,5 @@
 -- A page made of others, and stored.
-use Rattle.std.proofs.Common.{◌≡◌, ◌∙◌, refl, sym, ap, subst, ℕ, ◌<◌, ◌≤◌, List, length, arith, true, IsTrue, Result, Ok, Err, IsErr, IfOk, OnOk}
+use Rattle.std.proofs.Common.{◌≡◌, ◌∙◌, sym, ap, subst, ℕ, ◌<◌, ◌≤◌, List, length, arith, true, IsTrue, Result, Ok, Err, IfErr, IfOk, OnOk}
 use Rattle.bucket_page.specs.declared.page.PageKind.{PageKind}
 use Rattle.bucket_page.specs.declared.page.PageKind.TheVariants as kinds
 use Rattle.bucket_page.specs.Bucket.{Bucket}
@@ -13,12 +13,12 @@ use Rattle.directory.specs.declared.layout.TheConstants.{ROOT_PAGE}
 use Rattle.hash_file.specs.Changes.{with_page}
 use Rattle.file_pages.specs.declared.fault.FileFault.{FileFault}
 use Rattle.file_pages.specs.Buckets.{AreJoinable, IsThere}
+use Rattle.file_pages.specs.Fault.{IsDevicesFault}
 use Rattle.file_pages.specs.Files.{SpellsFile, IsFilePool, image, store_of}
 use Rattle.file_pages.specs.Reads.{OnlyReads}
 use Rattle.file_pages.specs.Writes.{IsBucketThere}
-use Rattle.page_device.specs.Device.{HasRisen}
 use Rattle.hash_file.specs.Store.{Store, bucket_at, bucket_of, is_bucket}
-use Rattle.file_pages.proofs.ReadLemmas.{bucket_spelled, risen_after}
+use Rattle.file_pages.proofs.ReadLemmas.{bucket_spelled, fails_after}
 use Rattle.file_pages.proofs.StoreLemmas.{page_is as stored_page_is, pages_are}
 
 pub there_is : (images : List (List ℕ)) (page : ℕ) → IsThere page (store_of images) → page < length images
@@ -51,12 +51,12 @@ pub there_of : {page : ℕ} {s : Store} → IsBucketThere page s → IsThere pag
 there_of there = record { behind = there.behind; within = there.within }
 
 -- why a page that was made behind a read is not stored
-pub fails_to_store : {T E : Type 0} (r : Result T E) (s t v : PoolState) {page : ℕ} → IsTrue s.honest → IsFilePool s
-    → OnlyReads true s t → IsThere page (store_of s.images)
-    → (IsTrue t.honest → IsFilePool t → IsErr r → IsThere page (store_of t.images) → HasRisen t.faults v.faults)
-    → IsErr r → HasRisen s.faults v.faults
-fails_to_store r s t v {page} honest file reads there fault failed =
-    risen_after reads.later (fault (reads.honest ∙ honest) (reads.file honest refl file) failed
+pub fails_to_store : {T : Type 0} (r : Result T FileFault) (s t v : PoolState) {page : ℕ} → IsTrue s.honest
+    → IsFilePool s → OnlyReads true s t → IsThere page (store_of s.images)
+    → (IsTrue t.honest → IsFilePool t → IsThere page (store_of t.images) → IfErr r (IsDevicesFault t v))
+    → IfErr r (IsDevicesFault s v)
+fails_to_store r s t v {page} honest file reads there fault =
+    fails_after r s t v honest file reads (λ honest' file'. fault honest' file'
     (subst (λ (images : List (List ℕ)). IsThere page (store_of images)) (sym (reads.images honest)) there))
 
 -- a page that was made of nothing, and stored

@@ -1,11 +1,13 @@
 -- A page that is pinned, read and given back: what the pool is then, and why it was not pinned.
 use Rattle.std.proofs.Common.{◌≡◌, refl, ◌∙◌, sym, ap, subst, ℕ, zero, suc, ◌-◌, ◌<◌, ◌≤◌, List, [], Bool, true, IsTrue, Option, Some}
-use Rattle.std.proofs.Common.{length, arith, slice_get, slice_set, Result, Ok, Err, IsErrOf, IfOk, ◌⊎◌, inl, inr}
+use Rattle.std.proofs.Common.{length, arith, slice_get, slice_set, Result, Ok, Err, IsErr, IsErrAnd, IsErrOf, IfErr, IfOk, ◌⊎◌, inl, inr}
 use Rattle.file_pages.proofs.Names.{Bucket, DIRECTORY_PAGES, Device, HasRisen, IsBucketPage, IsCrowded, IsWell, KeepsSeals, Malformed, MayNotPin, NoMemory, PageKind, PoolFault, PoolState, ROOT_PAGE, RecordKey, Spells, TooFewFrames, bucket_again, bucket_in, bucket_of, cases_lt, count_none, directory_well, entries_at, get_or_from_slice_get, is_bucket, lookup, page_at, page_in, page_is, pins_at, records_in, rest_again}
 use Rattle.page_device.specs.declared.fault.DeviceFault.TheVariants as device
 use Rattle.bucket_page.specs.declared.page.PageKind.TheVariants as kinds
 use Rattle.file_pages.specs.declared.fault.FileFault.{FileFault}
+use Rattle.file_pages.specs.declared.fault.FileFault.TheVariants.{Pool}
 use Rattle.file_pages.specs.declared.sight.BucketSight.{BucketSight}
+use Rattle.file_pages.specs.Fault.{IsDevicesFault}
 use Rattle.file_pages.specs.Files.{store_of, image, SpellsFile, IsFilePool, IsReady}
 use Rattle.file_pages.specs.Pinning.{IsPinned}
 use Rattle.file_pages.proofs.StoreLemmas.{page_is as stored_page_is}
@@ -68,24 +70,28 @@ is_well images file (suc n) within = at (cases_lt n DIRECTORY_PAGES)
     at (inr behind) = inl (file.spelled (suc n) (omega arith) within)
 
 -- a page of a file is not pinned only where the device failed
-pub pin_fails : {T : Type 0} (fault : PoolFault) (s : PoolState) (new page : ℕ) → IsTrue s.honest → IsFilePool s
+pub pin_fails : {T : Type 0} (fault : PoolFault) (s t : PoolState) (page : ℕ) → IsTrue s.honest → IsFilePool s
     → IsReady s →
     page < length s.images →
     (IsErrOf {T = T} (Err fault) (Device device.PastEnd) → length s.images ≤ page) →
     (IsErrOf {T = T} (Err fault) TooFewFrames → IsCrowded page s) → MayNotPin page s fault →
-    (IsErrOf {T = T} (Err fault) (Device device.Device) → HasRisen s.faults new) → HasRisen s.faults new
-pin_fails (Device device.Device) s new page honest f ready within past crowded told failed = failed refl
-pin_fails (Device device.BadDigest) s new page honest f ready within past crowded told failed =
+    (IsErrOf {T = T} (Err fault) (Device device.Device) → HasRisen s.faults t.faults)
+    → IsDevicesFault s t (Pool fault)
+pin_fails (Device device.Device) s t page honest f ready within past crowded told failed = record {
+  risen = failed refl;
+  told = refl;
+}
+pin_fails (Device device.BadDigest) s t page honest f ready within past crowded told failed =
     absurd (told honest (f.sealed page within))
-pin_fails (Device device.PastEnd) s new page honest f ready within past crowded told failed =
+pin_fails (Device device.PastEnd) s t page honest f ready within past crowded told failed =
     absurd (omega (arith, past refl, within))
-pin_fails (Device device.DeviceFull) s new page honest f ready within past crowded told failed = absurd told
-pin_fails (Device device.NoMemory) s new page honest f ready within past crowded told failed = absurd told
-pin_fails Malformed s new page honest f ready within past crowded told failed =
+pin_fails (Device device.DeviceFull) s t page honest f ready within past crowded told failed = absurd told
+pin_fails (Device device.NoMemory) s t page honest f ready within past crowded told failed = absurd told
+pin_fails Malformed s t page honest f ready within past crowded told failed =
     absurd (told honest (is_well s.images f.file page within))
-pin_fails TooFewFrames s new page honest f ready within past crowded told failed =
+pin_fails TooFewFrames s t page honest f ready within past crowded told failed =
     absurd (omega (arith, (crowded refl).all_pinned, count_none s.pins ready.rest, ready.frames))
-pin_fails NoMemory s new page honest f ready within past crowded told failed = absurd told
+pin_fails NoMemory s t page honest f ready within past crowded told failed = absurd told
 
 -- ---- what is seen of a page
 
@@ -121,10 +127,32 @@ copied_of (Err fault) bytes p key old new was it said = tt
 
 -- ---- one step behind another
 
--- a count that rose later rose
-pub risen_after : {old mid new : ℕ} → old ≤ mid → HasRisen mid new → HasRisen old new
-risen_after before (inl more) = inl (omega (arith, before, more))
-risen_after before (inr most) = inr most
+-- the device's fault behind a read is so of both
+pub devices_after : {s t v : PoolState} {fault : FileFault} → s.faults ≤ t.faults → IsDevicesFault t v fault
+    → IsDevicesFault s v fault
+devices_after {s = s} {t = t} {v = v} before failed = record { risen = risen failed.risen; told = failed.told }
+  where
+    risen : HasRisen t.faults v.faults → HasRisen s.faults v.faults
+    risen (inl more) = inl (omega (arith, before, more))
+    risen (inr most) = inr most
+
+pub fails_after : {T : Type 0} (r : Result T FileFault) (s t v : PoolState) → IsTrue s.honest → IsFilePool s
+    → OnlyReads true s t → (IsTrue t.honest → IsFilePool t → IfErr r (IsDevicesFault t v))
+    → IfErr r (IsDevicesFault s v)
+fails_after (Ok value) s t v honest file reads failed = tt
+fails_after (Err fault) s t v honest file reads failed =
+    devices_after reads.later (failed (reads.honest ∙ honest) (reads.file honest refl file))
+
+-- what `?` hands on is the fault that was told
+pub handed_on : {T : Type 0} (r : Result T FileFault) (fault : FileFault) (P : FileFault → Type 0)
+    → IsErrAnd r (λ e. e ≡ fault) → P fault → IfErr r P
+handed_on (Ok value) fault P same it = tt
+handed_on (Err e) fault P same it = subst P (sym same) it
+
+-- what never fails tells no fault
+pub never_fails : {T : Type 0} (r : Result T FileFault) (P : FileFault → Type 0) → (IsErr r → ⊥) → IfErr r P
+never_fails (Ok value) P never = tt
+never_fails (Err fault) P never = absurd (never refl)
 
 -- two reads are one
 pub reads_on : (ok : Bool) (s t u : PoolState) → OnlyReads true s t → OnlyReads ok t u → OnlyReads ok s u

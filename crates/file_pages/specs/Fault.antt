@@ -1,7 +1,11 @@
--- The numbers of faults.
-use Rattle.std.specs.Prelude.{ℕ}
+-- The numbers of faults, and which of them is the device's.
+use Rattle.std.specs.Prelude.{ℕ, ◌≡◌}
 use Rattle.faults.specs.declared.TheConstants.{FAILED}
+use Rattle.page_device.specs.Device.{HasRisen}
+use Rattle.page_device.specs.declared.fault.DeviceFault.TheVariants as device
 use Rattle.buffer_pool.specs.Fault.{number_of as pool_number_of}
+use Rattle.buffer_pool.specs.Pool.{PoolState}
+use Rattle.buffer_pool.specs.declared.fault.PoolFault.TheVariants as pool
 use Rattle.file_pages.specs.declared.fault.FileFault.{FileFault}
 use Rattle.file_pages.specs.declared.fault.FileFault.TheVariants.{Pool, Failed}
 
@@ -9,3 +13,8 @@ use Rattle.file_pages.specs.declared.fault.FileFault.TheVariants.{Pool, Failed}
 abbrev pub number_of : FileFault → ℕ
 number_of (Pool fault) = pool_number_of fault
 number_of Failed = FAILED
+
+-- a transfer of the device has failed, and this is the fault of that
+pub record IsDevicesFault (old new : PoolState) (fault : FileFault) : Type 0 where
+  pub risen : HasRisen old.faults new.faults
+  pub told : fault ≡ Pool (pool.Device device.Device)

@@ -1,7 +1,6 @@
 //! Writes of whole pages behind the directory, which a split or a merge makes.
 
-ghost use Rattle.std.specs.Prelude.{◌≡◌, ◌<◌, is_ok, IsTrue, IsErr, IfOk, OnOk, OnErr};
-ghost use Rattle.page_device.specs.Device.{HasRisen};
+ghost use Rattle.std.specs.Prelude.{◌≡◌, ◌<◌, is_ok, IsTrue, IsErr, IfErr, IfOk, OnOk, OnErr};
 ghost use Rattle.bucket_page.specs.Changes.{IsBucketPage, SpellsBucket};
 ghost use Rattle.bucket_page.specs.Dividing.{joined, lower_half, upper_half};
 ghost use Rattle.bucket_page.specs.Reading.{bucket_in, page_in};
@@ -10,6 +9,7 @@ ghost use Rattle.directory.specs.declared.layout.TheConstants.{GREATEST_DEPTH};
 ghost use Rattle.hash_file.specs.Changes.{with_page, write_free, write_left, write_new, write_old, write_tombstone};
 ghost use Rattle.hash_file.specs.Store.{bucket_at};
 ghost use Rattle.file_pages.specs.Buckets.{IsThere, MayJoin, MaySplit};
+ghost use Rattle.file_pages.specs.Fault.{IsDevicesFault};
 ghost use Rattle.file_pages.specs.Files.{IsReady, IsFilePool, store_of};
 ghost use Rattle.file_pages.specs.Reads.{OnlyReads};
 ghost use Rattle.file_pages.specs.Writes.{OnlyWrites};
@@ -38,9 +38,9 @@ pub fn write_new<D: PageDevice, K: PseudoKey>(
     ensures ok { IsTrue pool.old.honest → OnOk result (store_of pool.new.images ≡
         write_new (K.of_key keys.now) old new (store_of pool.old.images)) }
     ensures err { IsTrue pool.old.honest → OnErr result (pool.new.images ≡ pool.old.images) }
-    ensures fault { IsTrue pool.old.honest → IsFilePool pool.old → IsErr result →
+    ensures fault { IsTrue pool.old.honest → IsFilePool pool.old →
         MaySplit old (store_of pool.old.images) → IsThere new (store_of pool.old.images) →
-        HasRisen pool.old.faults pool.new.faults }
+        IfErr result (IsDevicesFault pool.old pool.new) }
 {
     let half = read_upper_half(pool, keys, old)?;
     store_page(pool, new, half)
@@ -59,8 +59,8 @@ pub fn write_old<D: PageDevice, K: PseudoKey>(
     ensures ok { IsTrue pool.old.honest → OnOk result (store_of pool.new.images ≡
         write_old (K.of_key keys.now) old new (store_of pool.old.images)) }
     ensures err { IsTrue pool.old.honest → OnErr result (pool.new.images ≡ pool.old.images) }
-    ensures fault { IsTrue pool.old.honest → IsFilePool pool.old → IsErr result →
-        MaySplit old (store_of pool.old.images) → HasRisen pool.old.faults pool.new.faults }
+    ensures fault { IsTrue pool.old.honest → IsFilePool pool.old →
+        MaySplit old (store_of pool.old.images) → IfErr result (IsDevicesFault pool.old pool.new) }
 {
     let half = read_lower_half(pool, keys, old, new)?;
     store_page(pool, old, half)
@@ -74,9 +74,9 @@ pub fn write_left<D: PageDevice>(pool: &mut Pool<D>, left: u32, right: u32) -> R
     ensures ok { IsTrue pool.old.honest → OnOk result
         (store_of pool.new.images ≡ write_left left right (store_of pool.old.images)) }
     ensures err { IsTrue pool.old.honest → OnErr result (pool.new.images ≡ pool.old.images) }
-    ensures fault { IsTrue pool.old.honest → IsFilePool pool.old → IsErr result →
+    ensures fault { IsTrue pool.old.honest → IsFilePool pool.old →
         MayJoin left right (store_of pool.old.images) →
-        HasRisen pool.old.faults pool.new.faults }
+        IfErr result (IsDevicesFault pool.old pool.new) }
 {
     let both = read_joined(pool, left, right)?;
     store_page(pool, left, both)
@@ -93,8 +93,8 @@ pub fn write_tombstone<D: PageDevice>(
     ensures ok { IsTrue pool.old.honest → OnOk result
         (store_of pool.new.images ≡ write_tombstone left right (store_of pool.old.images)) }
     ensures err { IsTrue pool.old.honest → OnErr result (pool.new.images ≡ pool.old.images) }
-    ensures fault { IsTrue pool.old.honest → IsFilePool pool.old → IsErr result →
-        IsThere right (store_of pool.old.images) → HasRisen pool.old.faults pool.new.faults }
+    ensures fault { IsTrue pool.old.honest → IsFilePool pool.old →
+        IsThere right (store_of pool.old.images) → IfErr result (IsDevicesFault pool.old pool.new) }
 {
     let mut tombstone = FilePage::blank();
     tombstone.write_tombstone(left);
@@ -108,8 +108,8 @@ pub fn write_free<D: PageDevice>(pool: &mut Pool<D>, right: u32) -> Result<(), F
     ensures ok { IsTrue pool.old.honest → OnOk result
         (store_of pool.new.images ≡ write_free right (store_of pool.old.images)) }
     ensures err { IsTrue pool.old.honest → OnErr result (pool.new.images ≡ pool.old.images) }
-    ensures fault { IsTrue pool.old.honest → IsFilePool pool.old → IsErr result →
-        IsThere right (store_of pool.old.images) → HasRisen pool.old.faults pool.new.faults }
+    ensures fault { IsTrue pool.old.honest → IsFilePool pool.old →
+        IsThere right (store_of pool.old.images) → IfErr result (IsDevicesFault pool.old pool.new) }
 {
     let header = read_header(pool)?;
     let mut free = FilePage::blank();
@@ -128,8 +128,8 @@ fn read_upper_half<D: PageDevice, K: PseudoKey>(
     ensures ok { IsTrue pool.old.honest → IfOk result (SpellsBucket
         (upper_half (K.of_key keys.now) (bucket_at (store_of pool.old.images) page))) }
     ensures spells { IfOk result (λ half. Spells (page_in half) half) }
-    ensures fault { IsTrue pool.old.honest → IsFilePool pool.old → IsErr result →
-        MaySplit page (store_of pool.old.images) → HasRisen pool.old.faults pool.new.faults }
+    ensures fault { IsTrue pool.old.honest → IsFilePool pool.old →
+        MaySplit page (store_of pool.old.images) → IfErr result (IsDevicesFault pool.old pool.new) }
 {
     if page < ROOT_PAGE {
         return Err(FileFault::Failed);
@@ -152,8 +152,8 @@ fn read_lower_half<D: PageDevice, K: PseudoKey>(
     ensures ok { IsTrue pool.old.honest → IfOk result (SpellsBucket
         (lower_half (K.of_key keys.now) next (bucket_at (store_of pool.old.images) page))) }
     ensures spells { IfOk result (λ half. Spells (page_in half) half) }
-    ensures fault { IsTrue pool.old.honest → IsFilePool pool.old → IsErr result →
-        MaySplit page (store_of pool.old.images) → HasRisen pool.old.faults pool.new.faults }
+    ensures fault { IsTrue pool.old.honest → IsFilePool pool.old →
+        MaySplit page (store_of pool.old.images) → IfErr result (IsDevicesFault pool.old pool.new) }
 {
     if page < ROOT_PAGE {
         return Err(FileFault::Failed);
@@ -176,9 +176,9 @@ fn read_joined<D: PageDevice>(
         (joined (bucket_at (store_of pool.old.images) left)
         (bucket_at (store_of pool.old.images) right))) }
     ensures spells { IfOk result (λ both. Spells (page_in both) both) }
-    ensures fault { IsTrue pool.old.honest → IsFilePool pool.old → IsErr result →
+    ensures fault { IsTrue pool.old.honest → IsFilePool pool.old →
         MayJoin left right (store_of pool.old.images) →
-        HasRisen pool.old.faults pool.new.faults }
+        IfErr result (IsDevicesFault pool.old pool.new) }
 {
     if left < ROOT_PAGE || right < ROOT_PAGE {
         return Err(FileFault::Failed);
@@ -235,8 +235,8 @@ fn store_page<D: PageDevice>(pool: &mut Pool<D>, page: u32, new: FilePage) -> Re
     ensures ok { IsTrue pool.old.honest → OnOk result
         (store_of pool.new.images ≡ with_page page (page_in new) (store_of pool.old.images)) }
     ensures err { IsTrue pool.old.honest → OnErr result (pool.new.images ≡ pool.old.images) }
-    ensures fault { IsTrue pool.old.honest → IsFilePool pool.old → IsErr result →
-        IsThere page (store_of pool.old.images) → HasRisen pool.old.faults pool.new.faults }
+    ensures fault { IsTrue pool.old.honest → IsFilePool pool.old →
+        IsThere page (store_of pool.old.images) → IfErr result (IsDevicesFault pool.old pool.new) }
 {
     if page < ROOT_PAGE {
         return Err(FileFault::Failed);

@@ -1,12 +1,12 @@
 //! Writes of the directory's pages, which a doubling, a split or a merge makes.
 
-ghost use Rattle.std.specs.Prelude.{◌≡◌, ℕ, ◌-◌, ◌≤◌, ◌<◌, ◌^◌, is_ok, true, IsTrue, IsErr, OnOk, OnErr};
-ghost use Rattle.page_device.specs.Device.{HasRisen};
+ghost use Rattle.std.specs.Prelude.{◌≡◌, ℕ, ◌-◌, ◌≤◌, ◌<◌, ◌^◌, is_ok, true, IsTrue, IfErr, OnOk, OnErr};
 ghost use Rattle.directory.specs.declared.layout.TheConstants.{DIRECTORY_PAGES, FIRST_DIRECTORY_PAGE, GREATEST_DEPTH};
 ghost use Rattle.directory.specs.Entries.{is_upper, page_of};
 ghost use Rattle.directory.specs.Pages.{IsDirectoryPage};
 ghost use Rattle.hash_file.specs.Changes.{copy_directory, retarget};
 ghost use Rattle.file_pages.specs.Entries.{IsLowerHalf, MayCopy, MayRetarget};
+ghost use Rattle.file_pages.specs.Fault.{IsDevicesFault};
 ghost use Rattle.file_pages.specs.Files.{IsReady, IsFilePool, store_of};
 ghost use Rattle.file_pages.specs.Writes.{OnlyWrites};
 
@@ -29,8 +29,8 @@ pub fn copy_directory<D: PageDevice>(pool: &mut Pool<D>, page: u32) -> Result<()
     ensures ok { IsTrue pool.old.honest →
         OnOk result (store_of pool.new.images ≡ copy_directory page (store_of pool.old.images)) }
     ensures err { IsTrue pool.old.honest → OnErr result (pool.new.images ≡ pool.old.images) }
-    ensures fault { IsTrue pool.old.honest → IsFilePool pool.old → IsErr result →
-        MayCopy page (store_of pool.old.images) → HasRisen pool.old.faults pool.new.faults }
+    ensures fault { IsTrue pool.old.honest → IsFilePool pool.old →
+        MayCopy page (store_of pool.old.images) → IfErr result (IsDevicesFault pool.old pool.new) }
 {
     if !(FIRST_DIRECTORY_PAGE..=DIRECTORY_PAGES).contains(&page) {
         return Err(FileFault::Failed);
@@ -56,8 +56,8 @@ pub fn retarget<D: PageDevice>(
     ensures ok { IsTrue pool.old.honest → OnOk result
         (store_of pool.new.images ≡ retarget page range bucket (store_of pool.old.images)) }
     ensures err { IsTrue pool.old.honest → OnErr result (pool.new.images ≡ pool.old.images) }
-    ensures fault { IsTrue pool.old.honest → IsFilePool pool.old → IsErr result →
-        MayRetarget page range → HasRisen pool.old.faults pool.new.faults }
+    ensures fault { IsTrue pool.old.honest → IsFilePool pool.old → MayRetarget page range →
+        IfErr result (IsDevicesFault pool.old pool.new) }
 {
     if !(FIRST_DIRECTORY_PAGE..=DIRECTORY_PAGES).contains(&page) || range.depth > GREATEST_DEPTH {
         return Err(FileFault::Failed);
@@ -98,8 +98,8 @@ fn copy_onto<D: PageDevice>(
     ensures ok { IsTrue pool.old.honest → IsLowerHalf page depth lower.now pool.old.images →
         OnOk result (store_of pool.new.images ≡ copy_directory page (store_of pool.old.images)) }
     ensures err { IsTrue pool.old.honest → OnErr result (pool.new.images ≡ pool.old.images) }
-    ensures fault { IsTrue pool.old.honest → IsFilePool pool.old → IsErr result →
-        HasRisen pool.old.faults pool.new.faults }
+    ensures fault { IsTrue pool.old.honest → IsFilePool pool.old →
+        IfErr result (IsDevicesFault pool.old pool.new) }
 {
     let frame = pin(pool, page)?;
     if !is_directory(pool.image(&frame)) {
@@ -129,8 +129,8 @@ fn retarget_on<D: PageDevice>(
         OnOk result
         (store_of pool.new.images ≡ retarget page range bucket (store_of pool.old.images)) }
     ensures err { IsTrue pool.old.honest → OnErr result (pool.new.images ≡ pool.old.images) }
-    ensures fault { IsTrue pool.old.honest → IsFilePool pool.old → IsErr result →
-        HasRisen pool.old.faults pool.new.faults }
+    ensures fault { IsTrue pool.old.honest → IsFilePool pool.old →
+        IfErr result (IsDevicesFault pool.old pool.new) }
 {
     let frame = pin(pool, page)?;
     if !is_directory(pool.image(&frame)) {

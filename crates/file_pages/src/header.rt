@@ -1,7 +1,6 @@
 //! Writes of the header.
 
-ghost use Rattle.std.specs.Prelude.{◌≡◌, ◌≢◌, ◌<◌, ◌≤◌, ℕ, is_ok, length, IsTrue, IsErr, IfOk, OnOk, OnErr};
-ghost use Rattle.page_device.specs.Device.{HasRisen};
+ghost use Rattle.std.specs.Prelude.{◌≡◌, ◌≢◌, ◌<◌, ◌≤◌, ℕ, is_ok, length, IsTrue, IsErr, IfErr, IfOk, OnOk, OnErr};
 ghost use Rattle.bucket_page.specs.Reading.{page_in};
 ghost use Rattle.bucket_page.specs.declared.page.PageKind.TheVariants as kinds;
 ghost use Rattle.bucket_page.specs.Spelling.{Spells};
@@ -11,6 +10,7 @@ ghost use Rattle.directory.specs.Spelling.{IsHeader};
 ghost use Rattle.hash_file.specs.Changes.{link_free, lower_depth, merge_counts, raise_depth, set_counts, split_counts, take_page, with_header};
 ghost use Rattle.hash_file.specs.Store.{IsFreePage, next_at};
 ghost use Rattle.page_forms.specs.Forms.{IsHeaderPage};
+ghost use Rattle.file_pages.specs.Fault.{IsDevicesFault};
 ghost use Rattle.file_pages.specs.Files.{IsReady, IsFilePool, store_of};
 ghost use Rattle.file_pages.specs.Headers.{HasFreePage, MayMergeCount, MaySplitCount};
 ghost use Rattle.file_pages.specs.Reads.{OnlyReads};
@@ -33,8 +33,8 @@ pub fn take_page<D: PageDevice>(pool: &mut Pool<D>) -> Result<u32, FileFault>
     ensures page { IsTrue pool.old.honest →
         IfOk result (λ page. page ≡ (store_of pool.old.images).header.first_free) }
     ensures err { IsTrue pool.old.honest → OnErr result (pool.new.images ≡ pool.old.images) }
-    ensures fault { IsTrue pool.old.honest → IsFilePool pool.old → IsErr result →
-        HasFreePage (store_of pool.old.images) → HasRisen pool.old.faults pool.new.faults }
+    ensures fault { IsTrue pool.old.honest → IsFilePool pool.old →
+        HasFreePage (store_of pool.old.images) → IfErr result (IsDevicesFault pool.old pool.new) }
 {
     let mut header = read_header(pool)?;
     let page = header.first_free;
@@ -51,8 +51,8 @@ pub fn link_free<D: PageDevice>(pool: &mut Pool<D>, page: u32) -> Result<(), Fil
     ensures ok { IsTrue pool.old.honest →
         OnOk result (store_of pool.new.images ≡ link_free page (store_of pool.old.images)) }
     ensures err { IsTrue pool.old.honest → OnErr result (pool.new.images ≡ pool.old.images) }
-    ensures fault { IsTrue pool.old.honest → IsFilePool pool.old → IsErr result →
-        HasRisen pool.old.faults pool.new.faults }
+    ensures fault { IsTrue pool.old.honest → IsFilePool pool.old →
+        IfErr result (IsDevicesFault pool.old pool.new) }
 {
     let mut header = read_header(pool)?;
     header.set_first_free(page);
@@ -66,9 +66,9 @@ pub fn raise_depth<D: PageDevice>(pool: &mut Pool<D>) -> Result<(), FileFault>
     ensures ok { IsTrue pool.old.honest →
         OnOk result (store_of pool.new.images ≡ raise_depth (store_of pool.old.images)) }
     ensures err { IsTrue pool.old.honest → OnErr result (pool.new.images ≡ pool.old.images) }
-    ensures fault { IsTrue pool.old.honest → IsFilePool pool.old → IsErr result →
+    ensures fault { IsTrue pool.old.honest → IsFilePool pool.old →
         (store_of pool.old.images).header.depth < GREATEST_DEPTH →
-        HasRisen pool.old.faults pool.new.faults }
+        IfErr result (IsDevicesFault pool.old pool.new) }
 {
     let mut header = read_header(pool)?;
     if header.depth >= GREATEST_DEPTH {
@@ -85,8 +85,9 @@ pub fn lower_depth<D: PageDevice>(pool: &mut Pool<D>) -> Result<(), FileFault>
     ensures ok { IsTrue pool.old.honest →
         OnOk result (store_of pool.new.images ≡ lower_depth (store_of pool.old.images)) }
     ensures err { IsTrue pool.old.honest → OnErr result (pool.new.images ≡ pool.old.images) }
-    ensures fault { IsTrue pool.old.honest → IsFilePool pool.old → IsErr result →
-        1 ≤ (store_of pool.old.images).header.depth → HasRisen pool.old.faults pool.new.faults }
+    ensures fault { IsTrue pool.old.honest → IsFilePool pool.old →
+        1 ≤ (store_of pool.old.images).header.depth →
+        IfErr result (IsDevicesFault pool.old pool.new) }
 {
     let mut header = read_header(pool)?;
     if header.depth == 0 {
@@ -104,8 +105,9 @@ pub fn count_split<D: PageDevice>(pool: &mut Pool<D>, depth: u8) -> Result<(), F
     ensures ok { IsTrue pool.old.honest → OnOk result (store_of pool.new.images ≡ set_counts
         (split_counts depth (store_of pool.old.images).header.counts) (store_of pool.old.images)) }
     ensures err { IsTrue pool.old.honest → OnErr result (pool.new.images ≡ pool.old.images) }
-    ensures fault { IsTrue pool.old.honest → IsFilePool pool.old → IsErr result →
-        MaySplitCount depth (store_of pool.old.images) → HasRisen pool.old.faults pool.new.faults }
+    ensures fault { IsTrue pool.old.honest → IsFilePool pool.old →
+        MaySplitCount depth (store_of pool.old.images) →
+        IfErr result (IsDevicesFault pool.old pool.new) }
 {
     let mut header = read_header(pool)?;
     if depth >= GREATEST_DEPTH {
@@ -129,8 +131,9 @@ pub fn count_merge<D: PageDevice>(pool: &mut Pool<D>, depth: u8) -> Result<(), F
     ensures ok { IsTrue pool.old.honest → OnOk result (store_of pool.new.images ≡ set_counts
         (merge_counts depth (store_of pool.old.images).header.counts) (store_of pool.old.images)) }
     ensures err { IsTrue pool.old.honest → OnErr result (pool.new.images ≡ pool.old.images) }
-    ensures fault { IsTrue pool.old.honest → IsFilePool pool.old → IsErr result →
-        MayMergeCount depth (store_of pool.old.images) → HasRisen pool.old.faults pool.new.faults }
+    ensures fault { IsTrue pool.old.honest → IsFilePool pool.old →
+        MayMergeCount depth (store_of pool.old.images) →
+        IfErr result (IsDevicesFault pool.old pool.new) }
 {
     let mut header = read_header(pool)?;
     if depth >= GREATEST_DEPTH {
@@ -153,8 +156,8 @@ pub fn read_header<D: PageDevice>(pool: &mut Pool<D>) -> Result<Header, FileFaul
     ensures range { IfOk result IsHeader }
     ensures ok { IsTrue pool.old.honest →
         IfOk result (λ header. header ≡ (store_of pool.old.images).header) }
-    ensures fault { IsTrue pool.old.honest → IsFilePool pool.old → IsErr result →
-        HasRisen pool.old.faults pool.new.faults }
+    ensures fault { IsTrue pool.old.honest → IsFilePool pool.old →
+        IfErr result (IsDevicesFault pool.old pool.new) }
 {
     let frame = pin(pool, 0)?;
     let header = header_of(pool.image(&frame));
@@ -180,9 +183,9 @@ fn read_next_free<D: PageDevice>(pool: &mut Pool<D>, page: u32) -> Result<u32, F
     ensures reads { OnlyReads (is_ok result) pool.old pool.new }
     ensures ok { IsTrue pool.old.honest →
         IfOk result (λ next. next ≡ next_at (store_of pool.old.images) page) }
-    ensures fault { IsTrue pool.old.honest → IsFilePool pool.old → IsErr result →
-        ROOT_PAGE ≤ page → page < length pool.old.images →
-        IsFreePage (store_of pool.old.images) page → HasRisen pool.old.faults pool.new.faults }
+    ensures fault { IsTrue pool.old.honest → IsFilePool pool.old → ROOT_PAGE ≤ page →
+        page < length pool.old.images → IsFreePage (store_of pool.old.images) page →
+        IfErr result (IsDevicesFault pool.old pool.new) }
 {
     if page < ROOT_PAGE {
         return Err(FileFault::Failed);
@@ -213,8 +216,8 @@ fn write_header<D: PageDevice>(pool: &mut Pool<D>, header: &Header) -> Result<()
     ensures ok { IsTrue pool.old.honest →
         OnOk result (store_of pool.new.images ≡ with_header header.now (store_of pool.old.images)) }
     ensures err { IsTrue pool.old.honest → OnErr result (pool.new.images ≡ pool.old.images) }
-    ensures fault { IsTrue pool.old.honest → IsFilePool pool.old → IsErr result →
-        HasRisen pool.old.faults pool.new.faults }
+    ensures fault { IsTrue pool.old.honest → IsFilePool pool.old →
+        IfErr result (IsDevicesFault pool.old pool.new) }
 {
     let frame = pin(pool, 0)?;
     pool.image_mut(&frame).write_header(header);

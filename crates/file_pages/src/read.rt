@@ -1,16 +1,16 @@
 //! Reads of a file's pages.
 
-ghost use Rattle.std.specs.Prelude.{◌≡◌, ◌<◌, ◌≤◌, ◌^◌, length, is_ok, true, IsTrue, IsErr, IfOk, OnErr};
+ghost use Rattle.std.specs.Prelude.{◌≡◌, ◌<◌, ◌≤◌, ◌^◌, length, is_ok, true, IsTrue, IsErr, IfErr, IfOk, OnErr};
 ghost use Rattle.bucket_page.specs.Changes.{IsBucketPage};
 ghost use Rattle.bucket_page.specs.Reading.{records_in};
 ghost use Rattle.bucket_page.specs.Records.{lookup};
-ghost use Rattle.page_device.specs.Device.{HasRisen};
 ghost use Rattle.directory.specs.declared.layout.TheConstants.{GREATEST_DEPTH, PAGE_ENTRIES, ROOT_PAGE};
 ghost use Rattle.directory.specs.Entries.{slot_at};
 ghost use Rattle.directory.specs.Pages.{IsDirectoryPage};
 ghost use Rattle.directory.specs.Reading.{header_at};
 ghost use Rattle.hash_file.specs.Store.{entry_at, is_bucket, page_at, records_at};
 ghost use Rattle.page_forms.specs.Forms.{IsHeaderPage};
+ghost use Rattle.file_pages.specs.Fault.{IsDevicesFault};
 ghost use Rattle.file_pages.specs.Files.{IsReady, IsFilePool, image, store_of};
 ghost use Rattle.file_pages.specs.Reads.{OnlyReads, IsCopied, fronted, IsOnWay, IsSeen, IsSight};
 
@@ -31,8 +31,8 @@ pub fn read_depth<D: PageDevice>(pool: &mut Pool<D>) -> Result<u8, FileFault>
     ensures small { IfOk result (λ depth. depth ≤ GREATEST_DEPTH) }
     ensures ok { IsTrue pool.old.honest →
         IfOk result (λ depth. depth ≡ (store_of pool.old.images).header.depth) }
-    ensures fault { IsTrue pool.old.honest → IsFilePool pool.old → IsErr result →
-        HasRisen pool.old.faults pool.new.faults }
+    ensures fault { IsTrue pool.old.honest → IsFilePool pool.old →
+        IfErr result (IsDevicesFault pool.old pool.new) }
 {
     let frame = pin(pool, 0)?;
     let depth = depth_of(pool.image(&frame));
@@ -59,8 +59,8 @@ pub fn read_entry<D: PageDevice>(pool: &mut Pool<D>, index: u32) -> Result<u32, 
     ensures reads { OnlyReads (is_ok result) pool.old pool.new }
     ensures ok { IsTrue pool.old.honest →
         IfOk result (λ page. page ≡ entry_at (store_of pool.old.images) index) }
-    ensures fault { IsTrue pool.old.honest → IsFilePool pool.old → IsErr result →
-        HasRisen pool.old.faults pool.new.faults }
+    ensures fault { IsTrue pool.old.honest → IsFilePool pool.old →
+        IfErr result (IsDevicesFault pool.old pool.new) }
 {
     let frame = pin(pool, page_of(index))?;
     let page = entry_of(pool.image(&frame), slot_of(index));
@@ -87,8 +87,8 @@ pub(crate) fn read_page<D: PageDevice>(pool: &mut Pool<D>, page: u32) -> Result<
     ensures within { IfOk result (λ _. page < length pool.old.images) }
     ensures ok { IsTrue pool.old.honest →
         IfOk result (λ copy. copy ≡ image pool.old.images page) }
-    ensures fault { IsTrue pool.old.honest → IsFilePool pool.old → IsErr result →
-        page < length pool.old.images → HasRisen pool.old.faults pool.new.faults }
+    ensures fault { IsTrue pool.old.honest → IsFilePool pool.old → page < length pool.old.images →
+        IfErr result (IsDevicesFault pool.old pool.new) }
 {
     let frame = pin(pool, page)?;
     let copy = pool.image(&frame).copy();
@@ -108,10 +108,9 @@ pub fn look<D: PageDevice>(
     ensures reads { OnlyReads (is_ok result) pool.old pool.new }
     ensures ok { IsTrue pool.old.honest → IfOk result (λ sight.
         IsSight sight (page_at (store_of pool.old.images) page) pseudokey key.now) }
-    ensures fault { IsTrue pool.old.honest → IsFilePool pool.old → IsErr result →
-        ROOT_PAGE ≤ page → page < length pool.old.images →
-        IsOnWay (page_at (store_of pool.old.images) page) →
-        HasRisen pool.old.faults pool.new.faults }
+    ensures fault { IsTrue pool.old.honest → IsFilePool pool.old → ROOT_PAGE ≤ page →
+        page < length pool.old.images → IsOnWay (page_at (store_of pool.old.images) page) →
+        IfErr result (IsDevicesFault pool.old pool.new) }
 {
     if page < ROOT_PAGE {
         return Err(FileFault::Failed);
@@ -128,10 +127,9 @@ pub fn read_bucket<D: PageDevice>(pool: &mut Pool<D>, page: u32) -> Result<Bucke
     ensures reads { OnlyReads (is_ok result) pool.old pool.new }
     ensures ok { IsTrue pool.old.honest → IfOk result (λ sight.
         IsSeen sight (page_at (store_of pool.old.images) page)) }
-    ensures fault { IsTrue pool.old.honest → IsFilePool pool.old → IsErr result →
-        ROOT_PAGE ≤ page → page < length pool.old.images →
-        is_bucket (page_at (store_of pool.old.images) page) ≡ true →
-        HasRisen pool.old.faults pool.new.faults }
+    ensures fault { IsTrue pool.old.honest → IsFilePool pool.old → ROOT_PAGE ≤ page →
+        page < length pool.old.images → is_bucket (page_at (store_of pool.old.images) page) ≡ true →
+        IfErr result (IsDevicesFault pool.old pool.new) }
 {
     if page < ROOT_PAGE {
         return Err(FileFault::Failed);
@@ -156,10 +154,9 @@ pub fn copy_value<D: PageDevice>(
         IsCopied found (lookup key.now (records_at (store_of pool.old.images) page))
         room.old room.new) }
     ensures err { OnErr result (room.new ≡ room.old) }
-    ensures fault { IsTrue pool.old.honest → IsFilePool pool.old → IsErr result →
-        ROOT_PAGE ≤ page → page < length pool.old.images →
-        is_bucket (page_at (store_of pool.old.images) page) ≡ true →
-        HasRisen pool.old.faults pool.new.faults }
+    ensures fault { IsTrue pool.old.honest → IsFilePool pool.old → ROOT_PAGE ≤ page →
+        page < length pool.old.images → is_bucket (page_at (store_of pool.old.images) page) ≡ true →
+        IfErr result (IsDevicesFault pool.old pool.new) }
 {
     if page < ROOT_PAGE {
         return Err(FileFault::Failed);

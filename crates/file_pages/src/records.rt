@@ -1,13 +1,13 @@
 //! Writes of one record, in place in the bucket on its page.
 
-ghost use Rattle.std.specs.Prelude.{◌≡◌, ◌+◌, ◌≤◌, ◌++◌, true, is_ok, drop, length, None, IsTrue, IsErr, IsSome, OnOk, OnErr};
-ghost use Rattle.page_device.specs.Device.{HasRisen};
+ghost use Rattle.std.specs.Prelude.{◌≡◌, ◌+◌, ◌≤◌, ◌++◌, true, is_ok, drop, length, None, IsTrue, IfErr, IsSome, OnOk, OnErr};
 ghost use Rattle.bucket_page.specs.declared.layout.TheConstants.{RECORD_HEAD_BYTES, ROOM_BYTES};
 ghost use Rattle.bucket_page.specs.Changes.{HasValueOf, IsBucketPage, value_of_key};
 ghost use Rattle.bucket_page.specs.Reading.{records_in};
 ghost use Rattle.bucket_page.specs.Records.{lookup, pair, record_bytes};
 ghost use Rattle.hash_file.specs.Changes.{Put, Remove, Replace, write_record};
 ghost use Rattle.hash_file.specs.Store.{records_at};
+ghost use Rattle.file_pages.specs.Fault.{IsDevicesFault};
 ghost use Rattle.file_pages.specs.Files.{IsReady, IsFilePool, store_of};
 ghost use Rattle.file_pages.specs.Writes.{IsBucketThere, OnlyWrites, TakesRecord};
 
@@ -32,9 +32,9 @@ pub fn put_record<D: PageDevice>(
     ensures ok { IsTrue pool.old.honest → OnOk result (store_of pool.new.images ≡
         write_record page (Put (pair key.now value.now)) (store_of pool.old.images)) }
     ensures err { IsTrue pool.old.honest → OnErr result (pool.new.images ≡ pool.old.images) }
-    ensures fault { IsTrue pool.old.honest → IsFilePool pool.old → IsErr result →
+    ensures fault { IsTrue pool.old.honest → IsFilePool pool.old →
         TakesRecord page key.now (length value.now) (store_of pool.old.images) →
-        HasRisen pool.old.faults pool.new.faults }
+        IfErr result (IsDevicesFault pool.old pool.new) }
 {
     if page < ROOT_PAGE {
         return Err(FileFault::Failed);
@@ -62,10 +62,10 @@ pub fn replace_record<D: PageDevice>(
     ensures ok { IsTrue pool.old.honest → OnOk result (store_of pool.new.images ≡
         write_record page (Replace (pair key.now value.now)) (store_of pool.old.images)) }
     ensures err { IsTrue pool.old.honest → OnErr result (pool.new.images ≡ pool.old.images) }
-    ensures fault { IsTrue pool.old.honest → IsFilePool pool.old → IsErr result →
+    ensures fault { IsTrue pool.old.honest → IsFilePool pool.old →
         IsBucketThere page (store_of pool.old.images) →
         HasValueOf (length value.now) key.now (records_at (store_of pool.old.images) page) →
-        HasRisen pool.old.faults pool.new.faults }
+        IfErr result (IsDevicesFault pool.old pool.new) }
 {
     if page < ROOT_PAGE {
         return Err(FileFault::Failed);
@@ -95,12 +95,11 @@ pub fn replace_front<D: PageDevice>(
         (value_of_key key.now (records_at (store_of pool.old.images) page)))))
         (store_of pool.old.images)) }
     ensures err { IsTrue pool.old.honest → OnErr result (pool.new.images ≡ pool.old.images) }
-    ensures fault { IsTrue pool.old.honest → IsFilePool pool.old → IsErr result →
+    ensures fault { IsTrue pool.old.honest → IsFilePool pool.old →
         IsBucketThere page (store_of pool.old.images) →
         IsSome (lookup key.now (records_at (store_of pool.old.images) page)) →
-        length front.now
-        ≤ length (value_of_key key.now (records_at (store_of pool.old.images) page)) →
-        HasRisen pool.old.faults pool.new.faults }
+        length front.now ≤ length (value_of_key key.now (records_at (store_of pool.old.images)
+        page)) → IfErr result (IsDevicesFault pool.old pool.new) }
 {
     if page < ROOT_PAGE {
         return Err(FileFault::Failed);
@@ -126,10 +125,10 @@ pub fn remove_record<D: PageDevice>(
     ensures ok { IsTrue pool.old.honest → OnOk result (store_of pool.new.images ≡
         write_record page (Remove key.now) (store_of pool.old.images)) }
     ensures err { IsTrue pool.old.honest → OnErr result (pool.new.images ≡ pool.old.images) }
-    ensures fault { IsTrue pool.old.honest → IsFilePool pool.old → IsErr result →
+    ensures fault { IsTrue pool.old.honest → IsFilePool pool.old →
         IsBucketThere page (store_of pool.old.images) →
         IsSome (lookup key.now (records_at (store_of pool.old.images) page)) →
-        HasRisen pool.old.faults pool.new.faults }
+        IfErr result (IsDevicesFault pool.old pool.new) }
 {
     if page < ROOT_PAGE {
         return Err(FileFault::Failed);

@@ -5,12 +5,12 @@ use Rattle.bucket_page.proofs.Steps.{length-pair}
 use Rattle.buffer_pool.specs.Pool.{PoolState}
 use Rattle.file_pages.specs.declared.fault.FileFault.{FileFault}
 use Rattle.file_pages.specs.Writes.{IsBucketThere}
-use Rattle.file_pages.proofs.ReadLemmas.{risen_after}
+use Rattle.file_pages.proofs.ReadLemmas.{devices_after}
 use Rattle.hash_file.specs.Changes.{write_record}
 use Rattle.stale_search.specs.declared.place.SearchPlace.{SearchPlace}
 use Rattle.stale_search.specs.declared.place.SearchPlace.TheVariants.{Found}
 use Rattle.stale_search.specs.Searches.{ask_at, locks_at}
-use Rattle.record_file.specs.Words.{RecordKey, pair, lookup, record_bytes, contents, Put, Replace, Remove, Table, Lock, LockKind, Selective, Page, Change, OnlyReads, OnlyWrites, HasRisen, row_of, with_row, without, without_lock, store_of, records_at, Moved, WriteRecord, SearchView, search_locks, found_at, Store, Turn, Sees, Step, HasNoFileLock, on_page}
+use Rattle.record_file.specs.Words.{RecordKey, pair, lookup, record_bytes, contents, Put, Replace, Remove, Table, Lock, LockKind, Selective, Page, Change, OnlyReads, OnlyWrites, IsDevicesFault, row_of, with_row, without, without_lock, store_of, records_at, Moved, WriteRecord, SearchView, search_locks, found_at, Store, Turn, Sees, Step, HasNoFileLock, on_page}
 use Rattle.record_file.specs.Writers.{Owns, seen_at, seen_of}
 use Rattle.record_file.specs.Replaces.{IsFrontAt, with_front}
 use Rattle.record_file.proofs.AnswerLemmas.{found_place}
@@ -138,12 +138,12 @@ module _ (hash : RecordKey → ℕ) (seat : ℕ) (pool : PoolState) (locks : Tab
         key_there)
 
     -- and of one that was read before
-    pub removal_fails : (pool' : PoolState) (new : ℕ) → OnlyReads true pool pool' →
+    pub removal_fails : (pool' pool'' : PoolState) (fault : FileFault) → OnlyReads true pool pool' →
         (IsBucketThere page (store_of pool'.images) →
-        IsSome (lookup v.key (records_at (store_of pool'.images) page)) → HasRisen pool'.faults new) →
-        HasRisen pool.faults new
-    removal_fails pool' new reads fault =
+        IsSome (lookup v.key (records_at (store_of pool'.images) page)) → IsDevicesFault pool' pool'' fault) →
+        IsDevicesFault pool pool'' fault
+    removal_fails pool' pool'' fault reads failed =
         let same = sym (reads.images sees.honest) in
-        risen_after reads.later (fault
+        devices_after reads.later (failed
         (subst (λ (images : List (List ℕ)). IsBucketThere page (store_of images)) same bucket_there)
         (subst (λ (images : List (List ℕ)). IsSome (lookup v.key (records_at (store_of images) page))) same key_there))

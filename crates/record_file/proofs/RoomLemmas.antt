@@ -7,13 +7,13 @@ use Rattle.bucket_page.proofs.Steps.{length-pair}
 use Rattle.buffer_pool.specs.Pool.{PoolState}
 use Rattle.file_pages.specs.declared.fault.FileFault.{FileFault}
 use Rattle.file_pages.specs.Writes.{TakesRecord}
-use Rattle.file_pages.proofs.ReadLemmas.{risen_after}
+use Rattle.file_pages.proofs.ReadLemmas.{devices_after}
 use Rattle.hash_file.specs.Chain.{IsBucketOf}
 use Rattle.stale_search.specs.declared.place.SearchPlace.TheVariants.{Found}
 use Rattle.step_rules.specs.Turns.{LacksRoom}
 use Rattle.step_rules.specs.Does.{KeepsOthers}
 use Rattle.step_rules.specs.Turns.{TurnsAt}
-use Rattle.record_file.specs.Words.{RecordKey, pair, record_bytes, Table, Lock, Selective, Change, OnlyReads, HasRisen, Progress, World, Known, AllKnown, row_of, store_of, records_at, SearchView, Turn, Sees, Step, world, HasNoFileLock, on_page}
+use Rattle.record_file.specs.Words.{RecordKey, pair, record_bytes, Table, Lock, Selective, Change, OnlyReads, IsDevicesFault, Progress, World, Known, AllKnown, row_of, store_of, records_at, SearchView, Turn, Sees, Step, world, HasNoFileLock, on_page}
 use Rattle.record_file.specs.Writers.{seen_at}
 use Rattle.record_file.specs.FirstTries.{has_room}
 use Rattle.record_file.proofs.ReleaseLemmas.{no_directory}
@@ -72,14 +72,16 @@ module _ (hash : RecordKey → ℕ) (seat : ℕ) (pool : PoolState) (locks : Tab
   }
 
   pub put_fails : (sees : Sees hash seat (seen_at (Found page None) v.key v.pseudokey) pool locks change)
-      (pool' : PoolState) (new : ℕ) → OnlyReads true pool pool' → (bytes : ℕ) →
+      (pool' pool'' : PoolState) (fault : FileFault) → OnlyReads true pool pool' → (bytes : ℕ) →
       length (record_bytes (records_at (store_of pool.images) page)) + (RECORD_HEAD_BYTES + bytes) ≤ ROOM_BYTES →
-      (TakesRecord page v.key bytes (store_of pool'.images) → HasRisen pool'.faults new) → HasRisen pool.faults new
-  put_fails sees pool' new reads bytes room fault =
+      (TakesRecord page v.key bytes (store_of pool'.images) → IsDevicesFault pool' pool'' fault) →
+      IsDevicesFault pool pool'' fault
+  put_fails sees pool' pool'' fault reads bytes room failed =
       let takes : TakesRecord page v.key bytes (store_of pool.images) = record {
         there = there hash seat _ pool locks change sees page v.pseudokey sees.known.0 sees.known.1.0;
         absent = sees.known.1.1.0.1;
         room = room;
       } in
-      risen_after reads.later (fault (subst (λ (images : List (List ℕ)). TakesRecord page v.key bytes (store_of images))
+      devices_after reads.later (failed
+      (subst (λ (images : List (List ℕ)). TakesRecord page v.key bytes (store_of images))
       (sym (reads.images sees.honest)) takes))

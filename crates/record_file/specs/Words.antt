@@ -3,7 +3,7 @@ pub use Rattle.bucket_page.specs.declared.record_key.RecordKey.{RecordKey}
 pub use Rattle.bucket_page.specs.Records.{Pair, pair, lookup, record_bytes}
 pub use Rattle.bucket_page.specs.Changes.{HasValueOf, value_of_key}
 pub use Rattle.buffer_pool.specs.Pool.{PoolState}
-pub use Rattle.page_device.specs.Device.{HasRisen}
+pub use Rattle.file_pages.specs.Fault.{IsDevicesFault}
 pub use Rattle.page_locks.specs.declared.row.TheConstants.{MAX_LOCKS}
 pub use Rattle.page_locks.specs.Locks.{kind_of, lock_of, without}
 pub use Rattle.page_locks.specs.Table.{Table, IsSeat, row_of, held, with_row, without_lock}

@@ -21,7 +21,7 @@ spares : (did : Progress FileFault) (left left' more : ℕ) (pool pool' : PoolSt
     Nears did left left' pool pool' → NearsOrSpares did (left + more) (left' + more) pool pool'
 spares (Moved kind) left left' more pool pool' same n = omega (arith, n)
 spares (Blocked other) left left' more pool pool' same n = tt
-spares (Fault fault) left left' more pool pool' same n = record { risen = n; images = same }
+spares (Fault fault) left left' more pool pool' same n = record { devices = n; images = same }
 spares Ended left left' more pool pool' same n = tt
 
 -- it has come there
@@ -29,7 +29,7 @@ comes : (did : Progress FileFault) (left left' more more' : ℕ) (pool pool' : P
     more' < more → Nears did left left' pool pool' → NearsOrSpares did (left + more) more' pool pool'
 comes (Moved kind) left left' more more' pool pool' same less n = omega (arith, less)
 comes (Blocked other) left left' more more' pool pool' same less n = tt
-comes (Fault fault) left left' more more' pool pool' same less n = record { risen = n; images = same }
+comes (Fault fault) left left' more more' pool pool' same less n = record { devices = n; images = same }
 comes Ended left left' more more' pool pool' same less n = tt
 
 -- it has not come there

@@ -17,7 +17,7 @@ use Rattle.step_rules.proofs.LockStepLemmas.{KeepsOthers-same, none_busy}
 use Rattle.stale_search.proofs.WayLemmas.{leads_in_file}
 use Rattle.bucket_merge.proofs.MoveLemmas.{read_only}
 use Rattle.bucket_merge.proofs.RowLemmas.{directory_beside, no_other_held, no_page_held, page_held, without_last}
-use Rattle.record_insert.specs.Words.{RecordKey, PoolState, HasRisen, Table, IsSeat, Lock, Selective, Page, Directory, Change, Store, Answers, range_at, next_at, kind_of, lock_of, row_of, held, with_row, without, without_lock, store_of, IsFilePool, OnlyReads, Progress, Moved, Blocked, Fault, World, HasNoFileLock, EndsRow, in_directory, on_page, AllKnown, world, SecondPlace, Look, Hop}
+use Rattle.record_insert.specs.Words.{RecordKey, PoolState, IsDevicesFault, Table, IsSeat, Lock, Selective, Page, Directory, Change, Store, Answers, range_at, next_at, kind_of, lock_of, row_of, held, with_row, without, without_lock, store_of, IsFilePool, OnlyReads, Progress, Moved, Blocked, Fault, World, HasNoFileLock, EndsRow, in_directory, on_page, AllKnown, world, SecondPlace, Look, Hop}
 use Rattle.record_insert.specs.SecondTries.{near_facts, locks_at, home_at, splits_left, look_left, on_one}
 use Rattle.record_insert.proofs.HomeLemmas.{home_here, home_on, look_here, next_answers, next_live, next_near}
 use Rattle.record_insert.proofs.MoveLemmas.{Makes, was, moved_aim, same_row, read, faulted}
@@ -41,7 +41,7 @@ module _ (hash : RecordKey → ℕ) (seat : ℕ) (key : RecordKey) (k bytes : �
 
   pub not_looked : (fault : FileFault) → OnlyReads false pool pool' →
       (IsTrue pool.honest → IsFilePool pool → ROOT_PAGE ≤ n → n < length pool.images →
-      IsOnWay (page_at (store_of pool.images) n) → HasRisen pool.faults pool'.faults) →
+      IsOnWay (page_at (store_of pool.images) n) → IsDevicesFault pool pool' fault) →
       Arm (Fault fault) (Hop depth n) (Hop depth n) locks
   not_looked fault reads risen = faulted hash seat key k bytes value pool locks (Hop depth n) fault pool'
       (read_only false pool pool' reads) reads.images refl

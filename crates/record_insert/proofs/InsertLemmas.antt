@@ -57,7 +57,7 @@ nears_more : (did : Progress FileFault) (left left' more : ℕ) (pool pool' : Po
     NearsOrSpares did (left + more) (left' + more) pool pool'
 nears_more (Moved kind) left left' more pool pool' same n = omega (arith, n)
 nears_more (Blocked other) left left' more pool pool' same n = tt
-nears_more (Fault fault) left left' more pool pool' same n = record { risen = n; images = same refl }
+nears_more (Fault fault) left left' more pool pool' same n = record { devices = n; images = same refl }
 nears_more Ended left left' more pool pool' same n = tt
 
 -- where a first try is not what it was, it moved

@@ -6,7 +6,7 @@ use Rattle.bucket_page.proofs.Steps.{length-pair}
 use Rattle.positions.specs.declared.range.Range.{Range}
 use Rattle.positions.specs.Ranges.{Covers}
 use Rattle.file_pages.specs.declared.sight.Sight.TheVariants.{Covering as SeesCovering, Naming}
-use Rattle.file_pages.proofs.ReadLemmas.{risen_after, reads_on}
+use Rattle.file_pages.proofs.ReadLemmas.{devices_after, reads_on}
 use Rattle.file_pages.proofs.StoreLemmas.{layout_is}
 use Rattle.step_rules.specs.declared.kind.Kind.TheVariants as kinds
 use Rattle.step_rules.specs.Words.{IsBucketOf}
@@ -16,7 +16,7 @@ use Rattle.stale_search.proofs.WayLemmas.{leads_in_file}
 use Rattle.bucket_merge.proofs.BuddyFacts.{live_page, seen_shape, seen_used, seen_depth}
 use Rattle.bucket_merge.proofs.MoveLemmas.{read_only}
 use Rattle.split_merge.specs.declared.place.SplitPlace.TheVariants.{TakePage}
-use Rattle.record_insert.specs.Words.{RECORD_HEAD_BYTES, ROOM_BYTES, GREATEST_DEPTH, RecordKey, pair, lookup, PoolState, HasRisen, Table, Store, Lock, HasNoFileLock, row_of, Page, Directory, Change, Answers, range_at, store_of, records_at, IsFilePool, OnlyReads, Progress, Moved, Fault, World, Sees, SplitView, IsThere, IsFull, SecondPlace, Look, Hop, Write, Splitting, GiveBackPage}
+use Rattle.record_insert.specs.Words.{RECORD_HEAD_BYTES, ROOM_BYTES, GREATEST_DEPTH, RecordKey, pair, lookup, PoolState, IsDevicesFault, Table, Store, Lock, HasNoFileLock, row_of, Page, Directory, Change, Answers, range_at, store_of, records_at, IsFilePool, OnlyReads, Progress, Moved, Fault, World, Sees, SplitView, IsThere, IsFull, SecondPlace, Look, Hop, Write, Splitting, GiveBackPage}
 use Rattle.record_insert.specs.SecondTries.{facts_at, locks_at, second_turn, splits_left}
 use Rattle.record_insert.proofs.HomeLemmas.{home_on, look_here, look_on, look_is_more}
 use Rattle.record_insert.proofs.MoveLemmas.{Makes, IfSeen, view_at, was, read, faulted}
@@ -54,7 +54,7 @@ module _ (hash : RecordKey → ℕ) (seat : ℕ) (key : RecordKey) (k bytes : �
 
   pub not_looked : (fault : FileFault) (pool' : PoolState) → OnlyReads false pool pool' →
       (IsTrue pool.honest → IsFilePool pool → ROOT_PAGE ≤ n → n < length pool.images →
-      IsOnWay (page_at (store_of pool.images) n) → HasRisen pool.faults pool'.faults) →
+      IsOnWay (page_at (store_of pool.images) n) → IsDevicesFault pool pool' fault) →
       Arm (Fault fault) (Look depth n) (Look depth n) pool' locks
   not_looked fault pool' reads risen = faulted hash seat key k bytes value pool locks (Look depth n) fault pool'
       (read_only false pool pool' reads) reads.images refl
@@ -109,7 +109,7 @@ module _ (hash : RecordKey → ℕ) (seat : ℕ) (key : RecordKey) (k bytes : �
       (sight : IsTrue pool.honest → IsSight (SeesCovering None) (page_at (store_of pool.images) n) k key) where
     pub not_read : (fault : FileFault) → OnlyReads false pool1 pool2 →
         (IsTrue pool1.honest → IsFilePool pool1 → ROOT_PAGE ≤ n → n < length pool1.images →
-        is_bucket (page_at (store_of pool1.images) n) ≡ true → HasRisen pool1.faults pool2.faults) →
+        is_bucket (page_at (store_of pool1.images) n) ≡ true → IsDevicesFault pool1 pool2 fault) →
         Arm (Fault fault) (Look depth n) (Look depth n) pool2 locks
     not_read fault second risen =
         let reads = reads_on false pool pool1 pool2 first second in
@@ -118,7 +118,7 @@ module _ (hash : RecordKey → ℕ) (seat : ℕ) (key : RecordKey) (k bytes : �
         (λ change keyed sees.
         let same = sym (first.images sees.honest) in
         let live = live_page hash pool.images locks change n sees.sound sees.known.1.1.1.0.1 in
-        risen_after first.later (risen (first.honest ∙ sees.honest) (first.file sees.honest refl sees.file)
+        devices_after first.later (risen (first.honest ∙ sees.honest) (first.file sees.honest refl sees.file)
         live.behind (subst (λ (images : List (List ℕ)). n < length images) same live.within)
         (subst (λ (images : List (List ℕ)). is_bucket (page_at (store_of images) n) ≡ true) same live.bucket)))
 

@@ -17,7 +17,7 @@ use Rattle.step_rules.proofs.MachineLemmas.{AllKnown-relocked}
 use Rattle.stale_search.proofs.StepLemmas.{read as read_page}
 use Rattle.bucket_merge.proofs.MoveLemmas.{nothing_written, read_only}
 use Rattle.bucket_merge.proofs.RowLemmas.{held_last, without_last}
-use Rattle.record_insert.specs.Words.{RecordKey, pair, PoolState, HasRisen, Table, IsSeat, Lock, LockKind, Selective, Exclusive, LockName, Directory, Page, Change, Quiet, kind_of, lock_of, row_of, held, with_row, without, without_lock, store_of, IsReady, OnlyReads, OnlyWrites, Progress, Moved, Fault, Ended, World, AllKnown, HasNoFileLock, world, Sees, Tried, SecondPlace, HasEnded}
+use Rattle.record_insert.specs.Words.{RecordKey, pair, PoolState, IsDevicesFault, Table, IsSeat, Lock, LockKind, Selective, Exclusive, LockName, Directory, Page, Change, Quiet, kind_of, lock_of, row_of, held, with_row, without, without_lock, store_of, IsReady, OnlyReads, OnlyWrites, Progress, Moved, Fault, Ended, World, AllKnown, HasNoFileLock, world, Sees, Tried, SecondPlace, HasEnded}
 use Rattle.record_insert.specs.SecondTries.{SecondTryView, locks_at, facts_at, left_at, said_at, tried_at, second_turn}
 use Rattle.record_insert.specs.SecondSteps.{KeepsSecondTry, MakesStep, SaysAt}
 
@@ -89,7 +89,7 @@ module _ (hash : RecordKey → ℕ) (seat : ℕ) (key : RecordKey) (k bytes : �
   -- the device failed
   pub faulted : (place : SecondPlace) (fault : FileFault) (pool' : PoolState) → OnlyWrites false pool pool' →
       (IsTrue pool.honest → pool'.images ≡ pool.images) → tried_at place ≡ None →
-      IfSeen place (λ change. HasRisen pool.faults pool'.faults) → Makes (Fault fault) place place pool' locks
+      IfSeen place (λ change. IsDevicesFault pool pool' fault) → Makes (Fault fault) place place pool' locks
   faulted place fault pool' writes spares going risen = record {
     writes = writes;
     aim = record {
@@ -100,7 +100,7 @@ module _ (hash : RecordKey → ℕ) (seat : ℕ) (key : RecordKey) (k bytes : �
       stays = refl;
     };
     row = same_row place place (λ before. refl);
-    progress = λ change keyed sees. record { risen = risen change keyed sees; images = spares sees.honest };
+    progress = λ change keyed sees. record { devices = risen change keyed sees; images = spares sees.honest };
     step = λ change before bare owns row keyed sees fine. absurd cc;
     answer = λ change keyed sees fine. absurd cc;
   }

@@ -7,7 +7,7 @@ use Rattle.file_pages.specs.Writes.{TakesRecord}
 use Rattle.hash_file.specs.Changes.{write_record}
 use Rattle.step_rules.specs.declared.kind.Kind.TheVariants as kinds
 use Rattle.record_file.proofs.WriteLemmas.{there, wrote}
-use Rattle.record_insert.specs.Words.{RECORD_HEAD_BYTES, ROOM_BYTES, RecordKey, pair, Put, PoolState, HasRisen, Table, Lock, Exclusive, kind_of, held, guard_of, store_of, IsFilePool, OnlyWrites, Moved, Fault, World, IsPut, Write, GiveBackPage}
+use Rattle.record_insert.specs.Words.{RECORD_HEAD_BYTES, ROOM_BYTES, RecordKey, pair, Put, PoolState, IsDevicesFault, Table, Lock, Exclusive, kind_of, held, guard_of, store_of, IsFilePool, OnlyWrites, Moved, Fault, World, IsPut, Write, GiveBackPage}
 use Rattle.record_insert.proofs.CallerLemmas.{guard_aside, one_aside}
 use Rattle.record_insert.proofs.MoveLemmas.{Makes, moved_aim, same_row, faulted}
 
@@ -46,7 +46,7 @@ module _ (hash : RecordKey → ℕ) (seat : ℕ) (key : RecordKey) (k bytes : �
   pub not_put : (fault : FileFault) → OnlyWrites false pool pool' →
       (IsTrue pool.honest → pool'.images ≡ pool.images) →
       (IsTrue pool.honest → IsFilePool pool → TakesRecord n key (length value) (store_of pool.images) →
-      HasRisen pool.faults pool'.faults) →
+      IsDevicesFault pool pool' fault) →
       Makes hash seat key k bytes value pool locks (Fault fault) (Write n used) (Write n used) pool' locks
   not_put fault writes spares risen =
       faulted hash seat key k bytes value pool locks (Write n used) fault pool' writes spares refl

@@ -1,5 +1,6 @@
 -- What a step of an insert does. docs/STEPS.md, "Insert, Replace, Delete".
 use Rattle.std.specs.Prelude.{ℕ, ◌≡◌, ◌↔◌, false, not, List, length, ⊤}
+use Rattle.file_pages.specs.declared.fault.FileFault.{FileFault}
 use Rattle.record_insert.specs.Words.{RecordKey, pair, PoolState, Table, Lock, Change, Progress, Ended, is_fault, HasNoFileLock, row_of, store_of, OnlyWrites, Owns, FollowsRow, Stays, world, Sees, Step}
 use Rattle.record_insert.specs.SecondSteps.{KeepsSecondTry, NearsOrSpares, SaysAt}
 use Rattle.record_insert.specs.Inserts.{InsertView, IsLent, IsOver, insert_facts, insert_left, insert_locks, insert_turn, said_of}
@@ -23,7 +24,7 @@ pub record KeepsInsert {F : Type 0} (bytes : ℕ) (did : Progress F) (old new : 
   pub lent : IsLent bytes old.stage → IsLent bytes new.stage
 
 -- one step of an insert at the pseudokeys that this function gives
-pub record MakesInsert {F : Type 0} (hash : RecordKey → ℕ) (seat : ℕ) (value : List ℕ) (did : Progress F)
+pub record MakesInsert (hash : RecordKey → ℕ) (seat : ℕ) (value : List ℕ) (did : Progress FileFault)
     (old new : InsertView) (pool pool' : PoolState) (locks locks' : Table) : Type 0 where
   -- whatever the device gives
   pub writes : OnlyWrites (not (is_fault did)) pool pool'

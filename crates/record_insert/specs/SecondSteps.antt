@@ -1,7 +1,8 @@
 -- What a step of the second try of an Insert does. docs/STEPS.md, "Insert, Replace, Delete".
 use Rattle.std.specs.Prelude.{ℕ, ◌≡◌, ◌↔◌, ◌<◌, false, not, List, Option, Some, None, IsSome, ⊤}
 use Rattle.step_rules.specs.declared.kind.Kind.TheVariants as kinds
-use Rattle.record_insert.specs.Words.{RecordKey, Pair, pair, PoolState, Table, Lock, Change, Progress, Moved, Fault, Ended, World, is_fault, HasNoFileLock, row_of, store_of, OnlyWrites, HasNoRoom, Tells, Owns, FaultIsDevices, FollowsRow, Stays, world, Sees, Step, Tried, IsPut, IsThere, IsFull}
+use Rattle.record_insert.specs.Words.{RecordKey, Pair, pair, PoolState, Table, Lock, Change, Progress, Moved, Fault, Ended, World, is_fault, HasNoFileLock, row_of, store_of, OnlyWrites, HasNoRoom, Tells, Owns, IsSparingFault, FollowsRow, Stays, world, Sees, Step, Tried, IsPut, IsThere, IsFull}
+use Rattle.file_pages.specs.declared.fault.FileFault.{FileFault}
 use Rattle.record_insert.specs.SecondTries.{SecondTryView, second_locks, second_facts, second_turn, second_left, tried_at, said_at}
 
 -- what it is about stays, it has ended where it gave all locks back, and where it did not move it is what it was
@@ -13,9 +14,9 @@ pub record KeepsSecondTry {F : Type 0} (did : Progress F) (old new : SecondTryVi
   pub stays : Stays did old new
 
 -- a move leaves fewer steps, and a fault is the device's and changes no page
-abbrev pub NearsOrSpares : {F : Type 0} → Progress F → (left left' : ℕ) → PoolState → PoolState → Type 0
+abbrev pub NearsOrSpares : Progress FileFault → (left left' : ℕ) → PoolState → PoolState → Type 0
 NearsOrSpares (Moved kind) left left' pool pool' = left' < left
-NearsOrSpares (Fault fault) left left' pool pool' = FaultIsDevices pool pool'
+NearsOrSpares (Fault fault) left left' pool pool' = IsSparingFault pool pool' fault
 NearsOrSpares did left left' pool pool' = ⊤
 
 -- the key was seen, by a Look at a page that answers for it
@@ -37,7 +38,7 @@ SaysAt hash seat did p None (Some IsPut) old new = did ≡ Moved kinds.WriteReco
 SaysAt hash seat did p None (Some IsFull) old new = HasNoRoom hash p new
 
 -- one step of a second try at the pseudokeys that this function gives
-pub record MakesStep {F : Type 0} (hash : RecordKey → ℕ) (seat : ℕ) (value : List ℕ) (did : Progress F)
+pub record MakesStep (hash : RecordKey → ℕ) (seat : ℕ) (value : List ℕ) (did : Progress FileFault)
     (old new : SecondTryView) (pool pool' : PoolState) (locks locks' : Table) : Type 0 where
   -- whatever the device gives
   pub writes : OnlyWrites (not (is_fault did)) pool pool'
@@ -57,7 +58,7 @@ pub record MakesStep {F : Type 0} (hash : RecordKey → ℕ) (seat : ℕ) (value
       (world pool.images locks change) (world pool'.images locks' change)
 
 -- whatever seat makes it, where it leaves the locks
-abbrev pub MakesStepHere : {F : Type 0} → List ℕ → Progress F → (old new : SecondTryView) → (pool pool' : PoolState) →
+abbrev pub MakesStepHere : List ℕ → Progress FileFault → (old new : SecondTryView) → (pool pool' : PoolState) →
     Type 0
 MakesStepHere value did old new pool pool' = (hash : RecordKey → ℕ) (seat : ℕ) (locks : Table) →
     MakesStep hash seat value did old new pool pool' locks locks

@@ -13,7 +13,7 @@ nears_or_spares : (did : Progress FileFault) (left left' : ℕ) (pool pool' : Po
     NearsOrSpares did left left' pool pool'
 nears_or_spares (Moved kind) left left' pool pool' same near = near
 nears_or_spares (Blocked other) left left' pool pool' same near = tt
-nears_or_spares (Fault fault) left left' pool pool' same near = record { risen = near; images = same refl }
+nears_or_spares (Fault fault) left left' pool pool' same near = record { devices = near; images = same refl }
 nears_or_spares Ended left left' pool pool' same near = tt
 
 module _ (hash : RecordKey → ℕ) (seat : ℕ) (bytes : List ℕ) (did : Progress FileFault) (pool pool' : PoolState)

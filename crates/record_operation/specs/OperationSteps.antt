@@ -1,5 +1,6 @@
 -- What a step of an operation does. docs/STEPS.md, "Insert, Replace, Delete".
 use Rattle.std.specs.Prelude.{ℕ, ◌≡◌, ◌↔◌, true, false, not, IsTrue, List, length, ⊤}
+use Rattle.file_pages.specs.declared.fault.FileFault.{FileFault}
 use Rattle.record_operation.specs.Words.{RecordKey, pair, PoolState, Table, Lock, Change, Progress, Ended, World, is_fault, HasNoFileLock, row_of, store_of, OnlyWrites, Stays, Sees, Step, FollowsRow, NearsOrSpares, world, FindsAt, SaysAt, TurnsAwayAt, TurnsAwayIn, KeepsFind, KeepsInsert, KeepsReplace, KeepsDelete, RecordOperation, Find, Insert, Replace, Delete}
 use Rattle.record_operation.specs.Operations.{HasEnded, IsKeyed, MayBeLent, OwnsWritten, SuitsFile, operation_facts, operation_found, operation_key, operation_left, operation_locks, operation_pseudokey, operation_tried, operation_turn}
 
@@ -54,7 +55,7 @@ pub record TellsOf {F : Type 0} (hash : RecordKey → ℕ) (seat : ℕ) (did : P
   pub turns_away : TurnsAwayOf hash seat old new w'
 
 -- one step at the pseudokeys that this function gives, to which these bytes were lent
-pub record MakesOperation {F : Type 0} (hash : RecordKey → ℕ) (seat : ℕ) (bytes : List ℕ) (did : Progress F)
+pub record MakesOperation (hash : RecordKey → ℕ) (seat : ℕ) (bytes : List ℕ) (did : Progress FileFault)
     (old new : RecordOperation) (pool pool' : PoolState) (locks locks' : Table) : Type 0 where
   -- whatever the device gives
   pub writes : LeavesPages did old pool pool'

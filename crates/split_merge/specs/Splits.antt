@@ -1,7 +1,8 @@
 -- What a split holds, knows and asks for at each place. docs/STEPS.md, "Split".
 use Rattle.std.specs.Prelude.{ℕ, ◌≡◌, ◌↔◌, ◌≤◌, ◌+◌, ◌-◌, ◌<◌, Bool, true, false, IsTrue, List, [], ◌∷◌, ◌++◌, length, None, Some, ⊤}
 use Rattle.split_merge.specs.Words.{RecordKey, RECORD_HEAD_BYTES, ROOM_BYTES, Pair, PoolState, DIRECTORY_PAGES, GREATEST_DEPTH, ROOT_PAGE, page_of, Range, IsRange, upper_half_of, Lock, Selective, Directory, Page, lock_of, Quiet, Taken, Filled, Linked, WriteRecord, Progress, Moved, Fault, Ended, World, Known, OnPage, Live, Built, InPhase, HasDepth, Copied, Retargeted, Shaped, BucketOf, Near, Lacking, Using, SplitPlace, TakePage, CopyDirectory, RaiseDepth, WriteNew, WriteOld, Retarget, SetCounts, Done, Full}
-use Rattle.page_device.specs.Device.{HasRisen}
+use Rattle.file_pages.specs.Fault.{IsDevicesFault}
+use Rattle.file_pages.specs.declared.fault.FileFault.{FileFault}
 use Rattle.hash_file.specs.Changes.{Put}
 use Rattle.step_rules.specs.Rooms.{HasNoRoom}
 use Rattle.step_rules.specs.Turns.{Turn}
@@ -133,12 +134,12 @@ abbrev pub steps_left : SplitView → ℕ
 steps_left v = left_at v.place
 
 -- a fault is the device's, and changes no page
-pub record FaultIsDevices (pool pool' : PoolState) : Type 0 where
-  pub risen : HasRisen pool.faults pool'.faults
+pub record IsSparingFault (pool pool' : PoolState) (fault : FileFault) : Type 0 where
+  pub devices : IsDevicesFault pool pool' fault
   pub images : pool'.images ≡ pool.images
 
 -- a move brings the end nearer
-abbrev pub Progresses : {F : Type 0} → Progress F → SplitView → SplitView → PoolState → PoolState → Type 0
+abbrev pub Progresses : Progress FileFault → SplitView → SplitView → PoolState → PoolState → Type 0
 Progresses (Moved kind) old new pool pool' = steps_left new < steps_left old
-Progresses (Fault fault) old new pool pool' = FaultIsDevices pool pool'
+Progresses (Fault fault) old new pool pool' = IsSparingFault pool pool' fault
 Progresses did old new pool pool' = ⊤

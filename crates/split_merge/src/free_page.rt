@@ -1,7 +1,7 @@
 //! The page that a split takes.
 
-ghost use Rattle.std.specs.Prelude.{◌≡◌, ◌≢◌, is_ok, IsTrue, IsErr, IfOk, OnErr};
-ghost use Rattle.page_device.specs.Device.{HasRisen};
+ghost use Rattle.std.specs.Prelude.{◌≡◌, ◌≢◌, is_ok, IsTrue, IfErr, IfOk, OnErr};
+ghost use Rattle.file_pages.specs.Fault.{IsDevicesFault};
 ghost use Rattle.file_pages.specs.Files.{IsReady, IsFilePool, store_of};
 ghost use Rattle.file_pages.specs.Headers.{HasFreePage};
 ghost use Rattle.file_pages.specs.Writes.{OnlyWrites};
@@ -18,10 +18,10 @@ pub fn take_free<D: PageDevice>(pool: &mut Pool<D>) -> Result<Option<u32>, FileF
     ensures ok { IsTrue pool.old.honest →
         IfOk result (λ taken. Takes taken pool.old.images pool.new.images) }
     ensures err { IsTrue pool.old.honest → OnErr result (pool.new.images ≡ pool.old.images) }
-    ensures fault { IsTrue pool.old.honest → IsFilePool pool.old → IsErr result →
+    ensures fault { IsTrue pool.old.honest → IsFilePool pool.old →
         ((store_of pool.old.images).header.first_free ≢ 0 →
         HasFreePage (store_of pool.old.images)) →
-        HasRisen pool.old.faults pool.new.faults }
+        IfErr result (IsDevicesFault pool.old pool.new) }
 {
     let header = read_header(pool)?;
     if header.first_free == 0 {

@@ -1,7 +1,8 @@
 -- What every machine promises of its step.
 use Rattle.std.specs.Prelude.{ℕ, ◌≡◌, ◌<◌, true, false, not, List, Option, IsTrue, ⊤}
-use Rattle.page_device.specs.Device.{HasRisen}
+use Rattle.file_pages.specs.Fault.{IsDevicesFault}
 use Rattle.file_pages.specs.Writes.{OnlyWrites}
+use Rattle.file_pages.specs.declared.fault.FileFault.{FileFault}
 use Rattle.step_rules.specs.Words.{Lock, Change}
 use Rattle.stale_search.specs.Words.{PoolState, RecordKey, Table, row_of, with_row, IsFilePool, store_of, Progress, Moved, Fault, World, IsSoundWorld, Known, AllKnown, Turn}
 use Rattle.step_rules.specs.Does.{KeepsOthers}
@@ -31,9 +32,9 @@ pub record Step {F : Type 0} (hash : RecordKey → ℕ) (seat : ℕ) (turn : Tur
   pub does : TurnsAt hash turn did seat (world pool.images locks change) (world pool'.images locks' after)
 
 -- a move leaves fewer steps than there were before, and a fault is the device's
-abbrev pub Nears : {F : Type 0} → Progress F → (left left' : ℕ) → PoolState → PoolState → Type 0
+abbrev pub Nears : Progress FileFault → (left left' : ℕ) → PoolState → PoolState → Type 0
 Nears (Moved kind) left left' pool pool' = left' < left
-Nears (Fault fault) left left' pool pool' = HasRisen pool.faults pool'.faults
+Nears (Fault fault) left left' pool pool' = IsDevicesFault pool pool' fault
 Nears did left left' pool pool' = ⊤
 
 -- ---- the clauses of a step
@@ -54,8 +55,8 @@ FollowsRow seat mine mine' locks locks' = (before : List Lock) → HasNoFileLock
     row_of locks seat ≡ mine before → locks' ≡ with_row locks seat (mine' before)
 
 -- where the seat knows these facts
-abbrev pub Advances : {F : Type 0} → ℕ → List Known → Progress F → (left left' : ℕ) → (pool pool' : PoolState) →
-    Table → Type 0
+abbrev pub Advances : ℕ → List Known → Progress FileFault → (left left' : ℕ) → (pool pool' : PoolState) → Table →
+    Type 0
 Advances seat facts did left left' pool pool' locks = (hash : RecordKey → ℕ) (change : Change) →
     Sees hash seat facts pool locks change → Nears did left left' pool pool'
 

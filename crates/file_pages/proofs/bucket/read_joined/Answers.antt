@@ -4,22 +4,24 @@ use Rattle.bucket_page.specs.Changes.{IsBucketPage}
 use Rattle.bucket_page.specs.Reading.{bucket_in}
 use Rattle.hash_file.specs.Store.{bucket_at}
 use Rattle.file_pages.specs.Files.{image, store_of}
-use Rattle.file_pages.proofs.ReadLemmas.{risen_after}
+use Rattle.file_pages.proofs.ReadLemmas.{devices_after, handed_on, never_fails}
 use Rattle.file_pages.proofs.RecordLemmas.{there_within}
 use Rattle.file_pages.proofs.PageLemmas.{copied_bucket, copied_was, joinable_is, joined_is}
 use Rattle.file_pages.proofs.bucket.read_joined.Given as given
 use Rattle.file_pages.proofs.bucket.read_joined.Goals as goal
 
 pub returns-in_err-first-clause-fault : goal.returns-in_err-first-clause-fault
-returns-in_err-first-clause-fault g c = λ honest file _ may.
-    c.in_err-first.ensures.fault honest file refl (there_within c.args.pool.now.images c.args.left may.left_there)
+returns-in_err-first-clause-fault g c = λ honest file may.
+    handed_on c.from_residual.result _ _ c.from_residual.ensures.1
+    (c.in_err-first.ensures.fault honest file (there_within c.args.pool.now.images c.args.left may.left_there))
 
 pub returns-in_err-second-clause-fault : goal.returns-in_err-second-clause-fault
-returns-in_err-second-clause-fault g c = λ honest file _ may.
+returns-in_err-second-clause-fault g c = λ honest file may.
     let reads = c.in_ok-first.ensures.reads in
-    risen_after reads.later (c.in_err-second.ensures.fault (reads.honest ∙ honest) (reads.file honest refl file) refl
+    handed_on c.from_residual-in_err-second.result _ _ c.from_residual-in_err-second.ensures.1
+    (devices_after reads.later (c.in_err-second.ensures.fault (reads.honest ∙ honest) (reads.file honest refl file)
     (subst (λ (images : List (List ℕ)). c.args.right < length images) (sym (reads.images honest))
-    (there_within c.args.pool.now.images c.args.right may.right_there)))
+    (there_within c.args.pool.now.images c.args.right may.right_there))))
 
 -- the right page was read where nothing had changed
 right_copy : (g : given.Over) (c : goal.After-join g) → IsTrue c.args.pool.now.honest
@@ -54,10 +56,10 @@ returns-clause-ok g c = λ honest.
     c.join.ensures.ok
 
 pub returns-clause-fault : goal.returns-clause-fault
-returns-clause-fault g c = λ honest file failed may.
+returns-clause-fault g c = λ honest file may.
     let left = copied_bucket c.args.pool.now.images c.args.left c.in_ok-first.first (c.in_ok-first.ensures.ok honest)
     c.if-left-lt-ROOT_PAGE.false c.in_ok-first.ensures.within file.file may.left_there in
     let right = copied_bucket c.args.pool.now.images c.args.right c.in_ok-second.second (right_copy g c honest)
     c.if-right-lt-ROOT_PAGE.false (right_within g c honest) file.file may.right_there in
-    absurd (c.join.ensures.err failed left right
+    never_fails c.join.result _ (λ failed. c.join.ensures.err failed left right
     (joinable_is (left_was g c honest) (right_was g c honest) left right may.joinable))

@@ -1,14 +1,16 @@
 -- One page behind the directory is new.
-use Rattle.std.proofs.Common.{◌≡◌, ◌∙◌, ◌-◌, refl, ap, slice_set}
+use Rattle.std.proofs.Common.{◌≡◌, ◌∙◌, ◌-◌, ap, slice_set}
 use Rattle.buffer_pool.specs.Pool.{PoolState, pins_at}
+use Rattle.file_pages.proofs.ReadLemmas.{handed_on}
 use Rattle.file_pages.proofs.PageLemmas.{there_is}
 use Rattle.file_pages.proofs.WriteLemmas.{file_set, only_writes, store_set, written_store}
 use Rattle.file_pages.proofs.bucket.store_page.Given as given
 use Rattle.file_pages.proofs.bucket.store_page.Goals as goal
 
 pub returns-in_err-frame-clause-fault : goal.returns-in_err-frame-clause-fault
-returns-in_err-frame-clause-fault g c = λ honest file _ there.
-    c.in_err-frame.ensures.fault honest file refl (there_is c.args.pool.now.images c.args.page there)
+returns-in_err-frame-clause-fault g c = λ honest file there.
+    handed_on c.from_residual.result _ _ c.from_residual.ensures.1
+    (c.in_err-frame.ensures.fault honest file (there_is c.args.pool.now.images c.args.page there))
 
 given_back : (g : given.Over) (c : goal.After-unpin g) → c.unpin.new.self ≡ record c.pin.new.pool {
   images = slice_set c.pin.new.pool.images c.in_ok-frame.frame c.args.new;

@@ -31,6 +31,6 @@ returns-clause-err g c = λ honest.
     c.in_ok-header.ensures.reads c.store_page.ensures.err
 
 pub returns-clause-fault : goal.returns-clause-fault
-returns-clause-fault g c = λ honest file failed there.
+returns-clause-fault g c = λ honest file there.
     fails_to_store c.store_page.result c.args.pool.now c.read_header.new.pool c.store_page.new.pool honest file
-    c.in_ok-header.ensures.reads there c.store_page.ensures.fault failed
+    c.in_ok-header.ensures.reads there c.store_page.ensures.fault

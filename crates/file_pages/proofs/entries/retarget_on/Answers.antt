@@ -1,20 +1,21 @@
 -- The page's entries of the range name the bucket's page.
-use Rattle.std.proofs.Common.{◌≡◌, ◌∙◌, refl, subst, IsTrue, arith}
+use Rattle.std.proofs.Common.{◌≡◌, ◌∙◌, subst, IsTrue, arith}
 use Rattle.directory.specs.Pages.{IsDirectoryPage}
 use Rattle.file_pages.specs.Files.{image}
 use Rattle.file_pages.proofs.EntryLemmas.{retargeted_set, directory_file}
-use Rattle.file_pages.proofs.ReadLemmas.{image_was}
+use Rattle.file_pages.proofs.ReadLemmas.{handed_on, image_was}
 use Rattle.file_pages.proofs.WriteLemmas.{only_writes, written_store}
 use Rattle.file_pages.proofs.entries.retarget_on.Given as given
 use Rattle.file_pages.proofs.entries.retarget_on.Goals as goal
 
 pub returns-in_err-frame-clause-fault : goal.returns-in_err-frame-clause-fault
-returns-in_err-frame-clause-fault g c = λ honest file _.
-    let least = file.file.least in c.in_err-frame.ensures.fault honest file refl (omega (arith, least, c.requires.last))
+returns-in_err-frame-clause-fault g c = λ honest file.
+    let least = file.file.least in handed_on c.from_residual.result _ _ c.from_residual.ensures.1
+    (c.in_err-frame.ensures.fault honest file (omega (arith, least, c.requires.last)))
 
 -- a page of the directory passes the test
 pub returns-then-not-is_directory-clause-fault : goal.returns-then-not-is_directory-clause-fault
-returns-then-not-is_directory-clause-fault g c = λ honest file _.
+returns-then-not-is_directory-clause-fault g c = λ honest file.
     let was = image_was c.args.pool.now c.pin.new.pool _ c.in_ok-frame.frame c.image.result.now
     c.in_ok-frame.ensures.ok c.image.ensures honest in
     let passes = c.is_directory.ensures.taken (subst IsDirectoryPage was

@@ -1,7 +1,8 @@
 -- Of one depth there is one more, and of the next two less.
 use Rattle.directory.specs.declared.header.Header.{Header}
 use Rattle.hash_file.specs.Changes.{merge_counts}
-use Rattle.file_pages.proofs.HeaderLemmas.{merge_header, fails_after, header_changed, nothing_changed}
+use Rattle.file_pages.proofs.HeaderLemmas.{merge_header, header_changed, nothing_changed}
+use Rattle.file_pages.proofs.ReadLemmas.{fails_after}
 use Rattle.file_pages.proofs.WriteLemmas.{writes_on}
 use Rattle.file_pages.proofs.header.count_merge.Goals as goal
 
@@ -26,6 +27,6 @@ returns-clause-err g c = λ honest.
     c.in_ok-header.ensures.reads c.write_header.ensures.err
 
 pub returns-clause-fault : goal.returns-clause-fault
-returns-clause-fault g c = λ honest file failed may.
+returns-clause-fault g c = λ honest file may.
     fails_after c.write_header.result c.args.pool.now c.read_header.new.pool c.write_header.new.pool honest file
-    c.in_ok-header.ensures.reads c.write_header.ensures.fault failed
+    c.in_ok-header.ensures.reads c.write_header.ensures.fault

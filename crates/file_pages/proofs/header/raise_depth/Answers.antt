@@ -1,7 +1,8 @@
 -- The header gets the next depth.
 use Rattle.std.proofs.Common.{◌+◌}
 use Rattle.directory.specs.declared.header.Header.{Header}
-use Rattle.file_pages.proofs.HeaderLemmas.{fails_after, header_changed, nothing_changed}
+use Rattle.file_pages.proofs.HeaderLemmas.{header_changed, nothing_changed}
+use Rattle.file_pages.proofs.ReadLemmas.{fails_after}
 use Rattle.file_pages.proofs.WriteLemmas.{writes_on}
 use Rattle.file_pages.proofs.header.raise_depth.Goals as goal
 
@@ -24,6 +25,6 @@ returns-clause-err g c = λ honest.
     c.in_ok-header.ensures.reads c.write_header.ensures.err
 
 pub returns-clause-fault : goal.returns-clause-fault
-returns-clause-fault g c = λ honest file failed shallow.
+returns-clause-fault g c = λ honest file shallow.
     fails_after c.write_header.result c.args.pool.now c.read_header.new.pool c.write_header.new.pool honest file
-    c.in_ok-header.ensures.reads c.write_header.ensures.fault failed
+    c.in_ok-header.ensures.reads c.write_header.ensures.fault

@@ -4,7 +4,7 @@ use Rattle.bucket_page.specs.Reading.{page_in}
 use Rattle.bucket_page.specs.Spelling.{Spells}
 use Rattle.buffer_pool.proofs.TransferLemmas.{not_ok}
 use Rattle.file_pages.specs.Reads.{IsOnWay}
-use Rattle.file_pages.proofs.ReadLemmas.{only_reads, image_was, page_was}
+use Rattle.file_pages.proofs.ReadLemmas.{handed_on, image_was, never_fails, only_reads, page_was}
 use Rattle.file_pages.proofs.read.look.Goals as goal
 
 pub returns-in_err-frame-clause-reads : goal.returns-in_err-frame-clause-reads
@@ -12,8 +12,9 @@ returns-in_err-frame-clause-reads g c =
     rw (not_ok c.from_residual.result c.from_residual.ensures.0) (c.in_err-frame.ensures.err refl)
 
 pub returns-in_err-frame-clause-fault : goal.returns-in_err-frame-clause-fault
-returns-in_err-frame-clause-fault g c = λ honest file _ behind within on_way.
-    c.in_err-frame.ensures.fault honest file refl within
+returns-in_err-frame-clause-fault g c = λ honest file behind within on_way.
+    handed_on c.from_residual.result _ _ c.from_residual.ensures.1
+    (c.in_err-frame.ensures.fault honest file within)
 
 pub returns-clause-reads : goal.returns-clause-reads
 returns-clause-reads g c =
@@ -27,11 +28,11 @@ returns-clause-ok g c = λ honest.
     rw was c.see-sight.ensures.ok
 
 pub returns-clause-fault : goal.returns-clause-fault
-returns-clause-fault g c = λ honest file failed behind within on_way.
+returns-clause-fault g c = λ honest file behind within on_way.
     let image = image_was c.args.pool.now c.pin.new.pool _ c.in_ok-frame.frame c.image.result.now
     c.in_ok-frame.ensures.ok c.image.ensures honest in
     let was = page_was c.args.pool.now c.pin.new.pool _ c.in_ok-frame.frame c.image.result.now
     c.in_ok-frame.ensures.ok c.image.ensures honest behind in
-    absurd (c.see-sight.ensures.err failed
+    never_fails c.see-sight.result _ (λ failed. c.see-sight.ensures.err failed
     (subst (λ (p : List ℕ). Spells (page_in p) p) image (file.file.spelled c.args.page behind within))
     (subst IsOnWay was on_way))

@@ -4,7 +4,7 @@ use Rattle.bucket_page.specs.Reading.{page_in}
 use Rattle.bucket_page.specs.Spelling.{Spells}
 use Rattle.buffer_pool.proofs.TransferLemmas.{not_ok}
 use Rattle.hash_file.specs.Store.{is_bucket}
-use Rattle.file_pages.proofs.ReadLemmas.{only_reads, image_was, page_was, bucket_spelled, seen}
+use Rattle.file_pages.proofs.ReadLemmas.{bucket_spelled, handed_on, image_was, never_fails, only_reads, page_was, seen}
 use Rattle.file_pages.proofs.read.read_bucket.Goals as goal
 
 pub returns-in_err-frame-clause-reads : goal.returns-in_err-frame-clause-reads
@@ -12,8 +12,9 @@ returns-in_err-frame-clause-reads g c =
     rw (not_ok c.from_residual.result c.from_residual.ensures.0) (c.in_err-frame.ensures.err refl)
 
 pub returns-in_err-frame-clause-fault : goal.returns-in_err-frame-clause-fault
-returns-in_err-frame-clause-fault g c = λ honest file _ behind within bucket.
-    c.in_err-frame.ensures.fault honest file refl within
+returns-in_err-frame-clause-fault g c = λ honest file behind within bucket.
+    handed_on c.from_residual.result _ _ c.from_residual.ensures.1
+    (c.in_err-frame.ensures.fault honest file within)
 
 pub returns-clause-reads : goal.returns-clause-reads
 returns-clause-reads g c =
@@ -28,11 +29,12 @@ returns-clause-ok g c = λ honest.
     c.see_bucket-sight.ensures.ok)
 
 pub returns-clause-fault : goal.returns-clause-fault
-returns-clause-fault g c = λ honest file failed behind within bucket.
+returns-clause-fault g c = λ honest file behind within bucket.
     let image = image_was c.args.pool.now c.pin.new.pool _ c.in_ok-frame.frame c.image.result.now
     c.in_ok-frame.ensures.ok c.image.ensures honest in
     let was = page_was c.args.pool.now c.pin.new.pool _ c.in_ok-frame.frame c.image.result.now
     c.in_ok-frame.ensures.ok c.image.ensures honest behind in
-    absurd (c.see_bucket-sight.ensures.err failed (bucket_spelled c.image.result.now
+    never_fails c.see_bucket-sight.result _
+    (λ failed. c.see_bucket-sight.ensures.err failed (bucket_spelled c.image.result.now
     (subst (λ (p : List ℕ). Spells (page_in p) p) image (file.file.spelled c.args.page behind within))
     (ap is_bucket (sym was) ∙ bucket)))

@@ -5,7 +5,7 @@ use Rattle.directory.specs.Entries.{slot_at}
 use Rattle.directory.specs.Pages.{IsDirectoryPage}
 use Rattle.file_pages.specs.declared.fault.FileFault.{FileFault}
 use Rattle.file_pages.specs.Files.{image}
-use Rattle.file_pages.proofs.ReadLemmas.{only_reads, image_was}
+use Rattle.file_pages.proofs.ReadLemmas.{handed_on, image_was, never_fails, only_reads}
 use Rattle.file_pages.proofs.StoreLemmas.{entry_is}
 use Rattle.file_pages.proofs.read.read_entry.Goals as goal
 
@@ -14,10 +14,11 @@ returns-in_err-frame-clause-reads g c =
     rw (not_ok c.from_residual.result c.from_residual.ensures.0) (c.in_err-frame.ensures.err refl)
 
 pub returns-in_err-frame-clause-fault : goal.returns-in_err-frame-clause-fault
-returns-in_err-frame-clause-fault g c = λ honest file _.
+returns-in_err-frame-clause-fault g c = λ honest file.
     let least = file.file.least in
     let last = c.page_of.ensures.last c.requires.within in
-    c.in_err-frame.ensures.fault honest file refl (omega (arith, least, last))
+    handed_on c.from_residual.result _ _ c.from_residual.ensures.1
+    (c.in_err-frame.ensures.fault honest file (omega (arith, least, last)))
 
 pub returns-clause-reads : goal.returns-clause-reads
 returns-clause-reads g c =
@@ -39,9 +40,9 @@ returns-clause-ok g c = λ honest.
     (sym (entry_is c.args.pool.now.images c.args.index c.requires.within))
 
 pub returns-clause-fault : goal.returns-clause-fault
-returns-clause-fault g c = λ honest file failed.
+returns-clause-fault g c = λ honest file.
     let was = image_was c.args.pool.now c.pin.new.pool _ c.in_ok-frame.frame c.image.result.now
     c.in_ok-frame.ensures.ok c.image.ensures honest in
     let last = c.page_of.ensures.last c.requires.within in
-    absurd (c.entry_of-page.ensures.err failed (subst IsDirectoryPage was
+    never_fails c.entry_of-page.result _ (λ failed. c.entry_of-page.ensures.err failed (subst IsDirectoryPage was
     (file.file.directory c.page_of.result c.page_of.ensures.first last)))

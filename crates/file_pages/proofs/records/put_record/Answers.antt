@@ -5,6 +5,7 @@ use Rattle.bucket_page.specs.Records.{lookup, pair, record_bytes}
 use Rattle.bucket_page.specs.declared.layout.TheConstants.{RECORD_HEAD_BYTES, ROOM_BYTES}
 use Rattle.bucket_page.specs.Bucket.{Bucket}
 use Rattle.hash_file.specs.Changes.{Put}
+use Rattle.file_pages.proofs.ReadLemmas.{handed_on}
 use Rattle.file_pages.proofs.RecordLemmas.{bucket_there, bucket_was, keeps_file, record_written, there_within}
 use Rattle.bucket_page.specs.Changes.{Changes, inserted}
 use Rattle.bucket_page.specs.Reading.{records_in}
@@ -14,12 +15,13 @@ use Rattle.file_pages.proofs.records.put_record.Given as given
 use Rattle.file_pages.proofs.records.put_record.Goals as goal
 
 pub returns-in_err-frame-clause-fault : goal.returns-in_err-frame-clause-fault
-returns-in_err-frame-clause-fault g c = λ honest file _ there.
-    c.in_err-frame.ensures.fault honest file refl (there_within c.args.pool.now.images c.args.page there.there)
+returns-in_err-frame-clause-fault g c = λ honest file there.
+    handed_on c.from_residual.result _ _ c.from_residual.ensures.1
+    (c.in_err-frame.ensures.fault honest file (there_within c.args.pool.now.images c.args.page there.there))
 
 -- a bucket that may be written passes the test
 pub returns-then-not-takes-clause-fault : goal.returns-then-not-takes-clause-fault
-returns-then-not-takes-clause-fault g c = λ honest file _ there.
+returns-then-not-takes-clause-fault g c = λ honest file there.
     let bucket = bucket_there c.args.pool.now c.pin.new.pool _ c.in_ok-frame.frame c.image.result.now
     c.in_ok-frame.ensures.ok c.image.ensures honest file.file there.there in
     let was = bucket_was c.args.pool.now c.pin.new.pool _ c.in_ok-frame.frame c.image.result.now c.image.result.now

@@ -4,18 +4,20 @@ use Rattle.bucket_page.specs.Changes.{IsBucketPage}
 use Rattle.bucket_page.specs.Records.{lookup}
 use Rattle.bucket_page.specs.Bucket.{Bucket}
 use Rattle.hash_file.specs.Changes.{Remove}
+use Rattle.file_pages.proofs.ReadLemmas.{handed_on}
 use Rattle.file_pages.proofs.RecordLemmas.{bucket_there, bucket_was, keeps_file, record_written, there_within}
 use Rattle.file_pages.proofs.WriteLemmas.{only_writes, written_store}
 use Rattle.file_pages.proofs.records.remove_record.Given as given
 use Rattle.file_pages.proofs.records.remove_record.Goals as goal
 
 pub returns-in_err-frame-clause-fault : goal.returns-in_err-frame-clause-fault
-returns-in_err-frame-clause-fault g c = λ honest file _ there some.
-    c.in_err-frame.ensures.fault honest file refl (there_within c.args.pool.now.images c.args.page there)
+returns-in_err-frame-clause-fault g c = λ honest file there some.
+    handed_on c.from_residual.result _ _ c.from_residual.ensures.1
+    (c.in_err-frame.ensures.fault honest file (there_within c.args.pool.now.images c.args.page there))
 
 -- a bucket that may be written passes the test
 pub returns-then-not-has_record-clause-fault : goal.returns-then-not-has_record-clause-fault
-returns-then-not-has_record-clause-fault g c = λ honest file _ there some.
+returns-then-not-has_record-clause-fault g c = λ honest file there some.
     let bucket = bucket_there c.args.pool.now c.pin.new.pool _ c.in_ok-frame.frame c.image.result.now
     c.in_ok-frame.ensures.ok c.image.ensures honest file.file there in
     let was = bucket_was c.args.pool.now c.pin.new.pool _ c.in_ok-frame.frame c.image.result.now c.image.result.now

@@ -7,18 +7,20 @@ use Rattle.bucket_page.specs.Bucket.{Bucket}
 use Rattle.hash_file.specs.Changes.{RecordWrite, Replace, write_record}
 use Rattle.hash_file.specs.Store.{records_at}
 use Rattle.file_pages.specs.Files.{store_of}
+use Rattle.file_pages.proofs.ReadLemmas.{handed_on}
 use Rattle.file_pages.proofs.RecordLemmas.{bucket_there, bucket_was, keeps_file, record_written, there_within}
 use Rattle.file_pages.proofs.WriteLemmas.{only_writes, written_store}
 use Rattle.file_pages.proofs.records.replace_front.Given as given
 use Rattle.file_pages.proofs.records.replace_front.Goals as goal
 
 pub returns-in_err-frame-clause-fault : goal.returns-in_err-frame-clause-fault
-returns-in_err-frame-clause-fault g c = λ honest file _ there value long.
-    c.in_err-frame.ensures.fault honest file refl (there_within c.args.pool.now.images c.args.page there)
+returns-in_err-frame-clause-fault g c = λ honest file there value long.
+    handed_on c.from_residual.result _ _ c.from_residual.ensures.1
+    (c.in_err-frame.ensures.fault honest file (there_within c.args.pool.now.images c.args.page there))
 
 -- a bucket that may be written passes the test
 pub returns-then-not-has_front-clause-fault : goal.returns-then-not-has_front-clause-fault
-returns-then-not-has_front-clause-fault g c = λ honest file _ there value long.
+returns-then-not-has_front-clause-fault g c = λ honest file there value long.
     let bucket = bucket_there c.args.pool.now c.pin.new.pool _ c.in_ok-frame.frame c.image.result.now
     c.in_ok-frame.ensures.ok c.image.ensures honest file.file there in
     let was = bucket_was c.args.pool.now c.pin.new.pool _ c.in_ok-frame.frame c.image.result.now c.image.result.now

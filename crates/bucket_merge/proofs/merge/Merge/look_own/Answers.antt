@@ -1,4 +1,3 @@
-use Rattle.std.proofs.Common.{refl}
 use Rattle.file_pages.specs.declared.fault.FileFault.TheVariants.{Failed}
 use Rattle.bucket_merge.specs.Words.{Approaching}
 use Rattle.bucket_merge.proofs.ArmLemmas.{stays}
@@ -10,7 +9,7 @@ returns-in-Err g c = λ seat locks row.
     stays seat c.args.pool.now locks c.args.self.now Approaching c.in-Err.fault c.read_bucket.new.pool c.requires.place
     (own_not_read seat c.args.self.now.key c.args.self.now.approach c.args.pool.now c.read_bucket.new.pool locks
     c.args.depth c.args.page c.requires.reached c.in-Err.fault c.in-Err.ensures.reads
-    (λ honest file live. c.in-Err.ensures.fault honest file refl live.behind live.within live.bucket))
+    (λ honest file live. c.in-Err.ensures.fault honest file live.behind live.within live.bucket))
 
 -- the range of a live bucket is one
 pub returns-then-not-is_valid : goal.returns-then-not-is_valid

@@ -1,9 +1,10 @@
-use Rattle.std.proofs.Common.{refl, sym, ap, subst, is_ok, ◌∙◌, ◌≤◌, ℕ, List, slice_index_or}
+use Rattle.std.proofs.Common.{sym, ap, subst, is_ok, ◌∙◌, ◌≤◌, ℕ, List, slice_index_or}
 use Rattle.directory.specs.declared.header.Header.{Header}
 use Rattle.bucket_merge.specs.Words.{store_of}
+use Rattle.file_pages.proofs.ReadLemmas.{fails_after}
 use Rattle.hash_file.specs.Changes.{lower_depth}
 use Rattle.bucket_merge.proofs.LockArms.{leave_page}
-use Rattle.bucket_merge.proofs.FreeLemmas.{lowers, read_then_written, risen_later, ok_through, err_through}
+use Rattle.bucket_merge.proofs.FreeLemmas.{lowers, read_then_written, ok_through, err_through}
 use Rattle.bucket_merge.proofs.merge.Merge.lower_or_leave.Goals as goal
 
 pub returns-then-count-eq0 : goal.returns-then-count-eq0
@@ -24,9 +25,9 @@ returns-then-count-eq0 g c =
     (λ honest. ok_through c.lower_depth-done.result _ _
     (λ is. is ∙ ap (λ (images : List (List ℕ)). lower_depth (store_of images)) (reads.images honest))
     (c.lower_depth-done.ensures.ok (reads.honest ∙ honest)))
-    (λ honest file err. risen_later c.args.pool.now.faults c.read_header.new.pool.faults
-    c.lower_depth-done.new.pool.faults reads.later
-    (c.lower_depth-done.ensures.fault (reads.honest ∙ honest) (reads.file honest refl file) err
+    (λ honest file. fails_after c.lower_depth-done.result c.args.pool.now c.read_header.new.pool
+    c.lower_depth-done.new.pool honest file reads
+    (λ honest' file'. c.lower_depth-done.ensures.fault honest' file'
     (subst (λ (images : List (List ℕ)). 1 ≤ (store_of images).header.depth) (sym (reads.images honest))
     (subst (λ (h : Header). 1 ≤ h.depth) (c.in-Ok.ensures.ok honest) c.if-header-gt0.true))))
 

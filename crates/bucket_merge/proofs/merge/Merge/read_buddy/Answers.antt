@@ -1,4 +1,4 @@
-use Rattle.std.proofs.Common.{refl, sym, ap, ◌∙◌, ◌%◌, ◌^◌}
+use Rattle.std.proofs.Common.{sym, ap, ◌∙◌, ◌%◌, ◌^◌}
 use Rattle.file_pages.specs.declared.fault.FileFault.TheVariants.{Failed}
 use Rattle.hash_file.specs.Store.{entry_at}
 use Rattle.step_rules.proofs.OwnLemmas.{low_bits_below}
@@ -17,7 +17,7 @@ returns-in-Err g c = λ seat locks row.
     c.requires.place
     (buddy_not_read seat c.args.self.now.key c.args.self.now.approach c.args.pool.now c.read_entry.new.pool locks
     c.args.own c.requires.own c.in-Err.fault c.in-Err.ensures.reads
-    (λ honest file. c.in-Err.ensures.fault honest file refl))
+    c.in-Err.ensures.fault)
 
 -- no bucket is its own buddy
 pub returns-then-buddy-own : goal.returns-then-buddy-own

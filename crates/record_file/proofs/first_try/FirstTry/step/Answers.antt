@@ -74,7 +74,7 @@ returns-in-Err-clause-progress g c = λ hash change sees.
     ∙ ap (λ (f : Option ℕ). Some (page, f)) c.in-Some-default-None.field-0-1-is in
     let found = sees_found v page None at hash c.args.seat c.args.pool.now c.args.locks.now change sees' in
     read_fails hash c.args.seat _ c.args.pool.now c.args.locks.now change found page v.pseudokey found.known.0
-    found.known.1.0 (c.in-Err.ensures.fault sees'.honest sees'.file refl)
+    found.known.1.0 (c.in-Err.ensures.fault sees'.honest sees'.file)
 
 pub returns-in-Ok-put_record-clause-step : goal.returns-in-Ok-put_record-clause-step
 returns-in-Ok-put_record-clause-step g c = λ hash change before bare owns row keyed sees _.
@@ -113,10 +113,10 @@ returns-in-Err-put_record-clause-progress g c = λ hash change sees.
     let fault = rw (← c.self.invariant.key_is) at c.in-Err-put_record.ensures.fault in
     let used = ap (λ (x : BucketSight). x.used) (c.in-Ok.ensures.ok sees'.honest).says in
     let room = room_is c.in-Ok.sight.used (length c.args.value.now) (sym c.has_room.ensures ∙ c.if-has_room.true) in
-    put_fails hash c.args.seat c.args.pool.now c.args.locks.now change v page found c.read_bucket.new.pool _ reads
+    put_fails hash c.args.seat c.args.pool.now c.args.locks.now change v page found c.read_bucket.new.pool _ _ reads
     (length c.args.value.now)
     (subst (λ (n : ℕ). n + (RECORD_HEAD_BYTES + length c.args.value.now) ≤ ROOM_BYTES) used room)
-    (fault (reads.honest ∙ sees'.honest) (reads.file sees'.honest refl sees'.file) refl)
+    (fault (reads.honest ∙ sees'.honest) (reads.file sees'.honest refl sees'.file))
 
 -- ---- the bucket has no room
 

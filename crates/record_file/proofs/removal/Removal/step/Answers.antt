@@ -76,7 +76,7 @@ returns-in-Err-clause-progress g c = λ hash change sees.
     ∙ ap (λ (f : Option ℕ). Some (page, f)) c.in-Some-default-Some.field-0-1-is in
     let found = sees_found v page (Some bytes) at hash c.args.seat c.args.pool.now c.args.locks.now change sees' in
     read_fails hash c.args.seat _ c.args.pool.now c.args.locks.now change found page v.pseudokey found.known.0
-    found.known.1.0 (c.in-Err.ensures.fault sees'.honest sees'.file refl)
+    found.known.1.0 (c.in-Err.ensures.fault sees'.honest sees'.file)
 
 pub returns-in-Ok-remove_record-clause-step : goal.returns-in-Ok-remove_record-clause-step
 returns-in-Ok-remove_record-clause-step g c = λ hash change before bare owns row keyed sees _.
@@ -145,7 +145,7 @@ returns-in-Err-remove_record-clause-progress g c = λ hash change sees.
     let reads = c.in-Ok.ensures.reads in
     let fault = rw (← c.self.invariant.key_is) at c.in-Err-remove_record.ensures.fault in
     removal_fails hash c.args.seat c.args.pool.now c.args.locks.now change v page bytes found c.read_bucket.new.pool _
-    reads (fault (reads.honest ∙ sees'.honest) (reads.file sees'.honest refl sees'.file) refl)
+    _ reads (fault (reads.honest ∙ sees'.honest) (reads.file sees'.honest refl sees'.file))
 
 -- ---- the page is given back
 

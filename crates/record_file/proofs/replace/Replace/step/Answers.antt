@@ -1,5 +1,5 @@
 -- The search goes on, the record is written, or the page is given back.
-use Rattle.std.proofs.Common.{◌≡◌, refl, sym, ap, ◌∙◌, ℕ, Option, Some, None}
+use Rattle.std.proofs.Common.{◌≡◌, sym, ap, ◌∙◌, ℕ, Option, Some, None}
 use Rattle.stale_search.proofs.StayLemmas.{Stays-of}
 use Rattle.record_file.specs.Words.{SearchView, Selective, store_of, steps_left, found_at}
 use Rattle.record_file.specs.declared.replace.ReplaceStage.TheVariants.{Searching}
@@ -92,7 +92,7 @@ returns-in-Err-clause-progress g c = λ hash change keyed short sees.
     let found = sees_found v page (Some bytes) at hash c.args.seat c.args.pool.now c.args.locks.now change sees' in
     let fault = rw (← c.self.invariant.key_is) at c.in-Err.ensures.fault in
     fronting_fails hash c.args.seat c.args.pool.now c.args.locks.now change v page bytes found keyed' c.args.front.now
-    short' (fault sees'.honest sees'.file refl)
+    short' (fault sees'.honest sees'.file)
 
 -- ---- the page is given back
 

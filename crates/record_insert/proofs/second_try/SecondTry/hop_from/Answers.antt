@@ -1,4 +1,4 @@
-use Rattle.std.proofs.Common.{refl, ap, ◌∙◌, []}
+use Rattle.std.proofs.Common.{ap, ◌∙◌, []}
 use Rattle.page_locks.specs.Table.{Table, without_lock}
 use Rattle.file_pages.specs.declared.fault.FileFault.TheVariants.{Failed}
 use Rattle.record_insert.specs.Words.{Page}
@@ -57,4 +57,4 @@ returns-in-Err g c = λ hash value.
     let v = c.self.inside in
     rw (← c.self.view_is, is) (not_looked hash c.args.seat v.key v.pseudokey v.bytes value c.args.pool.now
     c.args.locks.now c.args.depth c.args.page c.look.new.pool c.in-Err.fault c.in-Err.ensures.reads
-    (λ honest file. c.in-Err.ensures.fault honest file refl))
+    c.in-Err.ensures.fault)

@@ -1,4 +1,4 @@
-use Rattle.std.proofs.Common.{refl, sym, ◌∙◌}
+use Rattle.std.proofs.Common.{sym, ◌∙◌}
 use Rattle.file_pages.specs.declared.fault.FileFault.TheVariants.{Failed}
 use Rattle.record_file.proofs.RoomLemmas.{no_room_is}
 use Rattle.record_insert.proofs.LookLemmas.{not_looked, is_named, is_there, not_read, fits, is_full, is_too_deep, splits, no_length}
@@ -18,7 +18,7 @@ returns-in-Err g c = λ value lent hash seat locks.
     let v = c.self.inside in
     rw (← c.self.view_is, is) (not_looked hash seat v.key v.pseudokey v.bytes value c.args.pool.now locks c.args.depth
     c.args.page c.in-Err.fault c.look.new.pool c.in-Err.ensures.reads
-    (λ honest file. c.in-Err.ensures.fault honest file refl))
+    c.in-Err.ensures.fault)
 
 pub returns-then-is_some : goal.returns-then-is_some
 returns-then-is_some g c = λ value lent hash seat locks.
@@ -38,7 +38,7 @@ returns-in-Err-read_bucket g c = λ value lent hash seat locks.
     c.args.page c.look.new.pool c.read_bucket.new.pool c.in-Ok-Covering.ensures.reads
     (λ honest. rw (c.in-Ok-Covering.field-0-is, none) at (c.in-Ok-Covering.ensures.ok honest))
     c.in-Err-read_bucket.fault c.in-Err-read_bucket.ensures.reads
-    (λ honest file. c.in-Err-read_bucket.ensures.fault honest file refl))
+    c.in-Err-read_bucket.ensures.fault)
 
 pub returns-then-has_room : goal.returns-then-has_room
 returns-then-has_room g c = λ value lent hash seat locks.

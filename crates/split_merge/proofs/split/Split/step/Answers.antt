@@ -1,5 +1,5 @@
 -- Each step, from what its place knows.
-use Rattle.std.proofs.Common.{◌≡◌, refl, sym, ap, subst, ◌∙◌, ℕ, List}
+use Rattle.std.proofs.Common.{◌≡◌, sym, ap, subst, ◌∙◌, ℕ, List}
 use Rattle.page_locks.specs.Locks.{without}
 use Rattle.page_locks.specs.Table.{Table, row_of, with_row}
 use Rattle.page_locks.proofs.TableLemmas.{row_of-same}
@@ -72,7 +72,7 @@ pub returns-in-Err-clause-progress : goal.returns-in-Err-clause-progress
 returns-in-Err-clause-progress g c = λ change sees.
     let sees' = rw (← c.self.view_is, c.in-TakePage.is) at sees in
     record {
-      risen = c.in-Err.ensures.fault sees'.honest sees'.file refl
+      devices = c.in-Err.ensures.fault sees'.honest sees'.file
           (first_free_is_there _ _ (rw sees'.known.0.1 at sees'.sound.file)
           (ap (λ l. l.root) (layout_is c.args.pool.now.images)));
       images = c.in-Err.ensures.err sees'.honest;
@@ -109,7 +109,7 @@ returns-in-Err-write_new-clause-progress g c = λ change sees.
     let laid = layout_is c.args.pool.now.images in
     let w = world c.args.pool.now.images c.args.locks.now change in
     record {
-      risen = c.in-Err-write_new.ensures.fault sees'.honest sees'.file refl
+      devices = c.in-Err-write_new.ensures.fault sees'.honest sees'.file
           (may_split _ c.args.seat _ inv w sees'.sound laid sees'.known.1.1)
           (taken_is_there _ c.args.seat _ inv w sees'.sound laid c.in-WriteNew.new sees'.known);
       images = c.in-Err-write_new.ensures.err sees'.honest;
@@ -129,7 +129,7 @@ returns-in-Err-write_old-clause-progress g c = λ change sees.
     let inv = rw c.in-WriteOld.is at c.self.invariant in
     let w = world c.args.pool.now.images c.args.locks.now change in
     record {
-      risen = c.in-Err-write_old.ensures.fault sees'.honest sees'.file refl
+      devices = c.in-Err-write_old.ensures.fault sees'.honest sees'.file
           (may_split _ c.args.seat _ inv w sees'.sound (layout_is c.args.pool.now.images) sees'.known.1.1);
       images = c.in-Err-write_old.ensures.err sees'.honest;
     }
@@ -157,7 +157,7 @@ returns-in-Err-retarget-clause-progress g c = λ change sees.
     let may = may_retarget _ c.args.seat _ inv (world c.args.pool.now.images c.args.locks.now change) sees'.sound
     (layout_is c.args.pool.now.images) c.in-Retarget.new c.in-Retarget.entry inv.placed in
     record {
-      risen = c.in-Err-retarget.ensures.fault sees'.honest sees'.file refl
+      devices = c.in-Err-retarget.ensures.fault sees'.honest sees'.file
           (subst (λ (n : ℕ). MayRetarget n c.upper_half-in-Retarget.result) (sym c.page_of.ensures.value)
           (subst (MayRetarget (page_of c.in-Retarget.entry)) (sym c.upper_half-in-Retarget.ensures) may));
       images = c.in-Err-retarget.ensures.err sees'.honest;
@@ -176,7 +176,7 @@ returns-in-Err-count_split-clause-progress g c = λ change sees.
     let inv = rw c.in-SetCounts.is at c.self.invariant in
     let w = world c.args.pool.now.images c.args.locks.now change in
     record {
-      risen = c.in-Err-count_split.ensures.fault sees'.honest sees'.file refl
+      devices = c.in-Err-count_split.ensures.fault sees'.honest sees'.file
           (may_count _ c.args.seat _ inv w sees'.sound (layout_is c.args.pool.now.images) _ sees'.known);
       images = c.in-Err-count_split.ensures.err sees'.honest;
     }

@@ -1,4 +1,4 @@
-use Rattle.std.proofs.Common.{◌≡◌, refl, sym, ap, ◌∙◌, ℕ, suc, List, [], ◌∷◌, ◌++◌, length, arith}
+use Rattle.std.proofs.Common.{◌≡◌, sym, ap, ◌∙◌, ℕ, suc, List, [], ◌∷◌, ◌++◌, length, arith}
 use Rattle.std.proofs.lemmas.List.{length_push}
 use Rattle.step_rules.specs.Words.{Lock, Page, Store, distance, Answers}
 use Rattle.stale_search.specs.Words.{kind_of, lock_of, without, Table, row_of, with_row, without_lock, store_of}
@@ -110,7 +110,7 @@ returns-in-Err-clause-progress g c =
     let sees' = rw (← c.self.view_is, here) at sees in
     let in_file = leads_in_file hash c.args.pool.now.images c.args.page change c.self.inside.pseudokey
     sees'.sound.file sees'.known.0.1 in
-    c.in-Err.ensures.fault sees'.honest sees'.file refl in_file.behind in_file.within in_file.on_way
+    c.in-Err.ensures.fault sees'.honest sees'.file in_file.behind in_file.within in_file.on_way
 
 pub returns-in-Granted-clause-progress : goal.returns-in-Granted-clause-progress
 returns-in-Granted-clause-progress g c =

@@ -48,4 +48,4 @@ returns-in-Err-clause-progress g c =
     let sees' = rw (← c.self.view_is, here) at sees in
     let in_file = leads_in_file hash c.args.pool.now.images c.args.page change c.self.inside.pseudokey
     sees'.sound.file sees'.known.0.1 in
-    c.in-Err.ensures.fault sees'.honest sees'.file refl in_file.behind in_file.within in_file.on_way
+    c.in-Err.ensures.fault sees'.honest sees'.file in_file.behind in_file.within in_file.on_way
