@@ -7,13 +7,12 @@ use Rattle.one_caller.specs.OneBucket.{Leaves, OneBucketState, Shows, device_in}
 use Rattle.one_caller.specs.declared.file_fault.CloseFault.{CloseFault}
 use Rattle.bucket_page.specs.declared.record_key.RecordKey.{RecordKey}
 use Rattle.directory.specs.declared.layout.TheConstants.{ROOT_PAGE}
-use Rattle.file_check.specs.Whole.{IsFileOf}
 use Rattle.one_bucket_file.specs.Files.{root_records}
 use Rattle.one_caller.proofs.FileLaws.{changes_root_page, root_within}
 use Rattle.one_caller.proofs.PseudokeyLemmas.{any_pseudokeys}
 use Rattle.one_bucket_file.proofs.KeptLaws.{keeps_structure}
-use Rattle.one_bucket_file.proofs.RootLaws.{one_bucket_shows, root_is_alone}
-use Rattle.one_caller.specs.Opening.{HasManyBuckets}
+use Rattle.one_bucket_file.proofs.RootLaws.{one_bucket_shows}
+use Rattle.one_caller.specs.Opening.{HasOneBucket}
 use Rattle.type_chains.specs.Fits.{HasFittingCall, HasFittingCaller}
 use Rattle.type_chains.specs.RecordOf.{record_of}
 use Rattle.one_caller.specs.declared.fault.CallFault.{CallFault}
@@ -66,27 +65,11 @@ held_open hash s content file it shown =
       };
     }
 
--- a file that is opened and not broken has one bucket
-pub holds_file : (hash : RecordKey → ℕ) (s : State) (content : List (List ℕ)) (file : OneBucketState)
-    → IsFileOf hash content s → Shows content file → file.broken ≡ false
-    → HoldsFile hash content (record { file = file; stopped = false; failed = false })
-holds_file hash s content file it shown whole =
-    let one = root_is_alone hash content s file.records it (shown.is_root whole) in
-    record { system = s; file = one; held = held_open hash s content file one shown }
-
--- a file that is broken when it is opened, and with which nothing is wrong, has many
-pub has_many : (hash : RecordKey → ℕ) (s : State) (content : List (List ℕ)) (file : OneBucketState)
-    → IsFileOf hash content s → Shows content file → file.broken ≡ true → HasManyBuckets hash content
-has_many hash s content file it shown broken = record {
-  system = s;
-  file = it;
-  more = λ root.
-      let whole = (held_open hash s content file (record { file = it; root = root }) shown).file.whole in
-      absurd (clash (sym whole ∙ broken));
-}
-  where
-    clash : ◌≡◌ {A = Bool} false true → ⊥
-    clash same = cc
+-- what was opened holds the system of its pages
+pub holds_file : (hash : RecordKey → ℕ) (content : List (List ℕ)) (file : OneBucketState) → HasOneBucket hash content
+    → Shows content file → HoldsFile hash content (record { file = file; stopped = false; failed = false })
+holds_file hash content file it shown =
+    record { system = it.0; file = it.1; held = held_open hash it.0 content file it.1 shown }
 
 pub held_closed : (hash : RecordKey → ℕ) (c : CallerState) (s : State) (content : List (List ℕ)) → Holds c s
     → IsTrue c.file.honest → Leaves c.file content → IsOneBucketFile hash content (restarted s)

@@ -23,7 +23,6 @@ use Rattle.record_file.specs.Files.{root_bucket}
 use Rattle.record_file.proofs.FileLemmas.{read_again}
 use Rattle.file_walk.specs.Files.{page_on, payload_on}
 use Rattle.file_walk.specs.Order.{HasHeader}
-use Rattle.file_walk.specs.Readings.{IsPayloadOf}
 use Rattle.one_caller.specs.OneBucket.{OneBucketState, IsKept, IsPinnedRoot, IsRoot, Leaves, Shows, root_payload, shown, without_root}
 
 pub false_not_true : ◌≡◌ {A = Bool} false true → ⊥
@@ -34,14 +33,11 @@ pub payload_among : (content : List (List ℕ)) →
     slice_index_or (payloads_of content) ROOT_PAGE [] ≡ payload_on content ROOT_PAGE
 payload_among content = get_or-map payload_of content ROOT_PAGE []
 
--- page 0 that was read and unsealed
-pub header_payload : (content : List (List ℕ)) (page payload : List ℕ) → slice_get content 0 ≡ Some page
-    → IsSealed 0 page → payload ≡ payload_of page → IsPayloadOf content 0 payload
-header_payload content page payload found sealed is =
-    let same : page_on content 0 ≡ page = get_or_from_slice_get content 0 page [] found in
-    record { sealed = subst (IsSealed 0) (sym same) sealed; value = is ∙ ap payload_of (sym same) }
-
 -- ---- the test of the root page
+
+-- a root bucket's payload is that of a page
+pub root_well : (rs : List Pair) (payload : List ℕ) → IsRoot rs payload → IsWell payload
+root_well rs payload root = page_well (kinds.Bucket (root_bucket rs)) payload root
 
 -- a bucket that has the range of all pseudokeys and nothing behind it
 pub root_is : (payload : List ℕ) (b : Bucket) → SpellsBucket b payload → b.depth ≡ 0 → b.pattern ≡ 0 → b.next ≡ 0
@@ -188,7 +184,7 @@ not_pinned s (pools.Device device.NoMemory) content honest images stored rest so
     absurd told
 not_pinned s pools.Malformed content honest images stored rest some least other past crowded told rs sealed it =
     told honest (subst IsWell (sym (ap (λ xs. slice_index_or xs ROOT_PAGE []) images ∙ payload_among content))
-    (page_well (kinds.Bucket (root_bucket rs)) (payload_on content ROOT_PAGE) it))
+    (root_well rs (payload_on content ROOT_PAGE) it))
 not_pinned s pools.TooFewFrames content honest images stored rest some least other past crowded told rs sealed it =
     absurd (omega (arith, (crowded refl).all_pinned, count_none s.pins rest, some))
 not_pinned s pools.NoMemory content honest images stored rest some least other past crowded told rs sealed it =

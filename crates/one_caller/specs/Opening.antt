@@ -1,22 +1,25 @@
 -- Why a file is not opened.
 -- docs/FAULTS.md; docs/FORMAT.md, "Pages".
-use Rattle.std.specs.Prelude.{◌≡◌, ◌≢◌, ◌⊎◌, ℕ, List, ⊤}
+use Rattle.std.specs.Prelude.{◌≡◌, ◌≢◌, ◌⊎◌, ℕ, ◌<◌, ◌≤◌, List, length, ⊤}
 use Rattle.bucket_page.specs.declared.record_key.RecordKey.{RecordKey}
 use Rattle.directory.specs.declared.layout.TheConstants.{ROOT_PAGE}
 use Rattle.file_check.specs.Whole.{IsFileOf, IsToldOf}
 use Rattle.file_check.specs.declared.fault.CheckFault.TheVariants.{Structure}
-use Rattle.file_walk.specs.Files.{payload_on}
+use Rattle.file_walk.specs.Files.{page_on, payload_on}
 use Rattle.file_walk.specs.Order.{IsHeaderFault, IsOfMachine}
-use Rattle.one_bucket_file.specs.Files.{IsRoot, root_records}
+use Rattle.file_walk.specs.declared.fault.StructureFault.{StructureFault}
+use Rattle.file_walk.specs.declared.fault.StructureFault.TheVariants as faults
+use Rattle.one_bucket_file.specs.Files.{IsOneBucketFile, IsRoot, root_records}
 use Rattle.one_caller.specs.FileFault.{device_failed}
 use Rattle.one_caller.specs.declared.file_fault.OpenFault.{OpenFault}
 use Rattle.one_caller.specs.declared.file_fault.OpenFault.TheVariants.{TooFewFrames, Wrong, ManyBuckets}
 use Rattle.page_device.specs.Device.{HasRisen}
+use Rattle.page_device.specs.Sealed.{IsSealed}
 use Rattle.queue_model.specs.State.{State}
 
--- the file of some system
-abbrev pub HasSystem : (RecordKey → ℕ) → List (List ℕ) → Type 0
-HasSystem hash content = (s : State) × IsFileOf hash content s
+-- the file of some system, whose records all stand in the root bucket
+abbrev pub HasOneBucket : (RecordKey → ℕ) → List (List ℕ) → Type 0
+HasOneBucket hash content = (s : State) × IsOneBucketFile hash content s
 
 -- the file of a system, whose root page is no root bucket's: its bucket has not the range of all pseudokeys
 pub record HasManyBuckets (hash : RecordKey → ℕ) (content : List (List ℕ)) : Type 0 where
@@ -36,7 +39,13 @@ pub record IsOfCheck (old new : ℕ) (fault : OpenFault) : Type 0 where
   pub framed : fault ≢ TooFewFrames
   pub failed : fault ≡ device_failed → HasRisen old new
 
--- so by page 0 alone
+-- what reading page n tells: there is none, or it is not sealed
+abbrev pub IsUnread : List (List ℕ) → ℕ → StructureFault → Type 0
+IsUnread content n fault =
+    ((fault ≡ faults.PastEnd) × (length content ≤ n))
+    ⊎ ((fault ≡ faults.BadDigest n) × (n < length content) × (IsSealed n (page_on content n) → ⊥))
+
+-- why a caller does not open these pages, by page 0 alone
 abbrev pub MayRefuseHeader : List (List ℕ) → OpenFault → Type 0
 MayRefuseHeader content TooFewFrames = ⊤
 MayRefuseHeader content (Wrong (Structure fault)) = IsOfMachine fault ⊎ IsHeaderFault content fault

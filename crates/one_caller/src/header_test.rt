@@ -4,9 +4,10 @@ ghost use Rattle.std.specs.Prelude.{◌≡◌, ◌⊎◌, ◌≤◌, length, IsT
 ghost use Rattle.directory.specs.declared.layout.TheConstants.{LEAST_PAGES};
 ghost use Rattle.file_walk.specs.Order.{HasHeader, HasReadCause, IsHeaderFault, IsOfMachine};
 
+use crate::sealed_page::read_sealed;
 use directory::{HeaderFault, LEAST_PAGES, read_header};
 use file_walk::StructureFault;
-use page_device::{DeviceFault, PAGE_BYTES, PageDevice, unseal};
+use page_device::PageDevice;
 
 /// Tests the header: first its digest, then its own bytes, then its number of pages.
 pub fn test_header<D: PageDevice>(device: &mut D) -> Result<(), StructureFault>
@@ -19,18 +20,7 @@ pub fn test_header<D: PageDevice>(device: &mut D) -> Result<(), StructureFault>
     ensures cause { HasReadCause (D.fault_count device.old) (D.fault_count device.new) result }
 {
     let pages = device.pages();
-    if pages == 0 {
-        return Err(StructureFault::PastEnd);
-    }
-    let mut page = [0; PAGE_BYTES];
-    match device.read(0, &mut page) {
-        Ok(()) => {}
-        Err(DeviceFault::PastEnd) => return Err(StructureFault::PastEnd),
-        Err(_) => return Err(StructureFault::Device),
-    }
-    let Ok(payload) = unseal(0, &page) else {
-        return Err(StructureFault::BadDigest { page: 0 });
-    };
+    let payload = read_sealed(device, 0)?;
     let header = match read_header(&payload) {
         Ok(header) => header,
         Err(HeaderFault::BadHeader) => return Err(StructureFault::BadHeader),

@@ -14,6 +14,7 @@ mod header_test;
 mod laws;
 mod one_bucket;
 mod one_caller;
+mod sealed_page;
 mod serve;
 mod served;
 mod sweep;

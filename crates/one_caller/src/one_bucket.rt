@@ -210,7 +210,7 @@ impl<D: PageDevice> OneBucket<D> {
 }
 
 /// Whether a page is a root bucket: one of all pseudokeys, with no other behind it.
-fn is_root(page: &FilePage) -> bool
+pub(crate) fn is_root(page: &FilePage) -> bool
     ensures { IsTrue result ↔ IsRoot (records_in page.now) page.now }
 {
     let Some(bucket) = page.bucket() else {

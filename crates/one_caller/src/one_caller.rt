@@ -60,8 +60,7 @@ impl<D: PageDevice> OneCaller<D> {
         ensures refused { IsTrue (D.is_honest device) → IfErr result (λ refusal.
             MayRefuse (K.of_key keys) (D.content device) refusal.1) }
         ensures err { IfErr result (λ refusal.
-            (refusal.1 ≢ device_failed → refusal.1 ≢ OpenFault.ManyBuckets →
-            D.content refusal.0 ≡ D.content device)
+            (refusal.1 ≢ device_failed → D.content refusal.0 ≡ D.content device)
             × (D.is_honest refusal.0 ≡ D.is_honest device)) }
         ensures cause { IfErr result (λ refusal. refusal.1 ≡ device_failed →
             HasRisen (D.fault_count device) (D.fault_count refusal.0)) }
@@ -71,9 +70,6 @@ impl<D: PageDevice> OneCaller<D> {
         }
         let device = checked(alloc, device, keys)?;
         let file = OneBucket::open(alloc, device, frames)?;
-        if file.is_broken() {
-            return Err((file.abandon(), OpenFault::ManyBuckets));
-        }
         Ok(OneCaller {
             file,
             stopped: false,

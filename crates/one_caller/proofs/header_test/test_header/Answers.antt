@@ -2,32 +2,28 @@
 use Rattle.std.proofs.Common.{inr, refl, sym, ◌∙◌, ap, subst, arith, ◌≡◌, length}
 use Rattle.directory.specs.Spelling.{IsHeader}
 use Rattle.file_walk.proofs.PageLemmas.{header_is, header_read, header_cut, header_too_long}
-use Rattle.one_caller.proofs.OpenLemmas.{header_payload}
 use Rattle.one_caller.proofs.header_test.test_header.Goals as goal
 
 pub returns-then-pages-header-clause-refused : goal.returns-then-pages-header-clause-refused
 returns-then-pages-header-clause-refused g c = λ honest.
-    let p = header_payload _ _ _ (c.in-Ok.ensures.ok honest) (c.in-Ok-unseal.ensures.sealed.0 refl)
-    c.in-Ok-unseal.ensures.payload in
-    inr (inr (header_cut _ _ _ _ p c.in-Ok-read_header.ensures.value c.pages-pages.ensures c.if-pages-header.true))
+    let p = c.in_ok-payload.ensures.ok honest in
+    inr (inr (header_cut _ _ _ _ p c.in-Ok.ensures.value c.pages-pages.ensures c.if-pages-header.true))
 
 pub returns-then-pages-header-2-clause-refused : goal.returns-then-pages-header-2-clause-refused
 returns-then-pages-header-2-clause-refused g c = λ honest.
-    let p = header_payload _ _ _ (c.in-Ok.ensures.ok honest) (c.in-Ok-unseal.ensures.sealed.0 refl)
-    c.in-Ok-unseal.ensures.payload in
-    inr (inr (header_too_long _ _ _ _ p c.in-Ok-read_header.ensures.value c.pages-pages.ensures
+    let p = c.in_ok-payload.ensures.ok honest in
+    inr (inr (header_too_long _ _ _ _ p c.in-Ok.ensures.value c.pages-pages.ensures
     c.if-pages-header-2.true))
 
 pub returns-clause-ok : goal.returns-clause-ok
 returns-clause-ok g c = λ honest.
-    let p = header_payload _ _ _ (c.in-Ok.ensures.ok honest) (c.in-Ok-unseal.ensures.sealed.0 refl)
-    c.in-Ok-unseal.ensures.payload in
-    let e = c.in-Ok-read_header.ensures.value in
-    let same : c.in-Ok-read_header.header.pages ≡ length (g.D.PageDevice.content c.args.device.now) =
+    let p = c.in_ok-payload.ensures.ok honest in
+    let e = c.in-Ok.ensures.value in
+    let same : c.in-Ok.header.pages ≡ length (g.D.PageDevice.content c.args.device.now) =
     omega (arith, c.if-pages-header-2.false, c.if-pages-header.false, c.pages-pages.ensures) in
     record {
       sealed = p.sealed;
       read = header_read _ _ _ p e;
-      in_range = subst IsHeader (header_is _ _ _ p e) c.in-Ok-read_header.ensures.ok.in_range;
+      in_range = subst IsHeader (header_is _ _ _ p e) c.in-Ok.ensures.ok.in_range;
       as_many = sym (ap (λ h. h.pages) (header_is _ _ _ p e)) ∙ same;
     }

@@ -4,25 +4,14 @@ use Rattle.std.proofs.lemmas.Bool.Decides.{nat_tests}
 use Rattle.buffer_pool.proofs.TransferLemmas.{handed_on}
 use Rattle.one_caller.specs.declared.file_fault.OpenFault.TheVariants.{TooFewFrames}
 use Rattle.one_caller.specs.OneBucket.{Shows}
-use Rattle.one_caller.proofs.HoldLemmas.{has_many, holds_file}
+use Rattle.one_caller.proofs.HoldLemmas.{holds_file}
 use Rattle.one_caller.proofs.one_caller.OneCaller.open.Goals as goal
 
 pub returns-clause-ok : goal.returns-clause-ok
 returns-clause-ok g c = λ honest.
-    let sound = c.in_ok-device.ensures.ok honest in
     let shown = c.in_ok-file.ensures.ok (subst IsTrue (sym c.in_ok-device.ensures.honest) honest) in
-    holds_file _ sound.0 _ c.in_ok-file.file sound.1
+    holds_file _ _ c.in_ok-file.file (c.in_ok-device.ensures.ok honest)
     (subst (λ content. Shows content c.in_ok-file.file) c.in_ok-device.ensures.same shown)
-    (sym c.if-is_broken.ensures)
-
--- nothing is wrong with a file that is broken, so it has many buckets
-pub returns-then-is_broken-clause-refused : goal.returns-then-is_broken-clause-refused
-returns-then-is_broken-clause-refused g c = λ honest.
-    let sound = c.in_ok-device.ensures.ok honest in
-    let shown = c.in_ok-file.ensures.ok (subst IsTrue (sym c.in_ok-device.ensures.honest) honest) in
-    has_many _ sound.0 _ c.in_ok-file.file sound.1
-    (subst (λ content. Shows content c.in_ok-file.file) c.in_ok-device.ensures.same shown)
-    (sym c.if-is_broken.ensures)
 
 pub returns-in_err-device-clause-few : goal.returns-in_err-device-clause-few
 returns-in_err-device-clause-few g c = (
