@@ -70,13 +70,11 @@ impl Inquiry for ReceiveInquiry {
         found: Option<Record<'_>>,
         room: &mut Room,
     ) -> Result<(), NotASystem> {
-        self.stage = self.stage.take(self.caller, arguments, found, room)?;
-        Ok(())
+        self.stage.take(self.caller, arguments, found, room)
     }
 
     fn take_given(&mut self, arguments: &ReceiveArguments, given: bool) -> Result<(), NotASystem> {
-        self.stage = self.stage.take_given(self.caller, arguments, given)?;
-        Ok(())
+        self.stage.take_given(self.caller, arguments, given)
     }
 
     fn decide(&self, _arguments: &ReceiveArguments) -> Result<Decision, NotASystem> {

@@ -1,6 +1,6 @@
 //! How far a Receive has come with its reading.
 
-ghost use Rattle.std.specs.Prelude.{◌≡◌, ◌&&◌, ◌≤◌, ◌<◌, IfOk, Ok, OnErr, Some, int_lt, is_none, length, pos, take};
+ghost use Rattle.std.specs.Prelude.{◌≡◌, ◌&&◌, ◌≤◌, ◌<◌, IfOk, Ok, OnErr, OnOk, Some, int_lt, is_none, length, pos, take};
 ghost use Rattle.queue_model.specs.declared.caller.Caller.{Caller};
 ghost use Rattle.queue_model.specs.State.{State};
 ghost use Rattle.queue_records.specs.declared.message_entry.MessageEntry.{MessageEntry};
@@ -65,32 +65,32 @@ impl Stage {
     }
 
     /// Where it goes on by what is known of the queue.
-    pub fn of_sought(caller: Caller, arguments: &ReceiveArguments, sought: Sought) -> Stage
+    pub fn of_sought(caller: Caller, arguments: &ReceiveArguments, sought: &Sought) -> Stage
         ensures knows { (room : Roomful) (s : State) → IsFiled s → HasRoomFor arguments.now room →
-            Tells arguments.now.id sought s → KnowsAt caller arguments.now result room s }
-        ensures left { asks_left result ≤ asks_of_sought sought }
+            Tells arguments.now.id sought.now s → KnowsAt caller arguments.now result room s }
+        ensures left { asks_left result ≤ asks_of_sought sought.now }
     {
         match sought {
-            Sought::Unread | Sought::Absent => Stage::Seeking(sought),
+            Sought::Unread | Sought::Absent => Stage::Seeking(*sought),
             Sought::Found(queue) => Stage::of_queue(caller, arguments, queue),
-            Sought::Refused(errno) => Stage::Refused(errno),
+            Sought::Refused(errno) => Stage::Refused(*errno),
         }
     }
 
     /// Where it goes on once the Queue is read: who may not read is refused, and the type selects.
-    fn of_queue(caller: Caller, arguments: &ReceiveArguments, queue: QueueEntry) -> Stage
+    fn of_queue(caller: Caller, arguments: &ReceiveArguments, queue: &QueueEntry) -> Stage
         ensures knows { (room : Roomful) (s : State) → IsFiled s → HasRoomFor arguments.now room →
-            IsEntryOf arguments.now.id queue s → KnowsAt caller arguments.now result room s }
+            IsEntryOf arguments.now.id queue.now s → KnowsAt caller arguments.now result room s }
         ensures left { asks_left result ≤ 2 }
     {
-        if permissions_in(&queue).keeps_out(Access::Read, caller) {
+        if permissions_in(queue).keeps_out(Access::Read, caller) {
             return Stage::Refused(Errno::EACCES);
         }
         let Some(serial) = queue.first else {
             return put_off(arguments);
         };
         if arguments.mtype > 0 {
-            return Stage::AtType(queue, arguments.mtype);
+            return Stage::AtType(*queue, arguments.mtype);
         }
         if arguments.mtype < 0 {
             let Some(lowest) = queue.lowest else {
@@ -99,51 +99,57 @@ impl Stage {
             if lowest.unsigned_abs() > arguments.mtype.unsigned_abs() {
                 return put_off(arguments);
             }
-            return Stage::AtType(queue, lowest);
+            return Stage::AtType(*queue, lowest);
         }
-        Stage::AtMessage(queue, None, serial)
+        Stage::AtMessage(*queue, None, serial)
     }
 
-    /// The stage once the record at that key was read, or that there is none.
+    /// Tells the record at that key, or that there is none; it goes on in place. After an error it stands where it
+    /// stood.
     pub fn take(
-        self,
+        &mut self,
         caller: Caller,
         arguments: &ReceiveArguments,
         found: Option<Record<'_>>,
         room: &mut Room,
-    ) -> Result<Stage, NotASystem>
-        requires { AsksRecord (asked arguments.now.id self) }
-        ensures told { (s : State) → IsFiled s → KnowsAt caller arguments.now self room.old s →
-            IsTold s (asked arguments.now.id self) found.entry →
-            Gives result (λ stage. KnowsAt caller arguments.now stage room.new s) }
-        ensures fewer { IfOk result (λ stage. asks_left stage < asks_left self) }
-        ensures err { OnErr result (room.new ≡ room.old) }
+    ) -> Result<(), NotASystem>
+        requires { AsksRecord (asked arguments.now.id self.old) }
+        ensures told { (s : State) → IsFiled s → KnowsAt caller arguments.now self.old room.old s →
+            IsTold s (asked arguments.now.id self.old) found.entry →
+            Gives result (λ _. KnowsAt caller arguments.now self.new room.new s) }
+        ensures fewer { OnOk result (asks_left self.new < asks_left self.old) }
+        ensures err { OnErr result ((self.new ≡ self.old) × (room.new ≡ room.old)) }
     {
         match self {
-            Stage::Seeking(mut sought) => {
+            Stage::Seeking(sought) => {
                 sought.take(arguments.id, found)?;
-                Ok(Stage::of_sought(caller, arguments, sought))
+                *self = Stage::of_sought(caller, arguments, sought);
+                Ok(())
             }
             Stage::AtType(queue, _) => {
                 if has_none(arguments, &found) {
-                    return Ok(put_off(arguments));
+                    *self = put_off(arguments);
+                    return Ok(());
                 }
                 let entry = type_found(found)?;
-                Ok(Stage::AtMessage(queue, Some(entry), entry.first))
+                *self = Stage::AtMessage(*queue, Some(entry), entry.first);
+                Ok(())
             }
             Stage::AtMessage(queue, entry, _) => {
                 let message = message_found(found)?;
                 if is_long(arguments, &message) {
-                    return Ok(Stage::Refused(Errno::E2BIG));
+                    *self = Stage::Refused(Errno::E2BIG);
+                    return Ok(());
                 }
                 let head = MessageHead::of(&message);
-                let stage = Stage::of_head(caller.pid, arguments, queue, head, entry)?;
+                *self = Stage::of_head(caller.pid, arguments, queue, &head, *entry)?;
                 room.fill(cut(message.body.as_slice(), arguments.size as usize));
-                Ok(stage)
+                Ok(())
             }
             Stage::AtTypeOf(queue, head) => {
                 let entry = type_found(found)?;
-                Stage::of_head(caller.pid, arguments, queue, head, Some(entry))
+                *self = Stage::of_head(caller.pid, arguments, queue, head, Some(entry))?;
+                Ok(())
             }
             Stage::Refused(_) | Stage::PutOff | Stage::Taken(_) => Err(NotASystem),
         }
@@ -153,45 +159,47 @@ impl Stage {
     fn of_head(
         pid: u32,
         arguments: &ReceiveArguments,
-        queue: QueueEntry,
-        head: MessageHead,
+        queue: &QueueEntry,
+        head: &MessageHead,
         entry: Option<TypeEntry>,
     ) -> Result<Stage, NotASystem>
         ensures knows { (c : Caller) (room : Roomful) (s : State) → IsFiled s → c.pid ≡ pid →
-            KnowsHead c arguments.now queue head entry room s →
+            KnowsHead c arguments.now queue.now head.now entry room s →
             Gives result (λ stage. KnowsAt c arguments.now stage room s) }
         ensures left { IfOk result (λ stage. IsStage entry stage) }
     {
         if let Some(first) = head.next_of_type {
-            let removal = Removal::new(pid, arguments, &queue, head, TypeLeft::Begins(first))?;
+            let removal = Removal::new(pid, arguments, queue, *head, TypeLeft::Begins(first))?;
             return Ok(Stage::Taken(removal));
         }
         let Some(entry) = entry else {
-            return Ok(Stage::AtTypeOf(queue, head));
+            return Ok(Stage::AtTypeOf(*queue, *head));
         };
         let left = TypeLeft::Goes(entry.lower, entry.higher);
-        let removal = Removal::new(pid, arguments, &queue, head, left)?;
+        let removal = Removal::new(pid, arguments, queue, *head, left)?;
         Ok(Stage::Taken(removal))
     }
 
-    /// The stage once it was told whether the id is below the next id.
+    /// Tells whether the id is below the next id. After an error it stands where it stood.
     pub fn take_given(
-        self,
+        &mut self,
         caller: Caller,
         arguments: &ReceiveArguments,
         given: bool,
-    ) -> Result<Stage, NotASystem>
+    ) -> Result<(), NotASystem>
         ensures told { (room : Roomful) (s : State) → IsFiled s →
-            KnowsAt caller arguments.now self room s →
-            AsksGiven (asked arguments.now.id self) →
-            IsToldGiven s (asked arguments.now.id self) given →
-            Gives result (λ stage. KnowsAt caller arguments.now stage room s) }
-        ensures fewer { IfOk result (λ stage. asks_left stage < asks_left self) }
+            KnowsAt caller arguments.now self.old room s →
+            AsksGiven (asked arguments.now.id self.old) →
+            IsToldGiven s (asked arguments.now.id self.old) given →
+            Gives result (λ _. KnowsAt caller arguments.now self.new room s) }
+        ensures fewer { OnOk result (asks_left self.new < asks_left self.old) }
+        ensures err { OnErr result (self.new ≡ self.old) }
     {
         match self {
-            Stage::Seeking(mut sought) => {
+            Stage::Seeking(sought) => {
                 sought.take_given(arguments.id, given)?;
-                Ok(Stage::of_sought(caller, arguments, sought))
+                *self = Stage::of_sought(caller, arguments, sought);
+                Ok(())
             }
             Stage::Refused(_)
             | Stage::PutOff
