@@ -1,5 +1,5 @@
 -- What becomes of a message that is taken, and what is decided then.
-use Rattle.xsi_receive.proofs.Names.{All, All-nil, Answers, Begins, Bool, Caller, Contains, Decides, Delete, Goes, InSlot, IsAnswered, IsFiled, IsItsType, IsLawfulQueue, KnowsHead, KnowsRemoval, List, LockName, Message, MessageHead, None, Option, Queue, QueueEntry, Receive, ReceiveArguments, Relink, Removal, Replace, Roomful, Some, State, TypeEntry, TypeLeft, Write, [], ap, arith, deletion_by, fine, first_of, guard_of, head_of, higher_by, is_counted, key_of_message, key_of_type, key_written, left_by, lowest_left, message_entry, nat_le, next_write, own_by, position_or_len, previous_write, queue_entry, queue_left, receive_found, received, refl, removal_plan, remove, selects, serials_of_type, slot_all, slots_of, somes_all, subst, sym, to_higher, to_lower, to_next, to_previous, true, type_entry, types, where_none, with_queue, without_message, ℕ, ℤ, ◌&&◌, ◌∙◌, ◌∷◌, ◌≡◌}
+use Rattle.xsi_receive.proofs.Names.{All, All-nil, Answers, Begins, Bool, Caller, Contains, Decides, Goes, InSlot, IsAnswered, IsFiled, IsItsType, IsLawfulQueue, KnowsHead, KnowsRemoval, List, LockName, Message, MessageHead, None, Option, Queue, QueueEntry, Receive, ReceiveArguments, Relink, Removal, Roomful, Some, State, TypeEntry, TypeLeft, Write, [], ap, arith, deletion_by, each_all, fine, first_of, guard_of, head_of, higher_by, is_counted, key_of_message, key_of_type, key_written, left_by, lowest_left, message_entry, nat_le, own_by, position_or_len, queue_entry, queue_left, receive_found, received, refl, removal_plan, remove, selects, serials_of_type, slot_all, slots_of, somes, subst, sym, to_higher, to_lower, to_next, to_previous, true, type_entry, types, where_none, with_queue, without_message, ℕ, ℤ, ◌&&◌, ◌∙◌, ◌∷◌, ◌≡◌}
 use Rattle.page_locks.specs.declared.lock.LockName.TheVariants as names
 use Rattle.queue_model.specs.declared.answer.Answer.TheVariants as answers
 use Rattle.queue_records.specs.declared.record.Record.TheVariants as records
@@ -8,7 +8,6 @@ use Rattle.xsi_receive.proofs.FitLemmas.{place_of}
 use Rattle.xsi_receive.proofs.KnowingLemmas.{on_selected}
 use Rattle.xsi_receive.proofs.LeadLemmas.{leads}
 use Rattle.xsi_receive.proofs.OrderLemmas.{in_order}
-use Rattle.xsi_receive.proofs.RankLemmas.{all_seven}
 use Rattle.xsi_receive.proofs.MessageLemmas.{next_of_type_is}
 use Rattle.xsi_receive.proofs.QueueLemmas.{counted, fewer_bytes, lowest_without, queue_without}
 use Rattle.xsi_receive.proofs.TypeLemmas.{types_stay}
@@ -160,17 +159,22 @@ module _ (c : Caller) (a : ReceiveArguments) (r : Removal) (room : Roomful) (s :
   deletion_his mtype (Begins f) = tt
   deletion_his mtype (Goes lower higher) = held a.id refl
 
-  all_his : All (InSlot IsHis) (slots_of a.id whole)
-  all_his = all_seven IsHis (Some (Replace (records.Queue whole.queue))) (previous_write a.id whole)
-      (next_write a.id whole) (own_by a.id message.mtype whole.type_left) (higher_by a.id whole.type_left)
-      (Some (Delete (key_of_message a.id message.serial))) (deletion_by a.id message.mtype whole.type_left)
-      (held queue.id known.known.selects.its.its_id)
-      (slot_all IsHis (λ (serial : ℕ). Relink (key_of_message a.id serial) (to_next whole.message.next))
-      whole.message.previous (λ n is. held a.id refl))
-      (slot_all IsHis (λ (serial : ℕ). Relink (key_of_message a.id serial) (to_previous whole.message.previous))
-      whole.message.next (λ n is. held a.id refl))
-      (own_his message.mtype whole.type_left) (higher_his whole.type_left) (held a.id refl)
-      (deletion_his message.mtype whole.type_left)
+  all_his : All IsHis (somes (slots_of a.id whole))
+  all_his = each_all IsHis (slots_of a.id whole) (
+    held queue.id known.known.selects.its.its_id,
+    (
+      slot_all IsHis (λ (serial : ℕ). Relink (key_of_message a.id serial) (to_next whole.message.next))
+          whole.message.previous (λ n is. held a.id refl),
+      (
+        slot_all IsHis (λ (serial : ℕ). Relink (key_of_message a.id serial) (to_previous whole.message.previous))
+            whole.message.next (λ n is. held a.id refl),
+        (
+          own_his message.mtype whole.type_left,
+          (higher_his whole.type_left, (held a.id refl, (deletion_his message.mtype whole.type_left, tt))),
+        ),
+      ),
+    ),
+  )
 
   answered : IsAnswered c (Receive a) names_held room.bytes s (received whole) (removal_plan a.id whole)
   answered =
@@ -195,7 +199,7 @@ module _ (c : Caller) (a : ReceiveArguments) (r : Removal) (room : Roomful) (s :
         leads = leads s filed a.id queue k.selects.its.found k.selects.its.its_id c.pid a.moment place message taken;
         own = record {
           trials = All-nil _;
-          writes = somes_all IsHis (slots_of a.id whole) all_his;
+          writes = all_his;
         };
         idle = λ never. absurd never;
         ordered = record {

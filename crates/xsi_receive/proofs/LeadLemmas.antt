@@ -1,12 +1,12 @@
 -- The writes of a Receive lead from the records of a system to those of the system after it.
-use Rattle.xsi_receive.proofs.Names.{All, All-nil, Begins, Bool, Decides-eqb, Decides-int_eq, Delete, Fills, Goes, InSlot, IsFiled, IsLawfulQueue, Leads, List, Message, MessageEntry, Misses, None, Option, Queue, RecordKey, Relink, Removal, Replace, Some, State, TypeEntry, TypeLeft, Write, agree_but, ap, arith, before_place, cases_lt, deletion_by, eqb-true, false, find, find-Some, fine, first_of, has_id, has_number, has_serial, head_of, higher_by, in_range, inl, inr, int_eq, key_is, key_of_message, key_of_type, leads_by, left_by, message_entry, message_record, next_write, option_map, own_by, previous_write, queue_entry, record_of, refl, removal_plan, remove, serials, serials_of_type, slice_get, slice_get-map, slots_of, somes_all, somes_each, subst, suc, sym, to_higher, to_lower, to_next, to_previous, true, type_deletion, type_entry, type_number, type_record, types, with_queue, zero, ℕ, ℤ, ◌==◌, ◌∙◌, ◌≡◌, ◌≢◌, ◌≤◌, ◌⊎◌}
+use Rattle.xsi_receive.proofs.Names.{All, All-nil, Begins, Bool, Decides-eqb, Decides-int_eq, Delete, Fills, Goes, InSlot, IsFiled, IsLawfulQueue, Leads, List, Message, MessageEntry, Misses, None, Option, Queue, RecordKey, Relink, Removal, Replace, Some, State, TypeEntry, TypeLeft, Write, agree_but, ap, arith, before_place, cases_lt, deletion_by, each_all, eqb-true, false, find, find-Some, fine, first_of, has_id, has_number, has_serial, head_of, higher_by, in_range, inl, inr, int_eq, key_is, key_of_message, key_of_type, leads_by, left_by, message_entry, message_record, next_write, option_map, own_by, previous_write, queue_entry, record_of, refl, removal_plan, remove, serials, serials_of_type, slice_get, slice_get-map, slots_of, somes, somes_each, subst, suc, sym, to_higher, to_lower, to_next, to_previous, true, type_entry, type_number, type_record, types, with_queue, zero, ℕ, ℤ, ◌==◌, ◌∙◌, ◌≡◌, ◌≢◌, ◌≤◌, ◌⊎◌}
 use Rattle.queue_records.specs.declared.record.Record.TheVariants as records
 use Rattle.xsi_receive.proofs.FirstOfTypeLemmas.{IsTakenAt}
 use Rattle.xsi_receive.proofs.FitLemmas.{found_other, higher_fits, lawful_after, lower_fits, message_goes, next_fits, own_fits, place_of, previous_fits, queue_fits, type_goes}
 use Rattle.xsi_receive.proofs.MessageLemmas.{entry_later, entry_sooner, next_is, next_of_type_is, previous_is, same_at_other_serial, without}
 use Rattle.xsi_receive.proofs.TypeLemmas.{entry_stays, higher_is, lower_is, type_later, type_sooner, types_stay}
 use Rattle.xsi_receive.proofs.TypesLemmas.{its_type_stands}
-use Rattle.xsi_receive.proofs.RankLemmas.{all_seven, WritesAt, missed, not_at}
+use Rattle.xsi_receive.proofs.RankLemmas.{WritesAt, missed, not_at}
 use Rattle.xsi_receive.proofs.OrderLemmas.{in_order}
 
 module _ (s : State) (filed : IsFiled s) (id : ℕ) (q : Queue) (found : find (has_id id) s.queues ≡ Some q)
@@ -77,14 +77,22 @@ module _ (s : State) (filed : IsFiled s) (id : ℕ) (q : Queue) (found : find (h
         last = type_goes s filed id q found its pid moment i m taken none j at_j;
       }
 
-  all_right : All (InSlot Right) slots
+  all_right : All Right (somes slots)
   all_right =
       let of_types = type_slots entry.next_of_type refl in
-      all_seven Right (Some (Replace (records.Queue (queue_entry new)))) (previous_write id removal)
-      (next_write id removal) (own_by id m.mtype left) (higher_by id left)
-      (Some (Delete (key_of_message id m.serial))) (type_deletion id removal)
-      (queue_fits s filed id q found its pid moment i m taken) previous_slot next_slot of_types.first of_types.second
-      (message_goes s filed id q found its pid moment i m taken) of_types.last
+      each_all Right slots (
+        queue_fits s filed id q found its pid moment i m taken,
+        (
+          previous_slot,
+          (
+            next_slot,
+            (
+              of_types.first,
+              (of_types.second, (message_goes s filed id q found its pid moment i m taken, (of_types.last, tt))),
+            ),
+          ),
+        ),
+      )
 
   -- ---- at all other keys the records stay
 
@@ -335,6 +343,6 @@ module _ (s : State) (filed : IsFiled s) (id : ℕ) (q : Queue) (found : find (h
   pub leads : Leads (removal_plan id removal) (record_of s) (record_of after)
   leads = leads_by (record_of s) (record_of after) (removal_plan id removal) tt (All-nil _)
       (in_order s filed id q found its pid moment i m taken)
-      (somes_all Right slots all_right)
+      all_right
       (λ key r is. in_range after key r (lawful_after s filed id q found its pid moment i m taken) is)
       (λ key none misses. stays key (somes_each (Misses key) slots misses))

@@ -38,7 +38,7 @@ pub use Rattle.xsi_receive.specs.Asking.{is_long, put_off_at, received}
 pub use Rattle.xsi_receive.specs.Heads.{head_of}
 pub use Rattle.xsi_receive.specs.Knowing.{HasRoomFor, IsItsType, KnowsAt, KnowsHead, KnowsRemoval, KnowsSerial, SelectsMessage, SelectsType}
 pub use Rattle.xsi_receive.specs.Removing.{deletion_by, higher_by, is_counted, left_by, link_to, lowest_left, next_write, own_by, previous_write, queue_left, removal_plan, slots_of, to_first, to_higher, to_lower, to_next, to_previous, type_deletion, where_none}
-pub use Rattle.xsi_receive.specs.Words.{All, AllPairs, Ascend, Caller, Contains, Delete, Fills, FitsSigned, InSlot, IsBefore, IsFiled, IsLawful, IsLawfulQueue, IsTold, Leads, Message, MessageEntry, Misses, Queue, QueueEntry, Receive, ReceiveArguments, Record, RecordKey, Relink, Replace, Roomful, SlotsAscend, State, TypeEntry, Write, agree_but, are_types_of, before, before_place, behind, contains_head, contains_tail, filter, find, find-None-All, find-Some, first_of, found_new, guard_of, has_id, has_number, has_serial, has_type, head_or_tail, in_range, int_eq, is_number, is_of_type, is_same_type, key_is, key_of_message, key_of_queue, key_of_type, key_written, last_of, leads_by, lowest_type, map-remove, mapped, message_entry, message_record, outcome, pairs_head, pairs_tail, position_or_len, put_off, queue_entry, receive_found, receive_from, record_of, refuse, remove, selected, selects, serials, serials_of_type, somes, somes_all, somes_ascend, somes_each, total_bytes, type_entry, type_number, type_record, types, types_ascend, value_length, with_queue, without_message, write_rank}
+pub use Rattle.xsi_receive.specs.Words.{All, AllPairs, Ascend, Caller, Climb, Contains, Delete, Fills, FitsSigned, HasRank, InSlot, IsBefore, IsFiled, IsLawful, IsLawfulQueue, IsTold, Leads, Message, MessageEntry, Misses, Queue, QueueEntry, Receive, ReceiveArguments, Record, RecordKey, Relink, Replace, Roomful, State, TypeEntry, Write, agree_but, all_each, are_types_of, before, before_place, behind, contains_head, contains_tail, each_all, filter, find, find-None-All, find-Some, first_of, found_new, guard_of, has_id, has_number, has_serial, has_type, head_or_tail, in_range, int_eq, is_number, is_of_type, is_same_type, key_is, key_of_message, key_of_queue, key_of_type, key_written, last_of, leads_by, lowest_type, map-remove, mapped, message_entry, message_record, outcome, pairs_head, pairs_tail, position_or_len, put_off, queue_entry, ranked_ascend, receive_found, receive_from, record_of, refuse, remove, selected, selects, serials, serials_of_type, somes, somes_each, total_bytes, type_entry, type_number, type_record, types, types_ascend, value_length, with_queue, without_message, write_rank}
 pub use Rattle.xsi_receive.specs.declared.head.MessageHead.{MessageHead}
 pub use Rattle.xsi_receive.specs.declared.removal.Removal.{Removal}
 pub use Rattle.xsi_receive.specs.declared.removal.TypeLeft.TheVariants.{Begins, Goes}

@@ -30,7 +30,7 @@ pub use Rattle.type_chains.specs.Lists.{is_of_type, serials, serials_of_type, ty
 pub use Rattle.type_chains.specs.Neighbours.{before, before_place, behind, first_of, last_of}
 pub use Rattle.type_chains.specs.RecordOf.{has_number, has_serial, message_record, record_of, type_record}
 pub use Rattle.xsi_inquiry.proofs.LeadLemmas.{Fills, Misses, leads_by}
-pub use Rattle.xsi_inquiry.proofs.SlotLemmas.{InSlot, SlotsAscend, somes_all, somes_ascend, somes_each}
+pub use Rattle.xsi_inquiry.proofs.SlotLemmas.{Climb, HasRank, InSlot, all_each, each_all, ranked_ascend, somes_each}
 pub use Rattle.xsi_inquiry.specs.Owning.{Ascend, IsBefore, write_rank}
 pub use Rattle.xsi_inquiry.specs.Rooms.{Roomful}
 pub use Rattle.xsi_inquiry.specs.Telling.{IsFiled, IsTold}
