@@ -21,13 +21,12 @@ pub use Rattle.type_chains.proofs.Sends.{made_of_the_queue}
 pub use Rattle.type_chains.proofs.Tests.{mapped}
 pub use Rattle.type_chains.proofs.TypesStand.{are_types_of}
 pub use Rattle.type_chains.specs.Fits.{HasFittingMessage, HasFittingQueue}
-pub use Rattle.xsi_inquiry.proofs.SlotLemmas.{slot_all}
 pub use Rattle.xsi_inquiry.proofs.StandLemmas.{message_stands, none_of_type, numbers_ascend, queue_stands, same_number, serial_tells, stands, type_found, type_stands}
 pub use Rattle.xsi_inquiry.specs.Deciding.{IsAnswered}
 pub use Rattle.xsi_send.specs.Knowing.{IsOpen, KnowsAt}
 pub use Rattle.xsi_send.specs.Places.{IsBetween, IsPlaceOf, IsWalked}
 pub use Rattle.xsi_send.specs.Planning.{behind_end, higher_write, link_if, links_behind, lower_write, new_type, plan_at, queue_write, takes_more, type_write}
-pub use Rattle.xsi_send.specs.Words.{All, AllPairs, At, Caller, Contains, END_OF_SERIALS, Fills, InSlot, IsBefore, IsFiled, IsInRange, IsLawful, IsLawfulMessage, IsLawfulQueue, IsNew, IsOrdered, IsTold, IsType, IsUnder, Leads, LeadsTo, MAX_MESSAGES, MESSAGE, Message, Misses, MissesRecord, Plan, QUEUE, Queue, QueueEntry, Record, RecordKey, Relink, Replace, Send, SendArguments, Sent, State, Stays, TYPE, TypeEntry, Write, agree_but, all_of, all_types, before, before_place, behind, clash, contains_head, contains_tail, filter, find, find-None, find-Some, first_of, fold, found_new, guard_of, has_id, has_number, has_serial, head_or_tail, in_range, int_eq, int_lt, is_number, is_of_type, is_same_type, key_of, key_of_message, key_of_type, key_written, last_message, last_of, lawful_queue, leads_by, linked, message_entry, message_of, message_record, pairs_head, pairs_tail, position_None, position_or_len, queue_entry, record_of, relinked, serials, serials_of_type, somes, somes_all, somes_ascend, somes_each, trial_rank, type_entry, type_number, type_record, types, types_ascend, types_stand, unwrap_or, value_length, w64, with_message, with_message_links, with_one_more, with_queue, with_type, with_type_links}
+pub use Rattle.xsi_send.specs.Words.{All, AllPairs, Ascend, At, Caller, Contains, END_OF_SERIALS, Fills, InSlot, IsFiled, IsInRange, IsLawful, IsLawfulMessage, IsLawfulQueue, IsNew, IsOrdered, IsTold, IsType, IsUnder, Leads, LeadsTo, MAX_MESSAGES, MESSAGE, Message, Misses, MissesRecord, Plan, QUEUE, Queue, QueueEntry, Record, RecordKey, Relink, Replace, Send, SendArguments, Sent, State, Stays, TYPE, TypeEntry, Write, agree_but, all_each, all_of, all_types, before, before_place, behind, clash, contains_head, contains_tail, each_all, filter, find, find-None, find-Some, first_of, fold, found_new, guard_of, has_id, has_number, has_serial, head_or_tail, in_range, int_eq, int_lt, is_number, is_of_type, is_same_type, key_of, key_of_message, key_of_type, key_written, last_message, last_of, lawful_queue, leads_by, linked, message_entry, message_of, message_record, pairs_head, pairs_tail, position_None, position_or_len, queue_entry, ranked_ascend, record_of, relinked, serials, serials_of_type, slot_all, somes, trial_rank, type_entry, type_number, type_record, types, types_ascend, types_stand, unwrap_or, value_length, w64, with_message, with_message_links, with_one_more, with_queue, with_type, with_type_links, write_rank}
 pub use Rattle.xsi_send.specs.declared.stage.Stage.TheVariants.{Done}
 pub use Rattle.xsi_send.specs.declared.stage.Walk.{Walk}
 pub use Rattle.xsi_send.specs.declared.type_place.TypePlace.TheVariants.{Between, Standing}

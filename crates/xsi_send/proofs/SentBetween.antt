@@ -1,10 +1,10 @@
 -- The plan of a Send of a type that does not stand on the queue.
-use Rattle.xsi_send.proofs.Names.{All, All-cons, All-contains, All-nil, Bool, Caller, Contains, Contains-append_cases, Contains-append_left, Contains-append_right, Decides-int_eq, Fills, InSlot, IsBefore, IsBetween, IsFiled, IsNew, IsOpen, IsOrdered, LeadsTo, List, Message, Misses, MissesRecord, None, Option, Plan, Queue, QueueEntry, Record, RecordKey, Replace, SendArguments, Some, State, Stays, TYPE, TypeEntry, Write, [], agree_but, all_of, ap, arith, behind_end, contains_tail, eqb-true, false, find, first_of, guard_of, has_number, higher_write, inl, inr, ints, is_of_type, key_of, key_written, last_message, last_of, leads_by, lower_write, new_type, numbers_ascend, option_and_then, option_map, queue_entry, record_of, refl, same_number, serials, serials_of_type, slot_all, somes, somes_all, somes_ascend, somes_each, subst, sym, trial_rank, true, type_entry, type_number, type_record, type_stands, types, with_message, with_one_more, with_queue, ℕ, ℤ, ◌++◌, ◌<ℤ◌, ◌<◌, ◌∙◌, ◌∷◌, ◌≡◌, ◌⊎◌}
+use Rattle.xsi_send.proofs.Names.{All, All-cons, All-contains, All-nil, Bool, Caller, Contains, Contains-append_cases, Contains-append_left, Contains-append_right, Decides-int_eq, Fills, InSlot, IsBetween, IsFiled, IsNew, IsOpen, IsOrdered, LeadsTo, List, Message, Misses, MissesRecord, None, Option, Plan, Queue, QueueEntry, Record, RecordKey, Replace, SendArguments, Some, State, Stays, TYPE, TypeEntry, Write, [], agree_but, all_each, all_of, ap, arith, behind_end, contains_tail, each_all, eqb-true, false, find, first_of, guard_of, has_number, higher_write, inl, inr, ints, is_of_type, key_of, key_written, last_message, last_of, leads_by, lower_write, new_type, numbers_ascend, option_and_then, option_map, queue_entry, ranked_ascend, record_of, refl, same_number, serials, serials_of_type, slot_all, somes, subst, sym, trial_rank, true, type_entry, type_number, type_record, type_stands, types, with_message, with_one_more, with_queue, write_rank, ℕ, ℤ, ◌++◌, ◌<ℤ◌, ◌<◌, ◌∙◌, ◌∷◌, ◌≡◌, ◌⊎◌}
 use Rattle.page_locks.specs.declared.lock.LockName.TheVariants as names
 use Rattle.queue_records.specs.declared.record.Record.TheVariants as records
 use Rattle.xsi_send.proofs.Beside.{contains_at, in_first, in_last}
 use Rattle.xsi_send.proofs.Sorted.{less_apart}
-use Rattle.xsi_send.proofs.SentParts.{IsRightPlan, each_of, empty_filter, find_nothing, find_over, four, lawful_t, linked_fills, message_hit, message_new, messages_same, mine, misses_key, new_in_range, found_then, no_message, of_type_stands, queue_fills, queue_missed, type_fills, type_hit, types_of_q, types_same}
+use Rattle.xsi_send.proofs.SentParts.{IsRightPlan, empty_filter, find_nothing, find_over, lawful_t, linked_fills, message_hit, message_new, messages_same, mine, misses_key, new_in_range, found_then, no_message, of_type_stands, queue_fills, queue_missed, type_fills, type_hit, types_of_q, types_same}
 use Rattle.xsi_send.proofs.Told.{typed}
 use Rattle.xsi_send.proofs.TypeLinks.{entry_above, entry_below, entry_higher, entry_lower, entry_new, types_after}
 
@@ -152,12 +152,16 @@ module _ (c : Caller) (a : SendArguments) (e : QueueEntry) (s : State) (filed : 
           (λ _ its. apart x.mtype (of_type_stands c a e s filed known x there) its.0))
 
       every_fill : All (Fills old_records new_records) (somes slots)
-      every_fill = somes_all (Fills old_records new_records) slots
-          (four (InSlot (Fills old_records new_records)) (Some queue_record) links lowers highers
-          (queue_fills c a e s filed known)
-          (slot_all (Fills old_records new_records) end_write ends end_fills)
-          (slot_all (Fills old_records new_records) below_write low lower_fills)
-          (slot_all (Fills old_records new_records) above_write high higher_fills))
+      every_fill = each_all (Fills old_records new_records) slots (
+        queue_fills c a e s filed known,
+        (
+          slot_all (Fills old_records new_records) end_write ends end_fills,
+          (
+            slot_all (Fills old_records new_records) below_write low lower_fills,
+            (slot_all (Fills old_records new_records) above_write high higher_fills, tt),
+          ),
+        ),
+      )
 
       -- what stands in a slot is missed by no write
       in_slot : {X : Type 0} (P : Write → Type 0) (f : X → Write) (o : Option X) (x : X) → InSlot P (option_map f o) →
@@ -167,8 +171,7 @@ module _ (c : Caller) (a : SendArguments) (e : QueueEntry) (s : State) (filed : 
       nothing_else : (key : RecordKey) → All (MissesRecord key) (message_trial ∷ records.Type entry ∷ []) →
           All (Misses key) (somes slots) → record_of s key ≡ record_of t key
       nothing_else key trials writes =
-          let (no_queue, no_links, no_lowers, no_highers) = each_of (InSlot (Misses key)) (Some queue_record) links
-          lowers highers (somes_each (Misses key) slots writes) in
+          let (no_queue, (no_links, (no_lowers, (no_highers, end)))) = all_each (Misses key) slots writes in
           agree_but a.id s q new known.found refl refl key
           (queue_missed c a e s filed known key no_queue)
           (λ kind queue. types_same c a e s filed known key (between.below ++ a.mtype ∷ between.above)
@@ -214,40 +217,27 @@ module _ (c : Caller) (a : SendArguments) (e : QueueEntry) (s : State) (filed : 
           numbers_ascend u v (types_of_q c a e s filed known u (in_below u first)) (omega (arith, ints, one, two))
 
       ordered : IsOrdered plan
-      ordered =
-          let first_less : 0 < 1 = omega arith in
-          let type_less : 0 < 2 = omega arith in
-          let links_less : 1 < 2 = omega arith in
-          let before = IsBefore queue_record in
-          record {
-            trials = (
-              All-cons (λ (x : Record). trial_rank (key_of message_trial) < trial_rank (key_of x))
-                  (records.Type entry) [] first_less (All-nil _),
-              (All-nil _, tt),
-            );
-            writes = somes_ascend slots (
-              All-cons (InSlot before) links (lowers ∷ highers ∷ [])
-                  (slot_all before end_write ends (λ n is. inl first_less))
-                  (All-cons (InSlot before) lowers (highers ∷ [])
-                  (slot_all before below_write low (λ u is. inl type_less))
-                  (All-cons (InSlot before) highers [] (slot_all before above_write high (λ u is. inl type_less))
-                  (All-nil _))),
-              (
-                slot_all (λ (w : Write). All (InSlot (IsBefore w)) (lowers ∷ highers ∷ [])) end_write ends
-                    (λ n is. All-cons (InSlot (IsBefore (end_write n))) lowers (highers ∷ [])
-                    (slot_all (IsBefore (end_write n)) below_write low (λ u at. inl links_less))
-                    (All-cons (InSlot (IsBefore (end_write n))) highers []
-                    (slot_all (IsBefore (end_write n)) above_write high (λ u at. inl links_less)) (All-nil _))),
-                (
-                  slot_all (λ (w : Write). All (InSlot (IsBefore w)) (highers ∷ [])) below_write low
-                      (λ u is. All-cons (InSlot (IsBefore (below_write u))) highers []
-                      (slot_all (IsBefore (below_write u)) above_write high
-                      (λ v at. inr (refl, types_less u v is at))) (All-nil _)),
-                  (slot_all (λ (w : Write). All (InSlot (IsBefore w)) []) above_write high (λ u is. All-nil _), tt),
-                ),
-              ),
-            );
-          }
+      ordered = record {
+        trials = (
+          All-cons (λ (x : Record). trial_rank (key_of message_trial) < trial_rank (key_of x))
+              (records.Type entry) [] (omega arith) (All-nil _),
+          (All-nil _, tt),
+        );
+        writes = ranked_ascend (0 ∷ 1 ∷ 2 ∷ 2 ∷ []) slots refl (
+          refl,
+          tt,
+          (
+            slot_all (λ (w : Write). write_rank w ≡ 1) end_write ends (λ n is. refl),
+            tt,
+            (
+              slot_all (λ (w : Write). write_rank w ≡ 2) below_write low (λ u is. refl),
+              slot_all (λ (w : Write). InSlot (λ (v : Write). (key_written w).number < (key_written v).number) highers)
+                  below_write low (λ u is. slot_all _ above_write high (λ v at. types_less u v is at)),
+              (slot_all (λ (w : Write). write_rank w ≡ 2) above_write high (λ u is. refl), tt, tt),
+            ),
+          ),
+        );
+      }
 
       pub right_between : IsRightPlan a.id plan (record_of s) (record_of t)
       right_between = record {
@@ -259,11 +249,16 @@ module _ (c : Caller) (a : SendArguments) (e : QueueEntry) (s : State) (filed : 
         own = record {
           trials = All-cons trial_under message_trial (records.Type entry ∷ []) (mine c a e s filed known)
               (All-cons trial_under (records.Type entry) [] (mine c a e s filed known) (All-nil trial_under));
-          writes = somes_all under slots (four (InSlot under) (Some queue_record) links lowers highers
-              (mine c a e s filed known)
-              (slot_all under end_write ends (λ n is. mine c a e s filed known))
-              (slot_all under below_write low (λ u is. mine c a e s filed known))
-              (slot_all under above_write high (λ u is. mine c a e s filed known)));
+          writes = each_all under slots (
+            mine c a e s filed known,
+            (
+              slot_all under end_write ends (λ n is. mine c a e s filed known),
+              (
+                slot_all under below_write low (λ u is. mine c a e s filed known),
+                (slot_all under above_write high (λ u is. mine c a e s filed known), tt),
+              ),
+            ),
+          );
         };
         ordered = ordered;
       }

@@ -1,5 +1,5 @@
 -- The records that a Send writes to its queue, and those that it leaves.
-use Rattle.xsi_send.proofs.Names.{All, All-cons, All-contains, All-head, All-nil, All-tail, All-weaker, AllPairs, Bool, Caller, Contains, Contains-append_cases, Contains-append_left, Effect-outcome, Fills, IsFiled, IsInRange, IsLawful, IsLawful-Effect, IsLawfulMessage, IsLawfulQueue, IsNew, IsOpen, IsOrdered, IsType, IsUnder, Leads, List, MESSAGE, Message, MessageEntry, None, Option, Plan, QUEUE, Queue, QueueEntry, Record, RecordKey, Relink, Replace, Send, SendArguments, Sent, Some, State, TYPE, TypeEntry, TypeLinks, Write, [], all_types, ap, append-nil, are_types_of, arith, cond, contains_tail, eqb-true, false, filter, find, find-None, find-Some, found_new, has_id, has_number, has_serial, head_or_tail, in_range, inl, inr, is_of_type, is_same, key_of, key_of_message, key_of_type, last_message, last_of, lawful_queue, length, length-queue, links_behind, made_of_the_queue, message_entry, message_of, message_record, message_stands, nat_tests, option_and_then, option_map, pos, position_None, queue_entry, queue_stands, queue_write, record_of, refl, relinked, stands, subst, sym, takes_more, true, type_entry, type_number, type_record, type_stands, types, value_length, with_message, with_one_more, with_queue, with_type_links, ℕ, ℤ, ◌++◌, ◌<◌, ◌==◌, ◌∙◌, ◌∷◌, ◌≡◌, ◌≤ℤ◌}
+use Rattle.xsi_send.proofs.Names.{All, All-contains, All-weaker, AllPairs, Bool, Caller, Contains, Contains-append_cases, Contains-append_left, Effect-outcome, Fills, IsFiled, IsInRange, IsLawful, IsLawful-Effect, IsLawfulMessage, IsLawfulQueue, IsNew, IsOpen, IsOrdered, IsType, IsUnder, Leads, List, MESSAGE, Message, MessageEntry, None, Option, Plan, QUEUE, Queue, QueueEntry, Record, RecordKey, Relink, Replace, Send, SendArguments, Sent, Some, State, TYPE, TypeEntry, TypeLinks, [], all_types, ap, append-nil, are_types_of, arith, cond, contains_tail, eqb-true, false, filter, find, find-None, find-Some, found_new, has_id, has_number, has_serial, head_or_tail, in_range, inl, inr, is_of_type, is_same, key_of, key_of_message, key_of_type, last_message, last_of, lawful_queue, length, length-queue, links_behind, made_of_the_queue, message_entry, message_of, message_record, message_stands, nat_tests, option_and_then, option_map, pos, position_None, queue_entry, queue_stands, queue_write, record_of, refl, relinked, stands, subst, sym, takes_more, true, type_entry, type_number, type_record, type_stands, types, value_length, with_message, with_one_more, with_queue, with_type_links, ℕ, ℤ, ◌++◌, ◌<◌, ◌==◌, ◌∙◌, ◌∷◌, ◌≡◌, ◌≤ℤ◌}
 use Rattle.queue_records.specs.declared.record.Record.TheVariants as records
 use Rattle.page_locks.specs.declared.lock.LockName.TheVariants as names
 use Rattle.queue_records.specs.declared.links.Links.TheVariants as links
@@ -14,22 +14,6 @@ pub record IsRightPlan (id : ℕ) (p : Plan) (old new : RecordKey → Option Rec
   pub leads : Leads p old new
   pub own : IsUnder (names.Queue id ∷ []) p
   pub ordered : IsOrdered p
-
--- four slots
-pub four : (P : Option Write → Type 0) (a b c d : Option Write) → P a → P b → P c → P d → All P (a ∷ b ∷ c ∷ d ∷ [])
-four P a b c d first second third fourth =
-    All-cons P a (b ∷ c ∷ d ∷ []) first (All-cons P b (c ∷ d ∷ []) second (All-cons P c (d ∷ []) third
-    (All-cons P d [] fourth (All-nil P))))
-
-pub each_of : (P : Option Write → Type 0) (a b c d : Option Write) → All P (a ∷ b ∷ c ∷ d ∷ []) → P a × P b × P c × P d
-each_of P a b c d all =
-    let two = All-tail P a (b ∷ c ∷ d ∷ []) all in
-    let three = All-tail P b (c ∷ d ∷ []) two in (
-      All-head P a (b ∷ c ∷ d ∷ []) all,
-      All-head P b (c ∷ d ∷ []) two,
-      All-head P c (d ∷ []) three,
-      All-head P d [] (All-tail P c (d ∷ []) three),
-    )
 
 -- a record that a write misses is another
 pub misses_key : (key k : RecordKey) → is_same key k ≡ false → key.kind ≡ k.kind → key.queue ≡ k.queue →

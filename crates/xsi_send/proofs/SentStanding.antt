@@ -1,9 +1,9 @@
 -- The plan of a Send of a type that stands on the queue.
-use Rattle.xsi_send.proofs.Names.{All, All-cons, All-contains, All-nil, Bool, Caller, Contains, Decides-eqb, Fills, InSlot, IsBefore, IsFiled, IsNew, IsOpen, IsOrdered, List, MESSAGE, Message, Misses, MissesRecord, None, Option, Plan, Queue, QueueEntry, Record, RecordKey, Relink, Replace, SendArguments, Some, State, Stays, Write, [], agree_but, ap, arith, behind_end, cond, eqb-true, false, filter, guard_of, inl, inr, is_of_type, key_of, key_of_message, key_written, last_message, last_of, leads_by, links_behind, queue_entry, record_of, refl, same_Some, serial_tells, somes, somes_all, somes_ascend, somes_each, subst, sym, true, type_number, type_write, types, with_message, with_one_more, with_queue, ◌<◌, ◌==◌, ◌∙◌, ◌∷◌, ◌≡◌}
+use Rattle.xsi_send.proofs.Names.{All, All-cons, All-contains, All-nil, Ascend, Bool, Caller, Contains, Decides-eqb, Fills, InSlot, IsFiled, IsNew, IsOpen, List, MESSAGE, Message, Misses, MissesRecord, None, Option, Plan, Queue, QueueEntry, Record, RecordKey, Relink, Replace, SendArguments, Some, State, Stays, Write, [], agree_but, all_each, ap, behind_end, cond, each_all, eqb-true, false, filter, guard_of, is_of_type, key_of, key_of_message, key_written, last_message, last_of, leads_by, links_behind, queue_entry, ranked_ascend, record_of, refl, same_Some, serial_tells, somes, subst, sym, true, type_number, type_write, types, with_message, with_one_more, with_queue, ◌==◌, ◌∙◌, ◌∷◌, ◌≡◌}
 use Rattle.page_locks.specs.declared.lock.LockName.TheVariants as names
 use Rattle.queue_records.specs.declared.record.Record.TheVariants as records
 use Rattle.xsi_send.proofs.Beside.{contains_at, in_last}
-use Rattle.xsi_send.proofs.SentParts.{IsRightPlan, each_of, four, lawful_q, less_than_last, linked_fills, message_hit, message_new, messages_same, mine, new_in_range, no_message, queue_fills, queue_missed, type_fills, type_hit, types_same}
+use Rattle.xsi_send.proofs.SentParts.{IsRightPlan, lawful_q, less_than_last, linked_fills, message_hit, message_new, messages_same, mine, new_in_range, no_message, queue_fills, queue_missed, type_fills, type_hit, types_same}
 use Rattle.xsi_send.proofs.Told.{has_first, of_filter}
 use Rattle.xsi_send.proofs.TypeLinks.{other_entry, same_types, standing_entry}
 
@@ -87,19 +87,27 @@ module _ (c : Caller) (a : SendArguments) (e : QueueEntry) (s : State) (filed : 
       still = subst (λ ts. Contains ts a.mtype) (sym (same_types c.pid a q stands)) stands
 
       all_fill : (b : Bool) → (x.serial == y.serial) ≡ b → All (Fills old_records new_records) (somes (slots b))
-      all_fill b is = somes_all (Fills old_records new_records) (slots b)
-          (four (InSlot (Fills old_records new_records)) (Some queue_record) (first b) (Some (queue_end b))
-          (Some its_write) (queue_fills c a e s filed known) (first_fills b is) (end_fills b is)
-          (type_fills c a e s filed known a.mtype
-          (record { first = None; last = Some q.next_serial; lower = Stays; higher = Stays })
-          (standing_entry c.pid a q stands (has_first c a e s filed known stands)) stands still))
+      all_fill b is = each_all (Fills old_records new_records) (slots b) (
+        queue_fills c a e s filed known,
+        (
+          first_fills b is,
+          (
+            end_fills b is,
+            (
+              type_fills c a e s filed known a.mtype
+                  (record { first = None; last = Some q.next_serial; lower = Stays; higher = Stays })
+                  (standing_entry c.pid a q stands (has_first c a e s filed known stands)) stands still,
+              tt,
+            ),
+          ),
+        ),
+      )
 
       no_other : (b : Bool) → (x.serial == y.serial) ≡ b → (key : RecordKey) →
           All (MissesRecord key) (message_trial ∷ []) → All (Misses key) (somes (slots b)) →
           record_of s key ≡ record_of t key
       no_other b is key trials writes =
-          let (no_queue, no_first, no_second, no_type) = each_of (InSlot (Misses key)) (Some queue_record) (first b)
-          (Some (queue_end b)) (Some its_write) (somes_each (Misses key) (slots b) writes) in
+          let (no_queue, (no_first, (no_second, (no_type, end)))) = all_each (Misses key) (slots b) writes in
           agree_but a.id s q new known.found refl refl key (queue_missed c a e s filed known key no_queue)
           (λ kind queue. types_same c a e s filed known key (types q.messages) (same_types c.pid a q stands) refl
           (λ u has number. sym (other_entry c.pid a q stands u
@@ -118,52 +126,38 @@ module _ (c : Caller) (a : SendArguments) (e : QueueEntry) (s : State) (filed : 
           typed_hit false other no_first no_second kind queue number =
               message_hit c a e s filed known key y no_first kind queue number
 
-      first_is : (P : Write → Type 0) (b : Bool) → ((x.serial == y.serial) ≡ b → b ≡ false → P typed_end) →
-          (x.serial == y.serial) ≡ b → InSlot P (first b)
-      first_is P true each is = tt
-      first_is P false each is = each is refl
+      first_is : (b : Bool) → InSlot under (first b)
+      first_is true = tt
+      first_is false = mine c a e s filed known
 
-      ordered : (b : Bool) → (x.serial == y.serial) ≡ b → IsOrdered (plan b)
-      ordered b is =
-          let first_less : 0 < 1 = omega arith in
-          let type_less : 0 < 2 = omega arith in
-          let links_less : 1 < 2 = omega arith in
-          let before = IsBefore queue_record in
-          let end = Some (queue_end b) in
-          let its = Some its_write in
-          record {
-            trials = (All-nil _, tt);
-            writes = somes_ascend (slots b) (
-              All-cons (InSlot before) (first b) (end ∷ its ∷ []) (first_is before b (λ _ _. inl first_less) is)
-                  (All-cons (InSlot before) end (its ∷ []) (inl first_less)
-                  (All-cons (InSlot before) its [] (inl type_less) (All-nil _))),
-              (
-                first_is (λ (w : Write). All (InSlot (IsBefore w)) (end ∷ its ∷ [])) b
-                    (λ at no. All-cons (InSlot (IsBefore typed_end)) end (its ∷ [])
-                    (inr (
-                      refl,
-                      less_than_last c a e s filed known x y y_there last
-                          (λ same. apart (at ∙ no) (sym
-                          (serial_tells q (lawful_q c a e s filed known) y x y_there x_there same))),
-                    ))
-                    (All-cons (InSlot (IsBefore typed_end)) its [] (inl links_less) (All-nil _))) is,
-                (All-cons (InSlot (IsBefore (queue_end b))) its [] (inl links_less) (All-nil _), (All-nil _, tt)),
-              ),
-            );
-          }
+      -- the last of the type has a lower serial than the last of the queue
+      in_order : (b : Bool) → (x.serial == y.serial) ≡ b → Ascend (somes (slots b))
+      in_order true is = ranked_ascend (0 ∷ 1 ∷ 1 ∷ 2 ∷ []) (slots true) refl
+          (refl, tt, (tt, tt, (refl, tt, (refl, tt, tt))))
+      in_order false other = ranked_ascend (0 ∷ 1 ∷ 1 ∷ 2 ∷ []) (slots false) refl (
+        refl,
+        tt,
+        (
+          refl,
+          less_than_last c a e s filed known x y y_there last (λ same. apart other (sym
+              (serial_tells q (lawful_q c a e s filed known) y x y_there x_there same))),
+          (refl, tt, (refl, tt, tt)),
+        ),
+      )
 
       pub right_standing : (b : Bool) → (x.serial == y.serial) ≡ b
           → IsRightPlan a.id (plan b) (record_of s) (record_of t)
       right_standing b is = record {
         leads = leads_by old_records new_records (plan b) (no_message c a e s filed known, tt)
             (All-cons (IsNew old_records new_records) message_trial [] (message_new c a e s filed known) (All-nil _))
-            (ordered b is).writes (all_fill b is) (new_in_range c a e s filed known) (no_other b is);
+            (in_order b is) (all_fill b is) (new_in_range c a e s filed known) (no_other b is);
         own = record {
           trials = All-cons (λ (r : Record). Contains (names.Queue a.id ∷ []) (guard_of (key_of r))) message_trial []
               (mine c a e s filed known) (All-nil _);
-          writes = somes_all under (slots b) (four (InSlot under) (Some queue_record) (first b) (Some (queue_end b))
-              (Some its_write) (mine c a e s filed known) (first_is under b (λ _ _. mine c a e s filed known) is)
-              (mine c a e s filed known) (mine c a e s filed known));
+          writes = each_all under (slots b) (
+            mine c a e s filed known,
+            (first_is b, (mine c a e s filed known, (mine c a e s filed known, tt))),
+          );
         };
-        ordered = ordered b is;
+        ordered = record { trials = (All-nil _, tt); writes = in_order b is };
       }

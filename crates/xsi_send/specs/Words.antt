@@ -37,8 +37,8 @@ pub use Rattle.type_chains.specs.RecordOf.{has_number, has_serial, message_recor
 pub use Rattle.type_chains.specs.Sending.{last_message, message_of, with_one_more}
 pub use Rattle.xsi_inquiry.proofs.LeadLemmas.{Fills, IsNew, Misses, MissesRecord, leads_by}
 pub use Rattle.xsi_inquiry.proofs.SeekLemmas.{clash}
-pub use Rattle.xsi_inquiry.proofs.SlotLemmas.{InSlot, somes_all, somes_ascend, somes_each}
-pub use Rattle.xsi_inquiry.specs.Owning.{IsBefore, IsOrdered, IsUnder, trial_rank}
+pub use Rattle.xsi_inquiry.proofs.SlotLemmas.{InSlot, all_each, each_all, ranked_ascend, slot_all}
+pub use Rattle.xsi_inquiry.specs.Owning.{Ascend, IsOrdered, IsUnder, trial_rank, write_rank}
 pub use Rattle.xsi_inquiry.specs.Telling.{IsFiled, IsTold}
 pub use Rattle.xsi_inquiry.specs.Writing.{Leads, Plan, key_written, somes, value_length}
 pub use Rattle.xsi_inquiry.specs.declared.wanted.Wanted.TheVariants.{At}
