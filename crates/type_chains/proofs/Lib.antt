@@ -15,3 +15,8 @@ pub mod OneQueue
 pub mod OneQueueChanged
 pub mod Sends
 pub mod Fitting
+pub mod Without
+pub mod FirstOfType
+pub mod MessagesWithout
+pub mod TypesWithout
+pub mod TypeWithout

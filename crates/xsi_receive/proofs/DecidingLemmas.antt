@@ -3,15 +3,15 @@ use Rattle.xsi_receive.proofs.Names.{All, All-nil, Answers, Begins, Bool, Caller
 use Rattle.page_locks.specs.declared.lock.LockName.TheVariants as names
 use Rattle.queue_model.specs.declared.answer.Answer.TheVariants as answers
 use Rattle.queue_records.specs.declared.record.Record.TheVariants as records
-use Rattle.xsi_receive.proofs.FirstOfTypeLemmas.{IsTakenAt, taken_at}
+use Rattle.type_chains.proofs.FirstOfType.{IsTakenAt, taken_at}
 use Rattle.xsi_receive.proofs.FitLemmas.{place_of}
 use Rattle.xsi_receive.proofs.KnowingLemmas.{on_selected}
 use Rattle.xsi_receive.proofs.LeadLemmas.{leads}
 use Rattle.xsi_receive.proofs.OrderLemmas.{in_order}
-use Rattle.xsi_receive.proofs.MessageLemmas.{next_of_type_is}
+use Rattle.type_chains.proofs.MessagesWithout.{next_of_type_is}
 use Rattle.xsi_receive.proofs.QueueLemmas.{counted, fewer_bytes, lowest_without, queue_without}
-use Rattle.xsi_receive.proofs.TypeLemmas.{types_stay}
-use Rattle.xsi_receive.proofs.TypesLemmas.{its_type_stands}
+use Rattle.type_chains.proofs.TypeWithout.{types_stay}
+use Rattle.type_chains.proofs.TypesWithout.{its_type_stands}
 
 both_pass : (a b : Bool) → a ≡ true → b ≡ true → (a && b) ≡ true
 both_pass a b one two = rw (one, two) refl

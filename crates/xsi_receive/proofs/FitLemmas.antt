@@ -2,11 +2,11 @@
 use Rattle.xsi_receive.proofs.Names.{Contains, Delete, Fills, InSlot, IsFiled, IsLawful, IsLawful-set, IsLawfulQueue-remove, IsSome, List, Message, MessageEntry, MessageLinks, None, Option, Queue, Relink, Replace, Some, State, Stays, TypeEntry, TypeLinks, Write, ap, arith, before_place, by_number, by_serial, false, find, find_at, fine, first_of, found_new, get_or, get_or_from_slice_get, has_id, has_number, key_of_message, key_of_queue, key_of_type, length, length-queue, link_to, linked, mapped, message_entry, message_record, message_stands, nat_tests, option_and_then, option_map, pos, position_or_len, queue_entry, queue_stands, record_of, refl, relinked, remove, same_number, serials, serials_of_type, slice_get, slice_get-get_or, slice_get-map, slice_get_within, subst, suc, sym, to_first, to_higher, to_lower, to_next, to_previous, type_entry, type_number, type_record, type_stands, typed, types, value_length, with_message_links, with_queue, with_type_links, zero, ℕ, ℤ, ◌<◌, ◌==◌, ◌∙◌, ◌≡◌, ◌≢◌, ◌≤ℤ◌}
 use Rattle.queue_records.specs.declared.links.Links.TheVariants as links
 use Rattle.queue_records.specs.declared.record.Record.TheVariants as records
-use Rattle.xsi_receive.proofs.FirstOfTypeLemmas.{IsTakenAt}
-use Rattle.xsi_receive.proofs.ListLemmas.{find_none_left, find_without}
-use Rattle.xsi_receive.proofs.MessageLemmas.{entry_next, entry_previous, none_at_its_serial, same_at_other_serial, serials_other, without}
-use Rattle.xsi_receive.proofs.TypeLemmas.{own_entry, place_other, type_higher, type_lower, types_go, types_stay}
-use Rattle.xsi_receive.proofs.TypesLemmas.{its_type_stands}
+use Rattle.type_chains.proofs.FirstOfType.{IsTakenAt}
+use Rattle.type_chains.proofs.Without.{find_none_left, find_without}
+use Rattle.type_chains.proofs.MessagesWithout.{entry_next, entry_previous, none_at_its_serial, same_at_other_serial, serials_other, without}
+use Rattle.type_chains.proofs.TypeWithout.{own_entry, place_other, type_higher, type_lower, types_go, types_stay}
+use Rattle.type_chains.proofs.TypesWithout.{its_type_stands}
 
 pub stands_at : {X : Type 0} (xs : List X) (k : ℕ) (x : X) → slice_get xs k ≡ Some x → Contains xs x
 stands_at xs k x at = (k, slice_get_within xs k x at, get_or_from_slice_get xs k x x at)
@@ -109,7 +109,7 @@ module _ (s : State) (filed : IsFiled s) (id : ℕ) (q : Queue) (found : find (h
       subst (λ (y : ℕ). Right (Relink (key_of_message id y) (to_previous previous))) same
       (message_fits (suc i) x at (omega arith)
       (record { previous = link_to previous; next = Stays; next_of_type = Stays })
-      (entry_next q (fine s filed.lawful id q found) pid moment i m taken i x at refl
+      (entry_next q (fine s filed.lawful id q found) pid moment i m taken (suc i) x at refl
       ∙ sym (ap (λ (o : Option ℕ). record (message_entry q x) { previous = o })
       (link_leads previous (message_entry q x).previous))))
 
@@ -194,7 +194,7 @@ module _ (s : State) (filed : IsFiled s) (id : ℕ) (q : Queue) (found : find (h
         let lower = (type_entry q m.mtype).lower in
         beside_fits (suc j) t is (omega arith)
         (record { first = None; last = None; lower = link_to lower; higher = Stays })
-        (type_higher q pid moment i m taken none j at_j j t is refl
+        (type_higher q pid moment i m taken none j at_j (suc j) t is refl
         ∙ sym (ap (λ (o : Option ℤ). record (type_entry q t) { lower = o }) (link_leads lower (type_entry q t).lower)))
 
     pub type_goes : Right (Delete (key_of_type id m.mtype))

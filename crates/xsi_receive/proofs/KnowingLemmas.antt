@@ -1,7 +1,7 @@
 -- What a Receive knows by what it was told.
 use Rattle.xsi_receive.proofs.Names.{At, Bool, Caller, Contains, E2BIG, ENOMSG, Err, HasRoomFor, IsEntryOf, IsFiled, IsTold, KnowsAt, KnowsHead, KnowsSerial, List, Message, MessageEntry, MessageHead, None, Ok, Option, Queue, QueueEntry, Read, Receive, ReceiveArguments, Record, Result, Roomful, SelectsMessage, SelectsType, Some, State, TypeEntry, ap, arith, clamps, clash, false, find, find-Some, head_of, inl, inr, int_lt, ints, is_long, is_none, is_of_type, key_of_message, key_of_type, lacks_access, length, length-take, message_entry, message_stands, nat_abs, negsuc, outcome, permissions_in, pos, position_or_len, put_off, put_off_at, queue_entry, receive_found, receive_from, record_of, refl, refuse, selected, selects, short, slice_index, suc, sym, take, take_all, true, type_absent, type_entry, type_stands, typed, zero, ℕ, ℤ, ◌&&◌, ◌<ℤ◌, ◌<◌, ◌∙◌, ◌≡◌, ◌≤ℤ◌, ◌≤◌, ◌⊎◌}
 use Rattle.queue_records.specs.declared.record.Record.TheVariants as records
-use Rattle.xsi_receive.proofs.FirstOfTypeLemmas.{serials_of_its_type, taken_at}
+use Rattle.type_chains.proofs.FirstOfType.{serials_of_its_type, taken_at}
 use Rattle.xsi_receive.proofs.SelectingLemmas.{first_some, lowest_stands, none_of, selects_above, selects_below_in, selects_below_none, selects_below_out, stands_of, type_found}
 
 above_zero : (t : ℤ) → (t ≤ℤ pos 0 → ⊥) → pos 0 <ℤ t

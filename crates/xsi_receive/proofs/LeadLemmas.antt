@@ -1,11 +1,12 @@
 -- The writes of a Receive lead from the records of a system to those of the system after it.
-use Rattle.xsi_receive.proofs.Names.{All, All-nil, Begins, Bool, Decides-eqb, Decides-int_eq, Delete, Fills, Goes, InSlot, IsFiled, IsLawfulQueue, Leads, List, Message, MessageEntry, Misses, None, Option, Queue, RecordKey, Relink, Removal, Replace, Some, State, TypeEntry, TypeLeft, Write, agree_but, ap, arith, before_place, cases_lt, deletion_by, each_all, eqb-true, false, find, find-Some, fine, first_of, has_id, has_number, has_serial, head_of, higher_by, in_range, inl, inr, int_eq, key_is, key_of_message, key_of_type, leads_by, left_by, message_entry, message_record, next_write, option_map, own_by, previous_write, queue_entry, record_of, refl, removal_plan, remove, serials, serials_of_type, slice_get, slice_get-map, slots_of, somes, somes_each, subst, suc, sym, to_higher, to_lower, to_next, to_previous, true, type_entry, type_number, type_record, types, with_queue, zero, ℕ, ℤ, ◌==◌, ◌∙◌, ◌≡◌, ◌≢◌, ◌≤◌, ◌⊎◌}
+use Rattle.xsi_receive.proofs.Names.{All, All-nil, Begins, Bool, Decides-eqb, Decides-int_eq, Delete, Fills, Goes, InSlot, IsFiled, IsLawfulQueue, Leads, List, Message, MessageEntry, Misses, None, Option, Queue, RecordKey, Relink, Removal, Replace, Some, State, TypeEntry, TypeLeft, Write, agree_but, ap, arith, before_place, deletion_by, each_all, eqb-true, false, find, find-Some, fine, first_of, has_id, has_number, has_serial, head_of, higher_by, in_range, inl, inr, int_eq, key_is, key_of_message, key_of_type, leads_by, left_by, message_entry, message_record, next_write, option_map, own_by, previous_write, queue_entry, record_of, refl, removal_plan, remove, serials, serials_of_type, slice_get, slice_get-map, slots_of, somes, somes_each, subst, suc, sym, to_higher, to_lower, to_next, to_previous, true, type_entry, type_number, type_record, types, with_queue, zero, ℕ, ℤ, ◌==◌, ◌∙◌, ◌≡◌, ◌≢◌, ◌⊎◌}
 use Rattle.queue_records.specs.declared.record.Record.TheVariants as records
-use Rattle.xsi_receive.proofs.FirstOfTypeLemmas.{IsTakenAt}
+use Rattle.type_chains.proofs.FirstOfType.{IsTakenAt}
+use Rattle.type_chains.proofs.Without.{beside}
 use Rattle.xsi_receive.proofs.FitLemmas.{found_other, higher_fits, lawful_after, lower_fits, message_goes, next_fits, own_fits, place_of, previous_fits, queue_fits, type_goes}
-use Rattle.xsi_receive.proofs.MessageLemmas.{entry_later, entry_sooner, next_is, next_of_type_is, previous_is, same_at_other_serial, without}
-use Rattle.xsi_receive.proofs.TypeLemmas.{entry_stays, higher_is, lower_is, type_later, type_sooner, types_stay}
-use Rattle.xsi_receive.proofs.TypesLemmas.{its_type_stands}
+use Rattle.type_chains.proofs.MessagesWithout.{entry_far, next_is, next_of_type_is, previous_is, same_at_other_serial, without}
+use Rattle.type_chains.proofs.TypeWithout.{entry_stays, higher_is, lower_is, type_far, types_stay}
+use Rattle.type_chains.proofs.TypesWithout.{its_type_stands}
 use Rattle.xsi_receive.proofs.RankLemmas.{WritesAt, missed, not_at}
 use Rattle.xsi_receive.proofs.OrderLemmas.{in_order}
 
@@ -141,24 +142,13 @@ module _ (s : State) (filed : IsFiled s) (id : ℕ) (q : Queue) (found : find (h
 
   other_message : (n k : ℕ) (x : Message) → m.serial ≢ n → find (has_serial n) q.messages ≡ Some x →
       slice_get q.messages k ≡ Some x → k ≢ i → MessageStays n
-  other_message n k x apart was at other = elim (cases_lt k i) [
-    | inl below ↦ elim (cases_lt (suc k) i) [
-      | inl far ↦ kept_message n x apart was (entry_sooner q lawful_queue pid moment i m taken k x at far)
-      | inr near ↦ inr (inl (previous_at (suc k) (omega (arith, below, near)) x n at number))
-    ]
-    | inr above ↦ past k at other above
-  ]
-    where
-      number : x.serial ≡ n
-      number = eqb-true x.serial n (find-Some (has_serial n) q.messages x was).0
-
-      past : (k : ℕ) → slice_get q.messages k ≡ Some x → k ≢ i → i ≤ k → MessageStays n
-      past zero at other above = absurd (omega (arith, other, above))
-      past (suc k) at other above = elim (cases_lt i k) [
-        | inl far ↦ kept_message n x apart was (entry_later q lawful_queue pid moment i m taken k x at far)
-        | inr near ↦
-            let here : k ≡ i = omega (arith, near, other, above) in
-            inr (inr (inl (next_at x n (ap (λ (y : ℕ). slice_get q.messages (suc y)) (sym here) ∙ at) number)))
+  other_message n k x apart was at other =
+      let number = eqb-true x.serial n (find-Some (has_serial n) q.messages x was).0 in
+      elim (beside i k other) [
+        | inl here ↦ inr (inl (previous_at (suc k) here x n at number))
+        | inr (inl here) ↦ inr (inr (inl (next_at x n (ap (slice_get q.messages) (sym here) ∙ at) number)))
+        | inr (inr far) ↦ kept_message n x apart was
+            (entry_far q lawful_queue pid moment i m taken k x at other far.0 far.1)
       ]
 
   at_messages : (n : ℕ) → MessageStays n
@@ -254,25 +244,13 @@ module _ (s : State) (filed : IsFiled s) (id : ℕ) (q : Queue) (found : find (h
     other_type : (n k : ℕ) (t : ℤ) → (type_number m.mtype == n) ≡ false
         → find (has_number n) (types q.messages) ≡ Some t →
         slice_get (types q.messages) k ≡ Some t → k ≢ j → GoesAt n
-    other_type n k t over was at other = elim (cases_lt k j) [
-      | inl below ↦ elim (cases_lt (suc k) j) [
-        | inl far ↦ kept_type n t over was (type_sooner q pid moment i m taken none j at_j k t at far)
-        | inr near ↦ inr (inl (lower_at (suc k) (omega (arith, below, near)) t n at number))
-      ]
-      | inr above ↦ past k at other above
-    ]
-      where
-        number : type_number t ≡ n
-        number = eqb-true (type_number t) n (find-Some (has_number n) (types q.messages) t was).0
-
-        past : (k : ℕ) → slice_get (types q.messages) k ≡ Some t → k ≢ j → j ≤ k → GoesAt n
-        past zero at other above = absurd (omega (arith, other, above))
-        past (suc k) at other above = elim (cases_lt j k) [
-          | inl far ↦ kept_type n t over was (type_later q pid moment i m taken none j at_j k t at far)
-          | inr near ↦
-              let here : k ≡ j = omega (arith, near, other, above) in
-              inr (inr (inl (higher_at t n (ap (λ (x : ℕ). slice_get (types q.messages) (suc x)) (sym here) ∙ at)
-              number)))
+    other_type n k t over was at other =
+        let number = eqb-true (type_number t) n (find-Some (has_number n) (types q.messages) t was).0 in
+        elim (beside j k other) [
+          | inl here ↦ inr (inl (lower_at (suc k) here t n at number))
+          | inr (inl here) ↦ inr (inr (inl (higher_at t n (ap (slice_get (types q.messages)) (sym here) ∙ at) number)))
+          | inr (inr far) ↦ kept_type n t over was
+              (type_far q pid moment i m taken none j at_j k t at other far.0 far.1)
         ]
 
     goes_at : (n : ℕ) → GoesAt n

@@ -1,14 +1,9 @@
 pub mod Names
 pub mod DecidingLemmas
-pub mod FirstOfTypeLemmas
 pub mod FitLemmas
 pub mod KnowingLemmas
 pub mod LeadLemmas
-pub mod ListLemmas
-pub mod MessageLemmas
 pub mod OrderLemmas
 pub mod QueueLemmas
 pub mod RankLemmas
 pub mod SelectingLemmas
-pub mod TypeLemmas
-pub mod TypesLemmas

@@ -1,11 +1,11 @@
 -- The writes of a Receive stand in the order of their ranks.
 use Rattle.xsi_receive.proofs.Names.{Ascend, Climb, Fills, IsFiled, IsLawfulQueue, List, Message, MessageEntry, None, Option, Queue, Relink, Removal, Some, State, TypeEntry, TypeLeft, Write, [], ap, arith, before_place, find, fine, first_of, get_or, get_or_from_slice_get, has_id, head_of, higher_by, key_of_message, key_of_type, left_by, message_entry, next_write, numbers_ascend, option_map, own_by, previous_write, queue_entry, ranked_ascend, record_of, refl, remove, serials, serials_of_type, slice_get, slice_get_within, slot_all, slots_of, somes, subst, suc, sym, to_higher, to_lower, to_next, to_previous, type_entry, type_number, typed, types, types_ascend, with_queue, write_rank, zero, ℕ, ℤ, ◌<ℤ◌, ◌<◌, ◌∙◌, ◌∷◌, ◌≡◌}
 use Rattle.queue_records.specs.declared.record.Record.TheVariants as records
-use Rattle.xsi_receive.proofs.FirstOfTypeLemmas.{IsTakenAt}
+use Rattle.type_chains.proofs.FirstOfType.{IsTakenAt}
 use Rattle.xsi_receive.proofs.FitLemmas.{numbered, place_of, stands_at}
-use Rattle.xsi_receive.proofs.MessageLemmas.{next_is, next_of_type_is, previous_is, without}
-use Rattle.xsi_receive.proofs.TypeLemmas.{higher_is, lower_is}
-use Rattle.xsi_receive.proofs.TypesLemmas.{its_type_stands}
+use Rattle.type_chains.proofs.MessagesWithout.{next_is, next_of_type_is, previous_is, without}
+use Rattle.type_chains.proofs.TypeWithout.{higher_is, lower_is}
+use Rattle.type_chains.proofs.TypesWithout.{its_type_stands}
 use Rattle.xsi_receive.proofs.RankLemmas.{deletion_rank, higher_rank, own_rank}
 
 module _ (s : State) (filed : IsFiled s) (id : ℕ) (q : Queue) (found : find (has_id id) s.queues ≡ Some q)

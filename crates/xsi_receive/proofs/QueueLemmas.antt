@@ -1,9 +1,9 @@
 -- The Queue without the message that a receive takes.
 use Rattle.xsi_receive.proofs.Names.{IsLawfulQueue, List, Message, None, Option, Queue, Some, [], ap, arith, before_place, first_of, get_or_from_slice_get, last_of, length, length-map, length-remove, message_entry, queue_entry, refl, remove, serials, serials_of_type, slice_get, slice_get_within, suc, sum_by-remove, sym, total_bytes, type_entry, types, where_none, zero, ℕ, ℤ, ◌+◌, ◌-◌, ◌<◌, ◌∙◌, ◌∷◌, ◌≡◌, ◌≤◌}
-use Rattle.xsi_receive.proofs.FirstOfTypeLemmas.{IsTakenAt}
-use Rattle.xsi_receive.proofs.ListLemmas.{first_after, first_left, last_before, last_left}
-use Rattle.xsi_receive.proofs.MessageLemmas.{next_is, previous_is, serials_left, without}
-use Rattle.xsi_receive.proofs.TypeLemmas.{higher_is, lower_is, types_go}
+use Rattle.type_chains.proofs.FirstOfType.{IsTakenAt}
+use Rattle.type_chains.proofs.Without.{first_after, first_left, last_before, last_left}
+use Rattle.type_chains.proofs.MessagesWithout.{next_is, previous_is, serials_left, without}
+use Rattle.type_chains.proofs.TypeWithout.{higher_is, lower_is, types_go}
 
 -- ---- both ends of a list without one
 

@@ -1,6 +1,16 @@
 -- The message that a receive selects stands at a place, and is the first of its type.
-use Rattle.xsi_receive.proofs.Names.{Bool, Decides-int_eq, List, Message, None, Option, Some, ap, fails_before_first, false, find-Some, find_at, get_or, has_type, int_eq, is_of_type, lowest_type, negsuc, pos, position_or_len, refl, remove, selected, selects, serials, serials_of_type, slice_get, suc, sym, true, zero, ℕ, ℤ, ◌<◌, ◌∙◌, ◌∷◌, ◌≡◌, ◌≢◌}
-use Rattle.xsi_receive.proofs.ListLemmas.{filter_first, filter_without}
+use Rattle.queue_model.proofs.ListLemmas.{find-Some}
+use Rattle.queue_model.specs.Selection.{has_type, lowest_type, selected, selects}
+use Rattle.queue_model.specs.declared.message.Message.{Message}
+use Rattle.std.proofs.Common.{Bool, List, None, Option, Some, ap, false, get_or, negsuc, pos, refl, suc, sym, true, zero, ℕ, ℤ, ◌<◌, ◌∙◌, ◌∷◌, ◌≡◌}
+use Rattle.std.proofs.lemmas.Bool.Decides.{Decides-int_eq}
+use Rattle.std.proofs.lemmas.List.Folds.{find_at}
+use Rattle.std.proofs.lemmas.List.Sums.{fails_before_first}
+use Rattle.std.specs.List.{position_or_len, remove}
+use Rattle.std.specs.Ordering.{int_eq}
+use Rattle.std.specs.Prelude.{slice_get, ◌≢◌}
+use Rattle.type_chains.proofs.Without.{filter_first, filter_without}
+use Rattle.type_chains.specs.Lists.{is_of_type, serials, serials_of_type}
 
 -- a receive of a type tells messages apart by their types alone
 selects_by_type : (t : ℤ) (ms : List Message) (m n : Message) → n.mtype ≡ m.mtype → selects t ms n ≡ selects t ms m

@@ -1,5 +1,14 @@
 -- What stands beside an element of a list, when another goes; and what searches find then.
-use Rattle.xsi_receive.proofs.Names.{AllPairs, Bool, List, None, Option, Some, [], all_pairs_remove, ap, arith, before, before_place, behind, cond, false, filter, find, find-None, first_of, get_or, get_or_from_slice_get, last_of, length, length-remove, position_None, position_or_len, position_or_len_is, refl, remove, same_Some, slice_get, slice_get_within, suc, sym, true, zero, ℕ, ◌-◌, ◌<◌, ◌∙◌, ◌∷◌, ◌≡◌, ◌≢◌, ◌≤◌}
+use Rattle.queue_model.proofs.ListLemmas.{find-None, position_None}
+use Rattle.std.proofs.lemmas.Bool.{cases_lt}
+use Rattle.std.proofs.Common.{inl, inr, ◌⊎◌, Bool, List, None, Option, Some, [], ap, arith, cond, false, get_or, length, refl, suc, sym, true, zero, ℕ, ◌-◌, ◌<◌, ◌∙◌, ◌∷◌, ◌≡◌, ◌≤◌}
+use Rattle.std.proofs.lemmas.List.Edits.{length-remove}
+use Rattle.std.proofs.lemmas.List.Quantifiers.{all_pairs_remove}
+use Rattle.std.proofs.lemmas.List.Sums.{position_or_len_is}
+use Rattle.std.proofs.lemmas.Option.{get_or_from_slice_get, same_Some, slice_get_within}
+use Rattle.std.specs.List.{AllPairs, filter, find, position_or_len, remove}
+use Rattle.std.specs.Prelude.{slice_get, ◌≢◌}
+use Rattle.type_chains.specs.Neighbours.{before, before_place, behind, first_of, last_of}
 
 -- ---- places of a list without one
 
@@ -18,6 +27,10 @@ get_above [] (suc i) k above = refl
 get_above (x ∷ xs) zero k above = refl
 get_above (x ∷ xs) (suc i) zero above = absurd (omega (arith, above))
 get_above (x ∷ xs) (suc i) (suc k) above = get_above xs i k (omega (arith, above))
+
+pub before_below : {X : Type 0} (xs : List X) (i k : ℕ) → k ≤ i → before_place (remove xs i) k ≡ before_place xs k
+before_below xs i zero below = refl
+before_below xs i (suc j) below = get_below xs i j (omega (arith, below))
 
 -- ---- what stands beside an element that stands at a place, where a test tells it from those before it
 
@@ -50,59 +63,79 @@ module _ {X : Type 0} (is : X → X → Bool) (xs : List X) (i : ℕ) (x : X) (a
   pub behind_it : behind (is x) xs ≡ slice_get xs (suc i)
   behind_it = ap (λ (k : ℕ). slice_get xs (suc k)) (first_at is xs i x apart (its_own x) at_i)
 
-  -- one that stands before it
-  module _ (k : ℕ) (y : X) (at_k : slice_get xs k ≡ Some y) (sooner : k < i) where
-    place_below : position_or_len (is y) left ≡ k
-    place_below = first_at is left k y left_apart (its_own y) (get_below xs i k sooner ∙ at_k)
+  -- those of an element at another place
+  module _ (k : ℕ) (y : X) (at_k : slice_get xs k ≡ Some y) where
+    was_at : position_or_len (is y) xs ≡ k
+    was_at = first_at is xs k y apart (its_own y) at_k
 
-    place_was_below : position_or_len (is y) xs ≡ k
-    place_was_below = first_at is xs k y apart (its_own y) at_k
+    below_at : k < i → position_or_len (is y) left ≡ k
+    below_at sooner = first_at is left k y left_apart (its_own y) (get_below xs i k sooner ∙ at_k)
 
-    pub before_sooner : before (is y) left ≡ before (is y) xs
-    before_sooner = ap (before_place left) place_below ∙ by k sooner ∙ sym (ap (before_place xs) place_was_below)
+    above_at : (j : ℕ) → suc j ≡ k → i ≤ j → position_or_len (is y) left ≡ j
+    above_at j same later =
+        first_at is left j y left_apart (its_own y) (get_above xs i j later ∙ ap (slice_get xs) same ∙ at_k)
+
+    below_same : k < i → before (is y) left ≡ before (is y) xs
+    below_same less = ap (before_place left) (below_at less) ∙ before_below xs i k (omega (arith, less))
+        ∙ sym (ap (before_place xs) was_at)
+
+    -- what stands before it stays but where that is the one that goes
+    pub before_other : k ≢ i → k ≢ suc i → before (is y) left ≡ before (is y) xs
+    before_other here next = by k refl
       where
-        by : (j : ℕ) → j < i → before_place left j ≡ before_place xs j
-        by zero less = refl
-        by (suc j) less = get_below xs i j (omega (arith, less))
+        above : (j : ℕ) → i < j → before_place left j ≡ before_place xs (suc j)
+        above zero less = absurd (omega (arith, less))
+        above (suc n) less = get_above xs i n (omega (arith, less))
 
-    pub behind_sooner : suc k < i → behind (is y) left ≡ behind (is y) xs
-    behind_sooner less = ap (λ (j : ℕ). slice_get left (suc j)) place_below
-        ∙ get_below xs i (suc k) less
-        ∙ sym (ap (λ (j : ℕ). slice_get xs (suc j)) place_was_below)
+        by : (n : ℕ) → n ≡ k → before (is y) left ≡ before (is y) xs
+        by zero same = below_same (omega (arith, same, here))
+        by (suc j) same = elim (cases_lt (suc j) i) [
+          | inl less ↦ below_same (omega (arith, same, less))
+          | inr more ↦ ap (before_place left) (above_at j same (omega (arith, more, same, here)))
+              ∙ above j (omega (arith, more, same, here, next)) ∙ ap (before_place xs) (same ∙ sym was_at)
+        ]
 
+    -- so does what stands behind it
+    pub behind_other : k ≢ i → suc k ≢ i → behind (is y) left ≡ behind (is y) xs
+    behind_other here previous = by k refl
+      where
+        below : k < i → behind (is y) left ≡ behind (is y) xs
+        below less = ap (λ (j : ℕ). slice_get left (suc j)) (below_at less)
+            ∙ get_below xs i (suc k) (omega (arith, less, previous))
+            ∙ sym (ap (λ (j : ℕ). slice_get xs (suc j)) was_at)
+
+        by : (n : ℕ) → n ≡ k → behind (is y) left ≡ behind (is y) xs
+        by zero same = below (omega (arith, same, here))
+        by (suc j) same = elim (cases_lt (suc j) i) [
+          | inl less ↦ below (omega (arith, same, less))
+          | inr more ↦ ap (λ (n : ℕ). slice_get left (suc n)) (above_at j same (omega (arith, more, same, here)))
+              ∙ get_above xs i (suc j) (omega (arith, more, same, here))
+              ∙ ap (λ (n : ℕ). slice_get xs (suc n)) (same ∙ sym was_at)
+        ]
+
+    -- the one before it is followed by the one behind it, which follows the one before it
     pub behind_previous : suc k ≡ i → behind (is y) left ≡ behind (is x) xs
-    behind_previous here = ap (λ (j : ℕ). slice_get left (suc j)) place_below
+    behind_previous here = ap (λ (j : ℕ). slice_get left (suc j)) (below_at (omega (arith, here)))
         ∙ get_above xs i (suc k) (omega (arith, here))
         ∙ ap (λ (j : ℕ). slice_get xs (suc j)) here
         ∙ sym behind_it
 
-  -- one that stands behind it
-  module _ (k : ℕ) (y : X) (at_k : slice_get xs (suc k) ≡ Some y) (later : i ≤ k) where
-    place_above : position_or_len (is y) left ≡ k
-    place_above = first_at is left k y left_apart (its_own y) (get_above xs i k later ∙ at_k)
+    pub before_next : k ≡ suc i → before (is y) left ≡ before (is x) xs
+    before_next here = ap (before_place left) (above_at i (sym here) (omega arith))
+        ∙ before_below xs i i (omega arith) ∙ sym before_it
 
-    place_was_above : position_or_len (is y) xs ≡ suc k
-    place_was_above = first_at is xs (suc k) y apart (its_own y) at_k
-
-    pub behind_later : behind (is y) left ≡ behind (is y) xs
-    behind_later = ap (λ (j : ℕ). slice_get left (suc j)) place_above
-        ∙ get_above xs i (suc k) (omega (arith, later))
-        ∙ sym (ap (λ (j : ℕ). slice_get xs (suc j)) place_was_above)
-
-    pub before_later : i < k → before (is y) left ≡ before (is y) xs
-    before_later more = ap (before_place left) place_above ∙ by k more
-        ∙ sym (ap (before_place xs) place_was_above)
-      where
-        by : (j : ℕ) → i < j → before_place left j ≡ before_place xs (suc j)
-        by zero less = absurd (omega (arith, less))
-        by (suc j) less = get_above xs i j (omega (arith, less))
-
-    pub before_next : k ≡ i → before (is y) left ≡ before (is x) xs
-    before_next here = ap (before_place left) (place_above ∙ here) ∙ by i refl ∙ sym before_it
-      where
-        by : (j : ℕ) → j ≡ i → before_place left j ≡ before_place xs j
-        by zero same = refl
-        by (suc j) same = get_below xs i j (omega (arith, same))
+-- another place is next to one, or far from it
+pub beside : (i k : ℕ) → k ≢ i → (suc k ≡ i) ⊎ (k ≡ suc i) ⊎ ((k ≢ suc i) × (suc k ≢ i))
+beside i k other = elim (cases_lt (suc k) i) [
+  | inl sooner ↦ inr (inr (omega (arith, sooner), omega (arith, sooner)))
+  | inr near ↦ elim (cases_lt k i) [
+    | inl below ↦ inl (omega (arith, near, below))
+    | inr above ↦ elim (cases_lt (suc i) k) [
+      | inl later ↦ inr (inr (omega (arith, later), omega (arith, later)))
+      | inr next ↦ inr (inl (omega (arith, above, next, other)))
+    ]
+  ]
+]
 
 -- ---- both ends
 

@@ -1,9 +1,23 @@
 -- The Types of a queue without the message that a receive takes.
-use Rattle.xsi_receive.proofs.Names.{Bool, Contains, Decides-int_eq, List, Message, None, Option, Queue, Some, TypeEntry, [], ap, arith, before, before_place, behind, contains_head, contains_tail, false, filter, filter_holds, first_of, get_or, int_eq, ints, is_of_type, is_same_type, length, position_or_len, refl, remove, serials, serials_of_type, slice_get, slice_index, suc, sym, true, type_entry, types, types_ascend, ℕ, ℤ, ◌-◌, ◌<◌, ◌∙◌, ◌∷◌, ◌≡◌, ◌≢◌, ◌≤◌}
-use Rattle.xsi_receive.proofs.FirstOfTypeLemmas.{IsTakenAt, its_type, other_type, serials_of_its_type, serials_of_other_type}
-use Rattle.xsi_receive.proofs.ListLemmas.{AreToldApart, before_it, behind_it, before_sooner, behind_sooner, behind_previous, behind_later, before_later, before_next, first_at}
-use Rattle.xsi_receive.proofs.MessageLemmas.{without}
-use Rattle.xsi_receive.proofs.TypesLemmas.{types_kept, types_without}
+use Rattle.queue_model.specs.declared.message.Message.{Message}
+use Rattle.queue_model.specs.declared.queue.Queue.{Queue}
+use Rattle.queue_records.specs.declared.type_entry.TypeEntry.{TypeEntry}
+use Rattle.std.proofs.Common.{Bool, List, None, Option, Some, [], ap, arith, false, get_or, length, refl, suc, sym, true, ℕ, ℤ, ◌-◌, ◌∙◌, ◌∷◌, ◌≡◌, ◌≤◌}
+use Rattle.std.proofs.lemmas.Bool.Decides.{Decides-int_eq}
+use Rattle.std.proofs.lemmas.Int.{ints}
+use Rattle.std.specs.List.{Contains, filter, position_or_len, remove}
+use Rattle.std.specs.Ordering.{int_eq}
+use Rattle.std.specs.Prelude.{slice_get, slice_index, ◌≢◌}
+use Rattle.type_chains.proofs.Elements.{filter_holds}
+use Rattle.type_chains.proofs.FirstOfType.{IsTakenAt, its_type, other_type, serials_of_its_type, serials_of_other_type}
+use Rattle.type_chains.proofs.Members.{contains_head, contains_tail}
+use Rattle.type_chains.proofs.MessagesWithout.{without}
+use Rattle.type_chains.proofs.TypesWithout.{types_kept, types_without}
+use Rattle.type_chains.proofs.Unique.{types_ascend}
+use Rattle.type_chains.proofs.Without.{AreToldApart, before_it, before_next, before_other, behind_it, behind_other, behind_previous, first_at}
+use Rattle.type_chains.specs.Entries.{is_same_type, type_entry}
+use Rattle.type_chains.specs.Lists.{is_of_type, serials, serials_of_type, types}
+use Rattle.type_chains.specs.Neighbours.{before, before_place, behind, first_of}
 
 -- ---- whether a message of a type is left
 
@@ -118,36 +132,32 @@ module _ (q : Queue) (pid moment i : ℕ) (m : Message) (taken : IsTakenAt m q.m
         place k t at = first_at is_same_type (types q.messages) k t apart (its_type t) at
 
     module _ (k : ℕ) (t : ℤ) (at : slice_get (types q.messages) k ≡ Some t) where
-      pub type_sooner : suc k < j → type_entry left t ≡ type_entry q t
-      type_sooner far = made t _ _ (place_other k t at (omega (arith, far)))
-          (moved_before t ∙ before_sooner is_same_type (types q.messages) j m.mtype apart its_type at_j k t at
-          (omega (arith, far)))
-          (moved_behind t ∙ behind_sooner is_same_type (types q.messages) j m.mtype apart its_type at_j k t at
-          (omega (arith, far)) far)
+      same_before : k ≢ j → k ≢ suc j → before (is_same_type t) (types (remove q.messages i))
+          ≡ before (is_same_type t) (types q.messages)
+      same_before here next = moved_before t
+          ∙ before_other is_same_type (types q.messages) j m.mtype apart its_type at_j k t at here next
+
+      same_behind : k ≢ j → suc k ≢ j → behind (is_same_type t) (types (remove q.messages i))
+          ≡ behind (is_same_type t) (types q.messages)
+      same_behind here previous = moved_behind t
+          ∙ behind_other is_same_type (types q.messages) j m.mtype apart its_type at_j k t at here previous
+
+      -- one that does not stand beside it stays
+      pub type_far : k ≢ j → k ≢ suc j → suc k ≢ j → type_entry left t ≡ type_entry q t
+      type_far here next previous =
+          made t _ _ (place_other k t at here) (same_before here next) (same_behind here previous)
 
       -- the one below it is followed by the one above it
       pub type_lower : suc k ≡ j → type_entry left t ≡ record (type_entry q t) { higher = entry.higher }
       type_lower here = made t _ _ (place_other k t at (omega (arith, here)))
-          (moved_before t ∙ before_sooner is_same_type (types q.messages) j m.mtype apart its_type at_j k t at
-          (omega (arith, here)))
-          (moved_behind t ∙ behind_previous is_same_type (types q.messages) j m.mtype apart its_type at_j k t at
-          (omega (arith, here)) here)
+          (same_before (omega (arith, here)) (omega (arith, here)))
+          (moved_behind t ∙ behind_previous is_same_type (types q.messages) j m.mtype apart its_type at_j k t at here)
 
-    module _ (k : ℕ) (t : ℤ) (at : slice_get (types q.messages) (suc k) ≡ Some t) where
       -- the one above it follows the one below it
-      pub type_higher : k ≡ j → type_entry left t ≡ record (type_entry q t) { lower = entry.lower }
-      type_higher here = made t _ _ (place_other (suc k) t at (omega (arith, here)))
-          (moved_before t ∙ before_next is_same_type (types q.messages) j m.mtype apart its_type at_j k t at
-          (omega (arith, here)) here)
-          (moved_behind t ∙ behind_later is_same_type (types q.messages) j m.mtype apart its_type at_j k t at
-          (omega (arith, here)))
-
-      pub type_later : j < k → type_entry left t ≡ type_entry q t
-      type_later far = made t _ _ (place_other (suc k) t at (omega (arith, far)))
-          (moved_before t ∙ before_later is_same_type (types q.messages) j m.mtype apart its_type at_j k t at
-          (omega (arith, far)) far)
-          (moved_behind t ∙ behind_later is_same_type (types q.messages) j m.mtype apart its_type at_j k t at
-          (omega (arith, far)))
+      pub type_higher : k ≡ suc j → type_entry left t ≡ record (type_entry q t) { lower = entry.lower }
+      type_higher here = made t _ _ (place_other k t at (omega (arith, here)))
+          (moved_before t ∙ before_next is_same_type (types q.messages) j m.mtype apart its_type at_j k t at here)
+          (same_behind (omega (arith, here)) (omega (arith, here)))
 
     pub lower_is : entry.lower ≡ before_place (types q.messages) j
     lower_is = before_it is_same_type (types q.messages) j m.mtype apart its_type at_j

@@ -1,6 +1,21 @@
 -- The types of messages without the first of one type: the same while one of that type is left, else without it.
-use Rattle.xsi_receive.proofs.Names.{All-contains, AllPairs, Bool, Contains, Decides-int_eq, List, Message, Some, [], all_pairs_remove, ap, are_types_of, arith, cases_lt, contains_head, contains_tail, false, get_or, get_or-remove_above, get_or-remove_below, get_or_from_slice_get, head_or_tail, inl, inr, int_eq, ints, length-remove, pairs_head, pairs_tail, refl, remove, slice_get, slice_get_within, subst, sym, true, types, ℕ, ℤ, ◌+◌, ◌-◌, ◌<ℤ◌, ◌∙◌, ◌∷◌, ◌≡◌, ◌≢◌}
-use Rattle.xsi_receive.proofs.FirstOfTypeLemmas.{IsTakenAt}
+use Rattle.queue_model.specs.declared.message.Message.{Message}
+use Rattle.std.proofs.Common.{Bool, List, Some, [], ap, arith, false, get_or, inl, inr, refl, subst, sym, true, ℕ, ℤ, ◌+◌, ◌-◌, ◌<ℤ◌, ◌∙◌, ◌∷◌, ◌≡◌}
+use Rattle.std.proofs.lemmas.Bool.{cases_lt}
+use Rattle.std.proofs.lemmas.Bool.Decides.{Decides-int_eq}
+use Rattle.std.proofs.lemmas.Int.{ints}
+use Rattle.std.proofs.lemmas.List.Edits.{get_or-remove_above, get_or-remove_below, length-remove}
+use Rattle.std.proofs.lemmas.List.Elements.{All-contains}
+use Rattle.std.proofs.lemmas.List.Quantifiers.{all_pairs_remove}
+use Rattle.std.proofs.lemmas.Option.{get_or_from_slice_get, slice_get_within}
+use Rattle.std.specs.List.{AllPairs, Contains, remove}
+use Rattle.std.specs.Ordering.{int_eq}
+use Rattle.std.specs.Prelude.{slice_get, ◌≢◌}
+use Rattle.type_chains.proofs.FirstOfType.{IsTakenAt}
+use Rattle.type_chains.proofs.Members.{contains_head, contains_tail, head_or_tail}
+use Rattle.type_chains.proofs.TypesStand.{are_types_of}
+use Rattle.type_chains.proofs.Unique.{pairs_head, pairs_tail}
+use Rattle.type_chains.specs.Lists.{types}
 
 abbrev Ascends : List ℤ → Type 0
 Ascends ts = AllPairs (λ (a b : ℤ). a <ℤ b) ts

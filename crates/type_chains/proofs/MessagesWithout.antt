@@ -1,7 +1,23 @@
 -- The Messages of a queue without the message that a receive takes.
-use Rattle.xsi_receive.proofs.Names.{Bool, Decides-eqb, Decides-int_eq, IsLawfulQueue, List, Message, MessageEntry, None, Option, Queue, Some, ap, arith, before, before_place, behind, cases_lt, false, find, first_of, get_or, get_or-map, get_or_from_slice_get, has_serial, inl, inr, int_eq, is_number, length, length-map, map-remove, message_entry, nat_tests, option_map, position_or_len, refl, remove, serials, serials_of_type, slice_get, slice_get-get_or, slice_get-map, slice_get_within, subst, suc, sym, true, ℕ, ℤ, ◌+◌, ◌<◌, ◌==◌, ◌∙◌, ◌∷◌, ◌≡◌, ◌≢◌, ◌≤◌, ◌⊎◌}
-use Rattle.xsi_receive.proofs.FirstOfTypeLemmas.{IsTakenAt, serials_of_its_type, serials_of_other_type}
-use Rattle.xsi_receive.proofs.ListLemmas.{AreToldApart, before_it, behind_it, before_sooner, behind_sooner, behind_previous, behind_later, before_later, before_next, find_none_left, find_without}
+use Rattle.queue_model.proofs.ListLemmas.{map-remove}
+use Rattle.queue_model.specs.Lawful.{IsLawfulQueue}
+use Rattle.queue_model.specs.declared.message.Message.{Message}
+use Rattle.queue_model.specs.declared.queue.Queue.{Queue}
+use Rattle.queue_records.specs.declared.message_entry.MessageEntry.{MessageEntry}
+use Rattle.std.proofs.Common.{Bool, List, None, Option, Some, ap, arith, false, get_or, inl, inr, length, refl, subst, suc, sym, true, ℕ, ℤ, ◌+◌, ◌<◌, ◌∙◌, ◌∷◌, ◌≡◌, ◌≤◌, ◌⊎◌}
+use Rattle.std.proofs.lemmas.Bool.{cases_lt}
+use Rattle.std.proofs.lemmas.Bool.Decides.{Decides-eqb, Decides-int_eq, nat_tests}
+use Rattle.std.proofs.lemmas.List.{get_or-map, length-map}
+use Rattle.std.proofs.lemmas.Option.{get_or_from_slice_get, slice_get-get_or, slice_get-map, slice_get_within}
+use Rattle.std.specs.List.{find, position_or_len, remove}
+use Rattle.std.specs.Ordering.{int_eq}
+use Rattle.std.specs.Prelude.{option_map, slice_get, ◌==◌, ◌≢◌}
+use Rattle.type_chains.proofs.FirstOfType.{IsTakenAt, serials_of_its_type, serials_of_other_type}
+use Rattle.type_chains.proofs.Without.{AreToldApart, before_it, before_next, before_other, behind_it, behind_other, behind_previous, find_none_left, find_without}
+use Rattle.type_chains.specs.Entries.{is_number, message_entry}
+use Rattle.type_chains.specs.Lists.{serials, serials_of_type}
+use Rattle.type_chains.specs.Neighbours.{before, before_place, behind, first_of}
+use Rattle.type_chains.specs.RecordOf.{has_serial}
 
 -- the queue without the message at a place
 abbrev pub without : ℕ → ℕ → ℕ → Queue → Queue
@@ -121,40 +137,30 @@ module _ (q : Queue) (lawful : IsLawfulQueue q) (pid moment i : ℕ) (m : Messag
     at_m : slice_get numbers i ≡ Some m.serial
     at_m = serial_at i m taken.at
 
+    same_before : k ≢ i → k ≢ suc i → before (is_number n.serial) (remove numbers i)
+        ≡ before (is_number n.serial) numbers
+    same_before = before_other is_number numbers i m.serial serials_apart own_number at_m k n.serial at_n
+
+    same_behind : k ≢ i → suc k ≢ i → behind (is_number n.serial) (remove numbers i)
+        ≡ behind (is_number n.serial) numbers
+    same_behind = behind_other is_number numbers i m.serial serials_apart own_number at_m k n.serial at_n
+
     -- one that does not stand beside it stays
-    pub entry_sooner : suc k < i → message_entry left n ≡ message_entry q n
-    entry_sooner far = made _ _ (omega (arith, far))
-        (moved_before ∙ before_sooner is_number numbers i m.serial serials_apart own_number at_m k n.serial at_n
-        (omega (arith, far)))
-        (moved_behind ∙ behind_sooner is_number numbers i m.serial serials_apart own_number at_m k n.serial at_n
-        (omega (arith, far)) far)
+    pub entry_far : k ≢ i → k ≢ suc i → suc k ≢ i → message_entry left n ≡ message_entry q n
+    entry_far here next previous =
+        made _ _ here (moved_before ∙ same_before here next) (moved_behind ∙ same_behind here previous)
 
     -- the one before it is followed by the one behind it
     pub entry_previous : suc k ≡ i → message_entry left n ≡ record (message_entry q n) { next = entry.next }
     entry_previous here = made _ _ (omega (arith, here))
-        (moved_before ∙ before_sooner is_number numbers i m.serial serials_apart own_number at_m k n.serial at_n
-        (omega (arith, here)))
-        (moved_behind ∙ behind_previous is_number numbers i m.serial serials_apart own_number at_m k n.serial at_n
-        (omega (arith, here)) here)
+        (moved_before ∙ same_before (omega (arith, here)) (omega (arith, here)))
+        (moved_behind ∙ behind_previous is_number numbers i m.serial serials_apart own_number at_m k n.serial at_n here)
 
-  module _ (k : ℕ) (n : Message) (at : slice_get q.messages (suc k) ≡ Some n) where
     -- the one behind it follows the one before it
-    pub entry_next : k ≡ i → message_entry left n ≡ record (message_entry q n) { previous = entry.previous }
-    entry_next here = made (suc k) n at _ _ (omega (arith, here))
-        (moved_before (suc k) n at ∙ before_next is_number numbers i m.serial serials_apart own_number
-        (serial_at i m taken.at) k n.serial (serial_at (suc k) n at) (omega (arith, here)) here)
-        (moved_behind (suc k) n at ∙ behind_later is_number numbers i m.serial serials_apart own_number
-        (serial_at i m taken.at) k n.serial (serial_at (suc k) n at) (omega (arith, here)))
-      where
-        numbers : List ℕ
-        numbers = serials q.messages
-
-    pub entry_later : i < k → message_entry left n ≡ message_entry q n
-    entry_later far = made (suc k) n at _ _ (omega (arith, far))
-        (moved_before (suc k) n at ∙ before_later is_number (serials q.messages) i m.serial serials_apart own_number
-        (serial_at i m taken.at) k n.serial (serial_at (suc k) n at) (omega (arith, far)) far)
-        (moved_behind (suc k) n at ∙ behind_later is_number (serials q.messages) i m.serial serials_apart own_number
-        (serial_at i m taken.at) k n.serial (serial_at (suc k) n at) (omega (arith, far)))
+    pub entry_next : k ≡ suc i → message_entry left n ≡ record (message_entry q n) { previous = entry.previous }
+    entry_next here = made _ _ (omega (arith, here))
+        (moved_before ∙ before_next is_number numbers i m.serial serials_apart own_number at_m k n.serial at_n here)
+        (moved_behind ∙ same_behind (omega (arith, here)) (omega (arith, here)))
 
   -- ---- its own links
 
