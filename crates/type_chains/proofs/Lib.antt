@@ -20,3 +20,8 @@ pub mod FirstOfType
 pub mod MessagesWithout
 pub mod TypesWithout
 pub mod TypeWithout
+pub mod Beside
+pub mod Sorted
+pub mod FewTypes
+pub mod TypesWith
+pub mod MessagesWith

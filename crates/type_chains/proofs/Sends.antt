@@ -1,15 +1,14 @@
 -- What a message that is sent makes of the Queue's record, and its own.
-use Rattle.std.proofs.Common.{◌≡◌, ℕ, zero, suc, ◌+◌, ◌-◌, ◌<◌, ℤ, Bool, true, false, cond, List, [], ◌∷◌, ◌++◌, length, Some, None, refl, sym, ap, ◌∙◌, get_or, arith}
-use Rattle.std.specs.Prelude.{int_lt, slice_get, unwrap_or}
+use Rattle.std.proofs.Common.{◌≡◌, ℕ, ◌+◌, ◌<◌, ℤ, Bool, true, false, cond, List, [], ◌∷◌, ◌++◌, length, Some, None, refl, ap, ◌∙◌, arith}
+use Rattle.std.specs.Prelude.{int_lt, unwrap_or}
 use Rattle.std.specs.Int.{int_min}
-use Rattle.std.specs.List.{All, filter, position_or_len}
+use Rattle.std.specs.List.{All, filter}
 use Rattle.std.specs.Ordering.{int_eq}
 use Rattle.std.proofs.lemmas.Bool.Decides.{Decides-eqb, Decides-int_eq, nat_tests}
 use Rattle.std.proofs.lemmas.Int.{ints}
-use Rattle.std.proofs.lemmas.Option.{slice_get_past}
-use Rattle.std.proofs.lemmas.List.{length-append, map-append, get_or_append_left, get_or-append-add}
+use Rattle.std.proofs.lemmas.List.{length-append, map-append}
 use Rattle.std.proofs.lemmas.List.Elements.{All-filter, All-map, All-weaker, filter-append}
-use Rattle.std.proofs.lemmas.List.Sums.{fold_push, position_or_len_is, sum_by_push}
+use Rattle.std.proofs.lemmas.List.Sums.{fold_push, sum_by_push}
 use Rattle.queue_model.specs.declared.call.SendArguments.{SendArguments}
 use Rattle.queue_model.specs.declared.message.Message.{Message}
 use Rattle.queue_model.specs.declared.queue.Queue.{Queue}
@@ -18,63 +17,22 @@ use Rattle.queue_model.specs.Rules.{with_message}
 use Rattle.queue_model.specs.Selection.{lesser, total_bytes}
 use Rattle.type_chains.specs.Entries.{queue_entry, message_entry, is_number}
 use Rattle.type_chains.specs.Lists.{serials, serials_of_type, types, with_type, is_of_type}
-use Rattle.type_chains.specs.Neighbours.{first_of, last_of, before_place, before, behind}
+use Rattle.type_chains.specs.Neighbours.{first_of, last_of, before, behind}
 use Rattle.type_chains.specs.Sending.{message_of, with_one_more, last_message, IsMadeOfTheQueue}
+use Rattle.type_chains.proofs.Beside.{before_at, behind_at, first_push, last_push}
 use Rattle.type_chains.proofs.Unique.{cond_with}
-
--- ---- a list with one more
-
-first_push : {X : Type 0} (xs : List X) (y : X) → first_of (xs ++ y ∷ []) ≡ Some (unwrap_or (first_of xs) y)
-first_push [] y = refl
-first_push (x ∷ xs) y = refl
-
-at_end : {X : Type 0} (xs : List X) (y : X) → slice_get (xs ++ y ∷ []) (length xs) ≡ Some y
-at_end [] y = refl
-at_end (x ∷ xs) y = at_end xs y
-
-last_push : {X : Type 0} (xs : List X) (y : X) → last_of (xs ++ y ∷ []) ≡ Some y
-last_push xs y =
-    let long = length-append xs (y ∷ []) in
-    let place : length (xs ++ y ∷ []) - 1 ≡ length xs = omega (arith, long) in
-    ap (slice_get (xs ++ y ∷ [])) place ∙ at_end xs y
-
-inside : {X : Type 0} (xs ys : List X) (i : ℕ) → i < length xs → slice_get (xs ++ ys) i ≡ slice_get xs i
-inside [] ys i within = absurd (omega (arith, within))
-inside (x ∷ xs) ys zero within = refl
-inside (x ∷ xs) ys (suc i) within = inside xs ys i (omega (arith, within))
-
-before_end : {X : Type 0} (xs : List X) (y : X) → before_place (xs ++ y ∷ []) (length xs) ≡ last_of xs
-before_end [] y = refl
-before_end (x ∷ xs) y =
-    let place : length xs ≡ length (x ∷ xs) - 1 = omega arith in
-    let shifted : before_place (x ∷ (xs ++ y ∷ [])) (suc (length xs)) ≡ slice_get (x ∷ (xs ++ y ∷ [])) (length xs) =
-    refl in
-    shifted ∙ inside (x ∷ xs) (y ∷ []) (length xs) (omega arith) ∙ ap (slice_get (x ∷ xs)) place
 
 -- ---- a number above all, put last, is found last
 
-place_of_last : (xs : List ℕ) (n : ℕ) → All (λ (k : ℕ). k < n) xs →
-    position_or_len (is_number n) (xs ++ n ∷ []) ≡ length xs
-place_of_last xs n all =
-    let long = length-append xs (n ∷ []) in
-    let end : get_or (xs ++ n ∷ []) (length xs + 0) 0 ≡ n = get_or-append-add xs (n ∷ []) 0 0 in
-    let there : length xs + 0 ≡ length xs = omega arith in
-    let last : get_or (xs ++ n ∷ []) (length xs) 0 ≡ n = ap (λ (i : ℕ). get_or (xs ++ n ∷ []) i 0) (sym there) ∙ end in
-    position_or_len_is (is_number n) (xs ++ n ∷ []) (length xs) 0 (omega (arith, long))
-    (λ k below. let same = get_or_append_left xs (n ∷ []) 0 k below in
-    let less : get_or xs k 0 < n = all k 0 below in
-    let other : get_or (xs ++ n ∷ []) k 0 < n = omega (arith, same, less) in
-    grind (arith, nat_tests, other))
-    (λ within. (Decides-eqb (get_or (xs ++ n ∷ []) (length xs) 0) n).1 last)
+others : (xs : List ℕ) (n : ℕ) → All (λ (k : ℕ). k < n) xs → All (λ (k : ℕ). is_number n k ≡ false) xs
+others xs n all = All-weaker (λ (k : ℕ). k < n) (λ (k : ℕ). is_number n k ≡ false)
+    (λ k less. grind (arith, nat_tests, less)) xs all
 
 before_last : (xs : List ℕ) (n : ℕ) → All (λ (k : ℕ). k < n) xs → before (is_number n) (xs ++ n ∷ []) ≡ last_of xs
-before_last xs n all = ap (before_place (xs ++ n ∷ [])) (place_of_last xs n all) ∙ before_end xs n
+before_last xs n all = before_at (is_number n) xs [] n (others xs n all) ((Decides-eqb n n).1 refl)
 
 behind_last : (xs : List ℕ) (n : ℕ) → All (λ (k : ℕ). k < n) xs → behind (is_number n) (xs ++ n ∷ []) ≡ None
-behind_last xs n all =
-    let long = length-append xs (n ∷ []) in
-    ap (λ (i : ℕ). slice_get (xs ++ n ∷ []) (suc i)) (place_of_last xs n all)
-    ∙ slice_get_past (xs ++ n ∷ []) (suc (length xs)) (omega (arith, long))
+behind_last xs n all = behind_at (is_number n) xs [] n (others xs n all) ((Decides-eqb n n).1 refl)
 
 -- ---- the lowest type
 

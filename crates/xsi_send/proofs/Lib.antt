@@ -1,12 +1,7 @@
 pub mod Names
-pub mod Beside
-pub mod Few
-pub mod Links
 pub mod Sent
 pub mod SentBetween
 pub mod SentParts
 pub mod SentStanding
-pub mod Sorted
 pub mod Told
-pub mod TypeLinks
 pub mod Walked

@@ -3,7 +3,7 @@ use Rattle.xsi_send.proofs.Names.{All-contains, Between, Caller, Decides-int_eq,
 use Rattle.page_locks.specs.declared.lock.LockName.TheVariants as names
 use Rattle.queue_records.specs.declared.record.Record.TheVariants as records
 use Rattle.xsi_inquiry.specs.declared.verdict.Verdict.TheVariants as verdicts
-use Rattle.xsi_send.proofs.Beside.{in_last, last-map, some_last}
+use Rattle.type_chains.proofs.Beside.{in_last, last-map, some_last}
 use Rattle.xsi_send.proofs.SentBetween.{right_between}
 use Rattle.xsi_send.proofs.SentParts.{IsRightPlan, queue_is}
 use Rattle.xsi_send.proofs.SentStanding.{right_standing}

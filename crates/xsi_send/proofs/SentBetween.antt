@@ -1,12 +1,11 @@
 -- The plan of a Send of a type that does not stand on the queue.
-use Rattle.xsi_send.proofs.Names.{All, All-cons, All-contains, All-nil, Bool, Caller, Contains, Contains-append_cases, Contains-append_left, Contains-append_right, Decides-int_eq, Fills, InSlot, IsBetween, IsFiled, IsNew, IsOpen, IsOrdered, LeadsTo, List, Message, Misses, MissesRecord, None, Option, Plan, Queue, QueueEntry, Record, RecordKey, Replace, SendArguments, Some, State, Stays, TYPE, TypeEntry, Write, [], agree_but, all_each, all_of, ap, arith, behind_end, contains_tail, each_all, eqb-true, false, find, first_of, guard_of, has_number, higher_write, inl, inr, ints, is_of_type, key_of, key_written, last_message, last_of, leads_by, lower_write, new_type, numbers_ascend, option_and_then, option_map, queue_entry, ranked_ascend, record_of, refl, same_number, serials, serials_of_type, slot_all, somes, subst, sym, trial_rank, true, type_entry, type_number, type_record, type_stands, types, with_message, with_one_more, with_queue, write_rank, ℕ, ℤ, ◌++◌, ◌<ℤ◌, ◌<◌, ◌∙◌, ◌∷◌, ◌≡◌, ◌⊎◌}
+use Rattle.xsi_send.proofs.Names.{All, All-cons, All-contains, All-nil, Bool, Caller, Contains, Contains-append_left, Contains-append_right, Decides-int_eq, Fills, InSlot, IsBetween, IsFiled, IsNew, IsOpen, IsOrdered, LeadsTo, List, Message, Misses, MissesRecord, None, Option, Plan, Queue, QueueEntry, Record, RecordKey, Replace, SendArguments, Some, State, Stays, TYPE, TypeEntry, Write, [], agree_but, all_each, all_of, ap, arith, behind_end, each_all, eqb-true, false, find, first_of, guard_of, has_number, higher_write, ints, is_of_type, key_of, key_written, last_message, last_of, leads_by, lower_write, new_type, numbers_ascend, option_and_then, option_map, queue_entry, ranked_ascend, record_of, refl, same_number, serials, serials_of_type, slot_all, somes, subst, sym, trial_rank, true, type_entry, type_number, type_record, type_stands, types, with_message, with_one_more, with_queue, write_rank, ℕ, ℤ, ◌++◌, ◌<ℤ◌, ◌<◌, ◌∙◌, ◌∷◌, ◌≡◌}
 use Rattle.page_locks.specs.declared.lock.LockName.TheVariants as names
 use Rattle.queue_records.specs.declared.record.Record.TheVariants as records
-use Rattle.xsi_send.proofs.Beside.{contains_at, in_first, in_last}
-use Rattle.xsi_send.proofs.Sorted.{less_apart}
+use Rattle.type_chains.proofs.Beside.{contains_at, in_first, in_last}
 use Rattle.xsi_send.proofs.SentParts.{IsRightPlan, empty_filter, find_nothing, find_over, lawful_t, linked_fills, message_hit, message_new, messages_same, mine, misses_key, new_in_range, found_then, no_message, of_type_stands, queue_fills, queue_missed, type_fills, type_hit, types_of_q, types_same}
 use Rattle.xsi_send.proofs.Told.{typed}
-use Rattle.xsi_send.proofs.TypeLinks.{entry_above, entry_below, entry_higher, entry_lower, entry_new, types_after}
+use Rattle.type_chains.proofs.TypesWith.{IsSplitAt, entry_higher, entry_lower, entry_new, entry_other, is_new, still_there, types_after}
 
 module _ (c : Caller) (a : SendArguments) (e : QueueEntry) (s : State) (filed : IsFiled s) (known : IsOpen c a e s)
   where
@@ -72,27 +71,21 @@ module _ (c : Caller) (a : SendArguments) (e : QueueEntry) (s : State) (filed : 
       in_above u has = subst (λ ts. Contains ts u) (sym between.split) (Contains-append_right between.below
           between.above u has)
 
-      -- no type of the queue is the message's
-      apart : (u : ℤ) → Contains (types q.messages) u → u ≡ a.mtype → ⊥
-      apart u has same = elim (Contains-append_cases between.below between.above u
-          (subst (λ ts. Contains ts u) between.split has)) [
-            | inl first ↦ less_apart u a.mtype (All-contains (λ (v : ℤ). v <ℤ a.mtype) between.below u between.less
-                first) same
-            | inr later ↦ less_apart a.mtype u (All-contains (λ (v : ℤ). a.mtype <ℤ v) between.above u between.more
-                later)
-                (sym same)
-          ]
+      -- its type stands between those below it and those above it
+      abbrev parts : IsSplitAt a.mtype (types q.messages)
+      parts = record {
+        below = between.below;
+        above = between.above;
+        split = between.split;
+        less = between.less;
+        more = between.more;
+      }
 
-      still_there : (u : ℤ) → Contains (types q.messages) u → Contains (types new.messages) u
-      still_there u has = subst (λ ts. Contains ts u) (sym (types_after c.pid a q low high between))
-          (elim (Contains-append_cases between.below between.above u (subst (λ ts. Contains ts u) between.split has)) [
-            | inl first ↦ Contains-append_left between.below (a.mtype ∷ between.above) u first
-            | inr later ↦ Contains-append_right between.below (a.mtype ∷ between.above) u
-                (contains_tail a.mtype u between.above later)
-          ])
+      apart : (u : ℤ) → Contains (types q.messages) u → u ≡ a.mtype → ⊥
+      apart u has same = is_new c.pid a q parts u has (sym same)
 
       new_there : Contains (types new.messages) a.mtype
-      new_there = subst (λ ts. Contains ts a.mtype) (sym (types_after c.pid a q low high between))
+      new_there = subst (λ ts. Contains ts a.mtype) (sym (types_after c.pid a q parts))
           (contains_at between.below between.above a.mtype)
 
       no_serials : serials_of_type a.mtype q.messages ≡ []
@@ -101,7 +94,8 @@ module _ (c : Caller) (a : SendArguments) (e : QueueEntry) (s : State) (filed : 
 
       type_new : IsNew old_records new_records (records.Type entry)
       type_new = subst (λ x. new_records (key_of (records.Type x)) ≡ Some (records.Type x))
-          (entry_new c.pid a q low high between no_serials) (type_stands t
+          (entry_new c.pid a q parts no_serials ∙ λ i. new_type q.id a.mtype q.next_serial (sym between.lower i)
+          (sym between.higher i)) (type_stands t
           (lawful_t c a e s filed known) q.id new (found_then c a e s filed known) a.mtype new_there)
 
       other_number : (u : ℤ) → Contains (types q.messages) u → has_number (type_number a.mtype) u ≡ false
@@ -133,7 +127,7 @@ module _ (c : Caller) (a : SendArguments) (e : QueueEntry) (s : State) (filed : 
           let has = in_below u (in_last between.below u last) in
           type_fills c a e s filed known u
           (record { first = None; last = None; lower = Stays; higher = LeadsTo a.mtype })
-          (entry_lower c.pid a q low high between u last) has (still_there u has)
+          (entry_lower c.pid a q parts u has last) has (still_there c.pid a q parts u has)
 
       higher_fills : (u : ℤ) → high ≡ Some u → Fills old_records new_records (above_write u)
       higher_fills u is =
@@ -141,7 +135,7 @@ module _ (c : Caller) (a : SendArguments) (e : QueueEntry) (s : State) (filed : 
           let has = in_above u (in_first between.above u first) in
           type_fills c a e s filed known u
           (record { first = None; last = None; lower = LeadsTo a.mtype; higher = Stays })
-          (entry_higher c.pid a q low high between u first) has (still_there u has)
+          (entry_higher c.pid a q parts u has first) has (still_there c.pid a q parts u has)
 
       end_fills : (n : ℕ) → ends ≡ Some n → Fills old_records new_records (end_write n)
       end_fills n is =
@@ -175,11 +169,14 @@ module _ (c : Caller) (a : SendArguments) (e : QueueEntry) (s : State) (filed : 
           agree_but a.id s q new known.found refl refl key
           (queue_missed c a e s filed known key no_queue)
           (λ kind queue. types_same c a e s filed known key (between.below ++ a.mtype ∷ between.above)
-          (types_after c.pid a q low high between)
+          (types_after c.pid a q parts)
           (find_over (has_number key.number) between.below between.above a.mtype (over kind queue)
           ∙ ap (find (has_number key.number)) (sym between.split))
-          (λ u has number. sym (stays no_lowers no_highers u kind queue number
-          (Contains-append_cases between.below between.above u (subst (λ ts. Contains ts u) between.split has)))))
+          (λ u has number. sym (entry_other c.pid a q parts u has
+          (λ last. type_hit c a e s filed known key u
+          (in_slot (Misses key) below_write low u no_lowers (between.lower ∙ last)) kind queue number)
+          (λ first. type_hit c a e s filed known key u
+          (in_slot (Misses key) above_write high u no_highers (between.higher ∙ first)) kind queue number))))
           (λ kind queue. messages_same c a e s filed known key kind queue
           (All-contains (MissesRecord key) (message_trial ∷ records.Type entry ∷ []) message_trial trials
           (contains_at [] (records.Type entry ∷ []) message_trial))
@@ -196,16 +193,6 @@ module _ (c : Caller) (a : SendArguments) (e : QueueEntry) (s : State) (filed : 
                   (contains_at (message_trial ∷ []) [] (records.Type entry))) kind
                   (queue ∙ sym known.its_id) (sym (eqb-true (type_number a.mtype) key.number passes)))
               by false passes = refl
-
-          stays : InSlot (Misses key) lowers → InSlot (Misses key) highers → (u : ℤ) → key.kind ≡ TYPE →
-              key.queue ≡ a.id → type_number u ≡ key.number →
-              Contains between.below u ⊎ Contains between.above u → type_entry new u ≡ type_entry q u
-          stays no_lowers no_highers u kind queue number (inl has) = entry_below c.pid a q low high between u has
-              (λ last. type_hit c a e s filed known key u
-              (in_slot (Misses key) below_write low u no_lowers (between.lower ∙ last)) kind queue number)
-          stays no_lowers no_highers u kind queue number (inr has) = entry_above c.pid a q low high between u has
-              (λ first. type_hit c a e s filed known key u
-              (in_slot (Misses key) above_write high u no_highers (between.higher ∙ first)) kind queue number)
 
       -- the lower type's number is the lesser one
       types_less : (u v : ℤ) → low ≡ Some u → high ≡ Some v → type_number u < type_number v

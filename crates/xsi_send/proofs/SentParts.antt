@@ -1,12 +1,12 @@
 -- The records that a Send writes to its queue, and those that it leaves.
-use Rattle.xsi_send.proofs.Names.{All, All-contains, All-weaker, AllPairs, Bool, Caller, Contains, Contains-append_cases, Contains-append_left, Effect-outcome, Fills, IsFiled, IsInRange, IsLawful, IsLawful-Effect, IsLawfulMessage, IsLawfulQueue, IsNew, IsOpen, IsOrdered, IsType, IsUnder, Leads, List, MESSAGE, Message, MessageEntry, None, Option, Plan, QUEUE, Queue, QueueEntry, Record, RecordKey, Relink, Replace, Send, SendArguments, Sent, Some, State, TYPE, TypeEntry, TypeLinks, [], all_types, ap, append-nil, are_types_of, arith, cond, contains_tail, eqb-true, false, filter, find, find-None, find-Some, found_new, has_id, has_number, has_serial, head_or_tail, in_range, inl, inr, is_of_type, is_same, key_of, key_of_message, key_of_type, last_message, last_of, lawful_queue, length, length-queue, links_behind, made_of_the_queue, message_entry, message_of, message_record, message_stands, nat_tests, option_and_then, option_map, pos, position_None, queue_entry, queue_stands, queue_write, record_of, refl, relinked, stands, subst, sym, takes_more, true, type_entry, type_number, type_record, type_stands, types, value_length, with_message, with_one_more, with_queue, with_type_links, ℕ, ℤ, ◌++◌, ◌<◌, ◌==◌, ◌∙◌, ◌∷◌, ◌≡◌, ◌≤ℤ◌}
+use Rattle.xsi_send.proofs.Names.{All, All-contains, All-weaker, AllPairs, Bool, Caller, Contains, Contains-append_cases, Contains-append_left, Effect-outcome, Fills, IsFiled, IsInRange, IsLawful, IsLawful-Effect, IsLawfulMessage, IsLawfulQueue, IsNew, IsOpen, IsOrdered, IsType, IsUnder, Leads, List, MESSAGE, Message, MessageEntry, None, Option, Plan, QUEUE, Queue, QueueEntry, Record, RecordKey, Relink, Replace, Send, SendArguments, Sent, Some, State, Stays, TYPE, TypeEntry, TypeLinks, [], all_types, ap, append-nil, are_types_of, arith, cond, contains_tail, eqb-true, false, filter, find, find-None, find-Some, found_new, has_id, has_number, has_serial, head_or_tail, in_range, inl, inr, is_of_type, is_same, key_of, key_of_message, key_of_type, last_message, last_of, lawful_queue, length, length-queue, link_if, links_behind, made_of_the_queue, message_entry, message_of, message_record, message_stands, nat_tests, option_and_then, option_map, pos, position_None, queue_entry, queue_stands, queue_write, record_of, refl, relinked, stands, subst, sym, takes_more, true, type_entry, type_number, type_record, type_stands, types, value_length, with_message, with_message_links, with_one_more, with_queue, with_type_links, ℕ, ℤ, ◌++◌, ◌<◌, ◌==◌, ◌∙◌, ◌∷◌, ◌≡◌, ◌≤ℤ◌}
 use Rattle.queue_records.specs.declared.record.Record.TheVariants as records
 use Rattle.page_locks.specs.declared.lock.LockName.TheVariants as names
 use Rattle.queue_records.specs.declared.links.Links.TheVariants as links
-use Rattle.xsi_send.proofs.Beside.{contains_at, split_last}
-use Rattle.xsi_send.proofs.Sorted.{pairs_front}
+use Rattle.type_chains.proofs.Beside.{contains_at, split_last}
+use Rattle.type_chains.proofs.Sorted.{pairs_front}
 use Rattle.xsi_send.proofs.Walked.{more_taken}
-use Rattle.xsi_send.proofs.Links.{is_linked}
+use Rattle.type_chains.proofs.MessagesWith.{is_linked}
 use Rattle.xsi_send.proofs.Told.{typed}
 
 -- a plan of a call that holds the queue of an id: what it leads to, where it writes, and in which order
@@ -120,6 +120,19 @@ module _ (c : Caller) (a : SendArguments) (e : QueueEntry) (s : State) (filed : 
         (made_of_the_queue c.pid a q lawful_q).message
         (message_stands t lawful_t q.id new found_then m (contains_at q.messages [] m))
 
+    set_links : (x : Message) (on_queue of_type : Bool) → record (message_entry q x) {
+      next = cond on_queue (Some q.next_serial) (message_entry q x).next;
+      next_of_type = cond of_type (Some q.next_serial) (message_entry q x).next_of_type;
+    } ≡ with_message_links (record {
+      previous = Stays;
+      next = link_if on_queue q.next_serial;
+      next_of_type = link_if of_type q.next_serial;
+    }) (message_entry q x)
+    set_links x true true = refl
+    set_links x true false = refl
+    set_links x false true = refl
+    set_links x false false = refl
+
     -- a Message behind which the new one comes
     pub linked_fills : (x : Message) → Contains q.messages x → (on_queue of_type : Bool) →
         (on_queue ≡ true → last_of q.messages ≡ Some x) → (on_queue ≡ false → last_of q.messages ≡ Some x → ⊥) →
@@ -133,7 +146,8 @@ module _ (c : Caller) (a : SendArguments) (e : QueueEntry) (s : State) (filed : 
         let now = message_stands t lawful_t q.id new found_then x (kept x there) in (
           (message_entry q x, stood),
           now ∙ ap (λ (m : MessageEntry). Some (records.Message m))
-              (is_linked c.pid a q lawful_q x there on_queue of_type last no_last typed no_typed)
+              (is_linked c.pid a q lawful_q x there on_queue of_type last no_last typed no_typed
+              ∙ set_links x on_queue of_type)
               ∙ sym (ap turn stood),
         )
 

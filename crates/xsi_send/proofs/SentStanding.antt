@@ -2,10 +2,10 @@
 use Rattle.xsi_send.proofs.Names.{All, All-cons, All-contains, All-nil, Ascend, Bool, Caller, Contains, Decides-eqb, Fills, InSlot, IsFiled, IsNew, IsOpen, List, MESSAGE, Message, Misses, MissesRecord, None, Option, Plan, Queue, QueueEntry, Record, RecordKey, Relink, Replace, SendArguments, Some, State, Stays, Write, [], agree_but, all_each, ap, behind_end, cond, each_all, eqb-true, false, filter, guard_of, is_of_type, key_of, key_of_message, key_written, last_message, last_of, leads_by, links_behind, queue_entry, ranked_ascend, record_of, refl, same_Some, serial_tells, somes, subst, sym, true, type_number, type_write, types, with_message, with_one_more, with_queue, ◌==◌, ◌∙◌, ◌∷◌, ◌≡◌}
 use Rattle.page_locks.specs.declared.lock.LockName.TheVariants as names
 use Rattle.queue_records.specs.declared.record.Record.TheVariants as records
-use Rattle.xsi_send.proofs.Beside.{contains_at, in_last}
+use Rattle.type_chains.proofs.Beside.{contains_at, in_last}
 use Rattle.xsi_send.proofs.SentParts.{IsRightPlan, lawful_q, less_than_last, linked_fills, message_hit, message_new, messages_same, mine, new_in_range, no_message, queue_fills, queue_missed, type_fills, type_hit, types_same}
 use Rattle.xsi_send.proofs.Told.{has_first, of_filter}
-use Rattle.xsi_send.proofs.TypeLinks.{other_entry, same_types, standing_entry}
+use Rattle.type_chains.proofs.TypesWith.{other_entry, same_types, standing_entry}
 
 module _ (c : Caller) (a : SendArguments) (e : QueueEntry) (s : State) (filed : IsFiled s) (known : IsOpen c a e s)
   where

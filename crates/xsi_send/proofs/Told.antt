@@ -1,7 +1,7 @@
 -- What the records at the keys that a Send asks for tell of its queue.
 use Rattle.xsi_send.proofs.Names.{All-contains, All-contains_itself, All-filter, At, Bool, Caller, Contains, FitsSigned, IsFiled, IsOpen, IsTold, List, Message, None, Option, Queue, QueueEntry, Record, SendArguments, Some, State, TypeEntry, ap, arith, filter, int_lt, ints, is_of_type, key_of_type, last_of, length, mapped, of_z, pos, refl, same_Some, serials, serials_of_type, slice_get-get_or, slice_index, stands, sym, to_z, to_z-of_z, type_entry, type_found, types, types_stand, w64, ℕ, ℤ, ◌-◌, ◌∙◌, ◌≡◌, ◌≤ℤ◌, ◌≤◌}
 use Rattle.queue_records.specs.declared.record.Record.TheVariants as records
-use Rattle.xsi_send.proofs.Beside.{last-map}
+use Rattle.type_chains.proofs.Beside.{last-map}
 
 -- a list of messages whose serials end so ends in the message of that serial
 pub last_with : (ms : List Message) (serial : ℕ) → last_of (serials ms) ≡ Some serial →

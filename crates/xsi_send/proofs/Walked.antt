@@ -1,10 +1,10 @@
 -- What a Send knows on its way up the types, and that its numbers stay numbers.
 use Rattle.xsi_send.proofs.Names.{All, All-cons, All-contains, All-nil, All-push, All-types, All-weaker, AllPairs, At, Caller, Contains, Contains-append_right, END_OF_SERIALS, FitsSigned, HasFittingMessage, HasFittingQueue, IsBetween, IsFiled, IsOpen, IsTold, IsWalked, MAX_MESSAGES, Message, None, Option, Queue, QueueEntry, Record, SendArguments, Some, State, Walk, [], ap, append-nil, append_assoc, arith, behind, contains_tail, false, first_of, ints, is_same_type, key_of_type, lawful_queue, length, length-append, nat_le, nat_lt, none_of_type, record_of, refl, stands, subst, sym, takes_more, total_bytes, true, type_entry, type_stands, types, types_ascend, w64, ℕ, ℤ, ◌++◌, ◌+◌, ◌<ℤ◌, ◌<◌, ◌^◌, ◌∙◌, ◌∷◌, ◌≡◌, ◌≢◌, ◌≤◌}
 use Rattle.queue_records.specs.declared.record.Record.TheVariants as records
-use Rattle.xsi_send.proofs.Beside.{contains_at, no_first, split_first, in_first, last_push}
-use Rattle.xsi_send.proofs.Sorted.{pairs_back}
-use Rattle.xsi_send.proofs.TypeLinks.{higher_is}
-use Rattle.xsi_send.proofs.Few.{few_types}
+use Rattle.type_chains.proofs.Beside.{contains_at, no_first, split_first, in_first, last_push}
+use Rattle.type_chains.proofs.Sorted.{pairs_back}
+use Rattle.type_chains.proofs.TypesWith.{higher_is}
+use Rattle.type_chains.proofs.FewTypes.{few_types}
 
 module _ (c : Caller) (a : SendArguments) (e : QueueEntry) (s : State) (filed : IsFiled s) (known : IsOpen c a e s)
   where
