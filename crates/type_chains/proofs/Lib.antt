@@ -25,3 +25,4 @@ pub mod Sorted
 pub mod FewTypes
 pub mod TypesWith
 pub mod MessagesWith
+pub mod Looked

@@ -1,10 +1,10 @@
 -- The writes of a Receive lead from the records of a system to those of the system after it.
-use Rattle.xsi_receive.proofs.Names.{All, All-nil, Begins, Bool, Decides-eqb, Decides-int_eq, Delete, Fills, Goes, InSlot, IsFiled, IsLawfulQueue, Leads, List, Message, MessageEntry, Misses, None, Option, Queue, RecordKey, Relink, Removal, Replace, Some, State, TypeEntry, TypeLeft, Write, agree_but, ap, arith, before_place, deletion_by, each_all, eqb-true, false, find, find-Some, fine, first_of, has_id, has_number, has_serial, head_of, higher_by, in_range, inl, inr, int_eq, key_is, key_of_message, key_of_type, leads_by, left_by, message_entry, message_record, next_write, option_map, own_by, previous_write, queue_entry, record_of, refl, removal_plan, remove, serials, serials_of_type, slice_get, slice_get-map, slots_of, somes, somes_each, subst, suc, sym, to_higher, to_lower, to_next, to_previous, true, type_entry, type_number, type_record, types, with_queue, zero, ℕ, ℤ, ◌==◌, ◌∙◌, ◌≡◌, ◌≢◌, ◌⊎◌}
+use Rattle.xsi_receive.proofs.Names.{All, All-nil, Begins, Bool, Decides-int_eq, Delete, Fills, Goes, InSlot, IsFiled, IsLawfulQueue, Leads, List, Message, MessageEntry, Misses, None, Option, Queue, RecordKey, Relink, Removal, Replace, Some, State, TypeEntry, TypeLeft, Write, agree_but, ap, arith, before_place, deletion_by, each_all, eqb-true, false, find, find-Some, fine, first_of, has_id, has_number, head_of, higher_by, in_range, inl, inr, int_eq, key_is, key_of_message, key_of_type, leads_by, left_by, message_entry, message_record, next_write, option_map, own_by, previous_write, queue_entry, record_of, refl, removal_plan, remove, serials, serials_of_type, slice_get, slice_get-map, slots_of, somes, somes_each, subst, suc, sym, to_higher, to_lower, to_next, to_previous, true, type_entry, type_number, type_record, types, with_queue, zero, ℕ, ℤ, ◌∙◌, ◌≡◌, ◌≢◌, ◌⊎◌}
 use Rattle.queue_records.specs.declared.record.Record.TheVariants as records
 use Rattle.type_chains.proofs.FirstOfType.{IsTakenAt}
-use Rattle.type_chains.proofs.Without.{beside}
-use Rattle.xsi_receive.proofs.FitLemmas.{found_other, higher_fits, lawful_after, lower_fits, message_goes, next_fits, own_fits, place_of, previous_fits, queue_fits, type_goes}
-use Rattle.type_chains.proofs.MessagesWithout.{entry_far, next_is, next_of_type_is, previous_is, same_at_other_serial, without}
+use Rattle.type_chains.proofs.Looked.{all_kept}
+use Rattle.xsi_receive.proofs.FitLemmas.{go, higher_fits, lawful_after, lower_fits, message_goes, next_fits, own_fits, place_of, previous_fits, queue_fits, type_goes}
+use Rattle.type_chains.proofs.MessagesWithout.{entry_far, next_is, next_of_type_is, previous_is, without}
 use Rattle.type_chains.proofs.TypeWithout.{entry_stays, higher_is, lower_is, type_far, types_stay}
 use Rattle.type_chains.proofs.TypesWithout.{its_type_stands}
 use Rattle.xsi_receive.proofs.RankLemmas.{WritesAt, missed, not_at}
@@ -103,21 +103,6 @@ module _ (s : State) (filed : IsFiled s) (id : ℕ) (q : Queue) (found : find (h
       ⊎ WritesAt (key_of_message id n) (next_write id removal)
       ⊎ (m.serial ≡ n)
 
-  same_message : (n : ℕ) (o : Option Message) → m.serial ≢ n → find (has_serial n) q.messages ≡ o →
-      option_map (λ (x : Message). records.Message (message_entry q x)) o
-      ≡ option_map (λ (x : Message). records.Message (message_entry new x)) o →
-      message_record n q ≡ message_record n new
-  same_message n o apart was same =
-      let now = same_at_other_serial q lawful_queue pid moment i m taken n apart ∙ was in
-      ap (option_map (λ (x : Message). records.Message (message_entry q x))) was
-      ∙ same
-      ∙ sym (ap (option_map (λ (x : Message). records.Message (message_entry new x))) now)
-
-  kept_message : (n : ℕ) (x : Message) → m.serial ≢ n → find (has_serial n) q.messages ≡ Some x →
-      message_entry new x ≡ message_entry q x → MessageStays n
-  kept_message n x apart was same =
-      inl (same_message n (Some x) apart was (ap (λ (e : MessageEntry). Some (records.Message e)) (sym same)))
-
   previous_at : (place : ℕ) → place ≡ i → (x : Message) (n : ℕ) → before_place q.messages place ≡ Some x
       → x.serial ≡ n →
       WritesAt (key_of_message id n) (previous_write id removal)
@@ -140,38 +125,16 @@ module _ (s : State) (filed : IsFiled s) (id : ℕ) (q : Queue) (found : find (h
       (option_map (λ (serial : ℕ). Relink (key_of_message id serial) (to_previous entry.previous)) o)) (sym link)
       (ap (key_of_message id) number)
 
-  other_message : (n k : ℕ) (x : Message) → m.serial ≢ n → find (has_serial n) q.messages ≡ Some x →
-      slice_get q.messages k ≡ Some x → k ≢ i → MessageStays n
-  other_message n k x apart was at other =
-      let number = eqb-true x.serial n (find-Some (has_serial n) q.messages x was).0 in
-      elim (beside i k other) [
-        | inl here ↦ inr (inl (previous_at (suc k) here x n at number))
-        | inr (inl here) ↦ inr (inr (inl (next_at x n (ap (slice_get q.messages) (sym here) ∙ at) number)))
-        | inr (inr far) ↦ kept_message n x apart was
-            (entry_far q lawful_queue pid moment i m taken k x at other far.0 far.1)
-      ]
-
   at_messages : (n : ℕ) → MessageStays n
-  at_messages n = by (m.serial == n) refl
-    where
-      among : (o : Option Message) → m.serial ≢ n → find (has_serial n) q.messages ≡ o → MessageStays n
-      among None apart was = inl (same_message n None apart was refl)
-      among (Some x) apart was =
-          let passes = find-Some (has_serial n) q.messages x was in
-          let (k, at) = place_of q.messages x passes.1 in
-          let number = eqb-true x.serial n passes.0 in
-          other_message n k x apart was at (λ same.
-          let two : ◌≡◌ {A = Option Message} (Some x) (Some m) = sym at
-          ∙ ap (slice_get q.messages) same ∙ taken.at in
-          let one : x ≡ m = cc in
-          apart (ap (λ (y : Message). y.serial) (sym one) ∙ number))
-
-      by : (b : Bool) → (m.serial == n) ≡ b → MessageStays n
-      by true e = inr (inr (inr (eqb-true m.serial n e)))
-      by false e =
-          let apart : m.serial ≢ n = λ same. let clash : true ≡ false = sym ((Decides-eqb m.serial n).1 same)
-          ∙ e in absurd cc in
-          among (find (has_serial n) q.messages) apart refl
+  at_messages n = elim (all_kept (λ (x : Message). x.serial) q.messages i m taken.at
+      (λ (x : Message). records.Message (message_entry q x)) (λ (x : Message). records.Message (message_entry new x))
+      (λ k x at other next previous.
+      ap records.Message (entry_far q lawful_queue pid moment i m taken k x at other next previous)) n) [
+        | inl same ↦ inl same
+        | inr (inl number) ↦ inr (inr (inr number))
+        | inr (inr (inl (k, x, here, at, number))) ↦ inr (inl (previous_at (suc k) here x n at number))
+        | inr (inr (inr (x, at, number))) ↦ inr (inr (inl (next_at x n at number)))
+      ]
 
   -- the key of the Type of a number
   abbrev key_of_number : ℕ → RecordKey
@@ -219,12 +182,6 @@ module _ (s : State) (filed : IsFiled s) (id : ℕ) (q : Queue) (found : find (h
     abbrev GoesAt : ℕ → Type 0
     GoesAt n = TypeStays n (Goes own.lower own.higher)
 
-    kept_type : (n : ℕ) (t : ℤ) → (type_number m.mtype == n) ≡ false → find (has_number n) (types q.messages) ≡ Some t →
-        type_entry new t ≡ type_entry q t → GoesAt n
-    kept_type n t over was same = inl (same_type n (Some t) was
-        (found_other s filed id q found its pid moment i m taken none j at_j n over ∙ was)
-        (ap (λ (x : TypeEntry). Some (records.Type x)) (sym same)))
-
     lower_at : (place : ℕ) → place ≡ j → (t : ℤ) (n : ℕ) → before_place (types q.messages) place ≡ Some t →
         type_number t ≡ n → WritesAt (key_of_number n) (own_by id m.mtype (Goes own.lower own.higher))
     lower_at place here t n at number =
@@ -241,39 +198,17 @@ module _ (s : State) (filed : IsFiled s) (id : ℕ) (q : Queue) (found : find (h
         (option_map (λ (t : ℤ). Relink (key_of_type id t) (to_lower own.lower)) o)) (sym link)
         (ap key_of_number number)
 
-    other_type : (n k : ℕ) (t : ℤ) → (type_number m.mtype == n) ≡ false
-        → find (has_number n) (types q.messages) ≡ Some t →
-        slice_get (types q.messages) k ≡ Some t → k ≢ j → GoesAt n
-    other_type n k t over was at other =
-        let number = eqb-true (type_number t) n (find-Some (has_number n) (types q.messages) t was).0 in
-        elim (beside j k other) [
-          | inl here ↦ inr (inl (lower_at (suc k) here t n at number))
-          | inr (inl here) ↦ inr (inr (inl (higher_at t n (ap (slice_get (types q.messages)) (sym here) ∙ at) number)))
-          | inr (inr far) ↦ kept_type n t over was
-              (type_far q pid moment i m taken none j at_j k t at other far.0 far.1)
-        ]
-
     goes_at : (n : ℕ) → GoesAt n
-    goes_at n = by (type_number m.mtype == n) refl
-      where
-        among : (o : Option ℤ) → (type_number m.mtype == n) ≡ false → find (has_number n) (types q.messages) ≡ o
-            → GoesAt n
-        among None over was = inl (same_type n None was
-            (found_other s filed id q found its pid moment i m taken none j at_j n over ∙ was) refl)
-        among (Some t) over was =
-            let passes = find-Some (has_number n) (types q.messages) t was in
-            let (k, at) = place_of (types q.messages) t passes.1 in
-            let number = eqb-true (type_number t) n passes.0 in
-            other_type n k t over was at (λ same.
-            let two : ◌≡◌ {A = Option ℤ} (Some t) (Some m.mtype) = sym at
-            ∙ ap (slice_get (types q.messages)) same ∙ at_j in
-            let one : t ≡ m.mtype = cc in
-            let its_number : type_number m.mtype ≡ n = ap type_number (sym one) ∙ number in
-            let clash : true ≡ false = sym ((Decides-eqb (type_number m.mtype) n).1 its_number) ∙ over in absurd cc)
-
-        by : (b : Bool) → (type_number m.mtype == n) ≡ b → GoesAt n
-        by true e = inr (inr (inr (ap key_of_number (eqb-true (type_number m.mtype) n e))))
-        by false e = among (find (has_number n) (types q.messages)) e refl
+    goes_at n = elim (all_kept type_number (types q.messages) j m.mtype at_j
+        (λ (t : ℤ). records.Type (type_entry q t)) (λ (t : ℤ). records.Type (type_entry new t))
+        (λ k t at other next previous.
+        ap records.Type (type_far q pid moment i m taken none j at_j k t at other next previous)) n) [
+          | inl same ↦ inl (same ∙ sym (ap (λ (ts : List ℤ). option_map (λ (t : ℤ). records.Type (type_entry new t))
+              (find (has_number n) ts)) (go s filed id q found its pid moment i m taken none j at_j)))
+          | inr (inl number) ↦ inr (inr (inr (ap key_of_number number)))
+          | inr (inr (inl (k, t, here, at, number))) ↦ inr (inl (lower_at (suc k) here t n at number))
+          | inr (inr (inr (t, at, number))) ↦ inr (inr (inl (higher_at t n at number)))
+        ]
 
   at_types : (o : Option ℕ) → entry.next_of_type ≡ o → (n : ℕ) → TypeStays n (left_by o own)
   at_types (Some f) is n = begins_at f (sym next_by ∙ is) n (find (has_number n) (types q.messages)) refl
