@@ -1,14 +1,11 @@
 -- A caller holds a system: when it is opened, behind a call, and when it is closed.
-use Rattle.std.proofs.Common.{◌≡◌, refl, ◌∙◌, sym, subst, ℕ, Bool, true, false, List, Result, Ok, Err, IfOk, IsTrue}
-use Rattle.queue_model.specs.declared.call.Call.{Call}
-use Rattle.queue_model.specs.declared.caller.Caller.{Caller}
-use Rattle.queue_model.specs.State.{State}
+use Rattle.std.proofs.Common.{◌≡◌, refl, ◌∙◌, sym, subst, ℕ, Bool, false, List, Result, Ok, Err, IfOk, IsTrue}
 use Rattle.one_caller.specs.OneBucket.{Leaves, OneBucketState, Shows, device_in}
 use Rattle.one_caller.specs.declared.file_fault.CloseFault.{CloseFault}
-use Rattle.bucket_page.specs.declared.record_key.RecordKey.{RecordKey}
 use Rattle.directory.specs.declared.layout.TheConstants.{ROOT_PAGE}
 use Rattle.one_bucket_file.specs.Files.{root_records}
 use Rattle.one_caller.proofs.FileLaws.{changes_root_page, root_within}
+use Rattle.one_caller.proofs.Names.{Call, Caller, RecordKey, State}
 use Rattle.one_caller.proofs.PseudokeyLemmas.{any_pseudokeys}
 use Rattle.one_bucket_file.proofs.KeptLaws.{keeps_structure}
 use Rattle.one_bucket_file.proofs.RootLaws.{one_bucket_shows}

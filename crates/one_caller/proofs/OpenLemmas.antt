@@ -18,11 +18,11 @@ use Rattle.directory.specs.declared.layout.TheConstants.{LEAST_PAGES, ROOT_PAGE}
 use Rattle.bucket_page.specs.Bucket.{Bucket, bucket}
 use Rattle.bucket_page.specs.Changes.{SpellsBucket}
 use Rattle.bucket_page.specs.Reading.{records_in}
-use Rattle.bucket_page.specs.Records.{Pair}
 use Rattle.record_file.specs.Files.{root_bucket}
 use Rattle.record_file.proofs.FileLemmas.{read_again}
 use Rattle.file_walk.specs.Files.{page_on, payload_on}
 use Rattle.file_walk.specs.Order.{HasHeader}
+use Rattle.one_caller.proofs.Names.{Pair}
 use Rattle.one_caller.specs.OneBucket.{OneBucketState, IsKept, IsPinnedRoot, IsRoot, Leaves, Shows, root_payload, shown, without_root}
 
 pub false_not_true : ◌≡◌ {A = Bool} false true → ⊥

@@ -1,5 +1,5 @@
 -- The header and its number of pages, or what is wrong with them.
-use Rattle.std.proofs.Common.{inr, refl, sym, ◌∙◌, ap, subst, arith, ◌≡◌, length}
+use Rattle.std.proofs.Common.{inr, sym, ◌∙◌, ap, subst, arith, ◌≡◌, length}
 use Rattle.directory.specs.Spelling.{IsHeader}
 use Rattle.file_walk.proofs.PageLemmas.{header_is, header_read, header_cut, header_too_long}
 use Rattle.one_caller.proofs.header_test.test_header.Goals as goal
