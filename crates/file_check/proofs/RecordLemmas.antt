@@ -32,20 +32,31 @@ module _ (content : List (List ℕ)) (n : ℕ) (payload : List ℕ) (live : IsLi
       pages_at content n (kinds.Free 0) live.behind live.within ∙ said content n payload read_so page e
 
   -- what is read is the bucket of the file
-  pub bucket_again : (b : Bucket) → Ok (kinds.Bucket b) ≡ reading payload → bucket_at (file_of content) n ≡ b
+  bucket_again : (b : Bucket) → Ok (kinds.Bucket b) ≡ reading payload → bucket_at (file_of content) n ≡ b
   bucket_again b e = ap bucket_of (page_is (kinds.Bucket b) e)
 
   -- and nothing else
-  pub no_other : (page : PageKind) → Ok page ≡ reading payload → is_bucket page ≡ false → ⊥
+  no_other : (page : PageKind) → Ok page ≡ reading payload → is_bucket page ≡ false → ⊥
   no_other page e other =
       let b : true ≡ false = sym live.live ∙ ap is_bucket (page_is page e) ∙ other in
       absurd cc
 
-  pub no_refusal : (reason : Malformed) → Err reason ≡ reading payload → ⊥
+  no_refusal : (reason : Malformed) → Err reason ≡ reading payload → ⊥
   no_refusal reason e =
       let wrong = is_malformed content n payload read_so reason e in
       let clash = sym live.right.formed ∙ wrong.2 in
       absurd cc
+
+  pub read_live : reading payload ≡ Ok (kinds.Bucket (bucket_at (file_of content) n))
+  read_live = by_answer (reading payload) refl
+    where
+      by_answer : (r : Result PageKind Malformed) → reading payload ≡ r →
+          reading payload ≡ Ok (kinds.Bucket (bucket_at (file_of content) n))
+      by_answer (Ok (kinds.Bucket b)) e = e ∙ ap (λ (x : Bucket). Ok (kinds.Bucket x)) (sym (bucket_again b (sym e)))
+      by_answer (Ok (kinds.Directory es)) e = absurd (no_other (kinds.Directory es) (sym e) refl)
+      by_answer (Ok (kinds.Tombstone link)) e = absurd (no_other (kinds.Tombstone link) (sym e) refl)
+      by_answer (Ok (kinds.Free link)) e = absurd (no_other (kinds.Free link) (sym e) refl)
+      by_answer (Err reason) e = absurd (no_refusal reason (sym e))
 
 -- two answers that are the same are of the same bucket
 pub bucket_is : (b c : Bucket) → ◌≡◌ {A = Result Bucket CheckFault} (Ok b) (Ok c) → b ≡ c

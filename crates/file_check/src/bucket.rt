@@ -2,15 +2,17 @@
 
 ghost use Rattle.std.specs.Prelude.{◌≡◌, ◌≤◌, ◌⊎◌, ℕ, List, length, IsTrue, Ok, IfOk, IfErr, OnOk};
 ghost use Rattle.std.specs.List.{All};
+ghost use Rattle.page_device.specs.Sealed.{payload_of};
 ghost use Rattle.positions.specs.declared.pseudokey.TheConstants.{PSEUDOKEY_BITS};
 ghost use Rattle.file_check.specs.Fault.{IsOfMachineToo};
 ghost use Rattle.file_check.specs.Records.{AreRightIn, HasCheckCause, IsLivePage, IsRightRecord, IsWrongIn};
 ghost use Rattle.file_check.specs.Words.{bucket_at, file_of, payload_on};
 
 use crate::fault::CheckFault;
-use bucket_page::{BucketView, PageKind, PseudoKey, RecordKey, read_page};
+use bucket_page::{PseudoKey, RecordKey};
+use file_records::{TestedBucket, read_tested};
 use file_walk::StructureFault;
-use page_device::{DeviceFault, PAGE_BYTES, PAYLOAD_BYTES, PageDevice, Payload};
+use page_device::{DeviceFault, PAGE_BYTES, Page, PageDevice};
 use positions::Range;
 use queue_records::Record;
 
@@ -18,40 +20,34 @@ use queue_records::Record;
 pub(crate) fn read_again<D: PageDevice>(
     device: &mut D,
     page: u32,
-    payload: &mut Payload,
+    bytes: &mut Page,
 ) -> Result<(), CheckFault>
     ensures ok { IsTrue (D.is_honest device.old) →
-        OnOk result (payload.new ≡ payload_on (D.content device.old) page) }
+        OnOk result (payload_of bytes.new ≡ payload_on (D.content device.old) page) }
     ensures err { IfErr result (λ fault.
         IsOfMachineToo fault ⊎ (length (D.content device.old) ≤ page)) }
     ensures same { D.content device.new ≡ D.content device.old }
     ensures honest { D.is_honest device.new ≡ D.is_honest device.old }
     ensures cause { HasCheckCause (D.fault_count device.old) (D.fault_count device.new) result }
 {
-    let mut bytes = [0; PAGE_BYTES];
-    match device.read(page, &mut bytes) {
-        Ok(()) => {}
-        Err(DeviceFault::PastEnd) => return Err(CheckFault::Changed { page }),
-        Err(_) => return Err(CheckFault::Structure(StructureFault::Device)),
+    match device.read(page, bytes) {
+        Ok(()) => Ok(()),
+        Err(DeviceFault::PastEnd) => Err(CheckFault::Changed { page }),
+        Err(_) => Err(CheckFault::Structure(StructureFault::Device)),
     }
-    let (front, _) = bytes.split_at(PAYLOAD_BYTES);
-    payload.copy_from_slice(front);
-    Ok(())
 }
 
-/// The bucket of a payload that is known to be a bucket's.
-pub(crate) fn bucket_in(payload: &Payload, page: u32) -> Result<BucketView<'_>, CheckFault>
+/// The bucket of a page that is known to be a bucket's.
+pub(crate) fn bucket_in(bytes: &Page, page: u32) -> Result<TestedBucket<'_>, CheckFault>
     ensures ok { (content : List (List ℕ)) → IsLivePage content page →
-        payload.now ≡ payload_on content page → result ≡ Ok (bucket_at (file_of content) page) }
+        payload_of bytes.now ≡ payload_on content page →
+        result ≡ Ok (bucket_at (file_of content) page) }
     ensures within { IfOk result (λ bucket. bucket.depth ≤ PSEUDOKEY_BITS) }
     ensures err { IfErr result (λ fault. fault ≡ CheckFault.Changed page) }
 {
-    match read_page(payload) {
-        Ok(PageKind::Bucket(bucket)) => Ok(bucket),
-        Ok(PageKind::Directory(_)) => Err(CheckFault::Changed { page }),
-        Ok(PageKind::Tombstone { .. }) => Err(CheckFault::Changed { page }),
-        Ok(PageKind::Free { .. }) => Err(CheckFault::Changed { page }),
-        Err(_) => Err(CheckFault::Changed { page }),
+    match read_tested(bytes) {
+        Some(bucket) => Ok(bucket),
+        None => Err(CheckFault::Changed { page }),
     }
 }
 
@@ -71,13 +67,13 @@ pub(crate) fn test_page<D: PageDevice, K: PseudoKey>(
     ensures honest { D.is_honest device.new ≡ D.is_honest device.old }
     ensures cause { HasCheckCause (D.fault_count device.old) (D.fault_count device.new) result }
 {
-    let mut payload = [0; PAYLOAD_BYTES];
-    read_again(device, page, &mut payload)?;
-    test_bucket(keys, page, &bucket_in(&payload, page)?)
+    let mut bytes = [0; PAGE_BYTES];
+    read_again(device, page, &mut bytes)?;
+    test_bucket(keys, page, &bucket_in(&bytes, page)?)
 }
 
 /// Tests the records of a bucket, from the lowest key on.
-fn test_bucket<K: PseudoKey>(keys: &K, page: u32, bucket: &BucketView) -> Result<(), CheckFault>
+fn test_bucket<K: PseudoKey>(keys: &K, page: u32, bucket: &TestedBucket) -> Result<(), CheckFault>
     requires { bucket.now.depth ≤ PSEUDOKEY_BITS }
     ensures ok { OnOk result
         (All (IsRightRecord (K.of_key keys.now) bucket.now) bucket.now.records) }

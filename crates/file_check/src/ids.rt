@@ -11,8 +11,8 @@ ghost use Rattle.file_check.specs.Words.{contents, file_of, records_at};
 
 use crate::bucket::{bucket_in, read_again};
 use crate::fault::CheckFault;
-use bucket_page::BucketView;
-use page_device::{PAYLOAD_BYTES, PageDevice};
+use file_records::TestedBucket;
+use page_device::{PAGE_BYTES, PageDevice};
 use queue_records::QUEUE;
 use std::alloc::Global;
 
@@ -53,13 +53,13 @@ fn put_ids_on<D: PageDevice>(
     ensures honest { D.is_honest device.new ≡ D.is_honest device.old }
     ensures cause { HasCheckCause (D.fault_count device.old) (D.fault_count device.new) result }
 {
-    let mut payload = [0; PAYLOAD_BYTES];
-    read_again(device, page, &mut payload)?;
-    put_ids_in(&bucket_in(&payload, page)?, ids)
+    let mut bytes = [0; PAGE_BYTES];
+    read_again(device, page, &mut bytes)?;
+    put_ids_in(&bucket_in(&bytes, page)?, ids)
 }
 
 /// Puts the ids of the Queues of a bucket behind others.
-fn put_ids_in(bucket: &BucketView, ids: &mut Vec<u32>) -> Result<(), CheckFault>
+fn put_ids_in(bucket: &TestedBucket, ids: &mut Vec<u32>) -> Result<(), CheckFault>
     ensures ok { OnOk result (ids.new.items ≡ ids.old.items ++ ids_in bucket.now.records) }
     ensures err { IfErr result (λ fault. fault ≡ faults.Structure structure.NoMemory) }
 {

@@ -1,6 +1,6 @@
 //! Whether a system has a record at a key.
 
-ghost use Rattle.std.specs.Prelude.{◌≡◌, ◌<◌, Option, None, IfSome, IfNone};
+ghost use Rattle.std.specs.Prelude.{◌≡◌, ◌<◌, true, Option, None, IsTrue, IfSome, IfNone};
 ghost use Rattle.std.specs.Option.{is_some};
 ghost use Rattle.std.specs.List.{AllPairs, find};
 ghost use Rattle.queue_model.specs.declared.message.Message.{Message};
@@ -11,30 +11,48 @@ ghost use Rattle.type_chains.specs.RecordOf.{at_queue_of, has_number, has_serial
 
 use bucket_page::RecordKey;
 use queue_model::{Messages, System};
-use queue_records::{COUNTER, KEY, MESSAGE, QUEUE, TYPE};
+use queue_records::{COUNTER, KEY, MESSAGE, QUEUE, TYPE, TypeEntry};
 
-/// Whether a system has a record at a key.
-pub(crate) fn needs(system: &System, key: &RecordKey) -> bool
+/// Whether a system has a record at a key. The value that stands there tells of a Type where to look first.
+pub(crate) fn needs(system: &System, key: &RecordKey, value: &[u8]) -> bool
     ensures { result ≡ is_some (record_of system.now key.now) }
 {
     match key.kind {
         COUNTER => key.queue == 0 && key.number == 0,
         KEY => key.queue == 0 && has_key(system, key.number),
         QUEUE => key.number == 0 && has_queue(system, key.queue),
-        TYPE => needs_type(system, key),
+        TYPE => needs_type(system, key, value),
         MESSAGE => needs_message(system, key),
         _ => false,
     }
 }
 
 /// Whether the queue of a key holds the type that the key's number says.
-fn needs_type(system: &System, key: &RecordKey) -> bool
+fn needs_type(system: &System, key: &RecordKey, value: &[u8]) -> bool
     ensures { result ≡ is_some (at_queue_of type_record system.now key.now) }
 {
     let Some(place) = place_of(system, key.queue) else {
         return false;
     };
-    has_type(&system.queue(place).messages, key.number)
+    system.keeps_limits();
+    let messages = &system.queue(place).messages;
+    names_message(messages, key, value) || has_type(messages, key.number)
+}
+
+/// Whether the value of a Type names a message of that type. Where the value is right, all messages need not be looked
+/// at.
+fn names_message(messages: &Messages, key: &RecordKey, value: &[u8]) -> bool
+    requires { AllPairs (λ (m n : Message). m.serial < n.serial) messages.now }
+    ensures { IsTrue result →
+        true ≡ is_some (find (has_number key.now.number) (types messages.now)) }
+{
+    let Ok(entry) = TypeEntry::decode(key, value) else {
+        return false;
+    };
+    let Some(place) = place_of_message(messages, entry.first) else {
+        return false;
+    };
+    has_number(messages.get(place).mtype, key.number)
 }
 
 /// Whether the queue of a key holds the message whose serial is the key's number.
@@ -119,10 +137,19 @@ fn has_number(mtype: i64, number: u64) -> bool
     mtype.cast_unsigned() == number
 }
 
-/// Whether one of these messages has this serial. Serials ascend, so each look halves the places that are left.
+/// Whether one of these messages has this serial.
 fn has_message(messages: &Messages, serial: u64) -> bool
     requires { AllPairs (λ (m n : Message). m.serial < n.serial) messages.now }
     ensures { result ≡ is_some (find (has_serial serial) messages.now) }
+{
+    place_of_message(messages, serial).is_some()
+}
+
+/// The place of the message of a serial. Serials ascend, so each look halves the places that are left.
+fn place_of_message(messages: &Messages, serial: u64) -> Option<usize>
+    requires { AllPairs (λ (m n : Message). m.serial < n.serial) messages.now }
+    ensures some { IfSome result (IsFoundAt (has_serial serial) messages.now) }
+    ensures none { IfNone result (find (has_serial serial) messages.now ≡ None) }
 {
     let mut low = 0;
     let mut high = messages.len();
@@ -130,7 +157,7 @@ fn has_message(messages: &Messages, serial: u64) -> bool
         let middle = low + (high - low) / 2;
         let other = messages.get(middle).serial;
         if other == serial {
-            return true;
+            return Some(middle);
         }
         if other < serial {
             low = middle + 1;
@@ -138,5 +165,5 @@ fn has_message(messages: &Messages, serial: u64) -> bool
             high = middle;
         }
     }
-    false
+    None
 }

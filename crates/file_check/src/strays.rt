@@ -10,8 +10,9 @@ ghost use Rattle.file_check.specs.Words.{IsRightStructure, bucket_at, file_of};
 use crate::bucket::{bucket_in, read_again};
 use crate::fault::CheckFault;
 use crate::needs::needs;
-use bucket_page::{BucketView, RecordKey};
-use page_device::{PAYLOAD_BYTES, PageDevice};
+use bucket_page::RecordKey;
+use file_records::TestedBucket;
+use page_device::{PAGE_BYTES, PageDevice};
 use queue_model::System;
 
 /// Tests of each record of a file whose structure is right that a system needs it. They are tested in the order of the
@@ -52,18 +53,18 @@ fn test_strays_on<D: PageDevice>(
     ensures honest { D.is_honest device.new ≡ D.is_honest device.old }
     ensures cause { HasCheckCause (D.fault_count device.old) (D.fault_count device.new) result }
 {
-    let mut payload = [0; PAYLOAD_BYTES];
-    read_again(device, page, &mut payload)?;
-    test_strays_in(page, &bucket_in(&payload, page)?, system)
+    let mut bytes = [0; PAGE_BYTES];
+    read_again(device, page, &mut bytes)?;
+    test_strays_in(page, &bucket_in(&bytes, page)?, system)
 }
 
 /// Tests the records of a bucket, from the lowest key on.
-fn test_strays_in(page: u32, bucket: &BucketView, system: &System) -> Result<(), CheckFault>
+fn test_strays_in(page: u32, bucket: &TestedBucket, system: &System) -> Result<(), CheckFault>
     ensures ok { OnOk result (All (IsNeeded system.now) bucket.now.records) }
     ensures err { IfErr result (IsStrayIn system.now bucket.now page) }
 {
     for record in bucket.records() {
-        if !needs(system, &record.key) {
+        if !needs(system, &record.key, record.value) {
             return Err(stray(page, &record.key));
         }
     }

@@ -7,6 +7,7 @@ use Rattle.file_walk.proofs.SoundLemmas.{structure_sound}
 use Rattle.hash_file.specs.Chain.{IsBucketOn, IsChain, pairs_on}
 use Rattle.hash_file.specs.Store.{range_at}
 use Rattle.hash_file.proofs.Lookups.{look_at}
+use Rattle.page_device.specs.Sealed.{payload_of}
 use Rattle.positions.proofs.PartitionLaws.{partition_tiles}
 use Rattle.positions.proofs.RangeLaws.{covers_truncated}
 use Rattle.file_records.specs.Answers.{AnswersFor, entry_for}
@@ -59,16 +60,16 @@ module _ (hash : RecordKey → ℕ) (content : List (List ℕ)) (outline : Store
 
 module _ (hash : RecordKey → ℕ) (content : List (List ℕ)) (outline : Store) (h : HasRecords hash content outline)
     (key : RecordKey) (m : ℕ) (is : m ≡ entry_for outline (hash key)) where
-  -- so its payload answers for the key
-  pub named_answers : (payload : List ℕ) → payload ≡ payload_on content m →
-      AnswersFor (contents (file_of content)) key payload
-  named_answers payload same =
+  -- so its page answers for the key
+  pub named_answers : (page : List ℕ) → payload_of page ≡ payload_on content m →
+      AnswersFor (contents (file_of content)) key page
+  named_answers page same =
       let n : ℕ = entry_for outline (hash key) in
       let on = its_bucket hash content outline h key in
       let here = held_here hash content outline h key in
       record {
         bucket = bucket_at (file_of content) n;
-        read = read_as content h.chain h.structure.right n on.0 payload (same ∙ ap (payload_on content) is);
+        read = read_as content h.chain h.structure.right n on.0 (payload_of page) (same ∙ ap (payload_on content) is);
         value = sym here;
         spelled = λ value held. looked_up IsRecord key value (records_at (file_of content) n) (h.spelled n on.0)
             (sym here ∙ held);

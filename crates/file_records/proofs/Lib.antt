@@ -1,3 +1,4 @@
+pub mod TestedLemmas
 pub mod ValueLemmas
 pub mod PageLemmas
 pub mod BucketLemmas

@@ -8,7 +8,7 @@ ghost use Rattle.file_records.specs.Words.{IsCaused, IsOfMachine};
 use crate::page::{page_of, read_again};
 use bucket_page::{PseudoKey, RecordKey};
 use file_walk::Outline;
-use page_device::{PageDevice, Payload};
+use page_device::{Page, PageDevice};
 use record_walk::WalkFault;
 use std::marker::Model;
 
@@ -65,10 +65,10 @@ impl<D: PageDevice, K: PseudoKey + Drop> FileRecords<D, K> {
     pub(crate) fn read_page_of(
         &mut self,
         key: &RecordKey,
-        payload: &mut Payload,
+        bytes: &mut Page,
     ) -> Result<u32, WalkFault>
         ensures ok { IsTrue self.old.honest →
-            OnOk result (AnswersFor (held_on self.old) key.now payload.new) }
+            OnOk result (AnswersFor (held_on self.old) key.now bytes.new) }
         ensures err { IsTrue self.old.honest → IfErr result (λ fault. IsOfMachine fault) }
         ensures same { self.new.content ≡ self.old.content }
         ensures honest { self.new.honest ≡ self.old.honest }
@@ -76,7 +76,7 @@ impl<D: PageDevice, K: PseudoKey + Drop> FileRecords<D, K> {
         ensures cause { IsCaused self.old.faults self.new.faults result }
     {
         let page = page_of(&self.outline, &self.keys, key);
-        read_again(&mut self.device, page, payload)?;
+        read_again(&mut self.device, page, bytes)?;
         Ok(page)
     }
 }

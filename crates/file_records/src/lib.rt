@@ -5,6 +5,8 @@
 mod file_records;
 mod look;
 mod page;
+mod tested;
 mod values;
 
 pub use file_records::FileRecords;
+pub use tested::{TestedBucket, read_tested};

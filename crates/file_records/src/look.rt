@@ -6,7 +6,7 @@ use crate::file_records::FileRecords;
 use crate::page::value_in;
 use crate::values::{is_spelled, record_in};
 use bucket_page::PseudoKey;
-use page_device::{PAYLOAD_BYTES, PageDevice};
+use page_device::{PAGE_BYTES, PageDevice};
 use queue_model::{Body, Message};
 use queue_records::{Counter, QueueEntry, Record, counter_key, message_key, queue_key};
 use record_walk::{Linked, Records, WalkFault};
@@ -25,9 +25,9 @@ impl<D: PageDevice, K: PseudoKey + Drop> Records for FileRecords<D, K> {
 
     fn counter(&mut self) -> Result<Option<Counter>, WalkFault> {
         let key = counter_key();
-        let mut payload = [0; PAYLOAD_BYTES];
-        let page = self.read_page_of(&key, &mut payload)?;
-        match record_in(&payload, page, &key)? {
+        let mut bytes = [0; PAGE_BYTES];
+        let page = self.read_page_of(&key, &mut bytes)?;
+        match record_in(&bytes, page, &key)? {
             Some(Record::Counter(counter)) => Ok(Some(counter)),
             Some(_) => Ok(None),
             None => Ok(None),
@@ -36,9 +36,9 @@ impl<D: PageDevice, K: PseudoKey + Drop> Records for FileRecords<D, K> {
 
     fn queue(&mut self, id: u32) -> Result<Option<QueueEntry>, WalkFault> {
         let key = queue_key(id);
-        let mut payload = [0; PAYLOAD_BYTES];
-        let page = self.read_page_of(&key, &mut payload)?;
-        match record_in(&payload, page, &key)? {
+        let mut bytes = [0; PAGE_BYTES];
+        let page = self.read_page_of(&key, &mut bytes)?;
+        match record_in(&bytes, page, &key)? {
             Some(Record::Queue(queue)) => Ok(Some(queue)),
             Some(_) => Ok(None),
             None => Ok(None),
@@ -52,9 +52,9 @@ impl<D: PageDevice, K: PseudoKey + Drop> Records for FileRecords<D, K> {
         serial: u64,
     ) -> Result<Option<Linked>, WalkFault> {
         let key = message_key(id, serial);
-        let mut payload = [0; PAYLOAD_BYTES];
-        let page = self.read_page_of(&key, &mut payload)?;
-        match record_in(&payload, page, &key)? {
+        let mut bytes = [0; PAGE_BYTES];
+        let page = self.read_page_of(&key, &mut bytes)?;
+        match record_in(&bytes, page, &key)? {
             Some(Record::Message(message)) => Ok(Some(Linked {
                 message: Message {
                     serial: message.serial,
@@ -71,9 +71,9 @@ impl<D: PageDevice, K: PseudoKey + Drop> Records for FileRecords<D, K> {
 
     fn holds(&mut self, wanted: &Record) -> Result<bool, WalkFault> {
         let key = wanted.key();
-        let mut payload = [0; PAYLOAD_BYTES];
-        let page = self.read_page_of(&key, &mut payload)?;
-        match value_in(&payload, page, &key)? {
+        let mut bytes = [0; PAGE_BYTES];
+        let page = self.read_page_of(&key, &mut bytes)?;
+        match value_in(&bytes, page, &key)? {
             Some(value) => Ok(is_spelled(wanted, value)),
             None => Ok(false),
         }

@@ -1,4 +1,4 @@
-//! The record that a payload has at a key.
+//! The record that a page has at a key.
 
 ghost use Rattle.std.specs.Prelude.{◌≡◌, ◌↔◌, ℕ, List, Option, IfErr, IfOk, IsOk, IsTrue};
 ghost use Rattle.file_records.specs.Answers.{AnswersFor, IsRecordAt};
@@ -6,23 +6,23 @@ ghost use Rattle.file_records.specs.Words.{RecordKey, Spells, key_of};
 
 use crate::page::value_in;
 use bucket_page::RecordKey;
-use page_device::Payload;
+use page_device::Page;
 use queue_records::{Record, Value};
 use record_walk::WalkFault;
 
 /// The record at a key, none where there is none. One that can't be read has changed since it was tested.
 pub(crate) fn record_in<'p>(
-    payload: &'p Payload,
+    bytes: &'p Page,
     page: u32,
     key: &RecordKey,
 ) -> Result<Option<Record<'p>>, WalkFault>
-    ensures ok { (held : RecordKey → Option (List ℕ)) → AnswersFor held key.now payload.now →
+    ensures ok { (held : RecordKey → Option (List ℕ)) → AnswersFor held key.now bytes.now →
         IfOk result (IsRecordAt held key.now) }
-    ensures read { (held : RecordKey → Option (List ℕ)) → AnswersFor held key.now payload.now →
+    ensures read { (held : RecordKey → Option (List ℕ)) → AnswersFor held key.now bytes.now →
         IsOk result }
     ensures err { IfErr result (λ fault. fault ≡ WalkFault.Changed page) }
 {
-    let Some(value) = value_in(payload, page, key)? else {
+    let Some(value) = value_in(bytes, page, key)? else {
         return Ok(None);
     };
     match Record::decode(key, value) {

@@ -1,33 +1,19 @@
 -- A live page is the bucket that it was.
-use Rattle.std.proofs.Common.{Ok, refl, sym, ap, arith}
-use Rattle.file_check.proofs.RecordLemmas.{bucket_again, no_other, no_refusal}
+use Rattle.std.proofs.Common.{◌≡◌, Ok, ap}
+use Rattle.page_device.specs.Sealed.{payload_of}
+use Rattle.file_check.specs.Words.{bucket_at, file_of}
+use Rattle.file_check.proofs.RecordLemmas.{read_live}
 use Rattle.file_check.proofs.bucket.bucket_in.Goals as goal
 
-pub returns-in-Ok-Bucket-clause-ok : goal.returns-in-Ok-Bucket-clause-ok
-returns-in-Ok-Bucket-clause-ok c = λ content live same.
-    let e = rw c.in-Ok-Bucket.field-0-is at c.in-Ok-Bucket.ensures.value in
-    ap Ok (sym (bucket_again content c.args.page c.args.payload.now live same _ e))
+pub returns-in-Some-clause-ok : goal.returns-in-Some-clause-ok
+returns-in-Some-clause-ok c = λ content live same.
+    let read = read_live content c.args.page (payload_of c.args.bytes.now) live same in
+    let is = c.in-Some.ensures.ok _ read in
+    let bucket : c.in-Some.bucket ≡ bucket_at (file_of content) c.args.page = cc in
+    ap Ok bucket
 
-pub returns-in-Ok-Bucket-clause-within : goal.returns-in-Ok-Bucket-clause-within
-returns-in-Ok-Bucket-clause-within c =
-    let s = rw c.in-Ok-Bucket.field-0-is at c.in-Ok-Bucket.ensures.ok in
-    let deep = s.in_range.depth in omega (arith, deep)
-
-pub returns-in-Ok-Directory-clause-ok : goal.returns-in-Ok-Directory-clause-ok
-returns-in-Ok-Directory-clause-ok c = λ content live same.
-    let e = rw c.in-Ok-Directory.field-0-is at c.in-Ok-Directory.ensures.value in
-    absurd (no_other content c.args.page c.args.payload.now live same _ e refl)
-
-pub returns-in-Ok-Tombstone-clause-ok : goal.returns-in-Ok-Tombstone-clause-ok
-returns-in-Ok-Tombstone-clause-ok c = λ content live same.
-    let e = rw c.in-Ok-Tombstone.field-0-is at c.in-Ok-Tombstone.ensures.value in
-    absurd (no_other content c.args.page c.args.payload.now live same _ e refl)
-
-pub returns-in-Ok-Free-clause-ok : goal.returns-in-Ok-Free-clause-ok
-returns-in-Ok-Free-clause-ok c = λ content live same.
-    let e = rw c.in-Ok-Free.field-0-is at c.in-Ok-Free.ensures.value in
-    absurd (no_other content c.args.page c.args.payload.now live same _ e refl)
-
-pub returns-in-Err-clause-ok : goal.returns-in-Err-clause-ok
-returns-in-Err-clause-ok c = λ content live same.
-    absurd (no_refusal content c.args.page c.args.payload.now live same _ c.in-Err.ensures.value)
+pub returns-in-None-clause-ok : goal.returns-in-None-clause-ok
+returns-in-None-clause-ok c = λ content live same.
+    let read = read_live content c.args.page (payload_of c.args.bytes.now) live same in
+    let is = c.in-None.ensures.ok _ read in
+    absurd cc

@@ -1,31 +1,10 @@
--- The half in which the message can stand.
-use Rattle.std.proofs.Common.{sym, ap, arith}
-use Rattle.std.specs.Option.{is_some}
-use Rattle.queue_model.specs.declared.message.Message.{Message}
-use Rattle.file_check.proofs.NeedsLemmas.{halved_all, halved_down, halved_found, halved_up}
+-- It has where there is a place of it.
+use Rattle.std.proofs.Common.{◌∙◌}
+use Rattle.type_chains.specs.RecordOf.{has_serial}
+use Rattle.file_check.proofs.NeedsLemmas.{is_found}
 use Rattle.file_check.proofs.needs.has_message.Goals as goal
 
-pub search-preserved-then-other-serial-2 : goal.search-preserved-then-other-serial-2
-search-preserved-then-other-serial-2 c =
-    halved_up (λ (m : Message). m.serial) c.args.messages.now c.args.serial c.search.low c.search.high
-    c.requires c.search.invariant _ c.get.result.now
-    (let short = c.search-test.true in omega (arith, short)) (sym c.get.ensures) c.if-other-serial-2.true
-
-pub search-preserved : goal.search-preserved
-search-preserved c =
-    halved_down (λ (m : Message). m.serial) c.args.messages.now c.args.serial c.search.low c.search.high
-    c.requires c.search.invariant _ c.get.result.now
-    (let short = c.search-test.true in omega (arith, short)) (sym c.get.ensures)
-    (let other = c.if-other-serial.false in let above = c.if-other-serial-2.false in omega (arith, other, above))
-
-pub returns-then-other-serial : goal.returns-then-other-serial
-returns-then-other-serial c =
-    ap is_some (sym ((halved_found (λ (m : Message). m.serial) c.args.messages.now c.args.serial c.search.low
-    c.search.high c.requires c.search.invariant _ c.get.result.now
-    (let short = c.search-test.true in omega (arith, short)) (sym c.get.ensures) c.if-other-serial.true).found
-    c.get.result.now))
-
 pub returns : goal.returns
-returns c =
-    ap is_some (sym (halved_all (λ (m : Message). m.serial) c.args.messages.now c.args.serial c.search.low
-    c.search.high c.requires c.search.invariant (let met = c.search-test.false in omega (arith, met))))
+returns c = c.is_some.ensures
+    ∙ is_found (has_serial c.args.serial) c.args.messages.now c.place_of_message.result
+    c.place_of_message.ensures.some c.place_of_message.ensures.none

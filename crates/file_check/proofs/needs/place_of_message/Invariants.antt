@@ -2,7 +2,7 @@
 use Rattle.std.proofs.Common.{◌-◌}
 use Rattle.queue_model.specs.declared.message.Message.{Message}
 use Rattle.file_check.proofs.NeedsLemmas.{IsHalved}
-use Rattle.file_check.proofs.needs.has_message.Given as goal
+use Rattle.file_check.proofs.needs.place_of_message.Given as goal
 
 abbrev pub invariant-search : goal.invariant-search
 invariant-search l = IsHalved (λ (m : Message). m.serial) l.messages l.serial l.low l.high
