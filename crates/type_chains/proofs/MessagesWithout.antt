@@ -9,7 +9,7 @@ use Rattle.std.proofs.lemmas.Bool.{cases_lt}
 use Rattle.std.proofs.lemmas.Bool.Decides.{Decides-eqb, Decides-int_eq, nat_tests}
 use Rattle.std.proofs.lemmas.List.{get_or-map, length-map}
 use Rattle.std.proofs.lemmas.Option.{get_or_from_slice_get, slice_get-get_or, slice_get-map, slice_get_within}
-use Rattle.std.specs.List.{find, position_or_len, remove}
+use Rattle.std.specs.List.{AllPairs, find, position_or_len, remove}
 use Rattle.std.specs.Ordering.{int_eq}
 use Rattle.std.specs.Prelude.{option_map, slice_get, ◌==◌, ◌≢◌}
 use Rattle.type_chains.proofs.FirstOfType.{IsTakenAt, serials_of_its_type, serials_of_other_type}
@@ -49,16 +49,19 @@ module _ (q : Queue) (lawful : IsLawfulQueue q) (pid moment i : ℕ) (m : Messag
   serial_at k n at = slice_get-map (λ (n : Message). n.serial) q.messages k
       ∙ ap (option_map (λ (n : Message). n.serial)) at
 
-  pub serials_apart : AreToldApart is_number (serials q.messages)
-  serials_apart k l d before within =
+  pub serials_rise : AllPairs (λ (a b : ℕ). a < b) (serials q.messages)
+  serials_rise k l d before within =
       let long = length-map q.messages (λ (n : Message). n.serial) in
       let inside : l < length q.messages = omega (arith, within, long) in
       let less = lawful.serials_ascend k l m before inside in
       let one = get_or-map (λ (n : Message). n.serial) q.messages k m d (omega (arith, before, inside)) in
-      let two = get_or-map (λ (n : Message). n.serial) q.messages l m d inside in (
-        other_number _ _ (λ same. omega (arith, less, one, two, same)),
-        other_number _ _ (λ same. omega (arith, less, one, two, same)),
-      )
+      let two = get_or-map (λ (n : Message). n.serial) q.messages l m d inside in
+      omega (arith, less, one, two)
+
+  pub serials_apart : AreToldApart is_number (serials q.messages)
+  serials_apart k l d before within =
+      let less = serials_rise k l d before within in
+      (other_number _ _ (λ same. omega (arith, less, same)), other_number _ _ (λ same. omega (arith, less, same)))
 
   own_number : (n : ℕ) → is_number n n ≡ true
   own_number n = (Decides-eqb n n).1 refl

@@ -1,12 +1,12 @@
 -- What stands beside an element of a list, when another goes; and what searches find then.
 use Rattle.queue_model.proofs.ListLemmas.{find-None, position_None}
 use Rattle.std.proofs.lemmas.Bool.{cases_lt}
-use Rattle.std.proofs.Common.{inl, inr, ◌⊎◌, Bool, List, None, Option, Some, [], ap, arith, cond, false, get_or, length, refl, suc, sym, true, zero, ℕ, ◌-◌, ◌<◌, ◌∙◌, ◌∷◌, ◌≡◌, ◌≤◌}
+use Rattle.std.proofs.Common.{subst, inl, inr, ◌⊎◌, Bool, List, None, Option, Some, [], ap, arith, cond, false, get_or, length, refl, suc, sym, true, zero, ℕ, ◌-◌, ◌<◌, ◌∙◌, ◌∷◌, ◌≡◌, ◌≤◌}
 use Rattle.std.proofs.lemmas.List.Edits.{length-remove}
 use Rattle.std.proofs.lemmas.List.Quantifiers.{all_pairs_remove}
 use Rattle.std.proofs.lemmas.List.Sums.{position_or_len_is}
 use Rattle.std.proofs.lemmas.Option.{get_or_from_slice_get, same_Some, slice_get_within}
-use Rattle.std.specs.List.{AllPairs, filter, find, position_or_len, remove}
+use Rattle.std.specs.List.{AllPairs, Contains, filter, find, position_or_len, remove}
 use Rattle.std.specs.Prelude.{slice_get, ◌≢◌}
 use Rattle.type_chains.specs.Neighbours.{before, before_place, behind, first_of, last_of}
 
@@ -136,6 +136,21 @@ beside i k other = elim (cases_lt (suc k) i) [
     ]
   ]
 ]
+
+-- what stands around a place is related where each two elements are
+pub around : {X : Type 0} (R : X → X → Type 0) (xs : List X) → AllPairs R xs → (i : ℕ) (p n : X) →
+    before_place xs i ≡ Some p → slice_get xs (suc i) ≡ Some n → R p n
+around R xs pairs zero p n sooner later = absurd cc
+around {X} R xs pairs (suc k) p n sooner later =
+    let within = slice_get_within xs (suc (suc k)) n later in
+    let one = get_or_from_slice_get xs k p p sooner in
+    let two = get_or_from_slice_get xs (suc (suc k)) n p later in
+    subst (R p) two
+    (subst (λ (y : X). R y (get_or xs (suc (suc k)) p)) one (pairs k (suc (suc k)) p (omega arith) within))
+
+pub stands_before : {X : Type 0} (xs : List X) (i : ℕ) (p : X) → before_place xs i ≡ Some p → Contains xs p
+stands_before xs zero p is = absurd cc
+stands_before xs (suc k) p is = (k, slice_get_within xs k p is, get_or_from_slice_get xs k p p is)
 
 -- ---- both ends
 

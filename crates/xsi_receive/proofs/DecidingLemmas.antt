@@ -6,8 +6,7 @@ use Rattle.queue_records.specs.declared.record.Record.TheVariants as records
 use Rattle.type_chains.proofs.FirstOfType.{IsTakenAt, taken_at}
 use Rattle.xsi_receive.proofs.FitLemmas.{place_of}
 use Rattle.xsi_receive.proofs.KnowingLemmas.{on_selected}
-use Rattle.xsi_receive.proofs.LeadLemmas.{leads}
-use Rattle.xsi_receive.proofs.OrderLemmas.{in_order}
+use Rattle.xsi_receive.proofs.LeadLemmas.{in_order, leads}
 use Rattle.type_chains.proofs.MessagesWithout.{next_of_type_is}
 use Rattle.xsi_receive.proofs.QueueLemmas.{counted, fewer_bytes, lowest_without, queue_without}
 use Rattle.type_chains.proofs.TypeWithout.{types_stay}

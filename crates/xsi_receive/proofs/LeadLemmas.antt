@@ -1,14 +1,14 @@
 -- The writes of a Receive lead from the records of a system to those of the system after it.
-use Rattle.xsi_receive.proofs.Names.{All, All-nil, Begins, Bool, Decides-int_eq, Delete, Fills, Goes, InSlot, IsFiled, IsLawfulQueue, Leads, List, Message, MessageEntry, Misses, None, Option, Queue, RecordKey, Relink, Removal, Replace, Some, State, TypeEntry, TypeLeft, Write, agree_but, ap, arith, before_place, deletion_by, each_all, eqb-true, false, find, find-Some, fine, first_of, has_id, has_number, head_of, higher_by, in_range, inl, inr, int_eq, key_is, key_of_message, key_of_type, leads_by, left_by, message_entry, message_record, next_write, option_map, own_by, previous_write, queue_entry, record_of, refl, removal_plan, remove, serials, serials_of_type, slice_get, slice_get-map, slots_of, somes, somes_each, subst, suc, sym, to_higher, to_lower, to_next, to_previous, true, type_entry, type_number, type_record, types, with_queue, zero, ℕ, ℤ, ◌∙◌, ◌≡◌, ◌≢◌, ◌⊎◌}
+use Rattle.xsi_receive.proofs.Names.{All, All-nil, Ascend, Begins, Bool, Climb, Decides-int_eq, Delete, Fills, Goes, InSlot, IsFiled, IsLawfulQueue, Leads, List, Message, MessageEntry, Misses, None, Option, Queue, RecordKey, Relink, Removal, Replace, Some, State, TypeEntry, TypeLeft, Write, [], agree_but, ap, arith, before_place, deletion_by, each_all, eqb-true, false, find, find-Some, fine, first_of, has_id, has_number, head_of, higher_by, in_range, inl, inr, int_eq, key_is, key_of_message, key_of_type, leads_by, left_by, message_entry, message_record, next_write, numbers_ascend, option_map, own_by, previous_write, queue_entry, ranked_ascend, record_of, refl, removal_plan, remove, serials, serials_of_type, slice_get, slice_get-map, slot_all, slots_of, somes, somes_each, subst, suc, sym, to_higher, to_lower, to_next, to_previous, true, type_entry, type_number, type_record, typed, types, types_ascend, with_queue, write_rank, zero, ℕ, ℤ, ◌<ℤ◌, ◌<◌, ◌∙◌, ◌∷◌, ◌≡◌, ◌≢◌, ◌⊎◌}
 use Rattle.queue_records.specs.declared.record.Record.TheVariants as records
 use Rattle.type_chains.proofs.FirstOfType.{IsTakenAt}
 use Rattle.type_chains.proofs.Looked.{all_kept}
+use Rattle.type_chains.proofs.Without.{around, stands_before}
 use Rattle.xsi_receive.proofs.FitLemmas.{go, higher_fits, lawful_after, lower_fits, message_goes, next_fits, own_fits, place_of, previous_fits, queue_fits, type_goes}
-use Rattle.type_chains.proofs.MessagesWithout.{entry_far, next_is, next_of_type_is, previous_is, without}
+use Rattle.type_chains.proofs.MessagesWithout.{serials_rise, entry_far, next_is, next_of_type_is, previous_is, without}
 use Rattle.type_chains.proofs.TypeWithout.{entry_stays, higher_is, lower_is, type_far, types_stay}
 use Rattle.type_chains.proofs.TypesWithout.{its_type_stands}
-use Rattle.xsi_receive.proofs.RankLemmas.{WritesAt, missed, not_at}
-use Rattle.xsi_receive.proofs.OrderLemmas.{in_order}
+use Rattle.xsi_receive.proofs.RankLemmas.{WritesAt, deletion_rank, higher_rank, missed, not_at, own_rank}
 
 module _ (s : State) (filed : IsFiled s) (id : ℕ) (q : Queue) (found : find (has_id id) s.queues ≡ Some q)
     (its : q.id ≡ id) (pid moment i : ℕ) (m : Message) (taken : IsTakenAt m q.messages i) where
@@ -94,6 +94,62 @@ module _ (s : State) (filed : IsFiled s) (id : ℕ) (q : Queue) (found : find (h
           ),
         ),
       )
+
+  -- ---- they stand in order
+
+  messages_order : Climb (previous_write id removal) (next_write id removal)
+  messages_order = by entry.previous entry.next refl refl
+    where
+      by : (p n : Option ℕ) → entry.previous ≡ p → entry.next ≡ n →
+          Climb (option_map (λ (serial : ℕ). Relink (key_of_message id serial) (to_next entry.next)) p)
+          (option_map (λ (serial : ℕ). Relink (key_of_message id serial) (to_previous entry.previous)) n)
+      by None n was now = tt
+      by (Some p) None was now = tt
+      by (Some p) (Some n) was now = around (λ (a b : ℕ). a < b) (serials q.messages)
+          (serials_rise q lawful_queue pid moment i m taken) i p n
+          (sym (previous_is q lawful_queue pid moment i m taken) ∙ was)
+          (sym (next_is q lawful_queue pid moment i m taken) ∙ now)
+
+  types_in_order : (o : Option ℕ) → entry.next_of_type ≡ o → Climb (own_by id m.mtype (left_by o own))
+      (higher_by id (left_by o own))
+  types_in_order (Some f) is = tt
+  types_in_order None is = by own.lower own.higher refl refl
+    where
+      by : (l h : Option ℤ) → own.lower ≡ l → own.higher ≡ h →
+          Climb (option_map (λ (t : ℤ). Relink (key_of_type id t) (to_higher own.higher)) l)
+          (option_map (λ (t : ℤ). Relink (key_of_type id t) (to_lower own.lower)) h)
+      by None h was now = tt
+      by (Some l) None was now = tt
+      by (Some l) (Some h) was now =
+          let (j, at_j) = its_place in
+          let none = sym next_by ∙ is in
+          let before_j = sym (lower_is q pid moment i m taken none j at_j) ∙ was in
+          numbers_ascend l h (typed s filed.lawful id q found l (stands_before (types q.messages) j l before_j))
+          (around (λ (t u : ℤ). t <ℤ u) (types q.messages) (types_ascend q.messages) j l h before_j
+          (sym (higher_is q pid moment i m taken none j at_j) ∙ now))
+
+  -- what stands in two slots of one rank ascends by number
+  pub in_order : Ascend (somes slots)
+  in_order = ranked_ascend (0 ∷ 1 ∷ 1 ∷ 2 ∷ 2 ∷ 3 ∷ 4 ∷ []) slots refl (
+    refl,
+    tt,
+    (
+      slot_all (λ (w : Write). write_rank w ≡ 1)
+          (λ (serial : ℕ). Relink (key_of_message id serial) (to_next entry.next)) entry.previous (λ serial is. refl),
+      messages_order,
+      (
+        slot_all (λ (w : Write). write_rank w ≡ 1)
+            (λ (serial : ℕ). Relink (key_of_message id serial) (to_previous entry.previous)) entry.next
+            (λ serial is. refl),
+        tt,
+        (
+          own_rank id m.mtype left,
+          types_in_order entry.next_of_type refl,
+          (higher_rank id left, tt, (refl, tt, (deletion_rank id m.mtype left, tt, tt))),
+        ),
+      ),
+    ),
+  )
 
   -- ---- at all other keys the records stay
 
@@ -253,9 +309,11 @@ module _ (s : State) (filed : IsFiled s) (id : ℕ) (q : Queue) (found : find (h
     stays : record_of s key ≡ record_of after key
     stays = agree_but id s q new found refl refl key no_queue same_type_record_at same_message_record_at
 
+  -- ---- the plan
+
   pub leads : Leads (removal_plan id removal) (record_of s) (record_of after)
   leads = leads_by (record_of s) (record_of after) (removal_plan id removal) tt (All-nil _)
-      (in_order s filed id q found its pid moment i m taken)
+      in_order
       all_right
       (λ key r is. in_range after key r (lawful_after s filed id q found its pid moment i m taken) is)
       (λ key none misses. stays key (somes_each (Misses key) slots misses))

@@ -3,7 +3,6 @@ pub mod DecidingLemmas
 pub mod FitLemmas
 pub mod KnowingLemmas
 pub mod LeadLemmas
-pub mod OrderLemmas
 pub mod QueueLemmas
 pub mod RankLemmas
 pub mod SelectingLemmas
