@@ -5,59 +5,24 @@ use Rattle.queue_model.specs.declared.message.Message.{Message}
 use Rattle.queue_model.specs.declared.queue.Queue.{Queue}
 use Rattle.std.proofs.Common.{Bool, List, Option, Some, [], ap, arith, cond, false, inl, inr, length, refl, subst, suc, sym, true, ℕ, ℤ, ◌++◌, ◌+◌, ◌-◌, ◌<ℤ◌, ◌∙◌, ◌∷◌, ◌≡◌, ◌≤◌}
 use Rattle.std.proofs.lemmas.Bool.Decides.{Decides-int_eq}
-use Rattle.std.proofs.lemmas.Int.{ints}
 use Rattle.std.proofs.lemmas.List.{append-nil, get_or-append-add, length-append, map-append}
-use Rattle.std.proofs.lemmas.List.Elements.{All-contains, All-head, All-tail, All-weaker, Contains-append_cases, filter-append}
+use Rattle.std.proofs.lemmas.List.Elements.{All-contains, All-weaker, Contains-append_cases, filter-append}
 use Rattle.std.proofs.lemmas.List.Sums.{fold_push}
 use Rattle.std.proofs.lemmas.Option.{same_Some, slice_get-get_or, slice_get_within}
-use Rattle.std.specs.List.{All, AllPairs, Contains, filter, position_or_len, remove}
+use Rattle.std.specs.List.{All, Contains, filter, position_or_len, remove}
 use Rattle.std.specs.Ordering.{int_eq}
-use Rattle.std.specs.Prelude.{int_lt, slice_get, slice_index, ◌≢◌}
-use Rattle.type_chains.proofs.Beside.{at_end_of, before_at, behind_at, behind_at_end, inside, split_at}
+use Rattle.std.specs.Prelude.{slice_get, slice_index, ◌≢◌}
+use Rattle.type_chains.proofs.Beside.{at_end_of, before_at, behind_at, behind_at_end, inside}
 use Rattle.type_chains.proofs.FirstOfType.{its_type}
-use Rattle.type_chains.proofs.Members.{head_or_tail}
-use Rattle.type_chains.proofs.Sorted.{all_at, less_apart, less_test, more_test, no_equal, pairs_front}
+use Rattle.type_chains.proofs.Sorted.{Ascend, with_type_between, with_type_same, less_apart, no_equal, pairs_front}
 use Rattle.type_chains.proofs.TypeWithout.{types_apart}
 use Rattle.type_chains.proofs.TypesWithout.{stood}
 use Rattle.type_chains.proofs.Without.{before_other, behind_other, beside, first_at}
-use Rattle.type_chains.proofs.Unique.{pairs_head, pairs_tail, types_ascend}
+use Rattle.type_chains.proofs.Unique.{types_ascend}
 use Rattle.type_chains.specs.Entries.{is_same_type, type_entry}
 use Rattle.type_chains.specs.Lists.{is_of_type, serials, serials_of_type, types, with_type}
 use Rattle.type_chains.specs.Neighbours.{before, before_place, behind, first_of, last_of}
 use Rattle.type_chains.specs.Sending.{message_of}
-
-abbrev Ascend : List ℤ → Type 0
-Ascend ts = AllPairs (λ (a b : ℤ). a <ℤ b) ts
-
--- ---- one type more
-
--- a type that stands among ascending ones is not put there again
-pub with_type_same : (ts : List ℤ) (t : ℤ) → Ascend ts → Contains ts t → with_type ts t ≡ ts
-with_type_same [] t ascend (k, within, at) = absurd (omega (arith, within))
-with_type_same (v ∷ vs) t ascend stands = elim (head_or_tail v t vs stands) [
-  | inl is ↦
-      let no_less : int_lt t v ≡ false = grind (arith, ints, is) in
-      let no_more : int_lt v t ≡ false = grind (arith, ints, is) in
-      rw (no_less, no_more) refl
-  | inr later ↦
-      let more = split_at vs t later in
-      let less : v <ℤ t = all_at (λ (u : ℤ). v <ℤ u) more.front more.back t
-      (subst (All (λ (u : ℤ). v <ℤ u)) more.whole (pairs_head (λ (a b : ℤ). a <ℤ b) v vs ascend)) in
-      rw (more_test v t less, less_test v t less)
-      (ap (λ us. v ∷ us) (with_type_same vs t (pairs_tail (λ (a b : ℤ). a <ℤ b) v vs ascend) later))
-]
-
--- one that does not stand goes between those below and those above it
-pub with_type_between : (below above : List ℤ) (t : ℤ) → All (λ (u : ℤ). u <ℤ t) below →
-    All (λ (u : ℤ). t <ℤ u) above → with_type (below ++ above) t ≡ below ++ t ∷ above
-with_type_between [] [] t less more = refl
-with_type_between [] (v ∷ vs) t less more =
-    let first = less_test t v (All-head (λ (u : ℤ). t <ℤ u) v vs more) in
-    rw first refl
-with_type_between (v ∷ below) above t less more =
-    let first = All-head (λ (u : ℤ). u <ℤ t) v below less in
-    rw (more_test v t first, less_test v t first)
-    (ap (λ us. v ∷ us) (with_type_between below above t (All-tail (λ (u : ℤ). u <ℤ t) v below less) more))
 
 -- ---- neighbours of a type where ascending types are split at it
 

@@ -1,29 +1,20 @@
 -- What a Send asks for is that of its own queue, and it writes little.
 use Rattle.std.proofs.Common.{◌≡◌, inl, inr, ℕ, Bool, true, false, cond, [], ◌∷◌, length, Option, Some, None, Ok, Err, refl, arith}
 use Rattle.std.proofs.lemmas.List.Elements.{All-cons, All-nil}
-use Rattle.std.specs.List.{All}
 use Rattle.std.specs.Option.{option_eq}
-use Rattle.std.specs.Prelude.{◌==◌, nat_eq, option_map, ℤ}
-use Rattle.queue_model.specs.declared.call.SendArguments.{SendArguments}
-use Rattle.queue_model.specs.State.{State}
-use Rattle.queue_records.specs.declared.queue_entry.QueueEntry.{QueueEntry}
-use Rattle.queue_records.specs.declared.record.Record.{Record}
+use Rattle.std.specs.Prelude.{◌==◌, nat_eq, ℤ}
 use Rattle.queue_records.specs.declared.record.Record.TheVariants as records
-use Rattle.queue_records.specs.Fields.{type_number}
-use Rattle.queue_records.specs.Keys.{key_of_message, key_of_type}
 use Rattle.xsi_inquiry.specs.declared.decision.Decision.TheVariants.{Answers}
 use Rattle.xsi_inquiry.specs.declared.verdict.Verdict.TheVariants as verdicts
 use Rattle.xsi_inquiry.specs.declared.wanted.Wanted.TheVariants.{Given}
-use Rattle.xsi_inquiry.specs.declared.write.Write.{Write}
-use Rattle.xsi_inquiry.specs.declared.write.Write.TheVariants.{Replace, Relink}
-use Rattle.type_chains.specs.Sending.{with_one_more}
 use Rattle.xsi_inquiry.specs.Agreeing.{AgreeOnId}
 use Rattle.xsi_inquiry.specs.Deciding.{DecidesToInsert, InsertsOnlyFor}
-use Rattle.xsi_inquiry.specs.Telling.{IsTold, IsToldGiven}
+use Rattle.xsi_inquiry.specs.Telling.{IsToldGiven}
 use Rattle.xsi_inquiry.specs.Writing.{IsSmall, KeepsAll}
 use Rattle.xsi_inquiry.proofs.AgreeLemmas.{same_type_record}
 use Rattle.xsi_inquiry.proofs.DecisionLemmas.{small_none}
 use Rattle.xsi_inquiry.proofs.AskLemmas.{at_none, at_one, given_asks, sought_asks, sought_given}
+use Rattle.xsi_send.specs.Words.{All, IsTold, QueueEntry, Record, Relink, Replace, SendArguments, State, Write, key_of_message, key_of_type, option_map, type_number, with_one_more}
 use Rattle.xsi_send.specs.declared.stage.Stage.{Stage}
 use Rattle.xsi_send.specs.declared.stage.Stage.TheVariants.{Seeking, Refused, Full, AtType, AtNeighbour, Done}
 use Rattle.xsi_send.specs.declared.type_place.TypePlace.{TypePlace}
