@@ -1,7 +1,6 @@
 pub mod Names
 pub mod Sent
-pub mod SentBetween
+pub mod SentPlans
 pub mod SentParts
-pub mod SentStanding
 pub mod Told
 pub mod Walked

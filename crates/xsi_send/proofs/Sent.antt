@@ -4,9 +4,8 @@ use Rattle.page_locks.specs.declared.lock.LockName.TheVariants as names
 use Rattle.queue_records.specs.declared.record.Record.TheVariants as records
 use Rattle.xsi_inquiry.specs.declared.verdict.Verdict.TheVariants as verdicts
 use Rattle.type_chains.proofs.Beside.{in_last, last-map, some_last}
-use Rattle.xsi_send.proofs.SentBetween.{right_between}
 use Rattle.xsi_send.proofs.SentParts.{IsRightPlan, queue_is}
-use Rattle.xsi_send.proofs.SentStanding.{right_standing}
+use Rattle.xsi_send.proofs.SentPlans.{right_between, right_standing}
 use Rattle.xsi_send.proofs.Told.{last_typed_there, last_with, of_filter}
 
 module _ (c : Caller) (a : SendArguments) (e : QueueEntry) (s : State) (filed : IsFiled s) (known : IsOpen c a e s)
