@@ -127,14 +127,14 @@ copied_of (Err fault) bytes p key old new was it said = tt
 
 -- ---- one step behind another
 
+risen_after : {old mid new : ℕ} → old ≤ mid → HasRisen mid new → HasRisen old new
+risen_after before (inl more) = inl (omega (arith, before, more))
+risen_after before (inr most) = inr most
+
 -- the device's fault behind a read is so of both
 pub devices_after : {s t v : PoolState} {fault : FileFault} → s.faults ≤ t.faults → IsDevicesFault t v fault
     → IsDevicesFault s v fault
-devices_after {s = s} {t = t} {v = v} before failed = record { risen = risen failed.risen; told = failed.told }
-  where
-    risen : HasRisen t.faults v.faults → HasRisen s.faults v.faults
-    risen (inl more) = inl (omega (arith, before, more))
-    risen (inr most) = inr most
+devices_after before failed = record { risen = risen_after before failed.risen; told = failed.told }
 
 pub fails_after : {T : Type 0} (r : Result T FileFault) (s t v : PoolState) → IsTrue s.honest → IsFilePool s
     → OnlyReads true s t → (IsTrue t.honest → IsFilePool t → IfErr r (IsDevicesFault t v))

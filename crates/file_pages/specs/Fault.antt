@@ -14,6 +14,10 @@ abbrev pub number_of : FileFault → ℕ
 number_of (Pool fault) = pool_number_of fault
 number_of Failed = FAILED
 
+-- the fault of a transfer of the device comes only where one has failed
+abbrev pub FileHasCause : PoolState → PoolState → FileFault → Type 0
+FileHasCause old new fault = fault ≡ Pool (pool.Device device.Device) → HasRisen old.faults new.faults
+
 -- a transfer of the device has failed, and this is the fault of that
 pub record IsDevicesFault (old new : PoolState) (fault : FileFault) : Type 0 where
   pub risen : HasRisen old.faults new.faults

@@ -9,7 +9,7 @@ ghost use Rattle.directory.specs.declared.layout.TheConstants.{GREATEST_DEPTH};
 ghost use Rattle.hash_file.specs.Changes.{with_page, write_free, write_left, write_new, write_old, write_tombstone};
 ghost use Rattle.hash_file.specs.Store.{bucket_at};
 ghost use Rattle.file_pages.specs.Buckets.{IsThere, MayJoin, MaySplit};
-ghost use Rattle.file_pages.specs.Fault.{IsDevicesFault};
+ghost use Rattle.file_pages.specs.Fault.{FileHasCause, IsDevicesFault};
 ghost use Rattle.file_pages.specs.Files.{IsReady, IsFilePool, store_of};
 ghost use Rattle.file_pages.specs.Reads.{OnlyReads};
 ghost use Rattle.file_pages.specs.Writes.{OnlyWrites};
@@ -41,6 +41,7 @@ pub fn write_new<D: PageDevice, K: PseudoKey>(
     ensures fault { IsTrue pool.old.honest → IsFilePool pool.old →
         MaySplit old (store_of pool.old.images) → IsThere new (store_of pool.old.images) →
         IfErr result (IsDevicesFault pool.old pool.new) }
+    ensures cause { IfErr result (FileHasCause pool.old pool.new) }
 {
     let half = read_upper_half(pool, keys, old)?;
     store_page(pool, new, half)
@@ -61,6 +62,7 @@ pub fn write_old<D: PageDevice, K: PseudoKey>(
     ensures err { IsTrue pool.old.honest → OnErr result (pool.new.images ≡ pool.old.images) }
     ensures fault { IsTrue pool.old.honest → IsFilePool pool.old →
         MaySplit old (store_of pool.old.images) → IfErr result (IsDevicesFault pool.old pool.new) }
+    ensures cause { IfErr result (FileHasCause pool.old pool.new) }
 {
     let half = read_lower_half(pool, keys, old, new)?;
     store_page(pool, old, half)
@@ -77,6 +79,7 @@ pub fn write_left<D: PageDevice>(pool: &mut Pool<D>, left: u32, right: u32) -> R
     ensures fault { IsTrue pool.old.honest → IsFilePool pool.old →
         MayJoin left right (store_of pool.old.images) →
         IfErr result (IsDevicesFault pool.old pool.new) }
+    ensures cause { IfErr result (FileHasCause pool.old pool.new) }
 {
     let both = read_joined(pool, left, right)?;
     store_page(pool, left, both)
@@ -95,6 +98,7 @@ pub fn write_tombstone<D: PageDevice>(
     ensures err { IsTrue pool.old.honest → OnErr result (pool.new.images ≡ pool.old.images) }
     ensures fault { IsTrue pool.old.honest → IsFilePool pool.old →
         IsThere right (store_of pool.old.images) → IfErr result (IsDevicesFault pool.old pool.new) }
+    ensures cause { IfErr result (FileHasCause pool.old pool.new) }
 {
     let mut tombstone = FilePage::blank();
     tombstone.write_tombstone(left);
@@ -110,6 +114,7 @@ pub fn write_free<D: PageDevice>(pool: &mut Pool<D>, right: u32) -> Result<(), F
     ensures err { IsTrue pool.old.honest → OnErr result (pool.new.images ≡ pool.old.images) }
     ensures fault { IsTrue pool.old.honest → IsFilePool pool.old →
         IsThere right (store_of pool.old.images) → IfErr result (IsDevicesFault pool.old pool.new) }
+    ensures cause { IfErr result (FileHasCause pool.old pool.new) }
 {
     let header = read_header(pool)?;
     let mut free = FilePage::blank();
@@ -130,6 +135,7 @@ fn read_upper_half<D: PageDevice, K: PseudoKey>(
     ensures spells { IfOk result (λ half. Spells (page_in half) half) }
     ensures fault { IsTrue pool.old.honest → IsFilePool pool.old →
         MaySplit page (store_of pool.old.images) → IfErr result (IsDevicesFault pool.old pool.new) }
+    ensures cause { IfErr result (FileHasCause pool.old pool.new) }
 {
     if page < ROOT_PAGE {
         return Err(FileFault::Failed);
@@ -154,6 +160,7 @@ fn read_lower_half<D: PageDevice, K: PseudoKey>(
     ensures spells { IfOk result (λ half. Spells (page_in half) half) }
     ensures fault { IsTrue pool.old.honest → IsFilePool pool.old →
         MaySplit page (store_of pool.old.images) → IfErr result (IsDevicesFault pool.old pool.new) }
+    ensures cause { IfErr result (FileHasCause pool.old pool.new) }
 {
     if page < ROOT_PAGE {
         return Err(FileFault::Failed);
@@ -179,6 +186,7 @@ fn read_joined<D: PageDevice>(
     ensures fault { IsTrue pool.old.honest → IsFilePool pool.old →
         MayJoin left right (store_of pool.old.images) →
         IfErr result (IsDevicesFault pool.old pool.new) }
+    ensures cause { IfErr result (FileHasCause pool.old pool.new) }
 {
     if left < ROOT_PAGE || right < ROOT_PAGE {
         return Err(FileFault::Failed);
@@ -194,6 +202,7 @@ fn upper_half_of<K: PseudoKey>(page: &FilePage, keys: &K) -> Result<FilePage, Fi
         (SpellsBucket (upper_half (K.of_key keys.now) (bucket_in page.now))) }
     ensures err { IsErr result → IsBucketPage page.now →
         (bucket_in page.now).depth < GREATEST_DEPTH → ⊥ }
+    ensures fault { IfErr result (λ fault. fault ≡ FileFault.Failed) }
 {
     if !may_be_cut(page) {
         return Err(FileFault::Failed);
@@ -207,6 +216,7 @@ fn lower_half_of<K: PseudoKey>(page: &FilePage, keys: &K, next: u32) -> Result<F
         (SpellsBucket (lower_half (K.of_key keys.now) next (bucket_in page.now))) }
     ensures err { IsErr result → IsBucketPage page.now →
         (bucket_in page.now).depth < GREATEST_DEPTH → ⊥ }
+    ensures fault { IfErr result (λ fault. fault ≡ FileFault.Failed) }
 {
     if !may_be_cut(page) {
         return Err(FileFault::Failed);
@@ -237,6 +247,7 @@ fn store_page<D: PageDevice>(pool: &mut Pool<D>, page: u32, new: FilePage) -> Re
     ensures err { IsTrue pool.old.honest → OnErr result (pool.new.images ≡ pool.old.images) }
     ensures fault { IsTrue pool.old.honest → IsFilePool pool.old →
         IsThere page (store_of pool.old.images) → IfErr result (IsDevicesFault pool.old pool.new) }
+    ensures cause { IfErr result (FileHasCause pool.old pool.new) }
 {
     if page < ROOT_PAGE {
         return Err(FileFault::Failed);

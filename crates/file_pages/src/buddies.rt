@@ -1,6 +1,6 @@
 //! Two buckets that a merge makes one.
 
-ghost use Rattle.std.specs.Prelude.{◌≤◌, IsTrue, IsErr, IfOk};
+ghost use Rattle.std.specs.Prelude.{◌≡◌, ◌≤◌, IsTrue, IsErr, IfErr, IfOk};
 ghost use Rattle.bucket_page.specs.Changes.{IsBucketPage, SpellsBucket};
 ghost use Rattle.bucket_page.specs.Dividing.{AreBuddies, FitTogether, ShareNoKey, joined};
 ghost use Rattle.bucket_page.specs.Reading.{bucket_in};
@@ -18,6 +18,7 @@ pub fn join(left: &FilePage, right: &FilePage) -> Result<FilePage, FileFault>
     ensures ok { IfOk result (SpellsBucket (joined (bucket_in left.now) (bucket_in right.now))) }
     ensures err { IsErr result → IsBucketPage left.now → IsBucketPage right.now →
         AreJoinable (bucket_in left.now) (bucket_in right.now) → ⊥ }
+    ensures fault { IfErr result (λ fault. fault ≡ FileFault.Failed) }
 {
     if !may_be_joined(left, right) {
         return Err(FileFault::Failed);

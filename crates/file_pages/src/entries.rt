@@ -6,7 +6,7 @@ ghost use Rattle.directory.specs.Entries.{is_upper, page_of};
 ghost use Rattle.directory.specs.Pages.{IsDirectoryPage};
 ghost use Rattle.hash_file.specs.Changes.{copy_directory, retarget};
 ghost use Rattle.file_pages.specs.Entries.{IsLowerHalf, MayCopy, MayRetarget};
-ghost use Rattle.file_pages.specs.Fault.{IsDevicesFault};
+ghost use Rattle.file_pages.specs.Fault.{FileHasCause, IsDevicesFault};
 ghost use Rattle.file_pages.specs.Files.{IsReady, IsFilePool, store_of};
 ghost use Rattle.file_pages.specs.Writes.{OnlyWrites};
 
@@ -31,6 +31,7 @@ pub fn copy_directory<D: PageDevice>(pool: &mut Pool<D>, page: u32) -> Result<()
     ensures err { IsTrue pool.old.honest → OnErr result (pool.new.images ≡ pool.old.images) }
     ensures fault { IsTrue pool.old.honest → IsFilePool pool.old →
         MayCopy page (store_of pool.old.images) → IfErr result (IsDevicesFault pool.old pool.new) }
+    ensures cause { IfErr result (FileHasCause pool.old pool.new) }
 {
     if !(FIRST_DIRECTORY_PAGE..=DIRECTORY_PAGES).contains(&page) {
         return Err(FileFault::Failed);
@@ -58,6 +59,7 @@ pub fn retarget<D: PageDevice>(
     ensures err { IsTrue pool.old.honest → OnErr result (pool.new.images ≡ pool.old.images) }
     ensures fault { IsTrue pool.old.honest → IsFilePool pool.old → MayRetarget page range →
         IfErr result (IsDevicesFault pool.old pool.new) }
+    ensures cause { IfErr result (FileHasCause pool.old pool.new) }
 {
     if !(FIRST_DIRECTORY_PAGE..=DIRECTORY_PAGES).contains(&page) || range.depth > GREATEST_DEPTH {
         return Err(FileFault::Failed);
@@ -100,6 +102,7 @@ fn copy_onto<D: PageDevice>(
     ensures err { IsTrue pool.old.honest → OnErr result (pool.new.images ≡ pool.old.images) }
     ensures fault { IsTrue pool.old.honest → IsFilePool pool.old →
         IfErr result (IsDevicesFault pool.old pool.new) }
+    ensures cause { IfErr result (FileHasCause pool.old pool.new) }
 {
     let frame = pin(pool, page)?;
     if !is_directory(pool.image(&frame)) {
@@ -131,6 +134,7 @@ fn retarget_on<D: PageDevice>(
     ensures err { IsTrue pool.old.honest → OnErr result (pool.new.images ≡ pool.old.images) }
     ensures fault { IsTrue pool.old.honest → IsFilePool pool.old →
         IfErr result (IsDevicesFault pool.old pool.new) }
+    ensures cause { IfErr result (FileHasCause pool.old pool.new) }
 {
     let frame = pin(pool, page)?;
     if !is_directory(pool.image(&frame)) {

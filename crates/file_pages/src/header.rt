@@ -10,7 +10,7 @@ ghost use Rattle.directory.specs.Spelling.{IsHeader};
 ghost use Rattle.hash_file.specs.Changes.{link_free, lower_depth, merge_counts, raise_depth, set_counts, split_counts, take_page, with_header};
 ghost use Rattle.hash_file.specs.Store.{IsFreePage, next_at};
 ghost use Rattle.page_forms.specs.Forms.{IsHeaderPage};
-ghost use Rattle.file_pages.specs.Fault.{IsDevicesFault};
+ghost use Rattle.file_pages.specs.Fault.{FileHasCause, IsDevicesFault};
 ghost use Rattle.file_pages.specs.Files.{IsReady, IsFilePool, store_of};
 ghost use Rattle.file_pages.specs.Headers.{HasFreePage, MayMergeCount, MaySplitCount};
 ghost use Rattle.file_pages.specs.Reads.{OnlyReads};
@@ -35,6 +35,7 @@ pub fn take_page<D: PageDevice>(pool: &mut Pool<D>) -> Result<u32, FileFault>
     ensures err { IsTrue pool.old.honest → OnErr result (pool.new.images ≡ pool.old.images) }
     ensures fault { IsTrue pool.old.honest → IsFilePool pool.old →
         HasFreePage (store_of pool.old.images) → IfErr result (IsDevicesFault pool.old pool.new) }
+    ensures cause { IfErr result (FileHasCause pool.old pool.new) }
 {
     let mut header = read_header(pool)?;
     let page = header.first_free;
@@ -53,6 +54,7 @@ pub fn link_free<D: PageDevice>(pool: &mut Pool<D>, page: u32) -> Result<(), Fil
     ensures err { IsTrue pool.old.honest → OnErr result (pool.new.images ≡ pool.old.images) }
     ensures fault { IsTrue pool.old.honest → IsFilePool pool.old →
         IfErr result (IsDevicesFault pool.old pool.new) }
+    ensures cause { IfErr result (FileHasCause pool.old pool.new) }
 {
     let mut header = read_header(pool)?;
     header.set_first_free(page);
@@ -69,6 +71,7 @@ pub fn raise_depth<D: PageDevice>(pool: &mut Pool<D>) -> Result<(), FileFault>
     ensures fault { IsTrue pool.old.honest → IsFilePool pool.old →
         (store_of pool.old.images).header.depth < GREATEST_DEPTH →
         IfErr result (IsDevicesFault pool.old pool.new) }
+    ensures cause { IfErr result (FileHasCause pool.old pool.new) }
 {
     let mut header = read_header(pool)?;
     if header.depth >= GREATEST_DEPTH {
@@ -88,6 +91,7 @@ pub fn lower_depth<D: PageDevice>(pool: &mut Pool<D>) -> Result<(), FileFault>
     ensures fault { IsTrue pool.old.honest → IsFilePool pool.old →
         1 ≤ (store_of pool.old.images).header.depth →
         IfErr result (IsDevicesFault pool.old pool.new) }
+    ensures cause { IfErr result (FileHasCause pool.old pool.new) }
 {
     let mut header = read_header(pool)?;
     if header.depth == 0 {
@@ -108,6 +112,7 @@ pub fn count_split<D: PageDevice>(pool: &mut Pool<D>, depth: u8) -> Result<(), F
     ensures fault { IsTrue pool.old.honest → IsFilePool pool.old →
         MaySplitCount depth (store_of pool.old.images) →
         IfErr result (IsDevicesFault pool.old pool.new) }
+    ensures cause { IfErr result (FileHasCause pool.old pool.new) }
 {
     let mut header = read_header(pool)?;
     if depth >= GREATEST_DEPTH {
@@ -134,6 +139,7 @@ pub fn count_merge<D: PageDevice>(pool: &mut Pool<D>, depth: u8) -> Result<(), F
     ensures fault { IsTrue pool.old.honest → IsFilePool pool.old →
         MayMergeCount depth (store_of pool.old.images) →
         IfErr result (IsDevicesFault pool.old pool.new) }
+    ensures cause { IfErr result (FileHasCause pool.old pool.new) }
 {
     let mut header = read_header(pool)?;
     if depth >= GREATEST_DEPTH {
@@ -158,6 +164,7 @@ pub fn read_header<D: PageDevice>(pool: &mut Pool<D>) -> Result<Header, FileFaul
         IfOk result (λ header. header ≡ (store_of pool.old.images).header) }
     ensures fault { IsTrue pool.old.honest → IsFilePool pool.old →
         IfErr result (IsDevicesFault pool.old pool.new) }
+    ensures cause { IfErr result (FileHasCause pool.old pool.new) }
 {
     let frame = pin(pool, 0)?;
     let header = header_of(pool.image(&frame));
@@ -170,6 +177,7 @@ fn header_of(page: &FilePage) -> Result<Header, FileFault>
     ensures range { IfOk result IsHeader }
     ensures ok { IfOk result (λ header. header ≡ header_at page.now) }
     ensures err { IsErr result → IsHeaderPage page.now → ⊥ }
+    ensures fault { IfErr result (λ fault. fault ≡ FileFault.Failed) }
 {
     let Some(header) = page.header() else {
         return Err(FileFault::Failed);
@@ -186,6 +194,7 @@ fn read_next_free<D: PageDevice>(pool: &mut Pool<D>, page: u32) -> Result<u32, F
     ensures fault { IsTrue pool.old.honest → IsFilePool pool.old → ROOT_PAGE ≤ page →
         page < length pool.old.images → IsFreePage (store_of pool.old.images) page →
         IfErr result (IsDevicesFault pool.old pool.new) }
+    ensures cause { IfErr result (FileHasCause pool.old pool.new) }
 {
     if page < ROOT_PAGE {
         return Err(FileFault::Failed);
@@ -201,6 +210,7 @@ fn next_free_of(page: &FilePage) -> Result<u32, FileFault>
     ensures ok { IfOk result (λ next. page_in page.now ≡ kinds.Free next) }
     ensures err { IsErr result → Spells (page_in page.now) page.now →
         (next : ℕ) → page_in page.now ≢ kinds.Free next }
+    ensures fault { IfErr result (λ fault. fault ≡ FileFault.Failed) }
 {
     let Some(next) = page.next_free() else {
         return Err(FileFault::Failed);
@@ -218,6 +228,7 @@ fn write_header<D: PageDevice>(pool: &mut Pool<D>, header: &Header) -> Result<()
     ensures err { IsTrue pool.old.honest → OnErr result (pool.new.images ≡ pool.old.images) }
     ensures fault { IsTrue pool.old.honest → IsFilePool pool.old →
         IfErr result (IsDevicesFault pool.old pool.new) }
+    ensures cause { IfErr result (FileHasCause pool.old pool.new) }
 {
     let frame = pin(pool, 0)?;
     pool.image_mut(&frame).write_header(header);

@@ -1,7 +1,7 @@
 //! A page that is pinned within a step.
 
-ghost use Rattle.std.specs.Prelude.{◌<◌, false, length, IsTrue, IsErr, IfErr, IfOk};
-ghost use Rattle.file_pages.specs.Fault.{IsDevicesFault};
+ghost use Rattle.std.specs.Prelude.{◌≡◌, ◌<◌, false, length, IsTrue, IsErr, IfErr, IfOk};
+ghost use Rattle.file_pages.specs.Fault.{FileHasCause, IsDevicesFault};
 ghost use Rattle.file_pages.specs.Files.{IsReady, IsFilePool};
 ghost use Rattle.file_pages.specs.Pinning.{IsPinned};
 ghost use Rattle.file_pages.specs.Reads.{OnlyReads};
@@ -17,6 +17,7 @@ pub fn pin<D: PageDevice>(pool: &mut Pool<D>, page: u32) -> Result<Frame, FileFa
     ensures err { IsErr result → OnlyReads false pool.old pool.new }
     ensures fault { IsTrue pool.old.honest → IsFilePool pool.old → page < length pool.old.images →
         IfErr result (IsDevicesFault pool.old pool.new) }
+    ensures cause { IfErr result (FileHasCause pool.old pool.new) }
 {
     match pool.pin(page) {
         Ok(frame) => Ok(frame),

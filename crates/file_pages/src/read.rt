@@ -10,7 +10,7 @@ ghost use Rattle.directory.specs.Pages.{IsDirectoryPage};
 ghost use Rattle.directory.specs.Reading.{header_at};
 ghost use Rattle.hash_file.specs.Store.{entry_at, is_bucket, page_at, records_at};
 ghost use Rattle.page_forms.specs.Forms.{IsHeaderPage};
-ghost use Rattle.file_pages.specs.Fault.{IsDevicesFault};
+ghost use Rattle.file_pages.specs.Fault.{FileHasCause, IsDevicesFault};
 ghost use Rattle.file_pages.specs.Files.{IsReady, IsFilePool, image, store_of};
 ghost use Rattle.file_pages.specs.Reads.{OnlyReads, IsCopied, fronted, IsOnWay, IsSeen, IsSight};
 
@@ -33,6 +33,7 @@ pub fn read_depth<D: PageDevice>(pool: &mut Pool<D>) -> Result<u8, FileFault>
         IfOk result (λ depth. depth ≡ (store_of pool.old.images).header.depth) }
     ensures fault { IsTrue pool.old.honest → IsFilePool pool.old →
         IfErr result (IsDevicesFault pool.old pool.new) }
+    ensures cause { IfErr result (FileHasCause pool.old pool.new) }
 {
     let frame = pin(pool, 0)?;
     let depth = depth_of(pool.image(&frame));
@@ -45,6 +46,7 @@ fn depth_of(page: &FilePage) -> Result<u8, FileFault>
     ensures small { IfOk result (λ depth. depth ≤ GREATEST_DEPTH) }
     ensures ok { IfOk result (λ depth. depth ≡ (header_at page.now).depth) }
     ensures err { IsErr result → IsHeaderPage page.now → ⊥ }
+    ensures fault { IfErr result (λ fault. fault ≡ FileFault.Failed) }
 {
     match page.header() {
         Some(header) => Ok(header.depth),
@@ -61,6 +63,7 @@ pub fn read_entry<D: PageDevice>(pool: &mut Pool<D>, index: u32) -> Result<u32, 
         IfOk result (λ page. page ≡ entry_at (store_of pool.old.images) index) }
     ensures fault { IsTrue pool.old.honest → IsFilePool pool.old →
         IfErr result (IsDevicesFault pool.old pool.new) }
+    ensures cause { IfErr result (FileHasCause pool.old pool.new) }
 {
     let frame = pin(pool, page_of(index))?;
     let page = entry_of(pool.image(&frame), slot_of(index));
@@ -73,6 +76,7 @@ fn entry_of(page: &FilePage, slot: usize) -> Result<u32, FileFault>
     requires { slot < PAGE_ENTRIES }
     ensures ok { IfOk result (λ bucket. bucket ≡ slot_at slot page.now) }
     ensures err { IsErr result → IsDirectoryPage page.now → ⊥ }
+    ensures fault { IfErr result (λ fault. fault ≡ FileFault.Failed) }
 {
     match page.directory() {
         Some(entries) => Ok(entries.entry(slot)),
@@ -89,6 +93,7 @@ pub(crate) fn read_page<D: PageDevice>(pool: &mut Pool<D>, page: u32) -> Result<
         IfOk result (λ copy. copy ≡ image pool.old.images page) }
     ensures fault { IsTrue pool.old.honest → IsFilePool pool.old → page < length pool.old.images →
         IfErr result (IsDevicesFault pool.old pool.new) }
+    ensures cause { IfErr result (FileHasCause pool.old pool.new) }
 {
     let frame = pin(pool, page)?;
     let copy = pool.image(&frame).copy();
@@ -111,6 +116,7 @@ pub fn look<D: PageDevice>(
     ensures fault { IsTrue pool.old.honest → IsFilePool pool.old → ROOT_PAGE ≤ page →
         page < length pool.old.images → IsOnWay (page_at (store_of pool.old.images) page) →
         IfErr result (IsDevicesFault pool.old pool.new) }
+    ensures cause { IfErr result (FileHasCause pool.old pool.new) }
 {
     if page < ROOT_PAGE {
         return Err(FileFault::Failed);
@@ -130,6 +136,7 @@ pub fn read_bucket<D: PageDevice>(pool: &mut Pool<D>, page: u32) -> Result<Bucke
     ensures fault { IsTrue pool.old.honest → IsFilePool pool.old → ROOT_PAGE ≤ page →
         page < length pool.old.images → is_bucket (page_at (store_of pool.old.images) page) ≡ true →
         IfErr result (IsDevicesFault pool.old pool.new) }
+    ensures cause { IfErr result (FileHasCause pool.old pool.new) }
 {
     if page < ROOT_PAGE {
         return Err(FileFault::Failed);
@@ -157,6 +164,7 @@ pub fn copy_value<D: PageDevice>(
     ensures fault { IsTrue pool.old.honest → IsFilePool pool.old → ROOT_PAGE ≤ page →
         page < length pool.old.images → is_bucket (page_at (store_of pool.old.images) page) ≡ true →
         IfErr result (IsDevicesFault pool.old pool.new) }
+    ensures cause { IfErr result (FileHasCause pool.old pool.new) }
 {
     if page < ROOT_PAGE {
         return Err(FileFault::Failed);
@@ -174,6 +182,7 @@ fn copy_from(page: &FilePage, key: &RecordKey, room: &mut [u8]) -> Result<Option
         IsCopied found (lookup key.now (records_in page.now)) room.old room.new) }
     ensures same { OnErr result (room.new ≡ room.old) }
     ensures err { IsErr result → IsBucketPage page.now → ⊥ }
+    ensures fault { IfErr result (λ fault. fault ≡ FileFault.Failed) }
 {
     let Some(bucket) = page.bucket() else {
         return Err(FileFault::Failed);

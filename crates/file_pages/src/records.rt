@@ -7,7 +7,7 @@ ghost use Rattle.bucket_page.specs.Reading.{records_in};
 ghost use Rattle.bucket_page.specs.Records.{lookup, pair, record_bytes};
 ghost use Rattle.hash_file.specs.Changes.{Put, Remove, Replace, write_record};
 ghost use Rattle.hash_file.specs.Store.{records_at};
-ghost use Rattle.file_pages.specs.Fault.{IsDevicesFault};
+ghost use Rattle.file_pages.specs.Fault.{FileHasCause, IsDevicesFault};
 ghost use Rattle.file_pages.specs.Files.{IsReady, IsFilePool, store_of};
 ghost use Rattle.file_pages.specs.Writes.{IsBucketThere, OnlyWrites, TakesRecord};
 
@@ -35,6 +35,7 @@ pub fn put_record<D: PageDevice>(
     ensures fault { IsTrue pool.old.honest → IsFilePool pool.old →
         TakesRecord page key.now (length value.now) (store_of pool.old.images) →
         IfErr result (IsDevicesFault pool.old pool.new) }
+    ensures cause { IfErr result (FileHasCause pool.old pool.new) }
 {
     if page < ROOT_PAGE {
         return Err(FileFault::Failed);
@@ -66,6 +67,7 @@ pub fn replace_record<D: PageDevice>(
         IsBucketThere page (store_of pool.old.images) →
         HasValueOf (length value.now) key.now (records_at (store_of pool.old.images) page) →
         IfErr result (IsDevicesFault pool.old pool.new) }
+    ensures cause { IfErr result (FileHasCause pool.old pool.new) }
 {
     if page < ROOT_PAGE {
         return Err(FileFault::Failed);
@@ -100,6 +102,7 @@ pub fn replace_front<D: PageDevice>(
         IsSome (lookup key.now (records_at (store_of pool.old.images) page)) →
         length front.now ≤ length (value_of_key key.now (records_at (store_of pool.old.images)
         page)) → IfErr result (IsDevicesFault pool.old pool.new) }
+    ensures cause { IfErr result (FileHasCause pool.old pool.new) }
 {
     if page < ROOT_PAGE {
         return Err(FileFault::Failed);
@@ -129,6 +132,7 @@ pub fn remove_record<D: PageDevice>(
         IsBucketThere page (store_of pool.old.images) →
         IsSome (lookup key.now (records_at (store_of pool.old.images) page)) →
         IfErr result (IsDevicesFault pool.old pool.new) }
+    ensures cause { IfErr result (FileHasCause pool.old pool.new) }
 {
     if page < ROOT_PAGE {
         return Err(FileFault::Failed);

@@ -1,6 +1,6 @@
 //! What is seen of a page.
 
-ghost use Rattle.std.specs.Prelude.{◌≡◌, IsErr, IfOk};
+ghost use Rattle.std.specs.Prelude.{◌≡◌, IsErr, IfErr, IfOk};
 ghost use Rattle.bucket_page.specs.Changes.{IsBucketPage};
 ghost use Rattle.bucket_page.specs.Reading.{bucket_in, page_in};
 ghost use Rattle.bucket_page.specs.Spelling.{Spells};
@@ -38,6 +38,7 @@ pub fn see(page: &FilePage, pseudokey: u32, key: &RecordKey) -> Result<Sight, Fi
     ensures ok { IfOk result (λ sight. IsSight sight (page_in page.now) pseudokey key.now) }
     ensures err { IsErr result → Spells (page_in page.now) page.now →
         IsOnWay (page_in page.now) → ⊥ }
+    ensures fault { IfErr result (λ fault. fault ≡ FileFault.Failed) }
 {
     if let Some(bucket) = page.bucket() {
         let range = Range {
@@ -60,6 +61,7 @@ pub fn see_bucket(page: &FilePage) -> Result<BucketSight, FileFault>
     ensures bucket { IfOk result (λ _. IsBucketPage page.now) }
     ensures ok { IfOk result (λ sight. sight ≡ sight_of (bucket_in page.now)) }
     ensures err { IsErr result → IsBucketPage page.now → ⊥ }
+    ensures fault { IfErr result (λ fault. fault ≡ FileFault.Failed) }
 {
     let Some(bucket) = page.bucket() else {
         return Err(FileFault::Failed);

@@ -1,7 +1,7 @@
 //! The page that a split takes.
 
 ghost use Rattle.std.specs.Prelude.{◌≡◌, ◌≢◌, is_ok, IsTrue, IfErr, IfOk, OnErr};
-ghost use Rattle.file_pages.specs.Fault.{IsDevicesFault};
+ghost use Rattle.file_pages.specs.Fault.{FileHasCause, IsDevicesFault};
 ghost use Rattle.file_pages.specs.Files.{IsReady, IsFilePool, store_of};
 ghost use Rattle.file_pages.specs.Headers.{HasFreePage};
 ghost use Rattle.file_pages.specs.Writes.{OnlyWrites};
@@ -22,6 +22,7 @@ pub fn take_free<D: PageDevice>(pool: &mut Pool<D>) -> Result<Option<u32>, FileF
         ((store_of pool.old.images).header.first_free ≢ 0 →
         HasFreePage (store_of pool.old.images)) →
         IfErr result (IsDevicesFault pool.old pool.new) }
+    ensures cause { IfErr result (FileHasCause pool.old pool.new) }
 {
     let header = read_header(pool)?;
     if header.first_free == 0 {
