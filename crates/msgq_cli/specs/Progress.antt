@@ -1,5 +1,4 @@
 -- What is kept of a device whose reads are shown.
-use Rattle.std.specs.Prelude.{ℕ}
 use Rattle.msgq_cli.specs.declared.progress.Shown.{Shown}
 
 -- the device whose reads are shown

@@ -50,8 +50,9 @@ const SCRIPT: &str = "SCRIPT";
 const ENDING: &str = "\
 Without a subcommand, the script of standard input is run on a new file of 352 pages in memory.
 
-Printed on standard output: for each line of a script that has a command its number and the answer,
-'refused NAME' or 'fault N'. A fault that no line met is 'fault N' alone, and standard error says why.
+Printed on standard output: for each line of a script that has a command its number and the
+answer, 'refused NAME' or 'fault N'. A fault that no line met is 'fault N' alone, and standard
+error says why.
 
 Exit status:
   0  every line was answered or refused; the file is right; help and version
@@ -63,27 +64,34 @@ Scripts: docs/SCRIPTS.md, with examples in examples/. Faults: docs/FAULTS.md.";
 /// Behind the help of `new`.
 const NEW_PRINTS: &str = "\
 Prints 'made PAGES'; 'fault 20' where FILE exists or the system refuses to make it.
-Exit status 0, 1 where a fault was printed or standard output refused a write, 2 where the command line is wrong.";
+Exit status 0, 1 where a fault was printed or standard output refused a write, 2 where the
+command line is wrong.";
 
 /// Behind the help of `run`.
 const RUN_PRINTS: &str = "\
-Prints the number and the answer of each line; 'fault 20' alone where SCRIPT can't be read, 'fault N' alone where
-FILE is not opened, 'fault N' behind the answers where FILE is not closed well.
-Exit status 0, 1 where a fault was printed or standard output refused a write, 2 where the command line or SCRIPT is
-wrong: then nothing was run, and standard error says 'script line N' and what stands there.";
+Prints the number and the answer of each line; 'fault 20' alone where SCRIPT can't be read,
+'fault N' alone where FILE is not opened, 'fault N' behind the answers where FILE is not closed
+well.
+Exit status 0, 1 where a fault was printed or standard output refused a write, 2 where the
+command line or SCRIPT is wrong: then nothing was run, and standard error says 'script line N'
+and what stands there.";
 
 /// Behind the help of `check`.
 const CHECK_PRINTS: &str = "\
-Reads all of FILE and tests each page, each record, and that all records are those of one system of queues.
-Prints 'ok QUEUES MESSAGES', or 'fault N' for the first thing that is wrong; standard error says what and where.
-Exit status 0, 1 where a fault was printed or standard output refused a write, 2 where the command line is wrong.";
+Reads all of FILE and tests each page, each record, and that all records are those of one system
+of queues.
+Prints 'ok QUEUES MESSAGES', or 'fault N' for the first thing that is wrong; standard error says
+what and where.
+Exit status 0, 1 where a fault was printed or standard output refused a write, 2 where the
+command line is wrong.";
 
 /// Behind the help of `stat`.
 const STAT_PRINTS: &str = "\
 Checks FILE as 'check' does, and prints for each queue, in order of id,
   info ID KEY QNUM CBYTES QBYTES LSPID LRPID STIME RTIME CTIME UID GID CUID CGID MODE
 and behind them 'next ID', the id of the next queue; or 'fault N' alone.
-Exit status 0, 1 where a fault was printed or standard output refused a write, 2 where the command line is wrong.";
+Exit status 0, 1 where a fault was printed or standard output refused a write, 2 where the
+command line is wrong.";
 
 /// What is wrong with a PAGES that is no number of pages.
 const WRONG_PAGES: &str = "PAGES is a decimal number from 258 to 65536, without a sign";

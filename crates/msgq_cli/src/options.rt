@@ -80,34 +80,16 @@ impl Options {
         ensures { result ≡ with_value self word.now }
     {
         if let Some(value) = word.strip_prefix(b"mode=") {
-            let mode = mode(value)?;
-            return once(
-                self.mode,
-                Options {
-                    mode: Some(mode),
-                    ..self
-                },
-            );
+            let mode = Some(mode(value)?);
+            return once(self.mode, Options { mode, ..self });
         }
         if let Some(value) = word.strip_prefix(b"uid=") {
-            let uid = number(value)?;
-            return once(
-                self.uid,
-                Options {
-                    uid: Some(uid),
-                    ..self
-                },
-            );
+            let uid = Some(number(value)?);
+            return once(self.uid, Options { uid, ..self });
         }
         if let Some(value) = word.strip_prefix(b"gid=") {
-            let gid = number(value)?;
-            return once(
-                self.gid,
-                Options {
-                    gid: Some(gid),
-                    ..self
-                },
-            );
+            let gid = Some(number(value)?);
+            return once(self.gid, Options { gid, ..self });
         }
         None
     }

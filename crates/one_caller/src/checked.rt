@@ -50,8 +50,8 @@ pub fn checked<D: PageDevice, K: PseudoKey + Drop>(
 
 /// Whether the root page is a root bucket's.
 fn has_root_bucket<D: PageDevice>(device: &mut D) -> Result<bool, StructureFault>
-    ensures ok { IsTrue (D.is_honest device.old) → IfOk result (λ has. IsTrue has ↔
-        IsRoot (root_records (D.content device.old)) (payload_on (D.content device.old) ROOT_PAGE)) }
+    ensures ok { IsTrue (D.is_honest device.old) → IfOk result (λ has. IsTrue has ↔ IsRoot
+        (root_records (D.content device.old)) (payload_on (D.content device.old) ROOT_PAGE)) }
     ensures refused { IsTrue (D.is_honest device.old) → IfErr result (λ fault.
         IsOfMachine fault ⊎ IsUnread (D.content device.old) ROOT_PAGE fault) }
     ensures same { D.content device.new ≡ D.content device.old }
