@@ -38,7 +38,8 @@ module _ {X R : Type 0} (number : X → ℕ) (xs : List X) (i : ℕ) (x : X) (at
           let at = slice_get-get_or xs k y within ∙ ap Some here in
           let other : k ≢ i = λ place.
           let one = same_Some y x (sym at ∙ ap (slice_get xs) place ∙ at_i) in
-          let clash : true ≡ false = sym ((Decides-eqb (number x) n).1 (ap number (sym one) ∙ is)) ∙ over in absurd cc in
+          let clash : true ≡ false = sym ((Decides-eqb (number x) n).1 (ap number (sym one) ∙ is)) ∙ over in
+          absurd cc in
           elim (beside i k other) [
             | inl near ↦ inr (inr (inl (k, y, near, at, is)))
             | inr (inl near) ↦ inr (inr (inr (y, ap (slice_get xs) (sym near) ∙ at, is)))

@@ -33,6 +33,22 @@ behind_head n x xs apart =
     let place : 1 + position_or_len (is_number n) xs ≡ suc (position_or_len (is_number n) xs) = omega arith in
     rw over (ap (slice_get xs) place)
 
+-- serials ascend as their messages do
+pub serials_rise : (ms : List Message) (n : Message) → AllPairs (λ (a b : Message). a.serial < b.serial) ms →
+    AllPairs (λ (a b : ℕ). a < b) (serials ms)
+serials_rise ms n rise k l d before within =
+    let long = length-map ms (λ (n : Message). n.serial) in
+    let inside : l < length ms = omega (arith, within, long) in
+    let less = rise k l n before inside in
+    let one = get_or-map (λ (n : Message). n.serial) ms k n d (omega (arith, before, inside)) in
+    let two = get_or-map (λ (n : Message). n.serial) ms l n d inside in
+    omega (arith, less, one, two)
+
+pub told_apart : (ns : List ℕ) → AllPairs (λ (a b : ℕ). a < b) ns → AreToldApart is_number ns
+told_apart ns rise k l d before within =
+    let less = rise k l d before within in
+    (other_number _ _ (λ same. omega (arith, less, same)), other_number _ _ (λ same. omega (arith, less, same)))
+
 module _ (q : Queue) (lawful : IsLawfulQueue q) (pid moment i : ℕ) (m : Message)
     (taken : IsTakenAt m q.messages i) where
   abbrev left : Queue
@@ -49,19 +65,11 @@ module _ (q : Queue) (lawful : IsLawfulQueue q) (pid moment i : ℕ) (m : Messag
   serial_at k n at = slice_get-map (λ (n : Message). n.serial) q.messages k
       ∙ ap (option_map (λ (n : Message). n.serial)) at
 
-  pub serials_rise : AllPairs (λ (a b : ℕ). a < b) (serials q.messages)
-  serials_rise k l d before within =
-      let long = length-map q.messages (λ (n : Message). n.serial) in
-      let inside : l < length q.messages = omega (arith, within, long) in
-      let less = lawful.serials_ascend k l m before inside in
-      let one = get_or-map (λ (n : Message). n.serial) q.messages k m d (omega (arith, before, inside)) in
-      let two = get_or-map (λ (n : Message). n.serial) q.messages l m d inside in
-      omega (arith, less, one, two)
+  rise : AllPairs (λ (a b : ℕ). a < b) (serials q.messages)
+  rise = serials_rise q.messages m lawful.serials_ascend
 
   pub serials_apart : AreToldApart is_number (serials q.messages)
-  serials_apart k l d before within =
-      let less = serials_rise k l d before within in
-      (other_number _ _ (λ same. omega (arith, less, same)), other_number _ _ (λ same. omega (arith, less, same)))
+  serials_apart = told_apart (serials q.messages) rise
 
   own_number : (n : ℕ) → is_number n n ≡ true
   own_number n = (Decides-eqb n n).1 refl

@@ -12,7 +12,7 @@ use Rattle.std.proofs.lemmas.Option.{same_Some, slice_get-get_or, slice_get_with
 use Rattle.std.specs.List.{All, Contains, filter, position_or_len, remove}
 use Rattle.std.specs.Ordering.{int_eq}
 use Rattle.std.specs.Prelude.{slice_get, slice_index, ◌≢◌}
-use Rattle.type_chains.proofs.Beside.{at_end_of, before_at, behind_at, behind_at_end, inside}
+use Rattle.type_chains.proofs.Beside.{at_end_of, before_at, behind_at, behind_at_end, inside, remove_at}
 use Rattle.type_chains.proofs.FirstOfType.{its_type}
 use Rattle.type_chains.proofs.Sorted.{Ascend, with_type_between, with_type_same, less_apart, no_equal, pairs_front}
 use Rattle.type_chains.proofs.TypeWithout.{types_apart}
@@ -39,12 +39,6 @@ module _ (a b : List ℤ) (u : ℤ) (ascend : Ascend (a ++ u ∷ b)) where
 
   pub higher_is : behind (is_same_type u) (a ++ u ∷ b) ≡ first_of b
   higher_is = behind_at (is_same_type u) a b u others itself
-
--- ---- lists with one more
-
-remove_at : {X : Type 0} (a b : List X) (x : X) → remove (a ++ x ∷ b) (length a) ≡ a ++ b
-remove_at [] b x = refl
-remove_at {X} (y ∷ a) b x = ap (λ (xs : List X). y ∷ xs) (remove_at a b x)
 
 -- a type stands between those below it and those above it
 pub record IsSplitAt (t : ℤ) (ts : List ℤ) : Type 0 where
@@ -179,7 +173,8 @@ module _ (pid : ℕ) (a : SendArguments) (q : Queue) where
 
       higher_same : suc k ≢ place → behind (is_same_type u) (types new.messages) ≡ (type_entry q u).higher
       higher_same previous = sym (behind_other is_same_type (types new.messages) place a.mtype
-          (types_apart new.messages) its_type its_place k u at here previous) ∙ ap (behind (is_same_type u)) types_before
+          (types_apart new.messages) its_type its_place k u at here previous)
+          ∙ ap (behind (is_same_type u)) types_before
 
       its_own_place : position_or_len (is_same_type u) (types new.messages) ≡ k
       its_own_place = first_at is_same_type (types new.messages) k u (types_apart new.messages) (its_type u) at
@@ -202,7 +197,8 @@ module _ (pid : ℕ) (a : SendArguments) (q : Queue) where
     entry_higher u has first =
         let at = ap (λ (ts : List ℤ). slice_get ts (suc place)) types_after ∙ behind_at_end below above a.mtype
         ∙ first in
-        moved u _ _ (is_new u has) (ap (before_place (types new.messages)) (its_own_place u has (suc place) at) ∙ its_place)
+        moved u _ _ (is_new u has)
+        (ap (before_place (types new.messages)) (its_own_place u has (suc place) at) ∙ its_place)
         (higher_same u has (suc place) at (omega arith))
 
     -- all others stay

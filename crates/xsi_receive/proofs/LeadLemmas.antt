@@ -106,7 +106,7 @@ module _ (s : State) (filed : IsFiled s) (id : ℕ) (q : Queue) (found : find (h
       by None n was now = tt
       by (Some p) None was now = tt
       by (Some p) (Some n) was now = around (λ (a b : ℕ). a < b) (serials q.messages)
-          (serials_rise q lawful_queue pid moment i m taken) i p n
+          (serials_rise q.messages m lawful_queue.serials_ascend) i p n
           (sym (previous_is q lawful_queue pid moment i m taken) ∙ was)
           (sym (next_is q lawful_queue pid moment i m taken) ∙ now)
 

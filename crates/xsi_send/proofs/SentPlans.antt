@@ -235,9 +235,8 @@ module _ (c : Caller) (a : SendArguments) (e : QueueEntry) (s : State) (filed : 
       other_number u has = by (has_number (type_number a.mtype) u) refl
         where
           by : (b : Bool) → has_number (type_number a.mtype) u ≡ b → b ≡ false
-          by true passes = absurd (other_type u has (same_number u a.mtype ((types_of_q c a e s filed known) u has) (typed c
-              a e s filed known)
-              (eqb-true (type_number u) (type_number a.mtype) passes)))
+          by true passes = absurd (other_type u has (same_number u a.mtype (types_of_q c a e s filed known u has)
+              (typed c a e s filed known) (eqb-true (type_number u) (type_number a.mtype) passes)))
           by false passes = refl
 
       no_type : old_records (key_of (records.Type entry)) ≡ None

@@ -33,8 +33,8 @@ returns-then-unsigned_abs-clause-knows c room s filed has entry =
     let one = simp to_z-of_z at c.unsigned_abs.ensures.value in
     let two = simp to_z-of_z at c.unsigned_abs-then-arguments-lt0.ensures.value in
     let more = rw (one, two) at c.if-unsigned_abs.true in
-    rw c.put_off-then-unsigned_abs.ensures (knows_out c.args.caller c.args.arguments.now c.args.queue.now s entry room filed
-    may c.in-Some-lowest.lowest below c.in-Some-lowest.is more)
+    rw c.put_off-then-unsigned_abs.ensures (knows_out c.args.caller c.args.arguments.now c.args.queue.now s entry room
+    filed may c.in-Some-lowest.lowest below c.in-Some-lowest.is more)
 
 -- it is in range
 pub returns-then-arguments-lt0-clause-knows : goal.returns-then-arguments-lt0-clause-knows
