@@ -1,4 +1,5 @@
 pub mod ListLemmas
+pub mod LinkLemmas
 pub mod StillLemmas
 pub mod WalkLemmas
 pub mod QueueLemmas

@@ -8,6 +8,7 @@ use Rattle.std.proofs.lemmas.Bool.Decides.{nat_tests}
 use Rattle.std.proofs.lemmas.List.{get_or-map, length-map, length-append, take_all}
 use Rattle.std.proofs.lemmas.List.Sums.{position_or_len_is}
 use Rattle.limits.specs.declared.TheConstants.{MAX_MESSAGES}
+use Rattle.record_walk.proofs.LinkLemmas.{place_is}
 use Rattle.record_walk.specs.Held.{Holds, linked_of}
 use Rattle.record_walk.specs.Systems.{HasQueue}
 use Rattle.record_walk.specs.Words.{RecordKey, Message, Queue, Record, MessageEntry, Linked, first_of, is_number, message_entry, serials}
@@ -39,20 +40,6 @@ module _ (held : RecordKey → Option (List ℕ)) (q : Queue) (has : HasQueue he
       let r : Record = f d in
       subst (Holds held) (get_or-map f q.messages i d r within)
       (has.messages i r (subst (λ n. i < n) (sym (length-map q.messages f)) within))
-
-  -- serials tell messages apart
-  place_is : (i : ℕ) (d : Message) → i < length q.messages →
-      position_or_len (is_number (get_or q.messages i d).serial) (serials q.messages) ≡ i
-  place_is i d within =
-      let f : Message → ℕ = λ m. m.serial in
-      let serial : ℕ = (get_or q.messages i d).serial in
-      let long : length (serials q.messages) ≡ length q.messages = length-map q.messages f in
-      position_or_len_is (is_number serial) (serials q.messages) i 0 (omega (arith, long, within))
-      (λ k below.
-      let before = has.lawful.serials_ascend k i d below within in
-      let at = get_or-map f q.messages k d 0 (omega (arith, below, within)) in
-      ap (λ n. n == serial) at ∙ grind (arith, nat_tests, before))
-      (λ _. ap (λ n. n == serial) (get_or-map f q.messages i d 0 within) ∙ eq-eqb serial serial refl)
 
   module _ (id : ℕ) (first : Option ℕ) (its : q.id ≡ id) where
     pub walked_none : first ≡ first_of (serials q.messages) → IsWalkedTo q [] first
@@ -93,7 +80,7 @@ module _ (held : RecordKey → Option (List ℕ)) (q : Queue) (has : HasQueue he
               ∙ sym (take-suc q.messages i d there.0) ∙ ap (λ n. take n q.messages) (sym longer);
           next_is =
               ap (λ (l : Linked). l.next) is
-              ∙ ap (λ n. slice_get (serials q.messages) (suc n)) (place_is i d there.0)
+              ∙ ap (λ n. slice_get (serials q.messages) (suc n)) (place_is q.messages i d has.lawful.serials_ascend there.0)
               ∙ ap (slice_get (serials q.messages)) (sym longer);
         }
 

@@ -1,4 +1,5 @@
 pub mod Words
+pub mod Links
 pub mod Held
 pub mod Fault
 pub mod Systems

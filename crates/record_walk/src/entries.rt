@@ -1,10 +1,12 @@
 //! The records that a queue needs.
 
-ghost use Rattle.std.specs.Prelude.{◌≡◌};
-ghost use Rattle.record_walk.specs.Words.{IsLawfulQueue, key_entry, message_entry, queue_entry, serials, serials_of_type, type_entry, types};
+ghost use Rattle.std.specs.Prelude.{◌≡◌, ◌<◌, pos, length, slice_index_or};
+ghost use Rattle.record_walk.specs.Links.{IsAscending, ends_of, next_of_type};
+ghost use Rattle.record_walk.specs.Words.{IsLawfulQueue, Message, message_entry, queue_entry, serials, type_entry, types};
 
 use crate::lists::{before, behind, first, first_type, last, type_before, type_behind};
-use queue_model::{Message, Queue};
+use crate::of_type::Ends;
+use queue_model::Queue;
 use queue_records::{Body, MessageEntry, QueueEntry, TypeEntry};
 
 /// The Queue of a queue, of its serials and its types.
@@ -37,41 +39,47 @@ pub(crate) fn queue_entry(queue: &Queue, all: &[u64], kinds: &[i64]) -> QueueEnt
     }
 }
 
-/// The Type of a type, of all types and the serials of its messages.
-pub(crate) fn type_entry(queue: &Queue, mtype: i64, kinds: &[i64], of_type: &[u64]) -> TypeEntry
+/// The Type of the type at a place, of all types and the ends of this one.
+pub(crate) fn type_entry(queue: &Queue, place: usize, kinds: &[i64], ends: Ends) -> TypeEntry
+    requires within { place < length kinds.now }
     requires kinds { kinds.now ≡ types queue.now.messages }
-    requires of_type { of_type.now ≡ serials_of_type mtype queue.now.messages }
-    ensures { result ≡ type_entry queue.now mtype }
+    requires ends { ends ≡ ends_of queue.now.messages (slice_index_or kinds.now place (pos 0)) }
+    ensures { result ≡ type_entry queue.now (slice_index_or kinds.now place (pos 0)) }
 {
     TypeEntry {
         id: queue.id,
-        mtype,
-        first: first(of_type).unwrap_or(0),
-        last: last(of_type).unwrap_or(0),
-        lower: type_before(kinds, mtype),
-        higher: type_behind(kinds, mtype),
+        mtype: kinds[place],
+        first: ends.first.unwrap_or(0),
+        last: ends.last.unwrap_or(0),
+        lower: type_before(kinds, place),
+        higher: type_behind(kinds, place),
     }
 }
 
-/// The Message of a message, of all serials and those of its type.
+/// The Message of the message at a place, of all serials and the next of its type.
 pub(crate) fn message_entry<'a>(
-    queue: &Queue,
-    message: &'a Message,
+    queue: &'a Queue,
+    place: usize,
     all: &[u64],
-    of_type: &[u64],
+    of_type: Option<u64>,
 ) -> MessageEntry<'a>
+    requires within { place < length queue.now.messages }
+    requires ascend { IsAscending queue.now.messages }
     requires all { all.now ≡ serials queue.now.messages }
-    requires of_type { of_type.now ≡ serials_of_type message.now.mtype queue.now.messages }
-    ensures { result ≡ message_entry queue.now message.now }
+    requires of_type { (d : Message) → of_type
+        ≡ next_of_type queue.now.messages (slice_index_or queue.now.messages place d) }
+    ensures { (d : Message) →
+        result ≡ message_entry queue.now (slice_index_or queue.now.messages place d) }
 {
+    let message = queue.messages.get(place);
     MessageEntry {
         id: queue.id,
         serial: message.serial,
         mtype: message.mtype,
         sender: message.sender,
-        previous: before(all, message.serial),
-        next: behind(all, message.serial),
-        next_of_type: behind(of_type, message.serial),
+        previous: before(all, place),
+        next: behind(all, place),
+        next_of_type: of_type,
         body: Body::new(message.bytes.as_slice()),
     }
 }

@@ -6,6 +6,7 @@ mod entries;
 mod fault;
 mod lists;
 mod messages;
+mod of_type;
 mod queue;
 mod records;
 mod system;

@@ -1,17 +1,19 @@
 //! A queue is read, and all its records are compared with those that stand.
 
-ghost use Rattle.std.specs.Prelude.{◌≡◌, ◌↔◌, IsTrue, IfOk, IfErr};
+ghost use Rattle.std.specs.Prelude.{◌≡◌, ◌↔◌, map, IsTrue, IfOk, IfErr};
 ghost use Rattle.std.specs.List.{All};
 ghost use Rattle.record_walk.specs.Fault.{IsCaused, IsOfMachine};
 ghost use Rattle.record_walk.specs.Held.{Holds, IsStill};
+ghost use Rattle.record_walk.specs.Links.{IsAscending, ends_of, next_of_type};
 ghost use Rattle.record_walk.specs.Systems.{HasQueue, IsQueueOf, queue_in};
 ghost use Rattle.record_walk.specs.Told.{IsToldOfQueue};
 ghost use Rattle.record_walk.specs.Words.{IsLawfulQueue, key_records, message_records, serials, type_records, types};
 
 use crate::entries::{message_entry, queue_entry, type_entry};
 use crate::fault::WalkFault;
-use crate::lists::{serials_of, serials_of_type, types_of};
+use crate::lists::{serials_of, types_of};
 use crate::messages::walk;
+use crate::of_type::{Ends, type_links};
 use crate::records::Records;
 use queue_model::{Messages, Permissions, Queue};
 use queue_records::{KeyEntry, QueueEntry, Record};
@@ -82,10 +84,11 @@ fn has_queue<F: Records>(file: &mut F, alloc: Global, queue: &Queue) -> Result<b
     if !has_key(file, queue)? {
         return Ok(false);
     }
-    if !has_types(file, alloc, queue, &kinds)? {
+    let links = type_links(alloc, &queue.messages, &kinds)?;
+    if !has_types(file, queue, &kinds, &links.ends)? {
         return Ok(false);
     }
-    has_messages(file, alloc, queue, &all)
+    has_messages(file, queue, &all, &links.next)
 }
 
 /// Whether the Key of a queue stands, where it has a key.
@@ -105,20 +108,20 @@ fn has_key<F: Records>(file: &mut F, queue: &Queue) -> Result<bool, WalkFault>
 /// Whether the Types of a queue stand.
 fn has_types<F: Records>(
     file: &mut F,
-    alloc: Global,
     queue: &Queue,
     kinds: &[i64],
+    ends: &[Ends],
 ) -> Result<bool, WalkFault>
-    requires { kinds.now ≡ types queue.now.messages }
+    requires kinds { kinds.now ≡ types queue.now.messages }
+    requires ends { ends.now ≡ map (ends_of queue.now.messages) kinds.now }
     ensures ok { IsTrue (F.is_honest file.old) → IfOk result (λ has.
         IsTrue has ↔ All (Holds (F.held file.old)) (type_records queue.now)) }
     ensures err { IsTrue (F.is_honest file.old) → IfErr result (λ fault. IsOfMachine fault) }
     ensures still { IsStill F.held F.pages F.is_honest F.fault_count file.old file.new }
     ensures cause { IsCaused (F.fault_count file.old) (F.fault_count file.new) result }
 {
-    for mtype in kinds {
-        let of_type = serials_of_type(alloc, &queue.messages, *mtype)?;
-        let entry = type_entry(queue, *mtype, kinds, &of_type);
+    for place in 0..kinds.len() {
+        let entry = type_entry(queue, place, kinds, ends[place]);
         if !file.holds(&Record::Type(entry))? {
             return Ok(false);
         }
@@ -129,11 +132,13 @@ fn has_types<F: Records>(
 /// Whether the Messages of a queue stand.
 fn has_messages<F: Records>(
     file: &mut F,
-    alloc: Global,
     queue: &Queue,
     all: &[u64],
+    next: &[Option<u64>],
 ) -> Result<bool, WalkFault>
-    requires { all.now ≡ serials queue.now.messages }
+    requires ascend { IsAscending queue.now.messages }
+    requires all { all.now ≡ serials queue.now.messages }
+    requires next { next.now ≡ map (next_of_type queue.now.messages) queue.now.messages }
     ensures ok { IsTrue (F.is_honest file.old) → IfOk result (λ has.
         IsTrue has ↔ All (Holds (F.held file.old)) (message_records queue.now)) }
     ensures err { IsTrue (F.is_honest file.old) → IfErr result (λ fault. IsOfMachine fault) }
@@ -141,9 +146,7 @@ fn has_messages<F: Records>(
     ensures cause { IsCaused (F.fault_count file.old) (F.fault_count file.new) result }
 {
     for place in 0..queue.messages.len() {
-        let message = queue.messages.get(place);
-        let of_type = serials_of_type(alloc, &queue.messages, message.mtype)?;
-        let entry = message_entry(queue, message, all, &of_type);
+        let entry = message_entry(queue, place, all, next[place]);
         if !file.holds(&Record::Message(entry))? {
             return Ok(false);
         }

@@ -1,10 +1,7 @@
 -- Type by type.
-use Rattle.std.proofs.Common.{ℤ, pos, List, map, IsTrue, refl, sym, ap, subst, ◌∙◌, rules, w64}
+use Rattle.std.proofs.Common.{ℤ, pos, ◌<◌, length, List, map, IsTrue, refl, sym, ap, subst, ◌∙◌, arith}
 use Rattle.std.specs.List.{All}
-use Rattle.std.specs.Prelude.{slice_index_or}
-use Rattle.std.proofs.lemmas.Int.{to_z-of_z}
 use Rattle.std.proofs.lemmas.List.Elements.{All-map}
-use mir.Val.{SFits}
 use Rattle.queue_records.specs.declared.record.Record.TheVariants as records
 use Rattle.record_walk.specs.Held.{Holds}
 use Rattle.record_walk.specs.Words.{type_entry}
@@ -15,39 +12,39 @@ use Rattle.record_walk.proofs.queue.has_types.Goals as goal
 
 pub returns-then-not-branch-clause-ok : goal.returns-then-not-branch-clause-ok
 returns-then-not-branch-clause-ok g c = λ is.
-    let still = c.loop-mtype.invariant.still in
+    let still = c.loop-place.invariant.still in
     let q = c.args.queue.now in
-    let x : ℤ = slice_index_or c.args.kinds.now c.loop-mtype.mtype-index (pos 0) in
-    let fits : SFits w64 x = search rules in
+    let within : c.loop-place.place < length c.args.kinds.now =
+    let w = c.loop-place-test.true in omega (arith, w) in
     let told = c.in_ok-holds.ensures.ok (subst IsTrue (sym still.honesty) is) in
-    let r = ap (λ e. records.Type e) (c.type_entry-entry.ensures ∙ ap (type_entry q) (to_z-of_z w64 x fits)) in (
+    let r = ap (λ e. records.Type e) c.type_entry-entry.ensures in (
       λ t. absurd cc,
       λ all. (
           let of_kinds = subst (λ (ts : List ℤ). All (Holds (g.F.Records.held c.args.file.now))
-          (map (λ (t : ℤ). records.Type (type_entry q t)) ts)) (sym c.requires) all in
+          (map (λ (t : ℤ). records.Type (type_entry q t)) ts)) (sym c.requires.kinds) all in
           let here = each_made (Holds (g.F.Records.held c.args.file.now)) (λ (t : ℤ). records.Type (type_entry q t))
-          c.args.kinds.now of_kinds c.loop-mtype.mtype-index (pos 0) c.loop-mtype-test.true in
+          c.args.kinds.now of_kinds c.loop-place.place (pos 0) within in
           let t = told.1 (holds_now _ _ _ _ still.same r here) in
           let f = c.if-not-branch.true in
           absurd cc),
     )
 
-pub loop-mtype-preserved : goal.loop-mtype-preserved
-loop-mtype-preserved g c =
-    let still = c.loop-mtype.invariant.still in
+pub loop-place-preserved : goal.loop-place-preserved
+loop-place-preserved g c =
+    let still = c.loop-place.invariant.still in
     let q = c.args.queue.now in
-    let x : ℤ = slice_index_or c.args.kinds.now c.loop-mtype.mtype-index (pos 0) in
-    let fits : SFits w64 x = search rules in
+    let within : c.loop-place.place < length c.args.kinds.now =
+    let w = c.loop-place-test.true in omega (arith, w) in
     record {
       still = still_more g.F.Records.held g.F.Records.pages g.F.Records.is_honest g.F.Records.fault_count _ _ _ still
           c.in_ok-holds.ensures.still;
       stand = λ is.
           let told = c.in_ok-holds.ensures.ok (subst IsTrue (sym still.honesty) is) in
           let r = ap (λ e. records.Type e)
-          (c.type_entry-entry.ensures ∙ ap (type_entry q) (to_z-of_z w64 x fits)) in
+          c.type_entry-entry.ensures in
           each_next (λ (t : ℤ). Holds (g.F.Records.held c.args.file.now) (records.Type (type_entry q t)))
-          c.args.kinds.now c.loop-mtype.mtype-index (pos 0) c.loop-mtype-test.true
-          (c.loop-mtype.invariant.stand is)
+          c.args.kinds.now c.loop-place.place (pos 0) within
+          (c.loop-place.invariant.stand is)
           (holds_before _ _ _ _ still.same r (told.0 c.if-not-branch.false));
     }
 
@@ -55,10 +52,10 @@ pub returns-clause-ok : goal.returns-clause-ok
 returns-clause-ok g c = λ is.
     let q = c.args.queue.now in (
       λ t. subst (λ (ts : List ℤ). All (Holds (g.F.Records.held c.args.file.now))
-          (map (λ (t : ℤ). records.Type (type_entry q t)) ts)) c.requires
+          (map (λ (t : ℤ). records.Type (type_entry q t)) ts)) c.requires.kinds
           (All-map (Holds (g.F.Records.held c.args.file.now)) (λ (t : ℤ). records.Type (type_entry q t))
           c.args.kinds.now
           (each_end (λ (t : ℤ). Holds (g.F.Records.held c.args.file.now) (records.Type (type_entry q t)))
-          c.args.kinds.now c.loop-mtype.mtype-index c.loop-mtype-test.false (c.loop-mtype.invariant.stand is))),
+          c.args.kinds.now c.loop-place.place (let e = c.loop-place-test.false in omega (arith, e)) (c.loop-place.invariant.stand is))),
       λ all. refl,
     )

@@ -1,0 +1,34 @@
+-- The links between messages of one type.
+use Rattle.std.specs.Prelude.{◌≡◌, ℕ, ◌<◌, ℤ, List, map, Option, Some, None}
+use Rattle.std.specs.List.{AllPairs}
+use Rattle.record_walk.specs.declared.of_type.Ends.{Ends}
+use Rattle.record_walk.specs.declared.of_type.TypeLinks.{TypeLinks}
+use Rattle.record_walk.specs.Words.{Message, behind, first_of, is_number, last_of, serials_of_type}
+
+-- serials ascend
+abbrev pub IsAscending : List Message → Type 0
+IsAscending ms = AllPairs (λ (m n : Message). m.serial < n.serial) ms
+
+-- the serial of the next of its type
+abbrev pub next_of_type : List Message → Message → Option ℕ
+next_of_type ms m = behind (is_number m.serial) (serials_of_type m.mtype ms)
+
+-- the serials of the first and the last of a type
+abbrev pub ends_of : List Message → ℤ → Ends
+ends_of ms mtype = record {
+  first = first_of (serials_of_type mtype ms);
+  last = last_of (serials_of_type mtype ms);
+}
+
+-- the last serial, where one more comes in front
+abbrev pub last_with : ℕ → Option ℕ → Option ℕ
+last_with serial None = Some serial
+last_with serial (Some last) = Some last
+
+abbrev pub with_front : ℕ → Ends → Ends
+with_front serial ends = record { first = Some serial; last = last_with serial ends.last }
+
+-- of each message, and of each type
+pub record AreTypeLinks (ms : List Message) (kinds : List ℤ) (links : TypeLinks) : Type 0 where
+  pub next : links.next.items ≡ map (next_of_type ms) ms
+  pub ends : links.ends.items ≡ map (ends_of ms) kinds
