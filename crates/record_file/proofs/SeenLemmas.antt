@@ -6,10 +6,10 @@ use Rattle.stale_search.specs.declared.place.SearchPlace.{SearchPlace}
 use Rattle.stale_search.specs.declared.place.SearchPlace.TheVariants.{GrantDirectory, ReadDepth, ReadEntry, GrantPage, ReleaseDirectory, Look as AtLook, Hop, Found}
 use Rattle.file_pages.specs.declared.fault.FileFault.{FileFault}
 use Rattle.page_locks.specs.Writers.{may_write}
-use Rattle.stale_search.specs.Searches.{AnswersFor, KeepsAim, facts_at, locks_at}
+use Rattle.stale_search.specs.Searches.{AnswersFor, IsLed, KeepsAim, LeadsFrom, facts_at, locks_at}
 use Rattle.stale_search.specs.Rows.{on_page}
 use Rattle.stale_search.proofs.RowLemmas.{page_on}
-use Rattle.record_file.specs.Words.{RecordKey, PoolState, Table, Lock, Selective, Page, Change, row_of, kind_of, lookup, records_at, Progress, Moved, Look, World, Turn, Known, LeadsTo, OnPage, Covering, AllKnown, IsSoundWorld, world, Sees, Step, HasNoFileLock, LockKind, SearchView, search_facts, search_locks, found_at}
+use Rattle.record_file.specs.Words.{RecordKey, PoolState, Table, Lock, Selective, Page, Change, Store, row_of, kind_of, lookup, records_at, Progress, Moved, Look, WriteRecord, World, Turn, Known, LeadsTo, OnPage, Covering, AllKnown, IsSoundWorld, world, Sees, Step, HasNoFileLock, LockKind, SearchView, search_facts, search_locks, found_at}
 use Rattle.record_file.specs.Machines.{FindsAt, Tells}
 use Rattle.record_file.specs.Writers.{seen_at, seen_of}
 use Rattle.record_file.proofs.AnswerLemmas.{tells, told}
@@ -27,6 +27,21 @@ unseen (ReleaseDirectory n) key k none = refl
 unseen (AtLook n) key k none = refl
 unseen (Hop n) key k none = refl
 unseen (Found n found) key k none = absurd cc
+
+-- a search writes no record
+pub searches_only : (did : Progress FileFault) (k : ℕ) (s : Store) (p q : SearchPlace) → IsLed did k s p q →
+    did ≡ Moved WriteRecord → ⊥
+searches_only did k s p q led wrote = by p (subst (λ (d : Progress FileFault). IsLed d k s p q) wrote led)
+  where
+    by : (p : SearchPlace) → LeadsFrom WriteRecord k s p q → ⊥
+    by GrantDirectory leads = let is = leads.0 in cc
+    by ReadDepth leads = let is = leads.0 in cc
+    by (ReadEntry depth) leads = let is = leads.0 in cc
+    by (GrantPage n) leads = let is = leads.0 in cc
+    by (ReleaseDirectory n) leads = let is = leads.0 in cc
+    by (AtLook n) leads = let is = leads.0 in cc
+    by (Hop n) leads = let is = leads.0 in cc
+    by (Found n found) leads = leads
 
 no_value : (found : Option (List ℕ)) → None ≡ option_map length found → found ≡ None
 no_value None is = refl

@@ -2,10 +2,10 @@
 
 ghost use Rattle.std.specs.Prelude.{◌≡◌, ◌↔◌, ℕ, List, Option, true, false};
 ghost use Rattle.stale_search.specs.declared.place.SearchPlace.{SearchPlace};
-ghost use Rattle.record_file.specs.Words.{RecordKey, Lock, IsSeat, row_of, with_row, IsReady, Change, WritesOrSpares, Selective, is_fault, Sees, Step, world, EndsRow, HasNoFileLock, Nears, store_of};
+ghost use Rattle.record_file.specs.Words.{RecordKey, Lock, IsSeat, row_of, with_row, IsReady, Change, Selective, is_fault, Sees, Step, world, EndsRow, HasNoFileLock, Nears, store_of};
 ghost use Rattle.record_file.specs.Machines.{FindsAt};
 ghost use Rattle.record_file.specs.Writers.{Owns};
-ghost use Rattle.record_file.specs.Replaces.{KeepsReplace, IsFrontAt, replace_facts, replace_left, replace_locks, replace_turn, replaced_at};
+ghost use Rattle.record_file.specs.Replaces.{KeepsReplace, WritesOnce, IsFrontAt, replace_facts, replace_left, replace_locks, replace_turn, replaced_at};
 
 use bucket_page::RecordKey;
 use buffer_pool::Pool;
@@ -100,8 +100,8 @@ impl Replace {
         requires ready { IsReady pool.old }
         requires row { EndsRow (replace_locks self.old) 2 (row_of locks.old seat) }
         // whatever the device gives
-        ensures writes { WritesOrSpares result pool.old pool.new }
-        ensures aim { KeepsReplace result self.old self.new }
+        ensures writes { WritesOnce result pool.old pool.new }
+        ensures aim { KeepsReplace result pool.old self.old self.new }
         ensures row { (before : List Lock) → HasNoFileLock before →
             row_of locks.old seat ≡ replace_locks self.old before →
             locks.new ≡ with_row locks.old seat (replace_locks self.new before) }

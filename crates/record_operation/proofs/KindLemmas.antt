@@ -1,9 +1,10 @@
 -- What the machine of each kind promises of its step is what an operation does.
-use Rattle.std.proofs.Common.{◌≡◌, refl, ℕ, true, false, not, List, inl, length}
+use Rattle.std.proofs.Common.{◌≡◌, refl, sym, ap, ◌∙◌, ℕ, true, false, not, List, inl, length}
+use Rattle.std.proofs.lemmas.Bool.{true≢false}
 use Rattle.record_operation.proofs.Names.{FileFault, MakesOperation, Stays-of}
-use Rattle.record_operation.specs.Words.{RecordKey, pair, PoolState, Table, Lock, Change, row_of, store_of, OnlyReads, OnlyWrites, WritesOrSpares, Progress, Moved, Blocked, Fault, Ended, is_fault, HasNoFileLock, Nears, Sees, Step, FollowsRow, NearsOrSpares, world, Owns, FindsAt, SaysAt, TurnsAwayAt, TurnsAwayIn}
+use Rattle.record_operation.specs.Words.{RecordKey, pair, PoolState, Table, Lock, Change, row_of, store_of, OnlyReads, OnlyWrites, WritesOrSpares, Progress, Moved, Blocked, Fault, Ended, WriteRecord, is_fault, HasNoFileLock, Nears, Sees, Step, FollowsRow, NearsOrSpares, world, Owns, FindsAt, SaysAt, TurnsAwayAt, TurnsAwayIn}
 use Rattle.record_operation.specs.Words.{FindView, KeepsFind, find_facts, find_left, find_locks, find_turn, found_of}
-use Rattle.record_operation.specs.Words.{ReplaceView, KeepsReplace, IsFrontAt, replace_facts, replace_left, replace_locks, replace_turn, replaced_at}
+use Rattle.record_operation.specs.Words.{ReplaceView, KeepsReplace, WritesOnce, IsFrontAt, replace_facts, replace_left, replace_locks, replace_turn, replaced_at}
 use Rattle.record_operation.specs.Words.{DeleteView, KeepsDelete, delete_facts, delete_left, delete_locks, delete_turn, removed_at}
 use Rattle.record_operation.specs.Words.{InsertView, KeepsInsert, insert_facts, insert_left, insert_locks, insert_turn, said_of, RecordOperation, Find, Insert, Replace, Delete}
 
@@ -15,6 +16,9 @@ nears_or_spares (Moved kind) left left' pool pool' same near = near
 nears_or_spares (Blocked other) left left' pool pool' same near = tt
 nears_or_spares (Fault fault) left left' pool pool' same near = record { devices = near; images = same refl }
 nears_or_spares Ended left left' pool pool' same near = tt
+
+fault_writes_none : (did : Progress FileFault) → is_fault did ≡ true → did ≡ Moved WriteRecord → ⊥
+fault_writes_none did failed wrote = true≢false (sym failed ∙ ap is_fault wrote)
 
 module _ (hash : RecordKey → ℕ) (seat : ℕ) (bytes : List ℕ) (did : Progress FileFault) (pool pool' : PoolState)
     (locks locks' : Table) where
@@ -84,7 +88,7 @@ module _ (hash : RecordKey → ℕ) (seat : ℕ) (bytes : List ℕ) (did : Progr
         record { found = inl refl; tried = answer change keyed sees fine; turns_away = tt };
   }
 
-  pub replace_makes : (r r' : ReplaceView) → WritesOrSpares did pool pool' → KeepsReplace did r r' →
+  pub replace_makes : (r r' : ReplaceView) → WritesOnce did pool pool' → KeepsReplace did pool r r' →
       FollowsRow seat (replace_locks r) (replace_locks r') locks locks' →
       ((change : Change) → hash r.search.key ≡ r.search.pseudokey →
       IsFrontAt (store_of pool.images) r.search.key bytes → Sees hash seat (replace_facts r) pool locks change →
@@ -100,7 +104,7 @@ module _ (hash : RecordKey → ℕ) (seat : ℕ) (bytes : List ℕ) (did : Progr
       FindsAt hash seat did r.search.key (replaced_at r) (replaced_at r') (world pool.images locks change)) →
       Makes (Replace r) (Replace r')
   replace_makes r r' writes aim row progress step answer = record {
-    writes = record { writes = writes.writes; spares = λ honest failed. writes.spares failed honest };
+    writes = record { writes = writes.writes; spares = λ honest other. writes.spares other honest };
     aim = record {
       key = aim.key;
       pseudokey = aim.pseudokey;
@@ -111,7 +115,7 @@ module _ (hash : RecordKey → ℕ) (seat : ℕ) (bytes : List ℕ) (did : Progr
     };
     row = row;
     progress = λ change keyed suits sees. nears_or_spares did (replace_left r (store_of pool.images))
-        (replace_left r' (store_of pool'.images)) pool pool' (λ failed. writes.spares failed sees.honest)
+        (replace_left r' (store_of pool'.images)) pool pool' (λ failed. writes.spares (fault_writes_none did failed) sees.honest)
         (progress change keyed suits sees);
     step = λ change before bare owns here keyed suits sees fine.
         step change before bare owns here keyed suits sees fine;

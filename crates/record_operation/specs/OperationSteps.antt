@@ -1,16 +1,17 @@
 -- What a step of an operation does. docs/STEPS.md, "Insert, Replace, Delete".
 use Rattle.std.specs.Prelude.{ℕ, ◌≡◌, ◌↔◌, true, false, not, IsTrue, List, length, ⊤}
 use Rattle.file_pages.specs.declared.fault.FileFault.{FileFault}
-use Rattle.record_operation.specs.Words.{RecordKey, pair, PoolState, Table, Lock, Change, Progress, Ended, World, is_fault, HasNoFileLock, row_of, store_of, OnlyWrites, Stays, Sees, Step, FollowsRow, NearsOrSpares, world, FindsAt, SaysAt, TurnsAwayAt, TurnsAwayIn, KeepsFind, KeepsInsert, KeepsReplace, KeepsDelete, RecordOperation, Find, Insert, Replace, Delete}
+use Rattle.record_operation.specs.Words.{RecordKey, pair, PoolState, Table, Lock, Change, Progress, Moved, Ended, WriteRecord, World, is_fault, HasNoFileLock, row_of, store_of, OnlyWrites, Stays, Sees, Step, FollowsRow, NearsOrSpares, world, FindsAt, SaysAt, TurnsAwayAt, TurnsAwayIn, KeepsFind, KeepsInsert, KeepsReplace, KeepsDelete, RecordOperation, Find, Insert, Replace, Delete}
 use Rattle.record_operation.specs.Operations.{HasEnded, IsKeyed, MayBeLent, OwnsWritten, SuitsFile, operation_facts, operation_found, operation_key, operation_left, operation_locks, operation_pseudokey, operation_tried, operation_turn}
 
 -- ---- whatever the device gives
 
--- of an honest device: a find changes no page, and a replace or a delete none where its step is a fault
+-- of an honest device: a find changes no page, a replace none but by its WriteRecord, and a delete none where its step
+-- is a fault
 abbrev pub SparesPages : {F : Type 0} → Progress F → RecordOperation → (old new : PoolState) → Type 0
 SparesPages did (Find f) old new = new.images ≡ old.images
 SparesPages did (Insert i) old new = ⊤
-SparesPages did (Replace r) old new = is_fault did ≡ true → new.images ≡ old.images
+SparesPages did (Replace r) old new = (did ≡ Moved WriteRecord → ⊥) → new.images ≡ old.images
 SparesPages did (Delete d) old new = is_fault did ≡ true → new.images ≡ old.images
 
 pub record LeavesPages {F : Type 0} (did : Progress F) (o : RecordOperation) (old new : PoolState) : Type 0 where
@@ -21,7 +22,7 @@ pub record LeavesPages {F : Type 0} (did : Progress F) (o : RecordOperation) (ol
 abbrev pub KeepsKind : {F : Type 0} → ℕ → Progress F → PoolState → (old new : RecordOperation) → Type 0
 KeepsKind bytes did pool (Find f) (Find f') = KeepsFind did pool f f'
 KeepsKind bytes did pool (Insert i) (Insert i') = KeepsInsert bytes did i i'
-KeepsKind bytes did pool (Replace r) (Replace r') = KeepsReplace did r r'
+KeepsKind bytes did pool (Replace r) (Replace r') = KeepsReplace did pool r r'
 KeepsKind bytes did pool (Delete d) (Delete d') = KeepsDelete did d d'
 KeepsKind bytes did pool old new = ⊥
 

@@ -3,7 +3,7 @@ pub use Rattle.record_file.specs.Words.{RecordKey, pair, PoolState, Table, IsSea
 pub use Rattle.record_file.specs.Machines.{FindsAt}
 pub use Rattle.record_file.specs.Writers.{Owns}
 pub use Rattle.record_file.specs.Finds.{FindView, KeepsFind, find_facts, find_left, find_locks, find_turn, found_of}
-pub use Rattle.record_file.specs.Replaces.{ReplaceView, KeepsReplace, IsFrontAt, with_front, replace_facts, replace_left, replace_locks, replace_turn, replaced_at}
+pub use Rattle.record_file.specs.Replaces.{ReplaceView, KeepsReplace, WritesOnce, IsFrontAt, with_front, replace_facts, replace_left, replace_locks, replace_turn, replaced_at}
 pub use Rattle.record_file.specs.Removals.{TurnsAwayIn, removed_at}
 pub use Rattle.record_file.specs.Deletes.{DeleteView, KeepsDelete, delete_facts, delete_left, delete_locks, delete_turn}
 pub use Rattle.record_file.specs.declared.first_try.Tried.{Tried}

@@ -5,7 +5,7 @@ use Rattle.record_file.specs.Words.{SearchView, Selective, store_of, steps_left,
 use Rattle.record_file.specs.declared.replace.ReplaceStage.TheVariants.{Searching}
 use Rattle.record_file.proofs.AnswerLemmas.{nears_on}
 use Rattle.record_file.proofs.ReleaseLemmas.{gave_page_back}
-use Rattle.record_file.proofs.SeenLemmas.{none_found, sees_search, search_stepped, seen_told}
+use Rattle.record_file.proofs.SeenLemmas.{none_found, searches_only, sees_search, search_stepped, seen_told}
 use Rattle.record_file.proofs.DeedLemmas.{page_row_selective, released, replaced, sees_found, fronting_fails}
 use Rattle.record_file.proofs.replace.Replace.step.Goals as goal
 
@@ -20,6 +20,9 @@ returns-in-None-clause-aim g c =
       stays = Stays-of (λ (v : SearchView). record { search = v; stage = Searching }) c.step.result
           c.self.inside.search c.step.new.self c.step.ensures.aim.stays;
       ended = (λ e. absurd (none_found c.self.inside.search none (c.step.ensures.aim.ended.0 e)), λ over. absurd cc);
+      answered = λ honest wrote. absurd (searches_only c.step.result c.self.inside.search.pseudokey
+          (store_of c.args.pool.now.images) c.self.inside.search.place c.step.new.self.place
+          (c.step.ensures.aim.led honest) wrote);
     })
 
 pub returns-in-None-clause-progress : goal.returns-in-None-clause-progress
