@@ -1,0 +1,75 @@
+-- What is read of the page that answered, and what an access takes of it.
+use Rattle.std.specs.Prelude.{ℕ, ◌≡◌, Bool, false, List, length, Option, Some, IfSome, IsSome, IsTrue, IsOk, Result, Ok, Err, is_ok, ⊤}
+use Rattle.std.specs.Option.{option_map}
+use Rattle.bucket_page.specs.Records.{lookup}
+use Rattle.page_device.specs.Device.{HasRisen}
+use Rattle.file_pages.specs.declared.fault.FileFault.{FileFault}
+use Rattle.file_pages.specs.Files.{IsFilePool}
+use Rattle.file_pages.specs.Reads.{OnlyReads}
+use Rattle.file_pages.specs.Writes.{IsBucketThere}
+use Rattle.hash_file.specs.Store.{records_at}
+use Rattle.record_operation.specs.declared.operation.RecordOperation.TheVariants as operations
+use Rattle.record_access.specs.Words.{RecordKey, RecordOperation, PoolState, store_of, operation_found, HasSuch, Record, Spells, value_of, Replace, Relink, Delete}
+use Rattle.record_access.specs.Purposes.{CanBeOn, Purpose, ToFind, ToInsert, ToWrite}
+use Rattle.record_access.specs.Accesses.{AccessView, Allows, AllowsInsert, HasFound, Serves, access_key}
+use Rattle.record_access.specs.AccessSteps.{SuitsFound}
+
+-- what the bucket on a page has of a key
+abbrev pub value_on : PoolState → ℕ → RecordKey → Option (List ℕ)
+value_on pool page key = lookup key (records_at (store_of pool.images) page)
+
+-- the device is honest and has a file, of which the page is a bucket
+pub record SeesBucket (page : ℕ) (pool : PoolState) : Type 0 where
+  pub honest : IsTrue pool.honest
+  pub file : IsFilePool pool
+  pub there : IsBucketThere page (store_of pool.images)
+
+-- the page that answered has this record at the key, or none, and this was told of its length
+pub record IsShown (page : ℕ) (len : Option ℕ) (pool : PoolState) (key : RecordKey) (found : Option Record) : Type 0
+  where
+    pub sees : SeesBucket page pool
+    pub holds : value_on pool page key ≡ option_map value_of found
+    pub length_is : len ≡ option_map length (value_on pool page key)
+    pub spelled : IfSome found (λ (r : Record). Spells r key (value_of r))
+
+abbrev pub IsReplace : RecordOperation → Type 0
+IsReplace (operations.Replace r) = ⊤
+IsReplace o = ⊥
+
+-- what was allowed before a page answered
+abbrev pub WasAllowed : Purpose → AccessView → Option Record → Type 0
+WasAllowed (ToFind key) a found = ⊤
+WasAllowed (ToInsert r) a found = AllowsInsert r a found
+WasAllowed (ToWrite (Replace r)) a found = CanBeOn (Replace r) found
+WasAllowed (ToWrite (Relink key links)) a found = HasSuch links found
+WasAllowed (ToWrite (Delete key)) a found = a.written ≡ false → IsSome found
+
+-- what a find is told
+abbrev pub IsTold : Purpose → AccessView → Option Record → Type 0
+IsTold (ToFind key) a found = HasFound a found
+IsTold p a found = ⊤
+
+-- who reads the page
+abbrev pub IsReader : Purpose → Type 0
+IsReader (ToFind key) = ⊤
+IsReader (ToWrite (Relink key links)) = ⊤
+IsReader p = ⊥
+
+-- the record is taken up, or the device has failed
+abbrev pub TakesWell : {X : Type 0} → Result X FileFault → Purpose → Option Record → (old new : ℕ) → AccessView →
+    Type 0
+TakesWell (Ok x) p found old new a = Allows p a found × IsTold p a found
+TakesWell (Err fault) p found old new a = IsReader p × HasRisen old new
+
+-- an access takes what it is for from the page that answered
+pub record Takes {X : Type 0} (result : Result X FileFault) (pool pool' : PoolState) (old new : AccessView) : Type 0
+  where
+    pub reads : OnlyReads (is_ok result) pool pool'
+    pub operation : new.operation ≡ old.operation
+    pub written : new.written ≡ old.written
+    pub serves : (p : Purpose) → Serves p old → Serves p new
+    pub suits : IsOk result → SuitsFound (operation_found new.operation) new
+    pub tells : (p : Purpose) (found : Option Record) (page : ℕ) (len : Option ℕ) →
+        operation_found old.operation ≡ Some (page, len) → Serves p old →
+        IsShown page len pool (access_key old) found → WasAllowed p old found →
+        TakesWell result p found pool.faults pool'.faults new

@@ -1,0 +1,304 @@
+//! The access.
+
+ghost use Rattle.std.specs.Prelude.{◌≡◌, ◌≤◌, ◌↔◌, ℕ, List, Option, None, Some, not, true, false, length};
+ghost use Rattle.queue_records.specs.declared.layout.TheConstants.{MAX_VALUE_BYTES};
+ghost use Rattle.queue_records.specs.Range.{IsInRange};
+ghost use Rattle.xsi_inquiry.specs.Writing.{HasRange};
+ghost use Rattle.record_access.specs.Words.{Change, FollowsRow, HasEnded, IsReady, IsSeat, EndsRow, MayBeLent, NearsOrSpares, OnlyWrites, Record, RecordKey, Step, is_fault, operation_found, operation_key, row_of, store_of, world};
+ghost use Rattle.record_access.specs.Purposes.{Purpose, ToFind, ToInsert, ToWrite};
+ghost use Rattle.record_access.specs.Accesses.{Allows, HasFound, Serves, access_answer, access_facts, access_left, access_locks, access_turn, begun, has_no_room};
+ghost use Rattle.record_access.specs.AccessSteps.{Faces, KeepsAccess, TellsOf};
+ghost use Rattle.record_access.specs.Readings.{IsReplace, Takes};
+
+use crate::fitting::links_fit;
+use crate::reading::{read_front, read_value};
+use bucket_page::{PseudoKey, RecordKey};
+use buffer_pool::Pool;
+use file_pages::FileFault;
+use page_device::PageDevice;
+use page_locks::LockTable;
+use queue_records::{Links, MAX_VALUE_BYTES, MESSAGE_BYTES, Record, Value};
+use record_file::Tried;
+use record_operation::RecordOperation;
+use std::marker::Model;
+use std::mem::size_of;
+use step_rules::{Kind, Progress};
+use xsi_inquiry::Write;
+
+/// One access to the record of one key: it is found, inserted, or written.
+#[derive(Drop)]
+pub struct Access {
+    key: RecordKey,
+    operation: RecordOperation,
+    links: Option<Links>,
+    bytes: [u8; MAX_VALUE_BYTES],
+    len: usize,
+    written: bool,
+}
+
+const _: () = prove!(size_of::<Access>() <= 1600);
+
+impl Model for Access {
+    ghost use Rattle.std.specs.Prelude.{take};
+    ghost use Rattle.record_access.specs.Accesses.{AccessView, IsAccess};
+
+    ghost Value = { AccessView };
+
+    ghost view = { λ a. record {
+      operation = a.operation;
+      links = a.links;
+      bytes = take a.len a.bytes;
+      written = a.written;
+    } };
+
+    ghost invariant = { λ a. IsAccess a.key a.len a.operation };
+}
+
+impl Access {
+    /// A find of a key that has this pseudokey.
+    pub fn find(key: RecordKey, pseudokey: u32) -> Access
+        ensures value { result ≡ begun (ToFind key) pseudokey }
+        ensures serves { Serves (ToFind key) result }
+    {
+        Access::begin(key, RecordOperation::find(key, pseudokey), None, &[])
+    }
+
+    /// An insert of a record whose key has this pseudokey.
+    pub fn insert(entry: &Record<'_>, pseudokey: u32) -> Access
+        requires { IsInRange entry.now }
+        ensures value { result ≡ begun (ToInsert entry.now) pseudokey }
+        ensures serves { Serves (ToInsert entry.now) result }
+    {
+        let mut value = Value::new();
+        entry.encode(&mut value);
+        let key = entry.key();
+        Access::begin(
+            key,
+            RecordOperation::insert(key, pseudokey),
+            None,
+            value.as_slice(),
+        )
+    }
+
+    /// A write at a key that has this pseudokey.
+    pub fn write(write: &Write, pseudokey: u32) -> Access
+        requires { HasRange write.now }
+        ensures value { result ≡ begun (ToWrite write.now) pseudokey }
+        ensures serves { Serves (ToWrite write.now) result }
+    {
+        match write {
+            Write::Replace(entry) => {
+                let mut value = Value::new();
+                entry.encode(&mut value);
+                let key = entry.key();
+                Access::begin(
+                    key,
+                    RecordOperation::replace(key, pseudokey),
+                    None,
+                    value.as_slice(),
+                )
+            }
+            Write::Relink(key, links) => {
+                links_fit(links);
+                Access::begin(
+                    *key,
+                    RecordOperation::replace(*key, pseudokey),
+                    Some(*links),
+                    &[],
+                )
+            }
+            Write::Delete(key) => {
+                Access::begin(*key, RecordOperation::delete(*key, pseudokey), None, &[])
+            }
+        }
+    }
+
+    /// An access by an operation, to which these bytes are lent.
+    fn begin(
+        key: RecordKey,
+        operation: RecordOperation,
+        links: Option<Links>,
+        value: &[u8],
+    ) -> Access
+        requires key { operation_key operation ≡ key }
+        requires within { length value.now ≤ MAX_VALUE_BYTES }
+        requires lent { MayBeLent (length value.now) operation }
+        ensures { result ≡ record {
+          operation = operation;
+          links = links;
+          bytes = value.now;
+          written = false;
+        } }
+    {
+        let mut bytes = [0; MAX_VALUE_BYTES];
+        bytes[..value.len()].copy_from_slice(value);
+        Access {
+            key,
+            operation,
+            links,
+            bytes,
+            len: value.len(),
+            written: false,
+        }
+    }
+
+    /// The record that a find has found at its key, or that there is none, once a page answered. Others tell none.
+    pub fn found(&self) -> Option<Option<Record<'_>>>
+        ensures told { (found : Option Record) → HasFound self.now found → result ≡ Some found }
+        ensures open { access_answer self.now ≡ None → result ≡ None }
+    {
+        let RecordOperation::Find(find) = &self.operation else {
+            return None;
+        };
+        match find.found() {
+            None => None,
+            Some((_, None)) => Some(None),
+            Some((_, Some(_))) => match Record::decode(&self.key, &self.bytes[..self.len]) {
+                Ok(entry) => Some(Some(entry)),
+                Err(_) => None,
+            },
+        }
+    }
+
+    /// Whether an insert has found no room for its record. At its end it has done so exactly where it wrote nothing.
+    pub fn has_no_room(&self) -> bool
+        ensures full { result ≡ has_no_room self.now }
+        ensures ended { (r : Record) → (found : Option Record) →
+            Allows (ToInsert r) self.now found → Serves (ToInsert r) self.now →
+            HasEnded self.now.operation → result ≡ not self.now.written }
+    {
+        match self.operation.tried() {
+            Some(Tried::IsFull) => true,
+            Some(Tried::IsPut) | Some(Tried::IsThere) | None => false,
+        }
+    }
+
+    /// Whether its WriteRecord was made.
+    pub fn has_written(&self) -> bool
+        ensures { result ≡ self.now.written }
+    {
+        self.written
+    }
+
+    /// Whether it has given all its locks back.
+    pub fn has_ended(&self) -> bool
+        ensures { (result ≡ true) ↔ HasEnded self.now.operation }
+    {
+        self.operation.has_ended()
+    }
+
+    /// One step.
+    pub fn step<D: PageDevice, K: PseudoKey>(
+        &mut self,
+        pool: &mut Pool<D>,
+        locks: &mut LockTable,
+        keys: &K,
+        seat: u8,
+    ) -> Progress<FileFault>
+        requires seat { IsSeat locks.old seat }
+        requires ready { IsReady pool.old }
+        requires row { EndsRow (access_locks self.old) 3 (row_of locks.old seat) }
+        // whatever the device gives
+        ensures writes { OnlyWrites (not (is_fault result)) pool.old pool.new }
+        ensures aim { KeepsAccess result self.old self.new }
+        ensures row { FollowsRow seat (access_locks self.old) (access_locks self.new)
+            locks.old locks.new }
+        // on an honest device, in a sound world
+        ensures progress { (p : Purpose) (found : Option Record) (change : Change) →
+            Faces (K.of_key keys.now) seat p found self.old pool.old locks.old change →
+            NearsOrSpares result (access_left self.old (store_of pool.old.images))
+            (access_left self.new (store_of pool.new.images)) pool.old pool.new }
+        ensures step { (p : Purpose) (found : Option Record) (change : Change) →
+            Faces (K.of_key keys.now) seat p found self.old pool.old locks.old change →
+            is_fault result ≡ false → Step (K.of_key keys.now) seat
+            (access_turn self.old (store_of pool.old.images)) result (access_facts self.new)
+            pool.old pool.new locks.old locks.new change }
+        ensures answer { (p : Purpose) (found : Option Record) (change : Change) →
+            Faces (K.of_key keys.now) seat p found self.old pool.old locks.old change →
+            is_fault result ≡ false →
+            TellsOf (K.of_key keys.now) result p found self.old self.new
+            (world pool.old.images locks.old change) (world pool.new.images locks.new change) }
+    {
+        let unanswered = self.operation.found().is_none();
+        let did = self
+            .operation
+            .step(pool, locks, keys, seat, &self.bytes[..self.len]);
+        match did {
+            Progress::Moved(Kind::WriteRecord) => self.written = true,
+            Progress::Moved(Kind::Look) if unanswered => {
+                if let Err(fault) = self.take(pool) {
+                    return Progress::Fault(fault);
+                }
+            }
+            _ => {}
+        }
+        did
+    }
+
+    /// Takes from the page that answered what the access is for, where one did. What does not suit it is refused.
+    fn take<D: PageDevice>(&mut self, pool: &mut Pool<D>) -> Result<(), FileFault>
+        requires ready { IsReady pool.old }
+        ensures { Takes result pool.old pool.new self.old self.new }
+    {
+        let Some((page, found)) = self.operation.found() else {
+            return Ok(());
+        };
+        match &self.operation {
+            RecordOperation::Find(_) => match found {
+                None => Ok(()),
+                Some(len) => self.take_value(pool, page, len),
+            },
+            RecordOperation::Insert(_) => Ok(()),
+            RecordOperation::Replace(_) => match (self.links, found) {
+                (Some(links), Some(len)) => self.take_front(pool, page, len, &links),
+                (None, Some(len)) if len == self.len => Ok(()),
+                _ => Err(FileFault::Failed),
+            },
+            RecordOperation::Delete(_) => {
+                if found.is_none() && !self.written {
+                    return Err(FileFault::Failed);
+                }
+                Ok(())
+            }
+        }
+    }
+    /// Takes the value that a find has found.
+    fn take_value<D: PageDevice>(
+        &mut self,
+        pool: &mut Pool<D>,
+        page: u32,
+        len: usize,
+    ) -> Result<(), FileFault>
+        requires ready { IsReady pool.old }
+        requires finds { access_answer self.old ≡ Some (page, Some len) }
+        ensures { Takes result pool.old pool.new self.old self.new }
+    {
+        read_value(pool, page, &self.key, len, &mut self.bytes)?;
+        self.len = len;
+        Ok(())
+    }
+
+    /// Takes the front of the value that links are set in, where it is long enough.
+    fn take_front<D: PageDevice>(
+        &mut self,
+        pool: &mut Pool<D>,
+        page: u32,
+        len: usize,
+        links: &Links,
+    ) -> Result<(), FileFault>
+        requires ready { IsReady pool.old }
+        requires answered { operation_found self.old.operation ≡ Some (page, Some len) }
+        requires replaces { IsReplace self.old.operation }
+        requires links { self.old.links ≡ Some links.now }
+        ensures { Takes result pool.old pool.new self.old self.new }
+    {
+        if len < links.front_bytes() {
+            return Err(FileFault::Failed);
+        }
+        let mut front = [0; MESSAGE_BYTES];
+        let bytes = read_front(pool, page, &self.key, links, &mut front)?;
+        self.bytes[..bytes].copy_from_slice(&front[..bytes]);
+        self.len = bytes;
+        Ok(())
+    }
+}

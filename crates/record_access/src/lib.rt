@@ -1,0 +1,12 @@
+//! One access to one record of queues: what stands at a key is found, or a record is inserted, replaced, relinked or
+//! deleted, in the records' own words.
+
+#![tactic(auto)]
+
+mod access;
+mod fitting;
+mod laws;
+mod reading;
+
+pub use access::Access;
+pub use laws::{an_access_begins_right, an_access_has_few_steps};
