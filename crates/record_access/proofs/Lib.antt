@@ -1,0 +1,11 @@
+pub mod Names
+pub mod RecordLemmas
+pub mod SuitLemmas
+pub mod StandLemmas
+pub mod AimLemmas
+pub mod AllowLemmas
+pub mod StepLemmas
+pub mod ReadLemmas
+pub mod BucketLemmas
+pub mod TakeLemmas
+pub mod TakingLemmas

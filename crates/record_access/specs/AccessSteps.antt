@@ -1,8 +1,9 @@
 -- What a step of an access does. docs/STEPS.md, "Calls".
-use Rattle.std.specs.Prelude.{ℕ, ◌≡◌, ◌≤◌, ◌↔◌, ◌⊎◌, Bool, true, false, List, length, Option, Some, None, IsSome, if◌then◌else◌, ⊤}
+use Rattle.std.specs.Prelude.{ℕ, ◌≡◌, ◌≤◌, ◌↔◌, ◌⊎◌, Bool, true, false, not, List, length, Option, Some, None, IsSome, if◌then◌else◌, ⊤}
 use Rattle.record_operation.specs.declared.operation.RecordOperation.TheVariants as operations
-use Rattle.record_access.specs.Words.{RecordKey, pair, PoolState, Table, Lock, Change, row_of, store_of, Progress, Moved, Blocked, Ended, Look, WriteRecord, World, is_fault, HasNoFileLock, Sees, Step, world, NearsOrSpares, RecordOperation, HasEnded, IsKeyed, OwnsWritten, operation_found, HasNoRoom, Links, Record, linked_bytes}
-use Rattle.record_access.specs.Purposes.{Purpose, StandsAt, left_by}
+use Rattle.file_pages.specs.declared.fault.FileFault.{FileFault}
+use Rattle.record_access.specs.Words.{RecordKey, pair, PoolState, Table, Lock, Change, row_of, store_of, Progress, Moved, Blocked, Ended, Look, OnlyWrites, FollowsRow, World, is_fault, HasNoFileLock, Sees, Step, world, NearsOrSpares, RecordOperation, HasEnded, IsKeyed, OwnsWritten, operation_found, HasNoRoom, Links, Record, linked_bytes}
+use Rattle.record_access.specs.Purposes.{Purpose, StandsAt, is_write, left_by}
 use Rattle.record_access.specs.Accesses.{AccessView, Allows, HasFound, Serves, access_answer, access_facts, access_key, access_left, access_locks, access_pseudokey, access_turn, has_no_room}
 
 -- ---- whatever the device gives
@@ -12,10 +13,6 @@ abbrev pub Rests : {F : Type 0} → Progress F → (old new : AccessView) → Ty
 Rests (Blocked other) old new = new ≡ old
 Rests Ended old new = new ≡ old
 Rests did old new = ⊤
-
-abbrev pub is_write : {F : Type 0} → Progress F → Bool
-is_write (Moved WriteRecord) = true
-is_write did = false
 
 -- what a page told of the value's length suits what is lent: a value is replaced by one as long, links are set in one
 -- that has their front, and what is deleted is there
@@ -82,3 +79,21 @@ pub record TellsOf {F : Type 0} (hash : RecordKey → ℕ) (did : Progress F) (p
   pub finds : FindsRecord did old new found
   -- an insert turns to having no room only where there is none
   pub lacks : has_no_room old ≡ false → has_no_room new ≡ true → HasNoRoom hash (pair (access_key old) old.bytes) w'
+
+-- one step at the pseudokeys that this function gives
+pub record MakesAccess (hash : RecordKey → ℕ) (seat : ℕ) (did : Progress FileFault) (old new : AccessView)
+    (pool pool' : PoolState) (locks locks' : Table) : Type 0 where
+  -- whatever the device gives
+  pub writes : OnlyWrites (not (is_fault did)) pool pool'
+  pub aim : KeepsAccess did old new
+  pub row : FollowsRow seat (access_locks old) (access_locks new) locks locks'
+  -- on an honest device, in a sound world
+  pub progress : (p : Purpose) (found : Option Record) (change : Change) →
+      Faces hash seat p found old pool locks change →
+      NearsOrSpares did (access_left old (store_of pool.images)) (access_left new (store_of pool'.images)) pool pool'
+  pub step : (p : Purpose) (found : Option Record) (change : Change) →
+      Faces hash seat p found old pool locks change → is_fault did ≡ false →
+      Step hash seat (access_turn old (store_of pool.images)) did (access_facts new) pool pool' locks locks' change
+  pub answer : (p : Purpose) (found : Option Record) (change : Change) →
+      Faces hash seat p found old pool locks change → is_fault did ≡ false →
+      TellsOf hash did p found old new (world pool.images locks change) (world pool'.images locks' change)

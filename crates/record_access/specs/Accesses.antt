@@ -1,6 +1,6 @@
 -- An access to one record: what it is for, holds, knows, asks for and tells.
 -- docs/STEPS.md, "Calls".
-use Rattle.std.specs.Prelude.{ℕ, ◌≡◌, ◌≤◌, Bool, true, false, List, [], length, Option, Some, None, IsSome, if◌then◌else◌, ⊤}
+use Rattle.std.specs.Prelude.{ℕ, ◌≡◌, ◌≤◌, Bool, true, false, not, ◌&&◌, List, [], length, Option, Some, None, IsSome, if◌then◌else◌, ⊤}
 use Rattle.record_operation.specs.declared.operation.RecordOperation.TheVariants as operations
 use Rattle.queue_records.specs.declared.layout.TheConstants.{MAX_VALUE_BYTES}
 use Rattle.record_access.specs.Words.{RecordKey, Lock, Store, with_front, Known, Turn, found_of, Tried, IsFull, RecordOperation, MayBeLent, begun_delete, begun_find, begun_insert, begun_replace, operation_facts, operation_found, operation_key, operation_left, operation_locks, operation_pseudokey, operation_tried, operation_turn, Links, Record, Spells, HasSuch, linked_bytes, relinked, key_of, value_of, Write, Replace, Relink, Delete}
@@ -114,9 +114,9 @@ abbrev pub is_full : Option Tried → Bool
 is_full (Some IsFull) = true
 is_full tried = false
 
--- an insert has found no room
+-- an insert has found no room, and has written nothing
 abbrev pub has_no_room : AccessView → Bool
-has_no_room a = is_full (operation_tried a.operation)
+has_no_room a = is_full (operation_tried a.operation) && not a.written
 
 -- ---- what stands at its key allows what it is still to do
 
@@ -136,10 +136,10 @@ AllowsWrite (Relink key links) a found =
     HasSuch links found × IsPrepared (operation_found a.operation) links a.bytes found
 AllowsWrite (Delete key) a found = a.written ≡ false → IsSome found
 
--- an insert has no room only where nothing was written, and has ended otherwise only where it was
+-- an insert that has written nothing came to nothing else than no room
 abbrev pub CameTo : Option Tried → Bool → Type 0
 CameTo None written = ⊤
-CameTo (Some tried) written = written ≡ (if is_full (Some tried) then false else true)
+CameTo (Some tried) written = written ≡ false → is_full (Some tried) ≡ true
 
 pub record AllowsInsert (r : Record) (a : AccessView) (found : Option Record) : Type 0 where
   -- the record stands there where it was written, and nothing else does

@@ -1,6 +1,6 @@
 -- What an access is for: a record is found, inserted, or written.
 -- docs/STEPS.md, "What a call reads", "What a call writes".
-use Rattle.std.specs.Prelude.{ℕ, ◌≡◌, List, Option, Some, None, IfSome, FitsSigned, ⊤}
+use Rattle.std.specs.Prelude.{ℕ, ◌≡◌, Bool, true, false, List, Option, Some, None, IfSome, FitsSigned, if◌then◌else◌, ⊤}
 use Rattle.std.specs.Int.{w64}
 use Rattle.std.specs.Option.{option_map}
 use Rattle.queue_records.specs.declared.links.Links.TheVariants as links
@@ -29,10 +29,13 @@ made (ToFind key) found = found
 made (ToInsert r) found = Some r
 made (ToWrite write) found = turned write found
 
+abbrev pub is_write : {F : Type 0} → Progress F → Bool
+is_write (Moved WriteRecord) = true
+is_write did = false
+
 -- what stands there behind a step
 abbrev pub left_by : {F : Type 0} → Progress F → Purpose → Option Record → Option Record
-left_by (Moved WriteRecord) p found = made p found
-left_by did p found = found
+left_by did p found = if is_write did then made p found else found
 
 -- ---- limits
 

@@ -1,5 +1,5 @@
 -- What is read of the page that answered, and what an access takes of it.
-use Rattle.std.specs.Prelude.{ℕ, ◌≡◌, Bool, false, List, length, Option, Some, IfSome, IsSome, IsTrue, IsOk, Result, Ok, Err, is_ok, ⊤}
+use Rattle.std.specs.Prelude.{ℕ, ◌≡◌, Bool, false, List, length, Option, Some, None, IfSome, IsSome, IsTrue, IsOk, Result, Ok, Err, is_ok, ⊤}
 use Rattle.std.specs.Option.{option_map}
 use Rattle.bucket_page.specs.Records.{lookup}
 use Rattle.page_device.specs.Device.{HasRisen}
@@ -11,7 +11,7 @@ use Rattle.hash_file.specs.Store.{records_at}
 use Rattle.record_operation.specs.declared.operation.RecordOperation.TheVariants as operations
 use Rattle.record_access.specs.Words.{RecordKey, RecordOperation, PoolState, store_of, operation_found, HasSuch, Record, Spells, value_of, Replace, Relink, Delete}
 use Rattle.record_access.specs.Purposes.{CanBeOn, Purpose, ToFind, ToInsert, ToWrite}
-use Rattle.record_access.specs.Accesses.{AccessView, Allows, AllowsInsert, HasFound, Serves, access_key}
+use Rattle.record_access.specs.Accesses.{AccessView, Allows, HasFound, Serves, access_key}
 use Rattle.record_access.specs.AccessSteps.{SuitsFound}
 
 -- what the bucket on a page has of a key
@@ -36,10 +36,10 @@ abbrev pub IsReplace : RecordOperation → Type 0
 IsReplace (operations.Replace r) = ⊤
 IsReplace o = ⊥
 
--- what was allowed before a page answered
+-- what was allowed before a page answered; none answers an insert
 abbrev pub WasAllowed : Purpose → AccessView → Option Record → Type 0
 WasAllowed (ToFind key) a found = ⊤
-WasAllowed (ToInsert r) a found = AllowsInsert r a found
+WasAllowed (ToInsert r) a found = ⊤
 WasAllowed (ToWrite (Replace r)) a found = CanBeOn (Replace r) found
 WasAllowed (ToWrite (Relink key links)) a found = HasSuch links found
 WasAllowed (ToWrite (Delete key)) a found = a.written ≡ false → IsSome found
@@ -68,6 +68,7 @@ pub record Takes {X : Type 0} (result : Result X FileFault) (pool pool' : PoolSt
     pub operation : new.operation ≡ old.operation
     pub written : new.written ≡ old.written
     pub serves : (p : Purpose) → Serves p old → Serves p new
+    pub rests : operation_found old.operation ≡ None → IsOk result × (new ≡ old)
     pub suits : IsOk result → SuitsFound (operation_found new.operation) new
     pub tells : (p : Purpose) (found : Option Record) (page : ℕ) (len : Option ℕ) →
         operation_found old.operation ≡ Some (page, len) → Serves p old →

@@ -4,10 +4,10 @@ ghost use Rattle.std.specs.Prelude.{◌≡◌, ◌≤◌, ◌↔◌, ℕ, List, 
 ghost use Rattle.queue_records.specs.declared.layout.TheConstants.{MAX_VALUE_BYTES};
 ghost use Rattle.queue_records.specs.Range.{IsInRange};
 ghost use Rattle.xsi_inquiry.specs.Writing.{HasRange};
-ghost use Rattle.record_access.specs.Words.{Change, FollowsRow, HasEnded, IsReady, IsSeat, EndsRow, MayBeLent, NearsOrSpares, OnlyWrites, Record, RecordKey, Step, is_fault, operation_found, operation_key, row_of, store_of, world};
-ghost use Rattle.record_access.specs.Purposes.{Purpose, ToFind, ToInsert, ToWrite};
+ghost use Rattle.record_access.specs.Words.{Change, FollowsRow, HasEnded, IsReady, IsSeat, EndsRow, Look, MayBeLent, Moved, NearsOrSpares, OnlyWrites, Record, RecordKey, Step, is_fault, operation_found, operation_key, row_of, store_of, world};
+ghost use Rattle.record_access.specs.Purposes.{Purpose, ToFind, ToInsert, ToWrite, is_write};
 ghost use Rattle.record_access.specs.Accesses.{Allows, HasFound, Serves, access_answer, access_facts, access_left, access_locks, access_turn, begun, has_no_room};
-ghost use Rattle.record_access.specs.AccessSteps.{Faces, KeepsAccess, TellsOf};
+ghost use Rattle.record_access.specs.AccessSteps.{Faces, KeepsAccess, MakesAccess, TellsOf};
 ghost use Rattle.record_access.specs.Readings.{IsReplace, Takes};
 
 use crate::fitting::links_fit;
@@ -142,7 +142,8 @@ impl Access {
         }
     }
 
-    /// The record that a find has found at its key, or that there is none, once a page answered. Others tell none.
+    /// The record that a find has found at its key, or that there is none, once a page answered. Others
+    /// tell none.
     pub fn found(&self) -> Option<Option<Record<'_>>>
         ensures told { (found : Option Record) → HasFound self.now found → result ≡ Some found }
         ensures open { access_answer self.now ≡ None → result ≡ None }
@@ -160,17 +161,15 @@ impl Access {
         }
     }
 
-    /// Whether an insert has found no room for its record. At its end it has done so exactly where it wrote nothing.
+    /// Whether an insert has found no room for its record and has written nothing. At its end it has
+    /// done so exactly where it wrote nothing.
     pub fn has_no_room(&self) -> bool
         ensures full { result ≡ has_no_room self.now }
         ensures ended { (r : Record) → (found : Option Record) →
             Allows (ToInsert r) self.now found → Serves (ToInsert r) self.now →
             HasEnded self.now.operation → result ≡ not self.now.written }
     {
-        match self.operation.tried() {
-            Some(Tried::IsFull) => true,
-            Some(Tried::IsPut) | Some(Tried::IsThere) | None => false,
-        }
+        matches!(self.operation.tried(), Some(Tried::IsFull)) && !self.written
     }
 
     /// Whether its WriteRecord was made.
@@ -219,23 +218,45 @@ impl Access {
             TellsOf (K.of_key keys.now) result p found self.old self.new
             (world pool.old.images locks.old change) (world pool.new.images locks.new change) }
     {
-        let unanswered = self.operation.found().is_none();
+        self.make(pool, locks, keys, seat)
+    }
+
+    /// One step of its operation; where a page answers by it, that page is read.
+    fn make<D: PageDevice, K: PseudoKey>(
+        &mut self,
+        pool: &mut Pool<D>,
+        locks: &mut LockTable,
+        keys: &K,
+        seat: u8,
+    ) -> Progress<FileFault>
+        requires seat { IsSeat locks.old seat }
+        requires ready { IsReady pool.old }
+        requires row { EndsRow (access_locks self.old) 3 (row_of locks.old seat) }
+        ensures { MakesAccess (K.of_key keys.now) seat result self.old self.new
+            pool.old pool.new locks.old locks.new }
+    {
+        let answered = self.operation.found().is_some();
         let did = self
             .operation
             .step(pool, locks, keys, seat, &self.bytes[..self.len]);
-        match did {
-            Progress::Moved(Kind::WriteRecord) => self.written = true,
-            Progress::Moved(Kind::Look) if unanswered => {
-                if let Err(fault) = self.take(pool) {
-                    return Progress::Fault(fault);
-                }
-            }
-            _ => {}
+        if is_write(did) {
+            self.written = true;
+            return did;
         }
-        did
+        if answered {
+            return did;
+        }
+        if !is_look(did) {
+            return did;
+        }
+        match self.take(pool) {
+            Ok(()) => did,
+            Err(fault) => Progress::Fault(fault),
+        }
     }
 
-    /// Takes from the page that answered what the access is for, where one did. What does not suit it is refused.
+    /// Takes from the page that answered what the access is for, where one did. What does not suit it is
+    /// refused.
     fn take<D: PageDevice>(&mut self, pool: &mut Pool<D>) -> Result<(), FileFault>
         requires ready { IsReady pool.old }
         ensures { Takes result pool.old pool.new self.old self.new }
@@ -301,4 +322,19 @@ impl Access {
         self.len = bytes;
         Ok(())
     }
+}
+
+/// Whether a record was written.
+fn is_write(did: Progress<FileFault>) -> bool
+    ensures { result ≡ is_write did }
+{
+    matches!(did, Progress::Moved(Kind::WriteRecord))
+}
+
+/// Whether a page was looked at.
+fn is_look(did: Progress<FileFault>) -> bool
+    ensures looked { result ≡ true → did ≡ Moved Look }
+    ensures other { did ≡ Moved Look → result ≡ true }
+{
+    matches!(did, Progress::Moved(Kind::Look))
 }

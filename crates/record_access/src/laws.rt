@@ -2,8 +2,8 @@
 
 ghost use Rattle.record_access.specs.Beginnings.{Begins, HasFewSteps};
 
-/// An access that has just begun is for what it was made for, holds no lock, and may be begun on each record on which
-/// that can be done.
+/// An access that has just begun is for what it was made for, holds no lock, and is allowed on each
+/// record on which it can be begun.
 pub fn an_access_begins_right()
     ensures { Begins }
 {}

@@ -1,5 +1,5 @@
-//! One access to one record of queues: what stands at a key is found, or a record is inserted, replaced, relinked or
-//! deleted, in the records' own words.
+//! One access to one record of queues, in the records' own words: what stands at a key is found, or a
+//! record is inserted, replaced, relinked or deleted.
 
 #![tactic(auto)]
 

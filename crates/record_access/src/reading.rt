@@ -14,7 +14,8 @@ use file_pages::{FileFault, copy_value};
 use page_device::PageDevice;
 use queue_records::{Links, MAX_VALUE_BYTES, MESSAGE_BYTES, Record, relink};
 
-/// Copies the value of a key, of this length, from the bucket on a page. It spells a record of the key.
+/// Copies the value of a key, of this length, from the bucket on a page. It spells a record of that
+/// key.
 pub(crate) fn read_value<D: PageDevice>(
     pool: &mut Pool<D>,
     page: u32,
@@ -25,6 +26,7 @@ pub(crate) fn read_value<D: PageDevice>(
     requires ready { IsReady pool.old }
     ensures reads { OnlyReads (is_ok result) pool.old pool.new }
     ensures within { OnOk result (len ≤ MAX_VALUE_BYTES) }
+    ensures len { length room.new ≡ MAX_VALUE_BYTES }
     ensures ok { IsTrue pool.old.honest →
         OnOk result (value_on pool.old page key.now ≡ Some (take len room.new)) }
     ensures spelled { OnOk result ((r : Record) × Spells r key.now (take len room.new)) }
@@ -32,7 +34,11 @@ pub(crate) fn read_value<D: PageDevice>(
         value_on pool.old page key.now ≡ Some (value_of r) → len ≡ length (value_of r) →
         Spells r key.now (value_of r) → HasRisen pool.old.faults pool.new.faults }
 {
-    if copy_value(pool, page, key, room)? != Some(len) || len > MAX_VALUE_BYTES {
+    let found = copy_value(pool, page, key, room)?;
+    if found != Some(len) {
+        return Err(FileFault::Failed);
+    }
+    if len > MAX_VALUE_BYTES {
         return Err(FileFault::Failed);
     }
     match Record::decode(key, &room[..len]) {
@@ -41,7 +47,8 @@ pub(crate) fn read_value<D: PageDevice>(
     }
 }
 
-/// Copies the front of the value of a key from the bucket on a page, sets the links in it, and gives its length.
+/// Copies the front of the value of a key from the bucket on a page, sets the links in it, and gives
+/// its length.
 pub(crate) fn read_front<D: PageDevice>(
     pool: &mut Pool<D>,
     page: u32,

@@ -95,7 +95,7 @@ module _ (hash : RecordKey → ℕ) (seat : ℕ) (did : Progress FileFault) (poo
       ∙ sym (moves.new_names moves.before key) ∙ sym (ap (λ (xs : List Lock). kind_of xs (guard_of key)) row') in
       subst IsSome same there
 
-holds_still : (hash : RecordKey → ℕ) (seat : ℕ) (turn : Turn) (did : Progress FileFault) (old new : World) →
+pub holds_still : (hash : RecordKey → ℕ) (seat : ℕ) (turn : Turn) (did : Progress FileFault) (old new : World) →
     IsSoundWorld hash old → is_fault did ≡ false → (did ≡ Moved WriteRecord → ⊥) → TurnsAt hash turn did seat old new →
     KeepsContents old.store new.store
 holds_still hash seat turn (answers.Moved kind) old new sound fine other does =
@@ -115,7 +115,7 @@ stays_told hash seat turn did facts pool pool' locks locks' change old_locks new
           moves.fine other step.does key ∙ known.1,
     )
 
-one_changed : (hash : RecordKey → ℕ) (seat : ℕ) (turn : Turn) (did : Progress FileFault) (old new : World)
+pub one_changed : (hash : RecordKey → ℕ) (seat : ℕ) (turn : Turn) (did : Progress FileFault) (old new : World)
     (write : RecordWrite) → IsSoundWorld hash old → did ≡ Moved WriteRecord → turn.write ≡ Some write →
     TurnsAt hash turn did seat old new → ChangesRecord write old.store new.store
 one_changed hash seat turn did old new write sound is asked does =
