@@ -38,6 +38,13 @@ reads_left Absent = 1
 reads_left (Found e) = 0
 reads_left (Refused errno) = 0
 
+-- at most as many questions are still asked by a call that asks two more once its queue is found
+abbrev pub asks_of_sought : Sought → ℕ
+asks_of_sought Unread = 3
+asks_of_sought Absent = 1
+asks_of_sought (Found e) = 2
+asks_of_sought (Refused errno) = 0
+
 -- it was told whether the id was given out, and no queue has it
 abbrev pub IsRefused : Sought → Type 0
 IsRefused Unread = ⊥

@@ -8,14 +8,12 @@ use Rattle.queue_records.specs.Keys.{key_of_message, key_of_type}
 use Rattle.xsi_inquiry.specs.declared.decision.Decision.{Decision}
 use Rattle.xsi_inquiry.specs.declared.decision.Decision.TheVariants as decisions
 use Rattle.xsi_inquiry.specs.declared.inquiry.NotASystem.{NotASystem}
-use Rattle.xsi_inquiry.specs.declared.sought.Sought.{Sought}
-use Rattle.xsi_inquiry.specs.declared.sought.Sought.TheVariants as soughts
 use Rattle.xsi_inquiry.specs.declared.verdict.Verdict.{Verdict}
 use Rattle.xsi_inquiry.specs.declared.verdict.Verdict.TheVariants as verdicts
 use Rattle.xsi_inquiry.specs.declared.wanted.Wanted.{Wanted}
 use Rattle.xsi_inquiry.specs.declared.wanted.Wanted.TheVariants.{At}
 use Rattle.xsi_inquiry.specs.Deciding.{refuses}
-use Rattle.xsi_inquiry.specs.Seeking.{sought_next}
+use Rattle.xsi_inquiry.specs.Seeking.{asks_of_sought, sought_next}
 use Rattle.xsi_inquiry.specs.Writing.{Plan, nothing}
 use Rattle.xsi_receive.specs.declared.removal.Removal.{Removal}
 use Rattle.xsi_receive.specs.declared.stage.Stage.{Stage}
@@ -33,12 +31,6 @@ asked id (AtTypeOf e m) = Some (At (key_of_type id m.mtype))
 asked id (Taken r) = None
 
 -- at most as many questions are still asked: the Queue, a Message and a Type
-abbrev pub asks_of_sought : Sought → ℕ
-asks_of_sought soughts.Unread = 3
-asks_of_sought soughts.Absent = 1
-asks_of_sought (soughts.Found e) = 2
-asks_of_sought (soughts.Refused errno) = 0
-
 abbrev pub asks_left : Stage → ℕ
 asks_left (Seeking sought) = asks_of_sought sought
 asks_left (Refused errno) = 0

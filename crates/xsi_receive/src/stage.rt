@@ -7,9 +7,9 @@ ghost use Rattle.queue_records.specs.declared.message_entry.MessageEntry.{Messag
 ghost use Rattle.queue_records.specs.declared.record.Record.TheVariants as records;
 ghost use Rattle.queue_records.specs.declared.type_entry.TypeEntry.{TypeEntry};
 ghost use Rattle.xsi_inquiry.specs.Rooms.{Roomful};
-ghost use Rattle.xsi_inquiry.specs.Seeking.{IsEntryOf, Tells};
+ghost use Rattle.xsi_inquiry.specs.Seeking.{IsEntryOf, Tells, asks_of_sought};
 ghost use Rattle.xsi_inquiry.specs.Telling.{AsksGiven, AsksRecord, Gives, IsFiled, IsTold, IsToldGiven};
-ghost use Rattle.xsi_receive.specs.Asking.{asked, asks_left, asks_of_sought, is_long, put_off_at};
+ghost use Rattle.xsi_receive.specs.Asking.{asked, asks_left, is_long, put_off_at};
 ghost use Rattle.xsi_receive.specs.Knowing.{HasRoomFor, IsStage, KnowsAt, KnowsHead};
 
 use crate::head::MessageHead;

@@ -9,12 +9,10 @@ use Rattle.queue_records.specs.Spelling.{counter_key}
 use Rattle.xsi_inquiry.specs.declared.decision.Decision.{Decision}
 use Rattle.xsi_inquiry.specs.declared.decision.Decision.TheVariants.{Sweeps}
 use Rattle.xsi_inquiry.specs.declared.inquiry.NotASystem.{NotASystem}
-use Rattle.xsi_inquiry.specs.declared.sought.Sought.{Sought}
-use Rattle.xsi_inquiry.specs.declared.sought.Sought.TheVariants as soughts
 use Rattle.xsi_inquiry.specs.declared.wanted.Wanted.{Wanted}
 use Rattle.xsi_inquiry.specs.declared.wanted.Wanted.TheVariants.{At}
 use Rattle.xsi_inquiry.specs.Deciding.{refuses}
-use Rattle.xsi_inquiry.specs.Seeking.{sought_next}
+use Rattle.xsi_inquiry.specs.Seeking.{asks_of_sought, sought_next}
 use Rattle.xsi_inquiry.specs.Writing.{Plan, nothing}
 use Rattle.xsi_sweep.specs.declared.stage.Stage.{Stage}
 use Rattle.xsi_sweep.specs.declared.stage.Stage.TheVariants.{Seeking, Refused, Keyed, Counting, Removing}
@@ -29,12 +27,6 @@ asked id (Counting key queue) = Some (At counter_key)
 asked id (Removing r) = None
 
 -- at most as many questions are still asked: the Queue, the Queue again, and the Counter
-abbrev pub asks_of_sought : Sought → ℕ
-asks_of_sought soughts.Unread = 3
-asks_of_sought soughts.Absent = 1
-asks_of_sought (soughts.Found e) = 2
-asks_of_sought (soughts.Refused errno) = 0
-
 abbrev pub asks_left : Stage → ℕ
 asks_left (Seeking sought) = asks_of_sought sought
 asks_left (Refused errno) = 0

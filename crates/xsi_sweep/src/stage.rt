@@ -6,9 +6,9 @@ ghost use Rattle.queue_records.specs.declared.counter.Counter.{Counter};
 ghost use Rattle.queue_records.specs.declared.record.Record.TheVariants as records;
 ghost use Rattle.queue_model.specs.declared.caller.Caller.{Caller};
 ghost use Rattle.type_chains.specs.Entries.{counter_of};
-ghost use Rattle.xsi_inquiry.specs.Seeking.{Tells};
+ghost use Rattle.xsi_inquiry.specs.Seeking.{Tells, asks_of_sought};
 ghost use Rattle.xsi_inquiry.specs.Telling.{AsksGiven, AsksRecord, Gives, IsFiled, IsTold, IsToldGiven};
-ghost use Rattle.xsi_sweep.specs.Asking.{asked, asks_left, asks_of_sought, gone};
+ghost use Rattle.xsi_sweep.specs.Asking.{asked, asks_left, gone};
 ghost use Rattle.xsi_sweep.specs.Knowing.{KnowsAt, KnowsQueue};
 
 use crate::removal::Removal;
