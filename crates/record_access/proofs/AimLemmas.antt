@@ -1,5 +1,5 @@
 -- What an access is about stays by a step of its operation.
-use Rattle.std.proofs.Common.{◌≡◌, refl, sym, ap, ◌∙◌, subst, ℕ, Bool, true, false, List, length, inl, inr, ◌⊎◌, if◌then◌else◌, Option, Some, None, IsSome, IsTrue}
+use Rattle.std.proofs.Common.{◌≡◌, refl, sym, ap, ◌∙◌, subst, ℕ, Bool, true, false, List, length, Option, Some, None, IsSome, IsTrue}
 use Rattle.std.proofs.lemmas.Bool.{true≢false}
 use Rattle.std.specs.Option.{is_some}
 use Rattle.std.specs.Prelude.{unwrap_or}
@@ -7,10 +7,9 @@ use Rattle.step_rules.specs.declared.kind.Kind.TheVariants as kinds
 use Rattle.record_operation.specs.OperationSteps.{KeepsKind, KeepsOperation}
 use Rattle.record_operation.specs.declared.operation.RecordOperation.TheVariants as operations
 use Rattle.record_access.proofs.Names.{FileFault}
-use Rattle.record_access.specs.Words.{RecordKey, PoolState, Progress, Moved, Blocked, Fault, Ended, Look, WriteRecord, RecordOperation, found_of, operation_found, operation_key, Record, Write, Replace, Relink, Delete}
+use Rattle.record_access.specs.Words.{RecordKey, PoolState, Progress, Moved, Blocked, Fault, Ended, Look, WriteRecord, RecordOperation, found_of, operation_found, Record, Replace, Relink, Delete}
 use Rattle.record_access.specs.Purposes.{Purpose, ToFind, ToInsert, ToWrite, is_write}
 use Rattle.record_access.specs.Accesses.{AccessView, HasFound, IsOfKind, IsToldIn, Serves, access_answer, access_key, answer_in}
-use Rattle.record_access.specs.AccessSteps.{Rests}
 use Rattle.record_access.specs.Readings.{IsReplace}
 
 pub wrote_of : (did : Progress FileFault) → is_write did ≡ true → did ≡ Moved WriteRecord
@@ -80,7 +79,8 @@ module _ (bytes : ℕ) (did : Progress FileFault) (pool : PoolState) where
   -- a find that has its answer keeps it
   same_told : (o o' : RecordOperation) → KeepsKind bytes did pool o o' → IsSome (answer_in o) →
       answer_in o' ≡ answer_in o
-  same_told (operations.Find f) (operations.Find f') keeps some = ap (λ v. found_of (record f { search = v })) (keeps.rests some)
+  same_told (operations.Find f) (operations.Find f') keeps some =
+      ap (λ v. found_of (record f { search = v })) (keeps.rests some)
   same_told (operations.Find f) (operations.Insert i) keeps some = absurd keeps
   same_told (operations.Find f) (operations.Replace r) keeps some = absurd keeps
   same_told (operations.Find f) (operations.Delete d) keeps some = absurd keeps

@@ -2,15 +2,12 @@
 use Rattle.std.proofs.Common.{◌≡◌, refl, sym, ap, ◌∙◌, subst, ℕ, Bool, true, false, not, ◌&&◌, List, length, if◌then◌else◌, Option, Some, None, IsSome}
 use Rattle.std.proofs.lemmas.Bool.{true≢false}
 use Rattle.std.specs.Option.{option_map}
-use Rattle.step_rules.specs.Answering.{IsAnswerOf}
-use Rattle.record_file.specs.Machines.{Tells}
 use Rattle.record_insert.specs.SecondSteps.{IsSeenThere, SaysAt}
 use Rattle.record_access.proofs.Names.{FileFault}
-use Rattle.record_access.proofs.AimLemmas.{wrote_of}
 use Rattle.record_access.proofs.RecordLemmas.{front_stays, is_such, such_then}
-use Rattle.record_access.specs.Words.{RecordKey, pair, Store, contents, Progress, Moved, WriteRecord, World, HasNoRoom, Tried, IsPut, IsThere, IsFull, RecordOperation, operation_found, operation_key, operation_tried, Links, Record, HasSuch, relinked, value_of, Write, Replace, Relink, Delete}
-use Rattle.record_access.specs.Purposes.{Purpose, ToFind, ToInsert, ToWrite, CanBeOn, is_write, made}
-use Rattle.record_access.specs.Accesses.{AccessView, Allows, AllowsInsert, CameTo, IsFrontOf, IsPrepared, access_key, has_no_room, is_full}
+use Rattle.record_access.specs.Words.{RecordKey, pair, contents, Progress, Moved, WriteRecord, World, HasNoRoom, Tried, IsPut, IsThere, IsFull, RecordOperation, operation_found, operation_tried, Links, Record, HasSuch, relinked, value_of, Replace, Relink, Delete}
+use Rattle.record_access.specs.Purposes.{Purpose, ToFind, ToInsert, ToWrite, CanBeOn, made}
+use Rattle.record_access.specs.Accesses.{AccessView, Allows, CameTo, IsFrontOf, IsPrepared, is_full}
 
 -- what stands there behind a step that writes, or not
 abbrev pub left : Bool → Purpose → Option Record → Option Record

@@ -1,12 +1,12 @@
 -- A page that is a bucket is one of the pages from the root on.
-use Rattle.std.proofs.Common.{◌≡◌, refl, sym, ap, ◌∙◌, subst, ℕ, ◌<◌, ◌≤◌, true, false, List, length, slice_index_or, ◌⊎◌, inl, inr, arith}
+use Rattle.std.proofs.Common.{◌≡◌, refl, sym, ap, ◌∙◌, ℕ, ◌<◌, ◌≤◌, true, false, List, length, arith}
 use Rattle.std.proofs.lemmas.Bool.{ltb-true, true≢false}
 use Rattle.std.proofs.lemmas.Bool.Decides.{nat_tests}
 use Rattle.std.proofs.lemmas.List.{get_or_past}
 use Rattle.std.specs.Prelude.{Bool, nat_lt}
 use Rattle.bucket_page.specs.declared.page.PageKind.TheVariants as kinds
 use Rattle.directory.specs.declared.layout.TheConstants.{ROOT_PAGE}
-use Rattle.file_pages.specs.Files.{kind_on, listed, store_of}
+use Rattle.file_pages.specs.Files.{kind_on, store_of}
 use Rattle.file_pages.specs.Writes.{IsBucketThere}
 use Rattle.file_pages.proofs.StoreLemmas.{listed_at, pages_are}
 use Rattle.hash_file.specs.Store.{has_bucket, is_bucket, page_at}

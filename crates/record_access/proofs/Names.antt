@@ -2,7 +2,6 @@
 pub use Rattle.bucket_page.specs.Keys.{is_same}
 pub use Rattle.file_pages.specs.declared.fault.FileFault.{FileFault}
 pub use Rattle.hash_file.specs.Changes.{RecordWrite, key_of as key_written_at, value_after}
-pub use Rattle.hash_file.specs.Kept.{ChangesRecord}
 pub use Rattle.record_file.proofs.CallerLemmas.{holds_still, one_changed}
 pub use Rattle.record_operation.specs.Operations.{SuitsFile, operation_writes}
 pub use Rattle.record_operation.specs.OperationSteps.{MakesOperation}

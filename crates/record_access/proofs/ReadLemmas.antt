@@ -1,13 +1,13 @@
 -- What is copied of a value that stands on a page.
-use Rattle.std.proofs.Common.{◌≡◌, refl, sym, ap, ◌∙◌, subst, ℕ, ◌<◌, ◌≤◌, true, List, [], ◌++◌, length, take, drop, Option, Some, None, IsErr, IsTrue, arith}
-use Rattle.std.proofs.lemmas.List.{length-append, length-drop, length-take, take-append-drop, take-append-le, take_all, take_at}
+use Rattle.std.proofs.Common.{◌≡◌, sym, ap, ◌∙◌, subst, ℕ, ◌<◌, ◌≤◌, true, List, [], ◌++◌, length, take, drop, Option, Some, arith}
+use Rattle.std.proofs.lemmas.List.{length-append, length-take, take-append-drop, take-append-le, take_all, take_at}
 use Rattle.std.proofs.Common.{eqb}
 use Rattle.std.proofs.lemmas.Bool.Decides.{nat_tests}
-use Rattle.std.specs.Option.{option_eq, option_map}
+use Rattle.std.specs.Option.{option_eq}
 use Rattle.std.specs.Prelude.{unwrap_or}
 use Rattle.directory.specs.declared.layout.TheConstants.{ROOT_PAGE}
 use Rattle.fields.proofs.NumberLaws.{length-eight, length-four}
-use Rattle.file_pages.specs.Reads.{IsCopied, fronted}
+use Rattle.file_pages.specs.Reads.{fronted}
 use Rattle.file_pages.proofs.StoreLemmas.{pages_are}
 use Rattle.hash_file.specs.Store.{is_bucket, page_at}
 use Rattle.queue_records.proofs.Lengths.{length-counter, length-queue}
@@ -16,7 +16,7 @@ use Rattle.queue_records.specs.declared.layout.TheConstants.{MAX_VALUE_BYTES, ME
 use Rattle.queue_records.specs.declared.links.Links.TheVariants as kinds
 use Rattle.queue_records.specs.declared.record.Record.TheVariants as records
 use Rattle.queue_records.specs.Range.{IsInRange}
-use Rattle.record_access.specs.Words.{RecordKey, PoolState, store_of, Links, Record, HasSuch, linked_bytes, relinked, value_of, with_front}
+use Rattle.record_access.specs.Words.{PoolState, store_of, Links, Record, HasSuch, linked_bytes, relinked, value_of}
 use Rattle.record_access.specs.Accesses.{IsFrontOf}
 use Rattle.record_access.specs.Readings.{SeesBucket}
 

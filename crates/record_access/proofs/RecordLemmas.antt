@@ -1,16 +1,11 @@
 -- Records under new links, and the values that stand at keys.
-use Rattle.std.proofs.Common.{◌≡◌, refl, sym, ap, ◌∙◌, subst, ℕ, ◌≤◌, List, [], ◌++◌, length, drop, Option, Some, None, IfSome, FitsSigned, arith}
+use Rattle.std.proofs.Common.{◌≡◌, refl, sym, ap, ◌∙◌, ℕ, List, ◌++◌, length, drop, Option, Some, None, IfSome, arith}
 use Rattle.std.proofs.lemmas.List.{drop_at, length-append}
-use Rattle.std.specs.Int.{w64}
 use Rattle.std.specs.Option.{option_map}
 use Rattle.queue_records.specs.declared.links.Link.{Link}
 use Rattle.queue_records.specs.declared.links.Link.TheVariants.{Stays, Ends, LeadsTo}
 use Rattle.queue_records.specs.declared.links.Links.TheVariants as kinds
-use Rattle.queue_records.specs.declared.links.MessageLinks.{MessageLinks}
-use Rattle.queue_records.specs.declared.links.TypeLinks.{TypeLinks}
-use Rattle.queue_records.specs.declared.message_entry.MessageEntry.{MessageEntry}
 use Rattle.queue_records.specs.declared.record.Record.TheVariants as records
-use Rattle.queue_records.specs.declared.type_entry.TypeEntry.{TypeEntry}
 use Rattle.queue_records.specs.Relinking.{IfLeads, linked, with_message_links, with_type_links}
 use Rattle.std.specs.Prelude.{unwrap_or}
 use Rattle.record_access.specs.Words.{RecordKey, Links, Record, Spells, AreLinksInRange, HasSuch, relinked, value_of, with_front}
@@ -76,7 +71,8 @@ front_stays links bytes r such front =
     let parts = length-append bytes rest in
     record {
       within = omega (arith, long, parts);
-      made = ap (with_front bytes) (sym front.made) ∙ ap (λ (xs : List ℕ). bytes ++ xs) (drop_at bytes rest (length bytes) refl)
+      made = ap (with_front bytes) (sym front.made)
+          ∙ ap (λ (xs : List ℕ). bytes ++ xs) (drop_at bytes rest (length bytes) refl)
           ∙ front.made ∙ sym (ap value_of (relinked_twice links r such));
     }
 

@@ -1,18 +1,18 @@
 -- What stands at the key behind a step of the operation.
-use Rattle.std.proofs.Common.{◌≡◌, refl, sym, ap, ◌∙◌, subst, ℕ, ◌==◌, ◌&&◌, Bool, true, false, List, [], ◌++◌, length, drop, if◌then◌else◌, Option, Some, None, IfSome, IsSome, arith}
+use Rattle.std.proofs.Common.{◌≡◌, refl, sym, ap, ◌∙◌, subst, ℕ, Bool, true, List, [], ◌++◌, length, if◌then◌else◌, Option, Some, None, IfSome, IsSome, arith}
 use Rattle.std.proofs.lemmas.Bool.Decides.{nat_tests}
 use Rattle.std.proofs.lemmas.List.{append-nil, drop_all}
 use Rattle.std.specs.Option.{option_map}
 use Rattle.std.specs.Prelude.{unwrap_or}
 use Rattle.hash_file.specs.Changes as changes
 use Rattle.record_operation.specs.declared.operation.RecordOperation.TheVariants as operations
-use Rattle.record_access.proofs.Names.{ChangesRecord, FileFault, RecordWrite, TurnsAt, WritesAsked, is_same, key_written_at, one_changed, operation_writes, value_after, value_length}
+use Rattle.record_access.proofs.Names.{FileFault, RecordWrite, TurnsAt, WritesAsked, is_same, key_written_at, one_changed, operation_writes, value_after}
 use Rattle.record_access.proofs.RecordLemmas.{is_such, relinked_spelled}
 use Rattle.record_access.proofs.SuitLemmas.{IsReplacing, as_long, is_replace}
-use Rattle.record_access.specs.Words.{RecordKey, pair, Store, contents, with_front, Progress, Moved, WriteRecord, World, Turn, IsSoundWorld, RecordOperation, operation_found, operation_key, operation_turn, Links, Record, Spells, HasSuch, relinked, value_of, Write, Replace, Relink, Delete}
+use Rattle.record_access.specs.Words.{RecordKey, pair, Store, contents, with_front, Progress, Moved, WriteRecord, World, Turn, IsSoundWorld, RecordOperation, operation_found, operation_key, operation_turn, Record, Spells, relinked, value_of, Replace, Relink, Delete}
 use Rattle.record_access.specs.Purposes.{Purpose, ToFind, ToInsert, ToWrite, CanBeOn, StandsAt, made}
 use Rattle.record_access.specs.Readings.{IsReplace}
-use Rattle.record_access.specs.Accesses.{AccessView, Allows, IsFrontOf, IsOfKind, IsPrepared, Serves, access_key, access_turn}
+use Rattle.record_access.specs.Accesses.{AccessView, Allows, IsFrontOf, IsOfKind, IsPrepared, Serves, access_key}
 
 same_key : (k : RecordKey) → is_same k k ≡ true
 same_key k = grind (arith, nat_tests)
@@ -35,7 +35,8 @@ module _ (hash : RecordKey → ℕ) (seat : ℕ) (did : Progress FileFault) (w w
       (same_key (key_written_at write))
 
   -- what its WriteRecord leaves
-  pub written_at : (o : RecordOperation) (bytes : List ℕ) → TurnsAt hash (operation_turn o bytes w.store) did seat w w' →
+  pub written_at : (o : RecordOperation) (bytes : List ℕ) →
+      TurnsAt hash (operation_turn o bytes w.store) did seat w w' →
       contents w'.store (operation_key o) ≡ operation_writes o bytes w.store
   written_at (operations.Find f) bytes does =
       absurd (writes_none hash seat (operation_turn (operations.Find f) bytes w.store) did w w' refl wrote does)

@@ -1,5 +1,5 @@
 -- What a step of the operation is of the access, whose page is not read by it.
-use Rattle.std.proofs.Common.{◌≡◌, refl, sym, ap, ◌∙◌, subst, ℕ, Bool, true, false, List, length, inl, inr, ◌⊎◌, Option, Some, None, IsSome, IsTrue}
+use Rattle.std.proofs.Common.{◌≡◌, refl, sym, ap, ◌∙◌, subst, ℕ, Bool, true, false, length, inl, inr, Option, None, IsSome}
 use Rattle.std.proofs.lemmas.Bool.{true≢false}
 use Rattle.record_operation.specs.OperationSteps.{TellsOf as TellsOfOperation}
 use Rattle.record_file.specs.Machines.{FindsAt}
@@ -9,10 +9,10 @@ use Rattle.record_access.proofs.AllowLemmas.{allows_on, came_on, lacks_on, left,
 use Rattle.record_access.proofs.StandLemmas.{finds_none, left_behind, written_at}
 use Rattle.record_access.proofs.SuitLemmas.{IsReplacing, is_replace, suits_file}
 use Rattle.stale_search.specs.Steps.{Stays}
-use Rattle.record_access.specs.Words.{RecordKey, pair, PoolState, Table, Change, Store, contents, store_of, HasNoRoom, Progress, Moved, Blocked, Fault, Ended, Look, WriteRecord, World, is_fault, Step, world, NearsOrSpares, RecordOperation, operation_facts, operation_found, operation_key, operation_tried, Links, Record, Write, Relink, value_of}
-use Rattle.record_access.specs.Purposes.{Purpose, ToFind, ToInsert, ToWrite, StandsAt, is_write, left_by}
-use Rattle.record_access.specs.Accesses.{AccessView, Allows, IsOfKind, Serves, access_facts, access_key, access_left, access_turn, has_no_room}
-use Rattle.record_access.specs.AccessSteps.{Faces, KeepsAccess, MakesAccess, Rests, SuitsFound, TellsOf}
+use Rattle.record_access.specs.Words.{RecordKey, pair, PoolState, Table, Change, contents, store_of, HasNoRoom, Progress, Moved, Blocked, Fault, Ended, Look, World, is_fault, Step, world, NearsOrSpares, RecordOperation, operation_facts, operation_found, operation_key, operation_tried, Links, Record, Relink}
+use Rattle.record_access.specs.Purposes.{Purpose, ToWrite, StandsAt, is_write, left_by}
+use Rattle.record_access.specs.Accesses.{AccessView, IsOfKind, access_key, access_left, access_turn, has_no_room}
+use Rattle.record_access.specs.AccessSteps.{Faces, MakesAccess, Rests, SuitsFound, TellsOf}
 
 module _ (hash : RecordKey → ℕ) (seat : ℕ) (did : Progress FileFault) (a : AccessView) (o' : RecordOperation)
     (pool pool' : PoolState) (locks locks' : Table)
@@ -38,7 +38,8 @@ module _ (hash : RecordKey → ℕ) (seat : ℕ) (did : Progress FileFault) (a :
       stands_by : (b : Bool) → is_write did ≡ b → StandsAt (store_of pool'.images) (access_key a) (left b p found)
       stands_by false unwritten = record {
         holds = holds_still hash seat (access_turn a (store_of pool.images)) did (world pool.images locks change)
-            (world pool'.images locks' stepped.after) f.sees.sound fine (wrote_not did unwritten) stepped.does (access_key a)
+            (world pool'.images locks' stepped.after) f.sees.sound fine (wrote_not did unwritten) stepped.does
+            (access_key a)
             ∙ f.stands.holds;
         spelled = f.stands.spelled;
       }
@@ -127,11 +128,11 @@ module _ (hash : RecordKey → ℕ) (seat : ℕ) (did : Progress FileFault) (a :
     }
 
   -- it has written
-  pub makes_written : is_write did ≡ true → MakesAccess hash seat did a (behind did pool a o' true op.aim) pool pool' locks
-      locks'
+  pub makes_written : is_write did ≡ true → MakesAccess hash seat did a (behind did pool a o' true op.aim) pool pool'
+      locks locks'
   makes_written written =
-      subst (λ (b : Bool). MakesAccess hash seat did a (behind did pool a o' (then_written b a.written) op.aim) pool pool'
-      locks locks') written
+      subst (λ (b : Bool). MakesAccess hash seat did a (behind did pool a o' (then_written b a.written) op.aim) pool
+      pool' locks locks') written
       (makes_on (λ looked none. absurd (true≢false (sym written ∙ ap is_write looked))))
 
   -- it has not written, nor did a page answer
@@ -139,5 +140,5 @@ module _ (hash : RecordKey → ℕ) (seat : ℕ) (did : Progress FileFault) (a :
       (did ≡ Moved Look → operation_found a.operation ≡ None → operation_found o' ≡ None) →
       MakesAccess hash seat did a (behind did pool a o' a.written op.aim) pool pool' locks locks'
   makes_other unwritten quiet =
-      subst (λ (b : Bool). MakesAccess hash seat did a (behind did pool a o' (then_written b a.written) op.aim) pool pool'
-      locks locks') unwritten (makes_on quiet)
+      subst (λ (b : Bool). MakesAccess hash seat did a (behind did pool a o' (then_written b a.written) op.aim) pool
+      pool' locks locks') unwritten (makes_on quiet)

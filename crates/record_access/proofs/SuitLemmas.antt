@@ -1,11 +1,10 @@
 -- The bytes that are lent suit what stands at the key.
-use Rattle.std.proofs.Common.{◌≡◌, refl, sym, ap, ◌∙◌, subst, ℕ, ◌≤◌, List, [], length, Option, Some, None, arith}
+use Rattle.std.proofs.Common.{◌≡◌, refl, sym, ap, ◌∙◌, ℕ, ◌≤◌, List, length, Option, Some, None, arith}
 use Rattle.std.specs.Prelude.{⊤}
 use Rattle.std.specs.Option.{option_map}
 use Rattle.record_operation.specs.declared.operation.RecordOperation.TheVariants as operations
 use Rattle.record_access.proofs.Names.{SuitsFile, value_length}
-use Rattle.record_access.proofs.RecordLemmas.{is_such}
-use Rattle.record_access.specs.Words.{RecordKey, Store, contents, RecordOperation, operation_found, operation_key, Links, Record, value_of, Write, Replace, Relink, Delete, HasSuch}
+use Rattle.record_access.specs.Words.{RecordKey, Store, contents, RecordOperation, operation_found, operation_key, Links, Record, value_of, Replace, Relink, Delete}
 use Rattle.record_access.specs.Purposes.{Purpose, ToFind, ToInsert, ToWrite, CanBeOn, StandsAt}
 use Rattle.record_operation.specs.Words.{ReplaceView}
 use Rattle.record_access.specs.Accesses.{AccessView, Allows, IsOfKind, IsPrepared, Serves, access_key}

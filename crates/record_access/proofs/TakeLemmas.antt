@@ -1,10 +1,8 @@
 -- What an access takes from the page that answered, behind the Look of its operation.
-use Rattle.std.proofs.Common.{◌≡◌, refl, sym, ap, ◌∙◌, subst, ℕ, ◌+◌, ◌<◌, ◌≤◌, Bool, true, false, not, ◌&&◌, List, length, inl, inr, ◌⊎◌, Option, Some, None, IsSome, IsTrue, IsOk, IsErr, Result, Ok, Err, is_ok, if◌then◌else◌, arith}
+use Rattle.std.proofs.Common.{◌≡◌, refl, sym, ap, ◌∙◌, subst, ℕ, ◌<◌, Bool, true, false, not, ◌&&◌, List, length, inl, inr, ◌⊎◌, Option, Some, None, IsTrue, IsOk, IsErr, Result, Ok, Err, is_ok, if◌then◌else◌, arith}
 use Rattle.std.proofs.lemmas.Bool.{true≢false}
 use Rattle.std.specs.Option.{option_map}
 use Rattle.bucket_page.specs.Records.{lookup}
-use Rattle.file_pages.specs.Reads.{OnlyReads}
-use Rattle.file_pages.specs.Writes.{IsBucketThere}
 use Rattle.file_pages.proofs.ReadLemmas.{risen_after}
 use Rattle.hash_file.specs.Store.{has_bucket, records_at}
 use Rattle.page_device.specs.Device.{HasRisen}
@@ -20,14 +18,15 @@ use Rattle.record_access.proofs.AimLemmas.{behind, none_told, same_parts, serves
 use Rattle.record_access.proofs.AllowLemmas.{then_written}
 use Rattle.record_access.proofs.BucketLemmas.{bucket_there}
 use Rattle.record_access.proofs.StepLemmas.{lacks, nears, stands, stepped, tells, told}
-use Rattle.record_access.specs.Words.{RecordKey, pair, PoolState, Table, Change, Store, Lock, contents, store_of, HasNoRoom, OnlyWrites, Progress, Moved, Fault, Ended, Look, WriteRecord, World, is_fault, Step, world, FollowsRow, NearsOrSpares, RecordOperation, HasEnded, operation_facts, operation_found, operation_key, operation_left, operation_locks, operation_pseudokey, operation_tried, Known, Turn, Record, Write, Replace, Relink, Delete, value_of}
-use Rattle.record_access.specs.Purposes.{Purpose, ToFind, ToInsert, ToWrite, StandsAt, is_write, left_by, made}
-use Rattle.record_access.specs.Accesses.{AccessView, Allows, HasFound, IsOfKind, Serves, access_answer, access_facts, access_key, access_left, access_turn, answer_in, has_no_room, is_full}
-use Rattle.record_access.specs.AccessSteps.{Faces, FindsRecord, KeepsAccess, MakesAccess, Rests, SuitsFound, TellsOf}
-use Rattle.record_access.specs.Readings.{IsReader, IsShown, IsTold, SeesBucket, Takes, TakesWell, WasAllowed, value_on}
+use Rattle.record_access.specs.Words.{RecordKey, pair, PoolState, Table, Change, Store, store_of, HasNoRoom, Progress, Moved, Fault, Ended, Look, WriteRecord, World, is_fault, Step, world, FollowsRow, NearsOrSpares, RecordOperation, HasEnded, operation_facts, operation_found, operation_key, operation_left, operation_locks, operation_pseudokey, operation_tried, Known, Turn, Record, Replace, Relink, Delete}
+use Rattle.record_access.specs.Purposes.{Purpose, ToFind, ToInsert, ToWrite, is_write, left_by, made}
+use Rattle.record_access.specs.Accesses.{AccessView, Allows, IsOfKind, Serves, access_key, access_left, access_turn, answer_in, has_no_room, is_full}
+use Rattle.record_access.specs.AccessSteps.{Faces, FindsRecord, MakesAccess, Rests, TellsOf}
+use Rattle.record_access.specs.Readings.{IsReader, IsShown, IsTold, Takes, TakesWell, WasAllowed, value_on}
 
 -- of others than finds no answer is kept
-answers_none : (p : Purpose) (o : RecordOperation) → IsOfKind p o → (answer_in o ≡ None) ⊎ ((key : RecordKey) × (p ≡ ToFind key))
+answers_none : (p : Purpose) (o : RecordOperation) → IsOfKind p o →
+    (answer_in o ≡ None) ⊎ ((key : RecordKey) × (p ≡ ToFind key))
 answers_none (ToFind key) o kind = inr (key, refl)
 answers_none (ToInsert r) (operations.Find f) kind = absurd kind
 answers_none (ToInsert r) (operations.Insert i) kind = inl refl
@@ -152,7 +151,8 @@ module _ {X : Type 0} (hash : RecordKey → ℕ) (seat : ℕ) (did : Progress Fi
         let parts = same_parts l.page page l.found len (sym l.is ∙ at) in
         let same_page = parts.0 in
         let same_len = parts.1 in
-        let here : value_on pool' page (access_key a) ≡ lookup (access_key a) (records_at (store_of pool.images) l.page) =
+        let here : value_on pool' page (access_key a)
+        ≡ lookup (access_key a) (records_at (store_of pool.images) l.page) =
         ap (λ (s : Store). lookup (access_key a) (records_at s page)) same_store
         ∙ ap (λ (n : ℕ). lookup (access_key a) (records_at (store_of pool.images) n)) (sym same_page) in
         subst (λ (k : RecordKey). IsShown page len pool' k found) (sym op.aim.key)
@@ -298,8 +298,8 @@ module _ {X : Type 0} (hash : RecordKey → ℕ) (seat : ℕ) (did : Progress Fi
         let images = images_on f.sees.honest in
         subst (λ (o : RecordOperation). Step hash seat (access_turn a (store_of pool.images)) did (operation_facts o)
         pool pool'' locks locks' change) (sym same_op)
-        (step_on hash seat (access_turn a (store_of pool.images)) did (operation_facts o') pool pool' pool'' locks locks'
-        change images (t.reads.file (honest_on f.sees.honest) (subst IsTrue (sym well) refl) s.file) s);
+        (step_on hash seat (access_turn a (store_of pool.images)) did (operation_facts o') pool pool' pool'' locks
+        locks' change images (t.reads.file (honest_on f.sees.honest) (subst IsTrue (sym well) refl) s.file) s);
     answer = λ p found change f fine'.
         subst (λ (images : List (List ℕ)). TellsOf hash did p found a new (world pool.images locks change)
         (world images locks' change)) (sym (images_on f.sees.honest)) (tells_new p found change f ok);

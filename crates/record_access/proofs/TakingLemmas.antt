@@ -1,5 +1,5 @@
 -- What a find and a relink take from the page that answered.
-use Rattle.std.proofs.Common.{◌≡◌, refl, sym, ap, ◌∙◌, subst, ℕ, ◌<◌, ◌≤◌, Bool, true, false, List, length, Option, Some, None, IfSome, IsSome, IsTrue, IsOk, IsErr, Result, Ok, Err, arith}
+use Rattle.std.proofs.Common.{◌≡◌, refl, sym, ap, ◌∙◌, subst, ℕ, ◌<◌, ◌≤◌, Bool, true, false, List, length, Option, Some, None, IfSome, IsTrue, Ok, Err, arith}
 use Rattle.std.specs.Option.{option_map}
 use Rattle.file_pages.specs.Reads.{OnlyReads}
 use Rattle.page_device.specs.Device.{HasRisen}
@@ -10,11 +10,11 @@ use Rattle.record_access.proofs.AimLemmas.{same_parts}
 use Rattle.record_access.proofs.ReadLemmas.{some_of}
 use Rattle.record_access.proofs.RecordLemmas.{is_such}
 use Rattle.record_access.proofs.SuitLemmas.{value_is_of}
-use Rattle.record_access.specs.Words.{RecordKey, PoolState, IsReady, RecordOperation, operation_found, operation_key, Links, Record, Spells, HasSuch, linked_bytes, Write, Replace, Relink, Delete, value_of}
+use Rattle.record_access.specs.Words.{RecordKey, PoolState, IsReady, RecordOperation, operation_found, operation_key, Links, Record, Spells, HasSuch, linked_bytes, Replace, Relink, Delete, value_of}
 use Rattle.record_access.specs.Purposes.{Purpose, ToFind, ToInsert, ToWrite}
-use Rattle.record_access.specs.Accesses.{AccessView, Allows, HasFound, HasValue, IsFrontOf, IsOfKind, IsPrepared, IsToldIn, Serves, access_key, answer_in, links_of}
-use Rattle.record_access.specs.AccessSteps.{SuitsAnswer, SuitsFound, SuitsLength}
-use Rattle.record_access.specs.Readings.{IsReader, IsReplace, IsShown, IsTold, SeesBucket, Takes, TakesWell, WasAllowed, value_on}
+use Rattle.record_access.specs.Accesses.{AccessView, Allows, HasFound, HasValue, IsFrontOf, IsOfKind, IsPrepared, IsToldIn, Serves, answer_in, links_of}
+use Rattle.record_access.specs.AccessSteps.{SuitsAnswer, SuitsFound}
+use Rattle.record_access.specs.Readings.{IsReader, IsReplace, IsTold, SeesBucket, Takes, WasAllowed, value_on}
 
 -- ---- a find
 

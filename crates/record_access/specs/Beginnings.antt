@@ -1,8 +1,8 @@
 -- What is so of an access that has just begun, and how many steps one has left.
 use Rattle.std.specs.Prelude.{ℕ, ◌≡◌, ◌≤◌, false, List, [], Option}
 use Rattle.record_access.specs.Words.{RecordKey, PoolState, Table, Lock, Change, store_of, Sees, HasEnded, MOST_STEPS, Record}
-use Rattle.record_access.specs.Purposes.{CanBegin, KeepsLimits, Purpose, aimed_at}
-use Rattle.record_access.specs.Accesses.{AccessView, Allows, Serves, access_facts, access_key, access_left, access_locks, access_pseudokey, begun, has_no_room}
+use Rattle.record_access.specs.Purposes.{CanBegin, KeepsLimits, Purpose}
+use Rattle.record_access.specs.Accesses.{AccessView, Allows, Serves, access_facts, access_left, access_locks, access_pseudokey, begun, has_no_room}
 
 -- it holds and knows nothing of the file, and has written nothing
 pub record IsAtBeginning (p : Purpose) (k : ℕ) (a : AccessView) : Type 0 where

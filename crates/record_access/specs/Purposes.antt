@@ -1,6 +1,6 @@
 -- What an access is for: a record is found, inserted, or written.
 -- docs/STEPS.md, "What a call reads", "What a call writes".
-use Rattle.std.specs.Prelude.{ℕ, ◌≡◌, Bool, true, false, List, Option, Some, None, IfSome, FitsSigned, if◌then◌else◌, ⊤}
+use Rattle.std.specs.Prelude.{◌≡◌, Bool, true, false, Option, Some, None, IfSome, FitsSigned, if◌then◌else◌, ⊤}
 use Rattle.std.specs.Int.{w64}
 use Rattle.std.specs.Option.{option_map}
 use Rattle.queue_records.specs.declared.links.Links.TheVariants as links

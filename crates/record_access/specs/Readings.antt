@@ -1,5 +1,5 @@
 -- What is read of the page that answered, and what an access takes of it.
-use Rattle.std.specs.Prelude.{ℕ, ◌≡◌, Bool, false, List, length, Option, Some, None, IfSome, IsSome, IsTrue, IsOk, Result, Ok, Err, is_ok, ⊤}
+use Rattle.std.specs.Prelude.{ℕ, ◌≡◌, false, List, length, Option, Some, None, IfSome, IsSome, IsTrue, IsOk, Result, Ok, Err, is_ok, ⊤}
 use Rattle.std.specs.Option.{option_map}
 use Rattle.bucket_page.specs.Records.{lookup}
 use Rattle.page_device.specs.Device.{HasRisen}

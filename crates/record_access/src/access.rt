@@ -1,6 +1,6 @@
 //! The access.
 
-ghost use Rattle.std.specs.Prelude.{◌≡◌, ◌≤◌, ◌↔◌, ℕ, List, Option, None, Some, not, true, false, length};
+ghost use Rattle.std.specs.Prelude.{◌≡◌, ◌≤◌, ◌↔◌, Option, None, Some, not, true, false, length};
 ghost use Rattle.queue_records.specs.declared.layout.TheConstants.{MAX_VALUE_BYTES};
 ghost use Rattle.queue_records.specs.Range.{IsInRange};
 ghost use Rattle.xsi_inquiry.specs.Writing.{HasRange};
@@ -142,8 +142,8 @@ impl Access {
         }
     }
 
-    /// The record that a find has found at its key, or that there is none, once a page answered. Others
-    /// tell none.
+    /// The record that a find has found at its key, or that there is none, once a page answered.
+    /// Others tell none.
     pub fn found(&self) -> Option<Option<Record<'_>>>
         ensures told { (found : Option Record) → HasFound self.now found → result ≡ Some found }
         ensures open { access_answer self.now ≡ None → result ≡ None }
@@ -161,8 +161,8 @@ impl Access {
         }
     }
 
-    /// Whether an insert has found no room for its record and has written nothing. At its end it has
-    /// done so exactly where it wrote nothing.
+    /// Whether an insert has found no room for its record and has written nothing. At its end it
+    /// has done so exactly where it wrote nothing.
     pub fn has_no_room(&self) -> bool
         ensures full { result ≡ has_no_room self.now }
         ensures ended { (r : Record) → (found : Option Record) →
@@ -255,8 +255,8 @@ impl Access {
         }
     }
 
-    /// Takes from the page that answered what the access is for, where one did. What does not suit it is
-    /// refused.
+    /// Takes from the page that answered what the access is for, where one did. What does not suit
+    /// it is refused.
     fn take<D: PageDevice>(&mut self, pool: &mut Pool<D>) -> Result<(), FileFault>
         requires ready { IsReady pool.old }
         ensures { Takes result pool.old pool.new self.old self.new }

@@ -1,5 +1,5 @@
-//! One access to one record of queues, in the records' own words: what stands at a key is found, or a
-//! record is inserted, replaced, relinked or deleted.
+//! One access to one record of queues, in the records' own words: what stands at a key is found, or
+//! a record is inserted, replaced, relinked or deleted.
 
 #![tactic(auto)]
 

@@ -47,8 +47,8 @@ pub(crate) fn read_value<D: PageDevice>(
     }
 }
 
-/// Copies the front of the value of a key from the bucket on a page, sets the links in it, and gives
-/// its length.
+/// Copies the front of the value of a key from the bucket on a page, sets the links in it, and
+/// gives its length.
 pub(crate) fn read_front<D: PageDevice>(
     pool: &mut Pool<D>,
     page: u32,

@@ -1,5 +1,5 @@
 -- A value that spells a record of the key is copied whole.
-use Rattle.std.proofs.Common.{◌≡◌, refl, sym, ap, ◌∙◌, subst, not, length, List, ℕ, Some, arith}
+use Rattle.std.proofs.Common.{refl, sym, ap, ◌∙◌, subst, not, length, List, ℕ, Some, arith}
 use Rattle.std.proofs.lemmas.Bool.{true≢false}
 use Rattle.std.specs.Option.{option_map}
 use Rattle.record_access.specs.Words.{Spells}

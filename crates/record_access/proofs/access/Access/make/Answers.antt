@@ -1,5 +1,5 @@
 -- A step of the operation is one of the access, and where a page answered by it that page is read.
-use Rattle.std.proofs.Common.{◌≡◌, refl, sym, ap, ◌∙◌, true, false, take, None, Err, is_ok, is_err, ℕ, List, length}
+use Rattle.std.proofs.Common.{◌≡◌, sym, ap, ◌∙◌, true, false, take, is_ok, is_err}
 use Rattle.std.specs.Option.{is_some}
 use Rattle.std.proofs.lemmas.Bool.{true≢false}
 use Rattle.record_access.proofs.AimLemmas.{none_of}

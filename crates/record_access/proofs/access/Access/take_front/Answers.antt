@@ -1,5 +1,5 @@
 -- A value that has not the front that links stand in is refused.
-use Rattle.std.proofs.Common.{◌≡◌, refl, sym, subst, Option, Some, Err, arith}
+use Rattle.std.proofs.Common.{sym, subst, Option, Err, arith}
 use Rattle.file_pages.specs.declared.fault.FileFault.TheVariants.{Failed}
 use Rattle.record_access.proofs.TakingLemmas.{front_fails, too_short, unread}
 use Rattle.record_access.specs.Words.{Links}
