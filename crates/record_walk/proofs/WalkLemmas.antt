@@ -80,7 +80,8 @@ module _ (held : RecordKey → Option (List ℕ)) (q : Queue) (has : HasQueue he
               ∙ sym (take-suc q.messages i d there.0) ∙ ap (λ n. take n q.messages) (sym longer);
           next_is =
               ap (λ (l : Linked). l.next) is
-              ∙ ap (λ n. slice_get (serials q.messages) (suc n)) (place_is q.messages i d has.lawful.serials_ascend there.0)
+              ∙ ap (λ n. slice_get (serials q.messages) (suc n))
+              (place_is q.messages i d has.lawful.serials_ascend there.0)
               ∙ ap (slice_get (serials q.messages)) (sym longer);
         }
 

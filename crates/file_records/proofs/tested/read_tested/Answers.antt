@@ -7,4 +7,5 @@ use Rattle.file_records.proofs.tested.read_tested.Goals as goal
 
 pub returns-clause-ok : goal.returns-clause-ok
 returns-clause-ok c = λ bucket read.
-    c.tested_in.ensures.value ∙ ap tested_in c.split_at.ensures.front ∙ tested_again (payload_of c.args.page.now) bucket read
+    c.tested_in.ensures.value ∙ ap tested_in c.split_at.ensures.front
+    ∙ tested_again (payload_of c.args.page.now) bucket read

@@ -56,6 +56,7 @@ returns-clause-ok g c = λ is.
           (All-map (Holds (g.F.Records.held c.args.file.now)) (λ (t : ℤ). records.Type (type_entry q t))
           c.args.kinds.now
           (each_end (λ (t : ℤ). Holds (g.F.Records.held c.args.file.now) (records.Type (type_entry q t)))
-          c.args.kinds.now c.loop-place.place (let e = c.loop-place-test.false in omega (arith, e)) (c.loop-place.invariant.stand is))),
+          c.args.kinds.now c.loop-place.place
+          (let e = c.loop-place-test.false in omega (arith, e)) (c.loop-place.invariant.stand is))),
       λ all. refl,
     )
