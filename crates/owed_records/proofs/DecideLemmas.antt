@@ -153,7 +153,8 @@ sweeps_owe c call held s sweep p is own = record {
       ∙ unswept_there key none (is_swept sweep.id key) refl;
 }
   where
-    leads : (key : RecordKey) → written (writes_of p) (without_swept sweep.id (record_of s)) key ≡ record_of is.after key
+    leads : (key : RecordKey) →
+        written (writes_of p) (without_swept sweep.id (record_of s)) key ≡ record_of is.after key
     leads key =
         written_local (writes_of p) (without_swept sweep.id (record_of s))
         (swept sweep.id (length is.queue.messages) s) key (none_left sweep.id s is.queue key is.alive)

@@ -115,8 +115,8 @@ module _ (hash : RecordKey → ℕ) (seat : ℕ) (bytes : List ℕ) (did : Progr
     };
     row = row;
     progress = λ change keyed suits sees. nears_or_spares did (replace_left r (store_of pool.images))
-        (replace_left r' (store_of pool'.images)) pool pool' (λ failed. writes.spares (fault_writes_none did failed) sees.honest)
-        (progress change keyed suits sees);
+        (replace_left r' (store_of pool'.images)) pool pool'
+        (λ failed. writes.spares (fault_writes_none did failed) sees.honest) (progress change keyed suits sees);
     step = λ change before bare owns here keyed suits sees fine.
         step change before bare owns here keyed suits sees fine;
     answer = λ change keyed sees fine.
