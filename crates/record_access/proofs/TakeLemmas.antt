@@ -1,11 +1,11 @@
 -- What an access takes from the page that answered, behind the Look of its operation.
-use Rattle.std.proofs.Common.{◌≡◌, refl, sym, ap, ◌∙◌, subst, ℕ, ◌<◌, Bool, true, false, not, ◌&&◌, List, length, inl, inr, ◌⊎◌, Option, Some, None, IsTrue, IsOk, IsErr, Result, Ok, Err, is_ok, if◌then◌else◌, arith}
+use Rattle.std.proofs.Common.{◌≡◌, refl, sym, ap, ◌∙◌, subst, ℕ, ◌<◌, Bool, true, false, not, ◌&&◌, List, length, inl, inr, ◌⊎◌, Option, Some, None, IsTrue, IsOk, Result, Ok, Err, is_ok, if◌then◌else◌, arith}
 use Rattle.std.proofs.lemmas.Bool.{true≢false}
 use Rattle.std.specs.Option.{option_map}
 use Rattle.bucket_page.specs.Records.{lookup}
-use Rattle.file_pages.proofs.ReadLemmas.{risen_after}
+use Rattle.file_pages.proofs.ReadLemmas.{devices_after}
+use Rattle.file_pages.specs.Fault.{IsDevicesFault}
 use Rattle.hash_file.specs.Store.{has_bucket, records_at}
-use Rattle.page_device.specs.Device.{HasRisen}
 use Rattle.record_file.specs.Machines.{FindsAt, IsFoundAtLook}
 use Rattle.record_operation.specs.OperationSteps.{SparesPages}
 use Rattle.record_operation.specs.declared.operation.RecordOperation.TheVariants as operations
@@ -171,7 +171,7 @@ module _ {X : Type 0} (hash : RecordKey → ℕ) (seat : ℕ) (did : Progress Fi
 
     taken : (page : ℕ) (len : Option ℕ) → IsFoundAtLook hash seat did (operation_key a.operation)
         (operation_found a.operation) (operation_found o') (world pool.images locks change) →
-        operation_found o' ≡ Some (page, len) → TakesWell result p found pool'.faults pool''.faults new
+        operation_found o' ≡ Some (page, len) → TakesWell result p found pool' pool'' new
     taken page len l at =
         t.tells p found page len at (serves_on did pool a o' a.written op.aim p f.serves) (shown page len l at)
         (was_allowed p found a mid refl f.allows)
@@ -225,7 +225,7 @@ module _ {X : Type 0} (hash : RecordKey → ℕ) (seat : ℕ) (did : Progress Fi
           lacks = lacks_new t.written;
         }
       where
-        well : (r : Result X FileFault) → IsOk r → TakesWell r p found pool'.faults pool''.faults new →
+        well : (r : Result X FileFault) → IsOk r → TakesWell r p found pool' pool'' new →
             Allows p new found × IsTold p new found
         well (Ok x) ok both = both
         well (Err fault) ok both = absurd cc
@@ -239,22 +239,18 @@ module _ {X : Type 0} (hash : RecordKey → ℕ) (seat : ℕ) (did : Progress Fi
         by (inr l) = tells_taken ok l.page l.found l l.is
 
     -- why it is refused
-    refused : IsErr result → IsReader p × HasRisen pool'.faults pool''.faults
-    refused err = by (told hash seat did a o' pool pool' locks locks' op p found change f fine).found
+    refused : (fault : FileFault) → result ≡ Err fault → IsReader p × IsDevicesFault pool' pool'' fault
+    refused fault is = by (told hash seat did a o' pool pool' locks locks' op p found change f fine).found
       where
-        ill : (r : Result X FileFault) → IsErr r → TakesWell r p found pool'.faults pool''.faults new →
-            IsReader p × HasRisen pool'.faults pool''.faults
-        ill (Ok x) err both = absurd cc
-        ill (Err fault) err both = both
-
-        never : (r : Result X FileFault) → IsErr r → IsOk r → ⊥
-        never (Ok x) err ok = absurd cc
-        never (Err fault) err ok = absurd cc
+        never : (r : Result X FileFault) → r ≡ Err fault → IsOk r → ⊥
+        never (Ok x) wrong ok = absurd cc
+        never (Err other) wrong ok = absurd cc
 
         by : FindsAt hash seat did (operation_key a.operation) (operation_found a.operation) (operation_found o')
-            (world pool.images locks change) → IsReader p × HasRisen pool'.faults pool''.faults
-        by (inl same) = absurd (never result err (as_was (same ∙ none)).0)
-        by (inr l) = ill result err (taken l.page l.found l l.is)
+            (world pool.images locks change) → IsReader p × IsDevicesFault pool' pool'' fault
+        by (inl same) = absurd (never result is (as_was (same ∙ none)).0)
+        by (inr l) = subst (λ (r : Result X FileFault). TakesWell r p found pool' pool'' new) is
+            (taken l.page l.found l l.is)
 
     spared : IsReader p → pool'.images ≡ pool.images
     spared reader =
@@ -307,9 +303,9 @@ module _ {X : Type 0} (hash : RecordKey → ℕ) (seat : ℕ) (did : Progress Fi
 
   -- ---- it is refused
 
-  pub failed : (fault : FileFault) → is_ok result ≡ false → IsErr result →
+  pub failed : (fault : FileFault) → result ≡ Err fault →
       MakesAccess hash seat (Fault fault) a new pool pool'' locks locks'
-  failed fault ill err = record {
+  failed fault is = record {
     writes = record {
       ready = t.reads.ready;
       honest = t.reads.honest ∙ op.writes.writes.honest;
@@ -328,9 +324,9 @@ module _ {X : Type 0} (hash : RecordKey → ℕ) (seat : ℕ) (did : Progress Fi
     };
     row = row_new;
     progress = λ p found change f.
-        let why = refused p found change f err in
+        let why = refused p found change f fault is in
         record {
-          risen = risen_after op.writes.writes.later why.1;
+          devices = devices_after op.writes.writes.later why.1;
           images = images_on f.sees.honest ∙ spared p found change f why.0;
         };
     step = λ p found change f fine'. absurd cc;

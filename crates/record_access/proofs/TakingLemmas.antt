@@ -2,7 +2,7 @@
 use Rattle.std.proofs.Common.{◌≡◌, refl, sym, ap, ◌∙◌, subst, ℕ, ◌<◌, ◌≤◌, Bool, true, false, List, length, Option, Some, None, IfSome, IsTrue, Ok, Err, arith}
 use Rattle.std.specs.Option.{option_map}
 use Rattle.file_pages.specs.Reads.{OnlyReads}
-use Rattle.page_device.specs.Device.{HasRisen}
+use Rattle.file_pages.specs.Fault.{IsDevicesFault}
 use Rattle.queue_records.proofs.RelinkLaws.{links_within}
 use Rattle.record_operation.specs.declared.operation.RecordOperation.TheVariants as operations
 use Rattle.record_access.proofs.Names.{FileFault}
@@ -105,7 +105,7 @@ module _ (o : RecordOperation) (links : Option Links) (old_bytes bytes : List �
 
   pub value_fails : {X : Type 0} (fault : FileFault) → OnlyReads false pool pool' →
       ((r : Record) → SeesBucket page pool → value_on pool page (operation_key o) ≡ Some (value_of r) →
-      len ≡ length (value_of r) → Spells r (operation_key o) (value_of r) → HasRisen pool.faults pool'.faults) →
+      len ≡ length (value_of r) → Spells r (operation_key o) (value_of r) → IsDevicesFault pool pool' fault) →
       Takes {X = X} (Err fault) pool pool' old new
   value_fails fault reads why = record {
     reads = reads;
@@ -128,7 +128,7 @@ module _ (o : RecordOperation) (links : Option Links) (old_bytes bytes : List �
       by : (found : Option Record) → value_on pool page (operation_key o) ≡ option_map value_of found →
           SeesBucket page pool → Some len ≡ option_map length (option_map value_of found) →
           IfSome found (λ (r : Record). Spells r (operation_key o) (value_of r)) →
-          HasRisen pool.faults pool'.faults
+          IsDevicesFault pool pool' fault
       by None value sees long spells = absurd cc
       by (Some r) value sees long spells = why r sees value (some_of len (length (value_of r)) long) spells
 
@@ -196,7 +196,7 @@ module _ (o : RecordOperation) (links : Links) (old_bytes : List ℕ) (written :
   pub front_fails : {X : Type 0} (fault : FileFault) (bytes : List ℕ) → OnlyReads false pool pool' →
       ((r : Record) → SeesBucket page pool → HasSuch links (Some r) →
       value_on pool page (operation_key o) ≡ Some (value_of r) → len ≡ length (value_of r) →
-      HasRisen pool.faults pool'.faults) →
+      IsDevicesFault pool pool' fault) →
       Takes {X = X} (Err fault) pool pool' (relink_of old_bytes) (relink_of bytes)
   front_fails fault bytes reads why = record {
     reads = reads;

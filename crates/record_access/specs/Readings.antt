@@ -2,7 +2,7 @@
 use Rattle.std.specs.Prelude.{ℕ, ◌≡◌, false, List, length, Option, Some, None, IfSome, IsSome, IsTrue, IsOk, Result, Ok, Err, is_ok, ⊤}
 use Rattle.std.specs.Option.{option_map}
 use Rattle.bucket_page.specs.Records.{lookup}
-use Rattle.page_device.specs.Device.{HasRisen}
+use Rattle.file_pages.specs.Fault.{IsDevicesFault}
 use Rattle.file_pages.specs.declared.fault.FileFault.{FileFault}
 use Rattle.file_pages.specs.Files.{IsFilePool}
 use Rattle.file_pages.specs.Reads.{OnlyReads}
@@ -56,10 +56,10 @@ IsReader (ToWrite (Relink key links)) = ⊤
 IsReader p = ⊥
 
 -- the record is taken up, or the device has failed
-abbrev pub TakesWell : {X : Type 0} → Result X FileFault → Purpose → Option Record → (old new : ℕ) → AccessView →
-    Type 0
-TakesWell (Ok x) p found old new a = Allows p a found × IsTold p a found
-TakesWell (Err fault) p found old new a = IsReader p × HasRisen old new
+abbrev pub TakesWell : {X : Type 0} → Result X FileFault → Purpose → Option Record → (pool pool' : PoolState) →
+    AccessView → Type 0
+TakesWell (Ok x) p found pool pool' a = Allows p a found × IsTold p a found
+TakesWell (Err fault) p found pool pool' a = IsReader p × IsDevicesFault pool pool' fault
 
 -- an access takes what it is for from the page that answered
 pub record Takes {X : Type 0} (result : Result X FileFault) (pool pool' : PoolState) (old new : AccessView) : Type 0
@@ -73,4 +73,4 @@ pub record Takes {X : Type 0} (result : Result X FileFault) (pool pool' : PoolSt
     pub tells : (p : Purpose) (found : Option Record) (page : ℕ) (len : Option ℕ) →
         operation_found old.operation ≡ Some (page, len) → Serves p old →
         IsShown page len pool (access_key old) found → WasAllowed p old found →
-        TakesWell result p found pool.faults pool'.faults new
+        TakesWell result p found pool pool' new

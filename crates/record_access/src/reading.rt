@@ -1,7 +1,7 @@
 //! What is read of the page that answered.
 
-ghost use Rattle.std.specs.Prelude.{◌≡◌, ◌≤◌, Some, IsTrue, IfOk, IsErr, OnOk, is_ok, length, take};
-ghost use Rattle.page_device.specs.Device.{HasRisen};
+ghost use Rattle.std.specs.Prelude.{◌≡◌, ◌≤◌, Some, IsTrue, IfErr, IfOk, OnOk, is_ok, length, take};
+ghost use Rattle.file_pages.specs.Fault.{IsDevicesFault};
 ghost use Rattle.file_pages.specs.Reads.{OnlyReads};
 ghost use Rattle.queue_records.specs.declared.layout.TheConstants.{MAX_VALUE_BYTES};
 ghost use Rattle.record_access.specs.Words.{IsReady, Record, Spells, HasSuch, linked_bytes, value_of};
@@ -30,9 +30,9 @@ pub(crate) fn read_value<D: PageDevice>(
     ensures ok { IsTrue pool.old.honest →
         OnOk result (value_on pool.old page key.now ≡ Some (take len room.new)) }
     ensures spelled { OnOk result ((r : Record) × Spells r key.now (take len room.new)) }
-    ensures fault { (r : Record) → SeesBucket page pool.old → IsErr result →
+    ensures fault { (r : Record) → SeesBucket page pool.old →
         value_on pool.old page key.now ≡ Some (value_of r) → len ≡ length (value_of r) →
-        Spells r key.now (value_of r) → HasRisen pool.old.faults pool.new.faults }
+        Spells r key.now (value_of r) → IfErr result (IsDevicesFault pool.old pool.new) }
 {
     let found = copy_value(pool, page, key, room)?;
     if found != Some(len) {
@@ -62,9 +62,9 @@ pub(crate) fn read_front<D: PageDevice>(
     ensures ok { (r : Record) → IsTrue pool.old.honest → HasSuch links.now (Some r) →
         value_on pool.old page key.now ≡ Some (value_of r) →
         IfOk result (λ len. IsFrontOf links.now (take len front.new) r) }
-    ensures fault { (r : Record) → SeesBucket page pool.old → IsErr result →
+    ensures fault { (r : Record) → SeesBucket page pool.old →
         value_on pool.old page key.now ≡ Some (value_of r) →
-        HasRisen pool.old.faults pool.new.faults }
+        IfErr result (IsDevicesFault pool.old pool.new) }
 {
     let Some(_) = copy_value(pool, page, key, front)? else {
         return Err(FileFault::Failed);

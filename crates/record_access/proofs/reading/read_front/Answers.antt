@@ -1,11 +1,12 @@
 -- Links are set at the front of a value.
-use Rattle.std.proofs.Common.{refl}
+use Rattle.file_pages.proofs.ReadLemmas.{handed_on}
 use Rattle.record_access.proofs.ReadLemmas.{front_of, read_fails}
 use Rattle.record_access.proofs.reading.read_front.Goals as goal
 
 pub returns-in_err-copy_value-clause-fault : goal.returns-in_err-copy_value-clause-fault
-returns-in_err-copy_value-clause-fault g c = λ r sees failed holds.
-    read_fails c.args.page c.args.pool.now sees (c.in_err-copy_value.ensures.fault sees.honest sees.file refl)
+returns-in_err-copy_value-clause-fault g c = λ r sees holds.
+    handed_on c.from_residual.result _ _ c.from_residual.ensures.1
+    (read_fails c.args.page c.args.pool.now sees (c.in_err-copy_value.ensures.fault sees.honest sees.file))
 
 pub returns-clause-ok : goal.returns-clause-ok
 returns-clause-ok g c = λ r honest such holds.

@@ -1,5 +1,5 @@
 -- A step of the operation is one of the access, and where a page answered by it that page is read.
-use Rattle.std.proofs.Common.{◌≡◌, sym, ap, ◌∙◌, true, false, take, is_ok, is_err}
+use Rattle.std.proofs.Common.{◌≡◌, sym, ap, ◌∙◌, true, false, take, is_ok}
 use Rattle.std.specs.Option.{is_some}
 use Rattle.std.proofs.lemmas.Bool.{true≢false}
 use Rattle.record_access.proofs.AimLemmas.{none_of}
@@ -114,5 +114,4 @@ returns-in-Err g c =
       progress = e.progress;
       step = e.step;
       answer = e.answer;
-    }) looked none c.take.new.self c.take.result c.take.ensures c.in-Err.fault (ap is_ok c.in-Err.is)
-    (ap is_err c.in-Err.is))
+    }) looked none c.take.new.self c.take.result c.take.ensures c.in-Err.fault c.in-Err.is)
