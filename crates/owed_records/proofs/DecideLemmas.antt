@@ -5,29 +5,9 @@ use Rattle.std.specs.List.{All, Contains, find, list_any}
 use Rattle.std.proofs.Math.Seq.{drop-length}
 use Rattle.std.proofs.lemmas.Bool.{eqb-true}
 use Rattle.std.proofs.lemmas.List.Elements.{All-head, All-tail}
-use Rattle.bucket_page.specs.declared.record_key.RecordKey.{RecordKey}
-use Rattle.bucket_page.specs.Keys.{is_same}
 use Rattle.fields.proofs.Tests.{both_true}
-use Rattle.page_locks.specs.declared.lock.LockName.{LockName}
 use Rattle.page_locks.specs.declared.lock.LockName.TheVariants as names
-use Rattle.queue_model.specs.declared.call.Call.{Call}
-use Rattle.queue_model.specs.declared.caller.Caller.{Caller}
-use Rattle.queue_model.specs.declared.message.Message.{Message}
-use Rattle.queue_model.specs.declared.queue.Queue.{Queue}
-use Rattle.queue_model.specs.Rules.{has_id}
-use Rattle.queue_model.specs.State.{State}
-use Rattle.queue_records.specs.declared.record.Record.{Record}
-use Rattle.queue_records.specs.Keys.{guard_of}
-use Rattle.queue_records.specs.Spelling.{key_of}
-use Rattle.queue_records.specs.declared.layout.TheConstants.{TYPE, MESSAGE}
-use Rattle.type_chains.specs.RecordOf.{has_serial, message_record, record_of, type_record}
-use Rattle.xsi_inquiry.specs.declared.decision.Sweep.{Sweep}
-use Rattle.xsi_inquiry.specs.declared.verdict.Verdict.{Verdict}
-use Rattle.xsi_inquiry.specs.declared.write.Write.{Write}
-use Rattle.xsi_inquiry.specs.Deciding.{IsAnswered, IsSwept}
-use Rattle.xsi_inquiry.specs.Sweeping.{has_type_number, message_left, swept, type_left}
-use Rattle.xsi_inquiry.specs.Writing.{Plan, Records, inserted, key_written, with_at, writes_of, written}
-use Rattle.xsi_inquiry.proofs.LeadLemmas.{same_keys}
+use Rattle.owed_records.proofs.Names.{Call, Caller, IsAnswered, IsSwept, LockName, MESSAGE, Message, Plan, Queue, Record, RecordKey, Records, State, Sweep, TYPE, Verdict, Write, guard_of, has_id, has_serial, has_type_number, inserted, is_same, key_of, key_written, message_left, message_record, record_of, same_keys, swept, type_left, type_record, with_at, writes_of, written}
 use Rattle.owed_records.specs.Laws.{OwesAfter}
 use Rattle.owed_records.specs.Owing.{Sweeps, Writes, is_swept, is_written, without_swept}
 use Rattle.owed_records.proofs.OverlayLemmas.{written_local, written_rest}
