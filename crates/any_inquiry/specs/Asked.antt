@@ -91,7 +91,7 @@ any_asks_given (calls.Set a) any names s t given agrees told =
     (of_set any) told
 any_asks_given (calls.Remove id) any names s t given agrees told =
     given_of (λ (i : RemoveInquiry). removes.asked id i.stage) s t given
-    (λ i told. remove_asked.given_at id i.stage s t given agrees.asked told)
+    (λ i told. remove_asked.given_at id i.stage names s t given agrees told)
     (of_remove any) told
 
 pub few_of : (call : Call) (any : AnyInquiry) → IsSmall (plan_of call any)

@@ -5,7 +5,7 @@ use Rattle.queue_model.specs.declared.call.Call.TheVariants as calls
 use Rattle.queue_model.specs.State.{State}
 use Rattle.queue_records.specs.declared.record.Record.{Record}
 use Rattle.xsi_inquiry.specs.declared.wanted.Wanted.TheVariants.{Given}
-use Rattle.xsi_inquiry.specs.Agreeing.{AgreeOnId, AgreesFor, IsCovered}
+use Rattle.xsi_inquiry.specs.Agreeing.{AgreesFor, IsCovered}
 use Rattle.xsi_inquiry.specs.Deciding.{InsertsOnlyFor}
 use Rattle.xsi_inquiry.specs.Telling.{IsTold, IsToldGiven}
 use Rattle.xsi_inquiry.specs.Writing.{IsSmall}
@@ -33,9 +33,10 @@ given_of id (Keyed key) other is = absurd cc
 given_of id (Counting key queue) other is = absurd cc
 given_of id (Removing r) other is = absurd cc
 
-pub given_at : (id : ℕ) (stage : Stage) (s t : State) (given : Bool) → AgreeOnId id s t →
-    IsToldGiven s (asked id stage) given → IsToldGiven t (asked id stage) given
-given_at id stage s t given agrees told = given_asks (asked id stage) id s t given agrees (given_of id stage) told
+pub given_at : (id : ℕ) (stage : Stage) (names : List LockName) (s t : State) (given : Bool) →
+    AgreesFor (calls.Remove id) names s t → IsToldGiven s (asked id stage) given → IsToldGiven t (asked id stage) given
+given_at id stage names s t given agrees told =
+    given_asks (asked id stage) id s t given agrees.asked (given_of id stage) told
 
 -- three writes, and nothing on trial
 pub few_at : (id : ℕ) (stage : Stage) → IsSmall (plan_at id stage)

@@ -99,7 +99,7 @@ impl Inquiry for RemoveInquiry {
         stage_asks id i.stage names s t found covered agrees told };
 
     ghost asks_given = { λ id i names s t given agrees told.
-        given_at id i.stage s t given agrees.asked told };
+        given_at id i.stage names s t given agrees told };
 
     ghost few = { λ id i. few_at id i.stage };
 
