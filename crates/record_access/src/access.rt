@@ -1,6 +1,6 @@
 //! The access.
 
-ghost use Rattle.std.specs.Prelude.{◌≡◌, ◌≤◌, ◌↔◌, Option, None, Some, not, true, false, length};
+ghost use Rattle.std.specs.Prelude.{◌≡◌, ◌≢◌, ◌≤◌, ◌↔◌, Option, None, Some, not, true, false, length};
 ghost use Rattle.queue_records.specs.declared.layout.TheConstants.{MAX_VALUE_BYTES};
 ghost use Rattle.queue_records.specs.Range.{IsInRange};
 ghost use Rattle.xsi_inquiry.specs.Writing.{HasRange};
@@ -179,9 +179,11 @@ impl Access {
         self.written
     }
 
-    /// Whether it has given all its locks back.
+    /// Whether it has given all its locks back. A find that has ended has been answered.
     pub fn has_ended(&self) -> bool
-        ensures { (result ≡ true) ↔ HasEnded self.now.operation }
+        ensures ended { (result ≡ true) ↔ HasEnded self.now.operation }
+        ensures answered { (key : RecordKey) → Serves (ToFind key) self.now →
+            result ≡ true → access_answer self.now ≢ None }
     {
         self.operation.has_ended()
     }

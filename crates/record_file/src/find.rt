@@ -1,6 +1,6 @@
 //! A record that is found.
 
-ghost use Rattle.std.specs.Prelude.{◌≡◌, ℕ, List, Option, false, not};
+ghost use Rattle.std.specs.Prelude.{◌≡◌, ℕ, IsSome, List, Option, false, not, true};
 ghost use Rattle.stale_search.specs.declared.place.SearchPlace.{SearchPlace};
 ghost use Rattle.record_file.specs.Words.{RecordKey, Lock, IsSeat, row_of, with_row, IsReady, Change, OnlyReads, Read, is_fault, Sees, Step, world, EndsRow, HasNoFileLock, Nears, found_at};
 ghost use Rattle.record_file.specs.Machines.{FindsAt};
@@ -66,9 +66,10 @@ impl Find {
         }
     }
 
-    /// Whether it has given its page back.
+    /// Whether it has given its page back. A page has answered where it has ended.
     pub fn has_ended(&self) -> bool
-        ensures { result ≡ self.now.ended }
+        ensures ended { result ≡ self.now.ended }
+        ensures answered { result ≡ true → IsSome (found_of self.now) }
     {
         self.ended
     }

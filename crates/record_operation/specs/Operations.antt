@@ -138,3 +138,8 @@ HasEnded (Delete d) = IsDeleteOver d.removal.stage d.merge.place
 abbrev pub TriedAtEnd : RecordOperation → Type 0
 TriedAtEnd (Insert i) = IsInsertOver i.stage → IsSome (said_of i.stage)
 TriedAtEnd o = ⊤
+
+-- a page has answered a find that has ended
+abbrev pub FoundAtEnd : RecordOperation → Type 0
+FoundAtEnd (Find f) = IsSome (found_of f)
+FoundAtEnd o = ⊤

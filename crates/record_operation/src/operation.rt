@@ -4,7 +4,7 @@ ghost use Rattle.std.specs.Prelude.{◌≡◌, ◌↔◌, ℕ, List, true, false
 ghost use Rattle.stale_search.specs.Steps.{FollowsRow};
 ghost use Rattle.record_insert.specs.SecondSteps.{NearsOrSpares};
 ghost use Rattle.record_operation.specs.Words.{RecordKey, Lock, Change, IsReady, IsSeat, row_of, store_of, is_fault, EndsRow, HasNoFileLock, Sees, Step, world};
-ghost use Rattle.record_operation.specs.Operations.{HasEnded, IsKeyed, MayBeLent, OwnsWritten, SuitsFile, TriedAtEnd, begun_delete, begun_find, begun_insert, begun_replace, operation_facts, operation_found, operation_left, operation_locks, operation_tried, operation_turn};
+ghost use Rattle.record_operation.specs.Operations.{FoundAtEnd, HasEnded, IsKeyed, MayBeLent, OwnsWritten, SuitsFile, TriedAtEnd, begun_delete, begun_find, begun_insert, begun_replace, operation_facts, operation_found, operation_left, operation_locks, operation_tried, operation_turn};
 ghost use Rattle.record_operation.specs.OperationSteps.{KeepsOperation, LeavesPages, MakesOperation, TellsOf};
 
 use bucket_page::{PseudoKey, RecordKey};
@@ -87,9 +87,10 @@ impl RecordOperation {
         }
     }
 
-    /// Whether it has given all its locks back.
+    /// Whether it has given all its locks back. A find that has ended has been answered.
     pub fn has_ended(&self) -> bool
-        ensures { (result ≡ true) ↔ HasEnded self.now }
+        ensures ended { (result ≡ true) ↔ HasEnded self.now }
+        ensures answered { result ≡ true → FoundAtEnd self.now }
     {
         match self {
             RecordOperation::Find(find) => find.has_ended(),
