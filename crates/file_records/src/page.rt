@@ -52,7 +52,8 @@ pub(crate) fn value_in<'p>(
         IfOk result (λ found. IfSome found (λ value. held key.now ≡ Some value.now)) }
     ensures none { (held : RecordKey → Option (List ℕ)) → AnswersFor held key.now bytes.now →
         IfOk result (λ found. IfNone found (held key.now ≡ None)) }
-    ensures ok { (held : RecordKey → Option (List ℕ)) → AnswersFor held key.now bytes.now → IsOk result }
+    ensures ok { (held : RecordKey → Option (List ℕ)) → AnswersFor held key.now bytes.now →
+        IsOk result }
     ensures err { IfErr result (λ fault. fault ≡ WalkFault.Changed page) }
 {
     match read_tested(bytes) {
