@@ -86,7 +86,7 @@ nothing_of part id s q key found its none =
     sym (ap (λ (n : ℕ). option_and_then part (find (has_id n) s.queues)) its ∙ ap (option_and_then part) found ∙ none)
 
 -- once all messages were swept, none of them and no type is left
-none_left : (id : ℕ) (s : State) (q : Queue) (key : RecordKey) → find (has_id id) s.queues ≡ Some q →
+pub none_left : (id : ℕ) (s : State) (q : Queue) (key : RecordKey) → find (has_id id) s.queues ≡ Some q →
     without_swept id (record_of s) key ≡ swept id (length q.messages) s key
 none_left id s q key found = by (key.queue == id) (key.kind == TYPE) (key.kind == MESSAGE) refl refl refl
   where

@@ -1,0 +1,3 @@
+pub mod AlikeLemmas
+pub mod SettleLemmas
+pub mod HoldLemmas
