@@ -16,7 +16,7 @@ use Rattle.xsi_sweep.specs.Removing.{names_of}
 use Rattle.call_decisions.specs.Words.{Call, Decides, Decision, State, Sweep}
 use Rattle.call_decisions.specs.Settling.{IsRight}
 
-has_queue : (id : ℕ) (key : Option ℕ) → Contains (names_of id key) (names.Queue id)
+pub has_queue : (id : ℕ) (key : Option ℕ) → Contains (names_of id key) (names.Queue id)
 has_queue id None = (1, omega arith, refl)
 has_queue id (Some key) = (2, omega arith, refl)
 

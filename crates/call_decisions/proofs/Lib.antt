@@ -1,3 +1,5 @@
 pub mod AlikeLemmas
-pub mod SettleLemmas
+pub mod ChangeLemmas
 pub mod HoldLemmas
+pub mod OtherLemmas
+pub mod SettleLemmas

@@ -1,3 +1,4 @@
 pub mod Laws
+pub mod Others
 pub mod Settling
 pub mod Words

@@ -7,5 +7,5 @@ mod laws;
 mod settled;
 
 pub use decision::decide;
-pub use laws::a_plan_is_tried_where_nothing_stands;
+pub use laws::{a_plan_is_tried_where_nothing_stands, others_leave_what_a_call_can_tell};
 pub use settled::Settled;

@@ -1,7 +1,9 @@
 -- What a Get asks for is under its key's name or the Counter's, and it writes little.
-use Rattle.std.proofs.Common.{inl, inr, Ok, ℕ, ◌≤◌, Bool, List, [], ◌∷◌, length, Option, Some, None, refl, ap, arith}
+use Rattle.std.proofs.Common.{inl, inr, ◌≡◌, Ok, ℕ, ◌≤◌, Bool, List, [], ◌∷◌, length, Option, Some, None, refl, sym, ap, ◌∙◌, arith}
 use Rattle.std.proofs.lemmas.List.Elements.{All-cons, All-nil}
 use Rattle.std.specs.Prelude.{option_map}
+use Rattle.std.specs.List.{find}
+use Rattle.queue_model.specs.Rules.{has_key}
 use Rattle.queue_records.specs.declared.record.Record.TheVariants as records
 use Rattle.xsi_inquiry.specs.declared.wanted.Wanted.TheVariants.{At}
 use Rattle.xsi_inquiry.specs.declared.write.TheConstants.{MAX_TRIALS}
@@ -15,11 +17,21 @@ use Rattle.xsi_control.specs.declared.get_inquiry.Getting.TheVariants.{AtKey, Fo
 use Rattle.xsi_control.specs.Getting.{decided_made, get_decided, get_plan, get_wanted, key_made, key_wanted, one_more, plan_made}
 use Rattle.xsi_control.specs.Words.{LockName, Get, GetArguments, Caller, Queue, new_queue, State, Counter, Record, key_of_key, counter_key, key_entry, queue_entry, IsTold, IsToldGiven, IsSmall}
 
+-- the Key of a queue says its id alone
+abbrev key_record : ℕ → ℕ → Record
+key_record key id = records.Key (record { key = key; id = id })
+
+entry_by : (key : ℕ) (found : Option Queue) → option_map (λ (q : Queue). records.Key (key_entry key q)) found
+    ≡ option_map (key_record key) (option_map (λ (q : Queue). q.id) found)
+entry_by key None = refl
+entry_by key (Some q) = refl
+
 key_asks : (key : Option ℕ) (s t : State) (found : Option Record) → AgreeOnKey key s t →
     IsTold s (key_wanted key) found → IsTold t (key_wanted key) found
 key_asks None s t found agrees told = at_none t found
-key_asks (Some key) s t found agrees told =
-    at_one (key_of_key key) s t found (ap (option_map (λ (q : Queue). records.Key (key_entry key q))) agrees) told
+key_asks (Some key) s t found agrees told = at_one (key_of_key key) s t found
+    (entry_by key (find (has_key key) s.queues) ∙ ap (option_map (key_record key)) agrees
+    ∙ sym (entry_by key (find (has_key key) t.queues))) told
 
 pub get_asks : (a : GetArguments) (getting : Getting) (names : List LockName) (s t : State) (found : Option Record) →
     IsCovered names (get_wanted a getting) → AgreesFor (Get a) names s t →
