@@ -104,7 +104,8 @@ get_under c a (Counted n) s t answer filed knows none at =
 get_changes : (a : GetArguments) (i : AnyInquiry) (room : Roomful) (s t : State) (answer : Answer) → IsFiled s →
     KnowsOf (Get a) i room s → asked_of (Get a) i ≡ None → outcome (caller_of i) (Get a) s ≡ Some (answer, t) →
     UnderName s t (locked_of (Get a) i) (names.Queue s.next_id)
-get_changes a (any.Get i) room s t answer filed knows none at = get_under i.caller a i.getting s t answer filed knows none at
+get_changes a (any.Get i) room s t answer filed knows none at =
+    get_under i.caller a i.getting s t answer filed knows none at
 get_changes a (any.Send i) room s t answer filed knows none at = absurd knows
 get_changes a (any.Receive i) room s t answer filed knows none at = absurd knows
 get_changes a (any.Stat i) room s t answer filed knows none at = absurd knows

@@ -32,7 +32,8 @@ pub record DecidesApart (held : List LockName) (call : Call) (i : AnyInquiry) (s
   pub answer : Answer
   pub outcome : outcome (caller_of i) call s ≡ Some (answer, after)
   -- records stand but under its names
-  pub rest : (key : RecordKey) → (Contains (locked_of call i) (guard_of key) → ⊥) → record_of after key ≡ record_of s key
+  pub rest : (key : RecordKey) → (Contains (locked_of call i) (guard_of key) → ⊥) →
+      record_of after key ≡ record_of s key
   pub apart : (name : LockName) → Contains held name → Contains (locked_of call i) name → ⊥
 
 -- then the call can't tell the systems apart
