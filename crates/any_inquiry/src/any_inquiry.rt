@@ -8,8 +8,8 @@ use xsi_receive::ReceiveInquiry;
 use xsi_send::SendInquiry;
 use xsi_sweep::RemoveInquiry;
 
-/// The inquiry of a call, by the call's kind. It is lent the call that it began with. Of a call of another kind it asks
-/// nothing, and decides nothing.
+/// The inquiry of a call, by the call's kind. It is lent the call that it began with. Of a call of
+/// another kind it asks nothing, and decides nothing.
 #[derive(Clone, Copy, Debug)]
 pub enum AnyInquiry {
     /// Of a Get.
@@ -50,9 +50,11 @@ impl Inquiry for AnyInquiry {
 
     ghost plan = { λ call i. plan_of call i };
 
-    ghost asks = { λ call i names s t found covered agrees told. any_asks call i names s t found covered agrees told };
+    ghost asks = { λ call i names s t found covered agrees told.
+        any_asks call i names s t found covered agrees told };
 
-    ghost asks_given = { λ call i names s t given agrees told. any_asks_given call i names s t given agrees told };
+    ghost asks_given = { λ call i names s t given agrees told.
+        any_asks_given call i names s t given agrees told };
 
     ghost few = { λ call i. few_of call i };
 

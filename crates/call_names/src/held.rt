@@ -10,10 +10,12 @@ use queue_model::Call;
 /// A call holds at most as many names beside the directory and pages.
 pub const MAX_NAMES: usize = 3;
 
-/// The lock at this place among those under which a call asks, inserts and writes where its inquiry has come, in the
-/// order in which it takes them; none behind the last (docs/STEPS.md, "What a call reads").
+/// The lock at this place among those under which a call asks, inserts and writes where its
+/// inquiry has come, in the order in which it takes them; none behind the last (docs/STEPS.md,
+/// "What a call reads").
 ///
-/// A Stat holds its queue Read, and so does a Remove in its first phase; all other names are held Exclusive.
+/// A Stat holds its queue Read, and so does a Remove in its first phase; all other
+/// names are held Exclusive.
 pub fn name_at(call: &Call, inquiry: &AnyInquiry, place: usize) -> Option<Lock>
     ensures { result ≡ slice_get (names_for call.now inquiry.now) place }
 {

@@ -2,7 +2,8 @@
 
 ghost use Rattle.call_names.specs.Laws.{AskUnderNames, NamesGrow, TakeInOrder, WriteUnderNames};
 
-/// A call takes its names in the order of names, each once and at most three, none of them the directory or a page.
+/// A call takes its names in the order of names, each once and at most three, none of them the
+/// directory or a page.
 pub fn a_call_takes_names_in_order()
     ensures { TakeInOrder }
 {}

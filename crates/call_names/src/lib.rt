@@ -1,5 +1,5 @@
-//! The names that a call holds while it asks, inserts and writes: which, in which kinds, and in which order it takes
-//! them.
+//! The names that a call holds while it asks, inserts and writes: which, in which kinds, and in
+//! which order it takes them.
 
 #![tactic(auto)]
 

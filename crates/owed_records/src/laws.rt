@@ -2,7 +2,8 @@
 
 ghost use Rattle.owed_records.specs.Laws.{AnswersOwe, EndsSweep, IsLocal, LeavesTheOthers, LeavesTheRest, OwesAlone, OwesTrialsBack, PaysBySweeping, PaysByWriting, SweepsOwe};
 
-/// Each write that a call makes, and each insertion on trial, leaves what will stand once nothing is owed.
+/// Each write that a call makes, and each insertion on trial, leaves what will stand
+/// once nothing is owed.
 pub fn what_is_owed_is_paid_by_writes()
     ensures trials { OwesTrialsBack }
     ensures writes { PaysByWriting }
@@ -16,8 +17,8 @@ pub fn a_decision_owes_the_system_after()
     ensures sweeps { SweepsOwe }
 {}
 
-/// Seats that owe records at different keys don't meet: at each key one of them decides what will stand, whatever the
-/// others write elsewhere.
+/// Seats that owe records at different keys don't meet: at each key one of them decides what will
+/// stand, whatever the others write elsewhere.
 pub fn a_seat_owes_its_own()
     ensures local { IsLocal }
     ensures rest { LeavesTheRest }

@@ -1,4 +1,5 @@
-//! One operation on one record of a file that other seats use, whichever it is: found, inserted, replaced or deleted.
+//! One operation on one record of a file that other seats use, whichever it is: found,
+//! inserted, replaced or deleted.
 
 #![tactic(auto)]
 

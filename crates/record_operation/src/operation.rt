@@ -61,8 +61,8 @@ impl RecordOperation {
         RecordOperation::Delete(Delete::new(key, pseudokey))
     }
 
-    /// The page that answered, and of the key the length of its value, none where it has no record. An insert tells
-    /// none.
+    /// The page that answered, and of the key the length of its value, none where it has no record.
+    /// An insert tells none.
     pub fn found(&self) -> Option<(u32, Option<usize>)>
         ensures { result ≡ operation_found self.now }
     {
@@ -100,8 +100,8 @@ impl RecordOperation {
         }
     }
 
-    /// One step. The value that an insert puts is lent to it, or the bytes that a replace writes; of a find or a delete
-    /// nothing is read of them.
+    /// One step. The value that an insert puts is lent to it, or the bytes that a replace writes;
+    /// of a find or a delete nothing is read of them.
     pub fn step<D: PageDevice, K: PseudoKey>(
         &mut self,
         pool: &mut Pool<D>,

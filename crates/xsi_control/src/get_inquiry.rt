@@ -29,8 +29,9 @@ pub enum Getting {
     Counted(Counter),
 }
 
-/// A Get (POSIX.1-2017, `msgget()`). It reads the Key, where it has a key, and the Counter where a queue is to be made.
-/// It holds its key, and to make a queue the Counter and the queue of the next id too.
+/// A Get (POSIX.1-2017, `msgget()`). It reads the Key, where it has a key, and the Counter
+/// where a queue is to be made. It holds its key, and to make a queue the Counter and the queue
+/// of the next id too.
 #[derive(Clone, Copy, Debug)]
 pub struct GetInquiry {
     caller: Caller,
@@ -40,8 +41,9 @@ pub struct GetInquiry {
 const _: () = prove!(size_of::<GetInquiry>() <= 400);
 
 impl GetInquiry {
-    /// The name at this place among those that it holds Exclusive, in the order in which they are taken: its key, where
-    /// it has one; to make a queue the Counter, and then the queue of the next id.
+    /// The name at this place among those that it holds Exclusive, in the order in which they
+    /// are taken: its key, where it has one; to make a queue the Counter, and then the queue
+    /// of the next id.
     pub fn name(&self, arguments: &GetArguments, place: usize) -> Option<LockName>
         ensures { result ≡ slice_get (get_locked arguments.now self.now.getting) place }
     {
@@ -95,7 +97,8 @@ impl Inquiry for GetInquiry {
     ghost asks = { λ a i names s t found covered agrees told.
         get_asks a i.getting names s t found covered agrees told };
 
-    ghost asks_given = { λ a i names s t given agrees told. get_asks_given a i.getting s t given told };
+    ghost asks_given = { λ a i names s t given agrees told.
+        get_asks_given a i.getting s t given told };
 
     ghost few = { λ a i. few_of_get i.caller a i.getting };
 
@@ -211,7 +214,8 @@ fn one_more(counter: &Counter) -> Option<Counter>
     })
 }
 
-/// What is inserted on trial for a queue of this id: its Queue and, where it is not private, its Key.
+/// What is inserted on trial for a queue of this id: its Queue and, where it is not
+/// private, its Key.
 fn made_trial<'a>(
     caller: Caller,
     arguments: &GetArguments,

@@ -8,8 +8,9 @@ use queue_records::{QueueEntry, Record};
 use type_chains::permissions_in;
 use xsi_inquiry::{Decision, Inquiry, NotASystem, Room, Sought, Verdict, Wanted, Write};
 
-/// A Set (POSIX.1-2017, `msgctl()` with `IPC_SET`). Where `qbytes` is over the limit of all queues it reads nothing;
-/// else it reads the Queue; where there is none, it asks whether the id was given out.
+/// A Set (POSIX.1-2017, `msgctl()` with `IPC_SET`). Where `qbytes` is over the limit of all
+/// queues it reads nothing; else it reads the Queue; where there is none, it asks whether the
+/// id was given out.
 #[derive(Clone, Copy, Debug)]
 pub struct SetInquiry {
     caller: Caller,
@@ -44,9 +45,11 @@ impl Inquiry for SetInquiry {
 
     ghost plan = { λ a i. set_plan i.caller a i.sought };
 
-    ghost asks = { λ a i names s t found covered agrees told. set_asks a i.sought s t found agrees.asked told };
+    ghost asks = { λ a i names s t found covered agrees told.
+        set_asks a i.sought s t found agrees.asked told };
 
-    ghost asks_given = { λ a i names s t given agrees told. set_asks_given a i.sought s t given agrees.asked told };
+    ghost asks_given = { λ a i names s t given agrees told.
+        set_asks_given a i.sought s t given agrees.asked told };
 
     ghost few = { λ a i. few_of_set i.caller a i.sought };
 
@@ -111,8 +114,8 @@ impl Inquiry for SetInquiry {
     }
 }
 
-/// The Queue with these settings, or how the call is refused on it: only the owner, the creator and user 0 set, and
-/// only user 0 raises `qbytes`.
+/// The Queue with these settings, or how the call is refused on it: only the owner, the creator and
+/// user 0 set, and only user 0 raises `qbytes`.
 fn set_entry(
     caller: Caller,
     arguments: &SetArguments,

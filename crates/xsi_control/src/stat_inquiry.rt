@@ -5,8 +5,8 @@ use queue_records::Record;
 use type_chains::{info_in, permissions_in};
 use xsi_inquiry::{Decision, Inquiry, NotASystem, Room, Sought, Verdict, Wanted, Write};
 
-/// A Stat (POSIX.1-2017, `msgctl()` with `IPC_STAT`). It is given an id. It reads the Queue; where there is none, it
-/// asks whether the id was given out.
+/// A Stat (POSIX.1-2017, `msgctl()` with `IPC_STAT`). It is given an id. It reads the Queue; where
+/// there is none, it asks whether the id was given out.
 #[derive(Clone, Copy, Debug)]
 pub struct StatInquiry {
     caller: Caller,
@@ -43,10 +43,12 @@ impl Inquiry for StatInquiry {
 
     ghost plan = { λ id i. nothing };
 
-    ghost asks = { λ id i names s t found covered agrees told. sought_asks id i.sought s t found agrees.asked told };
+    ghost asks = { λ id i names s t found covered agrees told.
+        sought_asks id i.sought s t found agrees.asked told };
 
     ghost asks_given = { λ id i names s t given agrees told.
-        given_asks (sought_next id i.sought) id s t given agrees.asked (sought_given id i.sought) told };
+        given_asks (sought_next id i.sought) id s t given agrees.asked
+        (sought_given id i.sought) told };
 
     ghost few = { λ id i. small_none };
 

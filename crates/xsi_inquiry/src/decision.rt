@@ -18,11 +18,13 @@ pub struct Sweep {
 /// What a call decides on what it read. What it writes is asked of it one by one.
 #[derive(Clone, Copy, Debug)]
 pub enum Decision {
-    /// It can't be done now: it waits, or is refused with EINTR once the system is stopped. Nothing is written.
+    /// It can't be done now: it waits, or is refused with EINTR once the system is
+    /// stopped. Nothing is written.
     PutOff,
     /// It is answered.
     Answers(Verdict),
-    /// A Remove is answered Done. The messages of its queue are swept turn by turn before its writes.
+    /// A Remove is answered Done. The messages of its queue are swept turn by turn
+    /// before its writes.
     Sweeps(Sweep),
 }
 

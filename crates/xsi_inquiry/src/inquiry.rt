@@ -28,8 +28,9 @@ use thiserror::Error;
 #[error("the records are not those of a system")]
 pub struct NotASystem;
 
-/// A call that asks for records, one at a time, and then decides. What the call was given, and the room for what it
-/// receives, are lent to it each time: it borrows nothing, keeps no body, and takes no memory.
+/// A call that asks for records, one at a time, and then decides. What the call was given, and
+/// the room for what it receives, are lent to it each time: it borrows nothing, keeps no body,
+/// and takes no memory.
 pub trait Inquiry {
     /// What the call is given.
     type Arguments;
@@ -69,8 +70,8 @@ pub trait Inquiry {
     fn wants(&self, arguments: &Self::Arguments) -> Option<Wanted>
         ensures { result ≡ wanted arguments.now self.now };
 
-    /// Tells it the record at that key, or that there is none. The bytes of a message that it receives are copied into
-    /// the room. After an error it stands where it stood.
+    /// Tells it the record at that key, or that there is none. The bytes of a message that it
+    /// receives are copied into the room. After an error it stands where it stood.
     fn take(
         &mut self,
         arguments: &Self::Arguments,
@@ -105,22 +106,25 @@ pub trait Inquiry {
             Gives result (λ decision. Decides (caller self.now) (call arguments.now)
             (locked arguments.now self.now) room.bytes s decision (plan arguments.now self.now)) };
 
-    /// The record that is inserted on trial at this place, lent by the call; none behind the last. Where one does not
-    /// fit its bucket, those before it are deleted again and the call is the fault 50.
+    /// The record that is inserted on trial at this place, lent by the call; none behind the
+    /// last. Where one does not fit its bucket, those before it are deleted again and the call
+    /// is the fault 50.
     fn trial<'a>(&self, arguments: &'a Self::Arguments, place: usize) -> Option<Record<'a>>
         ensures { result ≡ slice_get (plan arguments.now self.now).trials place };
 
-    /// The write in this slot, where there is one. They follow the decision in the order of their slots.
+    /// The write in this slot, where there is one. They follow the decision in the
+    /// order of their slots.
     fn write(&self, arguments: &Self::Arguments, slot: usize) -> Option<Write>
         ensures { result ≡ slice_index_or (plan arguments.now self.now).slots slot None };
 
     /// What it asks for under names that it holds is the same in systems that agree at them.
-    ghost asks: { (a : Self.Arguments) (i : Self) (names : List LockName) (s t : State) (found : Option Record) →
+    ghost asks: { (a : Self.Arguments) (i : Self) (names : List LockName)
+        (s t : State) (found : Option Record) →
         IsCovered names (wanted a i) → AgreesFor (call a) names s t →
         IsTold s (wanted a i) found → IsTold t (wanted a i) found };
 
-    ghost asks_given: { (a : Self.Arguments) (i : Self) (names : List LockName) (s t : State) (given : Bool) →
-        AgreesFor (call a) names s t →
+    ghost asks_given: { (a : Self.Arguments) (i : Self) (names : List LockName)
+        (s t : State) (given : Bool) → AgreesFor (call a) names s t →
         IsToldGiven s (wanted a i) given → IsToldGiven t (wanted a i) given };
 
     /// It writes little.

@@ -1,5 +1,6 @@
-//! What a call asks of the records of a system, and what it decides: its verdict, and the writes that follow.
-//! For every system of which it was told the records, the verdict is the outcome by the rules.
+//! What a call asks of the records of a system, and what it decides: its verdict, and the
+//! writes that follow. For every system of which it was told the records, the verdict is the
+//! outcome by the rules.
 
 #![tactic(auto)]
 

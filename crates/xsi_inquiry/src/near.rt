@@ -17,8 +17,8 @@ use crate::inquiry::{Inquiry, NotASystem};
 use crate::room::Room;
 use queue_records::Record;
 
-/// Tells a call the record that it asked for under names that it holds. What it knew of each system that it could not
-/// tell from s it knows of each such system afterwards too.
+/// Tells a call the record that it asked for under names that it holds. What it knew of each system
+/// that it could not tell from s it knows of each such system afterwards too.
 pub fn tell<I: Inquiry>(
     inquiry: &mut I,
     arguments: &I::Arguments,
@@ -60,8 +60,8 @@ pub fn tell_given<I: Inquiry>(
     inquiry.take_given(arguments, given)
 }
 
-/// What a call knows so is carried over to each system that it can't tell from that one, as others decide; and it knows
-/// it under more names.
+/// What a call knows so is carried over to each system that it can't tell from that one, as others
+/// decide; and it knows it under more names.
 pub fn carry_over<I: Inquiry>(inquiry: &I, arguments: &I::Arguments)
     ensures after { (names : List LockName) (room : Roomful) (s t : State) →
         AgreesFor (I.call arguments.now) names s t →

@@ -7,8 +7,8 @@ use queue_model::{Body, Call, MAX_BODY, NoMemory};
 use std::alloc::Global;
 use std::marker::Model;
 
-/// Room that is taken once, when a call begins, and moves into its answer. The bytes of a message that is received are
-/// copied here, out of its page.
+/// Room that is taken once, when a call begins, and moves into its answer. The bytes of a message
+/// that is received are copied here, out of its page.
 #[derive(Debug, Drop)]
 pub struct Room {
     bytes: Vec<u8>,
@@ -27,8 +27,8 @@ impl Model for Room {
 }
 
 impl Room {
-    /// Room for the answer to a call: for as many bytes as a Receive asks for and a message can have, and for none where
-    /// the call is another. Only a Receive is refused.
+    /// Room for the answer to a call: for as many bytes as a Receive asks for and a message can
+    /// have, and for none where the call is another. Only a Receive is refused.
     pub fn new(alloc: Global, call: &Call) -> Result<Room, NoMemory>
         ensures ok { IfOk result (λ room. HasRoom call.now room) }
         ensures err { OnErr result (IsReceive call.now) }

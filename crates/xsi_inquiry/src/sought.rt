@@ -20,7 +20,8 @@ pub enum Sought {
     Absent,
     /// Its Queue.
     Found(QueueEntry),
-    /// It has none, and calls on it are refused so: EINVAL for an id never given out, EIDRM for one removed.
+    /// It has none, and calls on it are refused so: EINVAL for an id never given out,
+    /// EIDRM for one removed.
     Refused(Errno),
 }
 

@@ -2,7 +2,6 @@
 use Rattle.xsi_receive.proofs.Names.{All, All-nil, Answers, Begins, Bool, Caller, Contains, Decides, Goes, InSlot, IsAnswered, IsFiled, IsItsType, IsLawfulQueue, KnowsHead, KnowsRemoval, List, LockName, Message, MessageHead, None, Option, Queue, QueueEntry, Receive, ReceiveArguments, Relink, Removal, Roomful, Some, State, TypeEntry, TypeLeft, Write, [], ap, arith, deletion_by, each_all, fine, first_of, guard_of, head_of, higher_by, is_counted, key_of_message, key_of_type, key_written, left_by, lowest_left, message_entry, nat_le, own_by, position_or_len, queue_entry, queue_left, receive_found, received, refl, removal_plan, remove, selects, serials_of_type, slot_all, slots_of, somes, subst, sym, to_higher, to_lower, to_next, to_previous, true, type_entry, types, where_none, with_queue, without_message, ℕ, ℤ, ◌&&◌, ◌∙◌, ◌∷◌, ◌≡◌}
 use Rattle.page_locks.specs.declared.lock.LockName.TheVariants as names
 use Rattle.queue_model.specs.declared.answer.Answer.TheVariants as answers
-use Rattle.queue_records.specs.declared.record.Record.TheVariants as records
 use Rattle.type_chains.proofs.FirstOfType.{IsTakenAt, taken_at}
 use Rattle.xsi_receive.proofs.FitLemmas.{place_of}
 use Rattle.xsi_receive.proofs.KnowingLemmas.{on_selected}

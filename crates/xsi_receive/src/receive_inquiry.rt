@@ -9,8 +9,9 @@ use queue_model::{Caller, ReceiveArguments};
 use queue_records::Record;
 use xsi_inquiry::{Decision, Inquiry, NotASystem, Room, Taken, Verdict, Wanted, Write};
 
-/// A Receive (POSIX.1-2017, `msgrcv()`) of a caller, as far as it has come with its reading: three records at most,
-/// however many messages stand on the queue. It keeps no bytes: those of the message go into the room.
+/// A Receive (POSIX.1-2017, `msgrcv()`) of a caller, as far as it has come with its reading: three
+/// records at most, however many messages stand on the queue. It keeps no bytes: those of the
+/// message go into the room.
 #[derive(Clone, Copy, Debug)]
 pub struct ReceiveInquiry {
     caller: Caller,
@@ -45,9 +46,11 @@ impl Inquiry for ReceiveInquiry {
 
     ghost plan = { λ a i. plan_at a.id i.stage };
 
-    ghost asks = { λ a i names s t found covered agrees told. stage_asks a.id i.stage s t found agrees.asked told };
+    ghost asks = { λ a i names s t found covered agrees told.
+        stage_asks a.id i.stage s t found agrees.asked told };
 
-    ghost asks_given = { λ a i names s t given agrees told. given_at a.id i.stage s t given agrees.asked told };
+    ghost asks_given = { λ a i names s t given agrees told.
+        given_at a.id i.stage s t given agrees.asked told };
 
     ghost few = { λ a i. few_at a.id i.stage };
 

@@ -15,7 +15,8 @@ use xsi_inquiry::{NotASystem, Write};
 pub enum TypeLeft {
     /// The message of this serial is the first of it now.
     Begins(u64),
-    /// It goes with its last message. Of the types on the queue this is the next lower one, and this the next higher.
+    /// It goes with its last message. Of the types on the queue this is the next lower one, and
+    /// this the next higher.
     Goes(Option<i64>, Option<i64>),
 }
 
@@ -78,8 +79,9 @@ impl Removal {
         })
     }
 
-    /// What is written in a slot, on the queue of an id: the Queue; the Messages before and behind it; its Type, or
-    /// those beside it; then the message goes, and its Type with the last message of it.
+    /// What is written in a slot, on the queue of an id: the Queue; the Messages before and
+    /// behind it; its Type, or those beside it; then the message goes, and its Type with the
+    /// last message of it.
     pub fn write(&self, id: u32, slot: usize) -> Option<Write>
         ensures { result ≡ slice_index_or (slots_of id self.now) slot None }
     {
@@ -121,7 +123,8 @@ impl Removal {
         Some(Write::Relink(message_key(id, serial), Links::Message(links)))
     }
 
-    /// Its Type begins with another message; or the next lower one is followed by the next higher one.
+    /// Its Type begins with another message; or the next lower one is followed by
+    /// the next higher one.
     fn own_write(&self, id: u32) -> Option<Write>
         ensures { result ≡ own_write id self.now }
     {

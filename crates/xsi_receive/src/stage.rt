@@ -104,8 +104,8 @@ impl Stage {
         Stage::AtMessage(*queue, None, serial)
     }
 
-    /// Tells the record at that key, or that there is none; it goes on in place. After an error it stands where it
-    /// stood.
+    /// Tells the record at that key, or that there is none; it goes on in place. After an error it
+    /// stands where it stood.
     pub fn take(
         &mut self,
         caller: Caller,
@@ -155,7 +155,8 @@ impl Stage {
         }
     }
 
-    /// Where it goes on once the message is read: where it is the last of its type, its Type is needed too.
+    /// Where it goes on once the message is read: where it is the last of its type, its
+    /// Type is needed too.
     fn of_head(
         pid: u32,
         arguments: &ReceiveArguments,

@@ -36,8 +36,8 @@ pub fn sent_trial<'a>(
     }
 }
 
-/// What is written behind the decision: the Queue, then Messages by serial, then Types by type. A Message or a Type gets
-/// new links where it stands.
+/// What is written behind the decision: the Queue, then Messages by serial, then Types by type. A
+/// Message or a Type gets new links where it stands.
 pub fn sent_write(
     pid: u32,
     arguments: &SendArguments,
@@ -105,7 +105,8 @@ pub fn sent_write(
     }
 }
 
-/// The links of a Message behind which the message of this serial comes, on the queue or of its type.
+/// The links of a Message behind which the message of this serial comes, on the queue
+/// or of its type.
 fn links_behind(serial: u64, on_queue: bool, of_type: bool) -> Links
     ensures { result ≡ links_behind serial on_queue of_type }
 {

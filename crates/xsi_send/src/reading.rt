@@ -80,7 +80,8 @@ fn at_queue(caller: Caller, arguments: &SendArguments, queue: QueueEntry) -> Sta
     Stage::AtType(queue)
 }
 
-/// The Type of the message's type. Where there is none, its neighbours are sought from the lowest type up.
+/// The Type of the message's type. Where there is none, its neighbours are sought from
+/// the lowest type up.
 pub fn take_type(
     caller: Caller,
     arguments: &SendArguments,

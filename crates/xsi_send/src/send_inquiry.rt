@@ -6,8 +6,9 @@ use queue_model::{Caller, Errno, SendArguments};
 use queue_records::Record;
 use xsi_inquiry::{Decision, Inquiry, NotASystem, Room, Verdict, Wanted, Write};
 
-/// A Send (POSIX.1-2017, `msgsnd()`) of a caller, as far as it has come with its reading: the Queue, then the Type of the
-/// message's type; where there is none, the Types from the lowest on up to the first that is greater.
+/// A Send (POSIX.1-2017, `msgsnd()`) of a caller, as far as it has come with its reading: the
+/// Queue, then the Type of the message's type; where there is none, the Types from the lowest on up
+/// to the first that is greater.
 #[derive(Clone, Copy, Debug)]
 pub struct SendInquiry {
     caller: Caller,
@@ -42,9 +43,11 @@ impl Inquiry for SendInquiry {
 
     ghost plan = { λ a i. plan_at i.caller.pid a i.stage };
 
-    ghost asks = { λ a i names s t found covered agrees told. stage_asks a i.stage s t found agrees.asked told };
+    ghost asks = { λ a i names s t found covered agrees told.
+        stage_asks a i.stage s t found agrees.asked told };
 
-    ghost asks_given = { λ a i names s t given agrees told. given_at a i.stage s t given agrees.asked told };
+    ghost asks_given = { λ a i names s t given agrees told.
+        given_at a i.stage s t given agrees.asked told };
 
     ghost few = { λ a i. few_at i.caller.pid a i.stage };
 

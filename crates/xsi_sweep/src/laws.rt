@@ -17,8 +17,8 @@ pub fn a_sweep_has_few_turns()
     ensures { HasFewTurns }
 {}
 
-/// What a Remove knows between its two phases each answered call keeps: an id is given out once, and no call changes a
-/// key.
+/// What a Remove knows between its two phases each answered call keeps: an id is given out once,
+/// and no call changes a key.
 pub fn others_keep_a_key()
     ensures { KeepsKeyed }
 {}

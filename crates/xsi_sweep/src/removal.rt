@@ -18,7 +18,8 @@ pub struct Removal {
 }
 
 impl Removal {
-    /// What is written in a slot, for the queue of an id: its Key goes, then its Queue; the Counter counts it no more.
+    /// What is written in a slot, for the queue of an id: its Key goes, then its Queue; the Counter
+    /// counts it no more.
     pub fn write(&self, id: u32, slot: usize) -> Option<Write>
         ensures { result ≡ slice_index_or (slots_of id self.now) slot None }
     {

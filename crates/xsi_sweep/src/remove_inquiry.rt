@@ -15,8 +15,9 @@ use queue_model::Caller;
 use queue_records::{Record, counter_key, queue_key};
 use xsi_inquiry::{Decision, Inquiry, NotASystem, Room, Sweep, Wanted, Write};
 
-/// A Remove (POSIX.1-2017, `msgctl()` with `IPC_RMID`). It is given an id. It has two phases, since the names that it
-/// needs depend on the queue's key: it reads the Queue; then, under the names, the Queue again and the Counter.
+/// A Remove (POSIX.1-2017, `msgctl()` with `IPC_RMID`). It is given an id. It has two phases, since
+/// the names that it needs depend on the queue's key: it reads the Queue; then, under the names,
+/// the Queue again and the Counter.
 #[derive(Clone, Copy, Debug)]
 pub struct RemoveInquiry {
     caller: Caller,
@@ -26,8 +27,9 @@ pub struct RemoveInquiry {
 const _: () = prove!(size_of::<RemoveInquiry>() <= 400);
 
 impl RemoveInquiry {
-    /// Between its two phases, the key of the queue that was found, which is none where the queue is private. It is all
-    /// that the call keeps of the first phase, so it may hold no name there while others decide.
+    /// Between its two phases, the key of the queue that was found, which is none where the
+    /// queue is private. It is all that the call keeps of the first phase, so it may hold no
+    /// name there while others decide.
     pub fn key(&self) -> Option<Option<u32>>
         ensures value { result ≡ key_at self.now.stage }
         ensures keyed { IfSome result (λ key. (id : ℕ) (room : Roomful) (s : State) →
@@ -42,8 +44,9 @@ impl RemoveInquiry {
         }
     }
 
-    /// The name at this place among those that it holds Exclusive, in the order in which they are taken: the queue's key,
-    /// where it has one, the Counter and the queue. In its first phase there is none.
+    /// The name at this place among those that it holds Exclusive, in the order in which they
+    /// are taken: the queue's key, where it has one, the Counter and the queue. In its first
+    /// phase there is none.
     pub fn name(&self, id: u32, place: usize) -> Option<LockName>
         ensures { result ≡ slice_get (locked_at id self.now.stage) place }
     {
@@ -59,7 +62,8 @@ impl RemoveInquiry {
         }
     }
 
-    /// Where it decides, all names under which it writes are those of the key that it knew between its phases.
+    /// Where it decides, all names under which it writes are those of the key that it
+    /// knew between its phases.
     pub fn keeps_to_its_names(&self)
         ensures { (id : ℕ) (key : Option ℕ) (room : Roomful) (s : State) →
             ⟦<RemoveInquiry as Inquiry>⟧.wanted id self.now ≡ None → IsKeyed id key s →

@@ -26,7 +26,8 @@ pub enum Stage {
     Refused(Errno),
     /// The queue was found, and has this key. Its Queue is asked for again once the names are held.
     Keyed(Option<u32>),
-    /// The names are held, with the name of this key. This is the Queue, where it is still there: the Counter is next.
+    /// The names are held, with the name of this key. This is the Queue, where it is still there:
+    /// the Counter is next.
     Counting(Option<u32>, Option<QueueEntry>),
     /// Nothing is: the queue goes.
     Removing(Removal),
@@ -89,7 +90,8 @@ impl Stage {
         }
     }
 
-    /// Where it ends once the Counter is read: the queue has gone, or is not the caller's to remove, or goes.
+    /// Where it ends once the Counter is read: the queue has gone, or is not the caller's
+    /// to remove, or goes.
     fn of_counter(
         caller: Caller,
         id: u32,

@@ -11,7 +11,8 @@ ghost use Rattle.xsi_sweep.specs.Turns.{IsAtTurn, begun_turn, read_of, turn_next
 use queue_records::{MessageEntry, Record, message_key, type_key};
 use xsi_inquiry::{NotASystem, Wanted, Write, message_in};
 
-/// A turn of a sweep: of the queue's messages it takes away the first that is left. It reads that Message alone.
+/// A turn of a sweep: of the queue's messages it takes away the first that is left. It
+/// reads that Message alone.
 #[derive(Clone, Copy, Debug)]
 pub struct Turn {
     /// The queue.
@@ -68,8 +69,9 @@ impl Turn {
         }
     }
 
-    /// Tells it the Message. For every lawful system of whose queue the messages before this one were swept, what is
-    /// written then takes this one away too. After an error it stands where it stood.
+    /// Tells it the Message. For every lawful system of whose queue the messages before this
+    /// one were swept, what is written then takes this one away too. After an error it
+    /// stands where it stood.
     pub fn take(&mut self, found: Option<Record<'_>>) -> Result<(), NotASystem>
         ensures told { (count : ℕ) (q : Queue) (s : State) → IsFiled s →
             IsAtTurn count q s self.old →
@@ -87,7 +89,8 @@ impl Turn {
         Ok(())
     }
 
-    /// The write in this slot, where there is one: the Message goes, and its Type with the last message of it.
+    /// The write in this slot, where there is one: the Message goes, and its Type with the
+    /// last message of it.
     pub fn write(&self, slot: usize) -> Option<Write>
         ensures { result ≡ slice_index_or (turn_plan self.now).slots slot None }
     {
