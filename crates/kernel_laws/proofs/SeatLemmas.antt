@@ -45,8 +45,8 @@ not_owed names o key own none = by (owes_at o key) refl
 
 module _ (held : List (List LockName)) (os : List Owes) (theirs : OweUnderTheirs held os) where
   -- a seat that has the key's name owes it alone
-  pub others_owe_not : (seat other : ℕ) (key : RecordKey) → other ≢ seat → Contains (names_of held seat) (guard_of key) →
-      owes_at (owes_of os other) key ≡ false
+  pub others_owe_not : (seat other : ℕ) (key : RecordKey) → other ≢ seat →
+      Contains (names_of held seat) (guard_of key) → owes_at (owes_of os other) key ≡ false
   others_owe_not seat other key apart has = not_owed (names_of held other) (owes_of os other) key (theirs.own other)
       (λ both. theirs.apart other seat apart (guard_of key) both has)
 
