@@ -98,7 +98,7 @@ module _ (held : List (List LockName)) (os : List Owes) (theirs : OweUnderTheirs
         (not_owed (names_of held seat) o key own none) same
 
 pub are_apart : AreApart
-are_apart held os theirs seat other key apart owes =
+are_apart held os theirs seat other apart key owes =
     others_owe_not held os theirs seat other key (λ same. apart (sym same)) (theirs.own seat key owes)
 
 pub decisions_lead : DecisionsLead

@@ -5,8 +5,8 @@ use Rattle.kernel_laws.specs.Words.{AreAlike, LeadsOver, LockName, Owes, OwesUnd
 use Rattle.kernel_laws.specs.Seats.{OweUnderTheirs, WillStand, names_of, owes_of}
 
 abbrev pub AreApart : Type 0
-AreApart = (held : List (List LockName)) (os : List Owes) → OweUnderTheirs held os →
-    (seat other : ℕ) (key : RecordKey) → seat ≢ other → owes_at (owes_of os seat) key ≡ true → owes_at (owes_of os other) key ≡ false
+AreApart = (held : List (List LockName)) (os : List Owes) → OweUnderTheirs held os → (seat other : ℕ) →
+    seat ≢ other → (key : RecordKey) → owes_at (owes_of os seat) key ≡ true → owes_at (owes_of os other) key ≡ false
 
 -- what is owed under names of one's own leaves all that will stand right
 pub record KeepOwing (held : List (List LockName)) (os : List Owes) (records : Records) (s : State) : Type 0 where
