@@ -15,7 +15,7 @@ use Rattle.file_walk.specs.declared.fault.StructureFault.TheVariants as faults
 use Rattle.file_walk.specs.Files.{payload_on, said_by, said_on, header_on, entries_of}
 use Rattle.file_walk.specs.declared.form.Form.{Form}
 use Rattle.file_walk.specs.Outlines.{shown, bare}
-use Rattle.file_walk.specs.Order.{IsCut, IsTooLong, is_directory, IsSealFault, may_stand, after_reading, malformed_on, IsRightPage, IsFaultOf, IsOfMachine, IsHeaderFault}
+use Rattle.file_walk.specs.Order.{IsCut, IsTooLong, is_directory, IsUnread, may_stand, after_reading, malformed_on, IsRightPage, IsFaultOf, IsOfMachine, IsHeaderFault}
 use Rattle.file_walk.specs.Readings.{IsPayloadOf, IsFormOf, TakesEntries}
 use Rattle.file_walk.proofs.KeptLemmas.{taken_length}
 
@@ -104,19 +104,19 @@ pub header_read : (content : List (List ℕ)) (payload : List ℕ) (h : Header) 
 header_read content payload h p e =
     ap header.reading (sym p.value) ∙ sym e ∙ ap (λ x. Ok x) (header_is content payload h p e)
 
--- a page that is not sealed is wrong so, as the header is
+-- a page that is there and not sealed is wrong so; of page 0 it is the header's fault also that there is no page
 module _ (content : List (List ℕ)) where
-  pub seal_fault : (n : ℕ) (fault : StructureFault) → IsOfMachine fault ⊎ IsSealFault content n fault →
+  pub seal_fault : (n : ℕ) (fault : StructureFault) → n < length content → IsOfMachine fault ⊎ IsUnread content n fault →
       IsOfMachine fault ⊎ IsFaultOf content n fault
-  seal_fault n fault (inl machine) = inl machine
-  seal_fault n (faults.BadDigest page) (inr h) = inr h
-  seal_fault n fault (inr h) = absurd h
+  seal_fault n fault there (inl machine) = inl machine
+  seal_fault n fault there (inr (inl past)) = absurd (omega (arith, there, past.1))
+  seal_fault n fault there (inr (inr bad)) = inr (rw bad.0 (refl, bad.2))
 
-  pub header_fault : (fault : StructureFault) → 0 < length content → IsOfMachine fault ⊎ IsSealFault content 0 fault →
+  pub header_fault : (fault : StructureFault) → IsOfMachine fault ⊎ IsUnread content 0 fault →
       IsOfMachine fault ⊎ IsHeaderFault content fault
-  header_fault fault there (inl machine) = inl machine
-  header_fault (faults.BadDigest page) there (inr h) = inr (h.0, there, h.1)
-  header_fault fault there (inr h) = absurd h
+  header_fault fault (inl machine) = inl machine
+  header_fault fault (inr (inl past)) = inr (rw past.0 (inl (omega (arith, past.1))))
+  header_fault fault (inr (inr bad)) = inr (rw bad.0 (refl, bad.1, bad.2))
 
   -- a page from the root on that is no directory page is kept so
   pub form_taken : (n : ℕ) (payload : List ℕ) (page : PageKind) (form : Form) → IsPayloadOf content n payload →

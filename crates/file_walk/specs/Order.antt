@@ -16,6 +16,12 @@ use Rattle.file_walk.specs.declared.fault.StructureFault.{StructureFault}
 use Rattle.file_walk.specs.declared.fault.StructureFault.TheVariants as faults
 use Rattle.file_walk.specs.Files.{page_on, payload_on, said_on, header_on}
 
+-- what reading page n tells: there is none, or it is not sealed
+abbrev pub IsUnread : List (List ℕ) → ℕ → StructureFault → Type 0
+IsUnread content n fault =
+    ((fault ≡ faults.PastEnd) × (length content ≤ n))
+    ⊎ ((fault ≡ faults.BadDigest n) × (n < length content) × (IsSealed n (page_on content n) → ⊥))
+
 -- ---- 1: page 0
 
 -- page 0 is the header of a file of so many pages
@@ -76,11 +82,6 @@ pub record IsRightPage (content : List (List ℕ)) (n : ℕ) : Type 0 where
 
 abbrev pub AreRight : List (List ℕ) → ℕ → ℕ → Type 0
 AreRight content from to = (n : ℕ) → from ≤ n → n < to → IsRightPage content n
-
--- page n is not sealed
-abbrev pub IsSealFault : List (List ℕ) → ℕ → StructureFault → Type 0
-IsSealFault content n (faults.BadDigest page) = (page ≡ n) × (IsSealed n (page_on content n) → ⊥)
-IsSealFault content n fault = ⊥
 
 -- what is wrong with page n
 abbrev pub IsFaultOf : List (List ℕ) → ℕ → StructureFault → Type 0

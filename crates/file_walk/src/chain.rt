@@ -9,8 +9,8 @@ use crate::outline::Outline;
 use positions::POSITIONS;
 use std::alloc::Global;
 
-/// The pages of the chain, from the root to its end. Each stands where the range of the one before it stops, so none is
-/// met twice.
+/// The pages of the chain, from the root to its end. Each stands where the range of the one before
+/// it stops, so none is met twice.
 pub fn chain_of(alloc: Global, file: &Outline) -> Result<Vec<u32>, StructureFault>
     ensures ok { IfOk result (λ chain. IsRightChain file.now chain.items) }
     ensures err { IfErr result (λ fault. LacksMemory fault ⊎ IsChainFault file.now fault) }

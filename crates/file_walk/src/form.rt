@@ -4,7 +4,8 @@ ghost use Rattle.std.specs.Prelude.{◌≡◌};
 
 use hash_file::Shape;
 
-/// A page without its records: all that the chain, the list of free pages and the directory see of it.
+/// A page without its records: all that the chain, the list of free pages and the
+/// directory see of it.
 #[derive(Clone, Copy, Debug, PartialEq, Eq)]
 pub enum Form {
     Bucket(Shape),

@@ -10,8 +10,8 @@ use crate::fault::StructureFault;
 use crate::outline::Outline;
 use directory::GREATEST_DEPTH;
 
-/// Tests that no bucket is deeper than the directory, that each entry is the bucket of its index, and that the header's
-/// counts are those of the chain.
+/// Tests that no bucket is deeper than the directory, that each entry is the bucket of its index,
+/// and that the header's counts are those of the chain.
 pub fn test_directory(file: &Outline, chain: &[u32]) -> Result<(), StructureFault>
     requires chain { IsRightChain file.now chain.now }
     requires spares { HasRightSpares file.now chain.now }
@@ -51,7 +51,8 @@ fn test_entries(file: &Outline, chain: &[u32]) -> Result<(), StructureFault>
     Ok(())
 }
 
-/// Whether an entry is the bucket on the chain whose range has its index. Each bucket of the file is on the chain.
+/// Whether an entry is the bucket on the chain whose range has its index. Each bucket of the file
+/// is on the chain.
 fn is_bucket_of(file: &Outline, chain: &[u32], index: u32) -> bool
     requires chain { IsRightChain file.now chain.now }
     requires spares { HasRightSpares file.now chain.now }

@@ -11,8 +11,9 @@ use directory::{Header, ROOT_PAGE};
 use hash_file::Shape;
 use std::marker::Model;
 
-/// What is kept of a file while it is walked: its header, the entries of its directory and its pages without their
-/// records. A clause sees it as a file. It takes 16 bytes a page, and four an entry.
+/// What is kept of a file while it is walked: its header, the entries of its directory and
+/// its pages without their records. A clause sees it as a file. It takes 16 bytes a page,
+/// and four an entry.
 #[derive(Debug, Drop)]
 pub struct Outline {
     pub(crate) header: Header,

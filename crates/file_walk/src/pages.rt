@@ -4,22 +4,23 @@ ghost use Rattle.std.specs.Prelude.{◌≡◌, ◌≤◌, ◌<◌, ◌^◌, ◌�
 ghost use Rattle.directory.specs.declared.layout.TheConstants.{FIRST_DIRECTORY_PAGE, GREATEST_DEPTH, LEAST_PAGES, ROOT_PAGE};
 ghost use Rattle.directory.specs.declared.layout.TheConstants.{PAGE_ENTRIES};
 ghost use Rattle.file_walk.specs.Outlines.{shape_of_bucket};
-ghost use Rattle.file_walk.specs.Order.{HasReadCause, IsFaultOf, IsFirstWrong, IsHeaderFault, IsOfMachine, IsReadingFault, IsSealFault};
-ghost use Rattle.file_walk.specs.Readings.{AreEntriesOf, AreFormsOf, IsFormOf, IsHeaderOf, IsOutlineOf, IsPayloadOf, TakesEntries};
+ghost use Rattle.file_walk.specs.Order.{HasReadCause, IsFaultOf, IsFirstWrong, IsOfMachine, IsReadingFault};
+ghost use Rattle.file_walk.specs.Readings.{AreEntriesOf, AreFormsOf, IsFormOf, IsOutlineOf, TakesEntries};
 
 use crate::fault::StructureFault;
 use crate::form::Form;
+use crate::header_page::header_of;
 use crate::outline::Outline;
+use crate::sealed_page::read_sealed;
 use bucket_page::{BucketView, Malformed, PageKind, read_page};
-use directory::{
-    DirectoryView, FIRST_DIRECTORY_PAGE, Header, HeaderFault, PAGE_ENTRIES, ROOT_PAGE, read_header,
-};
+use directory::{DirectoryView, FIRST_DIRECTORY_PAGE, PAGE_ENTRIES, ROOT_PAGE};
 use hash_file::Shape;
-use page_device::{DeviceFault, PAGE_BYTES, PAYLOAD_BYTES, PageDevice, Payload, unseal_into};
+use page_device::{PAYLOAD_BYTES, PageDevice};
 use positions::Range;
 use std::alloc::{AllocFailed, Global};
 
-/// Reads the header and then each page: its digest first, and then what it spells. Each page is read once.
+/// Reads the header and then each page: its digest first, and then what it spells. Each
+/// page is read once.
 pub fn read_outline<D: PageDevice>(alloc: Global, device: &mut D) -> Result<Outline, StructureFault>
     ensures ok { IsTrue (D.is_honest device.old) →
         IfOk result (IsOutlineOf (D.content device.old)) }
@@ -37,62 +38,6 @@ pub fn read_outline<D: PageDevice>(alloc: Global, device: &mut D) -> Result<Outl
         entries,
         forms,
     })
-}
-
-/// The header, where page 0 is one and tells of as many pages as there are.
-fn header_of<D: PageDevice>(device: &mut D) -> Result<Header, StructureFault>
-    ensures ok { IfOk result (IsHeaderOf (D.is_honest device.old) (D.content device.old)) }
-    ensures err { IsTrue (D.is_honest device.old) →
-        IfErr result (λ fault. IsOfMachine fault ⊎ IsHeaderFault (D.content device.old) fault) }
-    ensures same { D.content device.new ≡ D.content device.old }
-    ensures honest { D.is_honest device.new ≡ D.is_honest device.old }
-    ensures cause { HasReadCause (D.fault_count device.old) (D.fault_count device.new) result }
-{
-    let pages = device.pages();
-    if pages == 0 {
-        return Err(StructureFault::PastEnd);
-    }
-    let mut payload = [0; PAYLOAD_BYTES];
-    read_sealed(device, 0, &mut payload)?;
-    let header = match read_header(&payload) {
-        Ok(header) => header,
-        Err(HeaderFault::BadHeader) => return Err(StructureFault::BadHeader),
-        Err(HeaderFault::BadVersion) => return Err(StructureFault::BadVersion),
-    };
-    if pages < header.pages {
-        return Err(StructureFault::PastEnd);
-    }
-    if pages > header.pages {
-        return Err(StructureFault::BadHeader);
-    }
-    Ok(header)
-}
-
-/// Reads the payload of a page, and tests its digest.
-fn read_sealed<D: PageDevice>(
-    device: &mut D,
-    page: u32,
-    payload: &mut Payload,
-) -> Result<(), StructureFault>
-    requires { page < length (D.content device.old) }
-    ensures ok { IsTrue (D.is_honest device.old) →
-        OnOk result (IsPayloadOf (D.content device.old) page payload.new) }
-    ensures err { IsTrue (D.is_honest device.old) →
-        IfErr result (λ fault. IsOfMachine fault ⊎ IsSealFault (D.content device.old) page fault) }
-    ensures same { D.content device.new ≡ D.content device.old }
-    ensures honest { D.is_honest device.new ≡ D.is_honest device.old }
-    ensures cause { HasReadCause (D.fault_count device.old) (D.fault_count device.new) result }
-{
-    let mut bytes = [0; PAGE_BYTES];
-    match device.read(page, &mut bytes) {
-        Ok(()) => {}
-        Err(DeviceFault::PastEnd) => return Err(StructureFault::PastEnd),
-        Err(_) => return Err(StructureFault::Device),
-    }
-    match unseal_into(page, &bytes, payload) {
-        Ok(()) => Ok(()),
-        Err(_) => Err(StructureFault::BadDigest { page }),
-    }
 }
 
 /// The entries of a directory of a depth, from its pages.

@@ -9,7 +9,8 @@ use crate::fault::StructureFault;
 use crate::outline::Outline;
 use std::alloc::{AllocError, Global};
 
-/// Walks the list of free pages. Each page is marked once, as one of the chain or of this list, so the walk ends.
+/// Walks the list of free pages. Each page is marked once, as one of the chain or of this list,
+/// so the walk ends.
 pub fn test_spares(alloc: Global, file: &Outline, chain: &[u32]) -> Result<(), StructureFault>
     requires { IsRightChain file.now chain.now }
     ensures ok { OnOk result (HasRightSpares file.now chain.now) }

@@ -1,4 +1,5 @@
-//! Files of a system of which all records stand in the root bucket: what they show, and that they stay such files.
+//! Files of a system of which all records stand in the root bucket: what they show, and that
+//! they stay such files.
 
 #![tactic(auto)]
 

@@ -39,12 +39,6 @@ pub record IsOfCheck (old new : ℕ) (fault : OpenFault) : Type 0 where
   pub framed : fault ≢ TooFewFrames
   pub failed : fault ≡ device_failed → HasRisen old new
 
--- what reading page n tells: there is none, or it is not sealed
-abbrev pub IsUnread : List (List ℕ) → ℕ → StructureFault → Type 0
-IsUnread content n fault =
-    ((fault ≡ faults.PastEnd) × (length content ≤ n))
-    ⊎ ((fault ≡ faults.BadDigest n) × (n < length content) × (IsSealed n (page_on content n) → ⊥))
-
 -- why a caller does not open these pages, by page 0 alone
 abbrev pub MayRefuseHeader : List (List ℕ) → OpenFault → Type 0
 MayRefuseHeader content TooFewFrames = ⊤

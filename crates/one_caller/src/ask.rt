@@ -13,7 +13,8 @@ use page_device::PageDevice;
 use queue_records::{Record, counter_key};
 use xsi_inquiry::{Inquiry, NotASystem, Room, Wanted, counter_in};
 
-/// Tells a call all that it asks for. Nobody else changes the file, so its Counter tells whether an id was given out.
+/// Tells a call all that it asks for. Nobody else changes the file, so its Counter tells whether an
+/// id was given out.
 pub fn ask<D: PageDevice, I: Inquiry>(
     file: &OneBucket<D>,
     inquiry: &mut I,

@@ -22,9 +22,9 @@ pub struct Asked {
 }
 
 impl<D: PageDevice> OneCaller<D> {
-    /// Serves calls one after the other. Each is told what the rules say of the system that those before it left: its
-    /// answer, that it has to wait, or a fault that leaves the system; and behind the last the file holds the system
-    /// that they left.
+    /// Serves calls one after the other. Each is told what the rules say of the system that those
+    /// before it left: its answer, that it has to wait, or a fault that leaves the system; and
+    /// behind the last the file holds the system that they left.
     ///
     /// Room for what they are told is made first; without it nothing is served.
     pub fn call_all(

@@ -15,7 +15,8 @@ use crate::one_bucket::OneBucket;
 use page_device::PageDevice;
 use xsi_inquiry::{Inquiry, NotASystem, Write, next_write};
 
-/// Carries out what a call decided. Where a record does not fit, those inserted before it are deleted again.
+/// Carries out what a call decided. Where a record does not fit, those inserted before
+/// it are deleted again.
 pub fn carry<D: PageDevice, I: Inquiry>(
     file: &mut OneBucket<D>,
     inquiry: &I,

@@ -1,4 +1,5 @@
-//! Changes of one record in an open file. What is asked is tested, so that records of no system are met by a fault.
+//! Changes of one record in an open file. What is asked is tested, so that records of no system are
+//! met by a fault.
 
 ghost use Rattle.std.specs.Prelude.{◌≡◌, ◌+◌, ◌<◌, false, length, Some, None, Err, OnErr, OnOk, IsOk};
 ghost use Rattle.bucket_page.specs.Records.{record_bytes};
@@ -69,7 +70,8 @@ pub fn replace<D: PageDevice>(file: &mut OneBucket<D>, entry: &Record<'_>) -> Re
     Ok(())
 }
 
-/// Gives the Message or the Type of a key these links, in its place on the page. The rest of its value stays.
+/// Gives the Message or the Type of a key these links, in its place on the page. The rest
+/// of its value stays.
 pub fn relink<D: PageDevice>(
     file: &mut OneBucket<D>,
     key: &RecordKey,

@@ -3,24 +3,23 @@
 ghost use Rattle.std.specs.Prelude.{◌≡◌, ◌⊎◌, ◌↔◌, ◌≤◌, IsTrue, IfOk, IfErr, OnOk};
 ghost use Rattle.directory.specs.declared.layout.TheConstants.{ROOT_PAGE};
 ghost use Rattle.file_walk.specs.Files.{payload_on};
-ghost use Rattle.file_walk.specs.Order.{HasReadCause, IsOfMachine};
+ghost use Rattle.file_walk.specs.Order.{HasReadCause, IsOfMachine, IsUnread};
 ghost use Rattle.one_bucket_file.specs.Files.{IsRoot, root_records};
 ghost use Rattle.one_caller.specs.OneBucket.{device_in};
-ghost use Rattle.one_caller.specs.Opening.{HasOneBucket, IsOfCheck, IsUnread, MayRefuse};
+ghost use Rattle.one_caller.specs.Opening.{HasOneBucket, IsOfCheck, MayRefuse};
 
 use crate::file_fault::OpenFault;
 use crate::one_bucket::is_root;
-use crate::sealed_page::read_sealed;
 use bucket_page::PseudoKey;
 use directory::ROOT_PAGE;
 use file_check::{Checked, check};
-use file_walk::StructureFault;
-use page_device::PageDevice;
+use file_walk::{StructureFault, read_sealed};
+use page_device::{PAYLOAD_BYTES, PageDevice};
 use page_forms::FilePage;
 use std::alloc::Global;
 
-/// Checks the file on a device, and that it has one bucket; gives the device back either way. What the check found of
-/// the system is dropped: a caller reads records and keeps no system.
+/// Checks the file on a device, and that it has one bucket; gives the device back either way. What
+/// the check found of the system is dropped: a caller reads records and keeps no system.
 pub fn checked<D: PageDevice, K: PseudoKey + Drop>(
     alloc: Global,
     device: D,
@@ -58,7 +57,8 @@ fn has_root_bucket<D: PageDevice>(device: &mut D) -> Result<bool, StructureFault
     ensures honest { D.is_honest device.new ≡ D.is_honest device.old }
     ensures cause { HasReadCause (D.fault_count device.old) (D.fault_count device.new) result }
 {
-    let payload = read_sealed(device, ROOT_PAGE)?;
+    let mut payload = [0; PAYLOAD_BYTES];
+    read_sealed(device, ROOT_PAGE, &mut payload)?;
     match FilePage::read(&payload) {
         Some(page) => Ok(is_root(&page)),
         None => Ok(false),

@@ -2,7 +2,8 @@
 
 ghost use Rattle.one_caller.specs.Laws.{IsNeverRefused};
 
-/// The file of a system with one bucket is refused for want of a frame or of memory, or by its device, and not else.
+/// The file of a system with one bucket is refused for want of a frame or of memory, or by its
+/// device, and not else.
 pub fn a_file_of_one_bucket_is_never_refused()
     ensures { IsNeverRefused }
 {}

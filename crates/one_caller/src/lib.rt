@@ -1,5 +1,5 @@
-//! Calls served one at a time over a file of which all records stand in the root bucket. The answer is the outcome by
-//! the rules, and the records become those of the system after it.
+//! Calls served one at a time over a file of which all records stand in the root bucket. The answer
+//! is the outcome by the rules, and the records become those of the system after it.
 
 #![tactic(auto)]
 
@@ -10,11 +10,9 @@ mod change;
 mod checked;
 mod fault;
 mod file_fault;
-mod header_test;
 mod laws;
 mod one_bucket;
 mod one_caller;
-mod sealed_page;
 mod serve;
 mod served;
 mod sweep;

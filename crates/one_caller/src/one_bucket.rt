@@ -1,7 +1,7 @@
 //! A file of which all records stand in the root bucket, while it is open.
 //!
-//! Its directory has depth 0, where entry 0 is that of each pseudokey. So no pseudokey is computed: a
-//! record can stand on no other page.
+//! Its directory has depth 0, where entry 0 is that of each pseudokey. So no pseudokey is computed:
+//! a record can stand on no other page.
 
 ghost use Rattle.std.specs.Prelude.{◌≡◌, ◌≢◌, ◌↔◌, ◌+◌, ◌<◌, ◌≤◌, true, false, length, Some, None, IsTrue, IsErr, IsErrAnd, IsSome, IfSome, IfNone, IfOk, IfErr, OnOk, OnErr};
 ghost use Rattle.bucket_page.specs.declared.layout.TheConstants.{RECORD_HEAD_BYTES, ROOM_BYTES};
@@ -14,23 +14,22 @@ ghost use Rattle.one_caller.specs.Opening.{MayRefuseHeader};
 ghost use Rattle.one_caller.specs.OneBucket.{HasCauseToFail, IsRoot, Leaves, Shows, device_in};
 
 use crate::file_fault::{CloseFault, OpenFault};
-use crate::header_test::test_header;
 use bucket_page::{DoesNotFit, RecordKey, bucket_of};
 use buffer_pool::{Frame, Pool, PoolFault};
 use directory::ROOT_PAGE;
-use file_walk::StructureFault;
+use file_walk::{StructureFault, header_of};
 use page_device::{DeviceFault, PageDevice};
 use page_forms::FilePage;
 use std::alloc::Global;
 use std::marker::Model;
 
-/// A file that is open, whose records stand in the root bucket. A clause sees them as a list of pairs
-/// in the order of their keys.
+/// A file that is open, whose records stand in the root bucket. A clause sees them as a list of
+/// pairs in the order of their keys.
 ///
 /// The root page is pinned, so no call but `open` and `close` meets a transfer. It is to be closed.
 ///
-/// Where the root page has a wrong digest or is no root bucket the file is broken: it has no record,
-/// takes none, and its pages stay as they are.
+/// Where the root page has a wrong digest or is no root bucket the file is broken: it has no
+/// record, takes none, and its pages stay as they are.
 pub struct OneBucket<D: PageDevice> {
     pool: Pool<D>,
     /// None where the root page is no root bucket.
@@ -68,8 +67,8 @@ impl<D: PageDevice> OneBucket<D> {
         if frames == 0 {
             return Err((device, OpenFault::TooFewFrames));
         }
-        match test_header(&mut device) {
-            Ok(()) => {}
+        match header_of(&mut device) {
+            Ok(_) => {}
             Err(fault) => return Err((device, OpenFault::from(fault))),
         }
         let mut pool = match Pool::open(alloc, device, frames) {
@@ -170,8 +169,8 @@ impl<D: PageDevice> OneBucket<D> {
         self.pool.image_mut(root).remove(key);
     }
 
-    /// Writes the root page to the device, and gives the device back. The pages of a broken file stay
-    /// as they are.
+    /// Writes the root page to the device, and gives the device back. The pages of a broken file
+    /// stay as they are.
     pub fn close(self) -> Result<D, (D, CloseFault)>
         ensures ok { IsTrue self.honest → IfOk result (λ device. Leaves self (D.content device)) }
         ensures synced { IsTrue self.honest → IfOk result (λ device. IsTrue (D.is_synced device)) }

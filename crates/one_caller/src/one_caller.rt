@@ -25,8 +25,8 @@ use std::marker::Model;
 use type_chains::{a_callers_numbers_fit, a_calls_numbers_fit};
 use xsi_inquiry::Room;
 
-/// Serves calls one at a time over a file of which all records stand in the root bucket. It reads records and never
-/// keeps a system. It is to be closed.
+/// Serves calls one at a time over a file of which all records stand in the root bucket. It reads
+/// records and never keeps a system. It is to be closed.
 pub struct OneCaller<D: PageDevice> {
     file: OneBucket<D>,
     stopped: bool,
@@ -42,9 +42,9 @@ impl<D: PageDevice> Model for OneCaller<D> {
 }
 
 impl<D: PageDevice> OneCaller<D> {
-    /// Checks the file on a device and opens it, with so many frames for its pages. The system is not stopped. A file
-    /// with which anything is wrong is refused by the first thing that is, and one with more than one bucket too. Each
-    /// refusal gives the device back.
+    /// Checks the file on a device and opens it, with so many frames for its pages. The system is
+    /// not stopped. A file with which anything is wrong is refused by the first thing that is, and
+    /// one with more than one bucket too. Each refusal gives the device back.
     pub fn open<K: PseudoKey + Drop>(
         alloc: Global,
         device: D,
@@ -77,9 +77,10 @@ impl<D: PageDevice> OneCaller<D> {
         })
     }
 
-    /// Serves a call of a caller. Where the file holds a system, the call is answered with its outcome by the rules, and
-    /// the file holds the system after it; or the call has to wait, which changes nothing; or there is no room for a
-    /// record, or no memory for the message that a Receive is to be given, which changes nothing either.
+    /// Serves a call of a caller. Where the file holds a system, the call is answered with its
+    /// outcome by the rules, and the file holds the system after it; or the call has to wait, which
+    /// changes nothing; or there is no room for a record, or no memory for the message that a
+    /// Receive is to be given, which changes nothing either.
     ///
     /// `Failed` where the records are not those of a system, and from then on for each call.
     pub fn call(&mut self, alloc: Global, caller: Caller, call: &Call) -> Result<Served, CallFault>
@@ -113,7 +114,8 @@ impl<D: PageDevice> OneCaller<D> {
         self.stopped = true;
     }
 
-    /// Writes the records to the device, and gives the device back. Where a call has failed nothing is written.
+    /// Writes the records to the device, and gives the device back. Where a call has
+    /// failed nothing is written.
     pub fn close(self) -> Result<D, (D, CloseFault)>
         ensures ok { (hash : RecordKey → ℕ) (s : State) → Holds self s → IfOk result (λ device.
             IsTrue (D.is_honest device) →
@@ -148,8 +150,8 @@ fn fails(served: &Result<Served, CallFault>) -> bool
     }
 }
 
-/// Answers a call from the records of a file. Room for its answer is taken first; a call that is put off waits, or ends
-/// with EINTR once the system is stopped.
+/// Answers a call from the records of a file. Room for its answer is taken first; a call that is
+/// put off waits, or ends with EINTR once the system is stopped.
 fn answer<D: PageDevice>(
     file: &mut OneBucket<D>,
     stopped: bool,

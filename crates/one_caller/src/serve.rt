@@ -18,8 +18,8 @@ use page_device::PageDevice;
 use queue_model::{Answer, Call, Caller};
 use xsi_inquiry::{Decision, Inquiry, Room};
 
-/// Serves a call in the room that was taken for it: it is told what it asks for, it decides, and what it decided is
-/// carried out. No memory is taken on the way. None where it is put off.
+/// Serves a call in the room that was taken for it: it is told what it asks for, it decides, and
+/// what it decided is carried out. No memory is taken on the way. None where it is put off.
 pub fn serve<D: PageDevice>(
     file: &mut OneBucket<D>,
     caller: Caller,

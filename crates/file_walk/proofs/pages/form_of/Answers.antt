@@ -1,8 +1,9 @@
 -- What is kept of a page, or why it is refused.
 use Rattle.std.proofs.Common.{refl, ap, inr}
+use Rattle.std.proofs.lemmas.Result.{err_from_is_err_and}
 use Rattle.file_walk.specs.Outlines.{shown}
 use Rattle.file_walk.specs.declared.form.Form.TheVariants as forms
-use Rattle.file_walk.proofs.PageLemmas.{form_taken, form_misplaced, is_malformed}
+use Rattle.file_walk.proofs.PageLemmas.{form_taken, form_misplaced, is_malformed, seal_fault}
 use Rattle.file_walk.proofs.pages.form_of.Goals as goal
 
 pub returns-in-Ok-Bucket-clause-ok : goal.returns-in-Ok-Bucket-clause-ok
@@ -29,3 +30,8 @@ returns-in-Ok-Directory-clause-err g c = λ honest.
 pub returns-in-Err-clause-err : goal.returns-in-Err-clause-err
 returns-in-Err-clause-err g c = λ honest.
     inr (is_malformed _ _ _ (c.in_ok-read_sealed.ensures.ok honest) _ c.in-Err.ensures.value)
+
+pub returns-in_err-read_sealed-clause-err : goal.returns-in_err-read_sealed-clause-err
+returns-in_err-read_sealed-clause-err g c = λ honest.
+    let p = err_from_is_err_and c.from_residual.result c.from_residual.ensures.1 in
+    rw (p.1, p.2) (seal_fault _ _ _ c.requires.within (c.in_err-read_sealed.ensures.err honest))

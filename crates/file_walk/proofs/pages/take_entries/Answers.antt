@@ -1,5 +1,6 @@
 use Rattle.std.proofs.Common.{refl, inr}
-use Rattle.file_walk.proofs.PageLemmas.{entries_taken, is_malformed, directory_misplaced}
+use Rattle.std.proofs.lemmas.Result.{err_from_is_err_and}
+use Rattle.file_walk.proofs.PageLemmas.{entries_taken, is_malformed, directory_misplaced, seal_fault}
 use Rattle.file_walk.proofs.pages.take_entries.Goals as goal
 
 pub returns-clause-ok : goal.returns-clause-ok
@@ -30,3 +31,8 @@ returns-in-Ok-Free-clause-err g c = λ honest.
     let e = rw c.in-Ok-Free.field-0-is at c.in-Ok-Free.ensures.value in
     inr (directory_misplaced _ _ _ _ _ (c.in_ok-read_sealed.ensures.ok honest) e c.requires.below refl
     c.misplaced-in-Ok-Free.ensures)
+
+pub returns-in_err-read_sealed-clause-err : goal.returns-in_err-read_sealed-clause-err
+returns-in_err-read_sealed-clause-err g c = λ honest.
+    let p = err_from_is_err_and c.from_residual.result c.from_residual.ensures.1 in
+    rw (p.1, p.2) (seal_fault _ _ _ c.requires.within (c.in_err-read_sealed.ensures.err honest))

@@ -3,13 +3,12 @@ use Rattle.std.proofs.Common.{inr, sym, ◌∙◌, ap, subst, arith, ◌≡◌, 
 use Rattle.std.proofs.lemmas.Result.{err_from_is_err_and}
 use Rattle.directory.specs.Spelling.{IsHeader}
 use Rattle.file_walk.proofs.PageLemmas.{header_is, header_read, header_fault, header_cut, header_too_long}
-use Rattle.file_walk.proofs.pages.header_of.Goals as goal
+use Rattle.file_walk.proofs.header_page.header_of.Goals as goal
 
 pub returns-in_err-read_sealed-clause-err : goal.returns-in_err-read_sealed-clause-err
 returns-in_err-read_sealed-clause-err g c = λ honest.
     let p = err_from_is_err_and c.from_residual.result c.from_residual.ensures.1 in
-    rw (p.1, p.2) (header_fault _ _ (omega (arith, c.if-pages-eq0.false, c.pages-pages.ensures))
-    (c.in_err-read_sealed.ensures.err honest))
+    rw (p.1, p.2) (header_fault _ _ (c.in_err-read_sealed.ensures.err honest))
 
 pub returns-then-pages-header-clause-err : goal.returns-then-pages-header-clause-err
 returns-then-pages-header-clause-err g c = λ honest.

@@ -1,18 +1,21 @@
-//! A page is read from a device before a pool has it.
+//! A page is read from a device, before a pool has it.
 
-ghost use Rattle.std.specs.Prelude.{◌≡◌, ◌⊎◌, IsTrue, IfOk, IfErr};
-ghost use Rattle.file_walk.specs.Order.{HasReadCause, IsOfMachine};
+ghost use Rattle.std.specs.Prelude.{◌≡◌, ◌⊎◌, IsTrue, IfErr, OnOk};
+ghost use Rattle.file_walk.specs.Order.{HasReadCause, IsOfMachine, IsUnread};
 ghost use Rattle.file_walk.specs.Readings.{IsPayloadOf};
-ghost use Rattle.one_caller.specs.Opening.{IsUnread};
 
-use file_walk::StructureFault;
-use page_device::{DeviceFault, PAGE_BYTES, PageDevice, Payload, unseal};
+use crate::fault::StructureFault;
+use page_device::{DeviceFault, PAGE_BYTES, PageDevice, Payload, unseal_into};
 
-/// The payload of a page whose digest is right.
-pub fn read_sealed<D: PageDevice>(device: &mut D, page: u32) -> Result<Payload, StructureFault>
+/// Reads the payload of a page, and tests its digest.
+pub fn read_sealed<D: PageDevice>(
+    device: &mut D,
+    page: u32,
+    payload: &mut Payload,
+) -> Result<(), StructureFault>
     ensures ok { IsTrue (D.is_honest device.old) →
-        IfOk result (IsPayloadOf (D.content device.old) page) }
-    ensures refused { IsTrue (D.is_honest device.old) →
+        OnOk result (IsPayloadOf (D.content device.old) page payload.new) }
+    ensures err { IsTrue (D.is_honest device.old) →
         IfErr result (λ fault. IsOfMachine fault ⊎ IsUnread (D.content device.old) page fault) }
     ensures same { D.content device.new ≡ D.content device.old }
     ensures honest { D.is_honest device.new ≡ D.is_honest device.old }
@@ -24,8 +27,8 @@ pub fn read_sealed<D: PageDevice>(device: &mut D, page: u32) -> Result<Payload, 
         Err(DeviceFault::PastEnd) => return Err(StructureFault::PastEnd),
         Err(_) => return Err(StructureFault::Device),
     }
-    match unseal(page, &bytes) {
-        Ok(payload) => Ok(payload),
+    match unseal_into(page, &bytes, payload) {
+        Ok(()) => Ok(()),
         Err(_) => Err(StructureFault::BadDigest { page }),
     }
 }
