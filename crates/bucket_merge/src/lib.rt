@@ -1,6 +1,10 @@
-//! The second half of a Delete: the bucket of its key and that bucket's buddy become one, step by step.
+//! The second half of a Delete: the bucket of its key and that bucket's buddy become
+//! one, step by step.
 
 #![tactic(auto)]
+
+// Machines promise the same of a step, each in the words of its own places: docs/DECISIONS.md,
+// "The repository", says why.
 
 mod laws;
 mod look;

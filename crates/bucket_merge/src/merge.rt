@@ -29,8 +29,8 @@ use std::marker::Model;
 use std::mem::size_of;
 use step_rules::{Kind, Progress};
 
-/// The second half of a Delete: the bucket of its key and that bucket's buddy become one, where they have room
-/// together (Fagin et al. 1979; Ellis 1983).
+/// The second half of a Delete: the bucket of its key and that bucket's buddy become one, where
+/// they have room together (Fagin et al. 1979; Ellis 1983).
 #[derive(Drop)]
 pub struct Merge {
     key: RecordKey,
@@ -98,7 +98,8 @@ impl Merge {
             row_of locks.old seat ≡ merge_locks self.old before →
             Sees hash seat (merge_facts self.old) pool.old locks.old change →
             is_fault result ≡ false →
-            MergeStep hash seat result self.old self.new pool.old pool.new locks.old locks.new change }
+            MergeStep hash seat result self.old self.new
+            pool.old pool.new locks.old locks.new change }
         ensures answer { (hash : RecordKey → ℕ) (change : Change) →
             hash self.old.key ≡ self.old.approach.pseudokey →
             Sees hash seat (merge_facts self.old) pool.old locks.old change →

@@ -27,7 +27,8 @@ pub struct Own {
     pub seen: Seen,
 }
 
-/// The bucket of the key and its buddy: the left one is that of which the last bit that counts is 0.
+/// The bucket of the key and its buddy: the left one is that of which the last bit
+/// that counts is 0.
 #[derive(Clone, Copy, Debug, PartialEq, Eq)]
 pub struct Buddies {
     /// The depth of the directory.
@@ -60,7 +61,8 @@ pub enum MergePlace {
     ReadBuddy(Own),
     /// The key's bucket is the left one: the right page is to be locked.
     GrantRight(Buddies, Seen),
-    /// The key's bucket is the right one: it is to be given back, since the left page is locked first.
+    /// The key's bucket is the right one: it is to be given back, since the left
+    /// page is locked first.
     GiveBack(Buddies),
     /// The left page is to be locked.
     GrantLeft(Buddies),
@@ -70,7 +72,8 @@ pub enum MergePlace {
     LookLeft(Buddies),
     /// This was seen of the left page, and the right one is to be read.
     LookRight(Buddies, Seen),
-    /// This was seen of the left page and of the right one: the left one is to take the records of both.
+    /// This was seen of the left page and of the right one: the left one is to take
+    /// the records of both.
     WriteLeft(Buddies, Seen, Seen),
     /// The right page is to name the left one.
     Tombstone(Joint),
@@ -92,9 +95,11 @@ pub enum MergePlace {
     LinkFree(u32),
     /// The depth is to be lowered while no bucket has it, and then this page to be given back.
     LowerDepth(u32),
-    /// The directory, which has this depth with so many buckets of it, is to be given back from an exclusive lock.
+    /// The directory, which has this depth with so many buckets of it, is to be given back
+    /// from an exclusive lock.
     ReleaseAlone(u8, u32),
-    /// The merge is given up: of these pages, the left one first, the right one is to be given back.
+    /// The merge is given up: of these pages, the left one first, the right one is
+    /// to be given back.
     GiveUpRight(u32, u32),
     /// The merge is given up: this page is to be given back.
     GiveUp(u32),
@@ -148,8 +153,8 @@ impl Joint {
         self.retargets_from(u64::from(self.whole.upper_half().pattern))
     }
 
-    /// Where it goes on behind the page of the directory with this entry. On each page one entry of the right range
-    /// is enough, so the next one is that of the next page which has any.
+    /// Where it goes on behind the page of the directory with this entry. On each page one entry of
+    /// the right range is enough, so the next one is that of the next page which has any.
     pub(crate) fn behind_entry(self, entry: u32) -> MergePlace
         requires entry { HasEntry self entry }
         ensures value { result ≡ retargets_from self (entry_behind self entry) }

@@ -74,7 +74,8 @@ pub fn replace(payload: &mut Payload, key: &RecordKey, value: &[u8])
     set_bytes(body, at + RECORD_HEAD_BYTES, value);
 }
 
-/// Replaces the first bytes of the value of a key that the bucket has. The others stay where they are.
+/// Replaces the first bytes of the value of a key that the bucket has. The others
+/// stay where they are.
 pub fn replace_front(payload: &mut Payload, key: &RecordKey, front: &[u8])
     requires bucket { IsBucketPage payload.old }
     requires there { IsSome (lookup key.now (records_in payload.old)) }

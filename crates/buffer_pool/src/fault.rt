@@ -13,7 +13,8 @@ pub enum PoolFault {
     /// image and no pin was changed.
     #[error(transparent)]
     Device(DeviceFault),
-    /// The payload of a page, whose digest is right, spells no page. No image and no pin was changed.
+    /// The payload of a page, whose digest is right, spells no page. No image and no
+    /// pin was changed.
     #[error("a page is malformed")]
     Malformed,
     /// A pool of no frame was asked for, or each frame is pinned by another page. Nothing was

@@ -77,8 +77,8 @@ impl<D: PageDevice> Pool<D> {
         self.device.faults()
     }
 
-    /// Pins a page, so that it stays in its frame. Where it has none it is read, and its digest and its
-    /// payload are tested.
+    /// Pins a page, so that it stays in its frame. Where it has none it is read, and its digest and
+    /// its payload are tested.
     #[tactic(auto, using(crate::proofs::ImagesLemmas::images_length))]
     pub fn pin(&mut self, page: u32) -> Result<Frame, PoolFault>
         requires { pins_at self.old page + 1 < 2 ^ 32 }

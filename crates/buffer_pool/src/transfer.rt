@@ -40,8 +40,8 @@ pub fn write_back<D: PageDevice>(
     Ok(())
 }
 
-/// Sees that a page is in a frame. Where it is in none it is read and tested, and comes into a frame whose
-/// page may go, and which is written to the device before.
+/// Sees that a page is in a frame. Where it is in none it is read and tested, and comes into a
+/// frame whose page may go, and which is written to the device before.
 pub fn bring_in<D: PageDevice>(
     device: &mut D,
     table: &mut Table,
@@ -69,8 +69,8 @@ pub fn bring_in<D: PageDevice>(
     read_in(device, table, page)
 }
 
-/// Brings in a page that is in no frame. It stands apart from `bring_in`, so that a pin of a page that is in one
-/// sets up no room for the page's bytes.
+/// Brings in a page that is in no frame. It stands apart from `bring_in`, so that a pin of a page
+/// that is in one sets up no room for the page's bytes.
 fn read_in<D: PageDevice>(device: &mut D, table: &mut Table, page: u32) -> Result<(), PoolFault>
     requires sound { IsSoundPool (D.content device.old) (D.is_honest device.old) table.old }
     requires page { page < length table.old.places }

@@ -35,8 +35,9 @@ fn put_entry(payload: &mut Payload, slot: usize, bucket: u32)
     set_entry(payload, slot, bucket);
 }
 
-/// The doubling of a directory of a depth, on one of its pages: each entry of the upper half becomes that of
-/// the lower half, which stands on the page `lower`, as it was (Fagin, Nievergelt, Pippenger and Strong 1979).
+/// The doubling of a directory of a depth, on one of its pages: each entry of the upper half
+/// becomes that of the lower half, which stands on the page `lower`, as it was (Fagin, Nievergelt,
+/// Pippenger and Strong 1979).
 pub fn copy_upper(payload: &mut Payload, page: u32, depth: u8, lower: &Payload)
     requires first { FIRST_DIRECTORY_PAGE ≤ page }
     requires last { page ≤ DIRECTORY_PAGES }

@@ -9,7 +9,8 @@ use fields::{blank, four_at, is_zero, write_numbers};
 use page_device::Payload;
 use std::marker::Model;
 
-/// The entries of a page of the directory, lent by its payload: the buckets' pages that its slots name.
+/// The entries of a page of the directory, lent by its payload: the buckets' pages
+/// that its slots name.
 #[derive(Debug, Drop)]
 pub struct DirectoryView<'a> {
     entries: &'a [u8],
@@ -53,8 +54,8 @@ fn view_of(bytes: &[u8]) -> DirectoryView
     DirectoryView { entries }
 }
 
-/// The entries of a payload whose first byte is a directory page's; none where a byte that no field names
-/// isn't zero.
+/// The entries of a payload whose first byte is a directory page's; none where a byte that no
+/// field names isn't zero.
 pub fn read_entries(bytes: &[u8]) -> Option<DirectoryView>
     requires { length bytes.now ≡ PAYLOAD_BYTES }
     ensures { result ≡ entries_read bytes.now }

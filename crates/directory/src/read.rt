@@ -18,8 +18,8 @@ use thiserror::Error;
 /// Why a payload is no header.
 #[derive(Clone, Copy, Debug, PartialEq, Eq, Error)]
 pub enum HeaderFault {
-    /// The kind or the magic is wrong; or, under the right version, the depth or the number of pages is
-    /// out of range, or a byte that no field names isn't zero.
+    /// The kind or the magic is wrong; or, under the right version, the depth or the number of
+    /// pages is out of range, or a byte that no field names isn't zero.
     #[error("not a header")]
     BadHeader,
     /// The kind and the magic are right, and the version is another.
@@ -39,8 +39,8 @@ impl HeaderFault {
     }
 }
 
-/// The header that a payload spells. The payload is accepted exactly where it is the one spelling of a header
-/// in range.
+/// The header that a payload spells. The payload is accepted exactly where it is the one spelling
+/// of a header in range.
 pub fn read_header(payload: &Payload) -> Result<Header, HeaderFault>
     // The first test that fails names the refusal.
     ensures value { result ≡ reading payload.now }

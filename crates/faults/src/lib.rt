@@ -1,4 +1,5 @@
-//! The number of each fault, as docs/FAULTS.md lists it and as a program prints it; and want of memory.
+//! The number of each fault, as docs/FAULTS.md lists it and as a program prints it;
+//! and want of memory.
 
 #![tactic(auto)]
 

@@ -25,8 +25,8 @@ use directory::{GREATEST_DEPTH, ROOT_PAGE};
 use page_device::PageDevice;
 use page_forms::FilePage;
 
-/// A page becomes the upper half of a bucket. It is `Failed` where that is no bucket, or one of the greatest
-/// depth.
+/// A page becomes the upper half of a bucket. It is `Failed` where that is no bucket, or one
+/// of the greatest depth.
 pub fn write_new<D: PageDevice, K: PseudoKey>(
     pool: &mut Pool<D>,
     keys: &K,
@@ -47,8 +47,8 @@ pub fn write_new<D: PageDevice, K: PseudoKey>(
     store_page(pool, new, half)
 }
 
-/// A bucket becomes its lower half, with the other half behind it. It is `Failed` where it is no bucket, or
-/// one of the greatest depth.
+/// A bucket becomes its lower half, with the other half behind it. It is `Failed` where it is no
+/// bucket, or one of the greatest depth.
 pub fn write_old<D: PageDevice, K: PseudoKey>(
     pool: &mut Pool<D>,
     keys: &K,
@@ -68,8 +68,8 @@ pub fn write_old<D: PageDevice, K: PseudoKey>(
     store_page(pool, old, half)
 }
 
-/// The left page of a merge becomes the bucket of both. It is `Failed` where a page is no bucket, or the two
-/// are no buddies, have a key in common or do not fit together.
+/// The left page of a merge becomes the bucket of both. It is `Failed` where a page is no bucket,
+/// or the two are no buddies, have a key in common or do not fit together.
 pub fn write_left<D: PageDevice>(pool: &mut Pool<D>, left: u32, right: u32) -> Result<(), FileFault>
     requires ready { IsReady pool.old }
     ensures writes { OnlyWrites (is_ok result) pool.old pool.new }

@@ -20,9 +20,9 @@ use page_device::PageDevice;
 use page_forms::FilePage;
 use positions::Range;
 
-/// The directory is about to double: on one of its pages, each entry of the upper half becomes that of the
-/// lower half with the same low bits (Fagin et al. 1979). It is `Failed` where the page is none of the
-/// directory, or the directory has the greatest depth.
+/// The directory is about to double: on one of its pages, each entry of the upper half becomes that
+/// of the lower half with the same low bits (Fagin et al. 1979). It is `Failed` where the page is
+/// none of the directory, or the directory has the greatest depth.
 pub fn copy_directory<D: PageDevice>(pool: &mut Pool<D>, page: u32) -> Result<(), FileFault>
     requires ready { IsReady pool.old }
     ensures writes { OnlyWrites (is_ok result) pool.old pool.new }
@@ -44,8 +44,9 @@ pub fn copy_directory<D: PageDevice>(pool: &mut Pool<D>, page: u32) -> Result<()
     copy_onto(pool, page, header.depth, &lower)
 }
 
-/// On one page of the directory, the entries of a range come to name a bucket's page. It is `Failed` where
-/// the page is none of the directory, or the range is deeper than the directory may be.
+/// On one page of the directory, the entries of a range come to name a bucket's page.
+/// It is `Failed` where the page is none of the directory, or the range is deeper than
+/// the directory may be.
 pub fn retarget<D: PageDevice>(
     pool: &mut Pool<D>,
     page: u32,
@@ -68,8 +69,8 @@ pub fn retarget<D: PageDevice>(
     retarget_on(pool, page, header.depth, range, bucket)
 }
 
-/// The page whose entries are copied onto a page: that of the lower half. Where no entry of the upper half
-/// stands on the page none is copied, and it is one up to the page itself.
+/// The page whose entries are copied onto a page: that of the lower half. Where no entry of the
+/// upper half stands on the page none is copied, and it is one up to the page itself.
 fn source_of(page: u32, depth: u8) -> u32
     requires first { FIRST_DIRECTORY_PAGE ≤ page }
     requires last { page ≤ DIRECTORY_PAGES }

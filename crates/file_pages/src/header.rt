@@ -1,4 +1,7 @@
 //! Writes of the header.
+//!
+//! They have one shape: the header is read, tested, changed and stored. Test and change are their
+//! own: a split counts two buckets for one, a merge one for two.
 
 ghost use Rattle.std.specs.Prelude.{◌≡◌, ◌≢◌, ◌<◌, ◌≤◌, ℕ, is_ok, length, IsTrue, IsErr, IfErr, IfOk, OnOk, OnErr};
 ghost use Rattle.bucket_page.specs.Reading.{page_in};
@@ -23,8 +26,8 @@ use directory::{GREATEST_DEPTH, Header, ROOT_PAGE};
 use page_device::PageDevice;
 use page_forms::FilePage;
 
-/// The first free page leaves the list of free pages. It is `Failed` where there is none, or the page is not
-/// free.
+/// The first free page leaves the list of free pages. It is `Failed` where there is none, or the
+/// page is not free.
 pub fn take_page<D: PageDevice>(pool: &mut Pool<D>) -> Result<u32, FileFault>
     requires ready { IsReady pool.old }
     ensures writes { OnlyWrites (is_ok result) pool.old pool.new }
@@ -101,8 +104,8 @@ pub fn lower_depth<D: PageDevice>(pool: &mut Pool<D>) -> Result<(), FileFault>
     write_header(pool, &header)
 }
 
-/// The header counts the two halves of a bucket of a local depth in its place. It is `Failed` where none is
-/// counted, or a count is too great.
+/// The header counts the two halves of a bucket of a local depth in its place. It is `Failed` where
+/// none is counted, or a count is too great.
 pub fn count_split<D: PageDevice>(pool: &mut Pool<D>, depth: u8) -> Result<(), FileFault>
     requires ready { IsReady pool.old }
     ensures writes { OnlyWrites (is_ok result) pool.old pool.new }
@@ -128,8 +131,8 @@ pub fn count_split<D: PageDevice>(pool: &mut Pool<D>, depth: u8) -> Result<(), F
     write_header(pool, &header)
 }
 
-/// The header counts a bucket of a local depth in the place of its two halves. It is `Failed` where those are
-/// not counted, or a count is too great.
+/// The header counts a bucket of a local depth in the place of its two halves. It is `Failed` where
+/// those are not counted, or a count is too great.
 pub fn count_merge<D: PageDevice>(pool: &mut Pool<D>, depth: u8) -> Result<(), FileFault>
     requires ready { IsReady pool.old }
     ensures writes { OnlyWrites (is_ok result) pool.old pool.new }

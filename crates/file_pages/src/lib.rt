@@ -1,4 +1,5 @@
-//! The pages of a pool as those of a hash file: what each read and each write is of the file's value.
+//! The pages of a pool as those of a hash file: what each read and each write is of
+//! the file's value.
 
 #![tactic(auto)]
 

@@ -101,8 +101,8 @@ pub(crate) fn read_page<D: PageDevice>(pool: &mut Pool<D>, page: u32) -> Result<
     Ok(copy)
 }
 
-/// What a search for a key sees of a page: whether it covers the pseudokey and what it has of the key, or
-/// where it leads on.
+/// What a search for a key sees of a page: whether it covers the pseudokey and what it has of the
+/// key, or where it leads on.
 pub fn look<D: PageDevice>(
     pool: &mut Pool<D>,
     page: u32,
@@ -147,8 +147,8 @@ pub fn read_bucket<D: PageDevice>(pool: &mut Pool<D>, page: u32) -> Result<Bucke
     sight
 }
 
-/// Copies the value of a key in the bucket on a page into the room, as much of it as the room takes. It
-/// gives the value's length, none where the bucket has no record of the key.
+/// Copies the value of a key in the bucket on a page into the room, as much of it as the room
+/// takes. It gives the value's length, none where the bucket has no record of the key.
 pub fn copy_value<D: PageDevice>(
     pool: &mut Pool<D>,
     page: u32,

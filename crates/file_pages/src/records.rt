@@ -1,4 +1,8 @@
 //! Writes of one record, in place in the bucket on its page.
+//!
+//! They have one shape: the page is pinned, what the write needs is tested, and the page
+//! is changed. Test and change are their own, and so are what each promises of the bucket
+//! and when it fails.
 
 ghost use Rattle.std.specs.Prelude.{◌≡◌, ◌+◌, ◌≤◌, ◌++◌, true, is_ok, drop, length, None, IsTrue, IfErr, IsSome, OnOk, OnErr};
 ghost use Rattle.bucket_page.specs.declared.layout.TheConstants.{RECORD_HEAD_BYTES, ROOM_BYTES};
@@ -19,8 +23,8 @@ use directory::ROOT_PAGE;
 use page_device::PageDevice;
 use page_forms::FilePage;
 
-/// Puts a record into the bucket on a page. It is `Failed` where the page is no bucket, or the bucket has
-/// the key or no room.
+/// Puts a record into the bucket on a page. It is `Failed` where the page is no bucket, or the
+/// bucket has the key or no room.
 pub fn put_record<D: PageDevice>(
     pool: &mut Pool<D>,
     page: u32,
@@ -50,8 +54,8 @@ pub fn put_record<D: PageDevice>(
     Ok(())
 }
 
-/// Replaces the value of a key, in the bucket on a page, by one of the same length. It is `Failed` where the
-/// bucket has no such value.
+/// Replaces the value of a key, in the bucket on a page, by one of the same length. It is `Failed`
+/// where the bucket has no such value.
 pub fn replace_record<D: PageDevice>(
     pool: &mut Pool<D>,
     page: u32,
@@ -82,8 +86,8 @@ pub fn replace_record<D: PageDevice>(
     Ok(())
 }
 
-/// Replaces the first bytes of the value of a key, in the bucket on a page; the others stay. It is `Failed`
-/// where the bucket has no value of the key, or a shorter one.
+/// Replaces the first bytes of the value of a key, in the bucket on a page; the others stay. It is
+/// `Failed` where the bucket has no value of the key, or a shorter one.
 pub fn replace_front<D: PageDevice>(
     pool: &mut Pool<D>,
     page: u32,

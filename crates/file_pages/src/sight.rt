@@ -14,7 +14,8 @@ use positions::Range;
 /// What a search for a key sees of a page.
 #[derive(Clone, Copy, Debug, PartialEq, Eq)]
 pub enum Sight {
-    /// The page's range has the pseudokey. Of the key: the length of its value, none where it has no record.
+    /// The page's range has the pseudokey. Of the key: the length of its value, none where
+    /// it has no record.
     Covering(Option<usize>),
     /// It has not, or the page is a tombstone: this is the next page or the link.
     Naming(u32),

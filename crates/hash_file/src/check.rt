@@ -8,8 +8,8 @@ ghost use Rattle.hash_file.specs.Skeletons.{ExtendsChain, NamesBuckets, skeleton
 use crate::page::Page;
 use positions::{POSITIONS, PSEUDOKEY_BITS, Range};
 
-/// Whether these pages are buckets that follow one another from the root to the end of the chain, have each pseudokey
-/// in the range of exactly one, and are no deeper than the directory.
+/// Whether these pages are buckets that follow one another from the root to the end of the chain,
+/// have each pseudokey in the range of exactly one, and are no deeper than the directory.
 pub fn is_chain(root: u32, depth: u8, pages: &[Page], chain: &[u32]) -> bool
     ensures { IsTrue result ↔ IsChain (skeleton root depth [] pages.now) chain.now }
 {
@@ -35,7 +35,8 @@ fn goes_on(depth: u8, pages: &[Page], number: u32, reached: u64, expected: u32) 
     page.is_bucket() && number == expected && range.depth <= depth && range.is_tile_at(reached)
 }
 
-/// Whether each entry of a directory of this depth is the bucket of its index, of those on this chain.
+/// Whether each entry of a directory of this depth is the bucket of its index, of
+/// those on this chain.
 pub fn names_buckets(depth: u8, entries: &[u32], pages: &[Page], chain: &[u32]) -> bool
     requires small { depth < PSEUDOKEY_BITS }
     requires room { 2 ^ depth ≤ length entries.now }

@@ -43,7 +43,8 @@ impl Page {
         matches!(self, Page::Bucket(_))
     }
 
-    /// The range and the next page; of a tombstone or a free page the range of all pseudokeys, and its link.
+    /// The range and the next page; of a tombstone or a free page the range of all
+    /// pseudokeys, and its link.
     pub fn shape(self) -> Shape
         ensures { result ≡ shape_of self }
     {

@@ -21,7 +21,8 @@ use directory::{Header, copy_upper, retarget, write_header};
 use positions::Range;
 
 impl FilePage {
-    /// Puts a record into a bucket that has none of its key. Where it does not fit nothing is changed.
+    /// Puts a record into a bucket that has none of its key. Where it does not fit
+    /// nothing is changed.
     pub fn put(&mut self, key: &RecordKey, value: &[u8]) -> Result<(), DoesNotFit>
         requires bucket { IsBucketPage self.old }
         requires absent { lookup key.now (records_in self.old) ≡ None }
@@ -42,7 +43,8 @@ impl FilePage {
         replace(&mut self.payload, key, value);
     }
 
-    /// Replaces the first bytes of the value of a key that the bucket has. The others stay where they are.
+    /// Replaces the first bytes of the value of a key that the bucket has. The others
+    /// stay where they are.
     pub fn replace_front(&mut self, key: &RecordKey, front: &[u8])
         requires bucket { IsBucketPage self.old }
         requires there { IsSome (lookup key.now (records_in self.old)) }
@@ -61,8 +63,9 @@ impl FilePage {
         remove(&mut self.payload, key);
     }
 
-    /// The doubling of a directory of a depth, on one of its pages: each entry of the upper half becomes that of
-    /// the lower half, which stands on the page `lower`, as it was (Fagin et al. 1979).
+    /// The doubling of a directory of a depth, on one of its pages: each entry of the upper
+    /// half becomes that of the lower half, which stands on the page `lower`, as it was
+    /// (Fagin et al. 1979).
     pub fn copy_upper(&mut self, page: u32, depth: u8, lower: &FilePage)
         requires first { FIRST_DIRECTORY_PAGE ≤ page }
         requires last { page ≤ DIRECTORY_PAGES }
@@ -99,7 +102,8 @@ impl FilePage {
         write_header(header, &mut self.payload);
     }
 
-    /// Writes a tombstone over the page, whose link is the page of the bucket that took its records.
+    /// Writes a tombstone over the page, whose link is the page of the bucket that
+    /// took its records.
     pub fn write_tombstone(&mut self, link: u32)
         ensures { Spells (kinds.Tombstone link) self.new }
     {

@@ -22,7 +22,8 @@ impl FilePage {
         FilePage { payload }
     }
 
-    /// The half of a bucket whose pseudokeys have 0 in the next bit. The other half is to stand on `page`.
+    /// The half of a bucket whose pseudokeys have 0 in the next bit. The other half is
+    /// to stand on `page`.
     pub fn lower_half<K: PseudoKey>(&self, keys: &K, page: u32) -> FilePage
         requires bucket { IsBucketPage self.now }
         requires depth { (bucket_in self.now).depth < GREATEST_DEPTH }
@@ -33,7 +34,8 @@ impl FilePage {
         FilePage { payload }
     }
 
-    /// The bucket of two buddies whose records fit one page. It is followed by what followed the right one.
+    /// The bucket of two buddies whose records fit one page. It is followed by what
+    /// followed the right one.
     pub fn joined(&self, right: &FilePage) -> FilePage
         requires left { IsBucketPage self.now }
         requires right { IsBucketPage right.now }

@@ -1,5 +1,5 @@
-//! Laws of positions, ranges and tilings. Each stands on the contract of a function that does nothing.
-//! Items of a tiling are of any type `T`: ranges themselves, or the numbers of pages.
+//! Laws of positions, ranges and tilings. Each stands on the contract of a function that does
+//! nothing. Items of a tiling are of any type `T`: ranges themselves, or the numbers of pages.
 
 ghost use Rattle.positions.specs.Laws.{PositionsAreOneToOne, RangeIsInterval, TruncatedIsNoFurtherRight, HalvesMeet, HalvesMakeUpRange, LowerBuddyIsLowerHalf, UpperBuddyIsUpperHalf, WholeIsTiling, LiesInOneTile, SplitKeepsTiling, JoinKeepsTiling, BuddiesAreNeighbours, WalkFindsTile, WalkMeetsAll, PartitionIsTiling};
 
@@ -14,7 +14,8 @@ pub fn a_range_is_an_interval_of_positions()
 {}
 
 /// The low bits of a pseudokey alone stand at its position or to the left of it. So a search that
-/// truncated it by a depth that has grown since is led too far to the left, and never too far to the right.
+/// truncated it by a depth that has grown since is led too far to the left, and never too
+/// far to the right.
 pub fn a_truncated_pseudokey_lies_no_further_right()
     ensures { TruncatedIsNoFurtherRight }
 {}
@@ -56,17 +57,20 @@ pub fn buddies_of_a_tiling_are_neighbours<T>()
     ensures { BuddiesAreNeighbours T }
 {}
 
-/// From a tile at or before a position, next links lead to its tile in as many hops as tiles begin on the way.
+/// From a tile at or before a position, next links lead to its tile in as many hops as tiles
+/// begin on the way.
 pub fn walking_finds_the_tile<T>()
     ensures { WalkFindsTile T }
 {}
 
-/// Following next links from the first item of a tiling lists its items, within a fuel that the depths bound.
+/// Following next links from the first item of a tiling lists its items, within a fuel
+/// that the depths bound.
 pub fn walking_meets_all_tiles<T>()
     ensures { WalkMeetsAll T }
 {}
 
-/// Ranges tile all positions exactly where they ascend in bit-reversed order and each pseudokey lies in one.
+/// Ranges tile all positions exactly where they ascend in bit-reversed order and each
+/// pseudokey lies in one.
 pub fn ascending_and_covering_once_is_tiling<T>()
     ensures { PartitionIsTiling T }
 {}

@@ -1,5 +1,6 @@
-//! Ranges of pseudokeys as intervals of bit-reversed positions, and lists of ranges that tile an interval.
-//! A list of ranges tiles all positions exactly where it ascends and each pseudokey lies in one range.
+//! Ranges of pseudokeys as intervals of bit-reversed positions, and lists of ranges that tile an
+//! interval. A list of ranges tiles all positions exactly where it ascends and each pseudokey
+//! lies in one range.
 
 #![tactic(auto)]
 

@@ -1,4 +1,5 @@
-//! Pseudokeys: hashes of keys, of which a directory reads the low bits (Fagin et al. 1979; Ellis 1983).
+//! Pseudokeys: hashes of keys, of which a directory reads the low bits (Fagin et al.
+//! 1979; Ellis 1983).
 
 ghost use Rattle.std.specs.Prelude.{◌≡◌, ◌≤◌, ◌%◌, ◌^◌};
 ghost use Rattle.positions.specs.Positions.{position_of};

@@ -1,4 +1,5 @@
-//! Numbers worked by hand: positions, a chain of three ranges, and what splits and merges make of ranges.
+//! Numbers worked by hand: positions, a chain of three ranges, and what splits and
+//! merges make of ranges.
 
 ghost use Rattle.std.specs.Prelude.{◌≡◌};
 

@@ -6,8 +6,8 @@ use faults::NoMemory;
 use std::alloc::Global;
 use std::marker::Model;
 
-/// The bytes of a message, which contracts see as a list. A call's body may be of any length; one that is
-/// kept has at most `MAX_BODY` bytes.
+/// The bytes of a message, which contracts see as a list. A call's body may be of any length; one
+/// that is kept has at most `MAX_BODY` bytes.
 #[derive(Debug, Drop)]
 pub struct Body {
     bytes: Vec<u8>,

@@ -1,4 +1,5 @@
-//! The calls of message queues, with their arguments (POSIX.1-2017, `msgget`, `msgsnd`, `msgrcv`, `msgctl`).
+//! The calls of message queues, with their arguments (POSIX.1-2017, `msgget`,
+//! `msgsnd`, `msgrcv`, `msgctl`).
 
 ghost use Rattle.std.specs.Prelude.{◌≡◌, IfOk};
 
@@ -42,8 +43,8 @@ pub struct ReceiveArguments {
     pub id: u32,
     /// As many bytes are taken at most.
     pub size: u32,
-    /// 0 selects the first message, a type above 0 the first of that type, one below 0 the first of the
-    /// lowest type that is at most its absolute value.
+    /// 0 selects the first message, a type above 0 the first of that type, one below 0 the first of
+    /// the lowest type that is at most its absolute value.
     pub mtype: i64,
     /// Refuse in place of waiting (`IPC_NOWAIT`).
     pub nowait: bool,

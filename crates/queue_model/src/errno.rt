@@ -3,7 +3,8 @@
 ghost use Rattle.std.specs.Prelude.{◌≡◌};
 ghost use Rattle.queue_model.specs.Errnos.{number_of, name_of};
 
-/// The refusals of message queues (POSIX.1-2017, `<errno.h>`). What each is for stands in docs/QUEUES.md.
+/// The refusals of message queues (POSIX.1-2017, `<errno.h>`). What each is for
+/// stands in docs/QUEUES.md.
 #[derive(Clone, Copy, Debug, PartialEq, Eq)]
 pub enum Errno {
     /// The message is longer than the size asked for.

@@ -22,15 +22,15 @@ pub fn a_journal_determines_its_system()
     ensures { IsDetermined }
 {}
 
-/// A receive of a type below 0 takes the first message of the lowest type in range that stands on the queue,
-/// and finds none only where no type in range stands there.
+/// A receive of a type below 0 takes the first message of the lowest type in range that stands on
+/// the queue, and finds none only where no type in range stands there.
 pub fn a_lowest_type_is_selected()
     ensures { SelectsLowest }
 {}
 
-/// From a lawful system each legal journal is first in, first out: of each queue a message is received only
-/// when no message of its type with a smaller serial is left, no serial is received twice, and after a Remove
-/// that was answered Done nothing is sent to that id or received from it.
+/// From a lawful system each legal journal is first in, first out: of each queue a message is
+/// received only when no message of its type with a smaller serial is left, no serial is received
+/// twice, and after a Remove that was answered Done nothing is sent to that id or received from it.
 pub fn journals_are_first_in_first_out()
     ensures { KeepsOrder }
 {}

@@ -1,5 +1,5 @@
-//! Message queues as plain lists: the system, the rules of its calls, and journals of what was answered.
-//! `System::apply` is the plain reference: every other crate is measured against it.
+//! Message queues as plain lists: the system, the rules of its calls, and journals of what was
+//! answered. `System::apply` is the plain reference: every other crate is measured against it.
 
 #![tactic(auto)]
 

@@ -14,7 +14,8 @@ use faults::NoMemory;
 use limits::{DEFAULT_QBYTES, END_OF_SERIALS, MAX_BODY, MAX_MESSAGES, MAX_QBYTES, MODES};
 use std::alloc::Global;
 
-/// A queue. Its `qnum` is the number of its messages, its `cbytes` the bytes that they have together.
+/// A queue. Its `qnum` is the number of its messages, its `cbytes` the bytes that
+/// they have together.
 #[derive(Debug, Drop)]
 pub struct Queue {
     /// Its id, never given to another queue.
@@ -140,7 +141,8 @@ impl Queue {
         Ok(serial)
     }
 
-    /// Takes the selected message, which stands at this place, and cuts it to the size that is asked for.
+    /// Takes the selected message, which stands at this place, and cuts it to the size
+    /// that is asked for.
     pub fn give(&mut self, pid: u32, place: usize, arguments: &ReceiveArguments) -> Message
         requires lawful { IsLawfulQueue self.old }
         requires selected { IsSelectedAt arguments.now.mtype self.old.messages place }

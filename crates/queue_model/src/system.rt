@@ -31,8 +31,9 @@ pub enum Applied {
     NoMemory,
 }
 
-/// The queues that are alive in ascending order of id, the next id, and whether the system was stopped.
-/// Every system is lawful: it keeps the limits, and its ids, keys and serials are told apart.
+/// The queues that are alive in ascending order of id, the next id, and whether the
+/// system was stopped. Every system is lawful: it keeps the limits, and its ids, keys and
+/// serials are told apart.
 #[derive(Debug, Drop)]
 pub struct System {
     queues: Vec<Queue>,
@@ -46,9 +47,11 @@ impl Model for System {
 
     ghost Value = { State };
 
-    ghost view = { λ s. record { queues = s.queues.items; next_id = s.next_id; stopped = s.stopped } };
+    ghost view = { λ s.
+        record { queues = s.queues.items; next_id = s.next_id; stopped = s.stopped } };
 
-    ghost invariant = { λ s. IsLawful (record { queues = s.queues.items; next_id = s.next_id; stopped = s.stopped }) };
+    ghost invariant = { λ s.
+        IsLawful (record { queues = s.queues.items; next_id = s.next_id; stopped = s.stopped }) };
 }
 
 impl System {
@@ -63,7 +66,8 @@ impl System {
         }
     }
 
-    /// The system of these queues and this next id, which is not stopped; none exactly where it would be unlawful.
+    /// The system of these queues and this next id, which is not stopped; none exactly where
+    /// it would be unlawful.
     pub fn of_queues(queues: Vec<Queue>, next_id: u32) -> Option<System>
         ensures some { IfSome result (λ system.
             system ≡ record { queues = queues.items; next_id = next_id; stopped = false }) }
@@ -124,9 +128,9 @@ impl System {
         let _ = &self.queues;
     }
 
-    /// Makes a call of this caller by the rules (docs/QUEUES.md, "Calls"): the answer and the new system are
-    /// its outcome, and it waits exactly where it has none. Memory is wanting only to a call whose outcome
-    /// is a new queue or a message more.
+    /// Makes a call of this caller by the rules (docs/QUEUES.md, "Calls"): the answer and the new
+    /// system are its outcome, and it waits exactly where it has none. Memory is wanting only to a
+    /// call whose outcome is a new queue or a message more.
     pub fn apply(&mut self, caller: Caller, call: &Call) -> Applied
         ensures { Meets result (outcome caller call.now self.old) self.old self.new }
     {

@@ -20,8 +20,8 @@ use bucket_page::RecordKey;
 use fields::{eight_at, four_at, two_at};
 use limits::{MAX_MESSAGES, MAX_QBYTES, MODES};
 
-/// A queue, without its messages. What it has in common with the model's `Queue` and `QueueInfo` goes by the same
-/// names, since all three are named as POSIX names them.
+/// A queue, without its messages. What it has in common with the model's `Queue` and `QueueInfo`
+/// goes by the same names, since all three are named as POSIX names them.
 #[derive(Clone, Copy, Debug, PartialEq, Eq)]
 pub struct QueueEntry {
     /// Its id.

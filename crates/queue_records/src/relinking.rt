@@ -27,7 +27,8 @@ impl Links {
     }
 }
 
-/// Sets new links at the front of the value of a record of their kind, or in all of the value. The other bytes stay.
+/// Sets new links at the front of the value of a record of their kind, or in all of the value.
+/// The other bytes stay.
 pub fn relink(front: &mut [u8], links: &Links)
     requires long { linked_bytes links.now ≤ length front.old }
     ensures set { (r : Record) (rest : List ℕ) → HasSuch links.now (Some r) →

@@ -23,8 +23,8 @@ use std::marker::Model;
 use std::mem::size_of;
 use step_rules::Progress;
 
-/// A record that is deleted: it is taken out, and one merge is tried where the bucket has a buddy and became small.
-/// Where the key has no record nothing is written.
+/// A record that is deleted: it is taken out, and one merge is tried where the bucket has a buddy
+/// and became small. Where the key has no record nothing is written.
 #[derive(Drop)]
 pub struct Delete {
     removal: Removal,
@@ -70,8 +70,8 @@ impl Delete {
         }
     }
 
-    /// The page that answered, and of the key the length of its value, none where it has no record and
-    /// nothing is written.
+    /// The page that answered, and of the key the length of its value, none where it has no record
+    /// and nothing is written.
     pub fn found(&self) -> Option<(u32, Option<usize>)>
         ensures { result ≡ removed_at self.now.removal }
     {

@@ -81,7 +81,8 @@ impl Find {
         self.search.hops()
     }
 
-    /// One step. The value may be read from the page after the step at which it answered, until the next.
+    /// One step. The value may be read from the page after the step at which it
+    /// answered, until the next.
     pub fn step<D: PageDevice>(
         &mut self,
         pool: &mut Pool<D>,

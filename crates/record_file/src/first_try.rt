@@ -39,8 +39,8 @@ pub enum FirstTryStage {
     Ended(Tried),
 }
 
-/// The first try of an Insert: a search, the write where the record fits its bucket, and the page is given back. Where
-/// the key has a record nothing is written.
+/// The first try of an Insert: a search, the write where the record fits its bucket, and the page
+/// is given back. Where the key has a record nothing is written.
 #[derive(Drop)]
 pub struct FirstTry {
     key: RecordKey,

@@ -6,8 +6,8 @@ ghost use Rattle.record_file.specs.FirstTries.{FirstTryView, first_try_locks};
 ghost use Rattle.record_file.specs.Removals.{RemovalView, removal_locks};
 ghost use Rattle.record_file.specs.Replaces.{ReplaceView, replace_locks};
 
-/// What the caller of a machine knows of records under its own locks stays through each step, but at the key that a
-/// step writes, where it is what was written.
+/// What the caller of a machine knows of records under its own locks stays through each step, but
+/// at the key that a step writes, where it is what was written.
 pub fn a_machine_keeps_what_its_caller_knows()
     ensures find { (v : FindView) → KeepsNames (find_locks v) }
     ensures replace { (v : ReplaceView) → KeepsNames (replace_locks v) }

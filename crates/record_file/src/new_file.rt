@@ -16,12 +16,12 @@ use directory::{
 use page_device::{DeviceFault, PAYLOAD_BYTES, PageDevice, Payload, seal};
 use queue_records::{Counter, Value};
 
-/// Makes a new file of so many pages on a device without pages: an empty directory of depth 0, a root
-/// bucket with the record that counts queues, and all other pages on the list of free pages (Fagin,
-/// Nievergelt, Pippenger and Strong 1979). It takes no memory of its own.
+/// Makes a new file of so many pages on a device without pages: an empty directory of depth 0, a
+/// root bucket with the record that counts queues, and all other pages on the list of free pages
+/// (Fagin, Nievergelt, Pippenger and Strong 1979). It takes no memory of its own.
 ///
-/// `Device` where a transfer failed, `NoMemory` where the device has none for another page. Either leaves
-/// the pages written so far.
+/// `Device` where a transfer failed, `NoMemory` where the device has none for another page. Either
+/// leaves the pages written so far.
 pub fn format<D: PageDevice>(device: &mut D, pages: u32) -> Result<(), DeviceFault>
     requires empty { D.content device.old ≡ [] }
     requires least { LEAST_PAGES ≤ pages }

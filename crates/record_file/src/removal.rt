@@ -28,8 +28,8 @@ pub enum RemovalStage {
     Ended(bool),
 }
 
-/// A record that is taken out: a search, the write, and the page is given back. Where the key has no record nothing is
-/// written.
+/// A record that is taken out: a search, the write, and the page is given back. Where the key has
+/// no record nothing is written.
 #[derive(Drop)]
 pub struct Removal {
     key: RecordKey,
@@ -70,8 +70,8 @@ impl Removal {
         }
     }
 
-    /// The page that answered, and of the key the length of its value, none where it has no record and
-    /// nothing is written.
+    /// The page that answered, and of the key the length of its value, none where it has no record
+    /// and nothing is written.
     pub fn found(&self) -> Option<(u32, Option<usize>)>
         ensures { result ≡ removed_at self.now }
     {
@@ -171,8 +171,8 @@ impl Removal {
     }
 }
 
-/// Whether a merge is due behind the removal of a record with a value of so many bytes, from a bucket that
-/// had this depth and so many bytes.
+/// Whether a merge is due behind the removal of a record with a value of so many bytes, from a
+/// bucket that had this depth and so many bytes.
 fn is_due(depth: u8, used: usize, bytes: usize) -> bool
     ensures { result ≡ is_due depth used bytes }
 {

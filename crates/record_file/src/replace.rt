@@ -28,8 +28,8 @@ pub enum ReplaceStage {
     Ended,
 }
 
-/// A record of which the first bytes of the value are replaced: a search, the write, and the page is given back. Where
-/// the key has no record nothing is written.
+/// A record of which the first bytes of the value are replaced: a search, the write, and the page
+/// is given back. Where the key has no record nothing is written.
 #[derive(Drop)]
 pub struct Replace {
     key: RecordKey,
@@ -70,8 +70,8 @@ impl Replace {
         }
     }
 
-    /// The page that answered, and of the key the length of its value, none where it has no record and
-    /// nothing is written.
+    /// The page that answered, and of the key the length of its value, none where it has no record
+    /// and nothing is written.
     pub fn found(&self) -> Option<(u32, Option<usize>)>
         ensures { result ≡ replaced_at self.now }
     {
@@ -125,7 +125,8 @@ impl Replace {
             hash self.old.search.key ≡ self.old.search.pseudokey →
             Sees hash seat (replace_facts self.old) pool.old locks.old change →
             is_fault result ≡ false →
-            FindsAt hash seat result self.old.search.key (replaced_at self.old) (replaced_at self.new)
+            FindsAt hash seat result self.old.search.key
+            (replaced_at self.old) (replaced_at self.new)
             (world pool.old.images locks.old change) }
     {
         match self.stage {

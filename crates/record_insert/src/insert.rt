@@ -28,8 +28,8 @@ pub enum InsertStage {
     Second(SecondTry),
 }
 
-/// A record that is inserted: a first try, which locks its bucket alone, and a second one where the first gave up,
-/// which may split the bucket. Where the key has a record nothing is written.
+/// A record that is inserted: a first try, which locks its bucket alone, and a second one where the
+/// first gave up, which may split the bucket. Where the key has a record nothing is written.
 #[derive(Drop)]
 pub struct Insert {
     key: RecordKey,
@@ -95,7 +95,8 @@ impl Insert {
         }
     }
 
-    /// One step. The value that is to be put is lent to it, in the second try one as long as at the end of the first.
+    /// One step. The value that is to be put is lent to it, in the second try one as long as at the
+    /// end of the first.
     pub fn step<D: PageDevice, K: PseudoKey>(
         &mut self,
         pool: &mut Pool<D>,

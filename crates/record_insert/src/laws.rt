@@ -7,8 +7,9 @@ ghost use Rattle.stale_search.specs.Callers.{CallerKeeps};
 ghost use Rattle.record_insert.specs.Inserts.{InsertView, SECOND_STEPS, insert_locks};
 ghost use Rattle.record_insert.specs.SecondTries.{SecondTryView, second_left, second_locks};
 
-/// What the caller of a second try knows of records under its own locks stays through each step, where the file holds
-/// it still, as `a_machine_keeps_what_its_caller_knows` of `record_file` says of each machine that keeps the names.
+/// What the caller of a second try knows of records under its own locks stays through each step,
+/// where the file holds it still, as `a_machine_keeps_what_its_caller_knows` of `record_file` says
+/// of each machine that keeps the names.
 pub fn a_second_try_keeps_what_its_caller_knows()
     ensures names { (t : SecondTryView) → KeepsNames (second_locks t) }
     ensures keeps { (t t' : SecondTryView) → CallerKeeps (second_locks t) (second_locks t') }

@@ -1,6 +1,10 @@
-//! Inserts in a file of records that other seats use, step by step: a bucket that has no room for the record is split.
+//! Inserts in a file of records that other seats use, step by step: a bucket that has no room for
+//! the record is split.
 
 #![tactic(auto)]
+
+// Machines promise the same of a step, each in the words of its own places: docs/DECISIONS.md,
+// "The repository", says why.
 
 mod insert;
 mod laws;

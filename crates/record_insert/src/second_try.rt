@@ -22,8 +22,8 @@ use std::marker::Model;
 use std::mem::size_of;
 use step_rules::{Kind, Progress};
 
-/// The second try of an Insert: the directory and the bucket are locked so that the bucket may be split, as often as
-/// the record has no room there (Fagin et al. 1979; Ellis 1983).
+/// The second try of an Insert: the directory and the bucket are locked so that the bucket may be
+/// split, as often as the record has no room there (Fagin et al. 1979; Ellis 1983).
 #[derive(Drop)]
 pub struct SecondTry {
     key: RecordKey,
@@ -201,7 +201,8 @@ impl SecondTry {
         }
     }
 
-    /// The page is read. Where it answers and has no such record, that is put, or the bucket is split.
+    /// The page is read. Where it answers and has no such record, that is put, or
+    /// the bucket is split.
     fn look_at<D: PageDevice>(
         &mut self,
         pool: &mut Pool<D>,

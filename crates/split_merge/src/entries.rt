@@ -7,7 +7,8 @@ ghost use Rattle.split_merge.specs.Entries.{first_upper, last_upper, stride};
 
 use directory::{PAGE_ENTRIES, page_of};
 
-/// The first page with an entry of the upper half that a directory of this depth gets when it doubles.
+/// The first page with an entry of the upper half that a directory of this depth
+/// gets when it doubles.
 pub fn first_upper(depth: u8) -> u32
     requires { depth < GREATEST_DEPTH }
     ensures { result ≡ first_upper depth }
@@ -23,8 +24,9 @@ pub fn last_upper(depth: u8) -> u32
     page_of((2 << depth) - 1)
 }
 
-/// From the first entry of a range on one page to the first one on the next page that has any, where the range has
-/// this depth: pages are full of them, or entries are further apart than a page is long.
+/// From the first entry of a range on one page to the first one on the next page that has
+/// any, where the range has this depth: pages are full of them, or entries are further apart
+/// than a page is long.
 pub fn stride(depth: u8) -> u32
     requires { depth ≤ GREATEST_DEPTH }
     ensures { result ≡ stride depth }

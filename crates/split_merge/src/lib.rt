@@ -2,6 +2,9 @@
 
 #![tactic(auto)]
 
+// Machines promise the same of a step, each in the words of its own places: docs/DECISIONS.md,
+// "The repository", says why.
+
 mod entries;
 mod free_page;
 mod laws;

@@ -13,7 +13,8 @@ pub enum SplitPlace {
     WriteNew(u32),
     /// The bucket is to become its lower half.
     WriteOld(u32),
-    /// Entries are to name the new bucket: those on the directory page of this one, the first of them there.
+    /// Entries are to name the new bucket: those on the directory page of this one, the
+    /// first of them there.
     Retarget(u32, u32),
     /// All entries name their buckets: the counts are to be set.
     SetCounts(u32),

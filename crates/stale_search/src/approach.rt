@@ -19,8 +19,9 @@ use std::marker::Model;
 use std::mem::size_of;
 use step_rules::{Kind, Progress};
 
-/// A way to the bucket of a pseudokey, for a seat that is to split or to merge it: both the directory and the bucket
-/// are locked `Selective`, so nothing that was read grows old (Ellis 1983).
+/// A way to the bucket of a pseudokey, for a seat that is to split or to merge it:
+/// both the directory and the bucket are locked `Selective`, so nothing that was read
+/// grows old (Ellis 1983).
 #[derive(Drop)]
 pub struct Approach {
     pseudokey: u32,

@@ -3,7 +3,8 @@
 ghost use Rattle.stale_search.specs.Callers.{AddersKeep, ApproachKeeps, SearchKeeps};
 ghost use Rattle.stale_search.specs.Walks.{SearchCountsFew, SearchWalksOn};
 
-/// What the caller of a search knows under its names stays, by the search's row and since it only reads.
+/// What the caller of a search knows under its names stays, by the search's row and
+/// since it only reads.
 pub fn a_search_keeps_what_its_caller_knows()
     ensures { SearchKeeps }
 {}
@@ -13,13 +14,15 @@ pub fn an_approach_keeps_what_its_caller_knows()
     ensures { ApproachKeeps }
 {}
 
-/// And beside every machine that takes locks of the file alone, for the keys at which the file holds what it held.
+/// And beside every machine that takes locks of the file alone, for the keys at which the file
+/// holds what it held.
 pub fn machines_keep_what_their_callers_know()
     ensures { AddersKeep }
 {}
 
-/// Each own step of a search takes its walk on, so it counts at most one hop more than steps of other seats may have
-/// added since it was granted the directory, and none where no change was under way in all that time.
+/// Each own step of a search takes its walk on, so it counts at most one hop more than steps of
+/// other seats may have added since it was granted the directory, and none where no change was
+/// under way in all that time.
 pub fn a_search_counts_few_hops()
     ensures walks { SearchWalksOn }
     ensures few { SearchCountsFew }

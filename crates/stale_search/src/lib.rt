@@ -1,6 +1,10 @@
-//! A search for the bucket of a key, and the approach of a seat that is to change the structure, step by step.
+//! A search for the bucket of a key, and the approach of a seat that is to change the
+//! structure, step by step.
 
 #![tactic(auto)]
+
+// Machines promise the same of a step, each in the words of its own places: docs/DECISIONS.md,
+// "The repository", says why.
 
 mod approach;
 mod laws;

@@ -1,4 +1,7 @@
 //! The machine.
+//!
+//! What is done at a page promises what `step` does, at the place of that page: so `step` is a
+//! match on the places, and each of them is proved by itself.
 
 ghost use Rattle.std.specs.Prelude.{◌≡◌, not};
 ghost use Rattle.page_locks.specs.Table.{IsSeat, row_of};
@@ -76,7 +79,8 @@ impl Search {
         self.place
     }
 
-    /// How often it went on from a page that did not answer to another one. From `u32::MAX` on it counts no more.
+    /// How often it went on from a page that did not answer to another one. From `u32::MAX` on
+    /// it counts no more.
     pub fn hops(&self) -> u32
         ensures { result ≡ self.now.hops }
     {

@@ -6,8 +6,9 @@ ghost use Rattle.step_rules.specs.Kinds.{name_of, may_lengthen};
 /// The most bytes of records that two buckets may have together to be merged, half the room of one.
 pub const MERGED_BYTES: usize = 2024;
 
-/// What one step does (docs/STEPS.md, "The kinds of step"). The first eight leave the structure of the file, the next
-/// seven are those of a split and a doubling, the last six those of a merge and a halving.
+/// What one step does (docs/STEPS.md, "The kinds of step"). The first eight leave the structure
+/// of the file, the next seven are those of a split and a doubling, the last six those of a
+/// merge and a halving.
 #[derive(Clone, Copy, Debug, PartialEq, Eq)]
 pub enum Kind {
     /// One lock is granted.

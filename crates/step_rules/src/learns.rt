@@ -1,55 +1,63 @@
-//! What a seat learns by a step of its own. Each law stands on the contract of a function that does nothing.
+//! What a seat learns by a step of its own. Each law stands on the contract of a
+//! function that does nothing.
 
 ghost use Rattle.step_rules.specs.Answering.{LookMayTell};
 ghost use Rattle.step_rules.specs.Learns.{DirectoryIsHalved, EntryReadLeads, LookTells, HopLeadsOn, HopGoesElsewhere, OwnedAnswerIsLive, DirectoryIsQuiet, EntryIsBucket, BuddyIsOtherHalf, OwnLocksKeep, OwnGrantKeeps, FreesNobodysPage, LinksNobodysPage};
 
-/// A search that reads an entry by a depth that has grown since still has a page that leads to its pseudokey.
+/// A search that reads an entry by a depth that has grown since still has a page that
+/// leads to its pseudokey.
 pub fn an_entry_that_was_read_leads()
     ensures { EntryReadLeads }
 {}
 
-/// A look at a page that leads to a key's pseudokey and answers for it tells what the file holds at the key.
+/// A look at a page that leads to a key's pseudokey and answers for it tells what the file
+/// holds at the key.
 pub fn a_look_tells_what_the_file_holds()
     ensures knows { LookTells }
     ensures tells { LookMayTell }
 {}
 
-/// The page that a hop is granted leads to the pseudokey, and is another than the one that it gives back.
+/// The page that a hop is granted leads to the pseudokey, and is another than the one
+/// that it gives back.
 pub fn a_hop_is_led_on()
     ensures leads { HopLeadsOn }
     ensures elsewhere { HopGoesElsewhere }
 {}
 
-/// A page that a seat may write, and that leads to a pseudokey and answers for it, is the live bucket: a merge takes
-/// no page off the chain that another seat may write.
+/// A page that a seat may write, and that leads to a pseudokey and answers for it, is the live
+/// bucket: a merge takes no page off the chain that another seat may write.
 pub fn an_owned_page_that_answers_is_live()
     ensures { OwnedAnswerIsLive }
 {}
 
-/// A seat that may write the directory finds it exact: no change is under way, and each entry is the bucket.
+/// A seat that may write the directory finds it exact: no change is under way, and each
+/// entry is the bucket.
 pub fn an_owned_directory_is_exact()
     ensures quiet { DirectoryIsQuiet }
     ensures entry { EntryIsBucket }
 {}
 
-/// A directory that is given back from an exclusive lock has no depth, or a live bucket is as deep (Fagin et al. 1979).
+/// A directory that is given back from an exclusive lock has no depth, or a live bucket is as deep
+/// (Fagin et al. 1979).
 pub fn a_directory_is_halved_before_it_is_given_back()
     ensures { DirectoryIsHalved }
 {}
 
-/// The bucket that has a bucket's pattern with its last bit turned is its buddy, if it is as deep: together they are
-/// the range of one bit less (Fagin et al. 1979).
+/// The bucket that has a bucket's pattern with its last bit turned is its buddy, if it is as deep:
+/// together they are the range of one bit less (Fagin et al. 1979).
 pub fn a_buddy_is_the_other_half()
     ensures { BuddyIsOtherHalf }
 {}
 
-/// A seat keeps through its own change of locks what it knows under a lock that it still has; through a grant, all.
+/// A seat keeps through its own change of locks what it knows under a lock that it still has;
+/// through a grant, all.
 pub fn own_locks_keep_what_is_known()
     ensures kept { OwnLocksKeep }
     ensures grant { OwnGrantKeeps }
 {}
 
-/// No other seat holds or may aim at a page that is freed, nor at one that comes onto the free list.
+/// No other seat holds or may aim at a page that is freed, nor at one that comes
+/// onto the free list.
 pub fn a_freed_page_is_nobodys()
     ensures freed { FreesNobodysPage }
     ensures linked { LinksNobodysPage }
