@@ -106,8 +106,8 @@ header_read content payload h p e =
 
 -- a page that is there and not sealed is wrong so; of page 0 it is the header's fault also that there is no page
 module _ (content : List (List ℕ)) where
-  pub seal_fault : (n : ℕ) (fault : StructureFault) → n < length content → IsOfMachine fault ⊎ IsUnread content n fault →
-      IsOfMachine fault ⊎ IsFaultOf content n fault
+  pub seal_fault : (n : ℕ) (fault : StructureFault) → n < length content →
+      IsOfMachine fault ⊎ IsUnread content n fault → IsOfMachine fault ⊎ IsFaultOf content n fault
   seal_fault n fault there (inl machine) = inl machine
   seal_fault n fault there (inr (inl past)) = absurd (omega (arith, there, past.1))
   seal_fault n fault there (inr (inr bad)) = inr (rw bad.0 (refl, bad.2))

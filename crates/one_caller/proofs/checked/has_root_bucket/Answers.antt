@@ -8,5 +8,6 @@ pub returns-in-None-clause-ok : goal.returns-in-None-clause-ok
 returns-in-None-clause-ok g c = λ honest. (
   λ no. absurd (false_not_true no),
   λ root. c.in-None.ensures.well.1
-      (root_well _ c.read_sealed.new.payload (subst (IsRoot _) (sym (c.in_ok-read_sealed.ensures.ok honest).value) root)),
+      (root_well _ c.read_sealed.new.payload
+      (subst (IsRoot _) (sym (c.in_ok-read_sealed.ensures.ok honest).value) root)),
 )
