@@ -1,4 +1,5 @@
-//! Files checked, and what is told of the systems that they hold: subcommands of the program that write no file.
+//! Files checked, and what is told of the systems that they hold: subcommands of the program
+//! that write no file.
 
 ghost use Rattle.std.specs.Prelude.{◌≡◌, IsTrue, IfOk, IfErr};
 ghost use Rattle.bucket_page.specs.Pseudokeys.{sha_key};
@@ -24,10 +25,12 @@ use std::fs::{OpenFile, OpenOptions};
 use std::io::{IsTerminal, Read, Seek, Write};
 use std::rt::Files;
 
-/// `check FILE` and `stat FILE`: checks a file, which is opened to be read alone, and prints a report of its system.
+/// `check FILE` and `stat FILE`: checks a file, which is opened to be read alone, and prints a
+/// report of its system.
 ///
-/// `fault N` alone where the file is not opened, where something is wrong with it, or where the machine lacks
-/// something: a transfer fails (20), or there is no memory (60). Then it is said on standard error what and where.
+/// `fault N` alone where the file is not opened, where something is wrong with it, or where the
+/// machine lacks something: a transfer fails (20), or there is no memory (60). Then it is said on
+/// standard error what and where.
 pub fn report_file<R, F, W, E>(
     rt: &R,
     file: &str,
@@ -63,9 +66,10 @@ where
 
 /// Checks the file of a device, and prints a report of the system that it holds, or `fault N`.
 ///
-/// Where the device is honest the report is of the one system whose file its pages are, and a fault is the first
-/// thing that is wrong with them, unless a transfer failed or there was no memory. Nothing is written to the device.
-/// Where it is large and `errors` a terminal, that shows how far the check has come.
+/// Where the device is honest the report is of the one system whose file its pages are, and a fault
+/// is the first thing that is wrong with them, unless a transfer failed or there was no memory.
+/// Nothing is written to the device. Where it is large and `errors` a terminal, that shows how far
+/// the check has come.
 pub fn report_on<D: PageDevice, W: Write + Drop, E: Write + IsTerminal>(
     alloc: Global,
     device: D,

@@ -1,4 +1,5 @@
-//! What standard error says of a run that does not go as it was asked. No claim rests on these words.
+//! What standard error says of a run that does not go as it was asked. No claim
+//! rests on these words.
 
 use crate::ending::{Ending, Failure, Stage};
 use crate::misread::{Found, mistake_in};

@@ -24,8 +24,8 @@ pub const STANDARD_INPUT: &str = "-";
 
 /// `new FILE PAGES`: makes a file, where nothing may be yet, and prints `made PAGES`.
 ///
-/// Fault 20 alone where the system refuses to make the file or a transfer fails, fault 60 alone where
-/// there is no memory.
+/// Fault 20 alone where the system refuses to make the file or a transfer fails, fault 60 alone
+/// where there is no memory.
 pub fn new_file<R, F, W, E>(
     rt: &R,
     file: &str,
@@ -85,8 +85,9 @@ pub fn new_on<D: PageDevice, W: Write + Drop>(
 
 /// `run FILE SCRIPT`: runs the script of a file, or of standard input, on a file of message queues.
 ///
-/// The script is read first: fault 20 or 60 alone where it can't be read, and nothing is run where it is wrong. Then
-/// the file is opened: `fault N` alone where it is not. A fault when it is closed is one more line.
+/// The script is read first: fault 20 or 60 alone where it can't be read, and nothing is run where
+/// it is wrong. Then the file is opened: `fault N` alone where it is not. A fault when it is closed
+/// is one more line.
 pub fn run_file<R, F, W, E>(
     rt: &R,
     file: &str,

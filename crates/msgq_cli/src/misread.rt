@@ -1,4 +1,5 @@
-//! Which word of a wrong line can't stand where it stands, and what can. No claim rests on these words.
+//! Which word of a wrong line can't stand where it stands, and what can. No claim
+//! rests on these words.
 
 use crate::line::{is_ascii, text};
 use crate::numbers::{body, key, number, seat, signed};

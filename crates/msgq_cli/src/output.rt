@@ -7,8 +7,8 @@ ghost use Rattle.msgq_cli.specs.Outputs.{Prints, Takes};
 use std::io::{BufWriter, ErrorKind, Write};
 use std::marker::Model;
 
-/// Where answers are printed: to a writer, through a buffer. A contract sees whether a write was refused, the bytes that
-/// both hold, and those that the writer holds.
+/// Where answers are printed: to a writer, through a buffer. A contract sees whether a write was
+/// refused, the bytes that both hold, and those that the writer holds.
 #[derive(Drop)]
 pub struct Output<W: Write + Drop> {
     writer: BufWriter<W>,

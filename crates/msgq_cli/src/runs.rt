@@ -20,8 +20,8 @@ use std::io::Write;
 /// Runs the lines of a script one after the other, and prints what each is replied.
 ///
 /// Each call is answered by the rules (docs/QUEUES.md, "Calls") in the system that the lines before
-/// it left; before the first that would wait the system is stopped. Fault 50 or 60 leaves the system: 50 comes only of
-/// a call that makes a queue or sends a message, and 60 of a Receive.
+/// it left; before the first that would wait the system is stopped. Fault 50 or 60 leaves the
+/// system: 50 comes only of a call that makes a queue or sends a message, and 60 of a Receive.
 /// Where the output refuses a write the lines are run all the same.
 pub fn run<D: PageDevice, W: Write + Drop>(
     alloc: Global,
@@ -43,7 +43,8 @@ pub fn run<D: PageDevice, W: Write + Drop>(
     ending
 }
 
-/// What a command is replied. Where its call would wait, the system is stopped and the call is made again.
+/// What a command is replied. Where its call would wait, the system is stopped and the
+/// call is made again.
 fn reply<D: PageDevice>(
     alloc: Global,
     seated: Caller,

@@ -51,7 +51,8 @@ pub fn serve<R: Read, W: Write + Drop, E: Write>(
 
 /// Runs a text as a script on a new file in memory, from the empty system.
 ///
-/// A wrong script runs nothing. Fault 60 alone where there is no memory to read the script or to make the file.
+/// A wrong script runs nothing. Fault 60 alone where there is no memory to read the script or
+/// to make the file.
 pub fn serve_text<W: Write + Drop, E: Write>(
     alloc: Global,
     text: &[u8],
@@ -79,13 +80,14 @@ pub fn serve_text<W: Write + Drop, E: Write>(
 
 /// Runs a script on the file of a device, and closes the file.
 ///
-/// The file is checked first. Where the device is honest, it is that of one system, from which the script is run, and
-/// the file is then one of the system that it leaves; or the first thing that is wrong is told by its number alone, or
-/// fault 62 of a file with more than one bucket. Fault 60 alone where there is no memory to open it. The device may
-/// fail when the file is opened, then fault 20 stands alone, or when it is closed, then behind the answers.
+/// The file is checked first. Where the device is honest, it is that of one system, from which the
+/// script is run, and the file is then one of the system that it leaves; or the first thing that is
+/// wrong is told by its number alone, or fault 62 of a file with more than one bucket. Fault 60
+/// alone where there is no memory to open it. The device may fail when the file is opened, then
+/// fault 20 stands alone, or when it is closed, then behind the answers.
 ///
-/// Of any device: a line is printed for each line of the script, and one fault behind them where the file is not
-/// closed well; or one fault alone.
+/// Of any device: a line is printed for each line of the script, and one fault behind them where
+/// the file is not closed well; or one fault alone.
 pub fn run_on<D: PageDevice, W: Write + Drop>(
     alloc: Global,
     device: D,
