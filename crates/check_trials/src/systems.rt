@@ -145,7 +145,8 @@ fn a_changed_entry_or_record_of_a_system_has_its_number(rt: HostRuntime) -> Resu
 #[test]
 fn a_malformed_page_of_a_system_has_its_reason(rt: HostRuntime) -> Result<(), Fail> {
     let rows = [
-        // the pattern of 258 is 2; its first two records are exchanged; its last byte is 1; its kind is 6
+        // the pattern of 258 is 2; its first two records are exchanged; its last byte is 1;
+        // its kind is 6
         ([Edit(258, 7, 2), NONE], 258, Malformed::Pattern),
         ([Edit(258, 30, 9), Edit(258, 49, 7)], 258, Malformed::Order),
         ([Edit(258, 4063, 1), NONE], 258, Malformed::Padding),

@@ -81,7 +81,8 @@ pub(crate) fn device(rt: &impl Abort, alloc: Global, pages: u32) -> Result<MemDe
     Ok(device)
 }
 
-/// The number of what is wrong with the structure, 0 where nothing is. A call that found no memory is made again.
+/// The number of what is wrong with the structure, 0 where nothing is. A call that found no
+/// memory is made again.
 fn number(alloc: Global, device: &mut MemDevice) -> u8 {
     match check_structure(alloc, device) {
         Ok(_) => 0,
@@ -204,7 +205,8 @@ fn a_cut_file_a_long_one_and_a_changed_page_are_refused(rt: HostRuntime) -> Resu
     Ok(())
 }
 
-/// The bytes of one record on a page: a kind, the number 0 to 255 of its key, and a value of four bytes, as a Key has.
+/// The bytes of one record on a page: a kind, the number 0 to 255 of its key, and a value of four
+/// bytes, as a Key has.
 fn key_record(page: u32, kind: u8, number: u8, id: u8) -> [Edit; 6] {
     [
         Edit(page, 3, 1),

@@ -101,7 +101,8 @@ pub(crate) fn message(
     }
 }
 
-/// Queue 1 with key 7 has four messages of type 1 and 1,024 bytes, queue 2 with key 9 one of type 2, its second.
+/// Queue 1 with key 7 has four messages of type 1 and 1,024 bytes, queue 2 with key 9 one of
+/// type 2, its second.
 pub(crate) fn two_queues(rt: &impl Abort) -> Buckets {
     let mut buckets = Buckets {
         even: payload_of(257),

@@ -129,8 +129,8 @@ fn a_page_that_was_changed_is_told(rt: HostRuntime) -> Result<(), Fail> {
     Ok(())
 }
 
-/// Page, place and byte: of a new file of 260 pages another page becomes the bucket of the odd pseudokeys. That of the
-/// Counter is even.
+/// Page, place and byte: of a new file of 260 pages another page becomes the bucket of the odd
+/// pseudokeys. That of the Counter is even.
 const SPLIT: [(u32, usize, u8); 13] = [
     (0, 2, 1),
     (0, 19, 3),
@@ -159,8 +159,8 @@ fn a_file_of_two_buckets_is_not_opened(rt: HostRuntime) -> Result<(), Fail> {
     Ok(())
 }
 
-/// The check reads each page, and the root page five times more; then the root page is read once more, two reads
-/// open the file, and a write and a sync close it.
+/// The check reads each page, and the root page five times more; then the root page is read once
+/// more, two reads open the file, and a write and a sync close it.
 #[test]
 fn each_transfer_fails_in_turn(rt: HostRuntime) -> Result<(), Fail> {
     let answers = "1 id 1\n2 sent 1\n";
@@ -180,8 +180,8 @@ fn each_transfer_fails_in_turn(rt: HostRuntime) -> Result<(), Fail> {
     Ok(())
 }
 
-/// Three messages of 1,024 bytes fill the smallest file. What is received or removed leaves its room, also when the
-/// file is opened again.
+/// Three messages of 1,024 bytes fill the smallest file. What is received or removed leaves its
+/// room, also when the file is opened again.
 #[test]
 fn what_is_gone_leaves_its_room(rt: HostRuntime) -> Result<(), Fail> {
     let alloc = rt.alloc();

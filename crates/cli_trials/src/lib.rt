@@ -1,4 +1,5 @@
-//! Tests of the public calls of `msgq_cli`, which are proved here alone and not with that crate once more.
+//! Tests of the public calls of `msgq_cli`, which are proved here alone and not with
+//! that crate once more.
 
 #![tactic(auto)]
 

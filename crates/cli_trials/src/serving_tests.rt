@@ -47,8 +47,8 @@ fn a_reader_that_fails_runs_nothing(rt: HostRuntime) -> Result<(), Fail> {
     Ok(())
 }
 
-/// The lines are run all the same, and nothing is written behind what was refused. So the exit status is 1 where
-/// standard output is closed.
+/// The lines are run all the same, and nothing is written behind what was refused. So the exit
+/// status is 1 where standard output is closed.
 #[test]
 fn a_writer_that_refuses_makes_the_status_1(rt: HostRuntime) -> Result<(), Fail> {
     let alloc = rt.alloc();
@@ -65,7 +65,8 @@ fn a_writer_that_refuses_makes_the_status_1(rt: HostRuntime) -> Result<(), Fail>
     Ok(())
 }
 
-/// A wrong line, the word of it that is named, and the beginning of what could stand there, with a bar between them.
+/// A wrong line, the word of it that is named, and the beginning of what could stand there, with
+/// a bar between them.
 const MISTAKES: &str = "stop|stop|SEAT, a number from 1 to 64, or ids
 65 stop|65|SEAT, a number
 1|the end of the line|a command: get

@@ -1,4 +1,5 @@
-//! Trials of the file and of the rules of steps: schedules worked by hand, and turns that are not allowed.
+//! Trials of the file and of the rules of steps: schedules worked by hand, and turns
+//! that are not allowed.
 
 #![tactic(auto)]
 

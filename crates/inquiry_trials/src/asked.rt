@@ -46,7 +46,8 @@ impl<I: Inquiry> Asked<I> {
         self.expect_refused(rt, errno);
     }
 
-    /// It asks for the record at this key, and what it is told is of no system: it asks for it again.
+    /// It asks for the record at this key, and what it is told is of no system: it
+    /// asks for it again.
     pub fn expect_told_wrongly(
         &mut self,
         rt: &impl Abort,

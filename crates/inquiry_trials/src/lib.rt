@@ -1,5 +1,5 @@
-//! Trials of what calls ask of the records, decide and write: worked cases, made from outside. They stand here, so that
-//! the calls are not proved once more for them.
+//! Trials of what calls ask of the records, decide and write: worked cases, made from outside. They
+//! stand here, so that the calls are not proved once more for them.
 
 #![tactic(auto)]
 

@@ -1,4 +1,5 @@
-//! Receives from a queue after four sends: serials 1 to 4 of types 5, 2, 3 and 2, of three bytes each.
+//! Receives from a queue after four sends: serials 1 to 4 of types 5, 2, 3 and 2, of
+//! three bytes each.
 
 use crate::asked::{Asked, ROOT};
 use crate::records::{

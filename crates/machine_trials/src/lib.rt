@@ -1,5 +1,5 @@
-//! Trials of the machines of the file from outside. They stand here, so that they are proved without those crates being
-//! proved once more.
+//! Trials of the machines of the file from outside. They stand here, so that they are proved
+//! without those crates being proved once more.
 
 #![tactic(auto)]
 

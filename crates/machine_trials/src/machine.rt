@@ -57,8 +57,8 @@ fn found(answer: Option<(u32, Option<usize>)>) -> Outcome {
 }
 
 impl Machine {
-    /// The machine of an operation on the record of a key that has this pseudokey. An insert is of a value of so many
-    /// bytes.
+    /// The machine of an operation on the record of a key that has this pseudokey. An insert is of
+    /// a value of so many bytes.
     pub fn new(operation: Operation, key: RecordKey, pseudokey: u32, bytes: usize) -> Machine
         ensures { (before : List Lock) → machine_locks result before ≡ before }
     {

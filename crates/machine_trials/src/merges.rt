@@ -82,7 +82,8 @@ fn copy_of(alloc: Global, device: &mut MemDevice) -> Result<MemDevice, DeviceFau
     Ok(copy)
 }
 
-/// Deletes record 7. A step may fail, once, and is made again. None where another fault came, or it did not end.
+/// Deletes record 7. A step may fail, once, and is made again. None where another fault came, or
+/// it did not end.
 fn delete_once_more<D: PageDevice + Drop>(trial: &mut Trial<D, NumberKey>) -> Option<u32> {
     let mut failed: u32 = 0;
     let seat = trial.begin(Delete, key(7), 0)?;

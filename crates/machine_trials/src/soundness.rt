@@ -23,7 +23,8 @@ pub struct Picture {
 }
 
 impl Picture {
-    /// The number of pages behind the directory that stand on neither of the chain and the free list.
+    /// The number of pages behind the directory that stand on neither of the chain
+    /// and the free list.
     pub fn others(&self) -> Option<usize> {
         (PAGES as usize)
             .checked_sub(257)?
@@ -66,8 +67,8 @@ impl Picture {
     }
 }
 
-/// What stands on the chain of a sound file, none where the file is not sound. The number of its records is their
-/// pseudokey.
+/// What stands on the chain of a sound file, none where the file is not sound. The number of its
+/// records is their pseudokey.
 pub fn pictured<D: PageDevice + Drop, K: PseudoKey + Drop>(
     alloc: Global,
     trial: &mut Trial<D, K>,
@@ -95,7 +96,8 @@ pub fn pictured<D: PageDevice + Drop, K: PseudoKey + Drop>(
     })
 }
 
-/// How many pages are on the free list, none where one of them is no free page, on the chain, or there twice.
+/// How many pages are on the free list, none where one of them is no free page, on the
+/// chain, or there twice.
 fn count_free<D: PageDevice + Drop, K: PseudoKey + Drop>(
     alloc: Global,
     trial: &mut Trial<D, K>,

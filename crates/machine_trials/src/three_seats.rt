@@ -108,7 +108,8 @@ fn agrees(seen: &Picture, list: &List) -> bool {
         })
 }
 
-/// Whether the file is sound, and one page at most behind the directory is on neither of the chain and the free list.
+/// Whether the file is sound, and one page at most behind the directory is on neither of the chain
+/// and the free list.
 fn is_sound(alloc: Global, trial: &mut Trial<MemDevice, NumberKey>) -> bool {
     match pictured(alloc, trial) {
         Some(seen) => {

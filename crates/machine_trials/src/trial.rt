@@ -86,8 +86,9 @@ impl<D: PageDevice + Drop, K: PseudoKey + Drop> Trial<D, K> {
         Ok(())
     }
 
-    /// The seat that was granted the lock of a record and has begun an operation on it. It is none where another seat
-    /// holds that lock, or no seat is idle. An insert is of a value of so many bytes.
+    /// The seat that was granted the lock of a record and has begun an operation on it. It is
+    /// none where another seat holds that lock, or no seat is idle. An insert is of a value
+    /// of so many bytes.
     pub fn begin(&mut self, operation: Operation, key: RecordKey, bytes: usize) -> Option<u8> {
         let place = self.begun;
         if place >= self.locks.seats() {
@@ -102,8 +103,8 @@ impl<D: PageDevice + Drop, K: PseudoKey + Drop> Trial<D, K> {
         Some(seat)
     }
 
-    /// One step of a seat, none where there is no such seat. The value that is to be put, or the first bytes of one, are
-    /// lent to it.
+    /// One step of a seat, none where there is no such seat. The value that is to be put, or the
+    /// first bytes of one, are lent to it.
     pub fn step(&mut self, seat: u8, value: &[u8]) -> Option<Turn> {
         if seat == 0 || seat > self.locks.seats() {
             return None;

@@ -1,4 +1,5 @@
-//! Rows worked by hand that no script shows: limits that a file reaches late, copies, and what waits.
+//! Rows worked by hand that no script shows: limits that a file reaches late,
+//! copies, and what waits.
 
 use crate::trial::{ROOT, became, get, gives, receive, send};
 use queue_model::{Answer, Applied, Body, Call, Entry, Errno, Message, NoMemory, System};

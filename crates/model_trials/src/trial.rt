@@ -1,4 +1,5 @@
-//! A system under trial. A call that finds no memory is made once more, and nothing may have changed in between.
+//! A system under trial. A call that finds no memory is made once more, and nothing may
+//! have changed in between.
 
 use queue_model::{
     Answer, Applied, Body, Call, Caller, GetArguments, ReceiveArguments, SendArguments, System,
@@ -47,7 +48,8 @@ pub fn send(alloc: Global, text: &[u8]) -> Result<Call, AllocError> {
     }))
 }
 
-/// What a call of user 0 becomes. Where a growth is refused, the system is as it was, and the call is made again.
+/// What a call of user 0 becomes. Where a growth is refused, the system is as it was, and the
+/// call is made again.
 pub fn became(rt: &impl Abort, system: &mut System, call: &Call) -> Applied {
     let counts = (system.queues(), system.messages(), system.next_id());
     let first = system.info(0);

@@ -1,4 +1,5 @@
-//! Message queues (XSI, POSIX.1-2017) kept in one file: makes files, runs scripts of calls on them, and checks them.
+//! Message queues (XSI, POSIX.1-2017) kept in one file: makes files, runs scripts of calls on
+//! them, and checks them.
 
 #![tactic(auto)]
 

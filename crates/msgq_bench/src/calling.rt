@@ -17,7 +17,8 @@ const CALLER: Caller = Caller {
 /// Pages of the file.
 const PAGES: u32 = 258;
 
-/// Sends a message of these bytes and receives it, so many times, on a new file; tells how many were received.
+/// Sends a message of these bytes and receives it, so many times, on a new file; tells
+/// how many were received.
 pub fn sends_and_receives(alloc: Global, bytes: &[u8], rounds: u32) -> anyhow::Result<u32> {
     let get = Call::Get(GetArguments {
         key: Some(7),

@@ -1,4 +1,5 @@
-//! Calls told their records and decided, over a queue of which the types are 1 and up, each of one message.
+//! Calls told their records and decided, over a queue of which the types are 1 and up,
+//! each of one message.
 
 use bucket_page::RecordKey;
 use queue_model::{Body, Call, Caller, NoMemory, ReceiveArguments, SendArguments};
@@ -18,7 +19,8 @@ const CALLER: Caller = Caller {
     gid: 0,
 };
 
-/// Sends of a type are decided so many times on a queue of so many types; tells how many were answered.
+/// Sends of a type are decided so many times on a queue of so many types; tells how
+/// many were answered.
 pub fn sends(alloc: Global, types: u32, mtype: i64, rounds: u32) -> Result<u32, NoMemory> {
     let send = send_of(alloc, mtype)?;
     let mut room = Room::new(alloc, &Call::Stat { id: 1 })?;
@@ -40,7 +42,8 @@ fn send_of(alloc: Global, mtype: i64) -> Result<SendArguments, NoMemory> {
     })
 }
 
-/// Receives of type 0 are decided so many times on a queue of so many types; tells how many were answered.
+/// Receives of type 0 are decided so many times on a queue of so many types; tells
+/// how many were answered.
 pub fn receives(alloc: Global, types: u32, rounds: u32) -> Result<u32, NoMemory> {
     let receive = ReceiveArguments {
         id: 1,

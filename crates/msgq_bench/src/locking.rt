@@ -20,7 +20,8 @@ pub fn table_of(alloc: Global, seats: u8, each: u32) -> Result<LockTable, NoMemo
     Ok(table)
 }
 
-/// Grants so many pages to a seat, each of which it gives back at once, and tells how many were granted.
+/// Grants so many pages to a seat, each of which it gives back at once, and tells
+/// how many were granted.
 pub fn grants(table: &mut LockTable, seat: u8, rounds: u32) -> u32 {
     let mut granted: u32 = 0;
     for page in 0..rounds {

@@ -1,5 +1,5 @@
-//! Times of the parts of `msgq`. Without an argument each workload runs once and prints what never varies;
-//! with the path of a file to be made it prints nanoseconds.
+//! Times of the parts of `msgq`. Without an argument each workload runs once and prints what never
+//! varies; with the path of a file to be made it prints nanoseconds.
 #![tactic(auto)]
 
 mod calling;
@@ -33,7 +33,8 @@ const STEPS: u32 = 1_000_000;
 /// Records of a small file, and the depth of its directory.
 const FEW: (u32, u8) = (1_000, 5);
 
-/// Records of a large file, and the depth of its directory. There are as many for a bucket as in the small one.
+/// Records of a large file, and the depth of its directory. There are as many for a bucket as
+/// in the small one.
 const MANY: (u32, u8) = (1_000_000, 15);
 
 /// Records that are put into a file that grows.
@@ -315,7 +316,8 @@ fn makes(rt: &HostRuntime, path: &str) -> anyhow::Result<()> {
     report(rt, "a page of a new file", 0, start, MAX_PAGES)
 }
 
-/// Prints the nanoseconds that one of so many rounds took. The mark of the work is told, so that none is left out.
+/// Prints the nanoseconds that one of so many rounds took. The mark of the work is told, so that
+/// none is left out.
 fn report(
     rt: &HostRuntime,
     name: &str,

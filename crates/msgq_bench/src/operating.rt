@@ -23,8 +23,8 @@ const VALUE: [u8; 64] = [7; 64];
 /// So many operations are timed together.
 pub const BATCH: u32 = 60;
 
-/// The steps of a find, an insert or a delete that meets no change of the structure: Directory, its depth, its entry,
-/// the page, Directory back, the Look, the write, the page back.
+/// The steps of a find, an insert or a delete that meets no change of the structure: Directory, its
+/// depth, its entry, the page, Directory back, the Look, the write, the page back.
 const PLAIN_STEPS: u32 = 8;
 
 /// More steps than any operation makes.
@@ -133,7 +133,8 @@ fn key(number: u32) -> RecordKey {
     }
 }
 
-/// What an operation came to: whether the record was there or was put, its steps, and how many buckets it split.
+/// What an operation came to: whether the record was there or was put, its steps, and how
+/// many buckets it split.
 #[derive(Clone, Copy, Debug)]
 pub struct Made {
     pub done: bool,
@@ -191,7 +192,8 @@ pub fn clear(alloc: Global, file: &mut File, records: u32) -> anyhow::Result<()>
     Ok(())
 }
 
-/// So many numbers from this one on whose records can be inserted and deleted without a change of the structure.
+/// So many numbers from this one on whose records can be inserted and deleted without a
+/// change of the structure.
 pub fn plain_numbers(
     alloc: Global,
     file: &mut File,

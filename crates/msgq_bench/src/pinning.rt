@@ -22,7 +22,8 @@ pub fn pool_over(alloc: Global, pages: u32, frames: usize) -> Result<Pool<MemDev
     }
 }
 
-/// Pins so many pages one after the other, from this one on, reads a byte of each, and gives them back.
+/// Pins so many pages one after the other, from this one on, reads a byte of each,
+/// and gives them back.
 pub fn pins(
     pool: &mut Pool<MemDevice>,
     first: u32,

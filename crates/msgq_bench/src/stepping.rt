@@ -1,4 +1,5 @@
-//! Steps on the pages of a file that are in frames: reads of an entry, looks, and writes of a record.
+//! Steps on the pages of a file that are in frames: reads of an entry, looks, and
+//! writes of a record.
 
 ghost use Rattle.std.specs.Prelude.{IfOk};
 ghost use Rattle.file_pages.specs.Files.{IsReady};

@@ -1,4 +1,5 @@
-//! Digests of another program, devices of which each transfer fails in turn, and files of the system.
+//! Digests of another program, devices of which each transfer fails in turn, and
+//! files of the system.
 
 use page_device::{
     DIGEST_BYTES, DeviceFault, FaultyDevice, FileDevice, MemDevice, PAGE_BYTES, PAYLOAD_BYTES,
@@ -9,8 +10,8 @@ use std::fs::{OpenFile, OpenOptions};
 use std::rt::Files;
 use std::test::Fail;
 
-/// A page's number, the byte that fills its payload, and the digest that Python's hashlib gives for the number,
-/// big-endian, and the payload.
+/// A page's number, the byte that fills its payload, and the digest that Python's hashlib gives for
+/// the number, big-endian, and the payload.
 const SEALED: [(u32, u8, &[u8; DIGEST_BYTES]); 3] = [
     (
         0,

@@ -1,5 +1,6 @@
-//! Trials of pages: bytes typed out from the format, changes worked by hand, and transfers that fail in turn. They stand
-//! here, so that they are proved without the crates below being proved once more.
+//! Trials of pages: bytes typed out from the format, changes worked by hand, and transfers
+//! that fail in turn. They stand here, so that they are proved without the crates below
+//! being proved once more.
 
 #![tactic(auto)]
 

@@ -1,4 +1,5 @@
-//! Records as they lie in a bucket: the length of the value, the key and the value, one record behind the other.
+//! Records as they lie in a bucket: the length of the value, the key and the value, one
+//! record behind the other.
 
 ghost use Rattle.std.specs.Prelude.{◌+◌, ◌≤◌};
 

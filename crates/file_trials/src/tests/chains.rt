@@ -1,4 +1,5 @@
-//! Chains and directories worked by hand: two splits and a merge, and what each looks like where it went wrong.
+//! Chains and directories worked by hand: two splits and a merge, and what each looks like
+//! where it went wrong.
 
 use hash_file::{Page, Shape, is_chain, names_buckets};
 use positions::Range;
@@ -7,7 +8,8 @@ use std::test::*;
 /// The first bucket, behind the header and 256 directory pages.
 const ROOT: u32 = 257;
 
-/// Four pages from the root on: buckets of these depths, patterns and next pages, and free pages behind them.
+/// Four pages from the root on: buckets of these depths, patterns and next pages, and
+/// free pages behind them.
 fn file(buckets: &[(u8, u32, u32)]) -> [Page; 261] {
     let mut pages = [Page::Free { next: 0 }; 261];
     let mut number = 257;
