@@ -1,0 +1,5 @@
+pub mod Words
+pub mod Deeds
+pub mod Sweeps
+pub mod SweepSteps
+pub mod Works

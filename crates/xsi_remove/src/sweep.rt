@@ -1,0 +1,139 @@
+//! The sweep.
+
+ghost use Rattle.std.specs.Prelude.{◌≡◌, ◌↔◌, ℕ, List, false, not, true};
+ghost use Rattle.xsi_remove.specs.Words.{Change, EndsRow, FollowsRow, IsReady, IsSeat, Lock, Moved, NearsOrSpares, OnlyWrites, Queue, State, Step, is_fault, row_of, store_of};
+ghost use Rattle.xsi_remove.specs.Sweeps.{Faces, begun_sweep, sweep_facts, sweep_left, sweep_locks, sweep_turn};
+ghost use Rattle.xsi_remove.specs.SweepSteps.{HasWritten, IsOver, KeepsSweep, MakesSweep, SweepsOn};
+ghost use Rattle.xsi_remove.specs.Works.{is_move};
+
+use crate::work::Work;
+use bucket_page::PseudoKey;
+use buffer_pool::Pool;
+use file_pages::FileFault;
+use limits::MAX_MESSAGES;
+use page_device::PageDevice;
+use page_locks::LockTable;
+use std::marker::Model;
+use step_rules::Progress;
+use xsi_inquiry::Sweep;
+use xsi_sweep::Turn;
+
+/// The sweep of the messages of a queue. It holds no name: whoever drives it holds that of the queue.
+#[derive(Drop)]
+pub struct SweepTurns {
+    work: Option<Work>,
+}
+
+impl Model for SweepTurns {
+    ghost use Rattle.std.specs.Prelude.{Option};
+    ghost use Rattle.xsi_remove.specs.declared.work.Work.{Work};
+
+    ghost Value = { Option Work };
+
+    ghost view = { λ s. s.work };
+}
+
+impl SweepTurns {
+    /// The sweep that a Remove decides on.
+    pub fn begin<K: PseudoKey>(sweep: Sweep, keys: &K) -> SweepTurns
+        ensures { result ≡ begun_sweep (K.of_key keys.now) sweep }
+    {
+        SweepTurns {
+            work: match sweep.first {
+                Some(first) => Some(Work::begin(
+                    Turn::new(sweep.id, first),
+                    MAX_MESSAGES as u16 - 1,
+                    keys,
+                )),
+                None => None,
+            },
+        }
+    }
+
+    /// Whether it has nothing left to do.
+    pub fn is_over(&self) -> bool
+        ensures { (result ≡ true) ↔ IsOver self.now }
+    {
+        match &self.work {
+            Some(work) => work.has_ended(),
+            None => true,
+        }
+    }
+
+    /// One step.
+    pub fn step<D: PageDevice, K: PseudoKey>(
+        &mut self,
+        pool: &mut Pool<D>,
+        locks: &mut LockTable,
+        keys: &K,
+        seat: u8,
+    ) -> Progress<FileFault>
+        requires seat { IsSeat locks.old seat }
+        requires ready { IsReady pool.old }
+        requires row { EndsRow (sweep_locks self.old) 3 (row_of locks.old seat) }
+        // whatever the device gives
+        ensures writes { OnlyWrites (not (is_fault result)) pool.old pool.new }
+        ensures aim { KeepsSweep result self.old self.new }
+        ensures row { FollowsRow seat (sweep_locks self.old) (sweep_locks self.new)
+            locks.old locks.new }
+        // on an honest device, in a sound world
+        ensures progress { (held : List Lock) (id count : ℕ) (q : Queue) (s : State)
+            (change : Change) → Faces (K.of_key keys.now) seat held id count q s self.old
+            pool.old locks.old change → HasWritten self.new →
+            NearsOrSpares result (sweep_left self.old (store_of pool.old.images))
+            (sweep_left self.new (store_of pool.new.images)) pool.old pool.new }
+        ensures step { (held : List Lock) (id count : ℕ) (q : Queue) (s : State)
+            (change : Change) → Faces (K.of_key keys.now) seat held id count q s self.old
+            pool.old locks.old change → is_fault result ≡ false →
+            Step (K.of_key keys.now) seat (sweep_turn self.old (store_of pool.old.images)) result
+            (sweep_facts self.new) pool.old pool.new locks.old locks.new change }
+        ensures sweeps { (held : List Lock) (id count : ℕ) (q : Queue) (s : State)
+            (change : Change) → Faces (K.of_key keys.now) seat held id count q s self.old
+            pool.old locks.old change → is_fault result ≡ false →
+            SweepsOn (K.of_key keys.now) result id count q s self.old self.new
+            (store_of pool.old.images) (store_of pool.new.images) }
+    {
+        self.make(pool, locks, keys, seat)
+    }
+
+    /// One step of its access, behind which what follows is begun where that has ended.
+    fn make<D: PageDevice, K: PseudoKey>(
+        &mut self,
+        pool: &mut Pool<D>,
+        locks: &mut LockTable,
+        keys: &K,
+        seat: u8,
+    ) -> Progress<FileFault>
+        requires seat { IsSeat locks.old seat }
+        requires ready { IsReady pool.old }
+        requires row { EndsRow (sweep_locks self.old) 3 (row_of locks.old seat) }
+        ensures { MakesSweep (K.of_key keys.now) seat result self.old self.new
+            pool.old pool.new locks.old locks.new }
+    {
+        let Some(work) = &mut self.work else {
+            return Progress::Ended;
+        };
+        let did = work.drive(pool, locks, keys, seat);
+        if !is_move(did) {
+            return did;
+        }
+        if !work.has_ended() {
+            return did;
+        }
+        match work.go_on(keys) {
+            Ok(true) => did,
+            Ok(false) => {
+                self.work = None;
+                did
+            }
+            Err(fault) => Progress::Fault(fault),
+        }
+    }
+}
+
+/// Whether the step moved.
+fn is_move(did: Progress<FileFault>) -> bool
+    ensures { result ≡ is_move did }
+{
+    matches!(did, Progress::Moved(_))
+}
