@@ -1,0 +1,6 @@
+pub mod EndLemmas
+pub mod HearLemmas
+pub mod LeftLemmas
+pub mod DeedLemmas
+pub mod NextLemmas
+pub mod SweepLemmas
