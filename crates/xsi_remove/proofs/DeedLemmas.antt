@@ -187,6 +187,7 @@ module _ (hash : RecordKey → ℕ) (seat : ℕ) (did : Progress FileFault) (w :
         where
           Is : Option MessageRead → Type 0
           Is o = IsTurn id count q s (turn_next (record w.turn { read = o })) (turn_plan (record w.turn { read = o }))
+
           by_deed : (d : Deed) → w.deed ≡ d → IsRead d w → w.turn.read ≡ None → Is read
           by_deed Reading reading unread none = elim tells.finds [
             | inl same ↦ absurd (some_none read some (h.unanswered none (same ∙ unread none)))
@@ -202,6 +203,7 @@ module _ (hash : RecordKey → ℕ) (seat : ℕ) (did : Progress FileFault) (w :
           by_deed DeletingMessage reading heard none = absurd (some_none w.turn.read heard none)
           by_deed (DeletingType mtype) reading last none =
               absurd (let clash : ◌≡◌ {A = Option ℤ} None (Some mtype) = sym (ap last_type none) ∙ last in cc)
+
           by : (o : Option MessageRead) → w.turn.read ≡ o → Is read
           by (Some m) was =
               let some' : IsSome w.turn.read = subst IsSome (sym was) refl in

@@ -211,11 +211,13 @@ module _ (hash : RecordKey → ℕ) (id count : ℕ) (q : Queue) (s : State) (w 
           Leads DeletingMessage (led_to hash (Some (behind_message (last_type o) w.turn)) w)
       by_message None none some deed wrote = absurd cc
       by_message (Some m) was some deed wrote = behind_deletion m was deed wrote m.last_of refl
+
       by_type : (mtype : ℤ) (o : Option MessageRead) → w.turn.read ≡ o → last_type o ≡ Some mtype →
           w.deed ≡ DeletingType mtype → w.access.written ≡ true →
           Leads (DeletingType mtype) (led_to hash (Some (turn_behind (next_by w.turn.read))) w)
       by_type mtype None none last deed wrote = absurd cc
       by_type mtype (Some m) was last deed wrote = behind_type mtype m was last deed wrote
+
       by : (x : Deed) → w.deed ≡ x → Leads x (led_to hash (behind x w.turn w.access.written) w)
       by Reading deed = behind_reading w.turn.read refl deed
           (answered (message_of w.turn) (subst (λ (x : Deed). Serves (purpose_of x w.turn) w.access) deed d.serves))

@@ -71,6 +71,7 @@ fresh_led hash w (Some (Begins serial)) v is = by (w.turns == 0) is
   where
     begun : Work
     begun = begun_work hash (begun_turn w.turn.id serial) (w.turns - 1)
+
     by : (b : Bool) → (if b then None else Some (Some begun)) ≡ Some v → IsFresh w v
     by true is = absurd cc
     by false is = subst (IsFresh w) (same_in (Some begun) v is) (record {
@@ -209,6 +210,7 @@ module _ (hash : RecordKey → ℕ) (seat : ℕ) (did : Progress FileFault) (w w
               removes = removes_its w.access.operation w.access.bytes (store_of pool.images) key serves.kind
                   ∙ ap (λ (k : RecordKey). Some (Remove k)) serves.key;
             }
+
             by : (x : Deed) → w.deed ≡ x → Serves (purpose_of w.deed w.turn) w.access →
                 SweepsAway id (access_turn w.access (store_of pool.images))
             by Reading is serves =
@@ -234,6 +236,7 @@ module _ (hash : RecordKey → ℕ) (seat : ℕ) (did : Progress FileFault) (w w
         where
           as_before : w'.access ≡ w.access → HasEnded w'.access.operation → ⊥
           as_before is over = before (subst (λ (a : AccessView). HasEnded a.operation) is over)
+
           by : (d : Progress FileFault) → did ≡ d → HasEnded w'.access.operation → ⊥
           by (Moved kind) is = going (ap is_move is)
           by (Blocked other) is =
@@ -356,8 +359,10 @@ module _ (hash : RecordKey → ℕ) (seat : ℕ) (did : Progress FileFault) (w w
         where
           fresh : IsFresh w' v
           fresh = fresh_led hash w' (behind w'.deed w'.turn w'.access.written) v next
+
           wrote : Deletes w'.deed → w'.access.written ≡ true
           wrote = wrote_by hash w' v w'.deed w'.access.written next
+
           moves : (d : Progress FileFault) → is_move d ≡ true → Rests d (Some w) v
           moves (Moved kind) is = tt
           moves (Blocked other) is = absurd cc
@@ -372,8 +377,11 @@ module _ (hash : RecordKey → ℕ) (seat : ℕ) (did : Progress FileFault) (w w
       (sym deaf.is) (record {
         writes = faulted pool pool' deaf.makes.writes;
         aim = record {
-          ended = (λ is. absurd (true≢false (ap is_fault is)), λ was. absurd (over_none (Moved Look) refl
-              (deaf.makes.aim.ended.1 was)));
+          ended = (
+            λ is. absurd (true≢false (ap is_fault is)),
+            λ was. absurd (over_none (Moved Look) refl
+                (deaf.makes.aim.ended.1 was)),
+          );
           rests = tt;
           queue = λ id is. ap (λ (x : Work). x.turn.id) deaf.same ∙ is;
           fewer = let turns = ap (λ (x : Work). x.turns) deaf.same in omega (arith, turns);

@@ -194,7 +194,12 @@ fn behind_message(turn: &Turn) -> Next
     ensures { result ≡ behind_message (last_type turn.now.read) turn.now }
 {
     match turn.read {
-        Some(MessageRead { last_of: Some(mtype), .. }) => Next::Goes(Deed::DeletingType(mtype)),
+        Some(
+            MessageRead {
+                last_of: Some(mtype),
+                ..
+            },
+        ) => Next::Goes(Deed::DeletingType(mtype)),
         _ => turn_behind(turn),
     }
 }
