@@ -1,7 +1,10 @@
 -- The value at a key is the spelling of the record that stands there.
 use Rattle.std.proofs.Common.{◌≡◌, ℕ, ℤ, List, Option, Some, None, Result, Ok, sym, ap, subst, ◌∙◌}
 use Rattle.queue_records.specs.declared.bad_record.BadRecord.{BadRecord}
-use Rattle.file_records.specs.Answers.{IsRecordAt}
+use Rattle.queue_records.specs.declared.record.Record.TheVariants as records
+use Rattle.queue_records.specs.Keys.{key_of_message}
+use Rattle.record_walk.specs.Held.{IsMessageAt, entry_with}
+use Rattle.file_records.specs.Answers.{IsRecordAt, StandsAt}
 use Rattle.file_records.specs.Words.{RecordKey, Holds, Linked, MessageEntry, Record, Spells, key_of, linked_of}
 
 module _ (held : RecordKey → Option (List ℕ)) (key : RecordKey) where
@@ -33,6 +36,18 @@ module _ (held : RecordKey → Option (List ℕ)) (key : RecordKey) where
         ap (λ (x : Record). Some x) (only r (subst (Spells r key) same so))),
   )
 
+  -- what is read at the key stands there
+  pub read_stands : (value : List ℕ) (found : Record) → held key ≡ Some value → Spells found key value →
+      StandsAt held key found
+  read_stands value found is spelled = record {
+    keyed = sym spelled.keyed;
+    stands = record {
+      value = value;
+      found = subst (λ (k : RecordKey). held k ≡ Some value) spelled.keyed is;
+      spelled = subst (λ (k : RecordKey). Spells found k value) spelled.keyed spelled;
+    };
+  }
+
 pub only_one : (key : RecordKey) (value : List ℕ) (found : Record) →
     ((r : Record) → Spells r key value → ◌≡◌ {A = Result Record BadRecord} (Ok found) (Ok r)) → (r : Record) →
     Spells r key value → found ≡ r
@@ -52,7 +67,7 @@ found_is held key found here r at is keyed h =
 abbrev pub linked : MessageEntry → ℤ → List ℕ → Linked
 linked m mtype bytes = record {
   message = record { serial = m.serial; sender = m.sender; mtype = mtype; bytes = bytes };
-  next = m.next;
+  links = record { previous = m.previous; next = m.next; next_of_type = m.next_of_type };
 }
 
 -- a message is told with its bytes copied
@@ -61,3 +76,25 @@ pub linked_is : (m other : MessageEntry) (mtype : ℤ) (bytes : List ℕ) → m 
 linked_is m other mtype bytes same typed copied =
     ap (λ (t : ℤ). Some (linked m t bytes)) typed ∙ ap (λ (b : List ℕ). Some (linked m m.mtype b)) copied
     ∙ ap (λ (e : MessageEntry). Some (linked_of e)) same
+
+-- and stands so at its key
+pub linked_at : (held : RecordKey → Option (List ℕ)) (id serial : ℕ) (m : MessageEntry) (mtype : ℤ) (bytes : List ℕ) →
+    StandsAt held (key_of_message id serial) (records.Message m) → mtype ≡ m.mtype → bytes ≡ m.body →
+    IsMessageAt held id serial (linked m mtype bytes)
+linked_at held id serial m mtype bytes at typed copied =
+    let its : m.id ≡ id = ap (λ (k : RecordKey). k.queue) at.keyed in
+    let e : MessageEntry = entry_with id (linked m mtype bytes).message (linked m mtype bytes).links in
+    let same : m ≡ e = λ i. record {
+      id = its i;
+      serial = m.serial;
+      mtype = sym typed i;
+      sender = m.sender;
+      previous = m.previous;
+      next = m.next;
+      next_of_type = m.next_of_type;
+      body = sym copied i;
+    } in
+    record {
+      its = ap (λ (k : RecordKey). k.number) at.keyed;
+      stands = subst (λ (x : MessageEntry). Holds held (records.Message x)) same at.stands;
+    }

@@ -18,3 +18,8 @@ pub record AnswersFor (held : RecordKey → Option (List ℕ)) (key : RecordKey)
 -- of the records of this key, this one stands, or none
 abbrev pub IsRecordAt : (RecordKey → Option (List ℕ)) → RecordKey → Option Record → Type 0
 IsRecordAt held key found = (r : Record) → key_of r ≡ key → (found ≡ Some r) ↔ Holds held r
+
+-- the record has this key, and stands there
+pub record StandsAt (held : RecordKey → Option (List ℕ)) (key : RecordKey) (r : Record) : Type 0 where
+  pub keyed : key_of r ≡ key
+  pub stands : Holds held r

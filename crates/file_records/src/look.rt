@@ -9,7 +9,7 @@ use bucket_page::PseudoKey;
 use page_device::{PAGE_BYTES, PageDevice};
 use queue_model::{Body, Message};
 use queue_records::{Counter, QueueEntry, Record, counter_key, message_key, queue_key};
-use record_walk::{Linked, Records, WalkFault};
+use record_walk::{Linked, MessageLinks, Records, WalkFault};
 use std::alloc::Global;
 
 impl<D: PageDevice, K: PseudoKey + Drop> Records for FileRecords<D, K> {
@@ -62,7 +62,11 @@ impl<D: PageDevice, K: PseudoKey + Drop> Records for FileRecords<D, K> {
                     mtype: message.mtype,
                     bytes: Body::new(Vec::from_slice(alloc, message.body.as_slice())?),
                 },
-                next: message.next,
+                links: MessageLinks {
+                    previous: message.previous,
+                    next: message.next,
+                    next_of_type: message.next_of_type,
+                },
             })),
             Some(_) => Ok(None),
             None => Ok(None),

@@ -1,7 +1,7 @@
 //! The record that a page has at a key.
 
-ghost use Rattle.std.specs.Prelude.{◌≡◌, ◌↔◌, ℕ, List, Option, IfErr, IfOk, IsOk, IsTrue};
-ghost use Rattle.file_records.specs.Answers.{AnswersFor, IsRecordAt};
+ghost use Rattle.std.specs.Prelude.{◌≡◌, ◌↔◌, ℕ, List, Option, IfErr, IfOk, IfSome, IsOk, IsTrue};
+ghost use Rattle.file_records.specs.Answers.{AnswersFor, IsRecordAt, StandsAt};
 ghost use Rattle.file_records.specs.Words.{RecordKey, Spells, key_of};
 
 use crate::page::value_in;
@@ -18,6 +18,8 @@ pub(crate) fn record_in<'p>(
 ) -> Result<Option<Record<'p>>, WalkFault>
     ensures ok { (held : RecordKey → Option (List ℕ)) → AnswersFor held key.now bytes.now →
         IfOk result (IsRecordAt held key.now) }
+    ensures stands { (held : RecordKey → Option (List ℕ)) → AnswersFor held key.now bytes.now →
+        IfOk result (λ found. IfSome found (StandsAt held key.now)) }
     ensures read { (held : RecordKey → Option (List ℕ)) → AnswersFor held key.now bytes.now →
         IsOk result }
     ensures err { IfErr result (λ fault. fault ≡ WalkFault.Changed page) }

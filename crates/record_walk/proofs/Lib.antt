@@ -4,3 +4,4 @@ pub mod StillLemmas
 pub mod WalkLemmas
 pub mod QueueLemmas
 pub mod SystemLemmas
+pub mod MessageLemmas

@@ -64,7 +64,7 @@ module _ (held : RecordKey → Option (List ℕ)) (q : Queue) (has : HasQueue he
     pub walked_more : (ms : List Message) (serial : ℕ) (found : Linked) → IsWalkedTo q ms (Some serial) →
         ((e : MessageEntry) → Holds held (records.Message e) → e.id ≡ id → e.serial ≡ serial →
         Some found ≡ Some (linked_of e)) →
-        IsWalkedTo q (ms ++ found.message ∷ []) found.next
+        IsWalkedTo q (ms ++ found.message ∷ []) found.links.next
     walked_more ms serial found so told =
         let d : Message = record { serial = 0; sender = 0; mtype = pos 0; bytes = [] } in
         let there = walked_there ms serial (Some found) so told in
@@ -79,7 +79,7 @@ module _ (held : RecordKey → Option (List ℕ)) (q : Queue) (has : HasQueue he
               ap (λ (x : Message). ms ++ x ∷ []) message_is ∙ ap (λ xs. xs ++ m ∷ []) so.so_far
               ∙ sym (take-suc q.messages i d there.0) ∙ ap (λ n. take n q.messages) (sym longer);
           next_is =
-              ap (λ (l : Linked). l.next) is
+              ap (λ (l : Linked). l.links.next) is
               ∙ ap (λ n. slice_get (serials q.messages) (suc n))
               (place_is q.messages i d has.lawful.serials_ascend there.0)
               ∙ ap (slice_get (serials q.messages)) (sym longer);

@@ -3,7 +3,7 @@ use Rattle.std.specs.Prelude.{◌≡◌, ℕ, ◌<◌, ℤ, List, map, Option, S
 use Rattle.std.specs.List.{AllPairs}
 use Rattle.record_walk.specs.declared.of_type.Ends.{Ends}
 use Rattle.record_walk.specs.declared.of_type.TypeLinks.{TypeLinks}
-use Rattle.record_walk.specs.Words.{Message, behind, first_of, is_number, last_of, serials_of_type}
+use Rattle.record_walk.specs.Words.{Message, MessageLinks, Queue, before, behind, first_of, is_number, last_of, serials, serials_of_type}
 
 -- serials ascend
 abbrev pub IsAscending : List Message → Type 0
@@ -12,6 +12,14 @@ IsAscending ms = AllPairs (λ (m n : Message). m.serial < n.serial) ms
 -- the serial of the next of its type
 abbrev pub next_of_type : List Message → Message → Option ℕ
 next_of_type ms m = behind (is_number m.serial) (serials_of_type m.mtype ms)
+
+-- what the record of a message of a queue has to name
+abbrev pub links_in : Queue → Message → MessageLinks
+links_in q m = record {
+  previous = before (is_number m.serial) (serials q.messages);
+  next = behind (is_number m.serial) (serials q.messages);
+  next_of_type = next_of_type q.messages m;
+}
 
 -- the serials of the first and the last of a type
 abbrev pub ends_of : List Message → ℤ → Ends

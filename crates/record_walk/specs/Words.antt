@@ -19,3 +19,4 @@ pub use Rattle.type_chains.specs.Lists.{serials, serials_of_type, types, with_ty
 pub use Rattle.type_chains.specs.Neighbours.{first_of, last_of, before, behind}
 pub use Rattle.record_walk.specs.declared.fault.WalkFault.{WalkFault}
 pub use Rattle.record_walk.specs.declared.records.Linked.{Linked}
+pub use Rattle.record_walk.specs.declared.records.MessageLinks.{MessageLinks}

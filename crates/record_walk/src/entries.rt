@@ -1,13 +1,13 @@
 //! The records that a queue needs.
 
 ghost use Rattle.std.specs.Prelude.{◌≡◌, ◌<◌, pos, length, slice_index_or};
-ghost use Rattle.record_walk.specs.Links.{IsAscending, ends_of, next_of_type};
-ghost use Rattle.record_walk.specs.Words.{IsLawfulQueue, Message, message_entry, queue_entry, serials, type_entry, types};
+ghost use Rattle.record_walk.specs.Links.{ends_of};
+ghost use Rattle.record_walk.specs.Words.{IsLawfulQueue, queue_entry, serials, type_entry, types};
 
-use crate::lists::{before, behind, first, first_type, last, type_before, type_behind};
+use crate::lists::{first, first_type, last, type_before, type_behind};
 use crate::of_type::Ends;
 use queue_model::Queue;
-use queue_records::{Body, MessageEntry, QueueEntry, TypeEntry};
+use queue_records::{QueueEntry, TypeEntry};
 
 /// The Queue of a queue, of its serials and its types.
 pub(crate) fn queue_entry(queue: &Queue, all: &[u64], kinds: &[i64]) -> QueueEntry
@@ -53,33 +53,5 @@ pub(crate) fn type_entry(queue: &Queue, place: usize, kinds: &[i64], ends: Ends)
         last: ends.last.unwrap_or(0),
         lower: type_before(kinds, place),
         higher: type_behind(kinds, place),
-    }
-}
-
-/// The Message of the message at a place, of all serials and the next of its type.
-pub(crate) fn message_entry<'a>(
-    queue: &'a Queue,
-    place: usize,
-    all: &[u64],
-    of_type: Option<u64>,
-) -> MessageEntry<'a>
-    requires within { place < length queue.now.messages }
-    requires ascend { IsAscending queue.now.messages }
-    requires all { all.now ≡ serials queue.now.messages }
-    requires of_type { (d : Message) → of_type
-        ≡ next_of_type queue.now.messages (slice_index_or queue.now.messages place d) }
-    ensures { (d : Message) →
-        result ≡ message_entry queue.now (slice_index_or queue.now.messages place d) }
-{
-    let message = queue.messages.get(place);
-    MessageEntry {
-        id: queue.id,
-        serial: message.serial,
-        mtype: message.mtype,
-        sender: message.sender,
-        previous: before(all, place),
-        next: behind(all, place),
-        next_of_type: of_type,
-        body: Body::new(message.bytes.as_slice()),
     }
 }

@@ -13,5 +13,5 @@ mod system;
 
 pub use fault::WalkFault;
 pub use queue::read_queue;
-pub use records::{Linked, Records};
+pub use records::{Linked, MessageLinks, Records};
 pub use system::read_system;

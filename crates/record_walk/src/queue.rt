@@ -1,20 +1,20 @@
 //! A queue is read, and all its records are compared with those that stand.
 
-ghost use Rattle.std.specs.Prelude.{◌≡◌, ◌↔◌, map, IsTrue, IfOk, IfErr};
+ghost use Rattle.std.specs.Prelude.{◌≡◌, ◌↔◌, length, map, IsTrue, IfOk, IfErr};
 ghost use Rattle.std.specs.List.{All};
 ghost use Rattle.record_walk.specs.Fault.{IsCaused, IsOfMachine};
-ghost use Rattle.record_walk.specs.Held.{Holds, IsStill};
-ghost use Rattle.record_walk.specs.Links.{IsAscending, ends_of, next_of_type};
+ghost use Rattle.record_walk.specs.Held.{AreLinked, Holds, IsStill};
+ghost use Rattle.record_walk.specs.Links.{IsAscending, ends_of, links_in, next_of_type};
 ghost use Rattle.record_walk.specs.Systems.{HasQueue, IsQueueOf, queue_in};
 ghost use Rattle.record_walk.specs.Told.{IsToldOfQueue};
-ghost use Rattle.record_walk.specs.Words.{IsLawfulQueue, key_records, message_records, serials, type_records, types};
+ghost use Rattle.record_walk.specs.Words.{IsLawfulQueue, key_records, serials, type_records, types};
 
-use crate::entries::{message_entry, queue_entry, type_entry};
+use crate::entries::{queue_entry, type_entry};
 use crate::fault::WalkFault;
-use crate::lists::{serials_of, types_of};
-use crate::messages::walk;
+use crate::lists::{before, behind, serials_of, types_of};
+use crate::messages::{Walked, walk};
 use crate::of_type::{Ends, type_links};
-use crate::records::Records;
+use crate::records::{MessageLinks, Records};
 use queue_model::{Messages, Permissions, Queue};
 use queue_records::{KeyEntry, QueueEntry, Record};
 use std::alloc::Global;
@@ -32,9 +32,9 @@ pub fn read_queue<F: Records>(file: &mut F, alloc: Global, id: u32) -> Result<Qu
     let Some(entry) = file.queue(id)? else {
         return Err(WalkFault::WrongQueue { queue: id });
     };
-    let messages = walk(file, alloc, id, entry.first)?;
+    let Walked { messages, links } = walk(file, alloc, id, entry.first)?;
     let queue = queue_in(&entry, id, messages);
-    if !has_queue(file, alloc, &queue)? {
+    if !has_queue(file, alloc, &queue, links.as_slice())? {
         return Err(WalkFault::WrongQueue { queue: id });
     }
     Ok(queue)
@@ -65,8 +65,16 @@ fn queue_in(entry: &QueueEntry, id: u32, messages: Messages) -> Queue
     }
 }
 
-/// Whether a queue is lawful and all its records stand.
-fn has_queue<F: Records>(file: &mut F, alloc: Global, queue: &Queue) -> Result<bool, WalkFault>
+/// Whether a queue is lawful and all its records stand. Its messages stand with these links.
+fn has_queue<F: Records>(
+    file: &mut F,
+    alloc: Global,
+    queue: &Queue,
+    links: &[MessageLinks],
+) -> Result<bool, WalkFault>
+    requires number { length links.now ≡ length queue.now.messages }
+    requires links { IsTrue (F.is_honest file.old) →
+        AreLinked (F.held file.old) queue.now.id queue.now.messages links.now }
     ensures ok { IsTrue (F.is_honest file.old) →
         IfOk result (λ has. IsTrue has ↔ HasQueue (F.held file.old) queue.now) }
     ensures err { IsTrue (F.is_honest file.old) → IfErr result (λ fault. IsOfMachine fault) }
@@ -84,11 +92,11 @@ fn has_queue<F: Records>(file: &mut F, alloc: Global, queue: &Queue) -> Result<b
     if !has_key(file, queue)? {
         return Ok(false);
     }
-    let links = type_links(alloc, &queue.messages, &kinds)?;
-    if !has_types(file, queue, &kinds, &links.ends)? {
+    let of_type = type_links(alloc, &queue.messages, &kinds)?;
+    if !has_types(file, queue, &kinds, &of_type.ends)? {
         return Ok(false);
     }
-    has_messages(file, queue, &all, &links.next)
+    Ok(has_links(queue, &all, &of_type.next, links))
 }
 
 /// Whether the Key of a queue stands, where it has a key.
@@ -129,27 +137,23 @@ fn has_types<F: Records>(
     Ok(true)
 }
 
-/// Whether the Messages of a queue stand.
-fn has_messages<F: Records>(
-    file: &mut F,
-    queue: &Queue,
-    all: &[u64],
-    next: &[Option<u64>],
-) -> Result<bool, WalkFault>
+/// Whether the messages of a queue have these links.
+fn has_links(queue: &Queue, all: &[u64], next: &[Option<u64>], links: &[MessageLinks]) -> bool
+    requires number { length links.now ≡ length queue.now.messages }
     requires ascend { IsAscending queue.now.messages }
     requires all { all.now ≡ serials queue.now.messages }
     requires next { next.now ≡ map (next_of_type queue.now.messages) queue.now.messages }
-    ensures ok { IsTrue (F.is_honest file.old) → IfOk result (λ has.
-        IsTrue has ↔ All (Holds (F.held file.old)) (message_records queue.now)) }
-    ensures err { IsTrue (F.is_honest file.old) → IfErr result (λ fault. IsOfMachine fault) }
-    ensures still { IsStill F.held F.pages F.is_honest F.fault_count file.old file.new }
-    ensures cause { IsCaused (F.fault_count file.old) (F.fault_count file.new) result }
+    ensures { IsTrue result ↔ links.now ≡ map (links_in queue.now) queue.now.messages }
 {
     for place in 0..queue.messages.len() {
-        let entry = message_entry(queue, place, all, next[place]);
-        if !file.holds(&Record::Message(entry))? {
-            return Ok(false);
+        let wanted = MessageLinks {
+            previous: before(all, place),
+            next: behind(all, place),
+            next_of_type: next[place],
+        };
+        if links[place] != wanted {
+            return false;
         }
     }
-    Ok(true)
+    true
 }

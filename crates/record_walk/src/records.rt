@@ -1,8 +1,8 @@
 //! Records by their keys.
 
-ghost use Rattle.std.specs.Prelude.{◌≡◌, ◌↔◌, ℕ, Bool, List, Option, Some, IsTrue, IfOk, IfErr};
+ghost use Rattle.std.specs.Prelude.{◌≡◌, ◌↔◌, ℕ, Bool, List, Option, Some, IsTrue, IfOk, IfErr, IfSome};
 ghost use Rattle.record_walk.specs.Fault.{IsCaused, IsOfMachine};
-ghost use Rattle.record_walk.specs.Held.{Holds, IsStill, linked_of};
+ghost use Rattle.record_walk.specs.Held.{Holds, IsMessageAt, IsStill, linked_of};
 ghost use Rattle.record_walk.specs.Words.{Counter, MessageEntry, QueueEntry, RecordKey};
 ghost use Rattle.queue_records.specs.declared.record.Record.TheVariants as records;
 
@@ -11,11 +11,22 @@ use queue_model::Message;
 use queue_records::{Counter, QueueEntry, Record};
 use std::alloc::Global;
 
-/// A message as it stands on a queue, and the serial of the one behind it.
+/// The serials that the record of a message names.
+#[derive(Clone, Copy, Debug, PartialEq)]
+pub struct MessageLinks {
+    /// Of the message before it on the queue.
+    pub previous: Option<u64>,
+    /// Of the message behind it on the queue.
+    pub next: Option<u64>,
+    /// Of the next message of its type.
+    pub next_of_type: Option<u64>,
+}
+
+/// A message as it stands on a queue, and its links.
 #[derive(Debug, Drop)]
 pub struct Linked {
     pub message: Message,
-    pub next: Option<u64>,
+    pub links: MessageLinks,
 }
 
 /// Records that can be looked up. Where they are honest, a look tells what stands there.
@@ -48,11 +59,13 @@ pub trait Records {
         ensures still { IsStill held pages is_honest fault_count self.old self.new }
         ensures cause { IsCaused (fault_count self.old) (fault_count self.new) result };
 
-    /// The Message of a serial, where it stands.
+    /// The Message of a serial with all its links, where it stands.
     fn message(&mut self, alloc: Global, id: u32, serial: u64) -> Result<Option<Linked>, WalkFault>
         ensures ok { IsTrue (is_honest self.old) → IfOk result (λ found. (e : MessageEntry) →
             Holds (held self.old) (records.Message e) → e.id ≡ id → e.serial ≡ serial →
             found ≡ Some (linked_of e)) }
+        ensures stands { IsTrue (is_honest self.old) → IfOk result (λ found.
+            IfSome found (IsMessageAt (held self.old) id serial)) }
         ensures err { IsTrue (is_honest self.old) → IfErr result (λ fault. IsOfMachine fault) }
         ensures still { IsStill held pages is_honest fault_count self.old self.new }
         ensures cause { IsCaused (fault_count self.old) (fault_count self.new) result };

@@ -1,5 +1,5 @@
 -- What is found spells the record, and only that.
-use Rattle.file_records.proofs.ValueLemmas.{none_at, some_at, only_one}
+use Rattle.file_records.proofs.ValueLemmas.{none_at, read_stands, some_at, only_one}
 use Rattle.file_records.proofs.values.record_in.Goals as goal
 
 pub returns-in_err-value-clause-read : goal.returns-in_err-value-clause-read
@@ -14,6 +14,14 @@ returns-in-Ok-clause-ok c = λ held a.
     let is = rw c.in-Some.is at (c.in_ok-value.ensures.some held a) in
     some_at held c.args.key.now c.in-Some.value.now c.in-Ok.found is c.in-Ok.ensures.ok
     (only_one _ _ c.in-Ok.found c.in-Ok.ensures.only)
+
+pub returns-in-Ok-clause-stands : goal.returns-in-Ok-clause-stands
+returns-in-Ok-clause-stands c = λ held a.
+    let is = rw c.in-Some.is at (c.in_ok-value.ensures.some held a) in
+    read_stands held c.args.key.now c.in-Some.value.now c.in-Ok.found is c.in-Ok.ensures.ok
+
+pub returns-in_default-clause-stands : goal.returns-in_default-clause-stands
+returns-in_default-clause-stands c = λ held a. tt
 
 pub returns-in-Err-clause-read : goal.returns-in-Err-clause-read
 returns-in-Err-clause-read c = λ held a.

@@ -30,11 +30,11 @@ returns-then-not-branch-clause-err g c = λ is.
     let is1 = subst IsTrue (sym one.honesty) is in
     let told = c.in_ok-has_queue.ensures.ok (subst IsTrue (sym two.honesty) is1) in
     let walked = subst (λ (h : RecordKey → Option (List ℕ)). IsWalkOf h c.args.id c.in-Some.entry.first
-    c.in_ok-messages.messages) one.same (c.in_ok-messages.ensures.ok is1) in
+    c.in_ok-messages.field-0.messages) one.same (c.in_ok-messages.ensures.ok is1) in
     inr (
       refl,
       none_read (g.F.Records.held c.args.file.now) c.args.id c.in-Some.entry
-          (λ e h a. sym c.in-Some.is ∙ c.in_ok-entry.ensures.ok is e h a) c.in_ok-messages.messages walked
+          (λ e h a. sym c.in-Some.is ∙ c.in_ok-entry.ensures.ok is e h a) c.in_ok-messages.field-0.messages walked
           (λ h.
           let t = told.1 (subst (λ (x : RecordKey → Option (List ℕ)). HasQueue x c.queue_in-queue.result)
           (sym (two.same ∙ one.same))
@@ -50,10 +50,10 @@ returns-clause-ok g c = λ is.
     let is1 = subst IsTrue (sym one.honesty) is in
     let told = c.in_ok-has_queue.ensures.ok (subst IsTrue (sym two.honesty) is1) in
     let walked = subst (λ (h : RecordKey → Option (List ℕ)). IsWalkOf h c.args.id c.in-Some.entry.first
-    c.in_ok-messages.messages) one.same (c.in_ok-messages.ensures.ok is1) in
+    c.in_ok-messages.field-0.messages) one.same (c.in_ok-messages.ensures.ok is1) in
     subst (IsQueueOf (g.F.Records.held c.args.file.now) c.args.id) (sym c.queue_in-queue.ensures)
     (queue_read (g.F.Records.held c.args.file.now) c.args.id c.in-Some.entry
-    (λ e h a. sym c.in-Some.is ∙ c.in_ok-entry.ensures.ok is e h a) c.in_ok-messages.messages walked
+    (λ e h a. sym c.in-Some.is ∙ c.in_ok-entry.ensures.ok is e h a) c.in_ok-messages.field-0.messages walked
     (subst (HasQueue (g.F.Records.held c.args.file.now)) c.queue_in-queue.ensures
     (subst (λ (x : RecordKey → Option (List ℕ)). HasQueue x c.queue_in-queue.result) (two.same ∙ one.same)
     (told.0 c.if-not-branch.false))))
