@@ -145,12 +145,16 @@ fn has_message(messages: &Messages, serial: u64) -> bool
     place_of_message(messages, serial).is_some()
 }
 
-/// The place of the message of a serial. Serials ascend, so each look halves the places that are left.
+/// The place of the message of a serial. Serials ascend, so where some are missing each look halves the places that are
+/// left.
 fn place_of_message(messages: &Messages, serial: u64) -> Option<usize>
     requires { AllPairs (λ (m n : Message). m.serial < n.serial) messages.now }
     ensures some { IfSome result (IsFoundAt (has_serial serial) messages.now) }
     ensures none { IfNone result (find (has_serial serial) messages.now ≡ None) }
 {
+    if let Some(place) = place_without_gaps(messages, serial) {
+        return Some(place);
+    }
     let mut low = 0;
     let mut high = messages.len();
     'search: while low < high {
@@ -164,6 +168,25 @@ fn place_of_message(messages: &Messages, serial: u64) -> Option<usize>
         } else {
             high = middle;
         }
+    }
+    None
+}
+
+/// The place of the message of a serial, where no message before it is missing.
+fn place_without_gaps(messages: &Messages, serial: u64) -> Option<usize>
+    requires { AllPairs (λ (m n : Message). m.serial < n.serial) messages.now }
+    ensures { IfSome result (IsFoundAt (has_serial serial) messages.now) }
+{
+    if messages.len() == 0 {
+        return None;
+    }
+    let first = messages.get(0).serial;
+    if serial < first {
+        return None;
+    }
+    let place = (serial - first) as usize;
+    if place < messages.len() && messages.get(place).serial == serial {
+        return Some(place);
     }
     None
 }
