@@ -1,17 +1,13 @@
 -- Along its links the messages of a queue are met in their order.
-use Rattle.std.proofs.Common.{ℕ, pos, zero, suc, ◌≡◌, ◌+◌, ◌<◌, ◌≤◌, ◌==◌, List, [], ◌∷◌, ◌++◌, length, take, Option, Some, None, get_or, refl, sym, ap, subst, ◌∙◌, arith}
+use Rattle.std.proofs.Common.{ℕ, pos, zero, suc, ◌≡◌, ◌+◌, ◌<◌, ◌≤◌, List, [], ◌∷◌, ◌++◌, length, take, Option, Some, None, get_or, refl, sym, ap, subst, ◌∙◌, arith}
 use Rattle.std.specs.Prelude.{slice_get}
-use Rattle.std.specs.List.{position_or_len}
 use Rattle.std.proofs.Math.Seq.{take-suc}
-use Rattle.std.proofs.lemmas.Bool.{eq-eqb}
-use Rattle.std.proofs.lemmas.Bool.Decides.{nat_tests}
 use Rattle.std.proofs.lemmas.List.{get_or-map, length-map, length-append, take_all}
-use Rattle.std.proofs.lemmas.List.Sums.{position_or_len_is}
 use Rattle.limits.specs.declared.TheConstants.{MAX_MESSAGES}
 use Rattle.record_walk.proofs.LinkLemmas.{place_is}
 use Rattle.record_walk.specs.Held.{Holds, linked_of}
 use Rattle.record_walk.specs.Systems.{HasQueue}
-use Rattle.record_walk.specs.Words.{RecordKey, Message, Queue, Record, MessageEntry, Linked, first_of, is_number, message_entry, serials}
+use Rattle.record_walk.specs.Words.{RecordKey, Message, Queue, Record, MessageEntry, Linked, first_of, message_entry, serials}
 use Rattle.queue_records.specs.declared.record.Record.TheVariants as records
 
 -- these are the first messages of a queue, and this is the serial of the next

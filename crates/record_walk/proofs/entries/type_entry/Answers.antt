@@ -1,12 +1,11 @@
 -- The links of a type are its neighbours.
-use Rattle.std.proofs.Common.{ℕ, ℤ, pos, List, Option, ◌≡◌, ◌<ℤ◌, length, sym, ap, subst, ◌∙◌, rules}
+use Rattle.std.proofs.Common.{ℤ, pos, List, ◌<ℤ◌, sym, subst, ◌∙◌, rules}
 use Rattle.std.specs.List.{AllPairs}
-use Rattle.std.specs.Prelude.{slice_index_or, unwrap_or}
+use Rattle.std.specs.Prelude.{slice_index_or}
 use Rattle.std.proofs.lemmas.Int.{to_z-of_z}
 use mir.Syntax.{w64}
 use mir.Val.{SFits}
 use Rattle.type_chains.proofs.Unique.{types_ascend}
-use Rattle.record_walk.specs.Words.{types}
 use Rattle.record_walk.proofs.LinkLemmas.{first_or, last_or, type_before_is, type_behind_is}
 use Rattle.record_walk.proofs.entries.type_entry.Goals as goal
 

@@ -1,5 +1,5 @@
 -- Type by type.
-use Rattle.std.proofs.Common.{ℤ, List, ◌<ℤ◌, ◌≡◌, ◌<◌, length, sym, ap, subst, take, ◌∙◌, rules, w64, arith}
+use Rattle.std.proofs.Common.{ℤ, List, ◌<ℤ◌, ◌<◌, length, sym, ap, subst, take, ◌∙◌, rules, w64, arith}
 use Rattle.std.specs.List.{AllPairs}
 use Rattle.std.proofs.lemmas.Int.{to_z-of_z}
 use mir.Val.{SFits}

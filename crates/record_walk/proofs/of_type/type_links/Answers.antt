@@ -1,5 +1,5 @@
 -- Message by message, from the last on.
-use Rattle.std.proofs.Common.{ℤ, List, ◌≡◌, ◌<ℤ◌, ◌-◌, ◌<◌, length, replicate, None, refl, sym, ap, subst, ◌∙◌, arith, rules, to_z, of_z, w64}
+use Rattle.std.proofs.Common.{ℤ, List, ◌<ℤ◌, ◌-◌, ◌<◌, length, replicate, None, refl, sym, ap, subst, ◌∙◌, arith, rules, to_z, of_z, w64}
 use Rattle.std.specs.List.{AllPairs, Contains}
 use Rattle.std.proofs.lemmas.Int.{to_z-of_z}
 use mir.Val.{SFits}

@@ -1,5 +1,5 @@
 -- Message by message.
-use Rattle.std.proofs.Common.{◌≡◌, ◌<◌, ◌≤◌, Bool, pos, length, [], refl, arith}
+use Rattle.std.proofs.Common.{◌<◌, ◌≤◌, pos, length, [], refl, arith}
 use Rattle.record_walk.specs.Words.{Message}
 use Rattle.record_walk.proofs.MessageLemmas.{compared, link_at, so_far_all, so_far_more}
 use Rattle.record_walk.proofs.queue.has_links.Goals as goal

@@ -1,5 +1,5 @@
 -- Type by type.
-use Rattle.std.proofs.Common.{ℤ, pos, ◌<◌, length, List, map, IsTrue, refl, sym, ap, subst, ◌∙◌, arith}
+use Rattle.std.proofs.Common.{ℤ, pos, ◌<◌, length, List, map, IsTrue, refl, sym, ap, subst, arith}
 use Rattle.std.specs.List.{All}
 use Rattle.std.proofs.lemmas.List.Elements.{All-map}
 use Rattle.queue_records.specs.declared.record.Record.TheVariants as records
