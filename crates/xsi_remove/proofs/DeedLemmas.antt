@@ -1,14 +1,13 @@
 -- What is so of a turn behind a step of its access.
-use Rattle.std.proofs.Common.{◌≡◌, refl, sym, ap, ◌∙◌, subst, ℕ, ℤ, ◌+◌, ◌≤◌, Bool, true, false, List, length, if◌then◌else◌, Option, Some, None, IsSome, inl, inr}
+use Rattle.std.proofs.Common.{◌≡◌, refl, sym, ap, ◌∙◌, subst, ℕ, ℤ, ◌+◌, ◌≤◌, Bool, true, false, List, length, Option, Some, None, IsSome, inl, inr}
 use Rattle.std.proofs.lemmas.Bool.{true≢false}
 use Rattle.bucket_page.specs.Keys.{is_same}
 use Rattle.file_pages.specs.declared.fault.FileFault.{FileFault}
-use Rattle.page_locks.specs.declared.lock.LockName.TheVariants as names
 use Rattle.queue_records.specs.Keys.{guard_of}
 use Rattle.queue_records.specs.declared.message_entry.MessageEntry.{MessageEntry}
 use Rattle.queue_records.specs.declared.record.Record.TheVariants as records
 use Rattle.record_access.specs.AccessSteps.{Faces as FacesAccess, MakesAccess, TellsOf}
-use Rattle.record_access.specs.Purposes.{left_by, made}
+use Rattle.record_access.specs.Purposes.{left_by}
 use Rattle.type_chains.specs.Entries.{message_entry}
 use Rattle.xsi_inquiry.proofs.LeadLemmas.{same_keys}
 use Rattle.xsi_sweep.proofs.TurnLemmas.{turn_read, turn_taken}
@@ -20,7 +19,7 @@ use Rattle.xsi_remove.specs.declared.work.Work.{Work}
 use Rattle.xsi_remove.specs.Deeds.{last_type, message_of, purpose_of}
 use Rattle.xsi_remove.specs.Sweeps.{Faces, IsAtWork, IsRead, left_in, records_left}
 use Rattle.xsi_remove.specs.Works.{HearsBy, IsNoMessage, heard_with}
-use Rattle.xsi_remove.specs.Words.{RecordKey, PoolState, Table, Lock, Change, Store, store_of, Progress, Moved, Look, World, is_fault, Step, world, HasEnded, IsKeyed, Record, kind_of, Exclusive, Purpose, StandsAt, aimed_at, is_write, AccessView, Allows, HasFound, Serves, access_answer, access_facts, access_key, access_turn, Queue, State, is_swept, IsTurn, swept, IsAtTurn, MessageRead, Turn, read_of, turn_next, turn_plan}
+use Rattle.xsi_remove.specs.Words.{RecordKey, PoolState, Table, Lock, Change, Store, store_of, Progress, Moved, Look, is_fault, Step, world, IsKeyed, Record, kind_of, Purpose, StandsAt, aimed_at, is_write, AccessView, Allows, HasFound, Serves, access_answer, access_facts, access_key, access_turn, Queue, State, is_swept, IsTurn, swept, IsAtTurn, MessageRead, read_of, turn_next, turn_plan}
 
 -- a turn under way, of which the access may have ended
 pub record IsDriven (hash : RecordKey → ℕ) (id count : ℕ) (q : Queue) (s : State) (w : Work) (file : Store)

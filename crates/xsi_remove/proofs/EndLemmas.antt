@@ -1,6 +1,5 @@
 -- An operation that has ended holds no lock, and one that writes no other record leaves what stands at other keys.
-use Rattle.std.proofs.Common.{◌≡◌, refl, sym, ap, ◌∙◌, subst, ℕ, Bool, true, false, List, [], if◌then◌else◌, Option, Some, None, IsSome}
-use Rattle.std.proofs.lemmas.Bool.{true≢false}
+use Rattle.std.proofs.Common.{◌≡◌, refl, ap, ◌∙◌, subst, ℕ, Bool, true, false, List, [], if◌then◌else◌, Option, Some, None, IsSome}
 use Rattle.bucket_merge.specs.Places.{is_done, locks_at as merge_locks_at}
 use Rattle.bucket_merge.specs.declared.place.MergePlace.{MergePlace}
 use Rattle.bucket_merge.specs.declared.place.MergePlace.TheVariants as to
@@ -141,8 +140,9 @@ module _ (hash : RecordKey → ℕ) (seat : ℕ) (did : Progress FileFault) (w w
       does key other
 
   -- at other keys than its own the file holds what it held
-  pub others_hold : (o : RecordOperation) (bytes : List ℕ) → TurnsAt hash (operation_turn o bytes w.store) did seat w w' →
-      (key : RecordKey) → is_same (operation_key o) key ≡ false → contents w'.store key ≡ contents w.store key
+  pub others_hold : (o : RecordOperation) (bytes : List ℕ) →
+      TurnsAt hash (operation_turn o bytes w.store) did seat w w' → (key : RecordKey) →
+      is_same (operation_key o) key ≡ false → contents w'.store key ≡ contents w.store key
   others_hold o bytes does key other = by (is_write did) refl
     where
       by : (b : Bool) → is_write did ≡ b → contents w'.store key ≡ contents w.store key

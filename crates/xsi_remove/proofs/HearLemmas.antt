@@ -1,10 +1,10 @@
 -- A step of its access, of which the turn hears.
-use Rattle.std.proofs.Common.{◌≡◌, refl, sym, ap, ◌∙◌, subst, ℕ, Option, Some, None, inl, inr, IsOk, IsErr, Result}
+use Rattle.std.proofs.Common.{◌≡◌, refl, sym, ap, ◌∙◌, subst, ℕ, inl, inr, IsOk, IsErr, Result}
 use Rattle.file_pages.specs.declared.fault.FileFault.{FileFault}
 use Rattle.file_pages.specs.declared.fault.FileFault.TheVariants.{Failed}
 use Rattle.record_access.specs.AccessSteps.{MakesAccess}
 use Rattle.xsi_remove.specs.declared.work.Work.{Work}
-use Rattle.xsi_remove.specs.Words.{RecordKey, PoolState, Table, Progress, Moved, Fault, Look, AccessView, MessageRead}
+use Rattle.xsi_remove.specs.Words.{RecordKey, PoolState, Table, Progress, Moved, Fault, Look, AccessView}
 use Rattle.xsi_remove.specs.Works.{Drives, Hears, HearsBy, IsNoMessage, heard_with}
 
 module _ (hash : RecordKey → ℕ) (seat : ℕ) (did : Progress FileFault) (w w' : Work) (a : AccessView)

@@ -1,16 +1,16 @@
 -- What stands at each key of the queue's Messages and Types while a deed is done.
-use Rattle.std.proofs.Common.{◌≡◌, refl, sym, ap, ◌∙◌, subst, ℕ, Bool, true, false, if◌then◌else◌, Option, Some, None, IsSome, IfSome, arith}
-use Rattle.std.specs.Prelude.{◌==◌, ◌&&◌, ◌||◌}
+use Rattle.std.proofs.Common.{◌≡◌, refl, ap, subst, ℕ, Bool, true, false, if◌then◌else◌, Option, None, arith}
+use Rattle.std.specs.Prelude.{◌==◌, ◌&&◌}
 use Rattle.std.proofs.lemmas.Bool.Decides.{Decides-eqb, nat_tests}
 use Rattle.bucket_page.specs.Keys.{is_same}
 use Rattle.page_locks.specs.declared.lock.LockName.TheVariants as names
 use Rattle.queue_records.specs.Keys.{guard_of}
-use Rattle.record_access.specs.Purposes.{left_by, made}
+use Rattle.record_access.specs.Purposes.{made}
 use Rattle.xsi_remove.specs.declared.work.Deed.{Deed}
 use Rattle.xsi_remove.specs.declared.work.Deed.TheVariants.{Reading, DeletingMessage, DeletingType}
 use Rattle.xsi_remove.specs.Deeds.{message_of, purpose_of}
 use Rattle.xsi_remove.specs.Sweeps.{left_in}
-use Rattle.xsi_remove.specs.Words.{RecordKey, Record, Store, StandsAt, aimed_at, is_swept, Records, Turn, key_of_type, MessageRead, with_at}
+use Rattle.xsi_remove.specs.Words.{RecordKey, Record, aimed_at, is_swept, Records, Turn, key_of_type, MessageRead, with_at}
 
 same_key : (k : RecordKey) → is_same k k ≡ true
 same_key k = grind (arith, nat_tests)

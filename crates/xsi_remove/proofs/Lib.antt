@@ -3,4 +3,5 @@ pub mod HearLemmas
 pub mod LeftLemmas
 pub mod DeedLemmas
 pub mod NextLemmas
+pub mod FreshLemmas
 pub mod SweepLemmas

@@ -11,17 +11,15 @@ use Rattle.type_chains.specs.Neighbours.{first_of}
 use Rattle.xsi_inquiry.specs.Writing.{Plan}
 use Rattle.xsi_sweep.proofs.PlaceLemmas.{first_left}
 use Rattle.xsi_sweep.specs.Turns.{next_by, turn_slots, type_deletion}
-use Rattle.xsi_remove.proofs.DeedLemmas.{IsDriven, some_none}
+use Rattle.xsi_remove.proofs.DeedLemmas.{IsDriven}
 use Rattle.xsi_remove.proofs.LeftLemmas.{left_reading}
 use Rattle.xsi_remove.specs.declared.work.Deed.{Deed}
 use Rattle.xsi_remove.specs.declared.work.Deed.TheVariants.{Reading, DeletingMessage, DeletingType}
-use Rattle.xsi_remove.specs.declared.work.Next.{Next}
-use Rattle.xsi_remove.specs.declared.work.Next.TheVariants.{Goes, Begins, Over}
 use Rattle.xsi_remove.specs.declared.work.Work.{Work}
 use Rattle.xsi_remove.specs.Deeds.{begun_work, behind, behind_find, behind_message, last_type, led_to, message_of, next_of, purpose_of, turn_behind, with_deed}
 use Rattle.xsi_remove.specs.Sweeps.{DELETE_STEPS, FIND_STEPS, IsAtWork, IsRead, IsSweeping, TURN_STEPS, deeds_left, left_in, records_left, sweep_left}
 use Rattle.xsi_remove.specs.SweepSteps.{Deletes}
-use Rattle.xsi_remove.specs.Words.{RecordKey, Store, Delete, ToFind, StandsAt, Serves, access_answer, Queue, State, key_of_type, is_swept, IsTurn, swept, unswept, IsFiled, Records, MessageRead, begun_turn, with_at}
+use Rattle.xsi_remove.specs.Words.{RecordKey, Store, Delete, ToFind, StandsAt, Serves, access_answer, Queue, State, is_swept, IsTurn, swept, unswept, IsFiled, Records, MessageRead, begun_turn}
 
 -- where none is left, as many were swept as stood there
 none_left : (ms : List Message) (i : ℕ) → i ≤ length ms → first_of (serials (drop i ms)) ≡ None → i ≡ length ms

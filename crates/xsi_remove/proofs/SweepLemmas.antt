@@ -1,157 +1,24 @@
 -- A step of the sweep is one of its access, behind which what follows may have begun.
-use Rattle.std.proofs.Common.{◌≡◌, refl, sym, ap, ◌∙◌, subst, ℕ, ◌+◌, ◌-◌, ◌*◌, ◌≤◌, ◌<◌, ℤ, Bool, true, false, not, List, [], Option, Some, None, IsTrue, Err, inl, inr, arith}
-use Rattle.std.specs.Prelude.{◌==◌, ◌↔◌, ◌⊎◌, if◌then◌else◌}
+use Rattle.std.proofs.Common.{◌≡◌, refl, sym, ap, ◌∙◌, subst, ℕ, ◌+◌, ◌*◌, ◌≤◌, true, false, List, Option, Some, None, Err, inl, inr, arith}
 use Rattle.std.proofs.lemmas.Bool.{true≢false}
 use Rattle.file_pages.specs.declared.fault.FileFault.{FileFault}
 use Rattle.file_pages.specs.declared.fault.FileFault.TheVariants.{Failed}
 use Rattle.record_access.specs.AccessSteps.{MakesAccess, Rests as RestsAccess}
-use Rattle.record_operation.specs.declared.operation.RecordOperation.TheVariants as operations
-use Rattle.record_operation.specs.declared.operation.RecordOperation.{RecordOperation}
-use Rattle.record_operation.specs.Operations.{operation_key, operation_turn}
-use Rattle.record_access.specs.Accesses.{IsOfKind}
+use Rattle.xsi_remove.proofs.FreshLemmas.{IsFresh, same_in, fresh_led, no_more, nears_with, nears_next, removes_its, finds_none, faulted, over_none, fine_of, wrote_by}
 use Rattle.xsi_remove.proofs.DeedLemmas.{IsDriven, driven, faced, hears_well, stepped}
 use Rattle.xsi_remove.proofs.EndLemmas.{ended_free, find_writes_none}
 use Rattle.xsi_remove.proofs.LeftLemmas.{swept_key}
 use Rattle.xsi_remove.proofs.NextLemmas.{Follows, follows}
 use Rattle.xsi_remove.specs.declared.work.Deed.{Deed}
 use Rattle.xsi_remove.specs.declared.work.Deed.TheVariants.{Reading, DeletingMessage, DeletingType}
-use Rattle.xsi_remove.specs.declared.work.Next.{Next}
-use Rattle.xsi_remove.specs.declared.work.Next.TheVariants.{Goes, Begins, Over}
 use Rattle.xsi_remove.specs.declared.work.Work.{Work}
 use Rattle.page_locks.specs.Table.{with_row}
 use Rattle.step_rules.specs.Known.{AllKnown}
-use Rattle.xsi_remove.specs.Deeds.{begun_work, behind, led_to, message_of, next_of, purpose_of, with_deed}
-use Rattle.xsi_remove.specs.Sweeps.{Faces, IsAtWork, IsSweeping, deeds_left, records_left, sweep_facts, sweep_left, sweep_locks, sweep_turn, TURN_STEPS}
-use Rattle.xsi_remove.specs.SweepSteps.{Deletes, HasWritten, IsOf, IsOver, KeepsSweep, MakesSweep, Rests, SweepsAway, SweepsOn, turns_of}
+use Rattle.xsi_remove.specs.Deeds.{behind, message_of, next_of, purpose_of}
+use Rattle.xsi_remove.specs.Sweeps.{Faces, IsSweeping, deeds_left, records_left, sweep_left, TURN_STEPS}
+use Rattle.xsi_remove.specs.SweepSteps.{Deletes, MakesSweep, Rests, SweepsAway}
 use Rattle.xsi_remove.specs.Works.{Drives, DrivesOn, LeadsOn, Mishears, heard_with, is_move}
-use Rattle.xsi_remove.specs.Words.{RecordKey, PoolState, Table, Lock, Change, Store, store_of, OnlyWrites, Progress, Moved, Blocked, Fault, Ended, Look, World, is_fault, FollowsRow, HasEnded, NearsOrSpares, Step, world, Purpose, Delete, ToFind, ToWrite, aimed_at, is_write, AccessView, Serves, access_answer, access_facts, access_key, access_left, access_locks, access_turn, Queue, State, is_swept, MessageRead, begun_turn, Remove, key_of_type}
-
--- ---- what follows holds nothing yet
-
--- behind a turn under way
-record IsFresh (w : Work) (v : Option Work) : Type 0 where
-  pub locks : (before : List Lock) → sweep_locks v before ≡ before
-  pub facts : sweep_facts v ≡ []
-  pub queue : (id : ℕ) → w.turn.id ≡ id → IsOf id v
-  pub fewer : turns_of v ≤ w.turns
-  pub writes : HasWritten v
-
-fresh_deed : (hash : RecordKey → ℕ) (w : Work) (deed : Deed) → IsFresh w (Some (with_deed hash deed w))
-fresh_deed hash w Reading = record {
-  locks = λ before. refl;
-  facts = refl;
-  queue = λ id is. is;
-  fewer = omega arith;
-  writes = λ deletes ended. absurd deletes;
-}
-fresh_deed hash w DeletingMessage = record {
-  locks = λ before. refl;
-  facts = refl;
-  queue = λ id is. is;
-  fewer = omega arith;
-  writes = λ deletes ended. absurd ended;
-}
-fresh_deed hash w (DeletingType mtype) = record {
-  locks = λ before. refl;
-  facts = refl;
-  queue = λ id is. is;
-  fewer = omega arith;
-  writes = λ deletes ended. absurd ended;
-}
-
-same_in : {X : Type 0} (x y : X) → ◌≡◌ {A = Option X} (Some x) (Some y) → x ≡ y
-same_in x y is = cc
-
-fresh_led : (hash : RecordKey → ℕ) (w : Work) (n : Option Next) (v : Option Work) → led_to hash n w ≡ Some v →
-    IsFresh w v
-fresh_led hash w None v is = absurd cc
-fresh_led hash w (Some (Goes deed)) v is =
-    subst (IsFresh w) (same_in (Some (with_deed hash deed w)) v is) (fresh_deed hash w deed)
-fresh_led hash w (Some (Begins serial)) v is = by (w.turns == 0) is
-  where
-    begun : Work
-    begun = begun_work hash (begun_turn w.turn.id serial) (w.turns - 1)
-
-    by : (b : Bool) → (if b then None else Some (Some begun)) ≡ Some v → IsFresh w v
-    by true is = absurd cc
-    by false is = subst (IsFresh w) (same_in (Some begun) v is) (record {
-      locks = λ before. refl;
-      facts = refl;
-      queue = λ id is. is;
-      fewer = omega arith;
-      writes = λ deletes ended. absurd deletes;
-    })
-fresh_led hash w (Some Over) v is = subst (IsFresh w) (same_in None v is) (record {
-  locks = λ before. refl;
-  facts = refl;
-  queue = λ id is. tt;
-  fewer = omega arith;
-  writes = tt;
-})
-
--- ---- counts
-
-no_more : (m n : ℕ) → m ≡ n → m ≤ n
-no_more m n is = omega (arith, is)
-
-nears_with : (did : Progress FileFault) (left left' more more' : ℕ) (pool pool' : PoolState) → more' ≤ more →
-    NearsOrSpares did left left' pool pool' → NearsOrSpares did (left + more) (left' + more') pool pool'
-nears_with (Moved kind) left left' more more' pool pool' less near = omega (arith, near, less)
-nears_with (Blocked other) left left' more more' pool pool' less near = tt
-nears_with (Fault fault) left left' more more' pool pool' less near = near
-nears_with Ended left left' more more' pool pool' less near = tt
-
--- a move that ends the access leaves fewer, where what follows has no more than what was behind it
-nears_next : (did : Progress FileFault) (left left' more all : ℕ) (pool pool' : PoolState) → is_move did ≡ true →
-    all ≤ more → NearsOrSpares did left left' pool pool' → NearsOrSpares did (left + more) all pool pool'
-nears_next (Moved kind) left left' more all pool pool' moved less near = omega (arith, near, less)
-nears_next (Blocked other) left left' more all pool pool' moved less near = absurd cc
-nears_next (Fault fault) left left' more all pool pool' moved less near = absurd cc
-nears_next Ended left left' more all pool pool' moved less near = absurd cc
-
--- ---- the record that is deleted
-
-removes_its : (o : RecordOperation) (bytes : List ℕ) (file : Store) (key : RecordKey) →
-    IsOfKind (ToWrite (Delete key)) o → (operation_turn o bytes file).write ≡ Some (Remove (operation_key o))
-removes_its (operations.Find f) bytes file key kind = absurd kind
-removes_its (operations.Insert i) bytes file key kind = absurd kind
-removes_its (operations.Replace r) bytes file key kind = absurd kind
-removes_its (operations.Delete d) bytes file key kind = refl
-
-finds_none : (o : RecordOperation) (bytes : List ℕ) (file : Store) (key : RecordKey) → IsOfKind (ToFind key) o →
-    (operation_turn o bytes file).write ≡ None
-finds_none (operations.Find f) bytes file key kind = refl
-finds_none (operations.Insert i) bytes file key kind = absurd kind
-finds_none (operations.Replace r) bytes file key kind = absurd kind
-finds_none (operations.Delete d) bytes file key kind = absurd kind
-
--- ---- faults
-
-faulted : {b : Bool} (pool pool' : PoolState) → OnlyWrites b pool pool' → OnlyWrites false pool pool'
-faulted pool pool' writes = record {
-  ready = writes.ready;
-  honest = writes.honest;
-  later = writes.later;
-  file = λ honest none. absurd cc;
-}
-
-over_none : (did : Progress FileFault) → is_move did ≡ true → did ≡ Ended → ⊥
-over_none did moved is = true≢false (sym moved ∙ ap is_move is)
-
-fine_of : (did : Progress FileFault) → is_move did ≡ true → is_fault did ≡ false
-fine_of (Moved kind) moved = refl
-fine_of (Blocked other) moved = absurd cc
-fine_of (Fault fault) moved = absurd cc
-fine_of Ended moved = absurd cc
-
--- a deletion behind which something follows has written
-wrote_by : (hash : RecordKey → ℕ) (w : Work) (v : Option Work) (deed : Deed) (b : Bool) →
-    led_to hash (behind deed w.turn b) w ≡ Some v → Deletes deed → b ≡ true
-wrote_by hash w v Reading b is deletes = absurd deletes
-wrote_by hash w v DeletingMessage true is deletes = refl
-wrote_by hash w v DeletingMessage false is deletes = absurd cc
-wrote_by hash w v (DeletingType mtype) true is deletes = refl
-wrote_by hash w v (DeletingType mtype) false is deletes = absurd cc
+use Rattle.xsi_remove.specs.Words.{RecordKey, PoolState, Table, Lock, Change, store_of, Progress, Moved, Blocked, Fault, Ended, Look, is_fault, HasEnded, NearsOrSpares, Step, world, Delete, ToFind, ToWrite, aimed_at, is_write, AccessView, Serves, access_answer, access_facts, access_left, access_turn, Queue, State, is_swept, MessageRead, Remove, key_of_type}
 
 module _ (hash : RecordKey → ℕ) (seat : ℕ) (did : Progress FileFault) (w w' : Work) (pool pool' : PoolState)
     (locks locks' : Table) where
@@ -190,8 +57,8 @@ module _ (hash : RecordKey → ℕ) (seat : ℕ) (did : Progress FileFault) (w w
           (faced hash seat did w w'.access pool pool' locks locks' e held id count q s change f)
 
       module _ (fine : is_fault did ≡ false) where
-        made : Step hash seat (access_turn w.access (store_of pool.images)) did (access_facts w'.access) pool pool' locks
-            locks' change
+        made : Step hash seat (access_turn w.access (store_of pool.images)) did (access_facts w'.access) pool pool'
+            locks locks' change
         made = stepped hash seat did w w'.access pool pool' locks locks' e held id count q s change f fine
 
         is_driven : IsDriven hash id count q s w' (store_of pool'.images)
@@ -298,7 +165,8 @@ module _ (hash : RecordKey → ℕ) (seat : ℕ) (did : Progress FileFault) (w w
           (is_driven held id count q s change f (fine_of did moved)) written answered
 
       -- nothing can follow
-      makes_stop : next_of hash w' ≡ None → MakesSweep hash seat (Fault Failed) (Some w) (Some w') pool pool' locks locks'
+      makes_stop : next_of hash w' ≡ None →
+          MakesSweep hash seat (Fault Failed) (Some w) (Some w') pool pool' locks locks'
       makes_stop none = record {
         writes = faulted pool pool' e.writes;
         aim = record {
@@ -373,7 +241,8 @@ module _ (hash : RecordKey → ℕ) (seat : ℕ) (did : Progress FileFault) (w w
 
   makes_deaf : Mishears hash seat did w w' pool pool' locks locks' →
       MakesSweep hash seat did (Some w) (Some w') pool pool' locks locks'
-  makes_deaf deaf = subst (λ (d : Progress FileFault). MakesSweep hash seat d (Some w) (Some w') pool pool' locks locks')
+  makes_deaf deaf =
+      subst (λ (d : Progress FileFault). MakesSweep hash seat d (Some w) (Some w') pool pool' locks locks')
       (sym deaf.is) (record {
         writes = faulted pool pool' deaf.makes.writes;
         aim = record {
@@ -387,8 +256,8 @@ module _ (hash : RecordKey → ℕ) (seat : ℕ) (did : Progress FileFault) (w w
           fewer = let turns = ap (λ (x : Work). x.turns) deaf.same in omega (arith, turns);
         };
         row = deaf.makes.row;
-        progress = λ held id count q s change f written. absurd (hears_well hash seat (Moved Look) w w'.access pool pool'
-            locks locks' deaf.makes held id count q s change f refl refl deaf.unread deaf.cause);
+        progress = λ held id count q s change f written. absurd (hears_well hash seat (Moved Look) w w'.access pool
+            pool' locks locks' deaf.makes held id count q s change f refl refl deaf.unread deaf.cause);
         step = λ held id count q s change f fine. absurd cc;
         sweeps = λ held id count q s change f fine. absurd cc;
       })
@@ -398,7 +267,8 @@ module _ (hash : RecordKey → ℕ) (seat : ℕ) (did : Progress FileFault) (w w
   module _ (v : Option Work) (is : v ≡ Some w) (drives : Drives hash seat did w w' pool pool' locks locks') where
     pub makes_kept : (is_move did ≡ true → HasEnded w'.access.operation → ⊥) →
         MakesSweep hash seat did v (Some w') pool pool' locks locks'
-    makes_kept going = subst (λ (x : Option Work). MakesSweep hash seat did x (Some w') pool pool' locks locks') (sym is)
+    makes_kept going =
+        subst (λ (x : Option Work). MakesSweep hash seat did x (Some w') pool pool' locks locks') (sym is)
         (elim drives [
           | inl on ↦ makes_on on going
           | inr deaf ↦ makes_deaf deaf
@@ -414,7 +284,8 @@ module _ (hash : RecordKey → ℕ) (seat : ℕ) (did : Progress FileFault) (w w
 
       pub makes_led : (next : Option Work) → next_of hash w' ≡ Some next →
           MakesSweep hash seat did v next pool pool' locks locks'
-      makes_led next leads = subst (λ (x : Option Work). MakesSweep hash seat did x next pool pool' locks locks') (sym is)
+      makes_led next leads =
+          subst (λ (x : Option Work). MakesSweep hash seat did x next pool pool' locks locks') (sym is)
           (makes_next heard moved over answered next leads)
 
       pub makes_failed : (w'' : Work) (fault : FileFault) → LeadsOn (Err fault) (next_of hash w') w' w'' →

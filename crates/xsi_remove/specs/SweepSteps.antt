@@ -5,7 +5,7 @@ use Rattle.xsi_remove.specs.declared.work.Deed.{Deed}
 use Rattle.xsi_remove.specs.declared.work.Deed.TheVariants.{Reading, DeletingMessage, DeletingType}
 use Rattle.xsi_remove.specs.declared.work.Work.{Work}
 use Rattle.xsi_remove.specs.Sweeps.{Faces, IsSweeping, sweep_facts, sweep_left, sweep_locks, sweep_turn}
-use Rattle.xsi_remove.specs.Words.{RecordKey, PoolState, Table, Lock, Change, Store, store_of, Progress, Moved, Blocked, Ended, is_fault, FollowsRow, HasEnded, NearsOrSpares, OnlyWrites, Step, StepTurn, RecordWrite, Remove, is_write, Queue, State, is_swept}
+use Rattle.xsi_remove.specs.Words.{RecordKey, PoolState, Table, Lock, Change, Store, store_of, Progress, Blocked, Ended, is_fault, FollowsRow, HasEnded, NearsOrSpares, OnlyWrites, Step, StepTurn, Remove, is_write, Queue, State, is_swept}
 
 -- ---- whatever the device gives
 

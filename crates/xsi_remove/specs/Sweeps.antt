@@ -1,6 +1,6 @@
 -- A sweep under way: what it holds, knows and asks for, what stands meanwhile, and the steps that are left.
 -- docs/STEPS.md, "Remove".
-use Rattle.std.specs.Prelude.{ℕ, ◌≡◌, ◌≤◌, ◌+◌, ◌*◌, ◌-◌, Bool, true, List, [], length, if◌then◌else◌, Option, Some, None, IsSome, ⊤}
+use Rattle.std.specs.Prelude.{ℕ, ◌≡◌, ◌≤◌, ◌+◌, ◌*◌, ◌-◌, Bool, true, List, [], length, if◌then◌else◌, Option, Some, None, IsSome}
 use Rattle.std.specs.List.{find}
 use Rattle.page_locks.specs.declared.lock.LockName.TheVariants as names
 use Rattle.queue_model.specs.Rules.{has_id}
@@ -8,7 +8,7 @@ use Rattle.xsi_remove.specs.declared.work.Deed.{Deed}
 use Rattle.xsi_remove.specs.declared.work.Deed.TheVariants.{Reading, DeletingMessage, DeletingType}
 use Rattle.xsi_remove.specs.declared.work.Work.{Work}
 use Rattle.xsi_remove.specs.Deeds.{begun_work, last_type, message_of, purpose_of}
-use Rattle.xsi_remove.specs.Words.{RecordKey, PoolState, Table, Lock, Change, Store, row_of, store_of, HasEnded, HasNoFileLock, IsKeyed, Known, Sees, StepTurn, Record, kind_of, Exclusive, StandsAt, aimed_at, Allows, Serves, access_answer, access_facts, access_left, access_locks, access_turn, Queue, State, key_of_type, is_swept, IsTurn, swept, IsFiled, Records, with_at, Turn, IsAtTurn, MAX_MESSAGES, Sweep, begun_turn, turn_next, turn_plan}
+use Rattle.xsi_remove.specs.Words.{RecordKey, PoolState, Table, Lock, Change, Store, row_of, store_of, HasEnded, HasNoFileLock, IsKeyed, Known, Sees, StepTurn, kind_of, Exclusive, StandsAt, aimed_at, Allows, Serves, access_answer, access_facts, access_left, access_locks, access_turn, Queue, State, key_of_type, is_swept, IsTurn, swept, IsFiled, Records, with_at, Turn, IsAtTurn, MAX_MESSAGES, Sweep, begun_turn, turn_next, turn_plan}
 
 -- ---- its beginning
 

@@ -1,5 +1,5 @@
 -- What the parts of a step do to a turn under way. docs/STEPS.md, "Remove".
-use Rattle.std.specs.Prelude.{ℕ, ◌≡◌, ◌≢◌, ◌⊎◌, Bool, true, false, Option, Some, None, IsSome, IsErr, IsOk, Result, Ok, Err, ⊤}
+use Rattle.std.specs.Prelude.{ℕ, ◌≡◌, ◌≢◌, ◌⊎◌, Bool, true, false, Option, Some, None, IsSome, IsErr, IsOk, Result, Ok, Err}
 use Rattle.file_pages.specs.declared.fault.FileFault.{FileFault}
 use Rattle.file_pages.specs.declared.fault.FileFault.TheVariants.{Failed}
 use Rattle.queue_records.specs.declared.message_entry.MessageEntry.{MessageEntry}

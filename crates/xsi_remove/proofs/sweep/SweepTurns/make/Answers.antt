@@ -1,4 +1,4 @@
-use Rattle.std.proofs.Common.{◌≡◌, refl, sym, ap, ◌∙◌, subst, true, false, Bool, Ok, Err, Result, None, Some}
+use Rattle.std.proofs.Common.{sym, ap, ◌∙◌, subst, Bool, Ok, Result, None, Some}
 use Rattle.std.proofs.lemmas.Bool.{true≢false}
 use Rattle.file_pages.specs.declared.fault.FileFault.{FileFault}
 use Rattle.xsi_remove.specs.Deeds.{next_of}
@@ -24,7 +24,8 @@ returns-in-Ok-true g c =
     c.args.locks.now c.drive-did.new.locks c.args.self.now (sym c.self.view_is ∙ c.in-Some.is) c.drive-did.ensures
     (sym c.is_move.ensures ∙ c.if-not-is_move.false) (c.has_ended.ensures.ended.0 c.if-not-has_ended.false)
     (λ key serves. c.has_ended.ensures.answered key serves c.if-not-has_ended.false) (Some c.go_on.new.self)
-    (subst (λ (r : Result Bool FileFault). LeadsOn r (next_of (g.K.PseudoKey.of_key c.args.keys.now) c.drive-did.new.self) c.drive-did.new.self
+    (subst (λ (r : Result Bool FileFault).
+    LeadsOn r (next_of (g.K.PseudoKey.of_key c.args.keys.now) c.drive-did.new.self) c.drive-did.new.self
     c.go_on.new.self) (c.in-Ok-true.is ∙ ap Ok c.in-Ok-true.field-0-test) c.go_on.ensures)
 
 pub returns-in-Ok-false : goal.returns-in-Ok-false
@@ -33,7 +34,8 @@ returns-in-Ok-false g c =
     c.args.locks.now c.drive-did.new.locks c.args.self.now (sym c.self.view_is ∙ c.in-Some.is) c.drive-did.ensures
     (sym c.is_move.ensures ∙ c.if-not-is_move.false) (c.has_ended.ensures.ended.0 c.if-not-has_ended.false)
     (λ key serves. c.has_ended.ensures.answered key serves c.if-not-has_ended.false) None
-    (subst (λ (r : Result Bool FileFault). LeadsOn r (next_of (g.K.PseudoKey.of_key c.args.keys.now) c.drive-did.new.self) c.drive-did.new.self
+    (subst (λ (r : Result Bool FileFault).
+    LeadsOn r (next_of (g.K.PseudoKey.of_key c.args.keys.now) c.drive-did.new.self) c.drive-did.new.self
     c.go_on.new.self) (c.in-Ok-false.is ∙ ap Ok c.in-Ok-false.field-0-test) c.go_on.ensures).0
 
 pub returns-in-Err : goal.returns-in-Err
@@ -43,5 +45,6 @@ returns-in-Err g c =
     c.drive-did.ensures (sym c.is_move.ensures ∙ c.if-not-is_move.false)
     (c.has_ended.ensures.ended.0 c.if-not-has_ended.false)
     (λ key serves. c.has_ended.ensures.answered key serves c.if-not-has_ended.false) c.go_on.new.self c.in-Err.fault
-    (subst (λ (r : Result Bool FileFault). LeadsOn r (next_of (g.K.PseudoKey.of_key c.args.keys.now) c.drive-did.new.self) c.drive-did.new.self
+    (subst (λ (r : Result Bool FileFault).
+    LeadsOn r (next_of (g.K.PseudoKey.of_key c.args.keys.now) c.drive-did.new.self) c.drive-did.new.self
     c.go_on.new.self) c.in-Err.is c.go_on.ensures)

@@ -1,5 +1,4 @@
-use Rattle.std.proofs.Common.{◌≡◌, sym, ap, ◌∙◌, true, false, is_ok, is_err}
-use Rattle.std.proofs.lemmas.Bool.{true≢false}
+use Rattle.std.proofs.Common.{ap, is_ok, is_err}
 use Rattle.xsi_remove.proofs.HearLemmas.{drives_deaf, drives_heard}
 use Rattle.xsi_remove.proofs.work.Work.drive.Goals as goal
 
