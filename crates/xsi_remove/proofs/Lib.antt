@@ -5,3 +5,4 @@ pub mod DeedLemmas
 pub mod NextLemmas
 pub mod FreshLemmas
 pub mod SweepLemmas
+pub mod LawLemmas

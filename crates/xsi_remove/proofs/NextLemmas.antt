@@ -22,7 +22,7 @@ use Rattle.xsi_remove.specs.SweepSteps.{Deletes}
 use Rattle.xsi_remove.specs.Words.{RecordKey, Store, Delete, ToFind, StandsAt, Serves, access_answer, Queue, State, is_swept, IsTurn, swept, unswept, IsFiled, Records, MessageRead, begun_turn}
 
 -- where none is left, as many were swept as stood there
-none_left : (ms : List Message) (i : ℕ) → i ≤ length ms → first_of (serials (drop i ms)) ≡ None → i ≡ length ms
+pub none_left : (ms : List Message) (i : ℕ) → i ≤ length ms → first_of (serials (drop i ms)) ≡ None → i ≡ length ms
 none_left [] i within none = omega (arith, within)
 none_left (m ∷ ms) zero within none = absurd cc
 none_left (m ∷ ms) (suc i) within none = ap suc (none_left ms i (omega (arith, within)) none)

@@ -3,3 +3,4 @@ pub mod Deeds
 pub mod Sweeps
 pub mod SweepSteps
 pub mod Works
+pub mod Laws

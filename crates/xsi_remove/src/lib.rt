@@ -2,7 +2,9 @@
 
 #![tactic(auto)]
 
+mod laws;
 mod sweep;
 mod work;
 
+pub use laws::{a_sweep_begins_right, a_sweep_has_few_steps, a_sweep_leaves_nothing};
 pub use sweep::SweepTurns;
