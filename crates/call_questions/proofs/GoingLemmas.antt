@@ -1,0 +1,274 @@
+-- A step of the question under way is one of the call.
+use Rattle.std.proofs.Common.{ℕ, ◌≡◌, ◌≢◌, ◌<◌, ◌≤◌, ◌+◌, ◌*◌, Bool, true, false, not, List, Option, Some, None, IfSome, IsTrue, IsOk, Result, Ok, Err, if◌then◌else◌, refl, sym, ap, ◌∙◌, subst, inl, inr, ◌⊎◌, arith}
+use Rattle.std.proofs.lemmas.Bool.{true≢false}
+use Rattle.std.specs.Option.{is_some}
+use Rattle.file_pages.specs.declared.fault.FileFault.{FileFault}
+use Rattle.file_pages.specs.declared.fault.FileFault.TheVariants.{Failed}
+use Rattle.step_rules.specs.Known.{AllKnown}
+use Rattle.record_access.specs.AccessSteps.{Faces as FacesAccess, MakesAccess, Rests as RestsAccess}
+use Rattle.record_access.specs.Accesses.{IsOfKind}
+use Rattle.call_names.proofs.NamesLemmas.{take_in_order}
+use Rattle.held_names.proofs.TurnLemmas.{are_few_turns}
+use Rattle.call_questions.specs.declared.question.Question.{Question}
+use Rattle.call_questions.specs.Words.{RecordKey, PoolState, Table, Lock, Change, Store, row_of, with_row, store_of, OnlyWrites, Progress, Moved, Blocked, Fault, Ended, Look, World, Known, is_fault, Step, world, NearsOrSpares, HasEnded, Record, is_write, ToFind, StandsAt, AccessView, HasFound, Serves, access_answer, access_facts, access_key, access_left, access_locks, access_pseudokey, access_turn, AnyInquiry, caller_of, asked_of, left_of, AreNames, names_in, names_for, names_left, MAX_NAMES, Begins, Call, State, NotASystem, Roomful}
+use Rattle.call_questions.specs.Answering.{MayRead}
+use Rattle.call_questions.specs.Questions.{FIND_STEPS, ROUND_STEPS, IsAsked, IsRightQuestion, IsUnderWay, KnowsNear, QuestionsView, asks_more, facts_of, locks_behind, questions_left, tries}
+use Rattle.call_questions.specs.QuestionSteps.{Closes, Faces, IsOver, Learns, MakesQuestions, Rests}
+use Rattle.call_questions.proofs.FindLemmas.{ended_facts, ended_locks, owns_written, reads_only}
+
+abbrev round_of : Bool → ℕ
+round_of told = if told then ROUND_STEPS else 0
+
+few_of : (b : Bool) → (if b then FIND_STEPS else 0) ≤ FIND_STEPS
+few_of true = omega arith
+few_of false = omega arith
+
+module _ (hash : RecordKey → ℕ) (seat : ℕ) (call : Call) (i : AnyInquiry) (room : Roomful) (held : List Lock)
+    (names : AreNames held) (q : Question) (under : IsUnderWay q.access) (did : Progress FileFault) (a' : AccessView)
+    (pool pool' : PoolState) (locks locks' : Table) (row : row_of locks seat ≡ access_locks q.access held)
+    (makes : MakesAccess hash seat did q.access a' pool pool' locks locks') where
+  abbrev pub view_of : AnyInquiry → Roomful → Option Question → QuestionsView
+  view_of j r o = record { inquiry = j; room = r; names = held; question = o }
+
+  abbrev pub old : QuestionsView
+  old = view_of i room (Some q)
+
+  abbrev pub key : RecordKey
+  key = access_key q.access
+
+  kind_on : IsOfKind (ToFind key) a'.operation
+  kind_on = (makes.aim.serves (ToFind key) under.finds).kind
+
+  module _ (s : State) (change : Change) (f : Faces hash seat call s old pool locks change) where
+    pub faces : (found : Option Record) → StandsAt (store_of pool.images) key found →
+        FacesAccess hash seat (ToFind key) found q.access pool locks change
+    faces found stands = record {
+      serves = under.finds;
+      keyed = f.right.question.keyed;
+      sees = f.sees;
+      before = held;
+      bare = names.no_file;
+      owns = owns_written key held q.access.operation under.finds.kind;
+      row = row;
+      stands = stands;
+      allows = tt;
+    }
+
+  -- what the inquiry has come to behind the step, in which it was told an answer, or not
+  pub record Comes (s : State) (j : AnyInquiry) (r : Roomful) (told : Bool) : Type 0 where
+    pub begins : asks_more call j ≡ false → tries call j ≡ true → Begins held (names_for call j)
+    pub knows : KnowsNear call (view_of j r None) s
+    pub asked : told ≡ false → IsAsked call (view_of j r None) a'
+    -- fewer questions are left where one was told
+    pub left : ((told ≡ q.told) × (j ≡ i))
+        ⊎ ((q.told ≡ false) × (told ≡ true) × (left_of call j < left_of call i))
+
+  module _ (j : AnyInquiry) (r : Roomful) (q' : Question) (o : Option Question) (access : q'.access ≡ a')
+      (closes : Closes q' o) (caller : caller_of j ≡ caller_of i)
+      (found_at : (s : State) (change : Change) → Faces hash seat call s old pool locks change →
+      (found : Option Record) × StandsAt (store_of pool.images) key found)
+      (rests : (did ≡ Moved Look → ⊥) → (q'.told ≡ q.told) × (j ≡ i) × (r ≡ room))
+      (comes : (s : State) (change : Change) → Faces hash seat call s old pool locks change → is_fault did ≡ false →
+      Comes s j r q'.told) where
+    abbrev new : QuestionsView
+    new = view_of j r o
+
+    over : IsOver q'.access → HasEnded a'.operation
+    over is = subst (λ (a : AccessView). HasEnded a.operation) access is.0
+
+    same_locks : access_locks a' held ≡ locks_behind o held
+    same_locks = by closes
+      where
+        by : Closes q' o → access_locks a' held ≡ locks_behind o held
+        by (inl is) = ended_locks key held a'.operation kind_on (over is.0)
+            ∙ sym (ap (λ (x : Option Question). locks_behind x held) is.1)
+        by (inr is) = ap (λ (a : AccessView). access_locks a held) (sym access)
+            ∙ sym (ap (λ (x : Option Question). locks_behind x held) is.1)
+
+    knows_facts : (w : World) → AllKnown seat w (access_facts a') → AllKnown seat w (facts_of o)
+    knows_facts w known = by closes
+      where
+        by : Closes q' o → AllKnown seat w (facts_of o)
+        by (inl is) = subst (λ (x : Option Question). AllKnown seat w (facts_of x)) (sym is.1) tt
+        by (inr is) = subst (λ (x : Option Question). AllKnown seat w (facts_of x)) (sym is.1)
+            (subst (λ (a : AccessView). AllKnown seat w (access_facts a)) (sym access) known)
+
+    -- ---- where it did not move
+
+    unmoved : a' ≡ q.access → (did ≡ Moved Look → ⊥) → new ≡ old
+    unmoved same still =
+        let kept = rests still in
+        let told : q' ≡ q =
+        (λ n. record { access = (access ∙ same) n; told = kept.0 n }) in
+        by told kept.1 kept.2 closes
+      where
+        by : q' ≡ q → j ≡ i → r ≡ room → Closes q' o → new ≡ old
+        by told inquiry rooms (inl is) =
+            absurd (under.goes_on (subst (λ (a : AccessView). HasEnded a.operation) (access ∙ same) is.0.0))
+        by told inquiry rooms (inr is) = λ n.
+            record { inquiry = inquiry n; room = rooms n; names = held; question = (is.1 ∙ ap Some told) n }
+
+    rests_by : (d : Progress FileFault) → did ≡ d → Rests d old new
+    rests_by (Moved kind) is = tt
+    rests_by (Blocked other) is =
+        unmoved (subst (λ (d : Progress FileFault). RestsAccess d q.access a') is
+        makes.aim.rests) (λ look. absurd cc)
+    rests_by (Fault fault) is = tt
+    rests_by Ended is =
+        unmoved (subst (λ (d : Progress FileFault). RestsAccess d q.access a') is
+        makes.aim.rests) (λ look. absurd cc)
+
+    module _ (s : State) (change : Change) (f : Faces hash seat call s old pool locks change) where
+      -- ---- it comes nearer its end
+
+      few_names : names_left held (names_for call j) ≤ 2 * MAX_NAMES
+      few_names = are_few_turns held (names_for call j) names (take_in_order call j)
+
+      is_told : Comes s j r q'.told → IsOver q'.access → q'.told ≡ true
+      is_told come is = by q'.told refl
+        where
+          by : (b : Bool) → q'.told ≡ b → b ≡ true
+          by true told = refl
+          by false untold =
+              absurd (is.1 key (subst (λ (a : AccessView). Serves (ToFind key) a) (sym access)
+              (makes.aim.serves (ToFind key) under.finds))
+              (ap access_answer access ∙ (come.asked untold).unanswered))
+
+      nearer : Comes s j r q'.told → access_left a' (store_of pool'.images) < access_left q.access (store_of pool.images) →
+          questions_left call new (store_of pool'.images) < questions_left call old (store_of pool.images)
+      nearer come less = by closes come.left
+        where
+          after : Store
+          after = store_of pool'.images
+
+          same_access : access_left q'.access after ≡ access_left a' after
+          same_access = ap (λ (a : AccessView). access_left a after) access
+
+          by : Closes q' o → ((q'.told ≡ q.told) × (j ≡ i))
+              ⊎ ((q.told ≡ false) × (q'.told ≡ true) × (left_of call j < left_of call i)) →
+              questions_left call new after < questions_left call old (store_of pool.images)
+          by (inr is) (inl same) =
+              let rounds : round_of q'.told ≡ round_of q.told = ap round_of same.0 in
+              let lefts : left_of call j ≡ left_of call i = ap (left_of call) same.1 in
+              rw is.1 (omega (arith, less, same_access, rounds, lefts))
+          by (inr is) (inr heard) =
+              let was : round_of q.told ≡ 0 = ap round_of heard.0 in
+              let now : round_of q'.told ≡ ROUND_STEPS = ap round_of heard.1 in
+              let fewer = heard.2 in
+              rw is.1 (omega (arith, less, same_access, was, now, fewer))
+          by (inl is) (inl same) =
+              let told : round_of q.told ≡ ROUND_STEPS = ap round_of (sym same.0 ∙ is_told come is.0) in
+              let lefts : left_of call j ≡ left_of call i = ap (left_of call) same.1 in
+              let few = few_names in
+              let asks = few_of (asks_more call j) in
+              rw is.1 (omega (arith, less, told, lefts, few, asks))
+          by (inl is) (inr heard) =
+              let was : round_of q.told ≡ 0 = ap round_of heard.0 in
+              let fewer = heard.2 in
+              let few = few_names in
+              let asks = few_of (asks_more call j) in
+              rw is.1 (omega (arith, less, was, fewer, few, asks))
+
+      progresses : (d : Progress FileFault) → did ≡ d →
+          NearsOrSpares d (questions_left call old (store_of pool.images)) (questions_left call new
+          (store_of pool'.images)) pool pool'
+      progresses (Moved kind) is =
+          let at = found_at s change f in
+          nearer (comes s change f (ap is_fault is)) (subst (λ (d : Progress FileFault). NearsOrSpares d
+          (access_left q.access (store_of pool.images)) (access_left a' (store_of pool'.images)) pool pool') is
+          (makes.progress (ToFind key) at.0 change (faces s change f at.0 at.1)))
+      progresses (Blocked other) is = tt
+      progresses (Fault fault) is =
+          let at = found_at s change f in
+          subst (λ (d : Progress FileFault). NearsOrSpares d (access_left q.access (store_of pool.images))
+          (access_left a' (store_of pool'.images)) pool pool') is
+          (makes.progress (ToFind key) at.0 change (faces s change f at.0 at.1))
+      progresses Ended is = tt
+
+      -- ---- it is a step, and what it means
+
+      module _ (fine : is_fault did ≡ false) where
+        stepped : Step hash seat (access_turn q.access (store_of pool.images)) did (access_facts a') pool pool' locks
+            locks' change
+        stepped =
+            let at = found_at s change f in
+            makes.step (ToFind key) at.0 change (faces s change f at.0 at.1) fine
+
+        pub steps : Step hash seat (access_turn q.access (store_of pool.images)) did (facts_of o) pool pool' locks locks'
+            change
+        steps = record {
+          after = stepped.after;
+          file = stepped.file;
+          others = stepped.others;
+          known = knows_facts _ stepped.known;
+          does = stepped.does;
+        }
+
+        right_question : IsRightQuestion hash call new q'
+        right_question =
+            let was = f.right.question in
+            record {
+              keyed = subst (λ (a : AccessView). hash (access_key a) ≡
+                  access_pseudokey a) (sym access)
+                  (ap hash makes.aim.key ∙ was.keyed ∙ sym makes.aim.pseudokey);
+              may_read = subst (λ (k : RecordKey). MayRead
+                  (names_in held) k)
+                  (sym (ap access_key access ∙ makes.aim.key)) was.may_read;
+              asked = λ untold. subst (IsAsked call new) (sym access)
+                  (let is = (comes s change f fine).asked untold in
+                  record {
+                    wanted = is.wanted;
+                    asked = is.asked;
+                    key = is.key;
+                    names = is.names;
+                    unanswered = is.unanswered;
+                  });
+            }
+
+        pub means : Learns hash call s did new
+        means = record {
+          right = record {
+            question = by closes;
+            begins = (comes s change f fine).begins;
+          };
+          knows = (comes s change f fine).knows;
+          reads = reads_only hash seat did (world pool.images locks change)
+              (world pool'.images locks' stepped.after) f.sees.sound q.access under.finds.kind stepped.does;
+        }
+          where
+            by : Closes q' o → IfSome o (IsRightQuestion hash call new)
+            by (inl is) = subst (λ (x : Option Question). IfSome x (IsRightQuestion hash call new)) (sym is.1) tt
+            by (inr is) =
+                subst (λ (x : Option Question). IfSome x (IsRightQuestion hash call new)) (sym is.1) right_question
+
+    -- the inquiry took what it was told
+    pub goes_on : MakesQuestions hash seat call did old new pool pool' locks locks'
+    goes_on = record {
+      writes = makes.writes;
+      aim = record {
+        caller = caller;
+        ended = (λ e. absurd (under.goes_on (makes.aim.ended.0 e)), λ d. absurd (true≢false (sym d)));
+        rests = rests_by did refl;
+      };
+      row = makes.row held names.no_file row ∙ ap (with_row locks seat) same_locks;
+      progress = λ s change f. progresses s change f did refl;
+      step = λ s change f fine. steps s change f fine;
+      means = λ s change f fine. means s change f fine;
+    }
+
+    -- the inquiry was told what no system has, which no file tells that agrees with one
+    pub fails : ((s : State) (change : Change) → Faces hash seat call s old pool locks change → ⊥) →
+        MakesQuestions hash seat call (Fault Failed) old new pool pool' locks locks'
+    fails never = record {
+      writes = record {
+        ready = makes.writes.ready;
+        honest = makes.writes.honest;
+        later = makes.writes.later;
+        file = λ honest done file. absurd (true≢false (sym done));
+      };
+      aim = record { caller = caller; ended = (λ e. absurd cc, λ d. absurd (true≢false (sym d))); rests = tt };
+      row = makes.row held names.no_file row ∙ ap (with_row locks seat) same_locks;
+      progress = λ s change f. absurd (never s change f);
+      step = λ s change f fine. absurd (never s change f);
+      means = λ s change f fine. absurd (never s change f);
+    }

@@ -1,0 +1,9 @@
+pub mod AskLemmas
+pub mod CounterLemmas
+pub mod KnowLemmas
+pub mod FindLemmas
+pub mod TurnLemmas
+pub mod AskingLemmas
+pub mod HearLemmas
+pub mod GoingLemmas
+pub mod ListenLemmas

@@ -1,0 +1,6 @@
+pub mod Words
+pub mod Answering
+pub mod Agreeing
+pub mod Questions
+pub mod QuestionSteps
+pub mod Laws

@@ -1,0 +1,43 @@
+//! What an inquiry is told of the record that was found.
+
+ghost use Rattle.std.specs.Prelude.{◌≡◌, Ok, Some};
+ghost use Rattle.std.specs.Prelude.{nat_lt, ℕ};
+ghost use Rattle.queue_records.specs.declared.record.Record.TheVariants as records;
+ghost use Rattle.call_questions.specs.Words.{Counter};
+ghost use Rattle.call_questions.specs.QuestionSteps.{Hears};
+
+use any_inquiry::AnyInquiry;
+use queue_model::Call;
+use queue_records::Record;
+use xsi_inquiry::{Inquiry, NotASystem, Room, Wanted, counter_in, tell, tell_given};
+
+/// Tells an inquiry what was found at the key that it asked for, or by the Counter that was found
+/// whether the id was given out.
+pub(crate) fn hear(
+    inquiry: &mut AnyInquiry,
+    room: &mut Room,
+    call: &Call,
+    found: Option<Record<'_>>,
+) -> Result<(), NotASystem>
+    ensures { Hears call.now found.entry result
+        (record { inquiry = inquiry.old; room = room.old })
+        (record { inquiry = inquiry.new; room = room.new }) }
+{
+    match inquiry.wants(call) {
+        Some(Wanted::At(_)) => tell(inquiry, call, found, room),
+        Some(Wanted::Given(id)) => tell_given(inquiry, call, is_given(found, id)?),
+        None => Err(NotASystem),
+    }
+}
+
+/// Whether an id is below the next one of the Counter that was found.
+fn is_given(found: Option<Record<'_>>, id: u32) -> Result<bool, NotASystem>
+    ensures { (counter : Counter) → found.entry ≡ Some (records.Counter counter) →
+        result ≡ Ok (nat_lt id counter.next_id) }
+{
+    let Some(entry) = found else {
+        return Err(NotASystem);
+    };
+    let counter = counter_in(entry)?;
+    Ok(id < counter.next_id)
+}

@@ -1,0 +1,14 @@
+//! A call's reading half: it takes the names that it needs, and asks the file its questions one by
+//! one, until it asks nothing more.
+
+#![tactic(auto)]
+
+mod hearing;
+mod laws;
+mod question;
+mod questions;
+
+pub use laws::{
+    a_call_asks_under_its_names, questions_have_few_steps, what_stands_answers_a_question,
+};
+pub use questions::Questions;
