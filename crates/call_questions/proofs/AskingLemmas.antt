@@ -73,7 +73,8 @@ module _ (hash : RecordKey → ℕ) (seat : ℕ) (call : Call) (i : AnyInquiry) 
       progress = λ s change f. subst (λ n. NearsOrSpares did n (questions_left call new
           (store_of pool'.images)) pool pool') (sym (same_left (store_of pool.images)))
           (made.progress s change (faces s change f));
-      step = λ s change f fine. subst (λ (t : NameTurn). Step {F = FileFault} hash seat (turn_of_names t) did (questions_facts new) pool pool' locks locks'
+      step = λ s change f fine. subst (λ (t : NameTurn). Step {F = FileFault} hash seat (turn_of_names t) did
+          (questions_facts new) pool pool' locks locks'
           change) (sym turn) (made.step s change (faces s change f) fine);
       means = λ s change f fine. made.means s change (faces s change f) fine;
     }
@@ -107,8 +108,10 @@ module _ (hash : RecordKey → ℕ) (seat : ℕ) (call : Call) (i : AnyInquiry) 
           progress = λ s change f. tt;
           step = λ s change f fine.
               let made' = made.step s change (faces s change f) fine in
-              subst (λ (t : NameTurn). Step {F = FileFault} hash seat (turn_of_names t) (Blocked other) [] pool pool' locks locks' change)
-              (sym turn) (subst (λ (v : QuestionsView). Step {F = FileFault} hash seat (turn_of_names Ready) (Blocked other)
+              subst (λ (t : NameTurn). Step {F = FileFault} hash seat (turn_of_names t) (Blocked other) [] pool
+              pool' locks locks' change)
+              (sym turn) (subst (λ (v : QuestionsView). Step {F = FileFault} hash seat (turn_of_names Ready)
+              (Blocked other)
               (questions_facts v) pool pool' locks locks' change)
               made.aim.rests made');
           means = λ s change f fine. record { right = f.right; knows = f.knows; reads = refl };

@@ -134,7 +134,8 @@ module _ (hash : RecordKey → ℕ) (seat : ℕ) (call : Call) (i : AnyInquiry) 
               (makes.aim.serves (ToFind key) under.finds))
               (ap access_answer access ∙ (come.asked untold).unanswered))
 
-      nearer : Comes s j r q'.told → access_left a' (store_of pool'.images) < access_left q.access (store_of pool.images) →
+      nearer : Comes s j r q'.told →
+          access_left a' (store_of pool'.images) < access_left q.access (store_of pool.images) →
           questions_left call new (store_of pool'.images) < questions_left call old (store_of pool.images)
       nearer come less = by closes come.left
         where
@@ -194,7 +195,8 @@ module _ (hash : RecordKey → ℕ) (seat : ℕ) (call : Call) (i : AnyInquiry) 
             let at = found_at s change f in
             makes.step (ToFind key) at.0 change (faces s change f at.0 at.1) fine
 
-        pub steps : Step hash seat (access_turn q.access (store_of pool.images)) did (facts_of o) pool pool' locks locks'
+        pub steps : Step hash seat (access_turn q.access (store_of pool.images)) did (facts_of o) pool pool' locks
+            locks'
             change
         steps = record {
           after = stepped.after;

@@ -62,5 +62,6 @@ module _ (call : Call) (i j : AnyInquiry) (room room' : Roomful) (found : Option
         same_given given _ (counts counted.counter counted.is) ∙ counted.tells in
         gives_ok result (subst (λ (r : Roomful). Gives result (λ x. IsSoNear call held (KnowsOf call j r) s)) (sym kept)
         (told held room s filed near (subst AsksGiven (sym at) tt)
-        (λ g asks. is ∙ ap (λ n. nat_lt n s.next_id) (same_id id g (same_wanted (Given id) (Given g) (sym at ∙ asks))))));
+        (λ g asks. is ∙ ap (λ n. nat_lt n s.next_id) (same_id id g (same_wanted (Given id) (Given g)
+        (sym at ∙ asks))))));
   }

@@ -7,3 +7,4 @@ pub mod AskingLemmas
 pub mod HearLemmas
 pub mod GoingLemmas
 pub mod ListenLemmas
+pub mod OpenLemmas

@@ -122,7 +122,8 @@ module _ (hash : RecordKey → ℕ) (seat : ℕ) (call : Call) (i : AnyInquiry) 
             (sym was.key) answer.stands)))) answer.answers
 
         near : IsSoNear call [] (KnowsOf call i room) s
-        near = subst (λ (b : Bool). IsSoNear call (keeping b held) (KnowsOf call i room) s) (ap is_some was.asked) f.knows
+        near = subst (λ (b : Bool). IsSoNear call (keeping b held) (KnowsOf call i room) s)
+            (ap is_some was.asked) f.knows
 
         hears : IsOk result × IsSoNear call (keeping (asks_more call j) held) (KnowsOf call j r) s
         hears = heard call i j room r held s f.agrees.filed h.told result h.hears near was.wanted was.asked asked_under
@@ -148,8 +149,8 @@ module _ (hash : RecordKey → ℕ) (seat : ℕ) (call : Call) (i : AnyInquiry) 
     is_ok : IsOk result
     is_ok = by listens.either
       where
-        by : IsQuiet did result read q' told_before told_after ⊎ IsHeard call did result read q' told_before told_after →
-            IsOk result
+        by : IsQuiet did result read q' told_before told_after
+            ⊎ IsHeard call did result read q' told_before told_after → IsOk result
         by (inl quiet) = quiet.fine
         by (inr heard) = (hears (ap is_fault heard.looked) heard).0
 

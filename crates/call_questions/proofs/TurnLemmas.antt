@@ -100,8 +100,8 @@ module _ (hash : RecordKey → ℕ) (seat : ℕ) (call : Call) (i : AnyInquiry) 
             let nearer = (turns_come_nearer held goal).take lock turn in
             omega (arith, nearer);
         step = λ s change f fine.
-            subst (λ (t : NameTurn). Step {F = FileFault} hash seat (turn_of_names t) (Moved kind) [] pool pool locks locks' change)
-            (sym turn) (step hash pool change None f.sees);
+            subst (λ (t : NameTurn). Step {F = FileFault} hash seat (turn_of_names t) (Moved kind) [] pool pool locks
+            locks' change) (sym turn) (step hash pool change None f.sees);
         means = λ s change f fine. record {
           right = record { question = tt; begins = λ none tried. begins_next };
           knows = near_more call (asks_more call i) held (held ++ lock ∷ []) (KnowsOf call i room) s
@@ -119,8 +119,8 @@ module _ (hash : RecordKey → ℕ) (seat : ℕ) (call : Call) (i : AnyInquiry) 
         row = is;
         progress = λ s change f. tt;
         step = λ s change f fine.
-            subst (λ (t : NameTurn). Step {F = FileFault} hash seat (turn_of_names t) (Blocked other) [] pool pool locks locks' change)
-            (sym turn) (step hash pool change None f.sees);
+            subst (λ (t : NameTurn). Step {F = FileFault} hash seat (turn_of_names t) (Blocked other) [] pool pool locks
+            locks' change) (sym turn) (step hash pool change None f.sees);
         means = λ s change f fine. record { right = f.right; knows = f.knows; reads = refl };
       }
 
@@ -159,8 +159,8 @@ module _ (hash : RecordKey → ℕ) (seat : ℕ) (call : Call) (i : AnyInquiry) 
             let nearer = (turns_come_nearer held goal).give_back held' gives.1.0 gives.1.1 turn in
             omega (arith, nearer);
         step = λ s change f fine.
-            subst (λ (t : NameTurn). Step {F = FileFault} hash seat (turn_of_names t) (Moved kind) [] pool pool locks locks' change)
-            (sym turn) (step hash pool change None f.sees);
+            subst (λ (t : NameTurn). Step {F = FileFault} hash seat (turn_of_names t) (Moved kind) [] pool pool locks
+            locks' change) (sym turn) (step hash pool change None f.sees);
         means = λ s change f fine. record {
           right = record { question = tt; begins = λ none tried. absurd (asks_on f.right none) };
           knows = near_more call (asks_more call i) held held' (KnowsOf call i room) s

@@ -1,13 +1,16 @@
 //! A question under way.
 
-ghost use Rattle.std.specs.Prelude.{◌≡◌, true, Some};
-ghost use Rattle.call_questions.specs.Words.{Look, Moved};
-ghost use Rattle.call_questions.specs.declared.question.Question.{Question};
-ghost use Rattle.call_questions.specs.QuestionSteps.{Closes, Listens};
+ghost use Rattle.std.specs.Prelude.{◌≡◌, true, IsSome};
+ghost use Rattle.call_questions.specs.Words.{IsReady, IsSeat, Look, Moved, row_of};
+ghost use Rattle.call_questions.specs.QuestionSteps.{ClosesIn, HasRowIn, Listens, ListensIn, ReadsIn};
 
 use crate::hearing::hear;
 use any_inquiry::AnyInquiry;
+use bucket_page::PseudoKey;
+use buffer_pool::Pool;
 use file_pages::FileFault;
+use page_device::PageDevice;
+use page_locks::LockTable;
 use queue_model::Call;
 use record_access::Access;
 use step_rules::{Kind, Progress};
@@ -20,9 +23,48 @@ pub(crate) struct Question {
     pub(crate) told: bool,
 }
 
+/// One step of the access of the question that is under way.
+pub(crate) fn read<D: PageDevice, K: PseudoKey>(
+    question: &mut Option<Question>,
+    pool: &mut Pool<D>,
+    locks: &mut LockTable,
+    keys: &K,
+    seat: u8,
+) -> Progress<FileFault>
+    requires seat { IsSeat locks.old seat }
+    requires ready { IsReady pool.old }
+    requires under_way { IsSome question.old }
+    requires row { HasRowIn question.old (row_of locks.old seat) }
+    ensures { ReadsIn (K.of_key keys.now) seat result question.old question.new
+        pool.old pool.new locks.old locks.new }
+{
+    match question {
+        Some(open) => open.access.step(pool, locks, keys, seat),
+        None => Progress::Ended,
+    }
+}
+
+/// Tells the inquiry what that access has found.
+pub(crate) fn hear_of(
+    question: &mut Option<Question>,
+    inquiry: &mut AnyInquiry,
+    room: &mut Room,
+    call: &Call,
+    did: Progress<FileFault>,
+) -> Result<(), NotASystem>
+    ensures { ListensIn call.now did result question.old question.new
+        (record { inquiry = inquiry.old; room = room.old })
+        (record { inquiry = inquiry.new; room = room.new }) }
+{
+    match question {
+        Some(open) => listen(open, inquiry, room, call, did),
+        None => Ok(()),
+    }
+}
+
 /// Tells the inquiry what the access has found, in the Look by which a page answered: behind it
 /// another seat may change the Counter.
-pub(crate) fn listen(
+fn listen(
     question: &mut Question,
     inquiry: &mut AnyInquiry,
     room: &mut Room,
@@ -49,7 +91,7 @@ pub(crate) fn listen(
 
 /// A question that has given all its locks back is over.
 pub(crate) fn close(question: &mut Option<Question>)
-    ensures { (q : Question) → question.old ≡ Some q → Closes q question.new }
+    ensures { ClosesIn question.old question.new }
 {
     let Some(open) = question else {
         return;

@@ -9,7 +9,7 @@ ghost use Rattle.call_questions.specs.Answering.{key_asked};
 ghost use Rattle.call_questions.specs.Questions.{IsBare, KnowsNear, has_asked, is_done, is_ready, questions_facts, questions_left, questions_locks, questions_turn};
 ghost use Rattle.call_questions.specs.QuestionSteps.{Faces, KeepsQuestions, Learns, MakesQuestions, is_blocked};
 
-use crate::question::{Question, close, listen};
+use crate::question::{Question, close, hear_of, read};
 use any_inquiry::AnyInquiry;
 use bucket_page::{PseudoKey, RecordKey};
 use buffer_pool::Pool;
@@ -255,11 +255,14 @@ impl Questions {
             pool.old pool.new locks.old locks.new }
     {
         self.names.keep_order();
-        let Some(question) = &mut self.question else {
-            return Progress::Ended;
-        };
-        let did = question.access.step(pool, locks, keys, seat);
-        let heard = listen(question, &mut self.inquiry, &mut self.room, call, did);
+        let did = read(&mut self.question, pool, locks, keys, seat);
+        let heard = hear_of(
+            &mut self.question,
+            &mut self.inquiry,
+            &mut self.room,
+            call,
+            did,
+        );
         close(&mut self.question);
         let Ok(()) = heard else {
             return Progress::Fault(FileFault::Failed);
