@@ -1,0 +1,7 @@
+pub mod Words
+pub mod Dues
+pub mod Views
+pub mod Carrying
+pub mod CarrySteps
+pub mod MakeSteps
+pub mod Laws

@@ -1,0 +1,16 @@
+//! What a call inserts on trial before its decision, and what it writes behind it, step by step.
+
+#![tactic(auto)]
+
+mod deed;
+mod due;
+mod laws;
+mod plan;
+mod ranges;
+mod writes;
+
+pub use deed::Deed;
+pub use due::Due;
+pub use laws::{a_plan_has_few_steps, what_is_due_is_owed};
+pub use plan::PlanOf;
+pub use writes::CallWrites;

@@ -1,0 +1,169 @@
+//! The writing half of a call.
+
+ghost use Rattle.std.specs.Prelude.{◌≡◌, ◌≢◌, None};
+ghost use Rattle.call_writes.specs.Words.{EndsRow, IsReady, IsSeat, is_fault, row_of};
+ghost use Rattle.call_writes.specs.MakeSteps.{MakesDeed, SetsOut, Settles, TakesStep};
+ghost use Rattle.call_writes.specs.Views.{decided_at, is_full, writes_locks};
+
+use crate::due::Due;
+use crate::plan::PlanOf;
+use bucket_page::PseudoKey;
+use buffer_pool::Pool;
+use file_pages::FileFault;
+use page_device::PageDevice;
+use page_locks::LockTable;
+use record_access::Access;
+use step_rules::Progress;
+
+/// The writing half of a call: it carries out a plan, one access after the other.
+#[derive(Drop)]
+pub struct CallWrites {
+    due: Due,
+    access: Option<Access>,
+}
+
+impl CallWrites {
+    /// Nothing is inserted or written yet.
+    pub fn new() -> CallWrites
+        ensures due { result.due ≡ Due.Trying 0 }
+        ensures rests { result.access ≡ None }
+    {
+        CallWrites {
+            due: Due::Trying(0),
+            access: None,
+        }
+    }
+
+    /// Whether a trial has found no room, so that those before it are to go again.
+    pub fn is_full(&self) -> bool
+        ensures { result ≡ is_full self.now }
+    {
+        match (&self.due, &self.access) {
+            (Due::Full(_), _) => true,
+            (Due::Trying(_), Some(access)) => access.has_no_room(),
+            (_, _) => false,
+        }
+    }
+
+    /// The call has decided, once this has ended: its writes are due, or the trials that stand are
+    /// to go again where one has no room.
+    pub fn decide(&mut self)
+        requires rests { self.old.access ≡ None }
+        ensures due { self.new.due ≡ decided_at self.old.due }
+        ensures rests { self.new.access ≡ None }
+    {
+        self.due = match self.due {
+            Due::Trying(_) => Due::Writing(0),
+            Due::Full(standing) => Due::Undoing(standing),
+            due => due,
+        };
+    }
+
+    /// One step. It has ended where nothing is left to do: all trials stand, or one has no room; or
+    /// behind the decision all is undone, or written.
+    pub fn step<D: PageDevice, K: PseudoKey>(
+        &mut self,
+        plan: &PlanOf<'_>,
+        pool: &mut Pool<D>,
+        locks: &mut LockTable,
+        keys: &K,
+        seat: u8,
+    ) -> Progress<FileFault>
+        requires seat { IsSeat locks.old seat }
+        requires ready { IsReady pool.old }
+        requires row { EndsRow (writes_locks self.old) 3 (row_of locks.old seat) }
+        ensures { TakesStep (K.of_key keys.now) seat plan.now result self.old self.new
+            pool.old pool.new locks.old locks.new }
+    {
+        match self.set_out(plan, keys) {
+            Err(fault) => Progress::Fault(fault),
+            Ok(false) => Progress::Ended,
+            Ok(true) => {
+                let did = self.go_on(plan, pool, locks, keys, seat);
+                self.settle(did)
+            }
+        }
+    }
+
+    /// Begins the next access where none is under way. Whether one is then.
+    fn set_out<K: PseudoKey>(&mut self, plan: &PlanOf<'_>, keys: &K) -> Result<bool, FileFault>
+        ensures { SetsOut (K.of_key keys.now) plan.now result self.old self.new }
+    {
+        if self.access.is_some() {
+            return Ok(true);
+        }
+        let Some(deed) = plan.deed(self.due) else {
+            return Ok(false);
+        };
+        if !deed.is_in_range() {
+            return Err(FileFault::Failed);
+        }
+        self.access = Some(deed.begin(keys));
+        Ok(true)
+    }
+
+    /// One step of the access under way. Where it writes, its deed is paid. One that has ended is
+    /// still there only where it has not written, which can't be so of the records of a system.
+    fn go_on<D: PageDevice, K: PseudoKey>(
+        &mut self,
+        plan: &PlanOf<'_>,
+        pool: &mut Pool<D>,
+        locks: &mut LockTable,
+        keys: &K,
+        seat: u8,
+    ) -> Progress<FileFault>
+        requires seat { IsSeat locks.old seat }
+        requires ready { IsReady pool.old }
+        requires row { EndsRow (writes_locks self.old) 3 (row_of locks.old seat) }
+        requires there { self.old.access ≢ None }
+        ensures { MakesDeed (K.of_key keys.now) seat plan.now result self.old self.new
+            pool.old pool.new locks.old locks.new }
+    {
+        let Some(access) = &mut self.access else {
+            return Progress::Ended;
+        };
+        if access.has_ended() {
+            return Progress::Fault(FileFault::Failed);
+        }
+        let owed = !access.has_written();
+        let did = access.step(pool, locks, keys, seat);
+        if owed && access.has_written() {
+            self.due = plan.behind(self.due);
+        }
+        did
+    }
+
+    /// Lets an access go that has given its locks back.
+    fn settle(&mut self, did: Progress<FileFault>) -> Progress<FileFault>
+        ensures { Settles did result self.old self.new }
+    {
+        if is_fault(did) {
+            return did;
+        }
+        let Some(access) = &self.access else {
+            return did;
+        };
+        if !access.has_ended() {
+            return did;
+        }
+        if access.has_written() {
+            self.access = None;
+            return did;
+        }
+        match self.due {
+            Due::Trying(standing) if access.has_no_room() => {
+                self.due = Due::Full(standing);
+                self.access = None;
+                did
+            }
+            _ => Progress::Fault(FileFault::Failed),
+        }
+    }
+}
+
+/// Whether it is a fault.
+fn is_fault(did: Progress<FileFault>) -> bool
+    ensures { result ≡ is_fault did }
+{
+    matches!(did, Progress::Fault(_))
+}
