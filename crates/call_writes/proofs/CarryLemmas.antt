@@ -1,9 +1,10 @@
 -- What a step of an access leaves of the plan that is carried out.
-use Rattle.std.proofs.Common.{◌≡◌, refl, sym, ap, ◌∙◌, subst, ℕ, Bool, true, false, not, ◌&&◌, List, Option, Some, None, IsSome, if◌then◌else◌}
+use Rattle.std.proofs.Common.{◌≡◌, refl, sym, ap, ◌∙◌, subst, ℕ, Bool, true, false, not, ◌&&◌, List, Option, Some, None, IsSome, IsTrue, if◌then◌else◌}
 use Rattle.std.specs.Prelude.{unwrap_or}
 use Rattle.std.specs.Option.{option_map}
 use Rattle.std.proofs.lemmas.Bool.{true≢false}
 use Rattle.file_pages.specs.declared.fault.FileFault.{FileFault}
+use Rattle.page_locks.proofs.TableLemmas.{row_of-same}
 use Rattle.queue_records.specs.declared.links.Link.{Link}
 use Rattle.queue_records.specs.declared.links.Link.TheVariants.{Stays, Ends, LeadsTo}
 use Rattle.queue_records.specs.declared.links.Links.{Links}
@@ -22,7 +23,7 @@ use Rattle.record_operation.specs.declared.operation.RecordOperation.TheVariants
 use Rattle.step_rules.specs.Known.{IsKnown, Told}
 use Rattle.xsi_inquiry.proofs.LeadLemmas.{same_keys}
 use Rattle.call_writes.specs.declared.deed.Deed.TheVariants as deeds
-use Rattle.call_writes.specs.Words.{RecordKey, is_same, Record, guard_of, Write, Replace, Relink, Delete, IsSmall, Plan, Records, with_at, overlaid, kind_of, Owns, PoolState, Table, Lock, Change, row_of, store_of, IsSeat, Progress, is_fault, HasNoFileLock, IsKeyed, Sees, Step, world, Purpose, StandsAt, made, is_write, AccessView, Allows, access_facts, access_key, access_locks, access_turn, MakesAccess, Deed, Due}
+use Rattle.call_writes.specs.Words.{RecordKey, is_same, Record, guard_of, Write, Replace, Relink, Delete, IsSmall, Plan, Records, with_at, overlaid, kind_of, Owns, PoolState, Table, Lock, Change, row_of, store_of, pair, IsSeat, HasNoRoom, Progress, is_fault, HasNoFileLock, IsKeyed, Sees, Step, world, Purpose, StandsAt, made, is_write, has_no_room, AccessView, Allows, access_facts, access_key, access_locks, access_turn, MakesAccess, Deed, Due}
 use Rattle.call_writes.specs.Dues.{CanGoOn, IsBehind, after_deed, deed_key, next_deed, owes, purpose_of}
 use Rattle.call_writes.specs.Carrying.{IsDoing}
 use Rattle.call_writes.specs.CarrySteps.{AsMade, AsTheyWere, Leaves}
@@ -36,7 +37,7 @@ not_paid p due due' true b' pays none = pays
 not_paid p due due' false true pays none = absurd (true≢false none)
 not_paid p due due' false false pays none = pays
 
-neither : (w b b' : Bool) → b' ≡ (if w then true else b) → b' ≡ false → (w ≡ false) × (b ≡ false)
+pub neither : (w b b' : Bool) → b' ≡ (if w then true else b) → b' ≡ false → (w ≡ false) × (b ≡ false)
 neither true b b' is none = absurd (true≢false (sym is ∙ none))
 neither false b b' is none = (refl, sym is ∙ none)
 
@@ -139,6 +140,22 @@ module _ (p : Plan) (due due' : Due) (records : Records) (d : Deed) (small : IsS
     left_on false false false is pays key its next paid = left_same pays records refl
 
 -- ---- one step
+
+-- behind the step of the access these records stand, and it goes on over them
+pub record IsMade (hash : RecordKey → ℕ) (seat : ℕ) (names : List Lock) (p : Plan) (did : Progress FileFault)
+    (a a' : AccessView) (due due' : Due) (records : Records) (pool pool' : PoolState) (locks locks' : Table)
+    (change : Change) (d : Deed) : Type 0 where
+  pub step : Step hash seat (access_turn a (store_of pool.images)) did (access_facts a') pool pool' locks locks' change
+  pub after : Records
+  pub still : is_write did ≡ false → after ≡ records
+  pub left : IsLeft p due due' records after
+  pub sees : Sees hash seat (access_facts a') pool' locks' step.after
+  pub row : row_of locks' seat ≡ access_locks a' names
+  pub stands : (key : RecordKey) → IsSome (kind_of names (guard_of key)) →
+      StandsAt (store_of pool'.images) key (after key)
+  pub doing : IsDoing hash names p due' after d a'
+  pub lacks : has_no_room a ≡ false → has_no_room a' ≡ true →
+      HasNoRoom hash (pair (access_key a) a.bytes) (world pool'.images locks' change)
 
 module _ (hash : RecordKey → ℕ) (seat : ℕ) (names : List Lock) (did : Progress FileFault) (a a' : AccessView)
     (pool pool' : PoolState) (locks locks' : Table) (seated : IsSeat locks seat)
@@ -272,3 +289,22 @@ module _ (hash : RecordKey → ℕ) (seat : ℕ) (names : List Lock) (did : Prog
       where
         there : after (access_key a') ≡ left_by did (purpose_of d) found
         there = ap after step.aim.key ∙ left_there
+
+    pub all_made : IsMade hash seat names p did a a' due due' records pool pool' locks locks' change d
+    all_made = record {
+      step = stepped;
+      after = after;
+      still = λ unwritten. rw unwritten refl;
+      left = is_left;
+      sees = record {
+        honest = subst IsTrue (sym step.writes.honest) sees.honest;
+        file = stepped.file;
+        sound = stepped.others.sound;
+        known = stepped.known;
+      };
+      row = ap (λ (t : Table). row_of t seat) (step.row names bare row)
+          ∙ row_of-same locks seat (access_locks a' names) seated;
+      stands = stands_on;
+      doing = doing_on;
+      lacks = tells.lacks;
+    }

@@ -70,7 +70,7 @@ undoing_in_range (r ∷ rs) = All-append HasRange (undoing rs) (Delete (key_of r
 
 -- ---- the write that comes first
 
-first_of : (ws : List Write) (w : Write) → slice_get ws zero ≡ Some w → ws ≡ w ∷ drop 1 ws
+pub first_of : (ws : List Write) (w : Write) → slice_get ws zero ≡ Some w → ws ≡ w ∷ drop 1 ws
 first_of [] w is = absurd cc
 first_of (v ∷ ws) w is = let same : v ≡ w = cc in ap (λ (x : Write). x ∷ ws) same
 
@@ -141,7 +141,7 @@ module _ (p : Plan) (records : Records) where
 
   -- ---- a trial
 
-  absent_first : (rs rs' : List Record) (r : Record) → rs ≡ r ∷ rs' → CanTry rs records →
+  pub absent_first : (rs rs' : List Record) (r : Record) → rs ≡ r ∷ rs' → CanTry rs records →
       (records (key_of r) ≡ None) × CanTry rs' (with_at (key_of r) (Some r) records)
   absent_first rs rs' r is can =
       let both : AreAbsent (r ∷ rs') records = subst (λ (xs : List Record). AreAbsent xs records) is can.absent in

@@ -1,6 +1,13 @@
+pub mod BeginLemmas
+pub mod BegunLemmas
+pub mod CarriesLemmas
 pub mod CarryLemmas
 pub mod DueLemmas
 pub mod EndLemmas
 pub mod LawLemmas
 pub mod Names
+pub mod NearLemmas
+pub mod NextLemmas
+pub mod SortLemmas
 pub mod StartLemmas
+pub mod StepLemmas

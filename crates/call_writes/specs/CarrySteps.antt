@@ -52,19 +52,3 @@ pub record Carries {F : Type 0} (hash : RecordKey → ℕ) (seat : ℕ) (names :
       overlaid (owes p new.due) after key ≡ overlaid (owes p old.due) records key
   pub full : is_full old ≡ false → is_full new ≡ true →
       TrialLacksRoom hash p old.due (world pool'.images locks' change)
-
--- one step at the pseudokeys that this function gives
-pub record MakesWrites (hash : RecordKey → ℕ) (seat : ℕ) (p : Plan) (did : Progress FileFault) (old new : CallWrites)
-    (pool pool' : PoolState) (locks locks' : Table) : Type 0 where
-  -- whatever the device gives
-  pub writes : OnlyWrites (not (is_fault did)) pool pool'
-  pub aim : KeepsPlan p did old new
-  pub row : FollowsRow seat (writes_locks old) (writes_locks new) locks locks'
-  -- on an honest device, in a sound world
-  pub progress : (names : List Lock) (records : Records) (change : Change) →
-      IsCarrying hash seat names p old records pool locks change → (IsStuck new → ⊥) →
-      NearsOrSpares did (writes_left_in p old (store_of pool.images)) (writes_left_in p new (store_of pool'.images))
-      pool pool'
-  pub step : (names : List Lock) (records : Records) (change : Change) →
-      IsCarrying hash seat names p old records pool locks change → is_fault did ≡ false →
-      Carries hash seat names p did old new records pool pool' locks locks' change

@@ -68,12 +68,12 @@ pub data MakesDeed (hash : RecordKey → ℕ) (seat : ℕ) (p : Plan) (did : Pro
 pub data Settles (did did' : Progress FileFault) (old new : CallWrites) : Type 0 where
   Stays : did' ≡ did → new ≡ old →
       ((a : AccessView) → old.access ≡ Some a → HasEnded a.operation → is_fault did ≡ true) → Settles did did' old new
-  LetsGo : (a : AccessView) → old.access ≡ Some a → HasEnded a.operation → a.written ≡ true → did' ≡ did →
-      new ≡ record { due = old.due; access = None } → Settles did did' old new
-  IsFull : (a : AccessView) (standing : ℕ) → old.access ≡ Some a → HasEnded a.operation → has_no_room a ≡ true →
-      old.due ≡ Trying standing → did' ≡ did → new ≡ record { due = Full standing; access = None } →
-      Settles did did' old new
-  Fails : (a : AccessView) → old.access ≡ Some a → HasEnded a.operation → is_fault did ≡ false →
+  LetsGo : (a : AccessView) → old.access ≡ Some a → HasEnded a.operation → is_fault did ≡ false → a.written ≡ true →
+      did' ≡ did → new ≡ record { due = old.due; access = None } → Settles did did' old new
+  IsFull : (a : AccessView) (standing : ℕ) → old.access ≡ Some a → HasEnded a.operation → is_fault did ≡ false →
+      has_no_room a ≡ true → old.due ≡ Trying standing → did' ≡ did →
+      new ≡ record { due = Full standing; access = None } → Settles did did' old new
+  Fails : (a : AccessView) → old.access ≡ Some a → HasEnded a.operation → is_fault did ≡ false → a.written ≡ false →
       did' ≡ Fault Failed → new ≡ old → Settles did did' old new
 
 -- ---- a step

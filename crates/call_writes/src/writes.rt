@@ -1,9 +1,11 @@
 //! The writing half of a call.
 
-ghost use Rattle.std.specs.Prelude.{◌≡◌, ◌≢◌, None};
-ghost use Rattle.call_writes.specs.Words.{EndsRow, IsReady, IsSeat, is_fault, row_of};
+ghost use Rattle.std.specs.Prelude.{◌≡◌, ◌≢◌, None, List, false, not};
+ghost use Rattle.call_writes.specs.Words.{Change, EndsRow, FollowsRow, IsReady, IsSeat, Lock, NearsOrSpares, OnlyWrites, Records, is_fault, row_of, store_of};
+ghost use Rattle.call_writes.specs.Carrying.{IsCarrying};
+ghost use Rattle.call_writes.specs.CarrySteps.{Carries, KeepsPlan};
 ghost use Rattle.call_writes.specs.MakeSteps.{MakesDeed, SetsOut, Settles, TakesStep};
-ghost use Rattle.call_writes.specs.Views.{decided_at, is_full, writes_locks};
+ghost use Rattle.call_writes.specs.Views.{IsStuck, decided_at, is_full, writes_left_in, writes_locks};
 
 use crate::due::Due;
 use crate::plan::PlanOf;
@@ -62,6 +64,41 @@ impl CallWrites {
     /// One step. It has ended where nothing is left to do: all trials stand, or one has no room; or
     /// behind the decision all is undone, or written.
     pub fn step<D: PageDevice, K: PseudoKey>(
+        &mut self,
+        plan: &PlanOf<'_>,
+        pool: &mut Pool<D>,
+        locks: &mut LockTable,
+        keys: &K,
+        seat: u8,
+    ) -> Progress<FileFault>
+        requires seat { IsSeat locks.old seat }
+        requires ready { IsReady pool.old }
+        requires row { EndsRow (writes_locks self.old) 3 (row_of locks.old seat) }
+        ensures takes { TakesStep (K.of_key keys.now) seat plan.now result self.old self.new
+            pool.old pool.new locks.old locks.new }
+        // whatever the device gives
+        ensures writes { OnlyWrites (not (is_fault result)) pool.old pool.new }
+        ensures aim { KeepsPlan plan.now result self.old self.new }
+        ensures row { FollowsRow seat (writes_locks self.old) (writes_locks self.new)
+            locks.old locks.new }
+        // on an honest device, in a sound world
+        ensures progress { (names : List Lock) (records : Records) (change : Change) →
+            IsCarrying (K.of_key keys.now) seat names plan.now self.old records
+            pool.old locks.old change → (IsStuck self.new → ⊥) →
+            NearsOrSpares result (writes_left_in plan.now self.old (store_of pool.old.images))
+            (writes_left_in plan.now self.new (store_of pool.new.images)) pool.old pool.new }
+        ensures step { (names : List Lock) (records : Records) (change : Change) →
+            IsCarrying (K.of_key keys.now) seat names plan.now self.old records
+            pool.old locks.old change → is_fault result ≡ false →
+            Carries (K.of_key keys.now) seat names plan.now result self.old self.new records
+            pool.old pool.new locks.old locks.new change }
+    {
+        self.make(plan, pool, locks, keys, seat)
+    }
+
+    /// The next access begins where none is under way, makes its step, and is let go where it has
+    /// ended.
+    fn make<D: PageDevice, K: PseudoKey>(
         &mut self,
         plan: &PlanOf<'_>,
         pool: &mut Pool<D>,

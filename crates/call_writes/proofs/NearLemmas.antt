@@ -1,0 +1,174 @@
+-- A move leaves fewer steps of the plan.
+use Rattle.std.proofs.Common.{◌≡◌, refl, sym, ap, ◌∙◌, subst, ℕ, zero, suc, ◌+◌, ◌-◌, ◌*◌, ◌<◌, ◌≤◌, Bool, true, false, not, ◌&&◌, List, Option, Some, None, if◌then◌else◌, arith}
+use Rattle.std.proofs.lemmas.Bool.{true≢false}
+use Rattle.file_pages.specs.declared.fault.FileFault.TheVariants.{Failed}
+use Rattle.record_access.specs.Words.{Blocked}
+use Rattle.record_operation.proofs.LengthLemmas.{has_few_steps}
+use Rattle.call_writes.proofs.BeginLemmas.{begun_facts, begun_unwritten}
+use Rattle.call_writes.proofs.BegunLemmas.{doing_start, owned_start, row_start, sees_start}
+use Rattle.call_writes.proofs.CarryLemmas.{faces}
+use Rattle.call_writes.proofs.DueLemmas.{paid_for}
+use Rattle.call_writes.proofs.Names.{FileFault}
+use Rattle.call_writes.proofs.NextLemmas.{is_next}
+use Rattle.call_writes.proofs.SortLemmas.{Anew, EndsAs, Fails, Fills, Goes, Idles, IsIdle, IsSorted, LetsGo, Over, Refused, StartsAs, Stepping, Steps, Stuck, Under}
+use Rattle.call_writes.proofs.StepLemmas.{unpaid}
+use Rattle.call_writes.specs.declared.writes.CallWrites.{CallWrites}
+use Rattle.call_writes.specs.Words.{RecordKey, Plan, Records, Due, Deed, PoolState, Table, Lock, Change, Store, store_of, IsSeat, Progress, Moved, Ended, Fault, is_fault, is_write, NearsOrSpares, HasEnded, IsSmall, AccessView, access_left, MOST_STEPS, Full}
+use Rattle.call_writes.specs.Carrying.{IsCarrying, IsDoing}
+use Rattle.call_writes.specs.Dues.{CanGoOn, IsBehind, deeds_left, next_deed}
+use Rattle.call_writes.specs.MakeSteps.{PaysDue}
+use Rattle.call_writes.specs.Views.{IsStuck, begun_deed, deeds_behind, left_under, writes_left_in}
+
+-- fewer of one are fewer of the other
+nears_so : (did : Progress FileFault) (l l' m m' : ℕ) (pool pool' : PoolState) → NearsOrSpares did l l' pool pool' →
+    (l' < l → m' < m) → NearsOrSpares did m m' pool pool'
+nears_so (Moved kind) l l' m m' pool pool' near less = less near
+nears_so (Blocked other) l l' m m' pool pool' near less = tt
+nears_so (Fault fault) l l' m m' pool pool' near less = near
+nears_so Ended l l' m m' pool pool' near less = tt
+
+add_less : (l l' n : ℕ) → l' < l → l' + n < l + n
+add_less l l' n less = omega (arith, less)
+
+one_off : (n m : ℕ) → n ≡ suc m → n - 1 ≡ m
+one_off n m is = omega (arith, is)
+
+-- what is left of an access and of the deeds behind it
+abbrev left_of : (a : AccessView) (deeds : ℕ) (s : Store) → ℕ
+left_of a deeds s = access_left a s + deeds_behind (Some a) deeds * MOST_STEPS
+
+module _ (p : Plan) where
+  -- as many deeds are behind the access before and behind its step
+  same_behind : (due due' : Due) (records : Records) (d : Deed) (w b b' : Bool) → IsSmall p → CanGoOn p due records →
+      (b ≡ false → next_deed p due ≡ Some d) → b' ≡ (if w then true else b) → PaysDue p (not b && b') due due' →
+      (if b' then deeds_left p due' else deeds_left p due' - 1) ≡ (if b then deeds_left p due else deeds_left p due - 1)
+  same_behind due due' records d true true true small can next is pays = ap (deeds_left p) pays
+  same_behind due due' records d false true true small can next is pays = ap (deeds_left p) pays
+  same_behind due due' records d w true false small can next is pays = absurd (never w is)
+    where
+      never : (w : Bool) → false ≡ (if w then true else true) → ⊥
+      never true is = true≢false (sym is)
+      never false is = true≢false (sym is)
+  same_behind due due' records d w false true small can next is pays =
+      sym (one_off (deeds_left p due) (deeds_left p due') (paid_for p records due due' d (next refl) small pays can).fewer)
+  same_behind due due' records d w false false small can next is pays = ap (λ (x : Due). deeds_left p x - 1) pays
+
+module _ (hash : RecordKey → ℕ) (seat : ℕ) (p : Plan) (did : Progress FileFault) (old new : CallWrites)
+    (pool pool' : PoolState) (locks locks' : Table) (seated : IsSeat locks seat) (names : List Lock)
+    (records : Records) (change : Change) (c : IsCarrying hash seat names p old records pool locks change) where
+  abbrev left : ℕ
+  left = writes_left_in p old (store_of pool.images)
+
+  abbrev left' : ℕ
+  left' = writes_left_in p new (store_of pool'.images)
+
+  -- that of an access that begins takes no more steps than were counted for its deed
+  start_left : (a : AccessView) → StartsAs hash p old a →
+      left_of a (deeds_left p old.due) (store_of pool.images) ≤ left
+  start_left a (Under was) =
+      let is : left ≡ left_of a (deeds_left p old.due) (store_of pool.images) =
+      ap (λ (o : Option AccessView). left_under o (store_of pool.images)
+      + deeds_behind o (deeds_left p old.due) * MOST_STEPS) was in
+      omega (arith, is)
+  start_left a (Anew d rests next serves same) =
+      let n = is_next p records old.due d next c.can in
+      let few : access_left a (store_of pool.images) ≤ MOST_STEPS =
+      has_few_steps hash seat a.operation pool locks change
+      (sees_start hash seat names p old records pool locks change c a (Anew d rests next serves same)) in
+      let unwritten : a.written ≡ false = ap (λ (x : AccessView). x.written) same ∙ begun_unwritten hash d in
+      let whole : left ≡ 0 + suc n.left * MOST_STEPS =
+      ap (λ (o : Option AccessView). left_under o (store_of pool.images)
+      + deeds_behind o (deeds_left p old.due) * MOST_STEPS) rests
+      ∙ ap (λ (m : ℕ). 0 + m * MOST_STEPS) n.more in
+      let rest : deeds_behind (Some a) (deeds_left p old.due) ≡ n.left =
+      ap (λ (b : Bool). if b then deeds_left p old.due else deeds_left p old.due - 1) unwritten
+      ∙ one_off (deeds_left p old.due) n.left n.more in
+      let parts : left_of a (deeds_left p old.due) (store_of pool.images)
+      ≡ access_left a (store_of pool.images) + n.left * MOST_STEPS =
+      ap (λ (m : ℕ). access_left a (store_of pool.images) + m * MOST_STEPS) rest in
+      omega (arith, few, whole, parts)
+
+  module _ (s : Stepping hash seat p did old new pool pool' locks locks') where
+    near : (d : Deed) → IsDoing hash names p old.due records d s.a →
+        NearsOrSpares s.made (access_left s.a (store_of pool.images)) (access_left s.a' (store_of pool'.images))
+        pool pool'
+    near d doing =
+        s.step.progress _ _ change (faces hash seat names s.made s.a s.a' pool pool' locks locks' seated s.step p
+        old.due s.due' s.pays records change d c.small c.can doing
+        (sees_start hash seat names p old records pool locks change c s.a s.starts) c.bare
+        (row_start hash seat names p old records pool locks change c did new pool' locks' s.a s.starts)
+        (owned_start hash seat names p old records pool locks change c s.a d doing) c.stands)
+
+    behind_same : (d : Deed) → IsDoing hash names p old.due records d s.a →
+        deeds_behind (Some s.a') (deeds_left p s.due') ≡ deeds_behind (Some s.a) (deeds_left p old.due)
+    behind_same d doing = same_behind p old.due s.due' records d (is_write s.made) s.a.written s.a'.written c.small
+        c.can doing.next s.step.aim.written s.pays
+
+    -- behind the step itself
+    fewer : (d : Deed) → IsDoing hash names p old.due records d s.a →
+        access_left s.a' (store_of pool'.images) < access_left s.a (store_of pool.images) →
+        left_of s.a' (deeds_left p s.due') (store_of pool'.images)
+        < left_of s.a (deeds_left p old.due) (store_of pool.images)
+    fewer d doing less =
+        subst (λ (m : ℕ). access_left s.a' (store_of pool'.images) + m * MOST_STEPS
+        < left_of s.a (deeds_left p old.due) (store_of pool.images)) (sym (behind_same d doing))
+        (add_less (access_left s.a (store_of pool.images)) (access_left s.a' (store_of pool'.images))
+        (deeds_behind (Some s.a) (deeds_left p old.due) * MOST_STEPS) less)
+
+    end_did : (IsStuck new → ⊥) → EndsAs s.made did s.due' s.a' new → did ≡ s.made
+    end_did free (Goes same kept) = same
+    end_did free (LetsGo ended written same kept) = same
+    end_did free (Fills standing ended full due same kept) = same
+    end_did free (Fails ended unwritten fine fault kept) =
+        absurd (free (record { access = s.a'; is = ap (λ (w : CallWrites). w.access) kept; ended = ended }))
+
+    -- what is let go takes no more steps
+    end_left : (IsStuck new → ⊥) → EndsAs s.made did s.due' s.a' new →
+        left' ≤ left_of s.a' (deeds_left p s.due') (store_of pool'.images)
+    end_left free (Goes same kept) =
+        let is : left' ≡ left_of s.a' (deeds_left p s.due') (store_of pool'.images) =
+        ap (λ (w : CallWrites). writes_left_in p w (store_of pool'.images)) kept in
+        omega (arith, is)
+    end_left free (LetsGo ended written same kept) =
+        let is : left' ≡ 0 + deeds_left p s.due' * MOST_STEPS =
+        ap (λ (w : CallWrites). writes_left_in p w (store_of pool'.images)) kept in
+        let so : left_of s.a' (deeds_left p s.due') (store_of pool'.images)
+        ≡ access_left s.a' (store_of pool'.images) + deeds_left p s.due' * MOST_STEPS =
+        ap (λ (b : Bool). access_left s.a' (store_of pool'.images)
+        + (if b then deeds_left p s.due' else deeds_left p s.due' - 1) * MOST_STEPS) written in
+        omega (arith, is, so)
+    end_left free (Fills standing ended full due same kept) =
+        let is : left' ≡ 0 = ap (λ (w : CallWrites). writes_left_in p w (store_of pool'.images)) kept in
+        omega (arith, is)
+    end_left free (Fails ended unwritten fine fault kept) =
+        absurd (free (record { access = s.a'; is = ap (λ (w : CallWrites). w.access) kept; ended = ended }))
+
+    nears_by : (d : Deed) → IsDoing hash names p old.due records d s.a → (IsStuck new → ⊥) →
+        NearsOrSpares did left left' pool pool'
+    nears_by d doing free =
+        subst (λ (x : Progress FileFault). NearsOrSpares x left left' pool pool') (sym (end_did free s.ends))
+        (nears_so s.made (access_left s.a (store_of pool.images)) (access_left s.a' (store_of pool'.images)) left left'
+        pool pool' (near d doing) (λ less.
+        let start = start_left s.a s.starts in
+        let end = end_left free s.ends in
+        let step = fewer d doing less in
+        chain left' (left_of s.a' (deeds_left p s.due') (store_of pool'.images))
+        (left_of s.a (deeds_left p old.due) (store_of pool.images)) left end step start))
+      where
+        chain : (n m k l : ℕ) → n ≤ m → m < k → k ≤ l → n < l
+        chain n m k l first second third = omega (arith, first, second, third)
+
+  idle_nears : (IsStuck new → ⊥) → new ≡ old → IsIdle p did old → NearsOrSpares did left left' pool pool'
+  idle_nears free kept (Refused fault refused same) =
+      absurd (refused.out (is_next p records old.due refused.deed refused.next c.can).in_range)
+  idle_nears free kept (Over over same) =
+      subst (λ (x : Progress FileFault). NearsOrSpares x left left' pool pool') (sym same) tt
+  idle_nears free kept (Stuck a was ended fault) =
+      absurd (free (record { access = a; is = ap (λ (w : CallWrites). w.access) kept ∙ was; ended = ended }))
+
+  pub nears : (IsStuck new → ⊥) → IsSorted hash seat p did old new pool pool' locks locks' →
+      NearsOrSpares did left left' pool pool'
+  nears free (Idles why kept pools tables) = idle_nears free kept why
+  nears free (Steps s) =
+      let both = doing_start hash seat names p old records pool locks change c s.a s.starts in
+      nears_by s both.0 both.1 free
