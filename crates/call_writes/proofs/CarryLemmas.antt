@@ -161,7 +161,8 @@ module _ (hash : RecordKey → ℕ) (seat : ℕ) (names : List Lock) (did : Prog
     (pool pool' : PoolState) (locks locks' : Table) (seated : IsSeat locks seat)
     (step : MakesAccess hash seat did a a' pool pool' locks locks') (p : Plan) (due due' : Due)
     (pays : PaysDue p (not a.written && a'.written) due due') (records : Records) (change : Change) (d : Deed)
-    (small : IsSmall p) (can : CanGoOn p due records) (doing : IsDoing hash names p due records d a) (sees : Sees hash seat (access_facts a) pool locks change)
+    (small : IsSmall p) (can : CanGoOn p due records) (doing : IsDoing hash names p due records d a)
+    (sees : Sees hash seat (access_facts a) pool locks change)
     (bare : HasNoFileLock names) (row : row_of locks seat ≡ access_locks a names)
     (owned : IsSome (kind_of names (guard_of (access_key a))))
     (stands : (key : RecordKey) → IsSome (kind_of names (guard_of key)) →

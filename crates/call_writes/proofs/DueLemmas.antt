@@ -228,7 +228,8 @@ module _ (P : RecordKey → Type 0) (p : Plan) where
       slice_get rs place ≡ Some r → P (key_of r)
   all_at [] place r all is = absurd cc
   all_at (x ∷ rs) zero r all is =
-      let same : x ≡ r = cc in subst (λ (y : Record). P (key_of y)) same (All-head (λ (y : Record). P (key_of y)) x rs all)
+      let same : x ≡ r = cc in
+      subst (λ (y : Record). P (key_of y)) same (All-head (λ (y : Record). P (key_of y)) x rs all)
   all_at (x ∷ rs) (suc place) r all is = all_at rs place r (All-tail (λ (y : Record). P (key_of y)) x rs all) is
 
   all_left : (os : List (Option Write)) (from : ℕ) → All (λ (w : Write). P (key_written w)) (somes os) →
@@ -236,13 +237,15 @@ module _ (P : RecordKey → Type 0) (p : Plan) where
   all_left os zero all = all
   all_left [] (suc from) all = all
   all_left (None ∷ os) (suc from) all = all_left os from all
-  all_left (Some w ∷ os) (suc from) all = all_left os from (All-tail (λ (y : Write). P (key_written y)) w (somes os) all)
+  all_left (Some w ∷ os) (suc from) all =
+      all_left os from (All-tail (λ (y : Write). P (key_written y)) w (somes os) all)
 
   all_first : (ws : List Write) (w : Write) → All (λ (x : Write). P (key_written x)) ws →
       slice_get ws zero ≡ Some w → P (key_written w)
   all_first [] w all is = absurd cc
   all_first (v ∷ ws) w all is =
-      let same : v ≡ w = cc in subst (λ (y : Write). P (key_written y)) same (All-head (λ (y : Write). P (key_written y)) v ws all)
+      let same : v ≡ w = cc in
+      subst (λ (y : Write). P (key_written y)) same (All-head (λ (y : Write). P (key_written y)) v ws all)
 
   module _ (trials : All (λ (x : Record). P (key_of x)) p.trials)
       (writes : All (λ (w : Write). P (key_written w)) (writes_of p)) where

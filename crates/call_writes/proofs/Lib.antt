@@ -2,6 +2,7 @@ pub mod BeginLemmas
 pub mod BegunLemmas
 pub mod CarriesLemmas
 pub mod CarryLemmas
+pub mod DecidedLemmas
 pub mod DueLemmas
 pub mod EndLemmas
 pub mod LawLemmas

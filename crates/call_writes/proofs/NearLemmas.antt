@@ -50,7 +50,8 @@ module _ (p : Plan) where
       never true is = true≢false (sym is)
       never false is = true≢false (sym is)
   same_behind due due' records d w false true small can next is pays =
-      sym (one_off (deeds_left p due) (deeds_left p due') (paid_for p records due due' d (next refl) small pays can).fewer)
+      sym (one_off (deeds_left p due) (deeds_left p due')
+      (paid_for p records due due' d (next refl) small pays can).fewer)
   same_behind due due' records d w false false small can next is pays = ap (λ (x : Due). deeds_left p x - 1) pays
 
 module _ (hash : RecordKey → ℕ) (seat : ℕ) (p : Plan) (did : Progress FileFault) (old new : CallWrites)

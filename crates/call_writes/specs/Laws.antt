@@ -1,9 +1,10 @@
 -- What is due and owed where a plan is begun, decided and over, and how many steps it has.
-use Rattle.std.specs.Prelude.{ℕ, ◌≡◌, ◌≤◌, ◌*◌, ◌+◌, [], length, None}
+use Rattle.std.specs.Prelude.{ℕ, ◌≡◌, ◌≤◌, ◌*◌, ◌+◌, [], take, Some, None}
 use Rattle.xsi_inquiry.specs.declared.write.TheConstants.{MAX_TRIALS, MAX_WRITES}
+use Rattle.xsi_inquiry.specs.Writing.{Leads, inserted}
 use Rattle.call_writes.specs.declared.writes.CallWrites.{CallWrites}
-use Rattle.call_writes.specs.Words.{RecordKey, IsSmall, Plan, Records, Store, overlaid, MOST_STEPS, Due, Trying, writes_of, Writes, Writing}
-use Rattle.call_writes.specs.Dues.{CanGoOn, owes, next_deed}
+use Rattle.call_writes.specs.Words.{RecordKey, IsSmall, Plan, Records, Store, overlaid, MOST_STEPS, Deed, Due, Trying, Full, writes_of, Writes, Writing, undoing}
+use Rattle.call_writes.specs.Dues.{CanGoOn, after_deed, owes, next_deed}
 use Rattle.call_writes.specs.Views.{IsOver, decided_at, writes_left_in}
 
 -- once nothing is left to do behind the decision, nothing is owed
@@ -22,3 +23,31 @@ OwesItsWrites = (p : Plan) (records : Records) (key : RecordKey) →
 abbrev pub HasFewSteps : Type 0
 HasFewSteps = (p : Plan) (due : Due) (records : Records) (s : Store) → IsSmall p → CanGoOn p due records →
     writes_left_in p (record { due = due; access = None }) s ≤ MAX_WRITES * MOST_STEPS
+
+-- ---- the decision
+
+-- what a plan leads to can be carried out, from its first trial on
+abbrev pub CanBegin : Type 0
+CanBegin = (p : Plan) (old new : Records) → Leads p old new → CanGoOn p (Trying 0) old
+
+-- where its trials stand, and behind the decision, over the records with them inserted; then it owes what leads to the
+-- records that it is to lead to
+abbrev pub CanGoOnDecided : Type 0
+CanGoOnDecided = (p : Plan) (place : ℕ) (old new : Records) → Leads p old new →
+    CanGoOn p (decided_at (Trying place)) (inserted p.trials old)
+    × ((key : RecordKey) → overlaid (owes p (decided_at (Trying place))) (inserted p.trials old) key ≡ new key)
+
+-- where a trial has no room the decision changes nothing: those that stand go again, the last first
+abbrev pub GoesBack : Type 0
+GoesBack = (p : Plan) (standing : ℕ) (records : Records) → CanGoOn p (Full standing) records →
+    CanGoOn p (decided_at (Full standing)) records
+    × (owes p (decided_at (Full standing)) ≡ Writes (undoing (take standing p.trials)))
+
+-- the trials come to stand one behind the other
+abbrev pub OneMoreStands : Type 0
+OneMoreStands = (p : Plan) (place : ℕ) (d : Deed) (old : Records) → next_deed p (Trying place) ≡ Some d →
+    after_deed d (inserted (take place p.trials) old) ≡ inserted (take (place + 1) p.trials) old
+
+-- and where none is left all of them do
+abbrev pub AllStand : Type 0
+AllStand = (p : Plan) (place : ℕ) → next_deed p (Trying place) ≡ None → take place p.trials ≡ p.trials

@@ -3,7 +3,7 @@
 ghost use Rattle.std.specs.Prelude.{◌≡◌, ◌*◌};
 ghost use Rattle.record_access.specs.Words.{MOST_STEPS};
 ghost use Rattle.xsi_inquiry.specs.declared.write.TheConstants.{MAX_WRITES};
-ghost use Rattle.call_writes.specs.Laws.{HasFewSteps, OwesItsWrites, OwesNothingAtEnd};
+ghost use Rattle.call_writes.specs.Laws.{AllStand, CanBegin, CanGoOnDecided, GoesBack, HasFewSteps, OneMoreStands, OwesItsWrites, OwesNothingAtEnd};
 
 /// A call that has inserted nothing owes nothing; behind its decision it owes its writes, and once
 /// nothing is left to do it owes nothing.
@@ -17,4 +17,19 @@ pub fn what_is_due_is_owed()
 pub fn a_plan_has_few_steps()
     ensures few { HasFewSteps }
     ensures most { MAX_WRITES * MOST_STEPS ≡ 977123 }
+{}
+
+/// What a plan leads to can be carried out from its first trial on. Behind the decision, over the
+/// records with all trials inserted, its writes can be made and lead to those records; where a
+/// trial has no room, those that stand are owed back, and can go again.
+pub fn what_is_decided_is_owed()
+    ensures begins { CanBegin }
+    ensures decided { CanGoOnDecided }
+    ensures full { GoesBack }
+{}
+
+/// The trials come to stand one behind the other, and where none is left all of them stand.
+pub fn trials_stand_in_order()
+    ensures next { OneMoreStands }
+    ensures last { AllStand }
 {}
