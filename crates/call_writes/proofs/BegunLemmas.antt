@@ -1,5 +1,5 @@
 -- The access that makes the step, over the records that stand.
-use Rattle.std.proofs.Common.{◌≡◌, refl, sym, ap, ◌∙◌, subst, ℕ, Bool, true, false, List, Option, Some, None, IsSome}
+use Rattle.std.proofs.Common.{◌≡◌, refl, sym, ap, ◌∙◌, subst, ℕ, List, Option, Some, IsSome}
 use Rattle.std.proofs.lemmas.Bool.{true≢false}
 use Rattle.record_access.specs.Purposes.{CanBegin}
 use Rattle.call_writes.proofs.BeginLemmas.{begun_facts, begun_key, begun_keyed, begun_unwritten}

@@ -14,12 +14,12 @@ use Rattle.call_writes.proofs.SortLemmas.{Anew, EndsAs, Fails, Fills, Goes, Idle
 use Rattle.call_writes.proofs.StepLemmas.{full_unwritten, unpaid}
 use Rattle.call_writes.specs.declared.deed.Deed.TheVariants as deeds
 use Rattle.call_writes.specs.declared.writes.CallWrites.{CallWrites}
-use Rattle.call_writes.specs.Words.{RecordKey, Record, key_of, value_of, Plan, Records, overlaid, Due, Trying, Full, Undoing, Writing, Deed, PoolState, Table, Lock, Change, Store, row_of, store_of, pair, IsSeat, Progress, Ended, is_fault, is_write, HasNoRoom, Step, world, AccessView, access_facts, access_key, access_locks, access_turn, has_no_room}
+use Rattle.call_writes.specs.Words.{RecordKey, Record, value_of, Plan, Records, overlaid, Due, Trying, Full, Undoing, Writing, Deed, PoolState, Table, Lock, Change, Store, store_of, pair, IsSeat, Progress, Ended, is_fault, is_write, HasNoRoom, Step, world, AccessView, access_key, access_locks, access_turn, has_no_room}
 use Rattle.call_writes.specs.Carrying.{IsCarrying, IsDoing, IsUnderWay}
 use Rattle.call_writes.specs.CarrySteps.{AsTheyWere, Carries, Leaves, TrialLacksRoom}
 use Rattle.call_writes.specs.Dues.{CanGoOn, IsBehind, next_deed, owes}
 use Rattle.call_writes.specs.MakeSteps.{PaysDue}
-use Rattle.call_writes.specs.Views.{IsOver, is_full, is_full_at, set_out, turn_under, writes_facts, writes_locks, writes_turn}
+use Rattle.call_writes.specs.Views.{is_full, is_full_at, set_out, turn_under, writes_facts, writes_locks, writes_turn}
 
 -- ---- deeds and dues
 

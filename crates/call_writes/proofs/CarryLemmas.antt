@@ -3,7 +3,6 @@ use Rattle.std.proofs.Common.{◌≡◌, refl, sym, ap, ◌∙◌, subst, ℕ, B
 use Rattle.std.specs.Prelude.{unwrap_or}
 use Rattle.std.specs.Option.{option_map}
 use Rattle.std.proofs.lemmas.Bool.{true≢false}
-use Rattle.file_pages.specs.declared.fault.FileFault.{FileFault}
 use Rattle.page_locks.proofs.TableLemmas.{row_of-same}
 use Rattle.queue_records.specs.declared.links.Link.{Link}
 use Rattle.queue_records.specs.declared.links.Link.TheVariants.{Stays, Ends, LeadsTo}
@@ -11,19 +10,12 @@ use Rattle.queue_records.specs.declared.links.Links.{Links}
 use Rattle.queue_records.specs.declared.links.Links.TheVariants as kinds
 use Rattle.queue_records.specs.declared.record.Record.TheVariants as entries
 use Rattle.queue_records.specs.Relinking.{HasSuch, linked, relinked}
-use Rattle.record_access.proofs.AimLemmas.{wrote_not, wrote_of}
-use Rattle.record_access.specs.AccessSteps.{Faces, TellsOf}
-use Rattle.record_access.specs.Purposes.{left_by}
-use Rattle.record_access.specs.Words.{contents}
-use Rattle.record_operation.proofs.CallerLemmas.{keeps_told, operation_aside, tells_written}
-use Rattle.record_operation.specs.Callers.{Stepped}
-use Rattle.record_operation.specs.Operations.{OwnsWritten, operation_key}
 use Rattle.record_operation.specs.declared.operation.RecordOperation.{RecordOperation}
 use Rattle.record_operation.specs.declared.operation.RecordOperation.TheVariants as operations
-use Rattle.step_rules.specs.Known.{IsKnown, Told}
 use Rattle.xsi_inquiry.proofs.LeadLemmas.{same_keys}
+use Rattle.call_writes.proofs.Names.{Faces, FileFault, IsKnown, OwnsWritten, Stepped, TellsOf, Told, contents, keeps_told, left_by, operation_aside, operation_key, tells_written, wrote_not, wrote_of}
 use Rattle.call_writes.specs.declared.deed.Deed.TheVariants as deeds
-use Rattle.call_writes.specs.Words.{RecordKey, is_same, Record, guard_of, Write, Replace, Relink, Delete, IsSmall, Plan, Records, with_at, overlaid, kind_of, Owns, PoolState, Table, Lock, Change, row_of, store_of, pair, IsSeat, HasNoRoom, Progress, is_fault, HasNoFileLock, IsKeyed, Sees, Step, world, Purpose, StandsAt, made, is_write, has_no_room, AccessView, Allows, access_facts, access_key, access_locks, access_turn, MakesAccess, Deed, Due}
+use Rattle.call_writes.specs.Words.{RecordKey, is_same, Record, guard_of, Write, Replace, Relink, Delete, IsSmall, Plan, Records, with_at, overlaid, kind_of, Owns, PoolState, Table, Lock, Change, row_of, store_of, pair, IsSeat, HasNoRoom, Progress, is_fault, HasNoFileLock, Sees, Step, world, StandsAt, made, is_write, has_no_room, AccessView, Allows, access_facts, access_key, access_locks, access_turn, MakesAccess, Deed, Due}
 use Rattle.call_writes.specs.Dues.{CanGoOn, IsBehind, after_deed, deed_key, next_deed, owes, purpose_of}
 use Rattle.call_writes.specs.Carrying.{IsDoing}
 use Rattle.call_writes.specs.CarrySteps.{AsMade, AsTheyWere, Leaves}

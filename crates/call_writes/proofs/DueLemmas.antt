@@ -1,5 +1,5 @@
 -- What is owed, and can be carried out, behind a deed.
-use Rattle.std.proofs.Common.{◌≡◌, refl, sym, ap, ◌∙◌, subst, ℕ, zero, suc, ◌+◌, ◌-◌, ◌<◌, Bool, true, false, List, [], ◌∷◌, ◌++◌, length, take, drop, Option, Some, None, IsSome, arith, eq-eqb}
+use Rattle.std.proofs.Common.{◌≡◌, refl, sym, ap, ◌∙◌, subst, ℕ, zero, suc, ◌+◌, ◌-◌, Bool, true, false, List, [], ◌∷◌, ◌++◌, length, take, drop, Option, Some, None, IsSome, arith, eq-eqb}
 use Rattle.std.specs.Prelude.{nat_lt, slice_get, option_map, if◌then◌else◌}
 use Rattle.std.specs.List.{All}
 use Rattle.std.proofs.lemmas.Bool.Decides.{nat_tests}
@@ -10,9 +10,8 @@ use Rattle.xsi_inquiry.proofs.LeadLemmas.{same_keys}
 use Rattle.xsi_inquiry.specs.Writing.{somes}
 use Rattle.xsi_inquiry.specs.declared.write.TheConstants.{MAX_TRIALS}
 use Rattle.call_writes.specs.declared.deed.Deed.TheVariants as deeds
-use Rattle.call_writes.specs.Words.{RecordKey, is_same, Record, IsInRange, key_of, Write, Delete, writes_left, AreAbsent, CanAllBe, CanBe, HasRange, IsSmall, Plan, Records, with_at, writes_of, written_by, key_written, overlaid, Writes, undoing, Lock, Owns, Deed, Due, Trying, Full, Undoing, Writing}
-use Rattle.call_writes.specs.Dues.{CanGoOn, CanTry, IsBehind, after_deed, deed_key, deeds_left, due_writes, next_deed, owes, undone}
-use Rattle.call_writes.specs.Carrying.{OwnsPlan}
+use Rattle.call_writes.specs.Words.{RecordKey, is_same, Record, IsInRange, key_of, Write, Delete, writes_left, AreAbsent, CanAllBe, HasRange, IsSmall, Plan, Records, with_at, writes_of, written_by, key_written, overlaid, Writes, undoing, Deed, Due, Trying, Full, Undoing, Writing}
+use Rattle.call_writes.specs.Dues.{CanGoOn, CanTry, IsBehind, after_deed, deed_key, deeds_left, next_deed, owes, undone}
 
 -- ---- records at keys
 

@@ -1,30 +1,24 @@
 -- An access that has ended holds no lock of its own.
-use Rattle.std.proofs.Common.{◌≡◌, refl, ap, ℕ, true, false, if◌then◌else◌, List, IsSome}
+use Rattle.std.proofs.Common.{◌≡◌, refl, ap, true, false, List, IsSome}
 use Rattle.bucket_merge.specs.Places.{MergeView, is_done, merge_locks}
 use Rattle.bucket_merge.specs.Places as merges
-use Rattle.bucket_merge.specs.declared.place.MergePlace.{MergePlace}
 use Rattle.bucket_merge.specs.declared.place.MergePlace.TheVariants as merging
 use Rattle.bucket_merge.specs.declared.place.MergePlace.TheVariants.{Done}
-use Rattle.record_file.specs.Words.{SearchView}
 use Rattle.record_file.specs.Deletes.{IsOver as IsDeleteOver, part}
 use Rattle.record_file.specs.FirstTries as first
 use Rattle.record_file.specs.Removals.{locks_in as removal_locks_in}
 use Rattle.record_file.specs.Replaces.{locks_in as replace_locks_in}
-use Rattle.record_file.specs.declared.first_try.FirstTryStage.{FirstTryStage}
 use Rattle.record_file.specs.declared.first_try.FirstTryStage.TheVariants as tries
-use Rattle.record_file.specs.declared.removal.RemovalStage.{RemovalStage}
 use Rattle.record_file.specs.declared.removal.RemovalStage.TheVariants as removals
-use Rattle.record_file.specs.declared.replace.ReplaceStage.TheVariants as replaces
 use Rattle.record_insert.specs.Inserts.{IsOver as IsInsertOver, is_ended, locks_in as insert_locks_in}
 use Rattle.record_insert.specs.SecondTries.{tried_at}
 use Rattle.record_insert.specs.SecondTries as second
-use Rattle.record_insert.specs.declared.insert.InsertStage.{InsertStage}
 use Rattle.record_insert.specs.declared.insert.InsertStage.TheVariants.{First, Second}
-use Rattle.record_insert.specs.declared.second_place.SecondPlace.{SecondPlace}
 use Rattle.record_insert.specs.declared.second_place.SecondPlace.TheVariants as places
 use Rattle.record_operation.specs.Operations.{HasEnded, operation_locks}
 use Rattle.record_operation.specs.declared.operation.RecordOperation.{RecordOperation}
 use Rattle.record_operation.specs.declared.operation.RecordOperation.TheVariants as operations
+use Rattle.call_writes.proofs.Names.{FirstTryStage, InsertStage, MergePlace, RemovalStage, SearchView, SecondPlace}
 use Rattle.call_writes.specs.Words.{Lock}
 
 first_ended : (stage : FirstTryStage) (v : SearchView) (before : List Lock) → is_ended stage ≡ true →

@@ -1,7 +1,6 @@
 -- What is owed at the end, and how many deeds there are.
-use Rattle.std.proofs.Common.{◌≡◌, refl, sym, ap, ◌∙◌, subst, ℕ, zero, suc, ◌+◌, ◌*◌, ◌<◌, ◌≤◌, List, [], ◌∷◌, length, take, drop, Option, Some, None, arith}
+use Rattle.std.proofs.Common.{◌≡◌, refl, ap, ℕ, zero, suc, ◌*◌, ◌<◌, ◌≤◌, List, [], ◌∷◌, length, drop, Option, Some, None, arith}
 use Rattle.std.specs.Prelude.{slice_get, option_map}
-use Rattle.std.proofs.lemmas.Option.{slice_get_past}
 use Rattle.xsi_inquiry.specs.Writing.{somes}
 use Rattle.xsi_inquiry.specs.declared.write.TheConstants.{MAX_WRITES}
 use Rattle.call_writes.specs.declared.deed.Deed.TheVariants as deeds

@@ -1,23 +1,21 @@
 -- A move leaves fewer steps of the plan.
-use Rattle.std.proofs.Common.{◌≡◌, refl, sym, ap, ◌∙◌, subst, ℕ, zero, suc, ◌+◌, ◌-◌, ◌*◌, ◌<◌, ◌≤◌, Bool, true, false, not, ◌&&◌, List, Option, Some, None, if◌then◌else◌, arith}
+use Rattle.std.proofs.Common.{◌≡◌, refl, sym, ap, ◌∙◌, subst, ℕ, suc, ◌+◌, ◌-◌, ◌*◌, ◌<◌, ◌≤◌, Bool, true, false, not, ◌&&◌, List, Option, Some, if◌then◌else◌, arith}
 use Rattle.std.proofs.lemmas.Bool.{true≢false}
-use Rattle.file_pages.specs.declared.fault.FileFault.TheVariants.{Failed}
 use Rattle.record_access.specs.Words.{Blocked}
 use Rattle.record_operation.proofs.LengthLemmas.{has_few_steps}
-use Rattle.call_writes.proofs.BeginLemmas.{begun_facts, begun_unwritten}
+use Rattle.call_writes.proofs.BeginLemmas.{begun_unwritten}
 use Rattle.call_writes.proofs.BegunLemmas.{doing_start, owned_start, row_start, sees_start}
 use Rattle.call_writes.proofs.CarryLemmas.{faces}
 use Rattle.call_writes.proofs.DueLemmas.{paid_for}
 use Rattle.call_writes.proofs.Names.{FileFault}
 use Rattle.call_writes.proofs.NextLemmas.{is_next}
 use Rattle.call_writes.proofs.SortLemmas.{Anew, EndsAs, Fails, Fills, Goes, Idles, IsIdle, IsSorted, LetsGo, Over, Refused, StartsAs, Stepping, Steps, Stuck, Under}
-use Rattle.call_writes.proofs.StepLemmas.{unpaid}
 use Rattle.call_writes.specs.declared.writes.CallWrites.{CallWrites}
-use Rattle.call_writes.specs.Words.{RecordKey, Plan, Records, Due, Deed, PoolState, Table, Lock, Change, Store, store_of, IsSeat, Progress, Moved, Ended, Fault, is_fault, is_write, NearsOrSpares, HasEnded, IsSmall, AccessView, access_left, MOST_STEPS, Full}
+use Rattle.call_writes.specs.Words.{RecordKey, Plan, Records, Due, Deed, PoolState, Table, Lock, Change, Store, store_of, IsSeat, Progress, Moved, Ended, Fault, is_write, NearsOrSpares, IsSmall, AccessView, access_left, MOST_STEPS}
 use Rattle.call_writes.specs.Carrying.{IsCarrying, IsDoing}
-use Rattle.call_writes.specs.Dues.{CanGoOn, IsBehind, deeds_left, next_deed}
+use Rattle.call_writes.specs.Dues.{CanGoOn, deeds_left, next_deed}
 use Rattle.call_writes.specs.MakeSteps.{PaysDue}
-use Rattle.call_writes.specs.Views.{IsStuck, begun_deed, deeds_behind, left_under, writes_left_in}
+use Rattle.call_writes.specs.Views.{IsStuck, deeds_behind, left_under, writes_left_in}
 
 -- fewer of one are fewer of the other
 nears_so : (did : Progress FileFault) (l l' m m' : ℕ) (pool pool' : PoolState) → NearsOrSpares did l l' pool pool' →

@@ -1,12 +1,12 @@
 -- The deed that comes next can be begun, and one more is left.
-use Rattle.std.proofs.Common.{◌≡◌, refl, sym, ap, ◌∙◌, subst, ℕ, zero, suc, List, [], ◌∷◌, length, take, drop, Option, Some, None}
+use Rattle.std.proofs.Common.{◌≡◌, refl, ap, subst, ℕ, zero, suc, List, length, drop, Option, Some, None}
 use Rattle.std.specs.Prelude.{slice_get, option_map}
 use Rattle.std.specs.List.{All}
 use Rattle.std.proofs.lemmas.List.Elements.{All-head}
 use Rattle.record_access.specs.Purposes.{CanBegin}
 use Rattle.call_writes.proofs.DueLemmas.{absent_first, drop_next, first_of}
 use Rattle.call_writes.specs.declared.deed.Deed.TheVariants as deeds
-use Rattle.call_writes.specs.Words.{Record, IsInRange, key_of, Write, Replace, Relink, Delete, writes_left, CanAllBe, CanBe, HasRange, Plan, Records, key_written, undoing, Deed, Due, Trying, Full, Undoing, Writing}
+use Rattle.call_writes.specs.Words.{Record, IsInRange, Write, Replace, Relink, Delete, writes_left, CanAllBe, CanBe, HasRange, Plan, Records, key_written, Deed, Due, Trying, Full, Undoing, Writing}
 use Rattle.call_writes.specs.Dues.{CanGoOn, IsDeedInRange, deed_key, deeds_left, next_deed, purpose_of, undone}
 use Rattle.call_writes.proofs.DueLemmas.{undoing_next}
 

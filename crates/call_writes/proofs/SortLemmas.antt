@@ -1,5 +1,5 @@
 -- A step by its parts, told at once: nothing is done, or an access makes its step.
-use Rattle.std.proofs.Common.{◌≡◌, refl, sym, ap, ◌∙◌, subst, ℕ, Bool, true, false, not, ◌&&◌, Option, Some, None, Ok}
+use Rattle.std.proofs.Common.{◌≡◌, sym, ap, ◌∙◌, subst, ℕ, true, false, not, ◌&&◌, Option, Some, None}
 use Rattle.file_pages.specs.declared.fault.FileFault.TheVariants.{Failed}
 use Rattle.call_writes.proofs.Names.{FileFault}
 use Rattle.std.proofs.lemmas.Bool.{true≢false}
@@ -9,7 +9,7 @@ use Rattle.call_writes.specs.Words.{RecordKey, Plan, PoolState, Table, Progress,
 use Rattle.call_writes.specs.Dues.{next_deed, purpose_of}
 use Rattle.call_writes.specs.Views.{IsOver, begun_deed}
 use Rattle.call_writes.specs.MakeSteps as parts
-use Rattle.call_writes.specs.MakeSteps.{IsHeldUp, IsRefused, IsSetOut, MakesDeed, PaysDue, Settles, StepsOn, TakesStep}
+use Rattle.call_writes.specs.MakeSteps.{IsRefused, IsSetOut, MakesDeed, PaysDue, Settles, TakesStep}
 
 -- the access that makes the step was under way, or has just begun
 pub data StartsAs (hash : RecordKey → ℕ) (p : Plan) (old : CallWrites) (a : AccessView) : Type 0 where

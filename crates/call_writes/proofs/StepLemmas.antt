@@ -1,19 +1,18 @@
 -- What a step does whatever the device gives.
-use Rattle.std.proofs.Common.{◌≡◌, ◌↔◌, refl, sym, ap, ◌∙◌, subst, ℕ, Bool, true, false, not, ◌&&◌, List, Option, Some, None, if◌then◌else◌, IsTrue, arith}
+use Rattle.std.proofs.Common.{◌≡◌, refl, sym, ap, ◌∙◌, subst, ℕ, Bool, true, false, not, ◌&&◌, List, Option, if◌then◌else◌, arith}
 use Rattle.std.proofs.lemmas.Bool.{true≢false}
 use Rattle.file_pages.specs.declared.fault.FileFault.TheVariants.{Failed}
 use Rattle.page_locks.proofs.ChangeLemmas.{with_row-own}
 use Rattle.page_locks.specs.Table.{with_row}
 use Rattle.record_access.proofs.AimLemmas.{wrote_of}
 use Rattle.call_writes.proofs.Names.{FileFault}
-use Rattle.call_writes.proofs.BeginLemmas.{begun_locks, begun_unwritten}
+use Rattle.call_writes.proofs.BeginLemmas.{begun_locks}
 use Rattle.call_writes.proofs.EndLemmas.{ended_locks}
-use Rattle.call_writes.proofs.SortLemmas.{Anew, EndsAs, Fails, Fills, Goes, Idles, IsIdle, IsSorted, LetsGo, Over, Refused, StartsAs, Stepping, Steps, Stuck, Under}
+use Rattle.call_writes.proofs.SortLemmas.{Anew, EndsAs, Fails, Fills, Goes, Idles, IsIdle, IsSorted, LetsGo, Over, Refused, StartsAs, Steps, Stuck, Under}
 use Rattle.call_writes.specs.declared.writes.CallWrites.{CallWrites}
-use Rattle.call_writes.specs.Words.{RecordKey, Plan, PoolState, Table, Lock, IsReady, OnlyWrites, FollowsRow, row_of, HasNoFileLock, Progress, Moved, Ended, Fault, WriteRecord, is_fault, is_write, HasEnded, AccessView, access_locks, Due, Trying, Full}
+use Rattle.call_writes.specs.Words.{RecordKey, Plan, PoolState, Table, Lock, IsReady, OnlyWrites, FollowsRow, Progress, Moved, Ended, Fault, WriteRecord, is_fault, is_write, AccessView, access_locks, Due}
 use Rattle.call_writes.specs.CarrySteps.{Advances, FindsNoRoom, IsPaid, KeepsPlan, Stays}
-use Rattle.call_writes.specs.Views.{IsOver, begun_deed, locks_under, writes_locks}
-use Rattle.call_writes.specs.Dues.{IsBehind, next_deed}
+use Rattle.call_writes.specs.Views.{IsOver, locks_under, writes_locks}
 use Rattle.call_writes.specs.MakeSteps.{PaysDue}
 
 module _ (hash : RecordKey → ℕ) (seat : ℕ) (p : Plan) (did : Progress FileFault) (old new : CallWrites)

@@ -1,12 +1,10 @@
 -- What a step of a call that writes does. docs/STEPS.md, "Calls".
-use Rattle.std.specs.Prelude.{ℕ, ◌≡◌, ◌↔◌, ◌⊎◌, Bool, true, false, not, List, Option, Some, None, IsSome, ⊤}
-use Rattle.file_pages.specs.declared.fault.FileFault.{FileFault}
-use Rattle.file_pages.specs.declared.fault.FileFault.TheVariants.{Failed}
+use Rattle.std.specs.Prelude.{ℕ, ◌≡◌, ◌↔◌, true, false, List, Some}
 use Rattle.call_writes.specs.declared.writes.CallWrites.{CallWrites}
 use Rattle.call_writes.specs.declared.deed.Deed.TheVariants as deeds
-use Rattle.call_writes.specs.Words.{RecordKey, Record, key_of, value_of, Plan, Records, overlaid, PoolState, Table, Lock, Change, store_of, pair, OnlyWrites, FollowsRow, NearsOrSpares, Progress, Moved, Ended, WriteRecord, is_fault, HasNoRoom, Step, World, world, HasEnded, is_write, Serves, AccessView, KeepsAccess, access_facts, Deed, Due, Trying, Full}
-use Rattle.call_writes.specs.Dues.{IsBehind, IsDeedInRange, after_deed, next_deed, owes, purpose_of}
-use Rattle.call_writes.specs.Views.{IsOver, IsStuck, access_next, begun_deed, is_full, writes_facts, writes_left_in, writes_locks, writes_turn}
+use Rattle.call_writes.specs.Words.{RecordKey, Record, key_of, value_of, Plan, Records, overlaid, PoolState, Table, Lock, Change, store_of, pair, Progress, Moved, Ended, WriteRecord, HasNoRoom, Step, World, world, is_write, Deed, Due, Trying, Full}
+use Rattle.call_writes.specs.Dues.{IsBehind, after_deed, next_deed, owes}
+use Rattle.call_writes.specs.Views.{IsOver, is_full, writes_facts, writes_turn}
 use Rattle.call_writes.specs.Carrying.{IsCarrying}
 
 -- ---- whatever the device gives

@@ -1,5 +1,5 @@
 -- What of a plan is due: the deed that comes next, and what is owed. docs/STEPS.md, "What a call writes".
-use Rattle.std.specs.Prelude.{ℕ, zero, suc, ◌≡◌, ◌≤◌, ◌+◌, ◌-◌, nat_lt, List, [], ◌∷◌, length, take, drop, slice_get, Option, Some, None, option_map, if◌then◌else◌, ⊤}
+use Rattle.std.specs.Prelude.{ℕ, zero, suc, ◌≡◌, ◌≤◌, ◌+◌, ◌-◌, nat_lt, List, length, take, drop, slice_get, Option, Some, None, option_map, if◌then◌else◌, ⊤}
 use Rattle.std.specs.List.{All}
 use Rattle.call_writes.specs.declared.deed.Deed.TheVariants as deeds
 use Rattle.xsi_inquiry.specs.declared.write.TheConstants.{MAX_TRIALS}

@@ -1,11 +1,10 @@
 -- What is due and owed where a plan is begun, decided and over, and how many steps it has.
-use Rattle.std.specs.Prelude.{ℕ, ◌≡◌, ◌≤◌, ◌*◌, ◌+◌, [], take, Some, None}
-use Rattle.xsi_inquiry.specs.declared.write.TheConstants.{MAX_TRIALS, MAX_WRITES}
+use Rattle.std.specs.Prelude.{ℕ, ◌≡◌, ◌≤◌, ◌*◌, ◌+◌, take, Some, None}
+use Rattle.xsi_inquiry.specs.declared.write.TheConstants.{MAX_WRITES}
 use Rattle.xsi_inquiry.specs.Writing.{Leads, inserted}
-use Rattle.call_writes.specs.declared.writes.CallWrites.{CallWrites}
 use Rattle.call_writes.specs.Words.{RecordKey, IsSmall, Plan, Records, Store, overlaid, MOST_STEPS, Deed, Due, Trying, Full, writes_of, Writes, Writing, undoing}
 use Rattle.call_writes.specs.Dues.{CanGoOn, after_deed, owes, next_deed}
-use Rattle.call_writes.specs.Views.{IsOver, decided_at, writes_left_in}
+use Rattle.call_writes.specs.Views.{decided_at, writes_left_in}
 
 -- once nothing is left to do behind the decision, nothing is owed
 abbrev pub OwesNothingAtEnd : Type 0
