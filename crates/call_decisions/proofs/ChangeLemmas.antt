@@ -3,31 +3,14 @@ use Rattle.std.proofs.Common.{◌≡◌, ◌⊎◌, inl, inr, ℕ, ◌+◌, Bool
 use Rattle.std.specs.Prelude.{◌==◌, ◌||◌, ◌&&◌, nat_lt, IsSome, if◌then◌else◌}
 use Rattle.std.specs.List.{Contains}
 use Rattle.std.proofs.lemmas.Bool.Decides.{nat_tests}
-use Rattle.any_inquiry.specs.declared.any_inquiry.AnyInquiry.{AnyInquiry}
+use Rattle.call_decisions.proofs.Names.{AnyInquiry, Counter, END_OF_IDS, Effect-outcome, Errno, GetArguments, Getting, IsFiled, IsOfKind, KnowsAt, KnowsOf, KnowsOfGet, MAX_QUEUES, Outcome, Roomful, Stage, asked, asked_of, caller_of, counter_of, create, get_locked, get_wanted, if_of, key_names, key_wanted, locked_at, locked_of, made_names, making_names, new_queue, of_receive, of_send, of_set, one_more, queue_of, refuse, sought_next}
 use Rattle.any_inquiry.specs.declared.any_inquiry.AnyInquiry.TheVariants as any
-use Rattle.any_inquiry.specs.Anything.{IsOfKind, KnowsOf, asked_of, caller_of, if_of, locked_of, of_receive, of_send, of_set}
-use Rattle.any_inquiry.specs.Words.{KnowsOfGet, Roomful, get_locked, get_wanted}
-use Rattle.limits.specs.declared.TheConstants.{END_OF_IDS, MAX_QUEUES}
 use Rattle.page_locks.specs.declared.lock.LockName.TheVariants as names
 use Rattle.queue_model.specs.declared.answer.Answer.TheVariants.{Id}
-use Rattle.queue_model.specs.declared.call.GetArguments.{GetArguments}
 use Rattle.queue_model.specs.declared.call.Call.TheVariants.{Get, Send, Receive, Stat, Set, Remove}
-use Rattle.queue_model.specs.declared.errno.Errno.{Errno}
 use Rattle.queue_model.specs.declared.errno.Errno.TheVariants.{EEXIST, ENOENT, ENOSPC}
-use Rattle.queue_model.specs.Rules.{Outcome, create, new_queue, refuse}
-use Rattle.queue_model.proofs.EffectLemmas.{Effect-outcome}
-use Rattle.queue_records.specs.declared.counter.Counter.{Counter}
-use Rattle.type_chains.specs.Entries.{counter_of}
-use Rattle.type_chains.specs.Others.{queue_of}
-use Rattle.xsi_control.specs.declared.get_inquiry.Getting.{Getting}
 use Rattle.xsi_control.specs.declared.get_inquiry.Getting.TheVariants.{AtKey, Found, Absent, AtCounter, Counted}
-use Rattle.xsi_control.specs.Getting.{key_names, key_wanted, made_names, making_names, one_more}
-use Rattle.xsi_inquiry.specs.Telling.{IsFiled}
-use Rattle.xsi_inquiry.specs.Seeking.{sought_next}
-use Rattle.xsi_sweep.specs.declared.stage.Stage.{Stage}
 use Rattle.xsi_sweep.specs.declared.stage.Stage.TheVariants.{Seeking, Refused, Keyed, Counting, Removing}
-use Rattle.xsi_sweep.specs.Asking.{asked, locked_at}
-use Rattle.xsi_sweep.specs.Knowing.{KnowsAt}
 use Rattle.call_decisions.specs.Words.{Answer, Call, Caller, LockName, State, outcome}
 use Rattle.call_decisions.proofs.HoldLemmas.{has_queue}
 

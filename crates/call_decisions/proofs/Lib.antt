@@ -3,3 +3,4 @@ pub mod ChangeLemmas
 pub mod HoldLemmas
 pub mod OtherLemmas
 pub mod SettleLemmas
+pub mod Names

@@ -2,19 +2,10 @@
 use Rattle.std.proofs.Common.{◌≡◌, inl, inr, ℕ, List, Option, Some, None, refl, sym, ap, ◌∙◌, subst}
 use Rattle.std.specs.Prelude.{option_map}
 use Rattle.std.specs.List.{Contains, find}
-use Rattle.any_inquiry.specs.declared.any_inquiry.AnyInquiry.{AnyInquiry}
-use Rattle.any_inquiry.specs.Anything.{caller_of, locked_of}
+use Rattle.call_decisions.proofs.Names.{AgreeOnCall, AgreeOnCounter, AgreeOnId, AgreeOnKey, AnyInquiry, IsFiled, agrees_by_others, caller_of, counter_key, has_key, key_entry, key_of_key, locked_of, queue_of}
 use Rattle.page_locks.specs.declared.lock.LockName.TheVariants as names
 use Rattle.queue_model.specs.declared.call.Call.TheVariants.{Get, Send, Receive, Stat, Set, Remove}
-use Rattle.queue_model.specs.Rules.{has_key}
 use Rattle.queue_records.specs.declared.record.Record.TheVariants as records
-use Rattle.queue_records.specs.Keys.{key_of_key}
-use Rattle.queue_records.specs.Spelling.{counter_key}
-use Rattle.type_chains.specs.Entries.{key_entry}
-use Rattle.type_chains.specs.Others.{queue_of}
-use Rattle.xsi_inquiry.specs.Agreeing.{AgreeOnCall, AgreeOnCounter, AgreeOnId, AgreeOnKey}
-use Rattle.xsi_inquiry.specs.Telling.{IsFiled}
-use Rattle.xsi_inquiry.proofs.OthersLemmas.{agrees_by_others}
 use Rattle.call_decisions.specs.Words.{Call, LockName, Queue, Record, RecordKey, State, guard_of, record_of}
 use Rattle.call_decisions.specs.Others.{DecidesApart, HoldsKey, HoldsOwn, LeavesOthers}
 use Rattle.call_decisions.proofs.ChangeLemmas.{changes_under}

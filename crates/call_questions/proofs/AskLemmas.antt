@@ -3,15 +3,11 @@ use Rattle.std.proofs.Common.{ℕ, ◌≡◌, ◌≢◌, ◌<◌, ◌+◌, Bool,
 use Rattle.std.specs.List.{Contains, find}
 use Rattle.std.specs.Prelude.{nat_lt, slice_get}
 use Rattle.std.specs.Option.{is_some}
-use Rattle.limits.specs.declared.TheConstants.{MAX_QBYTES}
+use Rattle.call_questions.proofs.Names.{COUNTER, GetArguments, GetInquiry, Getting, IsOfKind, KEY, Lock, LockKind, MAX_QBYTES, MESSAGE, QUEUE, ReceiveArguments, ReceiveInquiry, RemoveInquiry, SendArguments, SendInquiry, SetArguments, SetInquiry, Sought, StatInquiry, TYPE, Tells, ask_under_names, by_phase, exclusively, get_locked, get_wanted, has_id, if_of, key_of_key, key_of_message, key_of_queue, key_of_type, key_wanted, of_get, of_receive, of_remove, of_send, of_set, of_stat, queue_for, set_wanted, sought_next}
 use Rattle.page_locks.specs.declared.lock.LockName.TheVariants as names
-use Rattle.page_locks.specs.declared.lock.LockKind.{LockKind}
 use Rattle.page_locks.specs.declared.lock.LockKind.TheVariants.{Read, Exclusive}
-use Rattle.queue_model.specs.Rules.{has_id}
 use Rattle.queue_model.specs.declared.call.Call.TheVariants as calls
-use Rattle.queue_records.specs.declared.layout.TheConstants.{COUNTER, KEY, QUEUE, TYPE, MESSAGE}
 use Rattle.xsi_control.specs.declared.get_inquiry.Getting.TheVariants as gets
-use Rattle.xsi_inquiry.specs.Seeking.{Tells}
 use Rattle.xsi_inquiry.specs.declared.sought.Sought.TheVariants as soughts
 use Rattle.xsi_receive.specs.Asking as receives
 use Rattle.xsi_receive.specs.Knowing as receive_knowing
@@ -24,14 +20,6 @@ use Rattle.xsi_sweep.specs.Asking as removes
 use Rattle.xsi_sweep.specs.Knowing as remove_knowing
 use Rattle.xsi_sweep.specs.declared.stage.Stage as remove_stages
 use Rattle.xsi_sweep.specs.declared.stage.Stage.TheVariants as remove
-use Rattle.any_inquiry.specs.Anything.{IsOfKind}
-use Rattle.call_names.specs.Names.{by_phase, exclusively, queue_for}
-use Rattle.call_names.proofs.AskLemmas.{ask_under_names}
-use Rattle.call_names.proofs.Words.{GetInquiry, Getting, Lock, ReceiveInquiry, RemoveInquiry, SendInquiry, SetInquiry, Sought, StatInquiry, get_locked, get_wanted, if_of, key_of_key, key_of_message, key_of_queue, key_of_type, key_wanted, of_get, of_receive, of_remove, of_send, of_set, of_stat, set_wanted, sought_next}
-use Rattle.queue_model.specs.declared.call.GetArguments.{GetArguments}
-use Rattle.queue_model.specs.declared.call.SendArguments.{SendArguments}
-use Rattle.queue_model.specs.declared.call.ReceiveArguments.{ReceiveArguments}
-use Rattle.queue_model.specs.declared.call.SetArguments.{SetArguments}
 use Rattle.call_questions.specs.Words.{RecordKey, AnyInquiry, KnowsOf, asked_of, left_of, Call, Caller, State, Roomful, Wanted, At, Given, guard_of, names_in, names_for}
 use Rattle.call_questions.specs.Answering.{IsAskedUnder}
 use Rattle.call_questions.specs.Laws.{AskUnderNames}

@@ -4,13 +4,8 @@ use Rattle.std.proofs.lemmas.Bool.{true≢false}
 use Rattle.std.proofs.lemmas.List.{take-append-drop}
 use Rattle.std.specs.Option.{is_some}
 use Rattle.std.specs.Prelude.{nat_lt, slice_get}
-use Rattle.limits.specs.declared.TheConstants.{MAX_QBYTES}
+use Rattle.call_questions.proofs.Names.{COUNTER, GetArguments, GetInquiry, Getting, KEY, KeepsNames, MAX_QBYTES, MESSAGE, Plan, QUEUE, ReceiveInquiry, RemoveInquiry, SendArguments, SendInquiry, SetArguments, SetInquiry, Sought, StatInquiry, TYPE, get_left, get_wanted, if_of, key_of_key, key_of_message, key_of_queue, key_of_type, key_wanted, names_grow, nothing, of_get, of_receive, of_remove, of_send, of_set, of_stat, set_wanted, sought_next}
 use Rattle.queue_model.specs.declared.call.Call.TheVariants as calls
-use Rattle.queue_model.specs.declared.call.GetArguments.{GetArguments}
-use Rattle.queue_model.specs.declared.call.SendArguments.{SendArguments}
-use Rattle.queue_model.specs.declared.call.SetArguments.{SetArguments}
-use Rattle.queue_records.specs.declared.layout.TheConstants.{COUNTER, KEY, QUEUE, TYPE, MESSAGE}
-use Rattle.xsi_control.specs.Getting.{get_left}
 use Rattle.xsi_control.specs.declared.get_inquiry.Getting.TheVariants as gets
 use Rattle.xsi_inquiry.specs.declared.sought.Sought.TheVariants as soughts
 use Rattle.xsi_receive.specs.Asking as receives
@@ -22,10 +17,6 @@ use Rattle.xsi_send.specs.declared.stage.Stage.TheVariants as send
 use Rattle.xsi_sweep.specs.Asking as removes
 use Rattle.xsi_sweep.specs.declared.stage.Stage as remove_stages
 use Rattle.xsi_sweep.specs.declared.stage.Stage.TheVariants as remove
-use Rattle.any_inquiry.specs.Words.{Plan, nothing}
-use Rattle.call_names.specs.Laws.{KeepsNames}
-use Rattle.call_names.proofs.GrowLemmas.{names_grow}
-use Rattle.call_names.proofs.Words.{GetInquiry, Getting, ReceiveInquiry, RemoveInquiry, SendInquiry, SetInquiry, Sought, StatInquiry, get_wanted, if_of, key_of_key, key_of_message, key_of_queue, key_of_type, key_wanted, of_get, of_receive, of_remove, of_send, of_set, of_stat, set_wanted, sought_next}
 use Rattle.call_questions.specs.Words.{RecordKey, Record, AnyInquiry, asked_of, left_of, plan_of, Call, Wanted, At, Begins, names_for}
 use Rattle.call_questions.specs.Questions.{tries}
 

@@ -8,3 +8,4 @@ pub mod HearLemmas
 pub mod GoingLemmas
 pub mod ListenLemmas
 pub mod OpenLemmas
+pub mod Names

@@ -5,3 +5,4 @@ pub mod NeedsLemmas
 pub mod StrayLemmas
 pub mod JustLemmas
 pub mod WholeLemmas
+pub mod Names

@@ -1,38 +1,20 @@
 -- An operation that has ended holds no lock, and one that writes no other record leaves what stands at other keys.
 use Rattle.std.proofs.Common.{◌≡◌, refl, ap, ◌∙◌, subst, ℕ, Bool, true, false, List, [], if◌then◌else◌, Option, Some, None, IsSome}
 use Rattle.bucket_merge.specs.Places.{is_done, locks_at as merge_locks_at}
-use Rattle.bucket_merge.specs.declared.place.MergePlace.{MergePlace}
+use Rattle.xsi_remove.proofs.Names.{ApproachView, FileFault, FirstTryStage, HasEnded, InsertStage, IsSoundWorld, MergePlace, OwnsWritten, RecordOperation, RemovalStage, ReplaceStage, SearchView, SecondPlace, TurnsAt, WritesAsked, contents, guard_of, holds_still, is_same, one_changed, operation_key, operation_locks, operation_turn, pair, with_front, wrote_not, wrote_of}
 use Rattle.bucket_merge.specs.declared.place.MergePlace.TheVariants as to
-use Rattle.bucket_page.specs.Keys.{is_same}
-use Rattle.file_pages.specs.declared.fault.FileFault.{FileFault}
-use Rattle.record_access.proofs.AimLemmas.{wrote_of, wrote_not}
-use Rattle.record_file.proofs.CallerLemmas.{holds_still, one_changed}
 use Rattle.record_file.specs.Deletes.{DeleteView, IsOver as IsDeleteOver, delete_locks}
 use Rattle.record_file.specs.FirstTries.{locks_in as first_try_locks_in}
 use Rattle.record_file.specs.Replaces.{locks_in as replace_locks_in}
-use Rattle.record_file.specs.declared.first_try.FirstTryStage.{FirstTryStage}
 use Rattle.record_file.specs.declared.first_try.FirstTryStage.TheVariants as tries
-use Rattle.record_file.specs.declared.removal.RemovalStage.{RemovalStage}
 use Rattle.record_file.specs.declared.removal.RemovalStage.TheVariants as removals
-use Rattle.record_file.specs.declared.replace.ReplaceStage.{ReplaceStage}
 use Rattle.record_insert.specs.Inserts.{IsOver as IsInsertOver, is_ended, locks_in as insert_locks_in}
 use Rattle.record_insert.specs.SecondTries.{locks_at as second_locks_at, tried_at}
-use Rattle.record_insert.specs.declared.insert.InsertStage.{InsertStage}
 use Rattle.record_insert.specs.declared.insert.InsertStage.TheVariants.{First, Second}
-use Rattle.record_insert.specs.declared.second_place.SecondPlace.{SecondPlace}
 use Rattle.record_insert.specs.declared.second_place.SecondPlace.TheVariants as seconds
-use Rattle.record_operation.specs.Operations.{HasEnded, OwnsWritten, operation_key, operation_locks, operation_turn}
-use Rattle.record_operation.specs.declared.operation.RecordOperation.{RecordOperation}
 use Rattle.record_operation.specs.declared.operation.RecordOperation.TheVariants as operations
 use Rattle.hash_file.specs.Changes as changes
-use Rattle.queue_records.specs.Keys.{guard_of}
-use Rattle.stale_search.specs.Approaches.{ApproachView}
-use Rattle.stale_search.specs.Searches.{SearchView}
-use Rattle.step_rules.specs.Turns.{TurnsAt, WritesAsked}
-use Rattle.step_rules.specs.Sound.{IsSoundWorld}
-use Rattle.record_file.specs.Words.{contents}
 use Rattle.xsi_remove.specs.Words.{RecordKey, Lock, Progress, Moved, WriteRecord, World, StepTurn, is_fault, kind_of, Exclusive, RecordWrite, Remove, is_write}
-use Rattle.record_operation.specs.Words.{pair, with_front}
 use Rattle.std.specs.Prelude.{unwrap_or}
 
 -- ---- its locks

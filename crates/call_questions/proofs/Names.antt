@@ -1,0 +1,18 @@
+-- Words of the crates below, under one name.
+pub use Rattle.any_inquiry.specs.Anything.{IsOfKind}
+pub use Rattle.any_inquiry.specs.Words.{Plan, nothing}
+pub use Rattle.call_names.proofs.AskLemmas.{ask_under_names}
+pub use Rattle.call_names.proofs.GrowLemmas.{names_grow}
+pub use Rattle.call_names.proofs.Words.{GetInquiry, Getting, Lock, ReceiveInquiry, RemoveInquiry, SendInquiry, SetInquiry, Sought, StatInquiry, get_locked, get_wanted, if_of, key_of_key, key_of_message, key_of_queue, key_of_type, key_wanted, of_get, of_receive, of_remove, of_send, of_set, of_stat, set_wanted, sought_next}
+pub use Rattle.call_names.specs.Laws.{KeepsNames}
+pub use Rattle.call_names.specs.Names.{by_phase, exclusively, queue_for}
+pub use Rattle.limits.specs.declared.TheConstants.{MAX_QBYTES}
+pub use Rattle.page_locks.specs.declared.lock.LockKind.{LockKind}
+pub use Rattle.queue_model.specs.Rules.{has_id}
+pub use Rattle.queue_model.specs.declared.call.GetArguments.{GetArguments}
+pub use Rattle.queue_model.specs.declared.call.ReceiveArguments.{ReceiveArguments}
+pub use Rattle.queue_model.specs.declared.call.SendArguments.{SendArguments}
+pub use Rattle.queue_model.specs.declared.call.SetArguments.{SetArguments}
+pub use Rattle.queue_records.specs.declared.layout.TheConstants.{COUNTER, KEY, MESSAGE, QUEUE, TYPE}
+pub use Rattle.xsi_control.specs.Getting.{get_left}
+pub use Rattle.xsi_inquiry.specs.Seeking.{Tells}
