@@ -5,4 +5,3 @@ pub mod NeedsLemmas
 pub mod StrayLemmas
 pub mod JustLemmas
 pub mod WholeLemmas
-pub mod Names

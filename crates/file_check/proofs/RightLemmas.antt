@@ -2,11 +2,23 @@
 use Rattle.std.proofs.Common.{ℕ, ◌≡◌, ◌==◌, Bool, true, false, List, [], ◌∷◌, Option, Some, None, if◌then◌else◌, ◌⊎◌, inl, inr, refl, sym, ap, subst, ◌∙◌}
 use Rattle.std.specs.List.{All, Contains}
 use Rattle.std.specs.Prelude.{slice_index, slice_index_or}
-use Rattle.file_check.proofs.Names.{BUCKET, DIRECTORY, IsPlaced, IsQuietFile, Malformed, PageKind, TOMBSTONE, after_reading, ascend, entries_at, four_at, pages_at, pages_on, said_by, structure_sound}
+use Rattle.directory.specs.declared.layout.TheConstants.{DIRECTORY}
+use Rattle.bucket_page.specs.declared.layout.TheConstants.{BUCKET, TOMBSTONE}
+use Rattle.bucket_page.specs.declared.page.Malformed.{Malformed}
 use Rattle.bucket_page.specs.declared.page.Malformed.TheVariants as reasons
+use Rattle.bucket_page.specs.declared.page.PageKind.{PageKind}
 use Rattle.bucket_page.specs.declared.page.PageKind.TheVariants as kinds
 use Rattle.bucket_page.specs.Reading as reading
+use Rattle.bucket_page.specs.Records.{ascend}
+use Rattle.directory.specs.Pages.{entries_at}
+use Rattle.fields.specs.Numbers.{four_at}
+use Rattle.file_walk.specs.Files.{said_by, pages_on}
+use Rattle.file_walk.specs.Laws.{IsQuietFile}
+use Rattle.file_walk.specs.Order.{after_reading}
+use Rattle.file_walk.proofs.PagesLemmas.{pages_at}
+use Rattle.file_walk.proofs.SoundLemmas.{structure_sound}
 use Rattle.file_walk.proofs.FaultLemmas.{one_chain, right_has_no_fault as structure_has_no_fault}
+use Rattle.hash_file.specs.Chain.{IsPlaced}
 use Rattle.file_check.specs.declared.fault.CheckFault.TheVariants as faults
 use Rattle.file_check.specs.Words.{RecordKey, Bucket, Pair, Store, IsRightStructure, file_of, payload_on, said_on, bucket_at, bucket_of, is_bucket, CheckFault}
 use Rattle.file_check.specs.Records.{IsLivePage, IsRightRecord, IsFirstIn, IsWrongIn, AreRightIn, AreRightRecords, IsFirstWrongRecord}

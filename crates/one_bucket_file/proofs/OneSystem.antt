@@ -94,7 +94,7 @@ module _ (held : RecordKey → Option (List ℕ)) where
         absurd (omega (arith, far, there.0))
     walk (suc fuel) ms (Some serial) a b far =
         let found = linked_of (message_entry p (next_message p ms)) in
-        walk fuel (ms ++ found.message ∷ []) found.next
+        walk fuel (ms ++ found.message ∷ []) found.links.next
         (walked_more held p hp p.id (Some serial) refl ms serial found a (told p hp ms serial a))
         (walked_more held q hq p.id (Some serial) (sym same) ms serial found b (told p hp ms serial a))
         (let longer = length-append ms (found.message ∷ []) in omega (arith, far, longer))
