@@ -18,9 +18,12 @@ use Rattle.call_writes.specs.Views.{begun_deed, facts_under, writes_facts}
 allows_begun : (hash : RecordKey → ℕ) (d : Deed) (found : Option Record) → CanBegin (purpose_of d) found →
     Allows (purpose_of d) (begun_deed hash d) found
 allows_begun hash (deeds.Trial r) found can = record { stands = can; came_to = tt }
-allows_begun hash (deeds.Write (Replace r)) found can = can
-allows_begun hash (deeds.Write (Relink key links)) found can = (can, refl)
-allows_begun hash (deeds.Write (Delete key)) found can = λ unwritten. can
+allows_begun hash (deeds.Write (Replace r)) found can =
+    record { fits = can; due = λ unwritten. record { searches = refl; told = λ none. none } }
+allows_begun hash (deeds.Write (Relink key links)) found can =
+    record { fits = (can, refl); due = λ unwritten. record { searches = refl; told = λ none. none } }
+allows_begun hash (deeds.Write (Delete key)) found can =
+    record { fits = λ unwritten. can; due = λ unwritten. record { searches = refl; told = λ none. none } }
 
 module _ (hash : RecordKey → ℕ) (seat : ℕ) (names : List Lock) (p : Plan) (old : CallWrites) (records : Records)
     (pool : PoolState) (locks : Table) (change : Change)

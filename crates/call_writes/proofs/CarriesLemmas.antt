@@ -14,8 +14,8 @@ use Rattle.call_writes.proofs.SortLemmas.{Anew, EndsAs, Fails, Fills, Goes, Idle
 use Rattle.call_writes.proofs.StepLemmas.{full_unwritten, unpaid}
 use Rattle.call_writes.specs.declared.deed.Deed.TheVariants as deeds
 use Rattle.call_writes.specs.declared.writes.CallWrites.{CallWrites}
-use Rattle.call_writes.specs.Words.{RecordKey, Record, value_of, Plan, Records, overlaid, Due, Trying, Full, Undoing, Writing, Deed, PoolState, Table, Lock, Change, Store, store_of, pair, IsSeat, Progress, Ended, is_fault, is_write, HasNoRoom, Step, world, AccessView, access_key, access_locks, access_turn, has_no_room}
-use Rattle.call_writes.specs.Carrying.{IsCarrying, IsDoing, IsUnderWay}
+use Rattle.call_writes.specs.Words.{RecordKey, Record, value_of, Plan, Records, overlaid, Due, Trying, Full, Undoing, Writing, Deed, PoolState, Table, Lock, Change, Store, store_of, pair, IsSeat, Progress, Ended, is_fault, is_write, HasEnded, HasNoRoom, Step, world, AccessView, access_key, access_locks, access_turn, has_no_room}
+use Rattle.call_writes.specs.Carrying.{IsCarrying, IsDoing, IsGoingOn, IsUnderWay}
 use Rattle.call_writes.specs.CarrySteps.{AsTheyWere, Carries, Leaves, TrialLacksRoom}
 use Rattle.call_writes.specs.Dues.{CanGoOn, IsBehind, next_deed, owes}
 use Rattle.call_writes.specs.MakeSteps.{PaysDue}
@@ -127,11 +127,11 @@ module _ (hash : RecordKey → ℕ) (seat : ℕ) (p : Plan) (did : Progress File
         access_locks s.a' names ≡ writes_locks w names → Leaves p old.due w.due records m.after →
         CanGoOn p w.due m.after →
         ((key : RecordKey) → overlaid (owes p w.due) m.after key ≡ overlaid (owes p old.due) records key) →
-        IsUnderWay hash names p w.due m.after w.access →
+        IsUnderWay hash names p w.due m.after w.access → IsGoingOn w.access →
         (is_full old ≡ false → is_full w ≡ true →
         TrialLacksRoom hash p old.due (world pool'.images locks' change)) →
         Carries hash seat names p s.made old w records pool pool' locks locks' change
-    carries_to w known locks_are leaves can owed under full = record {
+    carries_to w known locks_are leaves can owed under going full = record {
       step = subst (λ (turn : Turn). Step hash seat turn s.made (writes_facts w) pool pool' locks locks' change)
           (start_turn s.a s.starts (store_of pool.images)) (record {
             after = m.step.after;
@@ -152,6 +152,7 @@ module _ (hash : RecordKey → ℕ) (seat : ℕ) (p : Plan) (did : Progress File
         stands = m.stands;
         can = can;
         doing = under;
+        going = going;
       };
       owed = owed;
       full = full;
@@ -205,16 +206,17 @@ module _ (hash : RecordKey → ℕ) (seat : ℕ) (p : Plan) (did : Progress File
 
     -- ---- how it ends
 
-    goes_on : Carries hash seat names p s.made old (record { due = s.due'; access = Some s.a' }) records pool pool'
-        locks locks' change
-    goes_on = carries_to (record { due = s.due'; access = Some s.a' }) m.step.known refl m.left.leaves m.left.can
-        m.left.owed (d, m.doing) (lacks_by s.due' refl)
+    goes_on : (HasEnded s.a'.operation → is_fault s.made ≡ true) →
+        Carries hash seat names p s.made old (record { due = s.due'; access = Some s.a' }) records pool pool' locks
+        locks' change
+    goes_on going = carries_to (record { due = s.due'; access = Some s.a' }) m.step.known refl m.left.leaves m.left.can
+        m.left.owed (d, m.doing) (λ ended. true≢false (sym (going ended) ∙ fine)) (lacks_by s.due' refl)
 
     lets_go : s.a'.written ≡ true → access_locks s.a' names ≡ names →
         Carries hash seat names p s.made old (record { due = s.due'; access = None }) records pool pool' locks locks'
         change
     lets_go written locks_are =
-        carries_to (record { due = s.due'; access = None }) tt locks_are m.left.leaves m.left.can m.left.owed tt
+        carries_to (record { due = s.due'; access = None }) tt locks_are m.left.leaves m.left.can m.left.owed tt tt
         (λ before full. never s.due' refl before full)
       where
         never : (due : Due) → s.due' ≡ due → is_full old ≡ false → is_full_at due None ≡ true →
@@ -235,7 +237,7 @@ module _ (hash : RecordKey → ℕ) (seat : ℕ) (p : Plan) (did : Progress File
         carries_to (record { due = Full standing; access = None }) tt locks_are
         (AsTheyWere (m.still (was_unwritten full).0))
         (full_can p standing m.after few (subst (λ (x : Due). CanGoOn p x m.after) due m.left.can))
-        (λ key. ap (λ (x : Due). overlaid (owes p x) m.after key) (sym due) ∙ m.left.owed key) tt
+        (λ key. ap (λ (x : Due). overlaid (owes p x) m.after key) (sym due) ∙ m.left.owed key) tt tt
         (λ before again. lacks_at standing was before full)
 
   kept_on : (made : Progress FileFault) (w : CallWrites) → did ≡ made → new ≡ w →
@@ -250,16 +252,16 @@ module _ (hash : RecordKey → ℕ) (seat : ℕ) (p : Plan) (did : Progress File
   ends : (s : Stepping hash seat p did old new pool pool' locks locks') (d : Deed) →
       IsDoing hash names p old.due records d s.a → is_fault did ≡ false → EndsAs s.made did s.due' s.a' new →
       Carries hash seat names p did old new records pool pool' locks locks' change
-  ends s d doing fine (Goes same kept) =
+  ends s d doing fine (Goes going same kept) =
       kept_on s.made (record { due = s.due'; access = Some s.a' }) same kept
-      (goes_on s d doing (sym (ap is_fault same) ∙ fine))
+      (goes_on s d doing (sym (ap is_fault same) ∙ fine) going)
   ends s d doing fine (LetsGo ended written same kept) =
       kept_on s.made (record { due = s.due'; access = None }) same kept
       (lets_go s d doing (sym (ap is_fault same) ∙ fine) written (ended_locks s.a'.operation names ended))
   ends s d doing fine (Fills standing ended full due same kept) =
       kept_on s.made (record { due = Full standing; access = None }) same kept
       (fills s d doing (sym (ap is_fault same) ∙ fine) standing full due (ended_locks s.a'.operation names ended))
-  ends s d doing fine (Fails ended unwritten fine' fault kept) =
+  ends s d doing fine (Fails ended unwritten fine' untried fault kept) =
       absurd (true≢false (sym (ap is_fault fault) ∙ fine))
 
   at_idle : is_fault did ≡ false → new ≡ old → pool' ≡ pool → locks' ≡ locks → IsIdle p did old →

@@ -83,7 +83,7 @@ made_twice : (d : Deed) (a : AccessView) (found : Option Record) → Allows (pur
     made (purpose_of d) (made (purpose_of d) found) ≡ made (purpose_of d) found
 made_twice (deeds.Trial r) a found allows = refl
 made_twice (deeds.Write (Replace r)) a found allows = refl
-made_twice (deeds.Write (Relink key links)) a found allows = relinked_twice links found allows.0
+made_twice (deeds.Write (Relink key links)) a found allows = relinked_twice links found allows.fits.0
 made_twice (deeds.Write (Delete key)) a found allows = refl
 
 -- ---- what is left

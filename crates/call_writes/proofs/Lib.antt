@@ -3,6 +3,7 @@ pub mod BegunLemmas
 pub mod CarriesLemmas
 pub mod CarryLemmas
 pub mod DecidedLemmas
+pub mod DoneLemmas
 pub mod DueLemmas
 pub mod EndLemmas
 pub mod LawLemmas

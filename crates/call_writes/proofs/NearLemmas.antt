@@ -5,17 +5,18 @@ use Rattle.record_access.specs.Words.{Blocked}
 use Rattle.record_operation.proofs.LengthLemmas.{has_few_steps}
 use Rattle.call_writes.proofs.BeginLemmas.{begun_unwritten}
 use Rattle.call_writes.proofs.BegunLemmas.{doing_start, owned_start, row_start, sees_start}
-use Rattle.call_writes.proofs.CarryLemmas.{faces}
+use Rattle.call_writes.proofs.CarryLemmas.{all_made, faces}
+use Rattle.call_writes.proofs.DoneLemmas.{has_written}
 use Rattle.call_writes.proofs.DueLemmas.{paid_for}
 use Rattle.call_writes.proofs.Names.{FileFault}
 use Rattle.call_writes.proofs.NextLemmas.{is_next}
 use Rattle.call_writes.proofs.SortLemmas.{Anew, EndsAs, Fails, Fills, Goes, Idles, IsIdle, IsSorted, LetsGo, Over, Refused, StartsAs, Stepping, Steps, Stuck, Under}
 use Rattle.call_writes.specs.declared.writes.CallWrites.{CallWrites}
-use Rattle.call_writes.specs.Words.{RecordKey, Plan, Records, Due, Deed, PoolState, Table, Lock, Change, Store, store_of, IsSeat, Progress, Moved, Ended, Fault, is_write, NearsOrSpares, IsSmall, AccessView, access_left, MOST_STEPS}
-use Rattle.call_writes.specs.Carrying.{IsCarrying, IsDoing}
+use Rattle.call_writes.specs.Words.{RecordKey, Plan, Records, Due, Deed, PoolState, Table, Lock, Change, Store, store_of, IsSeat, Progress, Moved, Ended, Fault, is_fault, is_write, HasEnded, NearsOrSpares, IsSmall, AccessView, access_left, MOST_STEPS}
+use Rattle.call_writes.specs.Carrying.{IsCarrying, IsDoing, IsGoingOn}
 use Rattle.call_writes.specs.Dues.{CanGoOn, deeds_left, next_deed}
-use Rattle.call_writes.specs.MakeSteps.{PaysDue}
-use Rattle.call_writes.specs.Views.{IsStuck, deeds_behind, left_under, writes_left_in}
+use Rattle.call_writes.specs.MakeSteps.{IsNoTrial, PaysDue}
+use Rattle.call_writes.specs.Views.{deeds_behind, left_under, writes_left_in}
 
 -- fewer of one are fewer of the other
 nears_so : (did : Progress FileFault) (l l' m m' : ℕ) (pool pool' : PoolState) → NearsOrSpares did l l' pool pool' →
@@ -114,21 +115,32 @@ module _ (hash : RecordKey → ℕ) (seat : ℕ) (p : Plan) (did : Progress File
         (add_less (access_left s.a (store_of pool.images)) (access_left s.a' (store_of pool'.images))
         (deeds_behind (Some s.a) (deeds_left p old.due) * MOST_STEPS) less)
 
-    end_did : (IsStuck new → ⊥) → EndsAs s.made did s.due' s.a' new → did ≡ s.made
-    end_did free (Goes same kept) = same
-    end_did free (LetsGo ended written same kept) = same
-    end_did free (Fills standing ended full due same kept) = same
-    end_did free (Fails ended unwritten fine fault kept) =
-        absurd (free (record { access = s.a'; is = ap (λ (w : CallWrites). w.access) kept; ended = ended }))
+    -- an access that has ended has written, or is that of a trial, which has no room
+    never_fails : (d : Deed) → IsDoing hash names p old.due records d s.a → HasEnded s.a'.operation →
+        s.a'.written ≡ false → is_fault s.made ≡ false → IsNoTrial s.due' s.a' → ⊥
+    never_fails d doing ended unwritten fine untried =
+        let m = all_made hash seat names s.made s.a s.a' pool pool' locks locks' seated s.step p old.due s.due' s.pays
+        records change d c.small c.can doing
+        (sees_start hash seat names p old records pool locks change c s.a s.starts) c.bare
+        (row_start hash seat names p old records pool locks change c did new pool' locks' s.a s.starts)
+        (owned_start hash seat names p old records pool locks change c s.a d doing) c.stands fine in
+        has_written hash names p s.due' m.after d s.a' m.doing ended unwritten untried
+
+    end_did : (d : Deed) → IsDoing hash names p old.due records d s.a → EndsAs s.made did s.due' s.a' new → did ≡ s.made
+    end_did d doing (Goes going same kept) = same
+    end_did d doing (LetsGo ended written same kept) = same
+    end_did d doing (Fills standing ended full due same kept) = same
+    end_did d doing (Fails ended unwritten fine untried fault kept) =
+        absurd (never_fails d doing ended unwritten fine untried)
 
     -- what is let go takes no more steps
-    end_left : (IsStuck new → ⊥) → EndsAs s.made did s.due' s.a' new →
+    end_left : (d : Deed) → IsDoing hash names p old.due records d s.a → EndsAs s.made did s.due' s.a' new →
         left' ≤ left_of s.a' (deeds_left p s.due') (store_of pool'.images)
-    end_left free (Goes same kept) =
+    end_left d doing (Goes going same kept) =
         let is : left' ≡ left_of s.a' (deeds_left p s.due') (store_of pool'.images) =
         ap (λ (w : CallWrites). writes_left_in p w (store_of pool'.images)) kept in
         omega (arith, is)
-    end_left free (LetsGo ended written same kept) =
+    end_left d doing (LetsGo ended written same kept) =
         let is : left' ≡ 0 + deeds_left p s.due' * MOST_STEPS =
         ap (λ (w : CallWrites). writes_left_in p w (store_of pool'.images)) kept in
         let so : left_of s.a' (deeds_left p s.due') (store_of pool'.images)
@@ -136,20 +148,19 @@ module _ (hash : RecordKey → ℕ) (seat : ℕ) (p : Plan) (did : Progress File
         ap (λ (b : Bool). access_left s.a' (store_of pool'.images)
         + (if b then deeds_left p s.due' else deeds_left p s.due' - 1) * MOST_STEPS) written in
         omega (arith, is, so)
-    end_left free (Fills standing ended full due same kept) =
+    end_left d doing (Fills standing ended full due same kept) =
         let is : left' ≡ 0 = ap (λ (w : CallWrites). writes_left_in p w (store_of pool'.images)) kept in
         omega (arith, is)
-    end_left free (Fails ended unwritten fine fault kept) =
-        absurd (free (record { access = s.a'; is = ap (λ (w : CallWrites). w.access) kept; ended = ended }))
+    end_left d doing (Fails ended unwritten fine untried fault kept) =
+        absurd (never_fails d doing ended unwritten fine untried)
 
-    nears_by : (d : Deed) → IsDoing hash names p old.due records d s.a → (IsStuck new → ⊥) →
-        NearsOrSpares did left left' pool pool'
-    nears_by d doing free =
-        subst (λ (x : Progress FileFault). NearsOrSpares x left left' pool pool') (sym (end_did free s.ends))
+    nears_by : (d : Deed) → IsDoing hash names p old.due records d s.a → NearsOrSpares did left left' pool pool'
+    nears_by d doing =
+        subst (λ (x : Progress FileFault). NearsOrSpares x left left' pool pool') (sym (end_did d doing s.ends))
         (nears_so s.made (access_left s.a (store_of pool.images)) (access_left s.a' (store_of pool'.images)) left left'
         pool pool' (near d doing) (λ less.
         let start = start_left s.a s.starts in
-        let end = end_left free s.ends in
+        let end = end_left d doing s.ends in
         let step = fewer d doing less in
         chain left' (left_of s.a' (deeds_left p s.due') (store_of pool'.images))
         (left_of s.a (deeds_left p old.due) (store_of pool.images)) left end step start))
@@ -157,17 +168,15 @@ module _ (hash : RecordKey → ℕ) (seat : ℕ) (p : Plan) (did : Progress File
         chain : (n m k l : ℕ) → n ≤ m → m < k → k ≤ l → n < l
         chain n m k l first second third = omega (arith, first, second, third)
 
-  idle_nears : (IsStuck new → ⊥) → new ≡ old → IsIdle p did old → NearsOrSpares did left left' pool pool'
-  idle_nears free kept (Refused fault refused same) =
+  idle_nears : IsIdle p did old → NearsOrSpares did left left' pool pool'
+  idle_nears (Refused fault refused same) =
       absurd (refused.out (is_next p records old.due refused.deed refused.next c.can).in_range)
-  idle_nears free kept (Over over same) =
+  idle_nears (Over over same) =
       subst (λ (x : Progress FileFault). NearsOrSpares x left left' pool pool') (sym same) tt
-  idle_nears free kept (Stuck a was ended fault) =
-      absurd (free (record { access = a; is = ap (λ (w : CallWrites). w.access) kept ∙ was; ended = ended }))
+  idle_nears (Stuck a was ended fault) = absurd (subst IsGoingOn was c.going ended)
 
-  pub nears : (IsStuck new → ⊥) → IsSorted hash seat p did old new pool pool' locks locks' →
-      NearsOrSpares did left left' pool pool'
-  nears free (Idles why kept pools tables) = idle_nears free kept why
-  nears free (Steps s) =
+  pub nears : IsSorted hash seat p did old new pool pool' locks locks' → NearsOrSpares did left left' pool pool'
+  nears (Idles why kept pools tables) = idle_nears why
+  nears (Steps s) =
       let both = doing_start hash seat names p old records pool locks change c s.a s.starts in
-      nears_by s both.0 both.1 free
+      nears_by s both.0 both.1

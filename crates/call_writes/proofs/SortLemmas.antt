@@ -9,7 +9,7 @@ use Rattle.call_writes.specs.Words.{RecordKey, Plan, PoolState, Table, Progress,
 use Rattle.call_writes.specs.Dues.{next_deed, purpose_of}
 use Rattle.call_writes.specs.Views.{IsOver, begun_deed}
 use Rattle.call_writes.specs.MakeSteps as parts
-use Rattle.call_writes.specs.MakeSteps.{IsRefused, IsSetOut, MakesDeed, PaysDue, Settles, TakesStep}
+use Rattle.call_writes.specs.MakeSteps.{IsNoTrial, IsRefused, IsSetOut, MakesDeed, PaysDue, Settles, TakesStep}
 
 -- the access that makes the step was under way, or has just begun
 pub data StartsAs (hash : RecordKey → ℕ) (p : Plan) (old : CallWrites) (a : AccessView) : Type 0 where
@@ -19,13 +19,14 @@ pub data StartsAs (hash : RecordKey → ℕ) (p : Plan) (old : CallWrites) (a : 
 
 -- behind its step it goes on, or is let go
 pub data EndsAs (made did : Progress FileFault) (due' : Due) (a' : AccessView) (new : CallWrites) : Type 0 where
-  Goes : did ≡ made → new ≡ record { due = due'; access = Some a' } → EndsAs made did due' a' new
+  Goes : (HasEnded a'.operation → is_fault made ≡ true) → did ≡ made →
+      new ≡ record { due = due'; access = Some a' } → EndsAs made did due' a' new
   LetsGo : HasEnded a'.operation → a'.written ≡ true → did ≡ made → new ≡ record { due = due'; access = None } →
       EndsAs made did due' a' new
   Fills : (standing : ℕ) → HasEnded a'.operation → has_no_room a' ≡ true → due' ≡ Trying standing → did ≡ made →
       new ≡ record { due = Full standing; access = None } → EndsAs made did due' a' new
-  Fails : HasEnded a'.operation → a'.written ≡ false → is_fault made ≡ false → did ≡ Fault Failed →
-      new ≡ record { due = due'; access = Some a' } → EndsAs made did due' a' new
+  Fails : HasEnded a'.operation → a'.written ≡ false → is_fault made ≡ false → IsNoTrial due' a' →
+      did ≡ Fault Failed → new ≡ record { due = due'; access = Some a' } → EndsAs made did due' a' new
 
 pub record Stepping (hash : RecordKey → ℕ) (seat : ℕ) (p : Plan) (did : Progress FileFault) (old new : CallWrites)
     (pool pool' : PoolState) (locks locks' : Table) : Type 0 where
@@ -74,7 +75,8 @@ module _ (hash : RecordKey → ℕ) (seat : ℕ) (p : Plan) (did : Progress File
 
   ends_as : (stepped : CallWrites) (made : Progress FileFault) (a' : AccessView) → stepped.access ≡ Some a' →
       Settles made did stepped new → EndsAs made did stepped.due a' new
-  ends_as stepped made a' is (parts.Stays same kept ended) = Goes same (kept ∙ with_access stepped (Some a') is)
+  ends_as stepped made a' is (parts.Stays same kept ended) =
+      Goes (ended a' is) same (kept ∙ with_access stepped (Some a') is)
   ends_as stepped made a' is (parts.LetsGo b was ended fine written same kept) =
       let one : b ≡ a' = some_same a' b stepped.access is was in
       LetsGo (subst (λ (x : AccessView). HasEnded x.operation) one ended)
@@ -83,10 +85,11 @@ module _ (hash : RecordKey → ℕ) (seat : ℕ) (p : Plan) (did : Progress File
       let one : b ≡ a' = some_same a' b stepped.access is was in
       Fills standing (subst (λ (x : AccessView). HasEnded x.operation) one ended)
       (subst (λ (x : AccessView). has_no_room x ≡ true) one full) due same kept
-  ends_as stepped made a' is (parts.Fails b was ended fine unwritten same kept) =
+  ends_as stepped made a' is (parts.Fails b was ended fine unwritten untried same kept) =
       let one : b ≡ a' = some_same a' b stepped.access is was in
       Fails (subst (λ (x : AccessView). HasEnded x.operation) one ended)
-      (subst (λ (x : AccessView). x.written ≡ false) one unwritten) fine same
+      (subst (λ (x : AccessView). x.written ≡ false) one unwritten) fine
+      (subst (IsNoTrial stepped.due) one untried) same
       (kept ∙ with_access stepped (Some a') is)
 
   -- ---- held up
@@ -98,7 +101,7 @@ module _ (hash : RecordKey → ℕ) (seat : ℕ) (p : Plan) (did : Progress File
       absurd (true≢false (sym (ap is_fault fault) ∙ fine))
   held_on begun a made is fault (parts.IsFull b standing was ended fine full due same kept) =
       absurd (true≢false (sym (ap is_fault fault) ∙ fine))
-  held_on begun a made is fault (parts.Fails b was ended fine unwritten same kept) =
+  held_on begun a made is fault (parts.Fails b was ended fine unwritten untried same kept) =
       absurd (true≢false (sym (ap is_fault fault) ∙ fine))
 
   stuck : (begun : CallWrites) (a : AccessView) → IsSetOut hash p old begun → begun.access ≡ Some a →

@@ -38,10 +38,10 @@ module _ (hash : RecordKey → ℕ) (seat : ℕ) (p : Plan) (did : Progress File
 
   writes_on : (made : Progress FileFault) (due' : Due) (a' : AccessView) → EndsAs made did due' a' new →
       OnlyWrites (not (is_fault made)) pool pool' → OnlyWrites (not (is_fault did)) pool pool'
-  writes_on made due' a' (Goes same kept) writes = rw same writes
+  writes_on made due' a' (Goes still same kept) writes = rw same writes
   writes_on made due' a' (LetsGo ended written same kept) writes = rw same writes
   writes_on made due' a' (Fills standing ended full due same kept) writes = rw same writes
-  writes_on made due' a' (Fails ended unwritten fine fault kept) writes = fault_writes made fault writes
+  writes_on made due' a' (Fails ended unwritten fine untried fault kept) writes = fault_writes made fault writes
 
   pub only_writes : IsReady pool → IsSorted hash seat p did old new pool pool' locks locks' →
       OnlyWrites (not (is_fault did)) pool pool'
@@ -65,12 +65,12 @@ module _ (hash : RecordKey → ℕ) (seat : ℕ) (p : Plan) (did : Progress File
 
   end_row : (made : Progress FileFault) (due' : Due) (a' : AccessView) → EndsAs made did due' a' new →
       (before : List Lock) → access_locks a' before ≡ writes_locks new before
-  end_row made due' a' (Goes same kept) before = ap (λ (w : CallWrites). writes_locks w before) (sym kept)
+  end_row made due' a' (Goes still same kept) before = ap (λ (w : CallWrites). writes_locks w before) (sym kept)
   end_row made due' a' (LetsGo ended written same kept) before =
       ended_locks a'.operation before ended ∙ ap (λ (w : CallWrites). writes_locks w before) (sym kept)
   end_row made due' a' (Fills standing ended full due same kept) before =
       ended_locks a'.operation before ended ∙ ap (λ (w : CallWrites). writes_locks w before) (sym kept)
-  end_row made due' a' (Fails ended unwritten fine fault kept) before =
+  end_row made due' a' (Fails ended unwritten fine untried fault kept) before =
       ap (λ (w : CallWrites). writes_locks w before) (sym kept)
 
   pub follows_row : IsSorted hash seat p did old new pool pool' locks locks' →
@@ -88,10 +88,10 @@ module _ (hash : RecordKey → ℕ) (seat : ℕ) (p : Plan) (did : Progress File
 
   not_ended_did : (made : Progress FileFault) (due' : Due) (a' : AccessView) → EndsAs made did due' a' new →
       (made ≡ Ended → ⊥) → did ≡ Ended → ⊥
-  not_ended_did made due' a' (Goes same kept) going is = going (sym same ∙ is)
+  not_ended_did made due' a' (Goes still same kept) going is = going (sym same ∙ is)
   not_ended_did made due' a' (LetsGo ended written same kept) going is = going (sym same ∙ is)
   not_ended_did made due' a' (Fills standing ended full due same kept) going is = going (sym same ∙ is)
-  not_ended_did made due' a' (Fails ended unwritten fine fault kept) going is =
+  not_ended_did made due' a' (Fails ended unwritten fine untried fault kept) going is =
       absurd (let clash = sym fault ∙ is in cc)
 
   idle_over : IsIdle p did old → did ≡ Ended → IsOver p old
@@ -126,7 +126,7 @@ module _ (hash : RecordKey → ℕ) (seat : ℕ) (p : Plan) (did : Progress File
   advance : (made : Progress FileFault) (due' : Due) (a a' : AccessView) → EndsAs made did due' a' new →
       a'.written ≡ (if is_write made then true else a.written) → PaysDue p (not a.written && a'.written) old.due due' →
       Advances p did old.due new.due
-  advance made due' a a' (Goes same kept) is pays =
+  advance made due' a a' (Goes still same kept) is pays =
       subst (Advances p did old.due) (ap (λ (w : CallWrites). w.due) (sym kept))
       (due_on made due' (is_write made) a.written a'.written is (wrote_of made) same pays)
   advance made due' a a' (LetsGo ended written same kept) is pays =
@@ -135,7 +135,7 @@ module _ (hash : RecordKey → ℕ) (seat : ℕ) (p : Plan) (did : Progress File
   advance made due' a a' (Fills standing ended full due same kept) is pays =
       FindsNoRoom standing (sym (unpaid due' a.written a'.written (full_unwritten _ a'.written full) pays) ∙ due)
       (ap (λ (w : CallWrites). w.due) kept)
-  advance made due' a a' (Fails ended unwritten fine fault kept) is pays =
+  advance made due' a a' (Fails ended unwritten fine untried fault kept) is pays =
       Stays (ap (λ (w : CallWrites). w.due) kept ∙ unpaid due' a.written a'.written unwritten pays)
 
   pub keeps_plan : IsSorted hash seat p did old new pool pool' locks locks' → KeepsPlan p did old new

@@ -2,7 +2,7 @@
 use Rattle.std.specs.Prelude.{ℕ, ◌≡◌, true, false, List, Option, Some, None, IsSome, ⊤}
 use Rattle.std.specs.List.{All}
 use Rattle.call_writes.specs.declared.writes.CallWrites.{CallWrites}
-use Rattle.call_writes.specs.Words.{RecordKey, Record, guard_of, key_of, Write, IsSmall, Plan, Records, writes_of, key_written, kind_of, Owns, PoolState, Table, Lock, Change, row_of, store_of, HasNoFileLock, IsKeyed, Sees, StandsAt, made, AccessView, Allows, Serves, access_key, Deed, Due}
+use Rattle.call_writes.specs.Words.{RecordKey, Record, guard_of, key_of, Write, IsSmall, Plan, Records, writes_of, key_written, kind_of, Owns, PoolState, Table, Lock, Change, row_of, store_of, HasEnded, HasNoFileLock, IsKeyed, Sees, StandsAt, made, AccessView, Allows, Serves, access_key, Deed, Due}
 use Rattle.call_writes.specs.Dues.{CanGoOn, next_deed, purpose_of}
 use Rattle.call_writes.specs.Views.{writes_facts, writes_locks}
 
@@ -28,6 +28,11 @@ abbrev pub IsUnderWay : (RecordKey → ℕ) → List Lock → Plan → Due → R
 IsUnderWay hash names p due records None = ⊤
 IsUnderWay hash names p due records (Some a) = (d : Deed) × IsDoing hash names p due records d a
 
+-- an access that has ended is let go
+abbrev pub IsGoingOn : Option AccessView → Type 0
+IsGoingOn None = ⊤
+IsGoingOn (Some a) = HasEnded a.operation → ⊥
+
 -- a seat that holds these names carries out a plan over these records
 pub record IsCarrying (hash : RecordKey → ℕ) (seat : ℕ) (names : List Lock) (p : Plan) (w : CallWrites)
     (records : Records) (pool : PoolState) (locks : Table) (change : Change) : Type 0 where
@@ -42,3 +47,4 @@ pub record IsCarrying (hash : RecordKey → ℕ) (seat : ℕ) (names : List Lock
       StandsAt (store_of pool.images) key (records key)
   pub can : CanGoOn p w.due records
   pub doing : IsUnderWay hash names p w.due records w.access
+  pub going : IsGoingOn w.access

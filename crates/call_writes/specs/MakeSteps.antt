@@ -1,9 +1,9 @@
 -- The parts of a step of a call that writes: an access begins, makes its step, and is let go.
-use Rattle.std.specs.Prelude.{ℕ, ◌≡◌, Bool, true, false, not, ◌&&◌, Some, None, Result, Ok, Err}
+use Rattle.std.specs.Prelude.{ℕ, ◌≡◌, Bool, true, false, not, ◌&&◌, Option, Some, None, Result, Ok, Err}
 use Rattle.file_pages.specs.declared.fault.FileFault.{FileFault}
 use Rattle.file_pages.specs.declared.fault.FileFault.TheVariants.{Failed}
 use Rattle.call_writes.specs.declared.writes.CallWrites.{CallWrites}
-use Rattle.call_writes.specs.Words.{RecordKey, Plan, PoolState, Table, Progress, Ended, Fault, is_fault, HasEnded, Serves, AccessView, MakesAccess, has_no_room, Deed, Due, Trying, Full}
+use Rattle.call_writes.specs.Words.{RecordKey, Record, Plan, PoolState, Table, Progress, Ended, Fault, is_fault, HasEnded, ToInsert, Allows, Serves, AccessView, MakesAccess, has_no_room, Deed, Due, Trying, Full}
 use Rattle.call_writes.specs.Dues.{IsBehind, IsDeedInRange, next_deed, purpose_of}
 use Rattle.call_writes.specs.Views.{IsOver, begun_deed}
 
@@ -64,6 +64,11 @@ pub data MakesDeed (hash : RecordKey → ℕ) (seat : ℕ) (p : Plan) (did : Pro
 
 -- ---- it is let go
 
+-- it is that of no trial that is due: such a one that has ended and has not written has no room
+abbrev pub IsNoTrial : Due → AccessView → Type 0
+IsNoTrial due a = (standing : ℕ) (r : Record) (found : Option Record) → due ≡ Trying standing →
+    Serves (ToInsert r) a → Allows (ToInsert r) a found → ⊥
+
 -- where it has given its locks back: written, or without room, or neither
 pub data Settles (did did' : Progress FileFault) (old new : CallWrites) : Type 0 where
   Stays : did' ≡ did → new ≡ old →
@@ -74,7 +79,7 @@ pub data Settles (did did' : Progress FileFault) (old new : CallWrites) : Type 0
       has_no_room a ≡ true → old.due ≡ Trying standing → did' ≡ did →
       new ≡ record { due = Full standing; access = None } → Settles did did' old new
   Fails : (a : AccessView) → old.access ≡ Some a → HasEnded a.operation → is_fault did ≡ false → a.written ≡ false →
-      did' ≡ Fault Failed → new ≡ old → Settles did did' old new
+      IsNoTrial old.due a → did' ≡ Fault Failed → new ≡ old → Settles did did' old new
 
 -- ---- a step
 

@@ -2,7 +2,7 @@
 use Rattle.std.specs.Prelude.{ℕ, ◌≡◌, ◌+◌, ◌-◌, ◌*◌, Bool, true, false, List, [], Option, Some, None, option_map, if◌then◌else◌}
 use Rattle.step_rules.specs.Turns.{no_ask}
 use Rattle.call_writes.specs.declared.writes.CallWrites.{CallWrites}
-use Rattle.call_writes.specs.Words.{RecordKey, Plan, Lock, Store, Known, Turn, HasEnded, MOST_STEPS, AccessView, access_facts, access_left, access_locks, access_turn, begun, has_no_room, Deed, Due, Trying, Full, Undoing, Writing}
+use Rattle.call_writes.specs.Words.{RecordKey, Plan, Lock, Store, Known, Turn, MOST_STEPS, AccessView, access_facts, access_left, access_locks, access_turn, begun, has_no_room, Deed, Due, Trying, Full, Undoing, Writing}
 use Rattle.call_writes.specs.Dues.{deed_key, deeds_left, next_deed, purpose_of}
 
 -- ---- the access
@@ -23,12 +23,6 @@ access_next hash p w = set_out hash (next_deed p w.due) w.access
 pub record IsOver (p : Plan) (w : CallWrites) : Type 0 where
   pub rests : w.access ≡ None
   pub last : next_deed p w.due ≡ None
-
--- an access that has ended stays where it has not written
-pub record IsStuck (w : CallWrites) : Type 0 where
-  pub access : AccessView
-  pub is : w.access ≡ Some access
-  pub ended : HasEnded access.operation
 
 -- a trial has no room
 abbrev pub is_full_at : Due → Option AccessView → Bool

@@ -12,6 +12,7 @@ use std::marker::Model;
 use xsi_inquiry::{Inquiry, MAX_TRIALS, Write, next_write};
 
 /// The plan of a call, lent.
+#[derive(Drop)]
 pub struct PlanOf<'a> {
     call: &'a Call,
     inquiry: &'a AnyInquiry,

@@ -5,7 +5,7 @@ ghost use Rattle.call_writes.specs.Words.{Change, EndsRow, FollowsRow, IsReady, 
 ghost use Rattle.call_writes.specs.Carrying.{IsCarrying};
 ghost use Rattle.call_writes.specs.CarrySteps.{Carries, KeepsPlan};
 ghost use Rattle.call_writes.specs.MakeSteps.{MakesDeed, SetsOut, Settles, TakesStep};
-ghost use Rattle.call_writes.specs.Views.{IsStuck, decided_at, is_full, writes_left_in, writes_locks};
+ghost use Rattle.call_writes.specs.Views.{decided_at, is_full, writes_left_in, writes_locks};
 
 use crate::due::Due;
 use crate::plan::PlanOf;
@@ -84,7 +84,7 @@ impl CallWrites {
         // on an honest device, in a sound world
         ensures progress { (names : List Lock) (records : Records) (change : Change) →
             IsCarrying (K.of_key keys.now) seat names plan.now self.old records
-            pool.old locks.old change → (IsStuck self.new → ⊥) →
+            pool.old locks.old change →
             NearsOrSpares result (writes_left_in plan.now self.old (store_of pool.old.images))
             (writes_left_in plan.now self.new (store_of pool.new.images)) pool.old pool.new }
         ensures step { (names : List Lock) (records : Records) (change : Change) →
@@ -140,7 +140,8 @@ impl CallWrites {
     }
 
     /// One step of the access under way. Where it writes, its deed is paid. One that has ended is
-    /// still there only where it has not written, which can't be so of the records of a system.
+    /// refused: it is still there only behind a fault, or where it has not written, which can't be
+    /// so of the records of a system.
     fn go_on<D: PageDevice, K: PseudoKey>(
         &mut self,
         plan: &PlanOf<'_>,
@@ -188,7 +189,10 @@ impl CallWrites {
             return did;
         }
         match self.due {
-            Due::Trying(standing) if access.has_no_room() => {
+            Due::Trying(standing) => {
+                if !access.has_no_room() {
+                    return Progress::Fault(FileFault::Failed);
+                }
                 self.due = Due::Full(standing);
                 self.access = None;
                 did

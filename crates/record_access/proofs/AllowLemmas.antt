@@ -1,13 +1,14 @@
 -- What stands at the key behind a step allows what is left to do.
-use Rattle.std.proofs.Common.{◌≡◌, refl, sym, ap, ◌∙◌, subst, ℕ, Bool, true, false, not, ◌&&◌, List, length, if◌then◌else◌, Option, Some, None, IsSome}
+use Rattle.std.proofs.Common.{◌≡◌, refl, sym, ap, ◌∙◌, subst, ℕ, Bool, true, false, not, ◌&&◌, List, length, if◌then◌else◌, inl, inr, Option, Some, None, IsSome}
 use Rattle.std.proofs.lemmas.Bool.{true≢false}
 use Rattle.std.specs.Option.{option_map}
 use Rattle.record_insert.specs.SecondSteps.{IsSeenThere, SaysAt}
 use Rattle.record_access.proofs.Names.{FileFault}
 use Rattle.record_access.proofs.RecordLemmas.{front_stays, is_such, such_then}
-use Rattle.record_access.specs.Words.{RecordKey, pair, contents, Progress, Moved, WriteRecord, World, HasNoRoom, Tried, IsPut, IsThere, IsFull, RecordOperation, operation_found, operation_tried, Links, Record, HasSuch, relinked, value_of, Replace, Relink, Delete}
+use Rattle.record_access.specs.Words.{RecordKey, pair, contents, Progress, Moved, WriteRecord, World, HasNoRoom, Tried, IsPut, IsThere, IsFull, LeavesSearch, RecordOperation, TellsNone, has_searched, operation_found, operation_tried, Links, Record, HasSuch, relinked, value_of, Write, Replace, Relink, Delete}
 use Rattle.record_access.specs.Purposes.{Purpose, ToFind, ToInsert, ToWrite, CanBeOn, made}
-use Rattle.record_access.specs.Accesses.{AccessView, Allows, CameTo, IsFrontOf, IsPrepared, is_full}
+use Rattle.record_access.specs.Accesses.{AccessView, Allows, CameTo, FitsWrite, IsFrontOf, IsPrepared, IsToWrite, is_full}
+use Rattle.record_access.specs.Readings.{SuitsRecord}
 
 -- what stands there behind a step that writes, or not
 abbrev pub left : Bool → Purpose → Option Record → Option Record
@@ -100,6 +101,64 @@ deleted_on : (key : RecordKey) (b written : Bool) (found : Option Record) → (w
 deleted_on key true written found allows unwritten = absurd (true≢false unwritten)
 deleted_on key false written found allows unwritten = allows unwritten
 
+fits_on : (write : Write) (found : Option Record) (a : AccessView) (o' : RecordOperation) (b : Bool) →
+    operation_found o' ≡ operation_found a.operation → (b ≡ true → (key : RecordKey) (links : Links) →
+    write ≡ Relink key links → IsSome (operation_found a.operation)) → FitsWrite write a found →
+    FitsWrite write (record { operation = o'; links = a.links; bytes = a.bytes; written = then_written b a.written })
+    (left b (ToWrite write) found)
+fits_on (Replace r) found a o' b same answered fits = replaced_on r b found fits
+fits_on (Relink key links) found a o' b same answered fits =
+    let after = relinked_on key links b (operation_found a.operation) a.bytes found
+    (λ yes. answered yes key links refl) fits.0 fits.1 in (
+      after.0,
+      subst (λ (at : Option (ℕ × Option ℕ)). IsPrepared at links a.bytes
+          (left b (ToWrite (Relink key links)) found)) (sym same) after.1,
+    )
+fits_on (Delete key) found a o' b same answered fits = deleted_on key b a.written found fits
+
+-- ---- a write is still to be made, or has been
+
+-- its search goes on where it neither writes nor was told that nothing stands there
+pub searches_on : (did : Progress FileFault) (at : Option (ℕ × Option ℕ)) (before after : Bool) →
+    (did ≡ Moved WriteRecord → ⊥) → (TellsNone at → ⊥) → before ≡ false → LeavesSearch did at before after →
+    after ≡ false
+searches_on did at before false other told is leaves = refl
+searches_on did at true true other told is leaves = is
+searches_on did at false true other told is (inl wrote) = absurd (other wrote)
+searches_on did at false true other told is (inr none) = absurd (told none)
+
+pub due_on : (did : Progress FileFault) (o o' : RecordOperation) (b written : Bool) →
+    operation_found o' ≡ operation_found o → (did ≡ Moved WriteRecord → b ≡ true) →
+    LeavesSearch did (operation_found o) (has_searched o) (has_searched o') → (written ≡ false → IsToWrite o) →
+    then_written b written ≡ false → IsToWrite o'
+due_on did o o' true written same wrote leaves due unwritten = absurd (true≢false unwritten)
+due_on did o o' false written same wrote leaves due unwritten =
+    let was = due unwritten in
+    record {
+      searches = searches_on did (operation_found o) (has_searched o) (has_searched o')
+          (λ is. true≢false (sym (wrote is))) was.told was.searches leaves;
+      told = λ none. was.told (subst TellsNone same none);
+    }
+
+-- what can be changed stands there
+something : (write : Write) (a : AccessView) (found : Option Record) → FitsWrite write a found → a.written ≡ false →
+    IsSome found
+something (Replace r) a None fits unwritten = absurd cc
+something (Replace r) a (Some q) fits unwritten = refl
+something (Relink key links) a found fits unwritten = subst IsSome (sym (is_such links found fits.0).is) refl
+something (Delete key) a found fits unwritten = fits unwritten
+
+-- behind the Look of a page that answered
+pub allows_taken : (p : Purpose) (found : Option Record) (a new : AccessView) → new.written ≡ a.written →
+    Allows p a found → SuitsRecord p new found →
+    (IsSome found → IsToWrite a.operation → IsToWrite new.operation) → Allows p new found
+allows_taken (ToFind key) found a new same allows suits told = tt
+allows_taken (ToInsert r) found a new same allows suits told = suits
+allows_taken (ToWrite write) found a new same allows suits told = record {
+  fits = suits;
+  due = λ unwritten. told (something write new found suits unwritten) (allows.due (sym same ∙ unwritten));
+}
+
 -- ---- each access, where its operation tells what it told
 
 pub allows_on : (p : Purpose) (found : Option Record) (a : AccessView) (o' : RecordOperation) (b : Bool) →
@@ -107,21 +166,16 @@ pub allows_on : (p : Purpose) (found : Option Record) (a : AccessView) (o' : Rec
     p ≡ ToWrite (Relink key links) → IsSome (operation_found a.operation)) →
     ((r : Record) → p ≡ ToInsert r → found ≡ (if a.written then Some r else None) →
     CameTo (operation_tried a.operation) a.written → CameTo (operation_tried o') (then_written b a.written)) →
+    ((a.written ≡ false → IsToWrite a.operation) → then_written b a.written ≡ false → IsToWrite o') →
     Allows p a found →
     Allows p (record { operation = o'; links = a.links; bytes = a.bytes; written = then_written b a.written })
     (left b p found)
-allows_on (ToFind key) found a o' b same answered came allows = tt
-allows_on (ToInsert r) found a o' b same answered came allows = record {
+allows_on (ToFind key) found a o' b same answered came due allows = tt
+allows_on (ToInsert r) found a o' b same answered came due allows = record {
   stands = stands_on r b a.written found allows.stands;
   came_to = came r refl allows.stands allows.came_to;
 }
-allows_on (ToWrite (Replace r)) found a o' b same answered came allows = replaced_on r b found allows
-allows_on (ToWrite (Relink key links)) found a o' b same answered came allows =
-    let after = relinked_on key links b (operation_found a.operation) a.bytes found
-    (λ yes. answered yes key links refl) allows.0 allows.1 in (
-      after.0,
-      subst (λ (at : Option (ℕ × Option ℕ)). IsPrepared at links a.bytes
-          (left b (ToWrite (Relink key links)) found)) (sym same) after.1,
-    )
-allows_on (ToWrite (Delete key)) found a o' b same answered came allows =
-    deleted_on key b a.written found allows
+allows_on (ToWrite write) found a o' b same answered came due allows = record {
+  fits = fits_on write found a o' b same (λ yes key links is. answered yes key links (ap ToWrite is)) allows.fits;
+  due = due allows.due;
+}

@@ -4,6 +4,7 @@ pub mod SuitLemmas
 pub mod StandLemmas
 pub mod AimLemmas
 pub mod AllowLemmas
+pub mod EndLemmas
 pub mod StepLemmas
 pub mod ReadLemmas
 pub mod BucketLemmas

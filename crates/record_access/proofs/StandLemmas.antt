@@ -104,14 +104,14 @@ left_behind (ToInsert r) found a s value serves stands allows answered writes is
 left_behind (ToWrite (Replace r)) found a s value serves stands allows answered writes is = (
   is ∙ replaces_value a.operation a.bytes s (is_replace (ToWrite (Replace r)) a.operation tt serves.kind)
       ∙ ap Some (ap (λ (v : Option (List ℕ)). with_front a.bytes (unwrap_or v [])) stands.holds
-      ∙ whole_front a.bytes (unwrap_or (option_map value_of found) []) (found_long r found allows
+      ∙ whole_front a.bytes (unwrap_or (option_map value_of found) []) (found_long r found allows.fits
       ∙ sym (ap length serves.value)) ∙ serves.value),
   subst (λ (k : RecordKey). Spells r k (value_of r)) (sym serves.key) serves.limits,
 )
 left_behind (ToWrite (Relink key links)) found a s value serves stands allows answered writes is =
-    let it = is_such links found allows.0 in
+    let it = is_such links found allows.fits.0 in
     let front : IsFrontOf links a.bytes it.entry =
-    ready (operation_found a.operation) (answered serves.kind tt) allows.1 it.entry it.is in
+    ready (operation_found a.operation) (answered serves.kind tt) allows.fits.1 it.entry it.is in
     let spells : Spells it.entry (access_key a) (value_of it.entry) =
     subst (λ (o : Option Record). IfSome o (λ (r : Record). Spells r (access_key a) (value_of r))) it.is
     stands.spelled in

@@ -5,7 +5,7 @@ use Rattle.record_operation.specs.OperationSteps.{TellsOf as TellsOfOperation}
 use Rattle.record_file.specs.Machines.{FindsAt}
 use Rattle.record_access.proofs.Names.{FileFault, MakesOperation, SuitsFile, holds_still}
 use Rattle.record_access.proofs.AimLemmas.{behind, same_answer, serves_on, tells_on, writes_answered, wrote_not, wrote_of}
-use Rattle.record_access.proofs.AllowLemmas.{allows_on, came_on, lacks_on, left, then_written}
+use Rattle.record_access.proofs.AllowLemmas.{allows_on, came_on, due_on, lacks_on, left, then_written}
 use Rattle.record_access.proofs.StandLemmas.{finds_none, left_behind, written_at}
 use Rattle.record_access.proofs.SuitLemmas.{IsReplacing, is_replace, suits_file}
 use Rattle.stale_search.specs.Steps.{Stays}
@@ -82,6 +82,7 @@ module _ (hash : RecordKey → ℕ) (seat : ℕ) (did : Progress FileFault) (a :
               (λ r is stood came. came_on hash seat did (access_key a) a.bytes (world pool.images locks change)
               (world pool'.images locks' change) r found f.stands.holds (is_write did) a.written
               (operation_tried a.operation) (operation_tried o') (λ wrote. ap is_write wrote) stood came told.tried)
+              (due_on did a.operation o' (is_write did) a.written same (λ wrote. ap is_write wrote) op.aim.leaves)
               f.allows;
           finds = inl (same_answer (length a.bytes) did pool a.operation o' op.aim.kind same);
           lacks = lacks;

@@ -57,9 +57,9 @@ within_it : (p : Purpose) (found : Option Record) (a : AccessView) (s : Store) �
 within_it (ToFind key) found a s serves stands allows replacing value here = absurd replacing
 within_it (ToInsert r) found a s serves stands allows replacing value here = absurd replacing
 within_it (ToWrite (Replace r)) found a s serves stands allows replacing value here =
-    replaced_within r found a.bytes value allows serves.value (sym stands.holds ∙ here)
+    replaced_within r found a.bytes value allows.fits serves.value (sym stands.holds ∙ here)
 within_it (ToWrite (Relink key links)) found a s serves stands allows replacing value here =
-    fronted_within (operation_found a.operation) links found a.bytes value allows.1 (sym stands.holds ∙ here)
+    fronted_within (operation_found a.operation) links found a.bytes value allows.fits.1 (sym stands.holds ∙ here)
 within_it (ToWrite (Delete key)) found a s serves stands allows replacing value here = absurd replacing
 
 pub is_replace : (p : Purpose) (o : RecordOperation) → IsReplacing p → IsOfKind p o → IsReplace o

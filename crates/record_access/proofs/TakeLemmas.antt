@@ -1,5 +1,5 @@
 -- What an access takes from the page that answered, behind the Look of its operation.
-use Rattle.std.proofs.Common.{◌≡◌, refl, sym, ap, ◌∙◌, subst, ℕ, ◌<◌, Bool, true, false, not, ◌&&◌, List, length, inl, inr, ◌⊎◌, Option, Some, None, IsTrue, IsOk, Result, Ok, Err, is_ok, if◌then◌else◌, arith}
+use Rattle.std.proofs.Common.{◌≡◌, refl, sym, ap, ◌∙◌, subst, ℕ, ◌<◌, Bool, true, false, not, ◌&&◌, List, length, inl, inr, ◌⊎◌, Option, Some, None, IsSome, IsTrue, IsOk, Result, Ok, Err, is_ok, if◌then◌else◌, arith}
 use Rattle.std.proofs.lemmas.Bool.{true≢false}
 use Rattle.std.specs.Option.{option_map}
 use Rattle.bucket_page.specs.Records.{lookup}
@@ -15,14 +15,14 @@ use Rattle.step_rules.specs.Known.{AllKnown}
 use Rattle.step_rules.specs.Turns.{TurnsAt}
 use Rattle.record_access.proofs.Names.{FileFault, MakesOperation}
 use Rattle.record_access.proofs.AimLemmas.{behind, none_told, same_parts, serves_on, told_none}
-use Rattle.record_access.proofs.AllowLemmas.{then_written}
+use Rattle.record_access.proofs.AllowLemmas.{allows_taken, searches_on, then_written}
 use Rattle.record_access.proofs.BucketLemmas.{bucket_there}
 use Rattle.record_access.proofs.StepLemmas.{lacks, nears, stands, stepped, tells, told}
-use Rattle.record_access.specs.Words.{RecordKey, pair, PoolState, Table, Change, Store, store_of, HasNoRoom, Progress, Moved, Fault, Ended, Look, WriteRecord, World, is_fault, Step, world, FollowsRow, NearsOrSpares, RecordOperation, HasEnded, operation_facts, operation_found, operation_key, operation_left, operation_locks, operation_pseudokey, operation_tried, Known, Turn, Record, Replace, Relink, Delete}
+use Rattle.record_access.specs.Words.{RecordKey, pair, PoolState, Table, Change, Store, store_of, HasNoRoom, Progress, Moved, Fault, Ended, Look, WriteRecord, World, is_fault, Step, world, FollowsRow, NearsOrSpares, RecordOperation, HasEnded, TellsNone, has_searched, operation_facts, operation_found, operation_key, operation_left, operation_locks, operation_pseudokey, operation_tried, Known, Turn, Record, value_of, Replace, Relink, Delete}
 use Rattle.record_access.specs.Purposes.{Purpose, ToFind, ToInsert, ToWrite, is_write, left_by, made}
-use Rattle.record_access.specs.Accesses.{AccessView, Allows, IsOfKind, Serves, access_key, access_left, access_turn, answer_in, has_no_room, is_full}
+use Rattle.record_access.specs.Accesses.{AccessView, Allows, IsOfKind, IsToWrite, Serves, access_key, access_left, access_turn, answer_in, has_no_room, is_full}
 use Rattle.record_access.specs.AccessSteps.{Faces, FindsRecord, MakesAccess, Rests, TellsOf}
-use Rattle.record_access.specs.Readings.{IsReader, IsShown, IsTold, Takes, TakesWell, WasAllowed, value_on}
+use Rattle.record_access.specs.Readings.{IsReader, IsShown, IsTold, SuitsRecord, Takes, TakesWell, WasAllowed, value_on}
 
 -- of others than finds no answer is kept
 answers_none : (p : Purpose) (o : RecordOperation) → IsOfKind p o →
@@ -49,9 +49,15 @@ was_allowed : (p : Purpose) (found : Option Record) (a b : AccessView) → b.wri
     WasAllowed p b found
 was_allowed (ToFind key) found a b same allows = tt
 was_allowed (ToInsert r) found a b same allows = tt
-was_allowed (ToWrite (Replace r)) found a b same allows = allows
-was_allowed (ToWrite (Relink key links)) found a b same allows = allows.0
-was_allowed (ToWrite (Delete key)) found a b same allows = λ unwritten. allows (sym same ∙ unwritten)
+was_allowed (ToWrite (Replace r)) found a b same allows = allows.fits
+was_allowed (ToWrite (Relink key links)) found a b same allows = allows.fits.0
+was_allowed (ToWrite (Delete key)) found a b same allows = λ unwritten. allows.fits (sym same ∙ unwritten)
+
+-- a record has a value of some length
+no_length : (found : Option Record) (len : Option ℕ) → IsSome found →
+    len ≡ option_map length (option_map value_of found) → len ≡ None → ⊥
+no_length None len some is none = absurd cc
+no_length (Some r) len some is none = let clash = sym is ∙ none in cc
 
 -- who reads a page has not written one
 reads_only : (p : Purpose) (o : RecordOperation) (did : Progress FileFault) (pool pool' : PoolState) → IsReader p →
@@ -212,6 +218,19 @@ module _ {X : Type 0} (hash : RecordKey → ℕ) (seat : ℕ) (did : Progress Fi
         unwritten all in
         subst Tells (sym (as_was unfound).1) all'
 
+    -- a write that searches goes on to its write, where the page told of a record
+    to_write_on : IsFoundAtLook hash seat did (operation_key a.operation) (operation_found a.operation)
+        (operation_found o') (world pool.images locks change) → IsSome found → IsToWrite a.operation →
+        IsToWrite new.operation
+    to_write_on l some was =
+        let length_is : l.found ≡ option_map length (option_map value_of found) =
+        l.tells.length_is ∙ ap (option_map length) (l.tells.answer.told ∙ f.stands.holds) in
+        subst IsToWrite (sym same_op) (record {
+          searches = searches_on did (operation_found a.operation) (has_searched a.operation) (has_searched o')
+              no_write was.told was.searches op.aim.leaves;
+          told = λ unseen. no_length found l.found some length_is (subst TellsNone l.is unseen);
+        })
+
     tells_taken : IsOk result → (page : ℕ) (len : Option ℕ) → IsFoundAtLook hash seat did (operation_key a.operation)
         (operation_found a.operation) (operation_found o') (world pool.images locks change) →
         operation_found o' ≡ Some (page, len) → Tells new
@@ -220,13 +239,14 @@ module _ {X : Type 0} (hash : RecordKey → ℕ) (seat : ℕ) (did : Progress Fi
         let left : left_by did p found ≡ found = ap (λ (b : Bool). if b then made p found else found) unwritten in
         record {
           stands = stands hash seat did a o' pool pool' locks locks' op p found change f fine;
-          allows = subst (Allows p new) (sym left) both.0;
+          allows = subst (Allows p new) (sym left)
+              (allows_taken p found a new t.written f.allows both.0 (to_write_on l));
           finds = finds_of p f.serves.kind (serves_on did pool a o' a.written op.aim p f.serves).kind both.1;
           lacks = lacks_new t.written;
         }
       where
         well : (r : Result X FileFault) → IsOk r → TakesWell r p found pool' pool'' new →
-            Allows p new found × IsTold p new found
+            SuitsRecord p new found × IsTold p new found
         well (Ok x) ok both = both
         well (Err fault) ok both = absurd cc
 

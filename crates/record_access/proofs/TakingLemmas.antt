@@ -12,9 +12,9 @@ use Rattle.record_access.proofs.RecordLemmas.{is_such}
 use Rattle.record_access.proofs.SuitLemmas.{value_is_of}
 use Rattle.record_access.specs.Words.{RecordKey, PoolState, IsReady, RecordOperation, operation_found, operation_key, Links, Record, Spells, HasSuch, linked_bytes, Replace, Relink, Delete, value_of}
 use Rattle.record_access.specs.Purposes.{Purpose, ToFind, ToInsert, ToWrite}
-use Rattle.record_access.specs.Accesses.{AccessView, Allows, HasFound, HasValue, IsFrontOf, IsOfKind, IsPrepared, IsToldIn, Serves, answer_in, links_of}
+use Rattle.record_access.specs.Accesses.{AccessView, HasFound, HasValue, IsFrontOf, IsOfKind, IsPrepared, IsToldIn, Serves, answer_in, links_of}
 use Rattle.record_access.specs.AccessSteps.{SuitsAnswer, SuitsFound}
-use Rattle.record_access.specs.Readings.{IsReader, IsReplace, IsTold, SeesBucket, Takes, WasAllowed, value_on}
+use Rattle.record_access.specs.Readings.{IsReader, IsReplace, IsTold, SeesBucket, SuitsRecord, Takes, WasAllowed, value_on}
 
 -- ---- a find
 
@@ -95,7 +95,7 @@ module _ (o : RecordOperation) (links : Option Links) (old_bytes bytes : List �
         subst (λ (v : List ℕ). Spells it.entry (operation_key o) v) (sym it.value_is)
         (subst (λ (f : Option Record). IfSome f (λ (r : Record). Spells r (operation_key o) (value_of r))) it.is
         shown.spelled) in
-        subst (λ (q : Purpose). Allows q new found × IsTold q new found) (sym is.1) (
+        subst (λ (q : Purpose). SuitsRecord q new found × IsTold q new found) (sym is.1) (
           tt,
           subst (HasFound new) (sym it.is)
               (subst (λ (a : Option (ℕ × Option ℕ)). IsToldIn a (operation_key o) bytes (Some it.entry)) (sym finds)
@@ -189,7 +189,8 @@ module _ (o : RecordOperation) (links : Links) (old_bytes : List ℕ) (written :
         let it = is_such links found such in
         let prepared : IsPrepared (Some (page, Some len)) links bytes found = λ r there.
         ok r shown.sees.honest (subst (HasSuch links) there such) (value ∙ ap (option_map value_of) there) in
-        subst (λ (q : Purpose). Allows q (relink_of bytes) found × IsTold q (relink_of bytes) found) (sym is.1)
+        subst (λ (q : Purpose). SuitsRecord q (relink_of bytes) found × IsTold q (relink_of bytes) found)
+        (sym is.1)
         ((such, subst (λ (a : Option (ℕ × Option ℕ)). IsPrepared a links bytes found) (sym at) prepared), tt);
   }
 

@@ -3,7 +3,7 @@
 use Rattle.std.specs.Prelude.{ℕ, ◌≡◌, ◌≤◌, Bool, true, false, not, ◌&&◌, List, [], length, Option, Some, None, IsSome, if◌then◌else◌, ⊤}
 use Rattle.record_operation.specs.declared.operation.RecordOperation.TheVariants as operations
 use Rattle.queue_records.specs.declared.layout.TheConstants.{MAX_VALUE_BYTES}
-use Rattle.record_access.specs.Words.{RecordKey, Lock, Store, with_front, Known, Turn, found_of, Tried, IsFull, RecordOperation, MayBeLent, begun_delete, begun_find, begun_insert, begun_replace, operation_facts, operation_found, operation_key, operation_left, operation_locks, operation_pseudokey, operation_tried, operation_turn, Links, Record, Spells, HasSuch, relinked, key_of, value_of, Write, Replace, Relink, Delete}
+use Rattle.record_access.specs.Words.{RecordKey, Lock, Store, with_front, Known, Turn, found_of, Tried, IsFull, RecordOperation, MayBeLent, TellsNone, has_searched, begun_delete, begun_find, begun_insert, begun_replace, operation_facts, operation_found, operation_key, operation_left, operation_locks, operation_pseudokey, operation_tried, operation_turn, Links, Record, Spells, HasSuch, relinked, key_of, value_of, Write, Replace, Relink, Delete}
 use Rattle.record_access.specs.Purposes.{Purpose, ToFind, ToInsert, ToWrite, CanBeOn, KeepsLimits, aimed_at}
 
 pub record AccessView : Type 0 where
@@ -130,11 +130,22 @@ abbrev pub IsPrepared : Option (ℕ × Option ℕ) → Links → List ℕ → Op
 IsPrepared None links bytes found = bytes ≡ []
 IsPrepared (Some at) links bytes found = (r : Record) → found ≡ Some r → IsFrontOf links bytes r
 
-abbrev pub AllowsWrite : Write → AccessView → Option Record → Type 0
-AllowsWrite (Replace r) a found = CanBeOn (Replace r) found
-AllowsWrite (Relink key links) a found =
+-- what stands there can be changed so, and what was prepared of it is right
+abbrev pub FitsWrite : Write → AccessView → Option Record → Type 0
+FitsWrite (Replace r) a found = CanBeOn (Replace r) found
+FitsWrite (Relink key links) a found =
     HasSuch links found × IsPrepared (operation_found a.operation) links a.bytes found
-AllowsWrite (Delete key) a found = a.written ≡ false → IsSome found
+FitsWrite (Delete key) a found = a.written ≡ false → IsSome found
+
+-- it is still to write: its search goes on, and no page has told that nothing stands there
+pub record IsToWrite (o : RecordOperation) : Type 0 where
+  pub searches : has_searched o ≡ false
+  pub told : TellsNone (operation_found o) → ⊥
+
+pub record AllowsWrite (write : Write) (a : AccessView) (found : Option Record) : Type 0 where
+  pub fits : FitsWrite write a found
+  -- behind its search it has written
+  pub due : a.written ≡ false → IsToWrite a.operation
 
 -- an insert that has written nothing came to nothing else than no room
 abbrev pub CameTo : Option Tried → Bool → Type 0

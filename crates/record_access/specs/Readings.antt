@@ -11,7 +11,7 @@ use Rattle.hash_file.specs.Store.{records_at}
 use Rattle.record_operation.specs.declared.operation.RecordOperation.TheVariants as operations
 use Rattle.record_access.specs.Words.{RecordKey, RecordOperation, PoolState, store_of, operation_found, HasSuch, Record, Spells, value_of, Replace, Relink, Delete}
 use Rattle.record_access.specs.Purposes.{CanBeOn, Purpose, ToFind, ToInsert, ToWrite}
-use Rattle.record_access.specs.Accesses.{AccessView, Allows, HasFound, Serves, access_key}
+use Rattle.record_access.specs.Accesses.{AccessView, AllowsInsert, FitsWrite, HasFound, Serves, access_key}
 use Rattle.record_access.specs.AccessSteps.{SuitsFound}
 
 -- what the bucket on a page has of a key
@@ -44,6 +44,12 @@ WasAllowed (ToWrite (Replace r)) a found = CanBeOn (Replace r) found
 WasAllowed (ToWrite (Relink key links)) a found = HasSuch links found
 WasAllowed (ToWrite (Delete key)) a found = a.written ≡ false → IsSome found
 
+-- what was taken up suits what stands there
+abbrev pub SuitsRecord : Purpose → AccessView → Option Record → Type 0
+SuitsRecord (ToFind key) a found = ⊤
+SuitsRecord (ToInsert r) a found = AllowsInsert r a found
+SuitsRecord (ToWrite write) a found = FitsWrite write a found
+
 -- what a find is told
 abbrev pub IsTold : Purpose → AccessView → Option Record → Type 0
 IsTold (ToFind key) a found = HasFound a found
@@ -58,7 +64,7 @@ IsReader p = ⊥
 -- the record is taken up, or the device has failed
 abbrev pub TakesWell : {X : Type 0} → Result X FileFault → Purpose → Option Record → (pool pool' : PoolState) →
     AccessView → Type 0
-TakesWell (Ok x) p found pool pool' a = Allows p a found × IsTold p a found
+TakesWell (Ok x) p found pool pool' a = SuitsRecord p a found × IsTold p a found
 TakesWell (Err fault) p found pool pool' a = IsReader p × IsDevicesFault pool pool' fault
 
 -- an access takes what it is for from the page that answered

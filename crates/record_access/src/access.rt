@@ -4,7 +4,7 @@ ghost use Rattle.std.specs.Prelude.{◌≡◌, ◌≢◌, ◌≤◌, ◌↔◌, 
 ghost use Rattle.queue_records.specs.declared.layout.TheConstants.{MAX_VALUE_BYTES};
 ghost use Rattle.queue_records.specs.Range.{IsInRange};
 ghost use Rattle.xsi_inquiry.specs.Writing.{HasRange};
-ghost use Rattle.record_access.specs.Words.{Change, FollowsRow, HasEnded, IsReady, IsSeat, EndsRow, Look, MayBeLent, Moved, NearsOrSpares, OnlyWrites, Record, RecordKey, Step, is_fault, operation_found, operation_key, row_of, store_of, world};
+ghost use Rattle.record_access.specs.Words.{Change, FollowsRow, HasEnded, IsReady, IsSeat, EndsRow, Look, MayBeLent, Moved, NearsOrSpares, OnlyWrites, Record, RecordKey, Step, Write, is_fault, operation_found, operation_key, row_of, store_of, world};
 ghost use Rattle.record_access.specs.Purposes.{Purpose, ToFind, ToInsert, ToWrite, is_write};
 ghost use Rattle.record_access.specs.Accesses.{Allows, HasFound, Serves, access_answer, access_facts, access_left, access_locks, access_turn, begun, has_no_room};
 ghost use Rattle.record_access.specs.AccessSteps.{Faces, KeepsAccess, MakesAccess, TellsOf};
@@ -179,11 +179,15 @@ impl Access {
         self.written
     }
 
-    /// Whether it has given all its locks back. A find that has ended has been answered.
+    /// Whether it has given all its locks back. A find that has ended has been answered, and a
+    /// write has written.
     pub fn has_ended(&self) -> bool
         ensures ended { (result ≡ true) ↔ HasEnded self.now.operation }
         ensures answered { (key : RecordKey) → Serves (ToFind key) self.now →
             result ≡ true → access_answer self.now ≢ None }
+        ensures written { (write : Write) (found : Option Record) →
+            Serves (ToWrite write) self.now → Allows (ToWrite write) self.now found →
+            result ≡ true → self.now.written ≡ true }
     {
         self.operation.has_ended()
     }

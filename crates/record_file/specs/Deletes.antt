@@ -9,7 +9,8 @@ use Rattle.stale_search.specs.declared.place.ApproachPlace.TheVariants.{GrantDir
 use Rattle.record_file.specs.Words.{Remove, Lock, Store, Progress, Ended, Stays, Known, Turn}
 use Rattle.record_file.specs.declared.removal.RemovalStage.{RemovalStage}
 use Rattle.record_file.specs.declared.removal.RemovalStage.TheVariants.{Ended as HasEnded}
-use Rattle.record_file.specs.Removals.{RemovalView, ended_in, removal_locks, removal_facts, removal_turn, removal_left}
+use Rattle.record_file.specs.Removals.{RemovalView, ended_in, has_searched, removal_locks, removal_facts, removal_turn, removal_left, removed_at}
+use Rattle.record_file.specs.Writers.{LeavesSearch}
 
 pub record DeleteView : Type 0 where
   pub removal : RemovalView
@@ -53,12 +54,15 @@ delete_turn d = record {
   write = Some (Remove d.removal.search.key);
 }
 
--- what it is about stays, it has ended where it was over, and where it did not move it is what it was
+-- what it is about stays, it has ended where it was over, where it did not move it is what it was, and behind its
+-- search it has written, but where nothing stands there
 pub record KeepsDelete {F : Type 0} (did : Progress F) (old new : DeleteView) : Type 0 where
   pub key : new.removal.search.key ≡ old.removal.search.key
   pub pseudokey : new.removal.search.pseudokey ≡ old.removal.search.pseudokey
   pub stays : Stays did old new
   pub ended : (did ≡ Ended) ↔ IsOver old.removal.stage old.merge.place
+  pub leaves : LeavesSearch did (removed_at old.removal) (has_searched old.removal.stage)
+      (has_searched new.removal.stage)
 
 -- the steps that are left, if no other seat steps
 abbrev pub delete_left : DeleteView → Store → ℕ

@@ -1,12 +1,12 @@
 -- What a removal holds, knows and asks for at each place: a search, the WriteRecord where the key is there, and the
 -- Release of the page. A merge is due behind it where the bucket has a buddy and became small.
-use Rattle.std.specs.Prelude.{ℕ, ◌≡◌, ◌↔◌, ◌+◌, ◌-◌, ◌&&◌, nat_le, Bool, false, List, [], Option, Some, None, ⊤}
+use Rattle.std.specs.Prelude.{ℕ, ◌≡◌, ◌↔◌, ◌+◌, ◌-◌, ◌&&◌, nat_le, Bool, true, false, List, [], Option, Some, None, ⊤}
 use Rattle.bucket_page.specs.declared.layout.TheConstants.{RECORD_HEAD_BYTES}
 use Rattle.step_rules.specs.declared.kind.TheConstants.{MERGED_BYTES}
 use Rattle.step_rules.specs.Rooms.{TurnsAway}
 use Rattle.stale_search.specs.Searches.{ask_at}
 use Rattle.record_file.specs.Words.{RecordKey, Remove, Lock, Selective, Store, Progress, Ended, Stays, World, Known, Turn, SearchView, search_locks, found_at, steps_left, on_page}
-use Rattle.record_file.specs.Writers.{seen_at}
+use Rattle.record_file.specs.Writers.{LeavesSearch, seen_at}
 use Rattle.record_file.specs.declared.removal.RemovalStage.{RemovalStage}
 use Rattle.record_file.specs.declared.removal.RemovalStage.TheVariants.{Searching, Written, Ended as HasEnded}
 
@@ -57,12 +57,20 @@ is_due depth used bytes = nat_le 1 depth && nat_le (used - RECORD_HEAD_BYTES - b
 abbrev pub removed_at : RemovalView → Option (ℕ × Option ℕ)
 removed_at r = found_at r.search.place
 
--- what it is about stays, it has ended where it gave the page back, and where it did not move it is what it was
+-- its search is behind it
+abbrev pub has_searched : RemovalStage → Bool
+has_searched Searching = false
+has_searched (Written n due) = true
+has_searched (HasEnded due) = true
+
+-- what it is about stays, it has ended where it gave the page back, where it did not move it is what it was, and behind
+-- its search it has written, but where nothing stands there
 pub record KeepsRemoval {F : Type 0} (did : Progress F) (old new : RemovalView) : Type 0 where
   pub key : new.search.key ≡ old.search.key
   pub pseudokey : new.search.pseudokey ≡ old.search.pseudokey
   pub stays : Stays did old new
   pub ended : (did ≡ Ended) ↔ ((due : Bool) × (old.stage ≡ HasEnded due))
+  pub leaves : LeavesSearch did (removed_at old) (has_searched old.stage) (has_searched new.stage)
 
 -- where it is written and no merge is due, none can be made
 abbrev pub TurnsAwayIn : (RecordKey → ℕ) → RecordKey → ℕ → RemovalStage → RemovalStage → World → Type 0

@@ -1,10 +1,10 @@
 -- What a replace holds, knows and asks for at each place: a search, the WriteRecord where the key is there, and the
 -- Release of the page.
-use Rattle.std.specs.Prelude.{ℕ, ◌≡◌, ◌≤◌, ◌↔◌, ◌+◌, true, not, IsTrue, List, [], ◌++◌, Option, Some, IsSome, length, drop, unwrap_or}
+use Rattle.std.specs.Prelude.{ℕ, ◌≡◌, ◌≤◌, ◌↔◌, ◌+◌, Bool, true, false, not, IsTrue, List, [], ◌++◌, Option, Some, IsSome, length, drop, unwrap_or}
 use Rattle.stale_search.specs.Rows.{on_page}
 use Rattle.stale_search.specs.Searches.{ask_at}
 use Rattle.record_file.specs.Words.{RecordKey, pair, Replace, contents, Lock, Selective, Store, PoolState, OnlyWrites, Progress, Moved, Ended, WriteRecord, is_fault, Stays, Known, Turn, SearchView, search_locks, found_at, steps_left}
-use Rattle.record_file.specs.Writers.{seen_at}
+use Rattle.record_file.specs.Writers.{LeavesSearch, seen_at}
 use Rattle.record_file.specs.declared.replace.ReplaceStage.{ReplaceStage}
 use Rattle.record_file.specs.declared.replace.ReplaceStage.TheVariants.{Searching, Written, Ended as HasEnded}
 
@@ -53,19 +53,26 @@ IsFrontAt s key front = (value : List ℕ) → contents s key ≡ Some value →
 abbrev pub replaced_at : ReplaceView → Option (ℕ × Option ℕ)
 replaced_at r = found_at r.search.place
 
+-- its search is behind it
+abbrev pub has_searched : ReplaceStage → Bool
+has_searched Searching = false
+has_searched (Written n) = true
+has_searched HasEnded = true
+
 -- pages are written by the WriteRecord alone
 pub record WritesOnce {F : Type 0} (did : Progress F) (old new : PoolState) : Type 0 where
   pub writes : OnlyWrites (not (is_fault did)) old new
   pub spares : (did ≡ Moved WriteRecord → ⊥) → IsTrue old.honest → new.images ≡ old.images
 
--- what it is about stays, it has ended where it gave the page back, where it did not move it is what it was, and it
--- writes where a page answered
+-- what it is about stays, it has ended where it gave the page back, where it did not move it is what it was, and behind
+-- its search it has written, but where nothing stands there
 pub record KeepsReplace {F : Type 0} (did : Progress F) (pool : PoolState) (old new : ReplaceView) : Type 0 where
   pub key : new.search.key ≡ old.search.key
   pub pseudokey : new.search.pseudokey ≡ old.search.pseudokey
   pub stays : Stays did old new
   pub ended : (did ≡ Ended) ↔ (old.stage ≡ HasEnded)
-  -- on an honest device
+  pub leaves : LeavesSearch did (replaced_at old) (has_searched old.stage) (has_searched new.stage)
+  -- on an honest device it writes where a page answered
   pub answered : IsTrue pool.honest → did ≡ Moved WriteRecord → IsSome (replaced_at old)
 
 -- the steps that are left, if no other seat steps

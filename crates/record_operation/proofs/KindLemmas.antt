@@ -47,6 +47,7 @@ module _ (hash : RecordKey → ℕ) (seat : ℕ) (bytes : List ℕ) (did : Progr
       ended = aim.ended;
       stays = Stays-of (λ (x : FindView). Find x) did f f' aim.stays;
       lent = λ lent. tt;
+      leaves = tt;
       kind = aim;
     };
     row = row;
@@ -79,6 +80,7 @@ module _ (hash : RecordKey → ℕ) (seat : ℕ) (bytes : List ℕ) (did : Progr
       ended = aim.ended;
       stays = Stays-of (λ (x : InsertView). Insert x) did i i' aim.stays;
       lent = aim.lent;
+      leaves = tt;
       kind = aim;
     };
     row = row;
@@ -111,6 +113,7 @@ module _ (hash : RecordKey → ℕ) (seat : ℕ) (bytes : List ℕ) (did : Progr
       ended = aim.ended;
       stays = Stays-of (λ (x : ReplaceView). Replace x) did r r' aim.stays;
       lent = λ lent. tt;
+      leaves = aim.leaves;
       kind = aim;
     };
     row = row;
@@ -147,6 +150,7 @@ module _ (hash : RecordKey → ℕ) (seat : ℕ) (bytes : List ℕ) (did : Progr
       ended = aim.ended;
       stays = Stays-of (λ (x : DeleteView). Delete x) did d d' aim.stays;
       lent = λ lent. tt;
+      leaves = aim.leaves;
       kind = aim;
     };
     row = row;

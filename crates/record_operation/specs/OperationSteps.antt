@@ -1,8 +1,8 @@
 -- What a step of an operation does. docs/STEPS.md, "Insert, Replace, Delete".
 use Rattle.std.specs.Prelude.{ℕ, ◌≡◌, ◌↔◌, true, false, not, IsTrue, List, length, ⊤}
 use Rattle.file_pages.specs.declared.fault.FileFault.{FileFault}
-use Rattle.record_operation.specs.Words.{RecordKey, pair, PoolState, Table, Lock, Change, Progress, Moved, Ended, WriteRecord, World, is_fault, HasNoFileLock, row_of, store_of, OnlyWrites, Stays, Sees, Step, FollowsRow, NearsOrSpares, world, FindsAt, SaysAt, TurnsAwayAt, TurnsAwayIn, KeepsFind, KeepsInsert, KeepsReplace, KeepsDelete, RecordOperation, Find, Insert, Replace, Delete}
-use Rattle.record_operation.specs.Operations.{HasEnded, IsKeyed, MayBeLent, OwnsWritten, SuitsFile, operation_facts, operation_found, operation_key, operation_left, operation_locks, operation_pseudokey, operation_tried, operation_turn}
+use Rattle.record_operation.specs.Words.{RecordKey, pair, PoolState, Table, Lock, Change, Progress, Moved, Ended, WriteRecord, World, is_fault, HasNoFileLock, LeavesSearch, row_of, store_of, OnlyWrites, Stays, Sees, Step, FollowsRow, NearsOrSpares, world, FindsAt, SaysAt, TurnsAwayAt, TurnsAwayIn, KeepsFind, KeepsInsert, KeepsReplace, KeepsDelete, RecordOperation, Find, Insert, Replace, Delete}
+use Rattle.record_operation.specs.Operations.{HasEnded, IsKeyed, MayBeLent, OwnsWritten, SuitsFile, has_searched, operation_facts, operation_found, operation_key, operation_left, operation_locks, operation_pseudokey, operation_tried, operation_turn}
 
 -- ---- whatever the device gives
 
@@ -26,8 +26,8 @@ KeepsKind bytes did pool (Replace r) (Replace r') = KeepsReplace did pool r r'
 KeepsKind bytes did pool (Delete d) (Delete d') = KeepsDelete did d d'
 KeepsKind bytes did pool old new = ⊥
 
--- what it is about stays, it has ended where it gave all its locks back, where it did not move it is what it was, and
--- as many bytes may be lent again
+-- what it is about stays, it has ended where it gave all its locks back, where it did not move it is what it was, as
+-- many bytes may be lent again, and behind its search it has written, but where nothing stands there
 pub record KeepsOperation {F : Type 0} (bytes : ℕ) (did : Progress F) (pool : PoolState) (old new : RecordOperation)
     : Type 0 where
   pub key : operation_key new ≡ operation_key old
@@ -35,6 +35,7 @@ pub record KeepsOperation {F : Type 0} (bytes : ℕ) (did : Progress F) (pool : 
   pub ended : (did ≡ Ended) ↔ HasEnded old
   pub stays : Stays did old new
   pub lent : MayBeLent bytes old → MayBeLent bytes new
+  pub leaves : LeavesSearch did (operation_found old) (has_searched old) (has_searched new)
   pub kind : KeepsKind bytes did pool old new
 
 -- ---- on an honest device, in a sound world

@@ -1,12 +1,14 @@
 -- What an operation on a record is about, holds, knows and asks for: each as the machine of its kind says.
 -- docs/STEPS.md, "Search" and "Insert, Replace, Delete".
-use Rattle.std.specs.Prelude.{ℕ, ◌≡◌, true, false, List, [], Option, Some, None, IsSome, ⊤, unwrap_or}
+use Rattle.std.specs.Prelude.{ℕ, ◌≡◌, Bool, true, false, List, [], Option, Some, None, IsSome, ⊤, unwrap_or}
 use Rattle.bucket_merge.specs.declared.place.MergePlace.TheVariants.{Approaching}
 use Rattle.stale_search.specs.Searches.{SearchView}
 use Rattle.stale_search.specs.declared.place.ApproachPlace.TheVariants.{GrantDirectory as ToDirectory}
 use Rattle.stale_search.specs.declared.place.SearchPlace.TheVariants.{GrantDirectory}
 use Rattle.step_rules.specs.Words.{LockKind}
 use Rattle.record_file.specs.Deletes.{IsOver as IsDeleteOver}
+use Rattle.record_file.specs.Removals.{has_searched as removal_has_searched}
+use Rattle.record_file.specs.Replaces.{has_searched as replace_has_searched}
 use Rattle.record_file.specs.declared.first_try.FirstTryStage.TheVariants as tries
 use Rattle.record_file.specs.declared.removal.RemovalStage.TheVariants as removals
 use Rattle.record_file.specs.declared.replace.ReplaceStage.TheVariants as replaces
@@ -126,6 +128,13 @@ operation_found (Delete d) = removed_at d.removal
 abbrev pub operation_tried : RecordOperation → Option Tried
 operation_tried (Insert i) = said_of i.stage
 operation_tried o = None
+
+-- the search of a replace or a delete is behind it; of the others this is not asked
+abbrev pub has_searched : RecordOperation → Bool
+has_searched (Find f) = false
+has_searched (Insert i) = false
+has_searched (Replace r) = replace_has_searched r.stage
+has_searched (Delete d) = removal_has_searched d.removal.stage
 
 -- it gave all its locks back
 abbrev pub HasEnded : RecordOperation → Type 0

@@ -1,7 +1,7 @@
 -- Words of the crates below, under one name.
 pub use Rattle.record_file.specs.Words.{RecordKey, pair, PoolState, Table, IsSeat, Lock, Selective, Read, Change, Store, Page, row_of, with_row, kind_of, guard_of, store_of, contents, IsReady, OnlyReads, OnlyWrites, WritesOrSpares, RecordWrite, Progress, Moved, Blocked, Fault, Ended, WriteRecord, World, Known, IsKnown, Turn, is_fault, EndsRow, HasNoFileLock, Nears, Sees, Stays, Step, world, IsSoundWorld}
 pub use Rattle.record_file.specs.Machines.{FindsAt}
-pub use Rattle.record_file.specs.Writers.{Owns}
+pub use Rattle.record_file.specs.Writers.{LeavesSearch, Owns, TellsNone}
 pub use Rattle.record_file.specs.Finds.{FindView, KeepsFind, find_facts, find_left, find_locks, find_turn, found_of}
 pub use Rattle.record_file.specs.Replaces.{ReplaceView, KeepsReplace, WritesOnce, IsFrontAt, with_front, replace_facts, replace_left, replace_locks, replace_turn, replaced_at}
 pub use Rattle.record_file.specs.Removals.{TurnsAwayIn, removed_at}

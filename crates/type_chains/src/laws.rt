@@ -18,7 +18,8 @@ pub fn a_record_stands_at_its_key()
     ensures { StandsAtItsKey }
 {}
 
-/// Systems that differ in one queue agree at every key that is not that queue's, its key's or the Counter's.
+/// Systems that differ in one queue agree at every key that is not that queue's, its key's or the
+/// Counter's.
 pub fn other_queues_keep_their_records()
     ensures { IsLocal }
 {}
@@ -28,7 +29,8 @@ pub fn records_keep_their_limits()
     ensures { KeepsLimits }
 {}
 
-/// A record is in the image of a lawful system and has a key exactly where the system has it at that key.
+/// A record is in the image of a lawful system and has a key exactly where the system has it at
+/// that key.
 pub fn the_image_is_the_records_at_their_keys()
     ensures { AgreesWithImage }
 {}
@@ -43,20 +45,20 @@ pub fn a_key_tells_its_queue()
     ensures { TellsQueue }
 {}
 
-/// The types of messages ascend, and are just those that a message has. So a type has a record exactly while a
-/// message of it is on the queue.
+/// The types of messages ascend, and are just those that a message has. So a type has a record
+/// exactly while a message of it is on the queue.
 pub fn the_types_are_those_of_the_messages()
     ensures { (ms : List Message) → AreTypesOf ms (types ms) }
 {}
 
-/// The record of a queue tells who may read, write, set and remove, whether there is room, the next serial and
-/// all that Stat answers. Where there is none the id has no queue.
+/// The record of a queue tells who may read, write, set and remove, whether there is room, the next
+/// serial and all that Stat answers. Where there is none the id has no queue.
 pub fn a_queue_is_read_off_its_record()
     ensures { (s : State) (id : ℕ) → IsReadable s id }
 {}
 
-/// Where the numbers of a lawful system fit their fields, each of its records is spelled by its key and its value, so
-/// these are read as that record alone.
+/// Where the numbers of a lawful system fit their fields, each of its records is spelled by its key
+/// and its value, so these are read as that record alone.
 pub fn records_are_spelled()
     ensures { AreSpelled }
 {}
@@ -66,7 +68,8 @@ pub fn a_call_changes_one_queue()
     ensures { ChangesOneQueue }
 {}
 
-/// After a Send the Queue's record and the new Message's are made of the Queue's record before and the call alone.
+/// After a Send the Queue's record and the new Message's are made of the Queue's record before and
+/// the call alone.
 pub fn a_send_is_made_of_the_queues_record()
     ensures { (pid : ℕ) (a : SendArguments) (q : Queue) →
         IsLawfulQueue q → IsMadeOfTheQueue pid a q }

@@ -12,9 +12,9 @@ use Rattle.xsi_remove.specs.declared.work.Deed.TheVariants.{Reading, DeletingMes
 use Rattle.xsi_remove.specs.declared.work.Next.{Next}
 use Rattle.xsi_remove.specs.declared.work.Next.TheVariants.{Goes, Begins, Over}
 use Rattle.xsi_remove.specs.declared.work.Work.{Work}
-use Rattle.xsi_remove.specs.Deeds.{begun_work, behind, led_to, with_deed}
+use Rattle.xsi_remove.specs.Deeds.{begun_work, led_to, with_deed}
 use Rattle.xsi_remove.specs.Sweeps.{sweep_facts, sweep_locks}
-use Rattle.xsi_remove.specs.SweepSteps.{Deletes, HasWritten, IsOf, turns_of}
+use Rattle.xsi_remove.specs.SweepSteps.{IsOf, turns_of}
 use Rattle.xsi_remove.specs.Works.{is_move}
 use Rattle.xsi_remove.specs.Words.{RecordKey, PoolState, Lock, Store, OnlyWrites, Progress, Moved, Blocked, Fault, Ended, is_fault, NearsOrSpares, Delete, ToFind, ToWrite, begun_turn, Remove}
 
@@ -26,7 +26,6 @@ pub record IsFresh (w : Work) (v : Option Work) : Type 0 where
   pub facts : sweep_facts v ≡ []
   pub queue : (id : ℕ) → w.turn.id ≡ id → IsOf id v
   pub fewer : turns_of v ≤ w.turns
-  pub writes : HasWritten v
 
 pub fresh_deed : (hash : RecordKey → ℕ) (w : Work) (deed : Deed) → IsFresh w (Some (with_deed hash deed w))
 fresh_deed hash w Reading = record {
@@ -34,21 +33,18 @@ fresh_deed hash w Reading = record {
   facts = refl;
   queue = λ id is. is;
   fewer = omega arith;
-  writes = λ deletes ended. absurd deletes;
 }
 fresh_deed hash w DeletingMessage = record {
   locks = λ before. refl;
   facts = refl;
   queue = λ id is. is;
   fewer = omega arith;
-  writes = λ deletes ended. absurd ended;
 }
 fresh_deed hash w (DeletingType mtype) = record {
   locks = λ before. refl;
   facts = refl;
   queue = λ id is. is;
   fewer = omega arith;
-  writes = λ deletes ended. absurd ended;
 }
 
 pub same_in : {X : Type 0} (x y : X) → ◌≡◌ {A = Option X} (Some x) (Some y) → x ≡ y
@@ -71,14 +67,12 @@ fresh_led hash w (Some (Begins serial)) v is = by (w.turns == 0) is
       facts = refl;
       queue = λ id is. is;
       fewer = omega arith;
-      writes = λ deletes ended. absurd deletes;
     })
 fresh_led hash w (Some Over) v is = subst (IsFresh w) (same_in None v is) (record {
   locks = λ before. refl;
   facts = refl;
   queue = λ id is. tt;
   fewer = omega arith;
-  writes = tt;
 })
 
 -- ---- counts
@@ -135,12 +129,3 @@ fine_of (Moved kind) moved = refl
 fine_of (Blocked other) moved = absurd cc
 fine_of (Fault fault) moved = absurd cc
 fine_of Ended moved = absurd cc
-
--- a deletion behind which something follows has written
-pub wrote_by : (hash : RecordKey → ℕ) (w : Work) (v : Option Work) (deed : Deed) (b : Bool) →
-    led_to hash (behind deed w.turn b) w ≡ Some v → Deletes deed → b ≡ true
-wrote_by hash w v Reading b is deletes = absurd deletes
-wrote_by hash w v DeletingMessage true is deletes = refl
-wrote_by hash w v DeletingMessage false is deletes = absurd cc
-wrote_by hash w v (DeletingType mtype) true is deletes = refl
-wrote_by hash w v (DeletingType mtype) false is deletes = absurd cc

@@ -8,6 +8,7 @@ use Rattle.queue_model.specs.declared.message.Message.{Message}
 use Rattle.queue_model.specs.Rules.{has_id}
 use Rattle.type_chains.specs.Lists.{serials}
 use Rattle.type_chains.specs.Neighbours.{first_of}
+use Rattle.record_access.proofs.EndLemmas.{ended_written}
 use Rattle.xsi_inquiry.specs.Writing.{Plan}
 use Rattle.xsi_sweep.proofs.PlaceLemmas.{first_left}
 use Rattle.xsi_sweep.specs.Turns.{next_by, turn_slots, type_deletion}
@@ -18,8 +19,7 @@ use Rattle.xsi_remove.specs.declared.work.Deed.TheVariants.{Reading, DeletingMes
 use Rattle.xsi_remove.specs.declared.work.Work.{Work}
 use Rattle.xsi_remove.specs.Deeds.{begun_work, behind, behind_find, behind_message, last_type, led_to, message_of, next_of, purpose_of, turn_behind, with_deed}
 use Rattle.xsi_remove.specs.Sweeps.{DELETE_STEPS, FIND_STEPS, IsAtWork, IsRead, IsSweeping, TURN_STEPS, deeds_left, left_in, records_left, sweep_left}
-use Rattle.xsi_remove.specs.SweepSteps.{Deletes}
-use Rattle.xsi_remove.specs.Words.{RecordKey, Store, Delete, ToFind, StandsAt, Serves, access_answer, Queue, State, is_swept, IsTurn, swept, unswept, IsFiled, Records, MessageRead, begun_turn}
+use Rattle.xsi_remove.specs.Words.{RecordKey, Store, HasEnded, Delete, ToFind, ToWrite, StandsAt, aimed_at, begun, Purpose, Record, Allows, Serves, access_answer, Queue, State, key_of_type, is_swept, IsTurn, swept, unswept, IsFiled, Records, MessageRead, begun_turn}
 
 -- where none is left, as many were swept as stood there
 pub none_left : (ms : List Message) (i : ℕ) → i ≤ length ms → first_of (serials (drop i ms)) ≡ None → i ≡ length ms
@@ -35,6 +35,12 @@ second_of (a, b) = b.0
 
 few_turns : (n : ℕ) → 1 ≤ n → FIND_STEPS + (2 * DELETE_STEPS + (n - 1) * TURN_STEPS) ≤ n * TURN_STEPS
 few_turns n one = omega (arith, one)
+
+-- a deletion can be begun on a record that stands there
+deletes_begun : (hash : RecordKey → ℕ) (key : RecordKey) (found : Option Record) → IsSome found →
+    Allows (ToWrite (Delete key)) (begun (ToWrite (Delete key)) (hash key)) found
+deletes_begun hash key found some =
+    record { fits = λ unwritten. some; due = λ unwritten. record { searches = refl; told = λ none. none } }
 
 -- the sweep that follows
 pub record Follows (hash : RecordKey → ℕ) (id count : ℕ) (q : Queue) (s : State) (w : Work) (file : Store) (deed : Deed)
@@ -164,7 +170,7 @@ module _ (hash : RecordKey → ℕ) (id count : ℕ) (q : Queue) (s : State) (w 
         enough = d.enough;
         serves = record { kind = tt; key = refl; links = refl; value = tt; limits = tt };
         keyed = refl;
-        allows = λ unwritten. first_of_two (turned m was).leads.can;
+        allows = deletes_begun hash (message_of w.turn) _ (first_of_two (turned m was).leads.can);
         goes_on = λ over. over;
       }) (λ key its. subst (StandsAt file key) (left_reading w.turn old w.access.written key)
       (stood Reading w.access.written reading refl key its)) (omega arith)
@@ -185,7 +191,8 @@ module _ (hash : RecordKey → ℕ) (id count : ℕ) (q : Queue) (s : State) (w 
         enough = d.enough;
         serves = record { kind = tt; key = refl; links = refl; value = tt; limits = tt };
         keyed = refl;
-        allows = λ unwritten. second_of (turned_by m (Some mtype) was last).leads.can;
+        allows = deletes_begun hash (key_of_type w.turn.id mtype) _
+            (second_of (turned_by m (Some mtype) was last).leads.can);
         goes_on = λ over. over;
       }) (λ key its. stood DeletingMessage true deed wrote key its) (omega arith)
 
@@ -198,11 +205,21 @@ module _ (hash : RecordKey → ℕ) (id count : ℕ) (q : Queue) (s : State) (w 
       ((turned_by m (Some mtype) was last).leads.leads key) (stood (DeletingType mtype) true deed wrote key its)) m.next
       refl)
 
-  -- where a deletion has written, and a find was answered, something follows or each message was swept
-  pub follows : (Deletes w.deed → w.access.written ≡ true) →
+  -- a deletion that has ended has written
+  deleted : (x : Deed) (key : RecordKey) → w.deed ≡ x → purpose_of x w.turn ≡ ToWrite (Delete key) →
+      HasEnded w.access.operation → w.access.written ≡ true
+  deleted x key deed is ended =
+      let found = records_left id count s (Some w) (aimed_at (purpose_of w.deed w.turn)) in
+      let aim = ap (λ (y : Deed). purpose_of y w.turn) deed ∙ is in
+      ended_written (Delete key) w.access found
+      (subst (λ (p : Purpose). Serves p w.access) aim d.serves)
+      (subst (λ (p : Purpose). Allows p w.access found) aim d.allows) ended
+
+  -- where its access has ended, and a find was answered, something follows or each message was swept
+  pub follows : HasEnded w.access.operation →
       ((key : RecordKey) → Serves (ToFind key) w.access → access_answer w.access ≡ None → ⊥) →
       Leads w.deed (next_of hash w)
-  follows written answered = by w.deed refl
+  follows ended answered = by w.deed refl
     where
       by_message : (o : Option MessageRead) → w.turn.read ≡ o → IsSome o → w.deed ≡ DeletingMessage →
           w.access.written ≡ true →
@@ -220,10 +237,10 @@ module _ (hash : RecordKey → ℕ) (id count : ℕ) (q : Queue) (s : State) (w 
       by Reading deed = behind_reading w.turn.read refl deed
           (answered (message_of w.turn) (subst (λ (x : Deed). Serves (purpose_of x w.turn) w.access) deed d.serves))
       by DeletingMessage deed =
-          let wrote : w.access.written ≡ true = written (subst Deletes (sym deed) tt) in
+          let wrote = deleted DeletingMessage (message_of w.turn) deed refl ended in
           subst (λ (b : Bool). Leads DeletingMessage (led_to hash (behind DeletingMessage w.turn b) w)) (sym wrote)
           (by_message w.turn.read refl (subst (λ (x : Deed). IsRead x w) deed d.read) deed wrote)
       by (DeletingType mtype) deed =
-          let wrote : w.access.written ≡ true = written (subst Deletes (sym deed) tt) in
+          let wrote = deleted (DeletingType mtype) (key_of_type w.turn.id mtype) deed refl ended in
           subst (λ (b : Bool). Leads (DeletingType mtype) (led_to hash (behind (DeletingType mtype) w.turn b) w))
           (sym wrote) (by_type mtype w.turn.read refl (subst (λ (x : Deed). IsRead x w) deed d.read) deed wrote)

@@ -4,7 +4,7 @@ use Rattle.std.proofs.lemmas.Bool.{true≢false}
 use Rattle.file_pages.specs.declared.fault.FileFault.{FileFault}
 use Rattle.file_pages.specs.declared.fault.FileFault.TheVariants.{Failed}
 use Rattle.record_access.specs.AccessSteps.{MakesAccess, Rests as RestsAccess}
-use Rattle.xsi_remove.proofs.FreshLemmas.{IsFresh, same_in, fresh_led, no_more, nears_with, nears_next, removes_its, finds_none, faulted, over_none, fine_of, wrote_by}
+use Rattle.xsi_remove.proofs.FreshLemmas.{IsFresh, same_in, fresh_led, no_more, nears_with, nears_next, removes_its, finds_none, faulted, over_none, fine_of}
 use Rattle.xsi_remove.proofs.DeedLemmas.{IsDriven, driven, faced, hears_well, stepped}
 use Rattle.xsi_remove.proofs.EndLemmas.{ended_free, find_writes_none}
 use Rattle.xsi_remove.proofs.LeftLemmas.{swept_key}
@@ -16,7 +16,7 @@ use Rattle.page_locks.specs.Table.{with_row}
 use Rattle.step_rules.specs.Known.{AllKnown}
 use Rattle.xsi_remove.specs.Deeds.{behind, message_of, next_of, purpose_of}
 use Rattle.xsi_remove.specs.Sweeps.{Faces, IsSweeping, deeds_left, records_left, sweep_left, TURN_STEPS}
-use Rattle.xsi_remove.specs.SweepSteps.{Deletes, MakesSweep, Rests, SweepsAway}
+use Rattle.xsi_remove.specs.SweepSteps.{MakesSweep, Rests, SweepsAway}
 use Rattle.xsi_remove.specs.Works.{Drives, DrivesOn, LeadsOn, Mishears, heard_with, is_move}
 use Rattle.xsi_remove.specs.Words.{RecordKey, PoolState, Table, Lock, Change, store_of, Progress, Moved, Blocked, Fault, Ended, Look, is_fault, HasEnded, NearsOrSpares, Step, world, Delete, ToFind, ToWrite, aimed_at, is_write, AccessView, Serves, access_answer, access_facts, access_left, access_turn, Queue, State, is_swept, MessageRead, Remove, key_of_type}
 
@@ -122,7 +122,7 @@ module _ (hash : RecordKey → ℕ) (seat : ℕ) (did : Progress FileFault) (w w
           fewer = let turns = ap (λ (x : Work). x.turns) on.same in omega (arith, turns);
         };
         row = e.row;
-        progress = λ held id count q s change f written.
+        progress = λ held id count q s change f.
             let more = ap (λ (x : Work). deeds_left x.deed + x.turns * TURN_STEPS) on.same in
             nears_with did (access_left w.access (store_of pool.images))
             (access_left w'.access (store_of pool'.images)) (deeds_left w.deed + w.turns * TURN_STEPS)
@@ -158,11 +158,11 @@ module _ (hash : RecordKey → ℕ) (seat : ℕ) (did : Progress FileFault) (w w
     module _ (moved : is_move did ≡ true) (over : HasEnded w'.access.operation) (answered : (key : RecordKey) →
         Serves (ToFind key) w'.access → access_answer w'.access ≡ None → ⊥) where
       what_follows : (held : List Lock) (id count : ℕ) (q : Queue) (s : State) (change : Change) →
-          Faces hash seat held id count q s (Some w) pool locks change → (Deletes w'.deed → w'.access.written ≡ true) →
+          Faces hash seat held id count q s (Some w) pool locks change →
           Follows hash id count q s w' (store_of pool'.images) w'.deed (next_of hash w')
-      what_follows held id count q s change f written =
+      what_follows held id count q s change f =
           follows hash id count q s w' (store_of pool'.images) f.sweeps.filed f.sweeps.alive
-          (is_driven held id count q s change f (fine_of did moved)) written answered
+          (is_driven held id count q s change f (fine_of did moved)) over answered
 
       -- nothing can follow
       makes_stop : next_of hash w' ≡ None →
@@ -176,8 +176,8 @@ module _ (hash : RecordKey → ℕ) (seat : ℕ) (did : Progress FileFault) (w w
           fewer = let turns = ap (λ (x : Work). x.turns) on.same in omega (arith, turns);
         };
         row = e.row;
-        progress = λ held id count q s change f written.
-            let next = what_follows held id count q s change f (λ deletes. written deletes over) in
+        progress = λ held id count q s change f.
+            let next = what_follows held id count q s change f in
             absurd (let clash : ◌≡◌ {A = Option (Option Work)} None (Some next.sweep) = sym none ∙ next.is in cc);
         step = λ held id count q s change f fine. absurd cc;
         sweeps = λ held id count q s change f fine. absurd cc;
@@ -196,8 +196,8 @@ module _ (hash : RecordKey → ℕ) (seat : ℕ) (did : Progress FileFault) (w w
         };
         row = λ before bare row. e.row before bare row
             ∙ ap (with_row locks seat) (ended_free w'.access.operation before over ∙ sym (fresh.locks before));
-        progress = λ held id count q s change f written.
-            let led = what_follows held id count q s change f wrote in
+        progress = λ held id count q s change f.
+            let led = what_follows held id count q s change f in
             let is : led.sweep ≡ v = same_in led.sweep v (sym led.is ∙ next) in
             let more = ap (λ (x : Work). deeds_left x.deed + x.turns * TURN_STEPS) on.same in
             nears_next did (access_left w.access (store_of pool.images))
@@ -215,7 +215,7 @@ module _ (hash : RecordKey → ℕ) (seat : ℕ) (did : Progress FileFault) (w w
               does = step.does;
             };
         sweeps = λ held id count q s change f fine.
-            let led = what_follows held id count q s change f wrote in
+            let led = what_follows held id count q s change f in
             let is : led.sweep ≡ v = same_in led.sweep v (sym led.is ∙ next) in record {
               count' = led.count';
               counts = led.counts;
@@ -227,9 +227,6 @@ module _ (hash : RecordKey → ℕ) (seat : ℕ) (did : Progress FileFault) (w w
         where
           fresh : IsFresh w' v
           fresh = fresh_led hash w' (behind w'.deed w'.turn w'.access.written) v next
-
-          wrote : Deletes w'.deed → w'.access.written ≡ true
-          wrote = wrote_by hash w' v w'.deed w'.access.written next
 
           moves : (d : Progress FileFault) → is_move d ≡ true → Rests d (Some w) v
           moves (Moved kind) is = tt
@@ -256,7 +253,7 @@ module _ (hash : RecordKey → ℕ) (seat : ℕ) (did : Progress FileFault) (w w
           fewer = let turns = ap (λ (x : Work). x.turns) deaf.same in omega (arith, turns);
         };
         row = deaf.makes.row;
-        progress = λ held id count q s change f written. absurd (hears_well hash seat (Moved Look) w w'.access pool
+        progress = λ held id count q s change f. absurd (hears_well hash seat (Moved Look) w w'.access pool
             pool' locks locks' deaf.makes held id count q s change f refl refl deaf.unread deaf.cause);
         step = λ held id count q s change f fine. absurd cc;
         sweeps = λ held id count q s change f fine. absurd cc;

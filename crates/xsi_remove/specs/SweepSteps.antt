@@ -1,8 +1,6 @@
 -- What a step of a sweep does. docs/STEPS.md, "Remove".
 use Rattle.std.specs.Prelude.{ℕ, ◌≡◌, ◌≤◌, ◌+◌, ◌↔◌, ◌⊎◌, true, false, not, List, Option, Some, None, ⊤}
 use Rattle.file_pages.specs.declared.fault.FileFault.{FileFault}
-use Rattle.xsi_remove.specs.declared.work.Deed.{Deed}
-use Rattle.xsi_remove.specs.declared.work.Deed.TheVariants.{Reading, DeletingMessage, DeletingType}
 use Rattle.xsi_remove.specs.declared.work.Work.{Work}
 use Rattle.xsi_remove.specs.Sweeps.{Faces, IsSweeping, sweep_facts, sweep_left, sweep_locks, sweep_turn}
 use Rattle.xsi_remove.specs.Words.{RecordKey, PoolState, Table, Lock, Change, Store, store_of, Progress, Blocked, Ended, is_fault, FollowsRow, HasEnded, NearsOrSpares, OnlyWrites, Step, StepTurn, Remove, is_write, Queue, State, is_swept}
@@ -37,17 +35,6 @@ pub record KeepsSweep {F : Type 0} (did : Progress F) (old new : Option Work) : 
 
 -- ---- on an honest device, in a sound world
 
--- a deletion
-abbrev pub Deletes : Deed → Type 0
-Deletes Reading = ⊥
-Deletes DeletingMessage = ⊤
-Deletes (DeletingType mtype) = ⊤
-
--- a deletion that has ended has written
-abbrev pub HasWritten : Option Work → Type 0
-HasWritten None = ⊤
-HasWritten (Some w) = Deletes w.deed → HasEnded w.access.operation → w.access.written ≡ true
-
 -- a record of the queue's Messages and Types is to be deleted
 pub record SweepsAway (id : ℕ) (turn : StepTurn) : Type 0 where
   pub key : RecordKey
@@ -73,7 +60,7 @@ pub record MakesSweep (hash : RecordKey → ℕ) (seat : ℕ) (did : Progress Fi
   pub row : FollowsRow seat (sweep_locks old) (sweep_locks new) locks locks'
   -- on an honest device, in a sound world
   pub progress : (held : List Lock) (id count : ℕ) (q : Queue) (s : State) (change : Change) →
-      Faces hash seat held id count q s old pool locks change → HasWritten new →
+      Faces hash seat held id count q s old pool locks change →
       NearsOrSpares did (sweep_left old (store_of pool.images)) (sweep_left new (store_of pool'.images)) pool pool'
   pub step : (held : List Lock) (id count : ℕ) (q : Queue) (s : State) (change : Change) →
       Faces hash seat held id count q s old pool locks change → is_fault did ≡ false →

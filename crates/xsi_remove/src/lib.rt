@@ -1,4 +1,5 @@
-//! The sweep of a queue that is removed: its messages are taken away turn by turn, each record by one access.
+//! The sweep of a queue that is removed: its messages are taken away turn by turn, each record by
+//! one access.
 
 #![tactic(auto)]
 

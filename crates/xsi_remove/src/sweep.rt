@@ -3,7 +3,7 @@
 ghost use Rattle.std.specs.Prelude.{◌≡◌, ◌↔◌, ℕ, List, false, not, true};
 ghost use Rattle.xsi_remove.specs.Words.{Change, EndsRow, FollowsRow, IsReady, IsSeat, Lock, Moved, NearsOrSpares, OnlyWrites, Queue, State, Step, is_fault, row_of, store_of};
 ghost use Rattle.xsi_remove.specs.Sweeps.{Faces, begun_sweep, sweep_facts, sweep_left, sweep_locks, sweep_turn};
-ghost use Rattle.xsi_remove.specs.SweepSteps.{HasWritten, IsOver, KeepsSweep, MakesSweep, SweepsOn};
+ghost use Rattle.xsi_remove.specs.SweepSteps.{IsOver, KeepsSweep, MakesSweep, SweepsOn};
 ghost use Rattle.xsi_remove.specs.Works.{is_move};
 
 use crate::work::Work;
@@ -18,7 +18,8 @@ use step_rules::Progress;
 use xsi_inquiry::Sweep;
 use xsi_sweep::Turn;
 
-/// The sweep of the messages of a queue. It holds no name: whoever drives it holds that of the queue.
+/// The sweep of the messages of a queue. It holds no name: whoever drives it holds that of the
+/// queue.
 #[derive(Drop)]
 pub struct SweepTurns {
     work: Option<Work>,
@@ -79,7 +80,7 @@ impl SweepTurns {
         // on an honest device, in a sound world
         ensures progress { (held : List Lock) (id count : ℕ) (q : Queue) (s : State)
             (change : Change) → Faces (K.of_key keys.now) seat held id count q s self.old
-            pool.old locks.old change → HasWritten self.new →
+            pool.old locks.old change →
             NearsOrSpares result (sweep_left self.old (store_of pool.old.images))
             (sweep_left self.new (store_of pool.new.images)) pool.old pool.new }
         ensures step { (held : List Lock) (id count : ℕ) (q : Queue) (s : State)

@@ -24,10 +24,10 @@ returns-clause-row g c =
     (sorted _ _ _ _ _ _ _ _ _ _ c.make.ensures)
 
 pub returns-clause-progress : goal.returns-clause-progress
-returns-clause-progress g c = λ names records change carrying free.
+returns-clause-progress g c = λ names records change carrying.
     nears (g.K.PseudoKey.of_key c.args.keys.now) c.args.seat c.args.plan.now c.make.result c.args.self.now
     c.make.new.self c.args.pool.now c.make.new.pool c.args.locks.now c.make.new.locks c.requires.seat names records
-    change carrying free (sorted _ _ _ _ _ _ _ _ _ _ c.make.ensures)
+    change carrying (sorted _ _ _ _ _ _ _ _ _ _ c.make.ensures)
 
 pub returns-clause-step : goal.returns-clause-step
 returns-clause-step g c = λ names records change carrying fine.

@@ -51,6 +51,7 @@ returns-in-None-clause-aim g c =
         λ ended. absurd (not_ended stage none (c.step.ensures.aim.ended.0 ended)),
         λ over. absurd (not_over stage c.self.inside.merge.place none over),
       );
+      leaves = c.step.ensures.aim.leaves;
     })
 
 pub returns-in-None-clause-progress : goal.returns-in-None-clause-progress

@@ -26,6 +26,7 @@ returns-in-None-clause-aim g c =
       stays = Stays-of (λ (v : SearchView). record { search = v; stage = Searching }) c.step.result
           c.self.inside.search c.step.new.self c.step.ensures.aim.stays;
       ended = (λ e. absurd (none_found c.self.inside.search none (c.step.ensures.aim.ended.0 e)), λ over. absurd cc);
+      leaves = tt;
     })
 
 pub returns-in-None-clause-progress : goal.returns-in-None-clause-progress

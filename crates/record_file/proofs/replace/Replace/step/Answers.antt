@@ -20,6 +20,7 @@ returns-in-None-clause-aim g c =
       stays = Stays-of (λ (v : SearchView). record { search = v; stage = Searching }) c.step.result
           c.self.inside.search c.step.new.self c.step.ensures.aim.stays;
       ended = (λ e. absurd (none_found c.self.inside.search none (c.step.ensures.aim.ended.0 e)), λ over. absurd cc);
+      leaves = tt;
       answered = λ honest wrote. absurd (searches_only c.step.result c.self.inside.search.pseudokey
           (store_of c.args.pool.now.images) c.self.inside.search.place c.step.new.self.place
           (c.step.ensures.aim.led honest) wrote);

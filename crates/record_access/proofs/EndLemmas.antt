@@ -1,0 +1,44 @@
+-- A write that has ended has written.
+use Rattle.std.proofs.Common.{◌≡◌, refl, sym, ap, ◌∙◌, Bool, true, false, Option}
+use Rattle.std.proofs.lemmas.Bool.{true≢false}
+use Rattle.bucket_merge.specs.declared.place.MergePlace.{MergePlace}
+use Rattle.record_file.specs.Deletes.{IsOver}
+use Rattle.record_file.specs.Removals.{has_searched as removal_has_searched}
+use Rattle.record_file.specs.Replaces.{has_searched as replace_has_searched}
+use Rattle.record_file.specs.declared.removal.RemovalStage.{RemovalStage}
+use Rattle.record_file.specs.declared.removal.RemovalStage.TheVariants.{Searching, Written, Ended}
+use Rattle.record_operation.specs.declared.operation.RecordOperation.TheVariants as operations
+use Rattle.record_access.specs.Words.{HasEnded, Record, RecordOperation, has_searched, Write, Replace, Relink, Delete}
+use Rattle.record_access.specs.Purposes.{ToWrite}
+use Rattle.record_access.specs.Accesses.{AccessView, Allows, IsOfKind, Serves}
+
+over_searched : (stage : RemovalStage) (place : MergePlace) → IsOver stage place → removal_has_searched stage ≡ true
+over_searched Searching place over = absurd over
+over_searched (Written n due) place over = absurd over
+over_searched (Ended due) place over = refl
+
+-- one that has ended has its search behind it
+ended_searched : (write : Write) (o : RecordOperation) → IsOfKind (ToWrite write) o → HasEnded o →
+    has_searched o ≡ true
+ended_searched (Replace r) (operations.Find f) kind ended = absurd kind
+ended_searched (Replace r) (operations.Insert i) kind ended = absurd kind
+ended_searched (Replace r) (operations.Replace q) kind ended = ap replace_has_searched ended
+ended_searched (Replace r) (operations.Delete d) kind ended = absurd kind
+ended_searched (Relink key links) (operations.Find f) kind ended = absurd kind
+ended_searched (Relink key links) (operations.Insert i) kind ended = absurd kind
+ended_searched (Relink key links) (operations.Replace q) kind ended = ap replace_has_searched ended
+ended_searched (Relink key links) (operations.Delete d) kind ended = absurd kind
+ended_searched (Delete key) (operations.Find f) kind ended = absurd kind
+ended_searched (Delete key) (operations.Insert i) kind ended = absurd kind
+ended_searched (Delete key) (operations.Replace q) kind ended = absurd kind
+ended_searched (Delete key) (operations.Delete d) kind ended =
+    over_searched d.removal.stage d.merge.place ended
+
+pub ended_written : (write : Write) (a : AccessView) (found : Option Record) → Serves (ToWrite write) a →
+    Allows (ToWrite write) a found → HasEnded a.operation → a.written ≡ true
+ended_written write a found serves allows ended = by a.written refl
+  where
+    by : (b : Bool) → a.written ≡ b → a.written ≡ true
+    by true is = is
+    by false is =
+        absurd (true≢false (sym (ended_searched write a.operation serves.kind ended) ∙ (allows.due is).searches))
