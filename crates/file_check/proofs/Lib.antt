@@ -1,7 +1,10 @@
+pub mod Names
 pub mod RecordLemmas
 pub mod RightLemmas
 pub mod IdsLemmas
 pub mod NeedsLemmas
 pub mod StrayLemmas
 pub mod JustLemmas
+pub mod CountLemmas
+pub mod GatheredLemmas
 pub mod WholeLemmas

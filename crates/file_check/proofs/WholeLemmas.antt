@@ -10,6 +10,7 @@ use Rattle.record_walk.specs.declared.fault.WalkFault.{WalkFault}
 use Rattle.record_walk.specs.declared.fault.WalkFault.TheVariants as walked
 use Rattle.file_records.specs.Files.{HasRecords, Source, source}
 use Rattle.file_check.specs.Fault.{IsOfMachineToo, of_walk}
+use Rattle.file_check.specs.Gathered.{AreJustOf}
 use Rattle.file_check.specs.Ids.{HasChain}
 use Rattle.file_check.specs.Right.{IsFirstFault, IsRightFile, IsRightFileOf}
 use Rattle.file_check.specs.Records.{AreRightIn}
@@ -17,6 +18,7 @@ use Rattle.file_check.specs.Strays.{AreNeeded, IsFirstStray}
 use Rattle.file_check.specs.Whole.{IsFileOf, IsToldOf, IsWrongBeside, IsWrongTogether, IsWrongWith}
 use Rattle.file_check.specs.Words.{CheckFault, RecordKey, State, Store, contents, file_of}
 use Rattle.file_check.proofs.RightLemmas.{placed, right_has_no_fault, right_sound}
+use Rattle.file_check.proofs.GatheredLemmas.{are_needed, is_system}
 use Rattle.file_check.proofs.JustLemmas.{has_just, none_stray}
 
 -- ---- the file of a system
@@ -65,6 +67,10 @@ module _ (hash : RecordKey → ℕ) (content : List (List ℕ)) (ns : List ℕ) 
     system = system;
     just = has_just hash (file_of content) ns quiet s system.has needed;
   }
+
+  pub file_of_just : (s : State) → AreJustOf (file_of content) ns s → IsFileOf hash content s
+  file_of_just s just =
+      is_file s (is_system hash (file_of content) ns quiet s just) (are_needed hash (file_of content) ns quiet s just)
 
   -- what a walk tells
   pub walk_told : (fault : WalkFault) → IsToldOfSystem (contents (file_of content)) fault →

@@ -5,3 +5,4 @@ pub mod Right
 pub mod Ids
 pub mod Strays
 pub mod Whole
+pub mod Gathered

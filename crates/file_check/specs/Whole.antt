@@ -3,14 +3,14 @@
 use Rattle.std.specs.Prelude.{◌≡◌, ℕ, List, Option, Some, None, ◌⊎◌}
 use Rattle.file_walk.specs.Laws.{IsQuietFile}
 use Rattle.record_walk.specs.declared.fault.WalkFault.{WalkFault}
-use Rattle.record_walk.specs.Systems.{AreQueueIds, HasNoSystem, IsSystemOf}
+use Rattle.record_walk.specs.Systems.{HasNoSystem, IsSystemOf}
 use Rattle.record_walk.specs.Told.{IsFirstWrongQueue, IsToldOfSystem}
 use Rattle.type_chains.specs.RecordOf.{record_of}
 use Rattle.file_check.specs.declared.fault.CheckFault.TheVariants as faults
 use Rattle.file_check.specs.Fault.{IsOfMachineToo, of_walk}
-use Rattle.file_check.specs.Right.{IsFirstWrongThing, IsRightFile, IsRightFileOf}
+use Rattle.file_check.specs.Right.{IsFirstWrongThing, IsRightFile}
 use Rattle.file_check.specs.Strays.{IsFirstStray}
-use Rattle.file_check.specs.Words.{CheckFault, Record, RecordKey, Spells, State, Store, contents, file_of}
+use Rattle.file_check.specs.Words.{CheckFault, Record, RecordKey, Spells, State, contents, file_of}
 
 -- at each key stands just the record that the system has there
 pub record HasJust (held : RecordKey → Option (List ℕ)) (s : State) : Type 0 where
@@ -28,12 +28,6 @@ pub record IsFileOf (hash : RecordKey → ℕ) (content : List (List ℕ)) (s : 
   -- the system is lawful and not stopped, and no other has these records
   pub system : IsSystemOf (contents (file_of content)) s
   pub just : HasJust (contents (file_of content)) s
-
--- structure and records are right, this is kept of the structure, and these are the ids of all Queues
-pub record IsPrepared (hash : RecordKey → ℕ) (content : List (List ℕ)) (outline : Store) (ns ids : List ℕ) : Type 0
-  where
-    pub right : IsRightFileOf hash content outline ns
-    pub counted : AreQueueIds (contents (file_of content)) ids
 
 -- ---- the first thing that is wrong
 

@@ -1,13 +1,15 @@
-//! A file is checked: its structure, each of its records by itself, and that all together are those of one system.
+//! A file is checked: its structure, each of its records by itself, and that all together are those
+//! of one system.
 
 ghost use Rattle.std.specs.Prelude.{◌≡◌, ◌⊎◌, IsTrue, IfOk, IfErr};
 ghost use Rattle.file_records.specs.Files.{HasRecords};
 ghost use Rattle.record_walk.specs.Systems.{AreQueueIds, IsSystemOf};
 ghost use Rattle.file_check.specs.Records.{HasCheckCause};
 ghost use Rattle.file_check.specs.Right.{IsFirstFault, IsRightFileOf};
-ghost use Rattle.file_check.specs.Whole.{IsFileOf, IsPrepared, IsToldOf, IsWalkFault};
+ghost use Rattle.file_check.specs.Whole.{IsFileOf, IsToldOf, IsWalkFault};
 ghost use Rattle.file_check.specs.Words.{contents, file_of};
 
+use crate::compared::quick_system;
 use crate::fault::CheckFault;
 use crate::ids::queue_ids;
 use crate::records::test_records;
@@ -26,16 +28,11 @@ pub struct Checked<D> {
     pub found: Result<System, CheckFault>,
 }
 
-/// A file of which structure and records are right, and the ids of its Queues.
-struct Prepared {
-    structure: Structure,
-    ids: Vec<u32>,
-}
-
-/// The system whose records a file holds. An answer is lawful and not stopped; the file is sound and quiet, its directory
-/// and its counts are exact, and it holds just the records of that system. A fault is the first thing that is wrong:
-/// with the structure, with a record by itself, with all records together, with a record beside them. Nothing is
-/// written; the device is given back as it was.
+/// The system whose records a file holds. An answer is lawful and not stopped; the file is sound
+/// and quiet, its directory and its counts are exact, and it holds just the records of that system.
+/// A fault is the first thing that is wrong: with the structure, with a record by itself, with all
+/// records together, with a record beside them. Nothing is written; the device is given back as it
+/// was.
 pub fn check<D: PageDevice, K: PseudoKey + Drop>(alloc: Global, device: D, keys: K) -> Checked<D>
     ensures ok { IsTrue (D.is_honest device) →
         IfOk result.found (IsFileOf (K.of_key keys) (D.content device)) }
@@ -47,8 +44,8 @@ pub fn check<D: PageDevice, K: PseudoKey + Drop>(alloc: Global, device: D, keys:
         (D.fault_count device) (D.fault_count result.device) result.found }
 {
     let mut device = device;
-    let prepared = match prepare(alloc, &mut device, &keys) {
-        Ok(prepared) => prepared,
+    let structure = match check_records(alloc, &mut device, &keys) {
+        Ok(structure) => structure,
         Err(fault) => {
             return Checked {
                 device,
@@ -56,8 +53,45 @@ pub fn check<D: PageDevice, K: PseudoKey + Drop>(alloc: Global, device: D, keys:
             };
         }
     };
-    let Prepared { structure, ids } = prepared;
+    match quick_system(alloc, &mut device, structure.chain.as_slice()) {
+        Some(system) => Checked {
+            device,
+            found: Ok(system),
+        },
+        None => check_slowly(alloc, device, keys, structure),
+    }
+}
+
+/// The system whose records a file holds, of which structure and records are right. A fault is the
+/// first thing that is wrong with all records together, or with a record beside them.
+fn check_slowly<D: PageDevice, K: PseudoKey + Drop>(
+    alloc: Global,
+    device: D,
+    keys: K,
+    structure: Structure,
+) -> Checked<D>
+    requires { IsTrue (D.is_honest device) → IsRightFileOf
+        (K.of_key keys) (D.content device) structure.outline structure.chain.items }
+    ensures ok { IsTrue (D.is_honest device) →
+        IfOk result.found (IsFileOf (K.of_key keys) (D.content device)) }
+    ensures err { IsTrue (D.is_honest device) →
+        IfErr result.found (IsToldOf (K.of_key keys) (D.content device)) }
+    ensures same { D.content result.device ≡ D.content device }
+    ensures honest { D.is_honest result.device ≡ D.is_honest device }
+    ensures cause { HasCheckCause
+        (D.fault_count device) (D.fault_count result.device) result.found }
+{
+    let mut device = device;
     let Structure { outline, chain } = structure;
+    let ids = match queue_ids(alloc, &mut device, chain.as_slice()) {
+        Ok(ids) => ids,
+        Err(fault) => {
+            return Checked {
+                device,
+                found: Err(fault),
+            };
+        }
+    };
     let walked = walk(alloc, device, keys, outline, ids.as_slice());
     let Checked { mut device, found } = walked;
     let system = match found {
@@ -81,27 +115,8 @@ pub fn check<D: PageDevice, K: PseudoKey + Drop>(alloc: Global, device: D, keys:
     }
 }
 
-/// Tests the structure and the records of the file on a device, and takes the ids of its Queues.
-fn prepare<D: PageDevice, K: PseudoKey>(
-    alloc: Global,
-    device: &mut D,
-    keys: &K,
-) -> Result<Prepared, CheckFault>
-    ensures ok { IsTrue (D.is_honest device.old) → IfOk result (λ prepared. IsPrepared
-        (K.of_key keys.now) (D.content device.old) prepared.structure.outline
-        prepared.structure.chain.items prepared.ids.items) }
-    ensures err { IsTrue (D.is_honest device.old) →
-        IfErr result (IsFirstFault (K.of_key keys.now) (D.content device.old)) }
-    ensures same { D.content device.new ≡ D.content device.old }
-    ensures honest { D.is_honest device.new ≡ D.is_honest device.old }
-    ensures cause { HasCheckCause (D.fault_count device.old) (D.fault_count device.new) result }
-{
-    let structure = check_records(alloc, device, keys)?;
-    let ids = queue_ids(alloc, device, structure.chain.as_slice())?;
-    Ok(Prepared { structure, ids })
-}
-
-/// The system of the records of a file of which structure and records are right, and the ids of its Queues are these.
+/// The system of the records of a file of which structure and records are right, and the ids of its
+/// Queues are these.
 fn walk<D: PageDevice, K: PseudoKey + Drop>(
     alloc: Global,
     device: D,
@@ -137,8 +152,9 @@ fn walk<D: PageDevice, K: PseudoKey + Drop>(
     }
 }
 
-/// Tests the structure of the file on a device, and then each record of it by itself. The first thing that is wrong is
-/// answered. Nothing is written. Each page is read once, and each bucket once more.
+/// Tests the structure of the file on a device, and then each record of it by itself. The first
+/// thing that is wrong is answered. Nothing is written. Each page is read once, and each bucket
+/// once more.
 pub fn check_records<D: PageDevice, K: PseudoKey>(
     alloc: Global,
     device: &mut D,

@@ -38,7 +38,8 @@ pub enum CheckFault {
     /// There is no Counter, or not that of these queues.
     #[error("the counter is missing, or does not count the queues")]
     WrongCounter,
-    /// The links of a queue's records do not lead through all of them, or one of them has another value.
+    /// The links of a queue's records do not lead through all of them, or one of them has another
+    /// value.
     #[error("the records of queue {queue} are not those of a queue")]
     WrongQueue {
         queue: u32,

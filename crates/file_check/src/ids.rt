@@ -16,7 +16,8 @@ use page_device::{PAGE_BYTES, PageDevice};
 use queue_records::QUEUE;
 use std::alloc::Global;
 
-/// The ids of all Queues of a file whose structure is right, in ascending order. Nothing is written.
+/// The ids of all Queues of a file whose structure is right, in ascending order. Nothing is
+/// written.
 pub fn queue_ids<D: PageDevice>(
     alloc: Global,
     device: &mut D,

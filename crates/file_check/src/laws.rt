@@ -13,7 +13,8 @@ pub fn a_right_file_has_no_fault()
     ensures { RightHasNoFault }
 {}
 
-/// Nothing that is found wrong is wrong with the file of a system: a fault of a whole check has its cause.
+/// Nothing that is found wrong is wrong with the file of a system: a fault of a whole check has its
+/// cause.
 pub fn the_file_of_a_system_has_no_fault()
     ensures { FileHasNoFault }
 {}

@@ -4,7 +4,9 @@
 
 mod bucket;
 mod checked;
+mod compared;
 mod fault;
+mod gathered;
 mod ids;
 mod laws;
 mod needs;

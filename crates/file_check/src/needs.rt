@@ -13,7 +13,8 @@ use bucket_page::RecordKey;
 use queue_model::{Messages, System};
 use queue_records::{COUNTER, KEY, MESSAGE, QUEUE, TYPE, TypeEntry};
 
-/// Whether a system has a record at a key. The value that stands there tells of a Type where to look first.
+/// Whether a system has a record at a key. The value that stands there tells of a Type where to
+/// look first.
 pub(crate) fn needs(system: &System, key: &RecordKey, value: &[u8]) -> bool
     ensures { result ≡ is_some (record_of system.now key.now) }
 {
@@ -39,8 +40,8 @@ fn needs_type(system: &System, key: &RecordKey, value: &[u8]) -> bool
     names_message(messages, key, value) || has_type(messages, key.number)
 }
 
-/// Whether the value of a Type names a message of that type. Where the value is right, all messages need not be looked
-/// at.
+/// Whether the value of a Type names a message of that type. Where the value is right, all messages
+/// need not be looked at.
 fn names_message(messages: &Messages, key: &RecordKey, value: &[u8]) -> bool
     requires { AllPairs (λ (m n : Message). m.serial < n.serial) messages.now }
     ensures { IsTrue result →
@@ -67,7 +68,7 @@ fn needs_message(system: &System, key: &RecordKey) -> bool
 }
 
 /// The place of the queue of an id. Ids ascend, so each look halves the places that are left.
-fn place_of(system: &System, id: u32) -> Option<usize>
+pub(crate) fn place_of(system: &System, id: u32) -> Option<usize>
     ensures some { IfSome result (IsFoundAt (has_id id) system.now.queues) }
     ensures none { IfNone result (find (has_id id) system.now.queues ≡ None) }
 {
@@ -145,9 +146,9 @@ fn has_message(messages: &Messages, serial: u64) -> bool
     place_of_message(messages, serial).is_some()
 }
 
-/// The place of the message of a serial. Serials ascend, so where some are missing each look halves the places that are
-/// left.
-fn place_of_message(messages: &Messages, serial: u64) -> Option<usize>
+/// The place of the message of a serial. Serials ascend, so where some are missing each look halves
+/// the places that are left.
+pub(crate) fn place_of_message(messages: &Messages, serial: u64) -> Option<usize>
     requires { AllPairs (λ (m n : Message). m.serial < n.serial) messages.now }
     ensures some { IfSome result (IsFoundAt (has_serial serial) messages.now) }
     ensures none { IfNone result (find (has_serial serial) messages.now ≡ None) }

@@ -10,9 +10,9 @@ use crate::fault::CheckFault;
 use bucket_page::PseudoKey;
 use page_device::PageDevice;
 
-/// Tests each record of a file whose structure is right: that it stands in the bucket of its pseudokey, and then that
-/// it is a record. They are tested in the order of the chain, on each page from the lowest key on; the first that is wrong
-/// is answered. Nothing is written.
+/// Tests each record of a file whose structure is right: that it stands in the bucket of its
+/// pseudokey, and then that it is a record. They are tested in the order of the chain, on each page
+/// from the lowest key on; the first that is wrong is answered. Nothing is written.
 pub fn test_records<D: PageDevice, K: PseudoKey>(
     device: &mut D,
     keys: &K,

@@ -15,8 +15,9 @@ use file_records::TestedBucket;
 use page_device::{PAGE_BYTES, PageDevice};
 use queue_model::System;
 
-/// Tests of each record of a file whose structure is right that a system needs it. They are tested in the order of the
-/// chain, on each page from the lowest key on; the first that it does not need is answered. Nothing is written.
+/// Tests of each record of a file whose structure is right that a system needs it. They are tested
+/// in the order of the chain, on each page from the lowest key on; the first that it does not need
+/// is answered. Nothing is written.
 pub fn test_strays<D: PageDevice>(
     device: &mut D,
     chain: &[u32],

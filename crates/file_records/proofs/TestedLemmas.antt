@@ -1,13 +1,12 @@
 -- A payload that was read as a bucket is read so again, and look-ups go record by record.
-use Rattle.std.proofs.Common.{◌≡◌, ◌==◌, Bool, true, false, ◌&&◌, ℕ, List, [], ◌∷◌, Option, Some, None, Result, Ok, Err, if◌then◌else◌, refl, sym, ap, ◌∙◌}
+use Rattle.std.proofs.Common.{◌≡◌, ◌==◌, Bool, true, false, ℕ, List, ◌∷◌, Option, Some, None, Ok, refl, sym, ap, ◌∙◌}
 use Rattle.directory.specs.declared.layout.TheConstants.{DIRECTORY}
-use Rattle.directory.specs.Pages.{entries_at}
 use Rattle.bucket_page.specs.declared.layout.TheConstants.{BUCKET, TOMBSTONE}
 use Rattle.bucket_page.specs.declared.page.Malformed.{Malformed}
 use Rattle.bucket_page.specs.declared.page.PageKind.{PageKind}
 use Rattle.bucket_page.specs.declared.page.PageKind.TheVariants as kinds
 use Rattle.bucket_page.specs.Keys.{is_same}
-use Rattle.bucket_page.specs.Reading.{answer, bucket_fault, bucket_in, fault_of, has_depth, has_lengths, has_order, has_padding, has_pattern, kind_at, link_page_at, page_in}
+use Rattle.bucket_page.specs.Reading.{answer, bucket_fault, bucket_in, fault_of, has_depth, has_lengths, has_pattern, kind_at, link_page_at, page_in}
 use Rattle.file_records.specs.Tested.{tested_in}
 use Rattle.file_records.specs.Words.{Bucket, Pair, RecordKey, lookup, reading}
 

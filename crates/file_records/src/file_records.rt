@@ -12,8 +12,8 @@ use page_device::{Page, PageDevice};
 use record_walk::WalkFault;
 use std::marker::Model;
 
-/// A device that holds a file whose structure and records are right, as they were tested. Nothing is written. A clause
-/// sees the pages.
+/// A device that holds a file whose structure and records are right, as they were tested. Nothing
+/// is written. A clause sees the pages.
 #[derive(Drop)]
 pub struct FileRecords<D: PageDevice, K: PseudoKey> {
     device: D,
@@ -35,7 +35,8 @@ impl<D: PageDevice, K: PseudoKey> Model for FileRecords<D, K> {
 }
 
 impl<D: PageDevice, K: PseudoKey + Drop> FileRecords<D, K> {
-    /// The records of the file on a device, of which this outline was kept. It holds the device until `into_device`.
+    /// The records of the file on a device, of which this outline was kept. It holds the device
+    /// until `into_device`.
     pub fn new(device: D, outline: Outline, keys: K) -> FileRecords<D, K>
         requires { IsTrue (D.is_honest device) →
             HasRecords (K.of_key keys) (D.content device) outline }

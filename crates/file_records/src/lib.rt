@@ -10,3 +10,4 @@ mod values;
 
 pub use file_records::FileRecords;
 pub use tested::{TestedBucket, read_tested};
+pub use values::is_spelled;

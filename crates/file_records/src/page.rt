@@ -42,7 +42,8 @@ pub(crate) fn read_again<D: PageDevice>(
     }
 }
 
-/// The value of a key, lent by the page of a bucket. A page of another kind has changed since it was tested.
+/// The value of a key, lent by the page of a bucket. A page of another kind has changed since it
+/// was tested.
 pub(crate) fn value_in<'p>(
     bytes: &'p Page,
     page: u32,

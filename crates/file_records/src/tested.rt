@@ -1,5 +1,5 @@
-//! The bucket of a page that was tested before, lent by the page. What was tested is not tested again, but where its
-//! records begin and end.
+//! The bucket of a page that was tested before, lent by the page. What was tested is not tested
+//! again, but where its records begin and end.
 
 ghost use Rattle.std.specs.Prelude.{◌≡◌, ◌≤◌, Ok, Some, None, length, IfSome, IfNone};
 ghost use Rattle.bucket_page.specs.declared.page.PageKind.TheVariants as kinds;

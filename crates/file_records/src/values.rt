@@ -10,7 +10,8 @@ use page_device::Page;
 use queue_records::{Record, Value};
 use record_walk::WalkFault;
 
-/// The record at a key, none where there is none. One that can't be read has changed since it was tested.
+/// The record at a key, none where there is none. One that can't be read has changed since it was
+/// tested.
 pub(crate) fn record_in<'p>(
     bytes: &'p Page,
     page: u32,
@@ -34,7 +35,7 @@ pub(crate) fn record_in<'p>(
 }
 
 /// Whether this is the value of a record.
-pub(crate) fn is_spelled(wanted: &Record, value: &[u8]) -> bool
+pub fn is_spelled(wanted: &Record, value: &[u8]) -> bool
     ensures { IsTrue result ↔ Spells wanted.now (key_of wanted.now) value.now }
 {
     if !wanted.is_in_range() {

@@ -1,7 +1,6 @@
 pub mod Names
 pub mod PageLemmas
 pub mod AloneLemmas
-pub mod OneSystem
 pub mod SystemLemmas
 pub mod RootLaws
 pub mod KeptLemmas

@@ -5,7 +5,7 @@ use Rattle.file_walk.specs.Files.{payload_on}
 use Rattle.file_check.specs.Words.{Pair, Record, RecordKey, State, IsRightStructure, contents, file_of}
 use Rattle.one_bucket_file.proofs.Names.{Bucket, PageKind, ROOT_PAGE, bucket_of, lookup, option_map, page_at, range_of, read_again, record_of, root_bucket, value_of}
 use Rattle.one_bucket_file.proofs.AloneLemmas.{alone}
-use Rattle.one_bucket_file.proofs.OneSystem.{numbers_fit}
+use Rattle.record_walk.proofs.OneSystem.{numbers_fit}
 use Rattle.one_bucket_file.proofs.PageLemmas.{stands_at}
 use Rattle.one_bucket_file.proofs.SystemLemmas.{held_is}
 use Rattle.one_bucket_file.specs.Files.{AreSealed, IsOneBucketFile, IsRoot, ShowsRecords, root_records}

@@ -5,7 +5,7 @@ use Rattle.file_check.specs.Records.{AreRightIn, AreRightRecords, IsRecord, IsRi
 use Rattle.file_check.specs.Whole.{IsFileOf}
 use Rattle.file_check.specs.Words.{IsPlaced, IsRightStructure, Pair, Record, RecordKey, Spells, State, bucket_at, contents, file_of, pairs_on, records_at}
 use Rattle.one_bucket_file.proofs.Names.{All, All-cons, All-nil, Contains, HasSystem, Holds, IsQuietFile, PageKind, Queue, Quiet, ROOT_PAGE, all_of, ascend, bucket_of, contains_cases, contains_head, contains_none, contents_are_pairs, find, find-Some, found_id, has_id, image, image_has, in_flat_map, in_map, key_of, key_of_queue, lookup, lookup_before, option_map, page_at, record_of, root_bucket, spelled, structure_sound, value_of}
-use Rattle.one_bucket_file.proofs.OneSystem.{one_system}
+use Rattle.record_walk.proofs.OneSystem.{one_system}
 use Rattle.one_bucket_file.specs.Files.{AreRecordsOf}
 
 module _ (hash : RecordKey → ℕ) (content : List (List ℕ)) (rs : List Pair)

@@ -1,7 +1,9 @@
 pub mod ListLemmas
 pub mod LinkLemmas
+pub mod QueueLinksLemmas
 pub mod StillLemmas
 pub mod WalkLemmas
 pub mod QueueLemmas
 pub mod SystemLemmas
 pub mod MessageLemmas
+pub mod OneSystem

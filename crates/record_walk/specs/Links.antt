@@ -1,9 +1,12 @@
 -- The links between messages of one type.
-use Rattle.std.specs.Prelude.{◌≡◌, ℕ, ◌<◌, ℤ, List, map, Option, Some, None}
+use Rattle.std.specs.Prelude.{◌≡◌, ℕ, zero, suc, ◌<◌, ℤ, List, map, Option, Some, None}
+use Rattle.std.specs.Option.{unwrap_or}
 use Rattle.std.specs.List.{AllPairs}
 use Rattle.record_walk.specs.declared.of_type.Ends.{Ends}
 use Rattle.record_walk.specs.declared.of_type.TypeLinks.{TypeLinks}
-use Rattle.record_walk.specs.Words.{Message, MessageLinks, Queue, before, behind, first_of, is_number, last_of, serials, serials_of_type}
+use Rattle.record_walk.specs.declared.queue_links.QueueLinks.{QueueLinks}
+use Rattle.record_walk.specs.declared.queue_links.TypeEnds.{TypeEnds}
+use Rattle.record_walk.specs.Words.{Message, MessageLinks, Queue, before, behind, first_of, is_number, last_of, serials, serials_of_type, types}
 
 -- serials ascend
 abbrev pub IsAscending : List Message → Type 0
@@ -40,3 +43,19 @@ with_front serial ends = record { first = Some serial; last = last_with serial e
 pub record AreTypeLinks (ms : List Message) (kinds : List ℤ) (links : TypeLinks) : Type 0 where
   pub next : links.next.items ≡ map (next_of_type ms) ms
   pub ends : links.ends.items ≡ map (ends_of ms) kinds
+
+-- ---- in few bytes
+
+-- the link of a number, 0 for none
+abbrev pub link_of : ℕ → Option ℕ
+link_of zero = None
+link_of (suc n) = Some (suc n)
+
+abbrev pub ends_in : Ends → TypeEnds
+ends_in ends = record { first = unwrap_or ends.first 0; last = unwrap_or ends.last 0 }
+
+-- the types, both ends of each, and of each message the next of its type
+pub record AreLinksOf (ms : List Message) (links : QueueLinks) : Type 0 where
+  pub kinds : links.kinds.items ≡ types ms
+  pub ends : links.ends.items ≡ map ends_in (map (ends_of ms) (types ms))
+  pub next : map link_of links.next.items ≡ map (next_of_type ms) ms

@@ -8,10 +8,12 @@ mod lists;
 mod messages;
 mod of_type;
 mod queue;
+mod queue_links;
 mod records;
 mod system;
 
 pub use fault::WalkFault;
-pub use queue::read_queue;
+pub use queue::{queue_in, read_queue};
+pub use queue_links::QueueLinks;
 pub use records::{Linked, MessageLinks, Records};
 pub use system::read_system;

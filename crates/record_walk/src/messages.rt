@@ -19,7 +19,8 @@ pub(crate) struct Walked {
     pub(crate) links: Vec<MessageLinks>,
 }
 
-/// The messages of the queue of an id, from its first on. The walk ends, since a queue has so many messages at most.
+/// The messages of the queue of an id, from its first on. The walk ends, since a queue has so many
+/// messages at most.
 pub(crate) fn walk<F: Records>(
     file: &mut F,
     alloc: Global,

@@ -39,7 +39,8 @@ pub(crate) struct TypeLinks {
     pub(crate) ends: Vec<Ends>,
 }
 
-/// The links of messages of these types. From the last message on, each is put in front of those of its type.
+/// The links of messages of these types. From the last message on, each is put in front of those of
+/// its type.
 pub(crate) fn type_links(
     alloc: Global,
     messages: &Messages,

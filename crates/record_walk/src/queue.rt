@@ -19,8 +19,8 @@ use queue_model::{Messages, Permissions, Queue};
 use queue_records::{KeyEntry, QueueEntry, Record};
 use std::alloc::Global;
 
-/// The queue of an id: lawful, and all its records stand; no other queue has them. It is refused exactly where there is
-/// none.
+/// The queue of an id: lawful, and all its records stand; no other queue has them. It is refused
+/// exactly where there is none.
 pub fn read_queue<F: Records>(file: &mut F, alloc: Global, id: u32) -> Result<Queue, WalkFault>
     ensures ok { IsTrue (F.is_honest file.old) →
         IfOk result (λ queue. IsQueueOf (F.held file.old) id queue) }
@@ -41,7 +41,7 @@ pub fn read_queue<F: Records>(file: &mut F, alloc: Global, id: u32) -> Result<Qu
 }
 
 /// The queue of an id that a Queue tells of, with these messages.
-fn queue_in(entry: &QueueEntry, id: u32, messages: Messages) -> Queue
+pub fn queue_in(entry: &QueueEntry, id: u32, messages: Messages) -> Queue
     ensures { result ≡ queue_in entry.now id messages }
 {
     Queue {

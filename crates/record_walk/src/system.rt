@@ -13,9 +13,9 @@ use queue_model::{Queue, System};
 use queue_records::{Counter, Record};
 use std::alloc::Global;
 
-/// The one system of which all records stand, and to whose queues all Queue records belong. The ids are those of the Queue
-/// records. It is refused exactly where there is no such system: at the lowest id of which there is a Queue and no queue, or
-/// at the Counter.
+/// The one system of which all records stand, and to whose queues all Queue records belong. The ids
+/// are those of the Queue records. It is refused exactly where there is no such system: at the
+/// lowest id of which there is a Queue and no queue, or at the Counter.
 pub fn read_system<F: Records>(
     file: &mut F,
     alloc: Global,

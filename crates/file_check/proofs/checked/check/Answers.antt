@@ -1,67 +1,37 @@
--- The first tests, then the walk, then the strays: the pages stay, so each speaks of the same file.
-use Rattle.std.proofs.Common.{ℕ, ◌⊎◌, IsTrue, List, sym, subst, ◌∙◌}
-use Rattle.record_walk.specs.Systems.{IsSystemOf}
-use Rattle.file_records.specs.Files.{HasRecords}
-use Rattle.file_check.specs.Fault.{IsOfMachineToo}
-use Rattle.file_check.specs.Strays.{AreNeeded, IsFirstStray}
-use Rattle.file_check.specs.Whole.{IsToldOf, IsWalkFault}
-use Rattle.file_check.specs.Words.{IsRightStructure, contents, file_of}
-use Rattle.file_check.proofs.WholeLemmas.{first_told, has_records, is_file, is_right, stray_told, walk_told}
+-- The first tests, then the system that is gathered, or else the slow way: the pages stay, so each speaks of the same
+-- file.
+use Rattle.std.proofs.Common.{ℕ, IsTrue, List, sym, subst, ◌∙◌}
+use Rattle.file_check.specs.Gathered.{AreJustOf}
+use Rattle.file_check.specs.Right.{IsRightFileOf}
+use Rattle.file_check.specs.Words.{IsRightStructure, file_of}
+use Rattle.file_check.proofs.WholeLemmas.{file_of_just, first_told, is_right}
 use Rattle.file_check.proofs.checked.check.Goals as goal
 
 pub returns-in-Err-clause-err : goal.returns-in-Err-clause-err
 returns-in-Err-clause-err g c = λ is.
     first_told (g.K.PseudoKey.of_key c.args.keys) _ _ (c.in-Err.ensures.err is)
 
-pub walk-walked-requires-clause-records : goal.walk-walked-requires-clause-records
-walk-walked-requires-clause-records g c = λ is.
-    let prepared = c.in-Ok.ensures in
-    subst (λ pages. HasRecords (g.K.PseudoKey.of_key c.args.keys) pages c.in-Ok.prepared.structure.outline)
-    (sym prepared.same) (has_records _ _ _ _ (prepared.ok (subst IsTrue prepared.honest is)).right)
+pub quick_system-requires : goal.quick_system-requires
+quick_system-requires g c = λ is.
+    let tested = c.in-Ok.ensures in
+    subst (IsRightStructure (g.D.PageDevice.content c.check_records.new.device)) (sym c.as_slice.ensures.value)
+    (subst (λ pages. IsRightStructure pages c.in-Ok.structure.chain.items) (sym tested.same)
+    (tested.ok (subst IsTrue tested.honest is)).structure.right)
 
-pub returns-in-Err-found-clause-err : goal.returns-in-Err-found-clause-err
-returns-in-Err-found-clause-err g c = λ is.
-    let prepared = c.in-Ok.ensures in
-    let right = is_right _ _ _ _ (prepared.ok is).right in
-    let told = rw c.in-Err-found.is at (c.walk-walked.ensures.err (subst IsTrue (sym prepared.honest) is)) in
-    let here = subst (λ pages. IsWalkFault (contents (file_of pages)) c.in-Err-found.fault) prepared.same told in
-    subst (IsToldOf (g.K.PseudoKey.of_key c.args.keys) (g.D.PageDevice.content c.args.device)) (sym here.1)
-    (walk_told _ _ _ right here.0 here.2)
+pub returns-in-Some-clause-ok : goal.returns-in-Some-clause-ok
+returns-in-Some-clause-ok g c = λ is.
+    let tested = c.in-Ok.ensures in
+    let system = c.in-Some.system in
+    let just = c.in-Some.ensures.some (subst IsTrue (sym tested.honest) is) in
+    file_of_just (g.K.PseudoKey.of_key c.args.keys) _ _ (is_right _ _ _ _ (tested.ok is)) system
+    (subst (λ (ns : List ℕ). AreJustOf (file_of (g.D.PageDevice.content c.args.device)) ns system)
+    c.as_slice.ensures.value
+    (subst (λ pages. AreJustOf (file_of pages) c.as_slice.result.now system) tested.same just))
 
-pub test_strays-requires : goal.test_strays-requires
-test_strays-requires g c = λ is.
-    let prepared = c.in-Ok.ensures in
-    let walked = c.walk-walked.ensures in
-    let right = (prepared.ok (subst IsTrue prepared.honest (subst IsTrue walked.honest is))).right in
-    subst (IsRightStructure (g.D.PageDevice.content c.walk-walked.result.device)) (sym c.as_slice-2.ensures.value)
-    (subst (λ pages. IsRightStructure pages c.in-Ok.prepared.structure.chain.items) (sym (walked.same ∙ prepared.same))
-    right.structure.right)
-
-pub returns-in-Ok-test_strays-clause-ok : goal.returns-in-Ok-test_strays-clause-ok
-returns-in-Ok-test_strays-clause-ok g c = λ is.
-    let prepared = c.in-Ok.ensures in
-    let walked = c.walk-walked.ensures in
-    let system = c.in-Ok-found.system in
-    let read = subst IsTrue (sym prepared.honest) is in
-    let stands = rw c.in-Ok-found.is at (walked.ok read) in
-    let needed = c.in-Ok-test_strays.ensures.ok (subst IsTrue (sym walked.honest) read) in
-    is_file _ _ _ (is_right _ _ _ _ (prepared.ok is).right) system
-    (subst (λ pages. IsSystemOf (contents (file_of pages)) system) prepared.same stands)
-    (subst (AreNeeded system (file_of (g.D.PageDevice.content c.args.device))) c.as_slice-2.ensures.value
-    (subst (λ pages. AreNeeded system (file_of pages) c.as_slice-2.result.now) (walked.same ∙ prepared.same) needed))
-
-pub returns-clause-err : goal.returns-clause-err
-returns-clause-err g c = λ is.
-    let prepared = c.in-Ok.ensures in
-    let walked = c.walk-walked.ensures in
-    let system = c.in-Ok-found.system in
-    let fault = c.in-Err-test_strays.fault in
-    let read = subst IsTrue (sym prepared.honest) is in
-    let stands = rw c.in-Ok-found.is at (walked.ok read) in
-    let stray = c.in-Err-test_strays.ensures.err (subst IsTrue (sym walked.honest) read) in
-    stray_told _ _ _ (is_right _ _ _ _ (prepared.ok is).right) system fault
-    (subst (λ pages. IsSystemOf (contents (file_of pages)) system) prepared.same stands)
-    (subst (λ (ns : List ℕ). IsOfMachineToo fault
-    ⊎ IsFirstStray system (file_of (g.D.PageDevice.content c.args.device)) ns fault) c.as_slice-2.ensures.value
-    (subst (λ pages. IsOfMachineToo fault ⊎ IsFirstStray system (file_of pages) c.as_slice-2.result.now fault)
-    (walked.same ∙ prepared.same) stray))
+pub check_slowly-requires : goal.check_slowly-requires
+check_slowly-requires g c = λ is.
+    let tested = c.in-Ok.ensures in
+    let quick = c.quick_system.ensures in
+    subst (λ pages. IsRightFileOf (g.K.PseudoKey.of_key c.args.keys) pages c.in-Ok.structure.outline
+    c.in-Ok.structure.chain.items) (sym (quick.same ∙ tested.same))
+    (tested.ok (subst IsTrue tested.honest (subst IsTrue quick.honest is)))

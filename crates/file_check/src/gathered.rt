@@ -1,0 +1,155 @@
+//! A system is gathered from the records of a file, in the order in which they stand. Nothing is
+//! said of it but that it is lawful.
+
+ghost use Rattle.std.specs.Prelude.{◌≡◌, ◌≤◌, ◌<◌, false, length, IfSome};
+ghost use Rattle.queue_model.specs.Lawful.{IsLawful};
+
+use crate::bucket::read_again;
+use file_records::{TestedBucket, read_tested};
+use limits::{MAX_MESSAGES, MAX_QUEUES};
+use page_device::{PAGE_BYTES, PageDevice};
+use queue_model::{Body, Message, Messages, Queue, System};
+use queue_records::{MessageEntry, QueueEntry, Record};
+use record_walk::queue_in;
+use std::alloc::Global;
+
+/// What was found so far of the queue of an id.
+#[derive(Drop)]
+struct Part {
+    id: u32,
+    entry: Option<QueueEntry>,
+    messages: Vec<Message>,
+}
+
+/// What was found so far of a system: parts of its queues, in ascending order of id.
+#[derive(Drop)]
+struct Parts {
+    next_id: u32,
+    queues: Vec<Part>,
+}
+
+/// A system that holds the messages on these pages; none where they are of no system, or where
+/// there is no memory for it.
+pub(crate) fn gather<D: PageDevice>(alloc: Global, device: &mut D, chain: &[u32]) -> Option<System>
+    ensures running { IfSome result (λ system. system.stopped ≡ false) }
+    ensures same { D.content device.new ≡ D.content device.old }
+    ensures honest { D.is_honest device.new ≡ D.is_honest device.old }
+    ensures later { D.fault_count device.old ≤ D.fault_count device.new }
+{
+    let mut parts = Parts {
+        next_id: 0,
+        queues: Vec::new(alloc),
+    };
+    for page in chain {
+        gather_on(alloc, device, *page, &mut parts)?;
+    }
+    parts.whole(alloc)
+}
+
+/// Adds what stands on a page.
+fn gather_on<D: PageDevice>(
+    alloc: Global,
+    device: &mut D,
+    page: u32,
+    parts: &mut Parts,
+) -> Option<()>
+    ensures same { D.content device.new ≡ D.content device.old }
+    ensures honest { D.is_honest device.new ≡ D.is_honest device.old }
+    ensures later { D.fault_count device.old ≤ D.fault_count device.new }
+{
+    let mut bytes = [0; PAGE_BYTES];
+    read_again(device, page, &mut bytes).ok()?;
+    parts.add(alloc, &read_tested(&bytes)?)
+}
+
+impl Parts {
+    /// Adds what stands in a bucket.
+    fn add(&mut self, alloc: Global, bucket: &TestedBucket) -> Option<()> {
+        for record in bucket.records() {
+            match Record::decode(&record.key, record.value) {
+                Ok(Record::Counter(counter)) => self.next_id = counter.next_id,
+                Ok(Record::Queue(entry)) => self.add_queue(alloc, entry)?,
+                Ok(Record::Message(message)) => self.add_message(alloc, &message)?,
+                Ok(Record::Key(_)) => {}
+                Ok(Record::Type(_)) => {}
+                Err(_) => {}
+            }
+        }
+        Some(())
+    }
+
+    fn add_queue(&mut self, alloc: Global, entry: QueueEntry) -> Option<()> {
+        let place = self.place(alloc, entry.id)?;
+        self.queues[place].entry = Some(entry);
+        Some(())
+    }
+
+    fn add_message(&mut self, alloc: Global, entry: &MessageEntry) -> Option<()> {
+        let place = self.place(alloc, entry.id)?;
+        if self.queues[place].messages.len() >= MAX_MESSAGES as usize {
+            return None;
+        }
+        let bytes = Vec::from_slice(alloc, entry.body.as_slice()).ok()?;
+        let message = Message {
+            serial: entry.serial,
+            sender: entry.sender,
+            mtype: entry.mtype,
+            bytes: Body::new(bytes),
+        };
+        self.queues[place].messages.push(message).ok()
+    }
+
+    /// The place of the part of a queue, which is made where there is none.
+    fn place(&mut self, alloc: Global, id: u32) -> Option<usize>
+        ensures { IfSome result (λ place. place < length self.new.queues.items) }
+    {
+        match self.queues.binary_search_by_key(&id, |part| part.id) {
+            Ok(place) => Some(place),
+            Err(place) => {
+                if self.queues.len() >= MAX_QUEUES as usize {
+                    return None;
+                }
+                let part = Part {
+                    id,
+                    entry: None,
+                    messages: Vec::new(alloc),
+                };
+                self.queues.insert(place, part).ok()?;
+                Some(place)
+            }
+        }
+    }
+
+    /// The system of all parts; none where it would be unlawful.
+    fn whole(self, alloc: Global) -> Option<System>
+        ensures { IfSome result (λ system. system.stopped ≡ false) }
+    {
+        let Parts {
+            next_id,
+            queues: parts,
+        } = self;
+        let mut queues = Vec::new(alloc);
+        for part in parts {
+            queues.push(part.whole(alloc)?).ok()?;
+        }
+        System::of_queues(queues, next_id)
+    }
+}
+
+impl Part {
+    /// The queue, its messages in ascending order of serial; none where there is no Queue.
+    fn whole(self, alloc: Global) -> Option<Queue> {
+        let Part {
+            id,
+            entry,
+            messages: mut list,
+        } = self;
+        let entry = entry?;
+        list.sort_unstable_by_key(|message| message.serial);
+        let mut messages = Messages::new(alloc);
+        for message in list {
+            messages.push(message).ok()?;
+        }
+        Some(queue_in(&entry, id, messages))
+    }
+}
