@@ -11,8 +11,9 @@ use any_inquiry::AnyInquiry;
 use queue_model::Call;
 use xsi_inquiry::{Decision, Inquiry, NotASystem};
 
-/// What a call decides that asks for nothing more: for every system of which it was told the records, what the rules
-/// say. It is known before the call inserts on trial, and stays so while it does.
+/// What a call decides that asks for nothing more: for every system of which it was told the
+/// records, what the rules say. It is known before the call inserts on trial, and stays so while it
+/// does.
 pub fn decide(call: &Call, inquiry: &AnyInquiry) -> Result<Decision, NotASystem>
     requires { asked_of call.now inquiry.now ≡ None }
     ensures value { result ≡ decided_of call.now inquiry.now }

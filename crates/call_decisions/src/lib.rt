@@ -1,4 +1,5 @@
-//! What a call comes to at its Decide: its answer by the rules, or that it waits; and what it then owes the file.
+//! What a call comes to at its Decide: its answer by the rules, or that it waits; and what it then
+//! owes the file.
 
 #![tactic(auto)]
 

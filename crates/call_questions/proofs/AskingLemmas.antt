@@ -8,7 +8,7 @@ use Rattle.held_names.proofs.TurnLemmas.{turns_are_right, turns_come_nearer}
 use Rattle.call_questions.specs.declared.question.Question.{Question}
 use Rattle.call_questions.specs.Words.{RecordKey, PoolState, Table, Lock, Change, Store, store_of, with_row, NearsOrSpares, Progress, Moved, Blocked, Fault, Ended, is_fault, Sees, Step, ToFind, begun, AnyInquiry, asked_of, names_in, names_for, name_turn, names_left, Ready, Call, State, Roomful, Wanted}
 use Rattle.call_questions.specs.Answering.{IsAskedUnder, key_asked}
-use Rattle.call_questions.specs.Questions.{FIND_STEPS, IsRightQuestion, QuestionsView, asks_more, has_asked, is_ready, questions_facts, questions_left, questions_locks, tries, turn_of_names}
+use Rattle.call_questions.specs.Questions.{FIND_STEPS, IsRightQuestion, QuestionsView, asks_more, changes, has_asked, is_ready, questions_facts, questions_left, questions_locks, turn_of_names}
 use Rattle.call_questions.specs.QuestionSteps.{Faces, Learns, MakesQuestions, Rests, is_blocked}
 use Rattle.call_questions.proofs.AskLemmas.{asks_under}
 use Rattle.call_questions.proofs.KnowLemmas.{may_read}
@@ -31,7 +31,7 @@ module _ (hash : RecordKey → ℕ) (seat : ℕ) (call : Call) (i : AnyInquiry) 
   asks_on = ap is_some asked
 
   not_done : has_asked call before ≡ false
-  not_done = ap (λ (b : Bool). not b && (not (tries call i) || is_ready (name_turn held (names_for call i)))) asks_on
+  not_done = ap (λ (b : Bool). not b && (not (changes call i) || is_ready (name_turn held (names_for call i)))) asks_on
 
   module _ (k : ℕ) (keyed : hash (key_asked wanted) ≡ k) (pool : PoolState) (locks : Table) where
     right_question : IsRightQuestion hash call (begins_with k) (first_of k)

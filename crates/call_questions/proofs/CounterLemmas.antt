@@ -1,10 +1,7 @@
--- The Counter is asked for last; what is inserted on trial stands under names that grew.
-use Rattle.std.proofs.Common.{ℕ, ◌≡◌, ◌≢◌, ◌<◌, ◌++◌, inl, inr, Bool, true, false, cond, List, [], Option, Some, None, length, take, drop, refl, sym, ap, ◌∙◌, arith}
-use Rattle.std.proofs.lemmas.Bool.{true≢false}
-use Rattle.std.proofs.lemmas.List.{take-append-drop}
-use Rattle.std.specs.Option.{is_some}
-use Rattle.std.specs.Prelude.{nat_lt, slice_get}
-use Rattle.call_questions.proofs.Names.{COUNTER, GetArguments, GetInquiry, Getting, KEY, KeepsNames, MAX_QBYTES, MESSAGE, Plan, QUEUE, ReceiveInquiry, RemoveInquiry, SendArguments, SendInquiry, SetArguments, SetInquiry, Sought, StatInquiry, TYPE, get_left, get_wanted, if_of, key_of_key, key_of_message, key_of_queue, key_of_type, key_wanted, names_grow, nothing, of_get, of_receive, of_remove, of_send, of_set, of_stat, set_wanted, sought_next}
+-- The Counter is asked for last.
+use Rattle.std.proofs.Common.{ℕ, ◌≡◌, ◌<◌, Bool, true, false, cond, Option, Some, None, refl, ap, ◌∙◌, arith}
+use Rattle.std.specs.Prelude.{nat_lt}
+use Rattle.call_questions.proofs.Names.{COUNTER, GetArguments, GetInquiry, Getting, KEY, MAX_QBYTES, MESSAGE, QUEUE, ReceiveInquiry, RemoveInquiry, SendArguments, SendInquiry, SetArguments, SetInquiry, Sought, StatInquiry, TYPE, get_left, get_wanted, if_of, key_of_key, key_of_message, key_of_queue, key_of_type, key_wanted, of_get, of_receive, of_remove, of_send, of_set, of_stat, set_wanted, sought_next}
 use Rattle.queue_model.specs.declared.call.Call.TheVariants as calls
 use Rattle.xsi_control.specs.declared.get_inquiry.Getting.TheVariants as gets
 use Rattle.xsi_inquiry.specs.declared.sought.Sought.TheVariants as soughts
@@ -17,8 +14,7 @@ use Rattle.xsi_send.specs.declared.stage.Stage.TheVariants as send
 use Rattle.xsi_sweep.specs.Asking as removes
 use Rattle.xsi_sweep.specs.declared.stage.Stage as remove_stages
 use Rattle.xsi_sweep.specs.declared.stage.Stage.TheVariants as remove
-use Rattle.call_questions.specs.Words.{RecordKey, Record, AnyInquiry, asked_of, left_of, plan_of, Call, Wanted, At, Begins, names_for}
-use Rattle.call_questions.specs.Questions.{tries}
+use Rattle.call_questions.specs.Words.{RecordKey, AnyInquiry, asked_of, left_of, Call, Wanted, At}
 
 -- ---- the Counter is asked for last
 
@@ -137,40 +133,3 @@ counter_last (calls.Set a) i j key is counter fewer =
 counter_last (calls.Remove id) i j key is counter fewer =
     last_by (λ (x : RemoveInquiry). removes.asked id x.stage) (λ (x : RemoveInquiry). removes.asks_left x.stage) key
     (λ x y asks less. remove_last id x.stage y.stage key asks counter less) (of_remove i) (of_remove j) is fewer
-
--- ---- the names under which it inserts on trial
-
--- a Remove inserts nothing
-remove_plan : (id : ℕ) (stage : remove_stages.Stage) → (removes.plan_at id stage).trials ≡ []
-remove_plan id (remove.Seeking sought) = refl
-remove_plan id (remove.Refused errno) = refl
-remove_plan id (remove.Keyed key) = refl
-remove_plan id (remove.Counting key queue) = refl
-remove_plan id (remove.Removing r) = refl
-
-remove_tries_not : (id : ℕ) (o : Option RemoveInquiry) →
-    (if_of (λ (i : RemoveInquiry). removes.plan_at id i.stage) nothing o).trials ≡ []
-remove_tries_not id None = refl
-remove_tries_not id (Some i) = remove_plan id i.stage
-
-some_trials : (trials : List Record) → is_some (slice_get trials 0) ≡ true → trials ≢ []
-some_trials trials some none = true≢false (sym some ∙ ap (λ (rs : List Record). is_some (slice_get rs 0)) none)
-
-grown : (call : Call) (i j : AnyInquiry) → KeepsNames call → asked_of call i ≢ None → tries call j ≡ true →
-    left_of call j < left_of call i → Begins (names_for call i) (names_for call j)
-grown call i j keeps asks tries_on fewer =
-    let n = length (names_for call i) in
-    let begun = names_grow call i j keeps (inl asks) (inr (some_trials (plan_of call j).trials tries_on)) fewer in (
-      drop n (names_for call j),
-      sym (take-append-drop n (names_for call j)) ∙ ap (λ xs. xs ++ drop n (names_for call j)) begun,
-    )
-
-pub begins_on : (call : Call) (i j : AnyInquiry) → asked_of call i ≢ None → tries call j ≡ true →
-    left_of call j < left_of call i → Begins (names_for call i) (names_for call j)
-begins_on (calls.Get a) i j = grown (calls.Get a) i j tt
-begins_on (calls.Send a) i j = grown (calls.Send a) i j tt
-begins_on (calls.Receive a) i j = grown (calls.Receive a) i j tt
-begins_on (calls.Stat id) i j = grown (calls.Stat id) i j tt
-begins_on (calls.Set a) i j = grown (calls.Set a) i j tt
-begins_on (calls.Remove id) i j = λ asks tries_on fewer.
-    absurd (some_trials (plan_of (calls.Remove id) j).trials tries_on (remove_tries_not id (of_remove j)))

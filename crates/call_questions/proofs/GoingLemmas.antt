@@ -1,7 +1,10 @@
 -- A step of the question under way is one of the call.
 use Rattle.std.proofs.Common.{ℕ, ◌≡◌, ◌≢◌, ◌<◌, ◌≤◌, ◌+◌, ◌*◌, Bool, true, false, not, List, Option, Some, None, IfSome, IsTrue, IsOk, Result, Ok, Err, if◌then◌else◌, refl, sym, ap, ◌∙◌, subst, inl, inr, ◌⊎◌, arith}
 use Rattle.std.proofs.lemmas.Bool.{true≢false}
+use Rattle.std.specs.List.{Contains}
 use Rattle.std.specs.Option.{is_some}
+use Rattle.call_names.specs.Laws.{KeepsNames}
+use Rattle.page_locks.specs.declared.lock.LockName.TheVariants.{Counter}
 use Rattle.file_pages.specs.declared.fault.FileFault.{FileFault}
 use Rattle.file_pages.specs.declared.fault.FileFault.TheVariants.{Failed}
 use Rattle.step_rules.specs.Known.{AllKnown}
@@ -12,7 +15,7 @@ use Rattle.held_names.proofs.TurnLemmas.{are_few_turns}
 use Rattle.call_questions.specs.declared.question.Question.{Question}
 use Rattle.call_questions.specs.Words.{RecordKey, PoolState, Table, Lock, Change, Store, row_of, with_row, store_of, OnlyWrites, Progress, Moved, Blocked, Fault, Ended, Look, World, Known, is_fault, Step, world, NearsOrSpares, HasEnded, Record, is_write, ToFind, StandsAt, AccessView, HasFound, Serves, access_answer, access_facts, access_key, access_left, access_locks, access_pseudokey, access_turn, AnyInquiry, caller_of, asked_of, left_of, AreNames, names_in, names_for, names_left, MAX_NAMES, Begins, Call, State, NotASystem, Roomful}
 use Rattle.call_questions.specs.Answering.{MayRead}
-use Rattle.call_questions.specs.Questions.{FIND_STEPS, ROUND_STEPS, IsAsked, IsRightQuestion, IsUnderWay, KnowsNear, QuestionsView, asks_more, facts_of, locks_behind, questions_left, tries}
+use Rattle.call_questions.specs.Questions.{FIND_STEPS, ROUND_STEPS, IsAsked, IsRightQuestion, IsUnderWay, KnowsNear, QuestionsView, asks_more, changes, facts_of, locks_behind, questions_left}
 use Rattle.call_questions.specs.QuestionSteps.{Closes, Faces, IsOver, Learns, MakesQuestions, Rests}
 use Rattle.call_questions.proofs.FindLemmas.{ended_facts, ended_locks, owns_written, reads_only}
 
@@ -56,7 +59,8 @@ module _ (hash : RecordKey → ℕ) (seat : ℕ) (call : Call) (i : AnyInquiry) 
 
   -- what the inquiry has come to behind the step, in which it was told an answer, or not
   pub record Comes (s : State) (j : AnyInquiry) (r : Roomful) (told : Bool) : Type 0 where
-    pub begins : asks_more call j ≡ false → tries call j ≡ true → Begins held (names_for call j)
+    pub begins : asks_more call j ≡ false → changes call j ≡ true →
+        KeepsNames call ⊎ Contains (names_in held) Counter → Begins held (names_for call j)
     pub knows : KnowsNear call (view_of j r None) s
     pub asked : told ≡ false → IsAsked call (view_of j r None) a'
     -- fewer questions are left where one was told

@@ -60,13 +60,13 @@ pub near_all : (call : Call) (held : List LockName) (IsSo : State → Type 0) (s
 near_all call held IsSo s near t filed agrees =
     near t filed (record { asked = agrees.asked; counter = λ within. absurd (none_in names.Counter within) })
 
--- a name more keeps it
+-- names that hold the Counter where it was held keep it
 pub near_more : (call : Call) (asks : Bool) (held more : List Lock) (IsSo : State → Type 0) (s : State) →
-    (asks ≡ false → (name : LockName) → Contains (names_in held) name → Contains (names_in more) name) →
+    (asks ≡ false → Contains (names_in held) names.Counter → Contains (names_in more) names.Counter) →
     IsSoNear call (keeping asks held) IsSo s → IsSoNear call (keeping asks more) IsSo s
 near_more call true held more IsSo s within near = near
 near_more call false held more IsSo s within near = λ t filed agrees.
-    near t filed (record { asked = agrees.asked; counter = λ has. agrees.counter (within refl names.Counter has) })
+    near t filed (record { asked = agrees.asked; counter = λ has. agrees.counter (within refl has) })
 
 asks_of : (o : Option Wanted) (wanted : Wanted) → o ≡ Some wanted → is_some o ≡ true
 asks_of o wanted is = ap is_some is

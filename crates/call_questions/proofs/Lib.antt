@@ -1,5 +1,6 @@
 pub mod AskLemmas
 pub mod CounterLemmas
+pub mod PlanLemmas
 pub mod KnowLemmas
 pub mod FindLemmas
 pub mod TurnLemmas

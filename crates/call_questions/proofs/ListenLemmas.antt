@@ -1,7 +1,10 @@
 -- What a call knows behind a step of its question, whether it was told an answer or not.
 use Rattle.std.proofs.Common.{ℕ, ◌≡◌, ◌<◌, Bool, true, false, List, [], Option, Some, None, IfSome, IsOk, Result, Ok, Err, refl, sym, ap, ◌∙◌, subst, inl, inr, ◌⊎◌}
 use Rattle.std.proofs.lemmas.Bool.{true≢false}
+use Rattle.std.specs.List.{Contains}
 use Rattle.std.specs.Option.{is_some}
+use Rattle.call_names.specs.Laws.{KeepsNames}
+use Rattle.page_locks.specs.declared.lock.LockName.TheVariants.{Counter}
 use Rattle.file_pages.specs.declared.fault.FileFault.{FileFault}
 use Rattle.file_pages.specs.declared.fault.FileFault.TheVariants.{Failed}
 use Rattle.record_access.specs.AccessSteps.{FindsRecord, MakesAccess}
@@ -10,12 +13,12 @@ use Rattle.call_questions.specs.declared.question.Question.{Question}
 use Rattle.call_questions.specs.Words.{RecordKey, PoolState, Table, Lock, Change, Store, row_of, store_of, Progress, Moved, Fault, Look, is_fault, HasEnded, Record, ToFind, StandsAt, AccessView, HasFound, Serves, access_answer, access_key, access_locks, AnyInquiry, KnowsOf, asked_of, AreNames, names_in, names_for, Begins, Call, State, NotASystem, IsSoNear, Roomful, Wanted}
 use Rattle.call_questions.specs.Answering.{Answers, IsAskedUnder}
 use Rattle.call_questions.specs.Laws.{IsAnswered}
-use Rattle.call_questions.specs.Questions.{IsAsked, IsUnderWay, KnowsNear, QuestionsView, asks_more, keeping, tries}
+use Rattle.call_questions.specs.Questions.{IsAsked, IsUnderWay, KnowsNear, QuestionsView, asks_more, keeping}
 use Rattle.call_questions.specs.QuestionSteps.{Closes, Faces, IsHeard, IsQuiet, IsSilent, Listens, MakesQuestions, Told}
 use Rattle.call_questions.proofs.AskLemmas.{asks_under}
-use Rattle.call_questions.proofs.CounterLemmas.{begins_on}
 use Rattle.call_questions.proofs.GoingLemmas.{Comes, faces, fails, goes_on, old, view_of}
 use Rattle.call_questions.proofs.KnowLemmas.{files_answer, heard, some_stands}
+use Rattle.call_questions.proofs.PlanLemmas.{begins_on}
 
 some_not_none : (o : Option Wanted) (wanted : Wanted) → o ≡ Some wanted → o ≡ None → ⊥
 some_not_none o wanted is none = true≢false (sym (ap is_some is) ∙ ap is_some none)
@@ -131,8 +134,11 @@ module _ (hash : RecordKey → ℕ) (seat : ℕ) (call : Call) (i : AnyInquiry) 
 
         aloud : ComesTo s j r q'.told
         aloud = record {
-          begins = λ none tried. subst (λ (ls : List Lock). Begins ls (names_for call j)) (sym was.names)
-              (begins_on call i j (some_not_none (asked_of call i) was.wanted was.asked) tried (h.hears.fewer hears.0));
+          begins = λ none does keeps. subst (λ (ls : List Lock). Begins ls (names_for call j)) (sym was.names)
+              (begins_on call i j room r s (some_not_none (asked_of call i) was.wanted was.asked) does
+              (h.hears.fewer hears.0) (f.knows s f.agrees.filed (agrees_itself call _ s))
+              (hears.1 s f.agrees.filed (agrees_itself call _ s))
+              (subst (λ (ls : List Lock). KeepsNames call ⊎ Contains (names_in ls) Counter) was.names keeps));
           knows = hears.1;
           asked = λ untold. absurd (true≢false (sym (h.counts hears.0) ∙ untold));
           left = inr (h.untold, h.counts hears.0, h.hears.fewer hears.0);

@@ -14,5 +14,11 @@ pub use Rattle.queue_model.specs.declared.call.ReceiveArguments.{ReceiveArgument
 pub use Rattle.queue_model.specs.declared.call.SendArguments.{SendArguments}
 pub use Rattle.queue_model.specs.declared.call.SetArguments.{SetArguments}
 pub use Rattle.queue_records.specs.declared.layout.TheConstants.{COUNTER, KEY, MESSAGE, QUEUE, TYPE}
-pub use Rattle.xsi_control.specs.Getting.{get_left}
-pub use Rattle.xsi_inquiry.specs.Seeking.{Tells}
+pub use Rattle.queue_model.specs.declared.errno.Errno.{Errno}
+pub use Rattle.queue_records.specs.declared.queue_entry.QueueEntry.{QueueEntry}
+pub use Rattle.page_locks.specs.Locks.{kind_of}
+pub use Rattle.xsi_control.specs.Getting.{get_left, get_plan, one_more, plan_made}
+pub use Rattle.xsi_control.specs.Setting.{plan_by, plan_on, set_entry, set_plan}
+pub use Rattle.xsi_inquiry.specs.Seeking.{IsKeyed, Tells}
+pub use Rattle.xsi_sweep.specs.Removing.{key_deletion, names_of}
+pub use Rattle.xsi_sweep.specs.declared.removal.Removal.{Removal}

@@ -1,10 +1,12 @@
 -- A step of a call at which no question is under way: it ends, or takes a name or gives one back.
-use Rattle.std.proofs.Common.{ℕ, ◌≡◌, ◌≢◌, ◌<◌, ◌≤◌, ◌+◌, ◌*◌, ◌++◌, ◌∷◌, suc, Bool, true, false, not, ◌||◌, ◌&&◌, List, [], Option, Some, None, IsTrue, length, if◌then◌else◌, refl, sym, ap, ◌∙◌, subst, inl, inr, arith}
+use Rattle.std.proofs.Common.{ℕ, ◌≡◌, ◌≢◌, ◌<◌, ◌≤◌, ◌+◌, ◌*◌, ◌++◌, ◌∷◌, suc, Bool, true, false, not, ◌||◌, ◌&&◌, List, [], Option, Some, None, IsTrue, length, if◌then◌else◌, refl, sym, ap, ◌∙◌, subst, inl, inr, ◌⊎◌, arith}
 use Rattle.std.proofs.lemmas.Bool.{true≢false}
 use Rattle.std.proofs.lemmas.List.{append_assoc, map-append}
 use Rattle.std.proofs.lemmas.List.Elements.{Contains-append_left}
 use Rattle.std.specs.List.{Contains}
 use Rattle.page_locks.proofs.ChangeLemmas.{with_row-own}
+use Rattle.page_locks.specs.declared.lock.LockName.TheVariants as names
+use Rattle.call_names.specs.Laws.{KeepsNames}
 use Rattle.file_pages.specs.declared.fault.FileFault.{FileFault}
 use Rattle.hash_file.specs.Changes.{RecordWrite}
 use Rattle.step_rules.specs.Turns.{Ask, ForLock}
@@ -18,7 +20,7 @@ use Rattle.held_names.specs.NameSteps.{GivesBack, MakesNameStep, Takes}
 use Rattle.held_names.proofs.OrderLemmas.{begin_are_names}
 use Rattle.held_names.proofs.TurnLemmas.{turns_are_right, turns_come_nearer}
 use Rattle.call_questions.specs.Words.{RecordKey, PoolState, Table, Lock, Change, Store, row_of, with_row, store_of, IsReady, OnlyWrites, Progress, Moved, Blocked, Fault, Ended, Turn, is_fault, Sees, Step, world, NearsOrSpares, is_write, AnyInquiry, KnowsOf, asked_of, caller_of, left_of, AreNames, names_in, names_for, Begins, name_turn, names_left, Take, GiveBack, Ready, LockName, Call, State, Roomful}
-use Rattle.call_questions.specs.Questions.{QuestionsView, IsRight, asks_more, has_asked, is_done, is_ready, tries, turn_of_names}
+use Rattle.call_questions.specs.Questions.{QuestionsView, IsRight, asks_more, changes, has_asked, is_done, is_ready, turn_of_names}
 use Rattle.call_questions.specs.QuestionSteps.{MakesQuestions}
 use Rattle.call_questions.proofs.KnowLemmas.{near_more}
 
@@ -54,11 +56,11 @@ module _ (hash : RecordKey → ℕ) (seat : ℕ) (call : Call) (i : AnyInquiry) 
 
   -- ---- a name is taken
 
-  -- where it has not asked all and asks nothing more, it inserts on trial
-  tries_by : (asks tried ready : Bool) → (not asks && (not tried || ready)) ≡ false → asks ≡ false → tried ≡ true
-  tries_by asks true ready left none = refl
-  tries_by true false ready left none = absurd (true≢false none)
-  tries_by false false ready left none = absurd (true≢false left)
+  -- where it has not asked all and asks nothing more, it is to change the file
+  changes_on : (asks does ready : Bool) → (not asks && (not does || ready)) ≡ false → asks ≡ false → does ≡ true
+  changes_on asks true ready left none = refl
+  changes_on true false ready left none = absurd (true≢false none)
+  changes_on false false ready left none = absurd (true≢false left)
 
   pub next_are_names : (held : List Lock) (lock : Lock) → name_turn held (names_for call i) ≡ Take lock →
       AreNames (held ++ lock ∷ [])
@@ -103,9 +105,9 @@ module _ (hash : RecordKey → ℕ) (seat : ℕ) (call : Call) (i : AnyInquiry) 
             subst (λ (t : NameTurn). Step {F = FileFault} hash seat (turn_of_names t) (Moved kind) [] pool pool locks
             locks' change) (sym turn) (step hash pool change None f.sees);
         means = λ s change f fine. record {
-          right = record { question = tt; begins = λ none tried. begins_next };
+          right = record { question = tt; begins = λ none does keeps. begins_next };
           knows = near_more call (asks_more call i) held (held ++ lock ∷ []) (KnowsOf call i room) s
-              (λ none name. more_names held lock name) f.knows;
+              (λ none. more_names held lock names.Counter) f.knows;
           reads = ap (λ (k : Kind). is_write {F = FileFault} (Moved k)) granted;
         };
       }
@@ -143,10 +145,19 @@ module _ (hash : RecordKey → ℕ) (seat : ℕ) (call : Call) (i : AnyInquiry) 
       begins_not : Begins held goal → ⊥
       begins_not = (turns_are_right held goal).give_back.0 turn
 
-      -- then it asks something
-      asks_on : IsRight hash call (bare held) → asks_more call i ≡ false → ⊥
-      asks_on right none = begins_not (right.begins none (tries_by (asks_more call i) (tries call i)
-          (is_ready (name_turn held goal)) left none))
+      -- then it asks something, or is a Remove without its Counter
+      keeps_not : IsRight hash call (bare held) → asks_more call i ≡ false →
+          KeepsNames call ⊎ Contains (names_in held) names.Counter → ⊥
+      keeps_not right none keeps = begins_not (right.begins none (changes_on (asks_more call i) (changes call i)
+          (is_ready (name_turn held goal)) left none) keeps)
+
+      fewer_names : (held' : List Lock) (last : Lock) → held ≡ held' ++ last ∷ [] →
+          KeepsNames call ⊎ Contains (names_in held') names.Counter →
+          KeepsNames call ⊎ Contains (names_in held) names.Counter
+      fewer_names held' last is (inl keeps) = inl keeps
+      fewer_names held' last is (inr has) =
+          inr (subst (λ (ls : List Lock). Contains (names_in ls) names.Counter) (sym is)
+          (more_names held' last names.Counter has))
 
       pub gave : (did : Progress FileFault) (held' : List Lock) (locks' : Table) → GivesBack did held held' →
           locks' ≡ with_row locks seat held' → MakesNameStep seat None did locks locks' →
@@ -162,9 +173,12 @@ module _ (hash : RecordKey → ℕ) (seat : ℕ) (call : Call) (i : AnyInquiry) 
             subst (λ (t : NameTurn). Step {F = FileFault} hash seat (turn_of_names t) (Moved kind) [] pool pool locks
             locks' change) (sym turn) (step hash pool change None f.sees);
         means = λ s change f fine. record {
-          right = record { question = tt; begins = λ none tried. absurd (asks_on f.right none) };
+          right = record {
+            question = tt;
+            begins = λ none does keeps. absurd (keeps_not f.right none (fewer_names held' gives.1.0 gives.1.1 keeps));
+          };
           knows = near_more call (asks_more call i) held held' (KnowsOf call i room) s
-              (λ none name within. absurd (asks_on f.right none)) f.knows;
+              (λ none has. absurd (keeps_not f.right none (inr has))) f.knows;
           reads = ap (λ (k : Kind). is_write {F = FileFault} (Moved k)) gives.0;
         };
       }

@@ -1,10 +1,15 @@
 -- Laws of the questions of calls. Each is the contract of a function of laws.rt. docs/STEPS.md, "What a call reads".
-use Rattle.std.specs.Prelude.{ℕ, ◌≡◌, ◌≤◌, Option, Some, None, [], List}
-use Rattle.call_questions.specs.Words.{Store, Record, StandsAt, AnyInquiry, KnowsOf, asked_of, left_of, LockName, names_in, names_for, Call, State, Wanted, Roomful}
+use Rattle.std.specs.Prelude.{ℕ, ◌≡◌, ◌≢◌, ◌≤◌, true, Option, Some, None, [], List}
+use Rattle.std.specs.List.{Contains}
+use Rattle.any_inquiry.specs.Anything.{locked_of}
+use Rattle.page_locks.specs.declared.lock.LockKind.TheVariants.{Exclusive}
+use Rattle.page_locks.specs.Locks.{kind_of}
+use Rattle.call_questions.specs.Words.{Store, Record, StandsAt, AnyInquiry, KnowsOf, asked_of, left_of, plan_of, LockName, names_in, names_for, Call, State, Wanted, Roomful}
 use Rattle.xsi_inquiry.specs.Telling.{most_asked}
+use Rattle.xsi_inquiry.specs.Writing.{nothing}
 use Rattle.call_questions.specs.Answering.{Answers, IsAskedUnder, key_asked}
 use Rattle.call_questions.specs.Agreeing.{Agrees}
-use Rattle.call_questions.specs.Questions.{QuestionsView, questions_left}
+use Rattle.call_questions.specs.Questions.{QuestionsView, has_asked, questions_left}
 
 -- each question is asked under a name that the call holds then
 abbrev pub AskUnderNames : Type 0
@@ -21,6 +26,16 @@ abbrev pub FilesAnswer : Type 0
 FilesAnswer = (call : Call) (i : AnyInquiry) (room : Roomful) (wanted : Wanted) (held : List LockName) (store : Store)
     (s : State) → asked_of call i ≡ Some wanted → KnowsOf call i room s → IsAskedUnder held wanted →
     Agrees held store s → IsAnswered store wanted s
+
+-- it holds just the names that it needs, and those under which it inserts and writes Exclusive
+pub record HoldsNames (call : Call) (v : QuestionsView) : Type 0 where
+  pub names : v.names ≡ names_for call v.inquiry
+  pub exclusive : (name : LockName) → Contains (locked_of call v.inquiry) name → kind_of v.names name ≡ Some Exclusive
+
+-- so a call does that has asked all and is to change the file
+abbrev pub WriteUnderNames : Type 0
+WriteUnderNames = (call : Call) (v : QuestionsView) → has_asked call v ≡ true → plan_of call v.inquiry ≢ nothing →
+    HoldsNames call v
 
 -- the steps of a call that has just begun, if no other seat steps
 abbrev pub MOST_QUESTION_STEPS : ℕ

@@ -1,9 +1,13 @@
 -- A call that asks the file its questions: what it holds, knows, asks for, and is about. docs/STEPS.md, "Calls".
-use Rattle.std.specs.Prelude.{ℕ, ◌≡◌, ◌+◌, ◌*◌, ◌&&◌, ◌||◌, Bool, true, false, not, List, [], Option, Some, None, IfSome, if◌then◌else◌, slice_get}
+use Rattle.std.specs.Prelude.{ℕ, ◌≡◌, ◌⊎◌, ◌+◌, ◌*◌, ◌&&◌, ◌||◌, Bool, true, false, not, List, [], Option, Some, None, IfSome, if◌then◌else◌, slice_get}
+use Rattle.std.specs.List.{Contains}
 use Rattle.std.specs.Option.{is_some}
+use Rattle.call_names.specs.Laws.{KeepsNames}
 use Rattle.page_locks.specs.declared.lock.LockKind.TheVariants.{Read}
-use Rattle.page_locks.specs.declared.lock.LockName.TheVariants.{Directory}
+use Rattle.page_locks.specs.declared.lock.LockName.TheVariants.{Counter, Directory}
 use Rattle.step_rules.specs.Turns.{ForLock, asks, no_ask}
+use Rattle.xsi_inquiry.specs.Slots.{writes_left}
+use Rattle.xsi_inquiry.specs.Writing.{Plan}
 use Rattle.call_questions.specs.declared.question.Question.{Question}
 use Rattle.call_questions.specs.Words.{RecordKey, Store, Lock, LockName, Known, Turn, HasEnded, ToFind, AccessView, Serves, access_answer, access_facts, access_key, access_left, access_locks, access_pseudokey, access_turn, AnyInquiry, KnowsOf, asked_of, left_of, plan_of, names_in, names_for, MAX_NAMES, Begins, name_turn, names_left, NameTurn, Take, GiveBack, Ready, Call, State, Wanted, IsSoNear, Roomful}
 use Rattle.call_questions.specs.Answering.{MayRead, key_asked}
@@ -23,9 +27,13 @@ pub record IsUnderWay (a : AccessView) : Type 0 where
 
 -- ---- its end
 
--- whether it inserts on trial where it has come
-abbrev pub tries : Call → AnyInquiry → Bool
-tries call i = is_some (slice_get (plan_of call i).trials 0)
+-- whether a plan inserts on trial or writes something
+abbrev pub changes_by : Plan → Bool
+changes_by p = is_some (slice_get p.trials 0) || is_some (slice_get (writes_left p 0) 0)
+
+-- whether the call does where its inquiry has come
+abbrev pub changes : Call → AnyInquiry → Bool
+changes call i = changes_by (plan_of call i)
 
 abbrev pub asks_more : Call → AnyInquiry → Bool
 asks_more call i = is_some (asked_of call i)
@@ -35,11 +43,11 @@ is_ready (Take lock) = false
 is_ready GiveBack = false
 is_ready Ready = true
 
--- nothing is asked any more, and what is inserted on trial stands under names that are held
+-- nothing is asked any more, and what is inserted on trial or written stands under names that are held
 abbrev pub has_asked : Call → QuestionsView → Bool
 has_asked call v =
     not (asks_more call v.inquiry)
-    && (not (tries call v.inquiry) || is_ready (name_turn v.names (names_for call v.inquiry)))
+    && (not (changes call v.inquiry) || is_ready (name_turn v.names (names_for call v.inquiry)))
 
 abbrev pub is_done : Call → QuestionsView → Bool
 is_done call v = not (is_some v.question) && has_asked call v
@@ -111,9 +119,9 @@ pub record IsRightQuestion (hash : RecordKey → ℕ) (call : Call) (v : Questio
 -- it has come so far by steps of this call, on an honest device
 pub record IsRight (hash : RecordKey → ℕ) (call : Call) (v : QuestionsView) : Type 0 where
   pub question : IfSome v.question (IsRightQuestion hash call v)
-  -- where it inserts on trial, its names begin those that it needs
-  pub begins : asks_more call v.inquiry ≡ false → tries call v.inquiry ≡ true →
-      Begins v.names (names_for call v.inquiry)
+  -- where it is to change the file its names begin those that it needs; so do a Remove's that holds the Counter
+  pub begins : asks_more call v.inquiry ≡ false → changes call v.inquiry ≡ true →
+      KeepsNames call ⊎ Contains (names_in v.names) Counter → Begins v.names (names_for call v.inquiry)
 
 -- ---- what it knows
 

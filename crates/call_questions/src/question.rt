@@ -16,7 +16,8 @@ use record_access::Access;
 use step_rules::{Kind, Progress};
 use xsi_inquiry::{NotASystem, Room};
 
-/// A question under way: the access that reads its key, and whether the inquiry was told the answer.
+/// A question under way: the access that reads its key, and whether the inquiry was told the
+/// answer.
 #[derive(Drop)]
 pub(crate) struct Question {
     pub(crate) access: Access,

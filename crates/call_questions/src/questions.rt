@@ -6,7 +6,7 @@ ghost use Rattle.xsi_inquiry.specs.Rooms.{HasRoom};
 ghost use Rattle.xsi_inquiry.specs.Telling.{most_asked};
 ghost use Rattle.call_questions.specs.Words.{AreNames, Change, IsReady, IsSeat, NearsOrSpares, OnlyWrites, Ready, State, Step, caller_of, is_fault, left_of, name_turn, names_for, row_of, store_of, with_row};
 ghost use Rattle.call_questions.specs.Answering.{key_asked};
-ghost use Rattle.call_questions.specs.Questions.{IsBare, KnowsNear, has_asked, is_done, is_ready, questions_facts, questions_left, questions_locks, questions_turn};
+ghost use Rattle.call_questions.specs.Questions.{IsBare, KnowsNear, changes, has_asked, is_done, is_ready, questions_facts, questions_left, questions_locks, questions_turn};
 ghost use Rattle.call_questions.specs.QuestionSteps.{Faces, KeepsQuestions, Learns, MakesQuestions, is_blocked};
 
 use crate::question::{Question, close, hear_of, read};
@@ -22,7 +22,7 @@ use queue_records::counter_key;
 use record_access::Access;
 use std::marker::Model;
 use step_rules::Progress;
-use xsi_inquiry::{Inquiry, Room, Wanted};
+use xsi_inquiry::{Inquiry, Room, Wanted, next_write};
 
 /// A call's reading half: what it asks of the file, under the names that it takes for that.
 #[derive(Drop)]
@@ -101,8 +101,8 @@ impl Questions {
         self.names.keep_order();
     }
 
-    /// Whether nothing is left to ask, and what is inserted on trial stands under names that are
-    /// held.
+    /// Whether nothing is left to ask, and what is inserted on trial or written stands under names
+    /// that are held.
     pub fn is_done(&self, call: &Call) -> bool
         ensures { result ≡ is_done call.now self.now }
     {
@@ -112,17 +112,30 @@ impl Questions {
         self.has_asked(call)
     }
 
-    /// Whether the inquiry asks nothing more, and the names are there where it inserts on trial.
+    /// Whether the inquiry asks nothing more, and the names are there where it changes the file.
     fn has_asked(&self, call: &Call) -> bool
         ensures { result ≡ has_asked call.now self.now }
     {
         if self.inquiry.wants(call).is_some() {
             return false;
         }
-        if self.inquiry.trial(call, 0).is_none() {
+        if !self.changes(call) {
             return true;
         }
         is_ready(self.names.turn(call, &self.inquiry))
+    }
+
+    /// Whether it inserts on trial or writes something where its inquiry has come.
+    fn changes(&self, call: &Call) -> bool
+        ensures { result ≡ changes call.now self.now.inquiry }
+    {
+        if self.inquiry.trial(call, 0).is_some() {
+            return true;
+        }
+        match next_write(&self.inquiry, call, 0) {
+            None => false,
+            Some(_) => true,
+        }
     }
 
     /// One step behind the call's last write: the name that was taken last is given back.

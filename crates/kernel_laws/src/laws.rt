@@ -7,13 +7,15 @@ pub fn no_two_seats_owe_one_key()
     ensures { AreApart }
 {}
 
-/// Where the call of a seat is decided, the records that will stand are those of the system after it, whatever the other
-/// seats still owe; and each seat owes records under its own names still. The others keep the records under theirs.
+/// Where the call of a seat is decided, the records that will stand are those of the system after
+/// it, whatever the other seats still owe; and each seat owes records under its own names still.
+/// The others keep the records under theirs.
 pub fn a_decision_leads_all_seats_on()
     ensures { DecisionsLead }
 {}
 
-/// Where a seat writes a record under its names, and owes that much less, the records that will stand are the same.
+/// Where a seat writes a record under its names, and owes that much less, the records that will
+/// stand are the same.
 pub fn a_write_pays_for_its_seat_alone()
     ensures { WritesPay }
 {}

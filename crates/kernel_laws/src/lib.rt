@@ -1,4 +1,5 @@
-//! What several seats owe one file: that they don't meet, and that the records which will stand are those of the system.
+//! What several seats owe one file: that they don't meet, and that the records which will stand are
+//! those of the system.
 
 #![tactic(auto)]
 

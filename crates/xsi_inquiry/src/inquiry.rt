@@ -84,7 +84,8 @@ pub trait Inquiry {
             Gives result (λ _. Knows arguments.now self.new room.new s) }
         ensures fewer { OnOk result (left arguments.now self.new < left arguments.now self.old) }
         ensures err { OnErr result ((self.new ≡ self.old) × (room.new ≡ room.old)) }
-        ensures caller { caller self.new ≡ caller self.old };
+        ensures caller { caller self.new ≡ caller self.old }
+        ensures most { room.new.most ≡ room.old.most };
 
     /// Tells it whether that id is below the next id. After an error it stands where it stood.
     fn take_given(&mut self, arguments: &Self::Arguments, given: bool) -> Result<(), NotASystem>

@@ -36,6 +36,7 @@ pub fn tell<I: Inquiry>(
         (I.left arguments.now inquiry.new < I.left arguments.now inquiry.old) }
     ensures err { OnErr result ((inquiry.new ≡ inquiry.old) × (room.new ≡ room.old)) }
     ensures caller { I.caller inquiry.new ≡ I.caller inquiry.old }
+    ensures most { room.new.most ≡ room.old.most }
 {
     inquiry.take(arguments, found, room)
 }

@@ -119,6 +119,7 @@ impl Stage {
             Gives result (λ _. KnowsAt caller arguments.now self.new room.new s) }
         ensures fewer { OnOk result (asks_left self.new < asks_left self.old) }
         ensures err { OnErr result ((self.new ≡ self.old) × (room.new ≡ room.old)) }
+        ensures most { room.new.most ≡ room.old.most }
     {
         match self {
             Stage::Seeking(sought) => {

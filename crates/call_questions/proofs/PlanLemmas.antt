@@ -1,0 +1,251 @@
+-- What a call changes, and the names under which it does, which grew.
+use Rattle.std.proofs.Common.{ℕ, zero, suc, ◌≡◌, ◌≢◌, ◌<◌, ◌++◌, ◌∷◌, inl, inr, ◌⊎◌, Bool, true, false, not, ◌&&◌, ◌||◌, cond, List, [], Option, Some, None, Result, Ok, Err, length, take, drop, refl, sym, ap, ◌∙◌, subst, arith}
+use Rattle.std.proofs.lemmas.Bool.{true≢false}
+use Rattle.std.proofs.lemmas.List.{append-nil, take-append-drop}
+use Rattle.std.specs.List.{Contains}
+use Rattle.std.specs.Prelude.{nat_lt}
+use Rattle.call_names.proofs.WriteLemmas.{write_under_names}
+use Rattle.call_questions.proofs.Names.{Errno, GetArguments, GetInquiry, Getting, IsKeyed, IsOfKind, KeepsNames, Lock, MAX_QBYTES, Plan, QueueEntry, ReceiveInquiry, Removal, RemoveInquiry, SendArguments, SendInquiry, SetArguments, SetInquiry, Sought, StatInquiry, by_phase, get_plan, if_of, key_deletion, key_of_queue, kind_of, names_grow, names_of, nothing, of_get, of_receive, of_remove, of_send, of_set, of_stat, one_more, plan_by, plan_made, plan_on, queue_for, set_entry, set_plan}
+use Rattle.held_names.specs.declared.turn.NameTurn.TheVariants as turns
+use Rattle.held_names.proofs.TurnLemmas.{turns_are_right}
+use Rattle.page_locks.specs.declared.lock.LockKind.TheVariants.{Exclusive, Read}
+use Rattle.page_locks.specs.declared.lock.LockName.TheVariants as names
+use Rattle.queue_model.specs.declared.call.Call.TheVariants as calls
+use Rattle.queue_records.specs.declared.record.Record.TheVariants as records
+use Rattle.xsi_control.specs.declared.get_inquiry.Getting.TheVariants as gets
+use Rattle.xsi_inquiry.specs.declared.sought.Sought.TheVariants as soughts
+use Rattle.xsi_inquiry.specs.declared.write.Write.TheVariants.{Replace, Delete}
+use Rattle.xsi_receive.specs.Asking as receives
+use Rattle.xsi_receive.specs.declared.stage.Stage as receive_stages
+use Rattle.xsi_receive.specs.declared.stage.Stage.TheVariants as receive
+use Rattle.xsi_send.specs.Planning as sends
+use Rattle.xsi_send.specs.declared.stage.Stage as send_stages
+use Rattle.xsi_send.specs.declared.stage.Stage.TheVariants as send
+use Rattle.xsi_send.specs.declared.type_place.TypePlace.TheVariants as places
+use Rattle.xsi_sweep.specs.Asking as removes
+use Rattle.xsi_sweep.specs.Knowing as remove_knowing
+use Rattle.xsi_sweep.specs.declared.stage.Stage as remove_stages
+use Rattle.xsi_sweep.specs.declared.stage.Stage.TheVariants as remove
+use Rattle.call_questions.specs.Words.{AnyInquiry, KnowsOf, asked_of, left_of, plan_of, Begins, Call, Caller, Counter, NameTurn, Ready, State, Roomful, Wanted, name_turn, names_for, names_in}
+use Rattle.call_questions.specs.Laws.{HoldsNames, WriteUnderNames}
+use Rattle.call_questions.specs.Questions.{QuestionsView, asks_more, changes, changes_by, has_asked, is_ready}
+
+-- ---- a plan that is not to do nothing changes something
+
+abbrev Acts : Plan → Type 0
+Acts p = p ≢ nothing → changes_by p ≡ true
+
+acts_by : {I : Type 0} (plan : I → Plan) → ((x : I) → Acts (plan x)) → (o : Option I) → Acts (if_of plan nothing o)
+acts_by plan law None some = absurd (some refl)
+acts_by plan law (Some x) some = law x some
+
+get_acts : (c : Caller) (a : GetArguments) (g : Getting) → Acts (get_plan c a g)
+get_acts c a gets.AtKey some = absurd (some refl)
+get_acts c a (gets.Found id) some = absurd (some refl)
+get_acts c a gets.Absent some = absurd (some refl)
+get_acts c a gets.AtCounter some = absurd (some refl)
+get_acts c a (gets.Counted n) some = by (one_more n) some
+  where
+    by : (o : Option Counter) → Acts (plan_made c a n.next_id o)
+    by None none = absurd (none refl)
+    by (Some m) is = refl
+
+send_acts : (pid : ℕ) (a : SendArguments) (stage : send_stages.Stage) → Acts (sends.plan_at pid a stage)
+send_acts pid a (send.Seeking sought) some = absurd (some refl)
+send_acts pid a (send.Refused errno) some = absurd (some refl)
+send_acts pid a send.Full some = absurd (some refl)
+send_acts pid a (send.AtType e) some = absurd (some refl)
+send_acts pid a (send.AtNeighbour w) some = absurd (some refl)
+send_acts pid a (send.Done e (places.Standing last)) some = refl
+send_acts pid a (send.Done e (places.Between lower higher)) some = refl
+
+receive_acts : (id : ℕ) (stage : receive_stages.Stage) → Acts (receives.plan_at id stage)
+receive_acts id (receive.Seeking sought) some = absurd (some refl)
+receive_acts id (receive.Refused errno) some = absurd (some refl)
+receive_acts id receive.PutOff some = absurd (some refl)
+receive_acts id (receive.AtType e mtype) some = absurd (some refl)
+receive_acts id (receive.AtMessage e t serial) some = absurd (some refl)
+receive_acts id (receive.AtTypeOf e m) some = absurd (some refl)
+receive_acts id (receive.Taken r) some = refl
+
+set_acts : (c : Caller) (a : SetArguments) (sought : Sought) → Acts (set_plan c a sought)
+set_acts c a sought = by (nat_lt MAX_QBYTES a.qbytes)
+  where
+    on_entry : (r : Result QueueEntry Errno) → Acts (plan_by r)
+    on_entry (Ok e) some = refl
+    on_entry (Err errno) some = absurd (some refl)
+
+    on : (sought : Sought) → Acts (plan_on c a sought)
+    on (soughts.Found e) some = on_entry (set_entry c a e) some
+    on (soughts.Refused errno) some = absurd (some refl)
+    on soughts.Unread some = absurd (some refl)
+    on soughts.Absent some = absurd (some refl)
+
+    by : (b : Bool) → Acts (cond b nothing (plan_on c a sought))
+    by true some = absurd (some refl)
+    by false some = on sought some
+
+remove_acts : (id : ℕ) (stage : remove_stages.Stage) → Acts (removes.plan_at id stage)
+remove_acts id (remove.Seeking sought) some = absurd (some refl)
+remove_acts id (remove.Refused errno) some = absurd (some refl)
+remove_acts id (remove.Keyed key) some = absurd (some refl)
+remove_acts id (remove.Counting key queue) some = absurd (some refl)
+remove_acts id (remove.Removing r) some = by r.key
+  where
+    by : (key : Option ℕ) → changes_by (record {
+      trials = [];
+      slots = key_deletion key ∷ Some (Delete (key_of_queue id)) ∷ Some (Replace (records.Counter r.counter)) ∷ [];
+    }) ≡ true
+    by None = refl
+    by (Some k) = refl
+
+acts : (call : Call) (i : AnyInquiry) → Acts (plan_of call i)
+acts (calls.Get a) any = acts_by (λ (i : GetInquiry). get_plan i.caller a i.getting)
+    (λ i. get_acts i.caller a i.getting) (of_get any)
+acts (calls.Send a) any = acts_by (λ (i : SendInquiry). sends.plan_at i.caller.pid a i.stage)
+    (λ i. send_acts i.caller.pid a i.stage) (of_send any)
+acts (calls.Receive a) any = acts_by (λ (i : ReceiveInquiry). receives.plan_at a.id i.stage)
+    (λ i. receive_acts a.id i.stage) (of_receive any)
+acts (calls.Stat id) any = acts_by (λ (i : StatInquiry). nothing) (λ i some. absurd (some refl)) (of_stat any)
+acts (calls.Set a) any = acts_by (λ (i : SetInquiry). set_plan i.caller a i.sought)
+    (λ i. set_acts i.caller a i.sought) (of_set any)
+acts (calls.Remove id) any = acts_by (λ (i : RemoveInquiry). removes.plan_at id i.stage)
+    (λ i. remove_acts id i.stage) (of_remove any)
+
+-- where all is asked its names are there
+
+is_ready_turn : (turn : NameTurn) → is_ready turn ≡ true → turn ≡ Ready
+is_ready_turn turn ready = by turn ready
+  where
+    by : (t : NameTurn) → is_ready t ≡ true → t ≡ Ready
+    by (turns.Take lock) is = absurd (true≢false (sym is))
+    by turns.GiveBack is = absurd (true≢false (sym is))
+    by turns.Ready is = refl
+
+there : (asks does ready : Bool) → (not asks && (not does || ready)) ≡ true → does ≡ true → ready ≡ true
+there false true true all is = refl
+there true does ready all is = absurd (true≢false (sym all))
+there false true false all is = absurd (true≢false (sym all))
+there false false ready all is = absurd (true≢false (sym is))
+
+pub held_names : WriteUnderNames
+held_names call v asked some =
+    let goal = names_for call v.inquiry in
+    let same = (turns_are_right v.names goal).ready.0 (is_ready_turn (name_turn v.names goal)
+    (there (asks_more call v.inquiry) (changes call v.inquiry) (is_ready (name_turn v.names goal)) asked
+    (acts call v.inquiry some))) in
+    record {
+      names = same;
+      exclusive = λ name within. subst (λ (ls : List Lock). kind_of ls name ≡ Some Exclusive) (sym same)
+          (write_under_names call v.inquiry name within);
+    }
+
+-- ---- the names under which it does
+
+changes_nothing : changes_by nothing ≡ true → ⊥
+changes_nothing is = true≢false (sym is)
+
+begins_itself : (locks : List Lock) → Begins locks locks
+begins_itself locks = ([], sym (append-nil locks))
+
+-- those of a call that has one name throughout
+steady : {I : Type 0} (wanted : I → Option Wanted) (plan : I → Plan) (locks : List Lock) (o p : Option I) →
+    if_of wanted None o ≢ None → changes_by (if_of plan nothing p) ≡ true →
+    Begins (if_of (λ (x : I). locks) [] o) (if_of (λ (x : I). locks) [] p)
+steady wanted plan locks None p asks does = absurd (asks refl)
+steady wanted plan locks (Some x) None asks does = absurd (changes_nothing does)
+steady wanted plan locks (Some x) (Some y) asks does = begins_itself locks
+
+-- a Get that changes something inserts on trial
+get_tries : (c : Caller) (a : GetArguments) (g : Getting) → changes_by (get_plan c a g) ≡ true →
+    (get_plan c a g).trials ≢ []
+get_tries c a gets.AtKey does = absurd (changes_nothing does)
+get_tries c a (gets.Found id) does = absurd (changes_nothing does)
+get_tries c a gets.Absent does = absurd (changes_nothing does)
+get_tries c a gets.AtCounter does = absurd (changes_nothing does)
+get_tries c a (gets.Counted n) does = by (one_more n) does
+  where
+    by : (o : Option Counter) → changes_by (plan_made c a n.next_id o) ≡ true →
+        (plan_made c a n.next_id o).trials ≢ []
+    by None is = absurd (changes_nothing is)
+    by (Some m) is = λ none. cc
+
+get_inserts : (a : GetArguments) (o : Option GetInquiry) →
+    changes_by (if_of (λ (i : GetInquiry). get_plan i.caller a i.getting) nothing o) ≡ true →
+    (if_of (λ (i : GetInquiry). get_plan i.caller a i.getting) nothing o).trials ≢ []
+get_inserts a None does = absurd (changes_nothing does)
+get_inserts a (Some i) does = get_tries i.caller a i.getting does
+
+grown : (call : Call) (i j : AnyInquiry) → KeepsNames call → asked_of call i ≢ None → (plan_of call j).trials ≢ [] →
+    left_of call j < left_of call i → Begins (names_for call i) (names_for call j)
+grown call i j keeps asks tries fewer =
+    let n = length (names_for call i) in
+    let begun = names_grow call i j keeps (inl asks) (inr tries) fewer in (
+      drop n (names_for call j),
+      sym (take-append-drop n (names_for call j)) ∙ ap (λ xs. xs ++ drop n (names_for call j)) begun,
+    )
+
+-- a Remove that has its Counter knows the key of its queue
+
+no_counter : (id : ℕ) → Contains (names_in (queue_for id Read)) names.Counter → ⊥
+no_counter id (zero, within, at) = cc
+no_counter id (suc k, within, at) = omega (arith, within)
+
+keyed_names : (c : Caller) (id : ℕ) (key : Option ℕ) (r : Removal) (s : State) → IsKeyed id key s →
+    remove_knowing.KnowsRemoval c id r s →
+    Begins (by_phase id (names_of id key)) (by_phase id (names_of id r.key))
+keyed_names c id key r s keyed knows =
+    let same : key ≡ r.key = sym (knows.key ∙ keyed.keeps knows.queue knows.alive) in
+    subst (λ (k : Option ℕ). Begins (by_phase id (names_of id key)) (by_phase id (names_of id k))) same
+    (begins_itself (by_phase id (names_of id key)))
+
+remove_begins : (id : ℕ) (c d : Caller) (g h : remove_stages.Stage) (s : State) → removes.asked id g ≢ None →
+    changes_by (removes.plan_at id h) ≡ true → remove_knowing.KnowsAt c id g s → remove_knowing.KnowsAt d id h s →
+    Contains (names_in (by_phase id (removes.locked_at id g))) names.Counter →
+    Begins (by_phase id (removes.locked_at id g)) (by_phase id (removes.locked_at id h))
+remove_begins id c d g (remove.Seeking sought) s asks does known knows has = absurd (changes_nothing does)
+remove_begins id c d g (remove.Refused errno) s asks does known knows has = absurd (changes_nothing does)
+remove_begins id c d g (remove.Keyed key) s asks does known knows has = absurd (changes_nothing does)
+remove_begins id c d g (remove.Counting key queue) s asks does known knows has = absurd (changes_nothing does)
+remove_begins id c d (remove.Seeking sought) (remove.Removing r) s asks does known knows has =
+    absurd (no_counter id has)
+remove_begins id c d (remove.Refused errno) (remove.Removing r) s asks does known knows has = absurd (asks refl)
+remove_begins id c d (remove.Keyed key) (remove.Removing r) s asks does known knows has =
+    keyed_names d id key r s known knows
+remove_begins id c d (remove.Counting key queue) (remove.Removing r) s asks does known knows has =
+    keyed_names d id key r s known.keyed knows
+remove_begins id c d (remove.Removing q) (remove.Removing r) s asks does known knows has = absurd (asks refl)
+
+remove_begins_in : (id : ℕ) (o p : Option RemoveInquiry) (s : State) →
+    if_of (λ (i : RemoveInquiry). removes.asked id i.stage) None o ≢ None →
+    changes_by (if_of (λ (i : RemoveInquiry). removes.plan_at id i.stage) nothing p) ≡ true →
+    IsOfKind (λ (i : RemoveInquiry). remove_knowing.KnowsAt i.caller id i.stage s) o →
+    IsOfKind (λ (i : RemoveInquiry). remove_knowing.KnowsAt i.caller id i.stage s) p →
+    Contains (names_in (if_of (λ (i : RemoveInquiry). by_phase id (removes.locked_at id i.stage)) [] o)) names.Counter →
+    Begins (if_of (λ (i : RemoveInquiry). by_phase id (removes.locked_at id i.stage)) [] o)
+    (if_of (λ (i : RemoveInquiry). by_phase id (removes.locked_at id i.stage)) [] p)
+remove_begins_in id None p s asks does known knows has = absurd (asks refl)
+remove_begins_in id (Some i) None s asks does known knows has = absurd (changes_nothing does)
+remove_begins_in id (Some i) (Some j) s asks does known knows has =
+    remove_begins id i.caller j.caller i.stage j.stage s asks does known knows has
+
+pub begins_on : (call : Call) (i j : AnyInquiry) (room room' : Roomful) (s : State) → asked_of call i ≢ None →
+    changes call j ≡ true → left_of call j < left_of call i → KnowsOf call i room s → KnowsOf call j room' s →
+    KeepsNames call ⊎ Contains (names_in (names_for call i)) names.Counter →
+    Begins (names_for call i) (names_for call j)
+begins_on (calls.Get a) i j room room' s asks does fewer known knows keeps =
+    grown (calls.Get a) i j tt asks (get_inserts a (of_get j) does) fewer
+begins_on (calls.Send a) i j room room' s asks does fewer known knows keeps =
+    steady _ (λ (x : SendInquiry). sends.plan_at x.caller.pid a x.stage) (queue_for a.id Exclusive) (of_send i)
+    (of_send j) asks does
+begins_on (calls.Receive a) i j room room' s asks does fewer known knows keeps =
+    steady _ (λ (x : ReceiveInquiry). receives.plan_at a.id x.stage) (queue_for a.id Exclusive) (of_receive i)
+    (of_receive j) asks does
+begins_on (calls.Stat id) i j room room' s asks does fewer known knows keeps =
+    steady _ (λ (x : StatInquiry). nothing) (queue_for id Read) (of_stat i) (of_stat j) asks does
+begins_on (calls.Set a) i j room room' s asks does fewer known knows keeps =
+    steady _ (λ (x : SetInquiry). set_plan x.caller a x.sought) (queue_for a.id Exclusive) (of_set i) (of_set j) asks
+    does
+begins_on (calls.Remove id) i j room room' s asks does fewer known knows (inl keeps) = absurd keeps
+begins_on (calls.Remove id) i j room room' s asks does fewer known knows (inr has) =
+    remove_begins_in id (of_remove i) (of_remove j) s asks does known knows has
