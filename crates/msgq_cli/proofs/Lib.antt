@@ -1,5 +1,4 @@
 pub mod ModelWords
-pub mod NumberLemmas
 pub mod CommandLemmas
 pub mod OutputLemmas
 pub mod RunLemmas

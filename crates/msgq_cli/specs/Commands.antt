@@ -4,9 +4,9 @@ use Rattle.std.specs.Option.{option_map, unwrap_or}
 use Rattle.std.specs.Str.{bytes_eq}
 use Rattle.queue_model.specs.declared.call.Call.TheVariants as call
 use Rattle.queue_model.specs.declared.call.Call.{Call}
-use Rattle.msgq_cli.specs.Numbers.{number_of, signed_of, key_of, body_of}
+use Rattle.script_words.specs.Numbers.{number_of, signed_of, key_of, body_of}
 use Rattle.msgq_cli.specs.Options.{options_of, fits_get, fits_send, fits_receive, fits_set}
-use Rattle.msgq_cli.specs.Reading.{◌>>=◌}
+use Rattle.script_words.specs.Reading.{◌>>=◌}
 use Rattle.msgq_cli.specs.declared.command.Command.{Command}
 use Rattle.msgq_cli.specs.declared.command.Command.TheVariants as command
 use Rattle.msgq_cli.specs.declared.command.TheConstants.{DEFAULT_MODE}

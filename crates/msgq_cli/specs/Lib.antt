@@ -2,11 +2,9 @@ pub mod Answers
 pub mod Checks
 pub mod Commands
 pub mod Lines
-pub mod Numbers
 pub mod Options
 pub mod Outputs
 pub mod Progress
-pub mod Reading
 pub mod Reports
 pub mod Runs
 pub mod Scripts
@@ -14,4 +12,3 @@ pub mod Serves
 pub mod Serving
 pub mod Tasks
 pub mod Texts
-pub mod Words

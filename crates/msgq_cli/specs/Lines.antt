@@ -4,9 +4,9 @@ use Rattle.std.specs.List.{list_all, onto_first}
 use Rattle.std.specs.Str.{bytes_eq}
 use Rattle.std.specs.Str.Lines.{strip_carriage_return}
 use Rattle.msgq_cli.specs.Commands.{command_of}
-use Rattle.msgq_cli.specs.Numbers.{IsSeat, number_of, seat_of}
-use Rattle.msgq_cli.specs.Reading.{◌>>=◌}
-use Rattle.msgq_cli.specs.Words.{words_of}
+use Rattle.script_words.specs.Numbers.{IsSeat, number_of, seat_of}
+use Rattle.script_words.specs.Reading.{◌>>=◌}
+use Rattle.script_words.specs.Words.{words_of}
 use Rattle.msgq_cli.specs.declared.line.Content.{Content}
 use Rattle.msgq_cli.specs.declared.line.Content.TheVariants as content
 

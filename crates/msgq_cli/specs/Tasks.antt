@@ -2,8 +2,8 @@
 use Rattle.std.specs.Prelude.{ℕ, ◌≤◌, ◌&&◌, nat_le, List, Option, Some, None, ⊤, if◌then◌else◌}
 use Rattle.page_device.specs.declared.page.TheConstants.{MAX_PAGES}
 use Rattle.directory.specs.declared.layout.TheConstants.{LEAST_PAGES}
-use Rattle.msgq_cli.specs.Numbers.{number_of}
-use Rattle.msgq_cli.specs.Reading.{◌>>=◌}
+use Rattle.script_words.specs.Numbers.{number_of}
+use Rattle.script_words.specs.Reading.{◌>>=◌}
 use Rattle.msgq_cli.specs.declared.command_line.Task.{Task}
 use Rattle.msgq_cli.specs.declared.command_line.Task.TheVariants.{Serve, New, Run, Report}
 

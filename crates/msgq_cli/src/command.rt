@@ -4,14 +4,12 @@ ghost use Rattle.std.specs.Prelude.{◌≡◌};
 ghost use Rattle.std.specs.Option.{option_map};
 ghost use Rattle.msgq_cli.specs.Commands.{get_of, send_of, receive_of, stat_of, set_of, remove_of};
 ghost use Rattle.msgq_cli.specs.Commands.{stop_of, command_of};
-ghost use Rattle.msgq_cli.specs.Reading.{Gives};
-ghost use Rattle.msgq_cli.specs.Words.{texts};
+ghost use Rattle.script_words.specs.Reading.{Gives};
+ghost use Rattle.script_words.specs.Words.{texts};
 
-use crate::numbers::{body, key, number, signed};
 use crate::options::Options;
-use crate::refusal::Refusal;
-use crate::words::is_word;
 use queue_model::{Call, GetArguments, ReceiveArguments, SendArguments, SetArguments};
+use script_words::{Refusal, body, is_word, key, number, signed};
 use std::alloc::Global;
 
 /// The mode of a queue that is made by a `get` with no `mode=`: 666 in octal digits.

@@ -3,12 +3,12 @@
 ghost use Rattle.std.specs.Prelude.{◌≡◌, IfOk, IfSome};
 ghost use Rattle.msgq_cli.specs.Tasks.{HasPages, IsFileSize, pages_of};
 
-use crate::numbers::number;
 use crate::reports::Report;
 use clap::error::ErrorKind;
 use clap::{Arg, ArgAction, Command, Error};
 use directory::LEAST_PAGES;
 use page_device::MAX_PAGES;
+use script_words::number;
 use std::alloc::{AllocError, Global};
 
 /// What the command line asks for.

@@ -4,13 +4,11 @@ ghost use Rattle.std.specs.Prelude.{◌≡◌, IfOk, IfSome, nat_lt};
 ghost use Rattle.std.specs.List.{list_all};
 ghost use Rattle.std.specs.Option.{option_copied};
 ghost use Rattle.msgq_cli.specs.Lines.{HasSeat, text_of, ids_of, worded, content_of};
-ghost use Rattle.msgq_cli.specs.Reading.{Gives};
-ghost use Rattle.msgq_cli.specs.Words.{texts};
+ghost use Rattle.script_words.specs.Reading.{Gives};
+ghost use Rattle.script_words.specs.Words.{texts};
 
 use crate::command::{Command, read_command};
-use crate::numbers::{number, seat};
-use crate::refusal::Refusal;
-use crate::words::{is_word, words};
+use script_words::{Refusal, is_word, number, seat, words};
 use std::alloc::Global;
 
 /// A line with a command.

@@ -2,9 +2,8 @@
 //! rests on these words.
 
 use crate::line::{is_ascii, text};
-use crate::numbers::{body, key, number, seat, signed};
 use crate::options::Options;
-use crate::words::{is_word, words};
+use script_words::{body, is_word, key, number, seat, signed, words};
 use std::alloc::{AllocError, Global};
 
 /// What stands in a line where it can't, and what can stand there.

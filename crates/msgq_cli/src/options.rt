@@ -3,10 +3,9 @@
 ghost use Rattle.std.specs.Prelude.{◌≡◌};
 ghost use Rattle.msgq_cli.specs.Options.{no_options, once, with_value, with_option, options_of};
 ghost use Rattle.msgq_cli.specs.Options.{fits_get, fits_send, fits_receive, fits_set};
-ghost use Rattle.msgq_cli.specs.Words.{texts};
+ghost use Rattle.script_words.specs.Words.{texts};
 
-use crate::numbers::{mode, number};
-use crate::words::is_word;
+use script_words::{is_word, mode, number};
 
 /// Which options stand behind a call, and their values.
 #[derive(Clone, Copy, Debug, PartialEq, Eq)]

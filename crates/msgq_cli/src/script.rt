@@ -7,8 +7,8 @@ ghost use Rattle.msgq_cli.specs.Scripts.{empty_script, with_line, script_of, Rea
 ghost use Rattle.msgq_cli.specs.Scripts.{caller_of, is_of_seat, greatest_seat};
 
 use crate::line::{Content, Line, SeatIds, read_content};
-use crate::refusal::Refusal;
 use queue_model::Caller;
+use script_words::Refusal;
 use std::alloc::Global;
 use std::marker::Model;
 use thiserror::Error;

@@ -1,6 +1,6 @@
 use Rattle.std.proofs.Common.{sym}
 use Rattle.std.proofs.lemmas.List.{length-map}
-use Rattle.msgq_cli.specs.Words.{texts}
+use Rattle.script_words.specs.Words.{texts}
 use Rattle.msgq_cli.proofs.CommandLemmas.{receive_short}
 use Rattle.msgq_cli.proofs.command.receive.Goals as goal
 

@@ -1,5 +1,5 @@
 use Rattle.std.proofs.lemmas.List.{length-map}
-use Rattle.msgq_cli.specs.Words.{texts}
+use Rattle.script_words.specs.Words.{texts}
 use Rattle.msgq_cli.proofs.CommandLemmas.{send_short}
 use Rattle.msgq_cli.proofs.command.send.Goals as goal
 

@@ -2,12 +2,12 @@
 
 ghost use Rattle.std.specs.Prelude.{◌≡◌, IfOk};
 ghost use Rattle.std.specs.Str.{bytes_eq};
-ghost use Rattle.msgq_cli.specs.Words.{words_of, texts};
+ghost use Rattle.script_words.specs.Words.{words_of, texts};
 
 use std::alloc::{AllocError, Global};
 
 /// What stands between the blanks of a line, in order.
-pub(crate) fn words(alloc: Global, text: &[u8]) -> Result<Vec<&[u8]>, AllocError>
+pub fn words(alloc: Global, text: &[u8]) -> Result<Vec<&[u8]>, AllocError>
     ensures { IfOk result (λ words. texts words.items ≡ words_of text.now) }
 {
     text.split(|&byte| byte == b' ' || byte == b'\t')
@@ -16,7 +16,7 @@ pub(crate) fn words(alloc: Global, text: &[u8]) -> Result<Vec<&[u8]>, AllocError
 }
 
 /// Whether a word is this one.
-pub(crate) fn is_word(word: &[u8], name: &[u8]) -> bool
+pub fn is_word(word: &[u8], name: &[u8]) -> bool
     ensures { result ≡ bytes_eq word.now name.now }
 {
     word == name

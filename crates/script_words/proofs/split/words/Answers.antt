@@ -1,8 +1,8 @@
 use Rattle.std.proofs.Common.{rules, tests, not, ◌==◌, length}
 use Rattle.std.proofs.lemmas.Iterator.Consumers.{map_from_collect, YieldsList-at, YieldsList-from_filter}
 use Rattle.std.proofs.lemmas.Iterator.Splits.{YieldsList-from_slice_split}
-use Rattle.msgq_cli.specs.Words.{is_blank}
-use Rattle.msgq_cli.proofs.words.words.Goals as goal
+use Rattle.script_words.specs.Words.{is_blank}
+use Rattle.script_words.proofs.split.words.Goals as goal
 
 -- the parts between blanks, without the empty ones
 pub returns : goal.returns

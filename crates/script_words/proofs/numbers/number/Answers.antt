@@ -1,7 +1,7 @@
 use Rattle.std.proofs.Common.{◌∙◌, sym}
 use Rattle.std.proofs.lemmas.Str.{IsUtf8-from_ascii}
-use Rattle.msgq_cli.proofs.NumberLemmas.{digits_ascii, parse_decimal}
-use Rattle.msgq_cli.proofs.numbers.number.Goals as goal
+use Rattle.script_words.proofs.NumberLemmas.{digits_ascii, parse_decimal}
+use Rattle.script_words.proofs.numbers.number.Goals as goal
 
 -- digits are ASCII, so they are text
 pub returns-in_default : goal.returns-in_default

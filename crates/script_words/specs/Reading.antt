@@ -1,7 +1,7 @@
 -- How readings follow one another, and what a reader of the code may answer.
 use Rattle.std.specs.Prelude.{◌≡◌, Option, Some, None, Result, Ok, Err, ⊤}
-use Rattle.msgq_cli.specs.declared.refusal.Refusal.{Refusal}
-use Rattle.msgq_cli.specs.declared.refusal.Refusal.TheVariants.{Wrong, NoMemory}
+use Rattle.script_words.specs.declared.refusal.Refusal.{Refusal}
+use Rattle.script_words.specs.declared.refusal.Refusal.TheVariants.{Wrong, NoMemory}
 
 -- the second reading, where the first gave a value
 infixl 10 ◌>>=◌

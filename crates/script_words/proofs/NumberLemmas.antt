@@ -10,7 +10,7 @@ use Rattle.std.specs.Option.{option_map}
 use Rattle.std.specs.Result.{result_ok, OkIff}
 use Rattle.std.specs.Str.{IsAscii}
 use Rattle.std.specs.Str.Parse.{digits_value, ParsesUnsigned, ParsesSigned}
-use Rattle.msgq_cli.specs.Numbers.{decimal_of, without_minus, signed_of}
+use Rattle.script_words.specs.Numbers.{decimal_of, without_minus, signed_of}
 
 pub digits_ascii : (bs : List ℕ) → list_all is_ascii_digit bs ≡ true → IsAscii bs
 digits_ascii [] all = IsAscii-nil

@@ -7,8 +7,8 @@ use Rattle.std.specs.List.{list_all}
 use Rattle.std.specs.Str.{bytes_eq}
 use Rattle.std.specs.Str.Parse.{digits_value}
 use Rattle.hex.specs.Hex.{decode_of}
-use Rattle.msgq_cli.specs.Reading.{◌>>=◌}
-use Rattle.msgq_cli.specs.declared.numbers.TheConstants.{SEATS}
+use Rattle.script_words.specs.Reading.{◌>>=◌}
+use Rattle.script_words.specs.declared.numbers.TheConstants.{SEATS}
 
 -- one decimal digit or more, and nothing else
 abbrev pub is_numeral : List ℕ → Bool

@@ -3,12 +3,12 @@
 ghost use Rattle.std.specs.Prelude.{◌≡◌, IfSome};
 ghost use Rattle.std.specs.Char.{is_ascii_digit};
 ghost use Rattle.std.specs.List.{list_all};
-ghost use Rattle.msgq_cli.specs.Numbers.{number_of, without_minus, signed_of, IsSeat, seat_of};
-ghost use Rattle.msgq_cli.specs.Numbers.{key_of, octal_of, mode_of, body_of};
-ghost use Rattle.msgq_cli.specs.Reading.{Gives};
+ghost use Rattle.script_words.specs.Numbers.{number_of, without_minus, signed_of, IsSeat, seat_of};
+ghost use Rattle.script_words.specs.Numbers.{key_of, octal_of, mode_of, body_of};
+ghost use Rattle.script_words.specs.Reading.{Gives};
 
 use crate::refusal::Refusal;
-use crate::words::is_word;
+use crate::split::is_word;
 use hex::FromHexError;
 use queue_model::Body;
 use std::alloc::Global;
@@ -25,7 +25,7 @@ fn is_digits(word: &[u8]) -> bool
 }
 
 /// A number of 32 bits. It has no sign; zeros may lead it.
-pub(crate) fn number(word: &[u8]) -> Option<u32>
+pub fn number(word: &[u8]) -> Option<u32>
     ensures { result ≡ number_of word.now }
 {
     if !is_digits(word) {
@@ -38,7 +38,7 @@ pub(crate) fn number(word: &[u8]) -> Option<u32>
 }
 
 /// A number of 64 bits, with a `-` in front where it is negative.
-pub(crate) fn signed(word: &[u8]) -> Option<i64>
+pub fn signed(word: &[u8]) -> Option<i64>
     ensures { result ≡ signed_of word.now }
 {
     if !is_digits(without_minus(word)) {
@@ -61,7 +61,7 @@ fn without_minus(word: &[u8]) -> &[u8]
 }
 
 /// The number of a seat.
-pub(crate) fn seat(word: &[u8]) -> Option<u8>
+pub fn seat(word: &[u8]) -> Option<u8>
     ensures value { result ≡ seat_of word.now }
     ensures within { IfSome result IsSeat }
 {
@@ -74,7 +74,7 @@ pub(crate) fn seat(word: &[u8]) -> Option<u8>
 }
 
 /// A key, or none for a private queue.
-pub(crate) fn key(word: &[u8]) -> Option<Option<u32>>
+pub fn key(word: &[u8]) -> Option<Option<u32>>
     ensures { result ≡ key_of word.now }
 {
     if is_word(word, b"private") {
@@ -94,7 +94,7 @@ fn octal(digit: u8) -> Option<u16>
 }
 
 /// A mode of three octal digits: the owner's, the group's and that of others.
-pub(crate) fn mode(word: &[u8]) -> Option<u16>
+pub fn mode(word: &[u8]) -> Option<u16>
     ensures { result ≡ mode_of word.now }
 {
     let [owner, group, others] = word else {
@@ -104,7 +104,7 @@ pub(crate) fn mode(word: &[u8]) -> Option<u16>
 }
 
 /// A body of any length: pairs of hexadecimal digits, or `-` for the empty one.
-pub(crate) fn body(alloc: Global, word: &[u8]) -> Result<Body, Refusal>
+pub fn body(alloc: Global, word: &[u8]) -> Result<Body, Refusal>
     ensures { Gives result (body_of word.now) }
 {
     if is_word(word, b"-") {

@@ -1,7 +1,7 @@
 use Rattle.std.proofs.Common.{◌∙◌, sym}
 use Rattle.std.proofs.lemmas.Str.{IsUtf8-from_ascii}
-use Rattle.msgq_cli.proofs.NumberLemmas.{signed_ascii, parse_signed}
-use Rattle.msgq_cli.proofs.numbers.signed.Goals as goal
+use Rattle.script_words.proofs.NumberLemmas.{signed_ascii, parse_signed}
+use Rattle.script_words.proofs.numbers.signed.Goals as goal
 
 -- digits and the sign are ASCII, so they are text
 pub returns-in_default : goal.returns-in_default

@@ -4,7 +4,7 @@ use std::alloc::{AllocError, AllocFailed};
 
 /// What a reader answers where it reads nothing.
 #[derive(Clone, Copy, Debug, PartialEq, Eq)]
-pub(crate) enum Refusal {
+pub enum Refusal {
     /// The grammar does not have it.
     Wrong,
     /// A growth was refused.
@@ -13,7 +13,7 @@ pub(crate) enum Refusal {
 
 impl From<AllocError> for Refusal {
     ghost use Rattle.std.specs.Prelude.{◌≡◌};
-    ghost use Rattle.msgq_cli.specs.declared.refusal.Refusal.TheVariants.{NoMemory};
+    ghost use Rattle.script_words.specs.declared.refusal.Refusal.TheVariants.{NoMemory};
 
     ghost from_gives = { λ _ refusal. refusal ≡ NoMemory };
 
@@ -24,7 +24,7 @@ impl From<AllocError> for Refusal {
 
 impl<T: Drop> From<AllocFailed<T>> for Refusal {
     ghost use Rattle.std.specs.Prelude.{◌≡◌};
-    ghost use Rattle.msgq_cli.specs.declared.refusal.Refusal.TheVariants.{NoMemory};
+    ghost use Rattle.script_words.specs.declared.refusal.Refusal.TheVariants.{NoMemory};
 
     ghost from_gives = { λ _ refusal. refusal ≡ NoMemory };
 
