@@ -1,0 +1,9 @@
+pub mod Names
+pub mod PartLemmas
+pub mod RecordLemmas
+pub mod SweptLemmas
+pub mod WrittenLemmas
+pub mod PayLemmas
+pub mod BeginLemmas
+pub mod DecidedLemmas
+pub mod OwnLemmas

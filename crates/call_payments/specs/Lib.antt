@@ -1,0 +1,5 @@
+pub mod Words
+pub mod Payments
+pub mod Paying
+pub mod PaySteps
+pub mod Laws

@@ -1,0 +1,24 @@
+-- Words of the crates below, under one name for the proofs of this one.
+pub use Rattle.any_inquiry.specs.Asked.{few_of}
+pub use Rattle.call_decisions.proofs.SettleLemmas.{settles, tries_rightly}
+pub use Rattle.call_decisions.specs.Laws.{CanTry}
+pub use Rattle.call_names.proofs.NamesLemmas.{take_in_order}
+pub use Rattle.call_names.proofs.WriteLemmas.{write_under_names}
+pub use Rattle.call_questions.proofs.PlanLemmas.{held_names}
+pub use Rattle.call_questions.proofs.TurnLemmas.{writes_none}
+pub use Rattle.call_questions.specs.Laws.{HoldsNames}
+pub use Rattle.call_questions.specs.QuestionSteps.{Faces, KeepsQuestions, Learns}
+pub use Rattle.call_questions.specs.Questions.{changes_by, facts_of, has_asked, locks_behind}
+pub use Rattle.call_writes.proofs.DecidedLemmas.{all_stand, one_more_stands}
+pub use Rattle.call_writes.proofs.DueLemmas.{drop_next, own_deed, undoing_next}
+pub use Rattle.call_writes.proofs.LawLemmas.{times_most}
+pub use Rattle.call_writes.specs.CarrySteps.{Advances, Carries, KeepsPlan, Leaves}
+pub use Rattle.call_writes.specs.Carrying.{OwnsPlan}
+pub use Rattle.call_writes.specs.Dues.{CanGoOn, after_deed, deed_key, deeds_left, next_deed}
+pub use Rattle.call_writes.specs.Dues.{IsBehind as IsBehindDeed}
+pub use Rattle.call_writes.specs.Words.{FollowsRow, HasRange, IsInRange, IsSmall, Moved, Owns, StandsAt, Write, AreAbsent, CanAllBe, is_same, key_of, key_written, undoing, with_at, writes_of, written_by}
+pub use Rattle.call_writes.specs.declared.deed.Deed.{Deed}
+pub use Rattle.file_pages.specs.declared.fault.FileFault.{FileFault}
+pub use Rattle.xsi_inquiry.proofs.AgreeLemmas.{agrees_itself}
+pub use Rattle.xsi_inquiry.proofs.LeadLemmas.{same_keys}
+pub use Rattle.xsi_inquiry.specs.Owning.{IsUnder}

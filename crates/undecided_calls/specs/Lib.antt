@@ -1,0 +1,6 @@
+pub mod Words
+pub mod Undecided
+pub mod Knowing
+pub mod UndecidedSteps
+pub mod Deciding
+pub mod Laws
