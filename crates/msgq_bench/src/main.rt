@@ -3,7 +3,10 @@
 #![tactic(auto)]
 
 mod calling;
+mod checking;
+mod contents;
 mod deciding;
+mod filling;
 mod locking;
 mod making;
 mod operating;
@@ -67,6 +70,7 @@ fn main(rt: HostRuntime) -> anyhow::Result<()> {
     for (records, depth) in [FEW, MANY] {
         operates(&rt, records, depth)?;
     }
+    checks(&rt)?;
     for frames in [64, MAX_PAGES] {
         pins(&rt, frames)?;
     }
@@ -132,6 +136,13 @@ fn once_operated(rt: &HostRuntime) -> anyhow::Result<()> {
     let numbers = operating::plain_numbers(rt.alloc(), &mut file, 40, 10)?;
     let found = operating::make(&mut file, Operation::Find, 7);
     println!(rt; "operations: {:?}", (standing, numbers.len(), found))?;
+    once_checked(rt)
+}
+
+/// Checks a small file.
+fn once_checked(rt: &HostRuntime) -> anyhow::Result<()> {
+    let counts = checking::counts(rt.alloc(), &checking::FEW)?;
+    println!(rt; "checked: {counts:?}")?;
     Ok(())
 }
 
@@ -286,6 +297,18 @@ fn seals(rt: &HostRuntime) -> anyhow::Result<()> {
     let start = Instant::now(rt)?;
     let mark = sealing::unseals(ROUNDS);
     report(rt, "a page unsealed", mark, start, ROUNDS)
+}
+
+/// Times checks of full files, of many types, of one type and of long messages on each queue.
+fn checks(rt: &HostRuntime) -> anyhow::Result<()> {
+    for (messages, types, bytes) in [(1024, 1024, 64), (1024, 1, 64), (68, 1, 960)] {
+        println!(rt; "with {messages} messages of {bytes} bytes and {types} types on each queue:")?;
+        let plan = checking::full(messages, types, bytes);
+        let (check, digests) = checking::times(rt, &plan)?;
+        let ratio = check.saturating_mul(100).checked_div(digests).unwrap_or(0);
+        println!(rt; "a file checked: {check} ns, {ratio} hundredths of as many digests")?;
+    }
+    Ok(())
 }
 
 /// Times pins of pages that have a frame, in a pool of so many frames.

@@ -115,7 +115,7 @@ fn entries_of(page: u32, shape: &Shape) -> [u32; PAGE_ENTRIES] {
 }
 
 /// The low bits of a number in reverse.
-fn turned(number: u32, bits: u8) -> u32 {
+pub fn turned(number: u32, bits: u8) -> u32 {
     let mut rest = number;
     let mut turned: u32 = 0;
     for _ in 0..bits {
