@@ -1,7 +1,8 @@
 -- What reading a bucket once more tells, and how far its records are tested.
-use Rattle.std.proofs.Common.{ℕ, zero, suc, ◌≡◌, ◌+◌, ◌<◌, ◌≤◌, ◌⊎◌, nat_lt, Bool, true, false, List, [], ◌∷◌, ◌++◌, length, map, take, drop, replicate, Result, Ok, Err, IfErr, refl, sym, ap, subst, ◌∙◌, inl, inr, arith}
+use Rattle.std.proofs.Common.{ℕ, zero, suc, ◌≡◌, ◌+◌, ◌<◌, ◌≤◌, ◌⊎◌, nat_lt, Bool, true, false, List, [], ◌∷◌, ◌++◌, length, map, take, drop, replicate, Option, None, Some, IfSome, Result, Ok, Err, IfErr, OnOk, refl, sym, ap, subst, ◌∙◌, inl, inr, arith}
 use Rattle.std.specs.List.{All, Contains}
 use Rattle.std.specs.Prelude.{slice_index, slice_index_or}
+use Rattle.std.specs.Result.{result_ok}
 use Rattle.std.proofs.Math.ListN.{get_or-eq_default}
 use Rattle.std.proofs.Math.Seq.{take-suc}
 use Rattle.std.proofs.lemmas.Bool.Decides.{nat_tests}
@@ -229,3 +230,17 @@ module _ (hash : RecordKey → ℕ) (s : Store) (ns : List ℕ) where
   wrong_next i fault within before (inl machine) = inl machine
   wrong_next i fault within before (inr wrong) =
       inr (record { place = i; within = within; before = before; wrong = wrong })
+
+-- ---- what was asked went well
+
+pub on_ok : {T E : Type 0} (P : Type 0) (r : Result T E) (x : T) → Some x ≡ result_ok r → OnOk r P → P
+on_ok P (Ok y) x e held = held
+on_ok P (Err f) x e held = absurd cc
+
+pub kept : {T : Type 0} (P : Type 0) (o : Option T) → P → IfSome o (λ x. P)
+kept P None held = tt
+kept P (Some x) held = held
+
+pub same_ok : {T E : Type 0} (r : Result T E) (x y : T) → Some x ≡ result_ok r → r ≡ Ok y → x ≡ y
+same_ok (Ok z) x y e is = cc
+same_ok (Err f) x y e is = absurd cc

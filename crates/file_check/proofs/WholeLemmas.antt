@@ -1,6 +1,7 @@
 -- The file of a system has just its records, and nothing is wrong with it.
 use Rattle.std.proofs.Common.{ℕ, ◌≡◌, Bool, IsTrue, List, ◌⊎◌, inl, inr, sym, subst}
 use Rattle.file_walk.specs.Laws.{IsQuietFile}
+use Rattle.file_walk.specs.Structure as walk
 use Rattle.file_walk.proofs.FaultLemmas.{one_chain}
 use Rattle.record_walk.specs.Systems.{IsSystemOf}
 use Rattle.record_walk.specs.Told.{IsToldOfSystem}
@@ -16,7 +17,7 @@ use Rattle.file_check.specs.Right.{IsFirstFault, IsRightFile, IsRightFileOf}
 use Rattle.file_check.specs.Records.{AreRightIn}
 use Rattle.file_check.specs.Strays.{AreNeeded, IsFirstStray}
 use Rattle.file_check.specs.Whole.{IsFileOf, IsToldOf, IsWrongBeside, IsWrongTogether, IsWrongWith}
-use Rattle.file_check.specs.Words.{CheckFault, RecordKey, State, Store, contents, file_of}
+use Rattle.file_check.specs.Words.{CheckFault, RecordKey, State, Store, StructureFault, contents, file_of}
 use Rattle.file_check.proofs.RightLemmas.{placed, right_has_no_fault, right_sound}
 use Rattle.file_check.proofs.GatheredLemmas.{are_needed, is_system}
 use Rattle.file_check.proofs.JustLemmas.{has_just, none_stray}
@@ -50,6 +51,12 @@ pub first_told : (hash : RecordKey → ℕ) (content : List (List ℕ)) (fault :
     IsFirstFault hash content fault → IsToldOf hash content fault
 first_told hash content fault (inl machine) = inl machine
 first_told hash content fault (inr w) = inr (inl w)
+
+-- what the tests of the structure tell
+pub structure_told : (hash : RecordKey → ℕ) (content : List (List ℕ)) (fault : StructureFault) →
+    walk.IsFirstFault content fault → IsToldOf hash content (faults.Structure fault)
+structure_told hash content fault (inl machine) = inl machine
+structure_told hash content fault (inr w) = inr (inl w)
 
 module _ (hash : RecordKey → ℕ) (content : List (List ℕ)) (ns : List ℕ) (right : IsRightFile hash content ns) where
   quiet : IsQuietFile hash (file_of content) ns

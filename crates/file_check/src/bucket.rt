@@ -73,7 +73,11 @@ pub(crate) fn test_page<D: PageDevice, K: PseudoKey>(
 }
 
 /// Tests the records of a bucket, from the lowest key on.
-fn test_bucket<K: PseudoKey>(keys: &K, page: u32, bucket: &TestedBucket) -> Result<(), CheckFault>
+pub(crate) fn test_bucket<K: PseudoKey>(
+    keys: &K,
+    page: u32,
+    bucket: &TestedBucket,
+) -> Result<(), CheckFault>
     requires { bucket.now.depth ≤ PSEUDOKEY_BITS }
     ensures ok { OnOk result
         (All (IsRightRecord (K.of_key keys.now) bucket.now) bucket.now.records) }

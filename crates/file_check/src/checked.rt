@@ -7,7 +7,7 @@ ghost use Rattle.record_walk.specs.Systems.{AreQueueIds, IsSystemOf};
 ghost use Rattle.file_check.specs.Records.{HasCheckCause};
 ghost use Rattle.file_check.specs.Right.{IsFirstFault, IsRightFileOf};
 ghost use Rattle.file_check.specs.Whole.{IsFileOf, IsToldOf, IsWalkFault};
-ghost use Rattle.file_check.specs.Words.{contents, file_of};
+ghost use Rattle.file_check.specs.Words.{IsStructureOf, contents, file_of};
 
 use crate::compared::quick_system;
 use crate::fault::CheckFault;
@@ -44,21 +44,51 @@ pub fn check<D: PageDevice, K: PseudoKey + Drop>(alloc: Global, device: D, keys:
         (D.fault_count device) (D.fault_count result.device) result.found }
 {
     let mut device = device;
-    let structure = match check_records(alloc, &mut device, &keys) {
+    let structure = match check_structure(alloc, &mut device) {
         Ok(structure) => structure,
         Err(fault) => {
             return Checked {
                 device,
-                found: Err(fault),
+                found: Err(CheckFault::Structure(fault)),
             };
         }
     };
-    match quick_system(alloc, &mut device, structure.chain.as_slice()) {
+    match quick_system(alloc, &mut device, &keys, structure.chain.as_slice()) {
         Some(system) => Checked {
             device,
             found: Ok(system),
         },
-        None => check_slowly(alloc, device, keys, structure),
+        None => check_each(alloc, device, keys, structure),
+    }
+}
+
+/// The system whose records a file holds, of which the structure is right. A fault is the first
+/// thing that is wrong with a record by itself, with all records together, or with a record beside
+/// them.
+fn check_each<D: PageDevice, K: PseudoKey + Drop>(
+    alloc: Global,
+    device: D,
+    keys: K,
+    structure: Structure,
+) -> Checked<D>
+    requires { IsTrue (D.is_honest device) → IsStructureOf
+        (D.content device) structure.outline structure.chain.items }
+    ensures ok { IsTrue (D.is_honest device) →
+        IfOk result.found (IsFileOf (K.of_key keys) (D.content device)) }
+    ensures err { IsTrue (D.is_honest device) →
+        IfErr result.found (IsToldOf (K.of_key keys) (D.content device)) }
+    ensures same { D.content result.device ≡ D.content device }
+    ensures honest { D.is_honest result.device ≡ D.is_honest device }
+    ensures cause { HasCheckCause
+        (D.fault_count device) (D.fault_count result.device) result.found }
+{
+    let mut device = device;
+    match test_records(&mut device, &keys, structure.chain.as_slice()) {
+        Ok(()) => check_slowly(alloc, device, keys, structure),
+        Err(fault) => Checked {
+            device,
+            found: Err(fault),
+        },
     }
 }
 

@@ -8,13 +8,13 @@ ghost use Rattle.queue_model.specs.Lawful.{IsLawfulQueue};
 ghost use Rattle.record_walk.specs.Links.{AreLinksOf};
 ghost use Rattle.type_chains.specs.Image.{image, queue_records};
 ghost use Rattle.file_check.specs.Gathered.{AreCounted, AreJustOf, AreLinksOfAll, IsOf};
-ghost use Rattle.file_check.specs.Records.{IsLivePage};
+ghost use Rattle.file_check.specs.Records.{AreRightRecords, IsLivePage};
 ghost use Rattle.file_check.specs.Words.{IsRightStructure, file_of, pair, pairs_on, records_at};
 
 use crate::bucket::{bucket_in, read_again};
 use crate::gathered::gather;
 use crate::needs::{place_of, place_of_message};
-use bucket_page::RecordKey;
+use bucket_page::{PseudoKey, RecordKey};
 use file_records::{TestedBucket, is_spelled};
 use page_device::{PAGE_BYTES, PageDevice};
 use queue_model::{Queue, System};
@@ -22,21 +22,25 @@ use queue_records::{COUNTER, Counter, KEY, KeyEntry, MESSAGE, QUEUE, Record, TYP
 use record_walk::QueueLinks;
 use std::alloc::Global;
 
-/// The system of which these pages hold just the records. None says nothing of them.
-pub(crate) fn quick_system<D: PageDevice>(
+/// The system of which these pages hold just the records, where each is right by itself. None says
+/// nothing of them.
+pub(crate) fn quick_system<D: PageDevice, K: PseudoKey>(
     alloc: Global,
     device: &mut D,
+    keys: &K,
     chain: &[u32],
 ) -> Option<System>
     requires { IsTrue (D.is_honest device.old) →
         IsRightStructure (D.content device.old) chain.now }
+    ensures right { IsTrue (D.is_honest device.old) → IfSome result (λ system.
+        AreRightRecords (K.of_key keys.now) (file_of (D.content device.old)) chain.now) }
     ensures some { IsTrue (D.is_honest device.old) →
         IfSome result (AreJustOf (file_of (D.content device.old)) chain.now) }
     ensures same { D.content device.new ≡ D.content device.old }
     ensures honest { D.is_honest device.new ≡ D.is_honest device.old }
     ensures later { D.fault_count device.old ≤ D.fault_count device.new }
 {
-    let system = gather(alloc, device, chain)?;
+    let system = gather(alloc, device, keys, chain)?;
     system.keeps_limits();
     let links = links_of(alloc, &system)?;
     let wanted = count_of(&system, &links)?;

@@ -1,11 +1,14 @@
-//! A system is gathered from the records of a file, in the order in which they stand. Nothing is
-//! said of it but that it is lawful.
+//! A system is gathered from the records of a file, in the order in which they stand, and each is
+//! tested by itself. Nothing is said of the system but that it is lawful.
 
-ghost use Rattle.std.specs.Prelude.{◌≡◌, ◌≤◌, ◌<◌, false, length, IfSome};
+ghost use Rattle.std.specs.Prelude.{◌≡◌, ◌≤◌, ◌<◌, false, length, IfSome, IsTrue};
 ghost use Rattle.queue_model.specs.Lawful.{IsLawful};
+ghost use Rattle.file_check.specs.Records.{AreRightIn, AreRightRecords, IsLivePage};
+ghost use Rattle.file_check.specs.Words.{IsRightStructure, file_of};
 
-use crate::bucket::read_again;
-use file_records::{TestedBucket, read_tested};
+use crate::bucket::{bucket_in, read_again, test_bucket};
+use bucket_page::PseudoKey;
+use file_records::TestedBucket;
 use limits::{MAX_MESSAGES, MAX_QUEUES};
 use page_device::{PAGE_BYTES, PageDevice};
 use queue_model::{Body, Message, Messages, Queue, System};
@@ -28,9 +31,18 @@ struct Parts {
     queues: Vec<Part>,
 }
 
-/// A system that holds the messages on these pages; none where they are of no system, or where
-/// there is no memory for it.
-pub(crate) fn gather<D: PageDevice>(alloc: Global, device: &mut D, chain: &[u32]) -> Option<System>
+/// A system that holds the messages on these pages; none where they are of no system or a record is
+/// wrong by itself, or where there is no memory for it.
+pub(crate) fn gather<D: PageDevice, K: PseudoKey>(
+    alloc: Global,
+    device: &mut D,
+    keys: &K,
+    chain: &[u32],
+) -> Option<System>
+    requires { IsTrue (D.is_honest device.old) →
+        IsRightStructure (D.content device.old) chain.now }
+    ensures right { IsTrue (D.is_honest device.old) → IfSome result (λ system.
+        AreRightRecords (K.of_key keys.now) (file_of (D.content device.old)) chain.now) }
     ensures running { IfSome result (λ system. system.stopped ≡ false) }
     ensures same { D.content device.new ≡ D.content device.old }
     ensures honest { D.is_honest device.new ≡ D.is_honest device.old }
@@ -41,25 +53,31 @@ pub(crate) fn gather<D: PageDevice>(alloc: Global, device: &mut D, chain: &[u32]
         queues: Vec::new(alloc),
     };
     for page in chain {
-        gather_on(alloc, device, *page, &mut parts)?;
+        gather_on(alloc, device, keys, *page, &mut parts)?;
     }
     parts.whole(alloc)
 }
 
-/// Adds what stands on a page.
-fn gather_on<D: PageDevice>(
+/// Tests and adds what stands on a page of the chain.
+fn gather_on<D: PageDevice, K: PseudoKey>(
     alloc: Global,
     device: &mut D,
+    keys: &K,
     page: u32,
     parts: &mut Parts,
 ) -> Option<()>
+    requires { IsTrue (D.is_honest device.old) → IsLivePage (D.content device.old) page }
+    ensures right { IsTrue (D.is_honest device.old) → IfSome result (λ added.
+        AreRightIn (K.of_key keys.now) (file_of (D.content device.old)) page) }
     ensures same { D.content device.new ≡ D.content device.old }
     ensures honest { D.is_honest device.new ≡ D.is_honest device.old }
     ensures later { D.fault_count device.old ≤ D.fault_count device.new }
 {
     let mut bytes = [0; PAGE_BYTES];
     read_again(device, page, &mut bytes).ok()?;
-    parts.add(alloc, &read_tested(&bytes)?)
+    let bucket = bucket_in(&bytes, page).ok()?;
+    test_bucket(keys, page, &bucket).ok()?;
+    parts.add(alloc, &bucket)
 }
 
 impl Parts {

@@ -18,3 +18,6 @@ returns-clause-some g c = λ is.
       each = counted.each;
       many = sym counted.number ∙ same ∙ c.in_ok-wanted.ensures;
     }
+
+pub returns-clause-right : goal.returns-clause-right
+returns-clause-right g c = λ is. c.in_ok-system.ensures.right is
