@@ -1,9 +1,8 @@
 -- What a call asks: under which names, and what it knows then.
-use Rattle.std.proofs.Common.{ℕ, ◌≡◌, ◌≢◌, ◌<◌, ◌+◌, Bool, true, false, cond, List, [], Option, Some, None, refl, sym, ap, ◌∙◌, subst, arith}
+use Rattle.std.proofs.Common.{ℕ, ◌≡◌, Bool, true, false, cond, List, [], Option, Some, None, refl, sym, ap, subst, arith}
 use Rattle.std.specs.List.{Contains, find}
-use Rattle.std.specs.Prelude.{nat_lt, slice_get}
-use Rattle.std.specs.Option.{is_some}
-use Rattle.call_questions.proofs.Names.{COUNTER, GetArguments, GetInquiry, Getting, IsOfKind, KEY, Lock, LockKind, MAX_QBYTES, MESSAGE, QUEUE, ReceiveArguments, ReceiveInquiry, RemoveInquiry, SendArguments, SendInquiry, SetArguments, SetInquiry, Sought, StatInquiry, TYPE, Tells, ask_under_names, by_phase, exclusively, get_locked, get_wanted, has_id, if_of, key_of_key, key_of_message, key_of_queue, key_of_type, key_wanted, of_get, of_receive, of_remove, of_send, of_set, of_stat, queue_for, set_wanted, sought_next}
+use Rattle.std.specs.Prelude.{nat_lt}
+use Rattle.call_questions.proofs.Names.{GetArguments, GetInquiry, Getting, IsOfKind, Lock, LockKind, MAX_QBYTES, ReceiveInquiry, RemoveInquiry, SendArguments, SendInquiry, SetArguments, SetInquiry, Sought, StatInquiry, Tells, ask_under_names, by_phase, get_wanted, has_id, if_of, key_wanted, of_get, of_receive, of_remove, of_send, of_set, of_stat, queue_for, set_wanted, sought_next}
 use Rattle.page_locks.specs.declared.lock.LockName.TheVariants as names
 use Rattle.page_locks.specs.declared.lock.LockKind.TheVariants.{Read, Exclusive}
 use Rattle.queue_model.specs.declared.call.Call.TheVariants as calls
@@ -20,8 +19,7 @@ use Rattle.xsi_sweep.specs.Asking as removes
 use Rattle.xsi_sweep.specs.Knowing as remove_knowing
 use Rattle.xsi_sweep.specs.declared.stage.Stage as remove_stages
 use Rattle.xsi_sweep.specs.declared.stage.Stage.TheVariants as remove
-use Rattle.call_questions.specs.Words.{RecordKey, AnyInquiry, KnowsOf, asked_of, left_of, Call, Caller, State, Roomful, Wanted, At, Given, guard_of, names_in, names_for}
-use Rattle.call_questions.specs.Answering.{IsAskedUnder}
+use Rattle.call_questions.specs.Words.{AnyInquiry, KnowsOf, asked_of, Call, State, Roomful, Wanted, At, Given, names_in, names_for}
 use Rattle.call_questions.specs.Laws.{AskUnderNames}
 
 -- ---- whether an id was given out is asked under its queue's name

@@ -1,28 +1,31 @@
 -- The first step of a question is one of the call.
-use Rattle.std.proofs.Common.{ℕ, ◌≡◌, ◌<◌, ◌+◌, Bool, true, false, not, ◌||◌, ◌&&◌, List, [], Option, Some, None, IsSome, refl, sym, ap, ◌∙◌, subst, arith}
+use Rattle.std.proofs.Common.{ℕ, ◌≡◌, ◌<◌, ◌≤◌, ◌+◌, Bool, true, false, not, ◌||◌, ◌&&◌, List, [], Some, None, refl, sym, ap, ◌∙◌, subst, arith}
 use Rattle.std.proofs.lemmas.Bool.{true≢false}
 use Rattle.std.specs.Option.{is_some}
 use Rattle.file_pages.specs.declared.fault.FileFault.{FileFault}
 use Rattle.held_names.specs.declared.turn.NameTurn.{NameTurn}
+use Rattle.xsi_inquiry.proofs.AgreeLemmas.{agrees_itself}
 use Rattle.held_names.proofs.TurnLemmas.{turns_are_right, turns_come_nearer}
 use Rattle.call_questions.specs.declared.question.Question.{Question}
-use Rattle.call_questions.specs.Words.{RecordKey, PoolState, Table, Lock, Change, Store, store_of, with_row, NearsOrSpares, Progress, Moved, Blocked, Fault, Ended, is_fault, Sees, Step, ToFind, begun, AnyInquiry, asked_of, names_in, names_for, name_turn, names_left, Ready, Call, State, Roomful, Wanted}
+use Rattle.call_questions.specs.Words.{RecordKey, PoolState, Table, Lock, Change, Store, store_of, with_row, NearsOrSpares, Progress, Moved, Blocked, Fault, Ended, Step, ToFind, begun, AnyInquiry, asked_of, left_of, names_in, names_for, name_turn, names_left, Ready, Call, State, Roomful, Wanted}
 use Rattle.call_questions.specs.Answering.{IsAskedUnder, key_asked}
-use Rattle.call_questions.specs.Questions.{FIND_STEPS, IsRightQuestion, QuestionsView, asks_more, changes, has_asked, is_ready, questions_facts, questions_left, questions_locks, turn_of_names}
-use Rattle.call_questions.specs.QuestionSteps.{Faces, Learns, MakesQuestions, Rests, is_blocked}
+use Rattle.call_questions.specs.Questions.{IsRightQuestion, QuestionsView, asks_more, changes, has_asked, is_ready, questions_facts, questions_left, questions_locks, turn_of_names}
+use Rattle.call_questions.specs.QuestionSteps.{Faces, MakesQuestions, Rests, is_blocked}
 use Rattle.call_questions.proofs.AskLemmas.{asks_under}
 use Rattle.call_questions.proofs.KnowLemmas.{may_read}
+use Rattle.call_questions.proofs.LeftLemmas.{asks_leave}
 
 module _ (hash : RecordKey → ℕ) (seat : ℕ) (call : Call) (i : AnyInquiry) (room : Roomful) (held : List Lock)
-    (wanted : Wanted) (asked : asked_of call i ≡ Some wanted) (turn : name_turn held (names_for call i) ≡ Ready) where
+    (searches more : ℕ) (one_more : more ≤ searches + 1) (wanted : Wanted) (asked : asked_of call i ≡ Some wanted)
+    (turn : name_turn held (names_for call i) ≡ Ready) where
   abbrev before : QuestionsView
-  before = record { inquiry = i; room = room; names = held; question = None }
+  before = record { inquiry = i; room = room; names = held; question = None; finds = searches }
 
   abbrev pub first_of : ℕ → Question
   first_of k = record { access = begun (ToFind (key_asked wanted)) k; told = false }
 
   abbrev pub begins_with : ℕ → QuestionsView
-  begins_with k = record { inquiry = i; room = room; names = held; question = Some (first_of k) }
+  begins_with k = record { inquiry = i; room = room; names = held; question = Some (first_of k); finds = more }
 
   all_held : held ≡ names_for call i
   all_held = (turns_are_right held (names_for call i)).ready.0 turn
@@ -34,19 +37,31 @@ module _ (hash : RecordKey → ℕ) (seat : ℕ) (call : Call) (i : AnyInquiry) 
   not_done = ap (λ (b : Bool). not b && (not (changes call i) || is_ready (name_turn held (names_for call i)))) asks_on
 
   module _ (k : ℕ) (keyed : hash (key_asked wanted) ≡ k) (pool : PoolState) (locks : Table) where
-    right_question : IsRightQuestion hash call (begins_with k) (first_of k)
-    right_question = record {
+    right_question : 0 < left_of call i → IsRightQuestion hash call (begins_with k) (first_of k)
+    right_question left = record {
       keyed = keyed;
       may_read = may_read _ wanted
           (subst (λ (ls : List Lock). IsAskedUnder
           (names_in ls) wanted) (sym all_held) (asks_under call i wanted asked));
-      asked = λ untold. record { wanted = wanted; asked = asked; key = refl; names = all_held; unanswered = refl };
+      asked = λ untold. record {
+        wanted = wanted;
+        asked = asked;
+        key = refl;
+        names = all_held;
+        left = left;
+        unanswered = refl;
+      };
     }
 
     faces : (s : State) (change : Change) → Faces hash seat call s before pool locks change →
         Faces hash seat call s (begins_with k) pool locks change
     faces s change f = record {
-      right = record { question = right_question; begins = f.right.begins };
+      right = record {
+        question = right_question (asks_leave call i room s f.agrees.filed wanted asked
+            (f.knows s f.agrees.filed (agrees_itself call _ s)));
+        begins = f.right.begins;
+        few = let before = f.right.few in omega (arith, before, one_more);
+      };
       sees = f.sees;
       agrees = f.agrees;
       knows = f.knows;
@@ -68,6 +83,7 @@ module _ (hash : RecordKey → ℕ) (seat : ℕ) (call : Call) (i : AnyInquiry) 
         caller = made.aim.caller;
         ended = (λ e. absurd (true≢false (sym (made.aim.ended.0 e))), λ d. absurd (true≢false (sym d ∙ not_done)));
         rests = by did refl free;
+        most = made.aim.most;
       };
       row = made.row;
       progress = λ s change f. subst (λ n. NearsOrSpares did n (questions_left call new
@@ -88,13 +104,14 @@ module _ (hash : RecordKey → ℕ) (seat : ℕ) (call : Call) (i : AnyInquiry) 
     -- where another seat stood in the way it has not begun
     pub not_begun : (did : Progress FileFault) (new : QuestionsView) (pool' : PoolState) (locks' : Table) →
         MakesQuestions hash seat call did (begins_with k) new pool pool' locks locks' → is_blocked did ≡ true →
-        MakesQuestions hash seat call did before (record new { question = None }) pool pool' locks locks'
+        MakesQuestions hash seat call did before (record new { question = None; finds = searches }) pool
+        pool' locks locks'
     not_begun (Moved kind) new pool' locks' made blocked = absurd (true≢false (sym blocked))
     not_begun (Fault fault) new pool' locks' made blocked = absurd (true≢false (sym blocked))
     not_begun Ended new pool' locks' made blocked = absurd (true≢false (sym blocked))
     not_begun (Blocked other) new pool' locks' made blocked =
-        let back : record new { question = None } ≡ before =
-        ap (λ (v : QuestionsView). record v { question = None }) made.aim.rests in
+        let back : record new { question = None; finds = searches } ≡ before =
+        ap (λ (v : QuestionsView). record v { question = None; finds = searches }) made.aim.rests in
         subst (λ (v : QuestionsView). MakesQuestions hash seat call (Blocked other) before v pool pool' locks locks')
         (sym back) (record {
           writes = made.writes;
@@ -102,6 +119,7 @@ module _ (hash : RecordKey → ℕ) (seat : ℕ) (call : Call) (i : AnyInquiry) 
             caller = refl;
             ended = (λ e. absurd cc, λ d. absurd (true≢false (sym d ∙ not_done)));
             rests = refl;
+            most = refl;
           };
           row = made.row ∙ ap (λ (v : QuestionsView). with_row locks seat
               (questions_locks v)) made.aim.rests;

@@ -1,5 +1,5 @@
 -- The access of a question: what it asks of its caller, and that it writes nothing.
-use Rattle.std.proofs.Common.{ℕ, ◌≡◌, Bool, true, false, List, [], Option, if◌then◌else◌, refl, sym, ap, ◌∙◌, subst}
+use Rattle.std.proofs.Common.{ℕ, ◌≡◌, Bool, true, false, List, [], if◌then◌else◌, refl, ap}
 use Rattle.record_operation.specs.declared.operation.RecordOperation.{RecordOperation}
 use Rattle.record_operation.specs.declared.operation.RecordOperation.TheVariants as operations
 use Rattle.record_operation.specs.Operations.{OwnsWritten, operation_facts, operation_locks}
@@ -9,7 +9,7 @@ use Rattle.record_access.proofs.StandLemmas.{finds_none}
 use Rattle.record_access.specs.Accesses.{IsOfKind}
 use Rattle.file_pages.specs.declared.fault.FileFault.{FileFault}
 use Rattle.step_rules.specs.Turns.{TurnsAt}
-use Rattle.call_questions.specs.Words.{RecordKey, Lock, Known, Progress, World, is_write, ToFind, AccessView, HasEnded, access_facts, access_key, access_locks, access_turn}
+use Rattle.call_questions.specs.Words.{RecordKey, Lock, Progress, World, is_write, ToFind, AccessView, HasEnded, access_key, access_turn}
 use Rattle.step_rules.specs.Sound.{IsSoundWorld}
 
 owns : (key : RecordKey) (held : List Lock) (o : RecordOperation) → IsOfKind (ToFind key) o → OwnsWritten held o

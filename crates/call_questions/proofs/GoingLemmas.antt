@@ -1,8 +1,7 @@
 -- A step of the question under way is one of the call.
-use Rattle.std.proofs.Common.{ℕ, ◌≡◌, ◌≢◌, ◌<◌, ◌≤◌, ◌+◌, ◌*◌, Bool, true, false, not, List, Option, Some, None, IfSome, IsTrue, IsOk, Result, Ok, Err, if◌then◌else◌, refl, sym, ap, ◌∙◌, subst, inl, inr, ◌⊎◌, arith}
+use Rattle.std.proofs.Common.{ℕ, ◌≡◌, ◌<◌, ◌≤◌, ◌+◌, ◌*◌, Bool, true, false, List, Option, Some, None, IfSome, if◌then◌else◌, refl, sym, ap, ◌∙◌, subst, inl, inr, ◌⊎◌, arith}
 use Rattle.std.proofs.lemmas.Bool.{true≢false}
 use Rattle.std.specs.List.{Contains}
-use Rattle.std.specs.Option.{is_some}
 use Rattle.call_names.specs.Laws.{KeepsNames}
 use Rattle.page_locks.specs.declared.lock.LockName.TheVariants.{Counter}
 use Rattle.file_pages.specs.declared.fault.FileFault.{FileFault}
@@ -10,28 +9,33 @@ use Rattle.file_pages.specs.declared.fault.FileFault.TheVariants.{Failed}
 use Rattle.step_rules.specs.Known.{AllKnown}
 use Rattle.record_access.specs.AccessSteps.{Faces as FacesAccess, MakesAccess, Rests as RestsAccess}
 use Rattle.record_access.specs.Accesses.{IsOfKind}
+use Rattle.xsi_inquiry.specs.Telling.{most_asked}
 use Rattle.call_names.proofs.NamesLemmas.{take_in_order}
 use Rattle.held_names.proofs.TurnLemmas.{are_few_turns}
 use Rattle.call_questions.specs.declared.question.Question.{Question}
-use Rattle.call_questions.specs.Words.{RecordKey, PoolState, Table, Lock, Change, Store, row_of, with_row, store_of, OnlyWrites, Progress, Moved, Blocked, Fault, Ended, Look, World, Known, is_fault, Step, world, NearsOrSpares, HasEnded, Record, is_write, ToFind, StandsAt, AccessView, HasFound, Serves, access_answer, access_facts, access_key, access_left, access_locks, access_pseudokey, access_turn, AnyInquiry, caller_of, asked_of, left_of, AreNames, names_in, names_for, names_left, MAX_NAMES, Begins, Call, State, NotASystem, Roomful}
+use Rattle.call_questions.specs.Words.{RecordKey, PoolState, Table, Lock, Change, Store, row_of, with_row, store_of, Progress, Moved, Blocked, Fault, Ended, Look, World, is_fault, Step, world, NearsOrSpares, HasEnded, Record, ToFind, StandsAt, AccessView, Serves, access_answer, access_facts, access_key, access_left, access_locks, access_pseudokey, access_turn, AnyInquiry, caller_of, left_of, AreNames, names_in, names_for, names_left, MAX_NAMES, Begins, Call, State, Roomful}
 use Rattle.call_questions.specs.Answering.{MayRead}
-use Rattle.call_questions.specs.Questions.{FIND_STEPS, ROUND_STEPS, IsAsked, IsRightQuestion, IsUnderWay, KnowsNear, QuestionsView, asks_more, changes, facts_of, locks_behind, questions_left}
+use Rattle.call_questions.specs.Questions.{FIND_STEPS, ROUND_STEPS, IsAsked, IsRightQuestion, IsUnderWay, KnowsNear, QuestionsView, asks_more, changes, facts_of, locks_behind, questions_left, untold}
 use Rattle.call_questions.specs.QuestionSteps.{Closes, Faces, IsOver, Learns, MakesQuestions, Rests}
-use Rattle.call_questions.proofs.FindLemmas.{ended_facts, ended_locks, owns_written, reads_only}
+use Rattle.call_questions.proofs.FindLemmas.{ended_locks, owns_written, reads_only}
 
 abbrev round_of : Bool → ℕ
 round_of told = if told then ROUND_STEPS else 0
+
+abbrev untold_of : Bool → ℕ
+untold_of told = if told then 0 else 1
 
 few_of : (b : Bool) → (if b then FIND_STEPS else 0) ≤ FIND_STEPS
 few_of true = omega arith
 few_of false = omega arith
 
 module _ (hash : RecordKey → ℕ) (seat : ℕ) (call : Call) (i : AnyInquiry) (room : Roomful) (held : List Lock)
-    (names : AreNames held) (q : Question) (under : IsUnderWay q.access) (did : Progress FileFault) (a' : AccessView)
-    (pool pool' : PoolState) (locks locks' : Table) (row : row_of locks seat ≡ access_locks q.access held)
+    (searches : ℕ) (names : AreNames held) (q : Question) (under : IsUnderWay q.access) (did : Progress FileFault)
+    (a' : AccessView) (pool pool' : PoolState) (locks locks' : Table)
+    (row : row_of locks seat ≡ access_locks q.access held)
     (makes : MakesAccess hash seat did q.access a' pool pool' locks locks') where
   abbrev pub view_of : AnyInquiry → Roomful → Option Question → QuestionsView
-  view_of j r o = record { inquiry = j; room = r; names = held; question = o }
+  view_of j r o = record { inquiry = j; room = r; names = held; question = o; finds = searches }
 
   abbrev pub old : QuestionsView
   old = view_of i room (Some q)
@@ -68,7 +72,7 @@ module _ (hash : RecordKey → ℕ) (seat : ℕ) (call : Call) (i : AnyInquiry) 
         ⊎ ((q.told ≡ false) × (told ≡ true) × (left_of call j < left_of call i))
 
   module _ (j : AnyInquiry) (r : Roomful) (q' : Question) (o : Option Question) (access : q'.access ≡ a')
-      (closes : Closes q' o) (caller : caller_of j ≡ caller_of i)
+      (closes : Closes q' o) (caller : caller_of j ≡ caller_of i) (most : r.most ≡ room.most)
       (found_at : (s : State) (change : Change) → Faces hash seat call s old pool locks change →
       (found : Option Record) × StandsAt (store_of pool.images) key found)
       (rests : (did ≡ Moved Look → ⊥) → (q'.told ≡ q.told) × (j ≡ i) × (r ≡ room))
@@ -110,7 +114,13 @@ module _ (hash : RecordKey → ℕ) (seat : ℕ) (call : Call) (i : AnyInquiry) 
         by told inquiry rooms (inl is) =
             absurd (under.goes_on (subst (λ (a : AccessView). HasEnded a.operation) (access ∙ same) is.0.0))
         by told inquiry rooms (inr is) = λ n.
-            record { inquiry = inquiry n; room = rooms n; names = held; question = (is.1 ∙ ap Some told) n }
+            record {
+              inquiry = inquiry n;
+              room = rooms n;
+              names = held;
+              question = (is.1 ∙ ap Some told) n;
+              finds = searches;
+            }
 
     rests_by : (d : Progress FileFault) → did ≡ d → Rests d old new
     rests_by (Moved kind) is = tt
@@ -227,15 +237,46 @@ module _ (hash : RecordKey → ℕ) (seat : ℕ) (call : Call) (i : AnyInquiry) 
                     asked = is.asked;
                     key = is.key;
                     names = is.names;
+                    left = is.left;
                     unanswered = is.unanswered;
                   });
             }
+
+        -- a search was told, and a question less is left
+        few_searches : searches + left_of call j ≤ most_asked call + untold o
+        few_searches = by closes (comes s change f fine).left
+          where
+            by : Closes q' o → ((q'.told ≡ q.told) × (j ≡ i))
+                ⊎ ((q.told ≡ false) × (q'.told ≡ true) × (left_of call j < left_of call i)) →
+                searches + left_of call j ≤ most_asked call + untold o
+            by (inr is) (inl same) =
+                let before = f.right.few in
+                let told : untold_of q'.told ≡ untold_of q.told = ap untold_of same.0 in
+                let lefts : left_of call j ≡ left_of call i = ap (left_of call) same.1 in
+                rw is.1 (omega (arith, before, told, lefts))
+            by (inr is) (inr heard) =
+                let before = f.right.few in
+                let was : untold_of q.told ≡ 1 = ap untold_of heard.0 in
+                let fewer = heard.2 in
+                rw is.1 (omega (arith, before, was, fewer))
+            by (inl is) (inl same) =
+                let before = f.right.few in
+                let was : untold_of q.told ≡ 0 =
+                ap untold_of (sym same.0 ∙ is_told (comes s change f fine) is.0) in
+                let lefts : left_of call j ≡ left_of call i = ap (left_of call) same.1 in
+                rw is.1 (omega (arith, before, was, lefts))
+            by (inl is) (inr heard) =
+                let before = f.right.few in
+                let was : untold_of q.told ≡ 1 = ap untold_of heard.0 in
+                let fewer = heard.2 in
+                rw is.1 (omega (arith, before, was, fewer))
 
         pub means : Learns hash call s did new
         means = record {
           right = record {
             question = by closes;
             begins = (comes s change f fine).begins;
+            few = few_searches;
           };
           knows = (comes s change f fine).knows;
           reads = reads_only hash seat did (world pool.images locks change)
@@ -255,6 +296,7 @@ module _ (hash : RecordKey → ℕ) (seat : ℕ) (call : Call) (i : AnyInquiry) 
         caller = caller;
         ended = (λ e. absurd (under.goes_on (makes.aim.ended.0 e)), λ d. absurd (true≢false (sym d)));
         rests = rests_by did refl;
+        most = most;
       };
       row = makes.row held names.no_file row ∙ ap (with_row locks seat) same_locks;
       progress = λ s change f. progresses s change f did refl;
@@ -272,7 +314,12 @@ module _ (hash : RecordKey → ℕ) (seat : ℕ) (call : Call) (i : AnyInquiry) 
         later = makes.writes.later;
         file = λ honest done file. absurd (true≢false (sym done));
       };
-      aim = record { caller = caller; ended = (λ e. absurd cc, λ d. absurd (true≢false (sym d))); rests = tt };
+      aim = record {
+        caller = caller;
+        ended = (λ e. absurd cc, λ d. absurd (true≢false (sym d)));
+        rests = tt;
+        most = most;
+      };
       row = makes.row held names.no_file row ∙ ap (with_row locks seat) same_locks;
       progress = λ s change f. absurd (never s change f);
       step = λ s change f fine. absurd (never s change f);

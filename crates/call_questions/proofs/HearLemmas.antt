@@ -1,5 +1,5 @@
 -- An inquiry is told what answers its question.
-use Rattle.std.proofs.Common.{ℕ, ◌≡◌, ◌<◌, Bool, List, Option, Some, None, IsOk, Result, Ok, Err, OnOk, refl, sym, ap, ◌∙◌, subst}
+use Rattle.std.proofs.Common.{ℕ, ◌≡◌, ◌<◌, Bool, List, Option, Some, IsOk, Result, Ok, Err, OnOk, refl, sym, ap, ◌∙◌, subst}
 use Rattle.std.specs.Prelude.{nat_lt}
 use Rattle.queue_records.specs.declared.record.Record.TheVariants as records
 use Rattle.xsi_inquiry.specs.Telling.{AsksGiven, Gives, IsTold, IsToldGiven}
@@ -29,7 +29,7 @@ same_given a b is = cc
 
 module _ (call : Call) (i j : AnyInquiry) (room room' : Roomful) (found : Option Record)
     (result : Result Unit NotASystem) (caller : caller_of j ≡ caller_of i)
-    (fewer : OnOk result (left_of call j < left_of call i)) where
+    (fewer : OnOk result (left_of call j < left_of call i)) (most : room'.most ≡ room.most) where
   pub hears_record : (key : RecordKey) → asked_of call i ≡ Some (At key) →
       ((held : List LockName) (s : State) → IsFiled s → IsCovered held (asked_of call i) →
       IsSoNear call held (KnowsOf call i room) s → IsTold s (asked_of call i) found →
@@ -38,6 +38,7 @@ module _ (call : Call) (i j : AnyInquiry) (room room' : Roomful) (found : Option
   hears_record key at told = record {
     caller = caller;
     fewer = on_ok result fewer;
+    most = most;
     hears = λ wanted asked held s filed covered near answers.
         let same : wanted ≡ At key = same_wanted wanted (At key) (sym asked ∙ at) in
         let found_is : found ≡ record_of s key = subst (λ (w : Wanted). Answers w found s) same answers in
@@ -55,6 +56,7 @@ module _ (call : Call) (i j : AnyInquiry) (room room' : Roomful) (found : Option
   hears_given id given at kept counts told = record {
     caller = caller;
     fewer = on_ok result fewer;
+    most = most;
     hears = λ wanted asked held s filed covered near answers.
         let same : wanted ≡ Given id = same_wanted wanted (Given id) (sym asked ∙ at) in
         let counted = subst (λ (w : Wanted). Answers w found s) same answers in

@@ -1,19 +1,17 @@
 -- What a call knows once it was told, and what answers a question.
-use Rattle.std.proofs.Common.{ℕ, ◌≡◌, ◌≢◌, ◌<◌, ◌==◌, Bool, true, false, List, [], Option, Some, None, IsOk, Result, refl, sym, ap, ◌∙◌, subst, inl, inr, arith}
-use Rattle.std.proofs.lemmas.Bool.{true≢false}
+use Rattle.std.proofs.Common.{◌≡◌, ◌≢◌, ◌==◌, Bool, true, false, List, [], Option, Some, IsOk, Result, refl, sym, ap, subst, inl, inr, arith}
 use Rattle.std.proofs.lemmas.Bool.Decides.{nat_tests}
 use Rattle.std.specs.List.{Contains}
 use Rattle.std.specs.Option.{is_some}
 use Rattle.page_locks.specs.declared.lock.LockName.TheVariants as names
 use Rattle.queue_records.specs.declared.layout.TheConstants.{COUNTER}
 use Rattle.queue_records.specs.declared.record.Record.TheVariants as records
-use Rattle.xsi_inquiry.specs.Agreeing.{AgreesFor}
-use Rattle.call_questions.specs.Words.{RecordKey, Store, Lock, Record, StandsAt, AnyInquiry, KnowsOf, asked_of, left_of, names_in, LockName, Call, State, guard_of, record_of, Wanted, At, Given, NotASystem, IsCovered, IsSoNear, IsFiled, Roomful}
-use Rattle.call_questions.specs.Answering.{Answers, CountsFor, IsAskedUnder, MayRead, key_asked}
+use Rattle.call_questions.specs.Words.{RecordKey, Store, Lock, Record, StandsAt, AnyInquiry, KnowsOf, asked_of, names_in, LockName, Call, State, guard_of, record_of, Wanted, At, Given, NotASystem, IsCovered, IsSoNear, IsFiled, Roomful}
+use Rattle.call_questions.specs.Answering.{Answers, IsAskedUnder, MayRead, key_asked}
 use Rattle.call_questions.specs.Agreeing.{Agrees}
-use Rattle.call_questions.specs.Laws.{FilesAnswer, IsAnswered}
+use Rattle.call_questions.specs.Laws.{FilesAnswer}
 use Rattle.call_questions.specs.Questions.{asks_more, keeping}
-use Rattle.call_questions.specs.QuestionSteps.{Hears, Told}
+use Rattle.call_questions.specs.QuestionSteps.{Hears}
 use Rattle.call_questions.proofs.AskLemmas.{given_absent}
 use Rattle.call_questions.proofs.CounterLemmas.{counter_last}
 

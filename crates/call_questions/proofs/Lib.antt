@@ -2,6 +2,7 @@ pub mod AskLemmas
 pub mod CounterLemmas
 pub mod PlanLemmas
 pub mod KnowLemmas
+pub mod LeftLemmas
 pub mod FindLemmas
 pub mod TurnLemmas
 pub mod AskingLemmas

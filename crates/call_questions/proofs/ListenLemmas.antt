@@ -1,5 +1,5 @@
 -- What a call knows behind a step of its question, whether it was told an answer or not.
-use Rattle.std.proofs.Common.{ℕ, ◌≡◌, ◌<◌, Bool, true, false, List, [], Option, Some, None, IfSome, IsOk, Result, Ok, Err, refl, sym, ap, ◌∙◌, subst, inl, inr, ◌⊎◌}
+use Rattle.std.proofs.Common.{ℕ, ◌≡◌, Bool, false, List, [], Option, Some, None, IfSome, IsOk, Result, Ok, Err, refl, sym, ap, ◌∙◌, subst, inl, inr, ◌⊎◌}
 use Rattle.std.proofs.lemmas.Bool.{true≢false}
 use Rattle.std.specs.List.{Contains}
 use Rattle.std.specs.Option.{is_some}
@@ -10,13 +10,13 @@ use Rattle.file_pages.specs.declared.fault.FileFault.TheVariants.{Failed}
 use Rattle.record_access.specs.AccessSteps.{FindsRecord, MakesAccess}
 use Rattle.xsi_inquiry.proofs.AgreeLemmas.{agrees_itself}
 use Rattle.call_questions.specs.declared.question.Question.{Question}
-use Rattle.call_questions.specs.Words.{RecordKey, PoolState, Table, Lock, Change, Store, row_of, store_of, Progress, Moved, Fault, Look, is_fault, HasEnded, Record, ToFind, StandsAt, AccessView, HasFound, Serves, access_answer, access_key, access_locks, AnyInquiry, KnowsOf, asked_of, AreNames, names_in, names_for, Begins, Call, State, NotASystem, IsSoNear, Roomful, Wanted}
+use Rattle.call_questions.specs.Words.{RecordKey, PoolState, Table, Lock, Change, row_of, store_of, Progress, Moved, Fault, Look, is_fault, Record, ToFind, StandsAt, AccessView, Serves, access_answer, access_key, access_locks, AnyInquiry, KnowsOf, asked_of, AreNames, names_in, names_for, Begins, Call, State, NotASystem, IsSoNear, Roomful, Wanted}
 use Rattle.call_questions.specs.Answering.{Answers, IsAskedUnder}
 use Rattle.call_questions.specs.Laws.{IsAnswered}
-use Rattle.call_questions.specs.Questions.{IsAsked, IsUnderWay, KnowsNear, QuestionsView, asks_more, keeping}
+use Rattle.call_questions.specs.Questions.{IsAsked, IsUnderWay, QuestionsView, asks_more, keeping}
 use Rattle.call_questions.specs.QuestionSteps.{Closes, Faces, IsHeard, IsQuiet, IsSilent, Listens, MakesQuestions, Told}
 use Rattle.call_questions.proofs.AskLemmas.{asks_under}
-use Rattle.call_questions.proofs.GoingLemmas.{Comes, faces, fails, goes_on, old, view_of}
+use Rattle.call_questions.proofs.GoingLemmas.{Comes, faces, fails, goes_on, view_of}
 use Rattle.call_questions.proofs.KnowLemmas.{files_answer, heard, some_stands}
 use Rattle.call_questions.proofs.PlanLemmas.{begins_on}
 
@@ -24,8 +24,9 @@ some_not_none : (o : Option Wanted) (wanted : Wanted) → o ≡ Some wanted → 
 some_not_none o wanted is none = true≢false (sym (ap is_some is) ∙ ap is_some none)
 
 module _ (hash : RecordKey → ℕ) (seat : ℕ) (call : Call) (i : AnyInquiry) (room : Roomful) (held : List Lock)
-    (names : AreNames held) (q : Question) (under : IsUnderWay q.access) (did : Progress FileFault) (a' : AccessView)
-    (pool pool' : PoolState) (locks locks' : Table) (row : row_of locks seat ≡ access_locks q.access held)
+    (searches : ℕ) (names : AreNames held) (q : Question) (under : IsUnderWay q.access) (did : Progress FileFault)
+    (a' : AccessView) (pool pool' : PoolState) (locks locks' : Table)
+    (row : row_of locks seat ≡ access_locks q.access held)
     (makes : MakesAccess hash seat did q.access a' pool pool' locks locks') (j : AnyInquiry) (r : Roomful)
     (q' : Question) (result : Result Unit NotASystem)
     (listens : Listens call did result (record { access = a'; told = q.told }) q'
@@ -35,7 +36,7 @@ module _ (hash : RecordKey → ℕ) (seat : ℕ) (call : Call) (i : AnyInquiry) 
   read = record { access = a'; told = q.told }
 
   abbrev before : QuestionsView
-  before = record { inquiry = i; room = room; names = held; question = Some q }
+  before = record { inquiry = i; room = room; names = held; question = Some q; finds = searches }
 
   abbrev told_before : Told
   told_before = record { inquiry = i; room = room }
@@ -44,7 +45,7 @@ module _ (hash : RecordKey → ℕ) (seat : ℕ) (call : Call) (i : AnyInquiry) 
   told_after = record { inquiry = j; room = r }
 
   abbrev ComesTo : State → AnyInquiry → Roomful → Bool → Type 0
-  ComesTo s = Comes hash seat call i room held names q under did a' pool pool' locks locks' row makes s
+  ComesTo s = Comes hash seat call i room held searches names q under did a' pool pool' locks locks' row makes s
 
   rests : (did ≡ Moved Look → ⊥) → (q'.told ≡ q.told) × (j ≡ i) × (r ≡ room)
   rests still = by listens.either
@@ -67,8 +68,8 @@ module _ (hash : RecordKey → ℕ) (seat : ℕ) (call : Call) (i : AnyInquiry) 
       finds : (found : Option Record) → StandsAt (store_of pool.images) (access_key q.access) found →
           FindsRecord did q.access a' found
       finds found stands =
-          (makes.answer (ToFind (access_key q.access)) found change (faces hash seat call i room held names q under did
-          a' pool pool' locks locks' row makes s change f found stands) fine).finds
+          (makes.answer (ToFind (access_key q.access)) found change (faces hash seat call i room held searches names q
+          under did a' pool pool' locks locks' row makes s change f found stands) fine).finds
 
       -- where it is told nothing no page has answered
       still_open : IsSilent did read → q.told ≡ false → access_answer q.access ≡ None → access_answer a' ≡ None
@@ -83,14 +84,15 @@ module _ (hash : RecordKey → ℕ) (seat : ℕ) (call : Call) (i : AnyInquiry) 
       quietly : IsQuiet did result read q' told_before told_after → ComesTo s j r q'.told
       quietly quiet =
           let told : q'.told ≡ q.told = ap (λ (x : Question). x.told) quiet.same.0 in
-          let asked : q'.told ≡ false → IsAsked call (view_of hash seat call i room held names q under did a' pool pool'
-          locks locks' row makes i room None) a' =
+          let asked : q'.told ≡ false → IsAsked call (view_of hash seat call i room held searches names q under did a'
+          pool pool' locks locks' row makes i room None) a' =
           λ untold. let was = f.right.question.asked (sym told ∙ untold) in
           record {
             wanted = was.wanted;
             asked = was.asked;
             key = makes.aim.key ∙ was.key;
             names = was.names;
+            left = was.left;
             unanswered = still_open quiet.silent (sym told ∙ untold) was.unanswered;
           } in
           subst (λ (t : Told). ComesTo s t.inquiry t.room q'.told) (sym quiet.same.1) (record {
@@ -161,16 +163,16 @@ module _ (hash : RecordKey → ℕ) (seat : ℕ) (call : Call) (i : AnyInquiry) 
         by (inr heard) = (hears (ap is_fault heard.looked) heard).0
 
   abbrev after : QuestionsView
-  after = record { inquiry = j; room = r; names = held; question = o }
+  after = record { inquiry = j; room = r; names = held; question = o; finds = searches }
 
   pub went_on : MakesQuestions hash seat call did before after pool pool' locks locks'
-  went_on = goes_on hash seat call i room held names q under did a' pool pool' locks locks' row makes j r q' o
-      listens.access closes listens.caller found_at rests comes
+  went_on = goes_on hash seat call i room held searches names q under did a' pool pool' locks locks' row makes j r q' o
+      listens.access closes listens.caller listens.most found_at rests comes
 
   pub failed : ((x : Unit) → result ≡ Ok x → ⊥) →
       MakesQuestions hash seat call (Fault Failed) before after pool pool' locks locks'
-  failed not = fails hash seat call i room held names q under did a' pool pool' locks locks' row makes j r q' o
-      listens.access closes listens.caller found_at rests comes
+  failed not = fails hash seat call i room held searches names q under did a' pool pool' locks locks' row makes j r q' o
+      listens.access closes listens.caller listens.most found_at rests comes
       (λ s change f. not_ok result refl (is_ok s change f))
     where
       not_ok : (y : Result Unit NotASystem) → result ≡ y → IsOk y → ⊥

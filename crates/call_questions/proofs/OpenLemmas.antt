@@ -1,21 +1,21 @@
 -- A step of the question that there is, as one of the call.
-use Rattle.std.proofs.Common.{ℕ, ◌≡◌, List, Option, Some, None, IfSome, IsSome, Result, Ok, refl, sym, subst}
+use Rattle.std.proofs.Common.{ℕ, ◌≡◌, List, Option, Some, None, IfSome, IsSome, Result, Ok, subst}
 use Rattle.file_pages.specs.declared.fault.FileFault.{FileFault}
 use Rattle.file_pages.specs.declared.fault.FileFault.TheVariants.{Failed}
-use Rattle.record_access.specs.AccessSteps.{MakesAccess}
 use Rattle.call_questions.specs.declared.question.Question.{Question}
 use Rattle.call_questions.specs.Words.{RecordKey, PoolState, Table, Lock, row_of, Progress, Fault, AnyInquiry, AreNames, Call, NotASystem, Roomful}
 use Rattle.call_questions.specs.Questions.{IsUnderWay, locks_behind}
-use Rattle.call_questions.specs.QuestionSteps.{Closes, ClosesIn, Listens, ListensIn, MakesQuestions, ReadsIn}
+use Rattle.call_questions.specs.QuestionSteps.{ClosesIn, Listens, ListensIn, MakesQuestions, ReadsIn}
 use Rattle.call_questions.proofs.ListenLemmas.{failed, under_on, went_on}
 
 module _ (hash : RecordKey → ℕ) (seat : ℕ) (call : Call) (i : AnyInquiry) (room : Roomful) (held : List Lock)
-    (names : AreNames held) (did : Progress FileFault) (pool pool' : PoolState) (locks locks' : Table)
+    (searches : ℕ) (names : AreNames held) (did : Progress FileFault) (pool pool' : PoolState) (locks locks' : Table)
     (j : AnyInquiry) (r : Roomful) (result : Result Unit NotASystem) where
   abbrev MakesBy : Progress FileFault → (old new : Option Question) → Type 0
   MakesBy d old new =
-      MakesQuestions hash seat call d (record { inquiry = i; room = room; names = held; question = old })
-      (record { inquiry = j; room = r; names = held; question = new }) pool pool' locks locks'
+      MakesQuestions hash seat call d
+      (record { inquiry = i; room = room; names = held; question = old; finds = searches })
+      (record { inquiry = j; room = r; names = held; question = new; finds = searches }) pool pool' locks locks'
 
   abbrev Hears : (old new : Option Question) → Type 0
   Hears old new =
@@ -44,8 +44,8 @@ module _ (hash : RecordKey → ℕ) (seat : ℕ) (call : Call) (i : AnyInquiry) 
   went_in (Some q) None o'' new some under row reads hears closes = absurd reads
   went_in (Some q) (Some q') None new some under row reads hears closes = absurd hears
   went_in (Some q) (Some q') (Some q'') new some under row reads hears closes =
-      went_on hash seat call i room held names q under did q'.access pool pool' locks locks' row reads.1 j r q'' result
-      (same_told q q' q'' reads.0 hears) new closes
+      went_on hash seat call i room held searches names q under did q'.access pool pool' locks locks' row reads.1 j r
+      q'' result (same_told q q' q'' reads.0 hears) new closes
 
   pub failed_in : (o o' o'' new : Option Question) → IsSome o → AreUnderWay o →
       row_of locks seat ≡ locks_behind o held → Reads o o' → Hears o' o'' → ClosesIn o'' new →
@@ -54,8 +54,8 @@ module _ (hash : RecordKey → ℕ) (seat : ℕ) (call : Call) (i : AnyInquiry) 
   failed_in (Some q) None o'' new some under row reads hears closes not = absurd reads
   failed_in (Some q) (Some q') None new some under row reads hears closes not = absurd hears
   failed_in (Some q) (Some q') (Some q'') new some under row reads hears closes not =
-      failed hash seat call i room held names q under did q'.access pool pool' locks locks' row reads.1 j r q'' result
-      (same_told q q' q'' reads.0 hears) new closes not
+      failed hash seat call i room held searches names q under did q'.access pool pool' locks locks' row reads.1 j r
+      q'' result (same_told q q' q'' reads.0 hears) new closes not
 
   pub under_in : (o o' o'' new : Option Question) → IsSome o → AreUnderWay o →
       row_of locks seat ≡ locks_behind o held → Reads o o' → Hears o' o'' → ClosesIn o'' new → AreUnderWay new
@@ -63,5 +63,5 @@ module _ (hash : RecordKey → ℕ) (seat : ℕ) (call : Call) (i : AnyInquiry) 
   under_in (Some q) None o'' new some under row reads hears closes = absurd reads
   under_in (Some q) (Some q') None new some under row reads hears closes = absurd hears
   under_in (Some q) (Some q') (Some q'') new some under row reads hears closes =
-      under_on hash seat call i room held names q under did q'.access pool pool' locks locks' row reads.1 j r q'' result
-      (same_told q q' q'' reads.0 hears) new closes
+      under_on hash seat call i room held searches names q under did q'.access pool pool' locks locks' row reads.1 j r
+      q'' result (same_told q q' q'' reads.0 hears) new closes

@@ -1,5 +1,5 @@
 -- What a call changes, and the names under which it does, which grew.
-use Rattle.std.proofs.Common.{ℕ, zero, suc, ◌≡◌, ◌≢◌, ◌<◌, ◌++◌, ◌∷◌, inl, inr, ◌⊎◌, Bool, true, false, not, ◌&&◌, ◌||◌, cond, List, [], Option, Some, None, Result, Ok, Err, length, take, drop, refl, sym, ap, ◌∙◌, subst, arith}
+use Rattle.std.proofs.Common.{ℕ, zero, suc, ◌≡◌, ◌≢◌, ◌<◌, ◌++◌, ◌∷◌, inl, inr, ◌⊎◌, Bool, true, false, not, ◌&&◌, ◌||◌, cond, List, [], Option, Some, None, Result, Ok, Err, length, drop, refl, sym, ap, ◌∙◌, subst, arith}
 use Rattle.std.proofs.lemmas.Bool.{true≢false}
 use Rattle.std.proofs.lemmas.List.{append-nil, take-append-drop}
 use Rattle.std.specs.List.{Contains}
@@ -27,8 +27,8 @@ use Rattle.xsi_sweep.specs.Knowing as remove_knowing
 use Rattle.xsi_sweep.specs.declared.stage.Stage as remove_stages
 use Rattle.xsi_sweep.specs.declared.stage.Stage.TheVariants as remove
 use Rattle.call_questions.specs.Words.{AnyInquiry, KnowsOf, asked_of, left_of, plan_of, Begins, Call, Caller, Counter, NameTurn, Ready, State, Roomful, Wanted, name_turn, names_for, names_in}
-use Rattle.call_questions.specs.Laws.{HoldsNames, WriteUnderNames}
-use Rattle.call_questions.specs.Questions.{QuestionsView, asks_more, changes, changes_by, has_asked, is_ready}
+use Rattle.call_questions.specs.Laws.{WriteUnderNames}
+use Rattle.call_questions.specs.Questions.{asks_more, changes, changes_by, is_ready}
 
 -- ---- a plan that is not to do nothing changes something
 

@@ -1,5 +1,5 @@
 -- A step of a call at which no question is under way: it ends, or takes a name or gives one back.
-use Rattle.std.proofs.Common.{ℕ, ◌≡◌, ◌≢◌, ◌<◌, ◌≤◌, ◌+◌, ◌*◌, ◌++◌, ◌∷◌, suc, Bool, true, false, not, ◌||◌, ◌&&◌, List, [], Option, Some, None, IsTrue, length, if◌then◌else◌, refl, sym, ap, ◌∙◌, subst, inl, inr, ◌⊎◌, arith}
+use Rattle.std.proofs.Common.{ℕ, ◌≡◌, ◌++◌, ◌∷◌, Bool, true, false, not, ◌||◌, ◌&&◌, List, [], Some, None, refl, sym, ap, ◌∙◌, subst, inl, inr, ◌⊎◌, arith}
 use Rattle.std.proofs.lemmas.Bool.{true≢false}
 use Rattle.std.proofs.lemmas.List.{append_assoc, map-append}
 use Rattle.std.proofs.lemmas.List.Elements.{Contains-append_left}
@@ -8,8 +8,7 @@ use Rattle.page_locks.proofs.ChangeLemmas.{with_row-own}
 use Rattle.page_locks.specs.declared.lock.LockName.TheVariants as names
 use Rattle.call_names.specs.Laws.{KeepsNames}
 use Rattle.file_pages.specs.declared.fault.FileFault.{FileFault}
-use Rattle.hash_file.specs.Changes.{RecordWrite}
-use Rattle.step_rules.specs.Turns.{Ask, ForLock}
+use Rattle.step_rules.specs.Turns.{ForLock}
 use Rattle.step_rules.proofs.LockStepLemmas.{KeepsOthers-same}
 use Rattle.step_rules.specs.declared.kind.Kind.TheVariants as kinds
 use Rattle.step_rules.specs.declared.kind.Kind.{Kind}
@@ -19,7 +18,7 @@ use Rattle.held_names.specs.Laws.{IsNext}
 use Rattle.held_names.specs.NameSteps.{GivesBack, MakesNameStep, Takes}
 use Rattle.held_names.proofs.OrderLemmas.{begin_are_names}
 use Rattle.held_names.proofs.TurnLemmas.{turns_are_right, turns_come_nearer}
-use Rattle.call_questions.specs.Words.{RecordKey, PoolState, Table, Lock, Change, Store, row_of, with_row, store_of, IsReady, OnlyWrites, Progress, Moved, Blocked, Fault, Ended, Turn, is_fault, Sees, Step, world, NearsOrSpares, is_write, AnyInquiry, KnowsOf, asked_of, caller_of, left_of, AreNames, names_in, names_for, Begins, name_turn, names_left, Take, GiveBack, Ready, LockName, Call, State, Roomful}
+use Rattle.call_questions.specs.Words.{RecordKey, PoolState, Table, Lock, row_of, with_row, IsReady, OnlyWrites, Progress, Moved, Blocked, Fault, Ended, Step, world, is_write, AnyInquiry, KnowsOf, AreNames, names_in, names_for, Begins, name_turn, Take, GiveBack, LockName, Call, Roomful}
 use Rattle.call_questions.specs.Questions.{QuestionsView, IsRight, asks_more, changes, has_asked, is_done, is_ready, turn_of_names}
 use Rattle.call_questions.specs.QuestionSteps.{MakesQuestions}
 use Rattle.call_questions.proofs.KnowLemmas.{near_more}
@@ -28,11 +27,11 @@ use Rattle.call_questions.proofs.KnowLemmas.{near_more}
 pub writes_none : (pool : PoolState) → IsReady pool → OnlyWrites true pool pool
 writes_none pool ready = record { ready = ready; honest = refl; later = omega arith; file = λ honest done file. file }
 
-module _ (hash : RecordKey → ℕ) (seat : ℕ) (call : Call) (i : AnyInquiry) (room : Roomful) (pool : PoolState)
-    (ready : IsReady pool) (locks : Table) where
+module _ (hash : RecordKey → ℕ) (seat : ℕ) (call : Call) (i : AnyInquiry) (room : Roomful) (searches : ℕ)
+    (pool : PoolState) (ready : IsReady pool) (locks : Table) where
   -- where no question is under way
   abbrev pub bare : List Lock → QuestionsView
-  bare held = record { inquiry = i; room = room; names = held; question = None }
+  bare held = record { inquiry = i; room = room; names = held; question = None; finds = searches }
 
   -- ---- nothing is left to ask
 
@@ -40,7 +39,7 @@ module _ (hash : RecordKey → ℕ) (seat : ℕ) (call : Call) (i : AnyInquiry) 
       MakesQuestions hash seat call Ended (bare held) (bare held) pool pool locks locks
   ends held row asked = record {
     writes = writes_none pool ready;
-    aim = record { caller = refl; ended = (λ e. asked, λ d. refl); rests = refl };
+    aim = record { caller = refl; ended = (λ e. asked, λ d. refl); rests = refl; most = refl };
     row = sym (with_row-own locks seat) ∙ ap (with_row locks seat) row;
     progress = λ s change f. tt;
     step = λ s change f fine. record {
@@ -96,7 +95,7 @@ module _ (hash : RecordKey → ℕ) (seat : ℕ) (call : Call) (i : AnyInquiry) 
           MakesQuestions hash seat call (Moved kind) (bare held) (bare (held ++ lock ∷ [])) pool pool locks locks'
       took_it kind locks' is granted step = record {
         writes = writes_none pool ready;
-        aim = record { caller = refl; ended = (λ e. absurd cc, λ d. absurd (goes_on d)); rests = tt };
+        aim = record { caller = refl; ended = (λ e. absurd cc, λ d. absurd (goes_on d)); rests = tt; most = refl };
         row = is;
         progress = λ s change f.
             let nearer = (turns_come_nearer held goal).take lock turn in
@@ -105,7 +104,7 @@ module _ (hash : RecordKey → ℕ) (seat : ℕ) (call : Call) (i : AnyInquiry) 
             subst (λ (t : NameTurn). Step {F = FileFault} hash seat (turn_of_names t) (Moved kind) [] pool pool locks
             locks' change) (sym turn) (step hash pool change None f.sees);
         means = λ s change f fine. record {
-          right = record { question = tt; begins = λ none does keeps. begins_next };
+          right = record { question = tt; begins = λ none does keeps. begins_next; few = f.right.few };
           knows = near_more call (asks_more call i) held (held ++ lock ∷ []) (KnowsOf call i room) s
               (λ none. more_names held lock names.Counter) f.knows;
           reads = ap (λ (k : Kind). is_write {F = FileFault} (Moved k)) granted;
@@ -117,7 +116,7 @@ module _ (hash : RecordKey → ℕ) (seat : ℕ) (call : Call) (i : AnyInquiry) 
           MakesQuestions hash seat call (Blocked other) (bare held) (bare held) pool pool locks locks'
       kept_out other locks' is step = record {
         writes = writes_none pool ready;
-        aim = record { caller = refl; ended = (λ e. absurd cc, λ d. absurd (goes_on d)); rests = refl };
+        aim = record { caller = refl; ended = (λ e. absurd cc, λ d. absurd (goes_on d)); rests = refl; most = refl };
         row = is;
         progress = λ s change f. tt;
         step = λ s change f fine.
@@ -164,7 +163,7 @@ module _ (hash : RecordKey → ℕ) (seat : ℕ) (call : Call) (i : AnyInquiry) 
           MakesQuestions hash seat call did (bare held) (bare held') pool pool locks locks'
       gave (Moved kind) held' locks' gives is step = record {
         writes = writes_none pool ready;
-        aim = record { caller = refl; ended = (λ e. absurd cc, λ d. absurd (goes_on d)); rests = tt };
+        aim = record { caller = refl; ended = (λ e. absurd cc, λ d. absurd (goes_on d)); rests = tt; most = refl };
         row = is;
         progress = λ s change f.
             let nearer = (turns_come_nearer held goal).give_back held' gives.1.0 gives.1.1 turn in
@@ -176,6 +175,7 @@ module _ (hash : RecordKey → ℕ) (seat : ℕ) (call : Call) (i : AnyInquiry) 
           right = record {
             question = tt;
             begins = λ none does keeps. absurd (keeps_not f.right none (fewer_names held' gives.1.0 gives.1.1 keeps));
+            few = f.right.few;
           };
           knows = near_more call (asks_more call i) held held' (KnowsOf call i room) s
               (λ none has. absurd (keeps_not f.right none (inr has))) f.knows;

@@ -22,6 +22,8 @@ pub record KeepsQuestions {F : Type 0} (call : Call) (did : Progress F) (old new
   -- it has ended where nothing is left to ask
   pub ended : (did ≡ Ended) ↔ (is_done call old ≡ true)
   pub rests : Rests did old new
+  -- the room has room for as many bytes
+  pub most : new.room.most ≡ old.room.most
 
 -- ---- on an honest device, in a sound world
 
@@ -75,6 +77,7 @@ pub record Hears {T : Type 0} (call : Call) (found : Option Record) (result : Re
     (old new : Told) : Type 0 where
   pub caller : caller_of new.inquiry ≡ caller_of old.inquiry
   pub fewer : IsOk result → left_of call new.inquiry < left_of call old.inquiry
+  pub most : new.room.most ≡ old.room.most
   pub hears : (wanted : Wanted) → asked_of call old.inquiry ≡ Some wanted →
       HearsIn call wanted found result old new
 
@@ -105,6 +108,7 @@ pub record Listens {F T : Type 0} (call : Call) (did : Progress F) (result : Res
     (old new : Told) : Type 0 where
   pub access : q'.access ≡ q.access
   pub caller : caller_of new.inquiry ≡ caller_of old.inquiry
+  pub most : new.room.most ≡ old.room.most
   pub either : IsQuiet did result q q' old new ⊎ IsHeard call did result q q' old new
 
 abbrev pub is_blocked : {F : Type 0} → Progress F → Bool

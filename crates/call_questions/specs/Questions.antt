@@ -1,5 +1,5 @@
 -- A call that asks the file its questions: what it holds, knows, asks for, and is about. docs/STEPS.md, "Calls".
-use Rattle.std.specs.Prelude.{ℕ, ◌≡◌, ◌⊎◌, ◌+◌, ◌*◌, ◌&&◌, ◌||◌, Bool, true, false, not, List, [], Option, Some, None, IfSome, if◌then◌else◌, slice_get}
+use Rattle.std.specs.Prelude.{ℕ, ◌≡◌, ◌≤◌, ◌<◌, ◌⊎◌, ◌+◌, ◌*◌, ◌&&◌, ◌||◌, Bool, true, false, not, List, [], Option, Some, None, IfSome, if◌then◌else◌, slice_get}
 use Rattle.std.specs.List.{Contains}
 use Rattle.std.specs.Option.{is_some}
 use Rattle.call_names.specs.Laws.{KeepsNames}
@@ -7,6 +7,7 @@ use Rattle.page_locks.specs.declared.lock.LockKind.TheVariants.{Read}
 use Rattle.page_locks.specs.declared.lock.LockName.TheVariants.{Counter, Directory}
 use Rattle.step_rules.specs.Turns.{ForLock, asks, no_ask}
 use Rattle.xsi_inquiry.specs.Slots.{writes_left}
+use Rattle.xsi_inquiry.specs.Telling.{most_asked}
 use Rattle.xsi_inquiry.specs.Writing.{Plan}
 use Rattle.call_questions.specs.declared.question.Question.{Question}
 use Rattle.call_questions.specs.Words.{RecordKey, Store, Lock, LockName, Known, Turn, HasEnded, ToFind, AccessView, Serves, access_answer, access_facts, access_key, access_left, access_locks, access_pseudokey, access_turn, AnyInquiry, KnowsOf, asked_of, left_of, plan_of, names_in, names_for, MAX_NAMES, Begins, name_turn, names_left, NameTurn, Take, GiveBack, Ready, Call, State, Wanted, IsSoNear, Roomful}
@@ -19,6 +20,8 @@ pub record QuestionsView : Type 0 where
   pub names : List Lock
   -- the one under way
   pub question : Option Question
+  -- the searches that it has begun since the call last began
+  pub finds : ℕ
 
 -- what is always so of a question under way: it reads its key, and still holds or asks for a lock
 pub record IsUnderWay (a : AccessView) : Type 0 where
@@ -108,6 +111,8 @@ pub record IsAsked (call : Call) (v : QuestionsView) (a : AccessView) : Type 0 w
   pub asked : asked_of call v.inquiry ≡ Some wanted
   pub key : access_key a ≡ key_asked wanted
   pub names : v.names ≡ names_for call v.inquiry
+  -- it is one of those that are left
+  pub left : 0 < left_of call v.inquiry
   pub unanswered : access_answer a ≡ None
 
 pub record IsRightQuestion (hash : RecordKey → ℕ) (call : Call) (v : QuestionsView) (q : Question) : Type 0 where
@@ -116,12 +121,20 @@ pub record IsRightQuestion (hash : RecordKey → ℕ) (call : Call) (v : Questio
   pub may_read : MayRead (names_in v.names) (access_key q.access)
   pub asked : q.told ≡ false → IsAsked call v q.access
 
+-- one is under way of which the inquiry was told nothing yet
+abbrev pub untold : Option Question → ℕ
+untold None = 0
+untold (Some q) = if q.told then 0 else 1
+
 -- it has come so far by steps of this call, on an honest device
 pub record IsRight (hash : RecordKey → ℕ) (call : Call) (v : QuestionsView) : Type 0 where
   pub question : IfSome v.question (IsRightQuestion hash call v)
   -- where it is to change the file its names begin those that it needs; so do a Remove's that holds the Counter
   pub begins : asks_more call v.inquiry ≡ false → changes call v.inquiry ≡ true →
       KeepsNames call ⊎ Contains (names_in v.names) Counter → Begins v.names (names_for call v.inquiry)
+  -- it begins one search a question: those that it has begun, with the questions that are left, are at most as many as
+  -- it asks; a question that was not told yet is counted as both
+  pub few : v.finds + left_of call v.inquiry ≤ most_asked call + untold v.question
 
 -- ---- what it knows
 

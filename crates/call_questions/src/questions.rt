@@ -31,6 +31,7 @@ pub struct Questions {
     room: Room,
     names: HeldNames,
     question: Option<Question>,
+    finds: usize,
 }
 
 impl Model for Questions {
@@ -45,6 +46,7 @@ impl Model for Questions {
       room = q.room;
       names = q.names;
       question = q.question;
+      finds = q.finds;
     } };
 
     ghost invariant = { λ q. IfSome q.question (λ (u : Question). IsUnderWay u.access) };
@@ -55,6 +57,7 @@ impl Questions {
     pub fn begin(by: Caller, call: &Call, room: Room) -> Questions
         ensures caller { caller_of result.inquiry ≡ by }
         ensures few { left_of call.now result.inquiry ≤ most_asked call.now }
+        ensures finds { result.finds ≡ 0 }
         ensures bare { IsBare result }
         ensures room { result.room ≡ room }
         ensures knows { (s : State) → HasRoom call.now room → KnowsNear call.now result s }
@@ -64,6 +67,7 @@ impl Questions {
             room,
             names: HeldNames::new(),
             question: None,
+            finds: 0,
         }
     }
 
@@ -72,12 +76,14 @@ impl Questions {
         requires { IsBare self.old }
         ensures caller { caller_of self.new.inquiry ≡ by }
         ensures few { left_of call.now self.new.inquiry ≤ most_asked call.now }
+        ensures finds { self.new.finds ≡ 0 }
         ensures bare { IsBare self.new }
         ensures room { self.new.room ≡ self.old.room }
         ensures knows { (s : State) → HasRoom call.now self.old.room →
             KnowsNear call.now self.new s }
     {
         self.inquiry = AnyInquiry::begin(by, call);
+        self.finds = 0;
     }
 
     /// The inquiry, which is asked to decide once all is asked.
@@ -85,6 +91,13 @@ impl Questions {
         ensures { result.now ≡ self.now.inquiry }
     {
         &self.inquiry
+    }
+
+    /// The searches that it has begun since the call last began, one a question.
+    pub fn finds(&self) -> usize
+        ensures { result ≡ self.now.finds }
+    {
+        self.finds
     }
 
     /// The room, for the answer.
@@ -217,7 +230,8 @@ impl Questions {
         }
     }
 
-    /// The first step of the next question. Where it is blocked the question has not begun.
+    /// The first step of the next question. Where it is blocked the question has not begun, and its
+    /// search is not counted.
     fn ask<D: PageDevice, K: PseudoKey>(
         &mut self,
         pool: &mut Pool<D>,
@@ -239,13 +253,16 @@ impl Questions {
             return Progress::Ended;
         };
         let key = key_asked(wanted);
+        let finds = self.finds;
         self.question = Some(Question {
             access: Access::find(key, keys.of(&key)),
             told: false,
         });
+        self.finds = finds.saturating_add(1);
         let did = self.go_on(pool, locks, keys, seat, call);
         if is_blocked(did) {
             self.question = None;
+            self.finds = finds;
             return did;
         }
         did

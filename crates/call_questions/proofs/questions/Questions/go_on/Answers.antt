@@ -1,5 +1,5 @@
 -- The access makes its step, and the inquiry hears of it.
-use Rattle.std.proofs.Common.{sym, ap, ◌∙◌, subst, Option, IsSome}
+use Rattle.std.proofs.Common.{sym, ap, ◌∙◌, subst, IsSome}
 use Rattle.call_questions.specs.Questions.{QuestionsView, questions_locks}
 use Rattle.call_questions.proofs.OpenLemmas.{failed_in, under_in, went_in}
 use Rattle.call_questions.proofs.questions.Questions.go_on.Goals as goal
@@ -9,7 +9,8 @@ invariant_of-self g c =
     let row = c.requires.row ∙ sym (ap questions_locks c.self.view_is) in
     let some = subst (λ (v : QuestionsView). IsSome v.question) (sym c.self.view_is) c.requires.under_way in
     under_in (g.K.PseudoKey.of_key c.args.keys.now) c.args.seat c.args.call.now
-    c.self.inside.inquiry c.self.inside.room c.self.inside.names c.keep_order.ensures c.read-did.result c.args.pool.now
+    c.self.inside.inquiry c.self.inside.room c.self.inside.names c.self.inside.finds
+    c.keep_order.ensures c.read-did.result c.args.pool.now
     c.read-did.new.pool c.args.locks.now c.read-did.new.locks c.hear_of-heard.new.inquiry c.hear_of-heard.new.room
     c.hear_of-heard.result c.self.inside.question c.read-did.new.question c.hear_of-heard.new.question
     c.close.new.question some c.self.invariant row c.read-did.ensures c.hear_of-heard.ensures c.close.ensures
@@ -19,7 +20,8 @@ invariant_of-self-2 g c =
     let row = c.requires.row ∙ sym (ap questions_locks c.self.view_is) in
     let some = subst (λ (v : QuestionsView). IsSome v.question) (sym c.self.view_is) c.requires.under_way in
     under_in (g.K.PseudoKey.of_key c.args.keys.now) c.args.seat c.args.call.now
-    c.self.inside.inquiry c.self.inside.room c.self.inside.names c.keep_order.ensures c.read-did.result c.args.pool.now
+    c.self.inside.inquiry c.self.inside.room c.self.inside.names c.self.inside.finds
+    c.keep_order.ensures c.read-did.result c.args.pool.now
     c.read-did.new.pool c.args.locks.now c.read-did.new.locks c.hear_of-heard.new.inquiry c.hear_of-heard.new.room
     c.hear_of-heard.result c.self.inside.question c.read-did.new.question c.hear_of-heard.new.question
     c.close.new.question some c.self.invariant row c.read-did.ensures c.hear_of-heard.ensures c.close.ensures
@@ -29,7 +31,8 @@ returns g c =
     let row = c.requires.row ∙ sym (ap questions_locks c.self.view_is) in
     let some = subst (λ (v : QuestionsView). IsSome v.question) (sym c.self.view_is) c.requires.under_way in
     rw (← c.self.view_is) (went_in (g.K.PseudoKey.of_key c.args.keys.now) c.args.seat c.args.call.now
-    c.self.inside.inquiry c.self.inside.room c.self.inside.names c.keep_order.ensures c.read-did.result c.args.pool.now
+    c.self.inside.inquiry c.self.inside.room c.self.inside.names c.self.inside.finds
+    c.keep_order.ensures c.read-did.result c.args.pool.now
     c.read-did.new.pool c.args.locks.now c.read-did.new.locks c.hear_of-heard.new.inquiry c.hear_of-heard.new.room
     c.hear_of-heard.result c.self.inside.question c.read-did.new.question c.hear_of-heard.new.question
     c.close.new.question some c.self.invariant row c.read-did.ensures c.hear_of-heard.ensures c.close.ensures)
@@ -39,7 +42,8 @@ returns-in_default g c =
     let row = c.requires.row ∙ sym (ap questions_locks c.self.view_is) in
     let some = subst (λ (v : QuestionsView). IsSome v.question) (sym c.self.view_is) c.requires.under_way in
     rw (← c.self.view_is) (failed_in (g.K.PseudoKey.of_key c.args.keys.now) c.args.seat c.args.call.now
-    c.self.inside.inquiry c.self.inside.room c.self.inside.names c.keep_order.ensures c.read-did.result c.args.pool.now
+    c.self.inside.inquiry c.self.inside.room c.self.inside.names c.self.inside.finds
+    c.keep_order.ensures c.read-did.result c.args.pool.now
     c.read-did.new.pool c.args.locks.now c.read-did.new.locks c.hear_of-heard.new.inquiry c.hear_of-heard.new.room
     c.hear_of-heard.result c.self.inside.question c.read-did.new.question c.hear_of-heard.new.question
     c.close.new.question some c.self.invariant row c.read-did.ensures c.hear_of-heard.ensures c.close.ensures
