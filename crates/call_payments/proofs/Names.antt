@@ -7,3 +7,4 @@ pub use Rattle.xsi_remove.proofs.FreshLemmas.{nears_next, nears_with, no_more}
 pub use Rattle.xsi_remove.proofs.LawLemmas.{begins_right, ends_swept, has_few_steps}
 pub use Rattle.xsi_remove.specs.Deeds.{message_of}
 pub use Rattle.xsi_sweep.specs.Turns.{begun_turn}
+pub use Rattle.xsi_remove.specs.Sweeps.{begun_at}

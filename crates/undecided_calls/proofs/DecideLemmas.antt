@@ -1,8 +1,9 @@
 -- What a call has come to at its Decide.
-use Rattle.std.proofs.Common.{◌≡◌, refl, sym, ap, ◌∙◌, subst, ℕ, Bool, true, List, [], Option, Some, None, IsSome, if◌then◌else◌, take}
+use Rattle.std.proofs.Common.{◌≡◌, refl, sym, ap, ◌∙◌, subst, ℕ, Bool, true, List, [], Option, Some, None, Ok, IsSome, if◌then◌else◌, take}
 use Rattle.std.specs.List.{Contains}
 use Rattle.std.specs.Option.{is_some}
 use Rattle.std.specs.Prelude.{option_map, slice_get}
+use Rattle.any_inquiry.specs.Anything.{decided_of}
 use Rattle.call_writes.specs.declared.deed.Deed.TheVariants as deeds
 use Rattle.call_writes.specs.Views.{is_full_at}
 use Rattle.call_writes.specs.declared.due.Due.TheVariants.{Undoing, Writing}
@@ -15,6 +16,7 @@ use Rattle.undecided_calls.specs.Knowing.{IsAsking, IsOnTrial, IsTrying, standin
 use Rattle.undecided_calls.specs.Deciding.{IsDecidedIn, IsSettled, settled_in}
 use Rattle.undecided_calls.proofs.HeldLemmas.{is_among, no_first}
 use Rattle.undecided_calls.proofs.ReadyLemmas.{carries, may_write}
+use Rattle.undecided_calls.proofs.SweepLemmas.{sweeps_change}
 use Rattle.undecided_calls.proofs.Names.{agrees_itself}
 
 module _ (hash : RecordKey → ℕ) (seat : ℕ) (call : Call) (s : State) (q : QuestionsView) (records : Records)
@@ -34,10 +36,10 @@ module _ (hash : RecordKey → ℕ) (seat : ℕ) (call : Call) (s : State) (q : 
   no_trials none = no_first p.trials (ap is_some none)
 
   pub decides_untried : IsAsking hash seat call s q records pool locks change → AreNames q.names →
-      is_done call q ≡ true → slice_get p.trials 0 ≡ None → (decision : Decision) →
+      is_done call q ≡ true → slice_get p.trials 0 ≡ None → (decision : Decision) → decided_of call q.inquiry ≡ Ok decision →
       IsRight (caller_of q.inquiry) call (locked_of call q.inquiry) q.room.bytes s p decision →
       IsSettled hash seat call s q (settled_by stopped decision) untried records pool locks change
-  decides_untried a names done none decision right = record {
+  decides_untried a names done none decision value right = record {
     means = means_so decision right;
     place = 0;
     tried = refl;
@@ -47,6 +49,7 @@ module _ (hash : RecordKey → ℕ) (seat : ℕ) (call : Call) (s : State) (q : 
     alike = subst (λ (rs : List Record). AreAlike (names_in q.names) records (inserted rs (record_of s)))
         (sym (no_trials none)) a.alike;
     writes = may_write hash seat call s q records pool locks change a names done decision right (no_trials none);
+    sweeps = λ sweep is. sweeps_change call q.inquiry q.room.bytes s stopped decision value right sweep is;
   }
 
   -- ---- the trials are over
@@ -78,6 +81,7 @@ module _ (hash : RecordKey → ℕ) (seat : ℕ) (call : Call) (s : State) (q : 
       rests = over.rests;
       carries = is.carries;
       alike = all_there place due;
+      sweeps = λ sweep is_sweep. is.changes;
       writes = λ some. record {
         exclusive = exclusive;
         alike = λ key within. all_there place due key

@@ -1,21 +1,22 @@
 -- A call that has just begun.
-use Rattle.std.proofs.Common.{refl, sym, ap, ◌∙◌, subst, ◌≤◌, List, [], Option, IfSome, arith}
+use Rattle.std.proofs.Common.{refl, sym, ap, ◌∙◌, subst, ◌≤◌, List, [], Option, Some, None, IfSome, arith}
 use Rattle.std.specs.List.{Contains}
 use Rattle.call_questions.specs.declared.question.Question.{Question}
 use Rattle.call_questions.specs.Agreeing.{Agrees}
-use Rattle.call_questions.specs.Laws.{HaveFewSteps as QuestionsHaveFew}
+use Rattle.call_questions.specs.Laws.{BeginFewSearches as QuestionsBeginFew, HaveFewSteps as QuestionsHaveFew}
 use Rattle.call_questions.specs.Questions.{IsRightQuestion, facts_of, locks_behind}
 use Rattle.held_names.specs.Laws.{Begins}
 use Rattle.stale_search.specs.Steps.{Sees}
+use Rattle.xsi_inquiry.specs.Telling.{most_asked}
 use Rattle.undecided_calls.specs.declared.trials.Trials.{Trials}
 use Rattle.undecided_calls.specs.Words.{AreAlike, Known, Lock, LockName, guard_of, names_for, names_in, record_of, store_of}
 use Rattle.undecided_calls.specs.Undecided.{left_in}
 use Rattle.undecided_calls.specs.Knowing.{IsUndecidedIn}
-use Rattle.undecided_calls.specs.Laws.{BeginRight, HaveFewSteps, MOST_UNDECIDED_STEPS}
+use Rattle.undecided_calls.specs.Laws.{BeginFewSearches, BeginRight, HaveFewSteps, MOST_UNDECIDED_STEPS}
 
 pub few_steps : QuestionsHaveFew → HaveFewSteps
-few_steps few call u s fresh least =
-    let less = few call u.questions s fresh.bare.question fresh.bare.names least in
+few_steps few call u s fresh =
+    let less = few call u.questions s fresh.bare.question fresh.bare.names fresh.few in
     subst (λ (o : Option Trials). left_in call u.questions o s ≤ MOST_UNDECIDED_STEPS) (sym fresh.untried)
     (omega (arith, less))
 
@@ -34,6 +35,9 @@ begin_right hash seat call s u records pool locks change fresh knows row sees ag
               (sym question) tt;
           begins = λ none does keeps. subst (λ (ls : List Lock). Begins ls (names_for call u.questions.inquiry))
               (sym names) (names_for call u.questions.inquiry, refl);
+          few = let none = fresh.finds in
+              let few = fresh.few in
+              omega (arith, none, few);
         };
         sees = subst (λ (facts : List Known). Sees hash seat facts pool locks change) (sym (ap facts_of question)) sees;
         agrees = subst (λ (ls : List Lock). Agrees (names_in ls) (store_of pool.images) s) (sym names) agrees;
@@ -43,3 +47,11 @@ begin_right hash seat call s u records pool locks change fresh knows row sees ag
       alike = subst (λ (ls : List Lock). AreAlike (names_in ls) records (record_of s)) (sym names)
           (λ key within. absurd (none_in (guard_of key) within));
     })
+
+pub few_searches : QuestionsBeginFew → BeginFewSearches
+few_searches few hash seat call s u records pool locks change is = by u.trials is
+  where
+    by : (o : Option Trials) → IsUndecidedIn hash seat call s u.questions o records pool locks change →
+        u.questions.finds ≤ most_asked call
+    by None is = few hash call u.questions is.faces.right
+    by (Some t) is = is.finds

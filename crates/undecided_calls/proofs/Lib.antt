@@ -1,6 +1,7 @@
 pub mod Names
 pub mod HeldLemmas
 pub mod ReadyLemmas
+pub mod SweepLemmas
 pub mod BeginLemmas
 pub mod TryLemmas
 pub mod StepLemmas

@@ -4,6 +4,7 @@ pub use Rattle.call_decisions.proofs.SettleLemmas.{settles, tries_rightly}
 pub use Rattle.call_decisions.specs.Laws.{CanTry}
 pub use Rattle.call_names.proofs.NamesLemmas.{take_in_order}
 pub use Rattle.call_names.proofs.WriteLemmas.{write_under_names}
+pub use Rattle.call_questions.proofs.LeftLemmas.{few_searches}
 pub use Rattle.call_questions.proofs.PlanLemmas.{held_names}
 pub use Rattle.call_questions.proofs.TurnLemmas.{writes_none}
 pub use Rattle.call_questions.specs.Laws.{HoldsNames}
@@ -22,3 +23,7 @@ pub use Rattle.file_pages.specs.declared.fault.FileFault.{FileFault}
 pub use Rattle.xsi_inquiry.proofs.AgreeLemmas.{agrees_itself}
 pub use Rattle.xsi_inquiry.proofs.LeadLemmas.{same_keys}
 pub use Rattle.xsi_inquiry.specs.Owning.{IsUnder}
+pub use Rattle.call_questions.specs.declared.question.Question.{Question}
+pub use Rattle.call_writes.specs.Views.{decided_at, facts_under, is_full_at, locks_under, set_out, turn_under}
+pub use Rattle.call_writes.specs.declared.due.Due.TheVariants.{Writing}
+pub use Rattle.held_names.specs.NameSteps.{GivesBack, MakesNameStep}

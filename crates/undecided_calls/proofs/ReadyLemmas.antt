@@ -4,7 +4,7 @@ use Rattle.std.proofs.lemmas.Bool.{true≢false}
 use Rattle.std.proofs.lemmas.List.Elements.{All-nil, All-weaker}
 use Rattle.std.specs.List.{All, Contains}
 use Rattle.std.specs.Option.{is_some}
-use Rattle.undecided_calls.proofs.Names.{AreAbsent, HasRange, HoldsNames, IsUnder, OwnsPlan, Owns, StandsAt, Write, agrees_itself, changes_by, facts_of, few_of, has_asked, held_names, key_of, key_written, locks_behind, tries_rightly, writes_of, CanTry}
+use Rattle.undecided_calls.proofs.Names.{AreAbsent, HasRange, HoldsNames, IsUnder, OwnsPlan, Owns, StandsAt, Write, agrees_itself, changes_by, facts_of, few_of, has_asked, held_names, few_searches, key_of, key_written, locks_behind, tries_rightly, writes_of, CanTry}
 use Rattle.call_questions.specs.declared.question.Question.{Question}
 use Rattle.xsi_inquiry.specs.declared.decision.Decision.TheVariants as decisions
 use Rattle.undecided_calls.specs.Words.{AreAlike, AreNames, Call, Caller, Change, Decision, IsCarrying, IsRight, Known, LockName, Plan, PoolState, QuestionsView, Record, RecordKey, Records, State, Table, asked_of, caller_of, guard_of, inserted, is_done, locked_of, nothing, record_of, store_of}
@@ -138,9 +138,11 @@ module _ (hash : RecordKey → ℕ) (seat : ℕ) (call : Call) (s : State) (q : 
   begins_trying names done some = record {
     asked = none_asked call q done;
     rests = no_question call q done;
+    finds = few_searches hash call q a.faces.right;
     filed = a.faces.agrees.filed;
     knows = a.faces.knows;
     decision = decides;
+    changes = some;
     names = (needed call q done some).names;
     carries = carries hash seat call s q records pool locks change a names done decision right_here;
     on_trial = tt;

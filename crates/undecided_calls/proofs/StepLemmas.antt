@@ -15,7 +15,7 @@ use Rattle.call_questions.specs.Words.{Moved, Blocked}
 use Rattle.undecided_calls.specs.Undecided.{TRIAL_STEPS, its_plan, undecided_facts, untried}
 use Rattle.undecided_calls.specs.Knowing.{IsAsking, IsDecision, IsTrying}
 use Rattle.undecided_calls.specs.UndecidedSteps.{GoesOn, MakesUndecided}
-use Rattle.undecided_calls.proofs.ReadyLemmas.{begins_trying}
+use Rattle.undecided_calls.proofs.ReadyLemmas.{begins_trying, no_question}
 use Rattle.undecided_calls.proofs.TryLemmas.{elsewhere_of, stand_on, stays_on}
 
 -- ---- steps that are left
@@ -71,6 +71,8 @@ module _ (hash : RecordKey → ℕ) (seat : ℕ) (call : Call) (q : QuestionsVie
         caller = aim.caller;
         ended = (λ e. absurd (goes_on e), λ can. absurd (true≢false (sym can.0 ∙ asks)));
         rests = λ e. absurd (goes_on e);
+        most = aim.most;
+        calm = λ calm. tt;
       };
       row = row;
       progress = λ s records change a.
@@ -99,7 +101,13 @@ module _ (hash : RecordKey → ℕ) (seat : ℕ) (call : Call) (q : QuestionsVie
       slice_get p.trials 0 ≡ None → MakesUndecided hash seat call Ended asking asking pool pool locks locks
   rests ready row done none = record {
     writes = writes_none pool ready;
-    aim = record { caller = refl; ended = (λ e. (done, none), λ can. refl); rests = λ e. refl };
+    aim = record {
+      caller = refl;
+      ended = (λ e. (done, none), λ can. refl);
+      rests = λ e. refl;
+      most = refl;
+      calm = λ calm. calm;
+    };
     row = own_row row;
     progress = λ s records change a. tt;
     step = λ s records change a fine. record {
@@ -144,6 +152,8 @@ module _ (hash : RecordKey → ℕ) (seat : ℕ) (call : Call) (q : QuestionsVie
       caller = made.aim.caller;
       ended = (λ e. absurd (ended_not e), λ can. absurd (not_over r some can.1));
       rests = λ e. absurd (ended_not e);
+      most = made.aim.most;
+      calm = λ calm. made.aim.calm (no_question call q done);
     };
     row = made.row;
     progress = λ s records change a.
@@ -208,9 +218,11 @@ module _ (hash : RecordKey → ℕ) (seat : ℕ) (call : Call) (q : QuestionsVie
       tries_on = record {
         asked = is.asked;
         rests = is.rests;
+        finds = is.finds;
         filed = is.filed;
         knows = is.knows;
         decision = is.decision;
+        changes = is.changes;
         names = is.names;
         carries = on.carries;
         on_trial = stays_on p did t.writes.due w.due aim.due is.on_trial;
@@ -236,6 +248,8 @@ module _ (hash : RecordKey → ℕ) (seat : ℕ) (call : Call) (q : QuestionsVie
         caller = refl;
         ended = aim.ended;
         rests = λ e. ap (λ (x : CallWrites). trying (record { writes = x; decision = t.decision })) (aim.rests e);
+        most = refl;
+        calm = λ calm. calm;
       };
       row = follows q.names names.no_file row;
       progress = λ s records change is. progress q.names records change is.carries;

@@ -2,9 +2,10 @@
 use Rattle.std.specs.Prelude.{ℕ, ◌≡◌, ◌≢◌, Bool, Option, Some, None, if◌then◌else◌}
 use Rattle.std.specs.List.{Contains}
 use Rattle.call_writes.specs.declared.writes.CallWrites.{CallWrites}
+use Rattle.call_decisions.specs.declared.settled.Settled.TheVariants.{Sweeps}
 use Rattle.undecided_calls.specs.declared.decided.Decided.{Decided}
 use Rattle.undecided_calls.specs.declared.trials.Trials.{Trials}
-use Rattle.undecided_calls.specs.Words.{AreAlike, Call, Change, Exclusive, Full, IsCarrying, LockName, Means, PoolState, QuestionsView, RecordKey, Records, Settled, State, Table, Trying, caller_of, inserted, is_full, kind_of, locked_of, names_in, next_deed, nothing, record_of, settled_by}
+use Rattle.undecided_calls.specs.Words.{AreAlike, Call, Change, Exclusive, Full, IsCarrying, LockName, Means, PoolState, QuestionsView, RecordKey, Records, Settled, State, Sweep, Table, Trying, caller_of, inserted, is_full, kind_of, locked_of, names_in, next_deed, nothing, record_of, settled_by}
 use Rattle.undecided_calls.specs.Undecided.{its_plan}
 
 -- it is to write: each name under which it does is held Exclusive, and under these, too, stand the records of s with
@@ -26,6 +27,8 @@ pub record IsSettled (hash : RecordKey → ℕ) (seat : ℕ) (call : Call) (s : 
   -- under its names stand the records of s with all trials inserted
   pub alike : AreAlike (names_in q.names) records (inserted (its_plan call q).trials (record_of s))
   pub writes : its_plan call q ≢ nothing → MayWrite call s q records
+  -- behind a sweep something is written
+  pub sweeps : (sweep : Sweep) → settled ≡ Sweeps sweep → its_plan call q ≢ nothing
 
 -- a trial has no room: those that stand are to go again
 pub record IsShortOfRoom (hash : RecordKey → ℕ) (seat : ℕ) (call : Call) (q : QuestionsView) (trials : CallWrites)

@@ -1,10 +1,11 @@
 -- A call up to its Decide: what it holds, knows, asks for and owes. docs/STEPS.md, "Calls".
-use Rattle.std.specs.Prelude.{ℕ, ◌≡◌, ◌+◌, ◌*◌, Bool, true, List, [], Option, Some, None, if◌then◌else◌, slice_get}
+use Rattle.std.specs.Prelude.{ℕ, ◌≡◌, ◌≤◌, ◌+◌, ◌*◌, Bool, true, List, [], Option, Some, None, if◌then◌else◌, slice_get, ⊤}
 use Rattle.call_writes.specs.declared.writes.CallWrites.{CallWrites}
 use Rattle.xsi_inquiry.specs.declared.write.TheConstants.{MAX_TRIALS}
+use Rattle.xsi_inquiry.specs.Telling.{most_asked}
 use Rattle.undecided_calls.specs.declared.trials.Trials.{Trials}
 use Rattle.undecided_calls.specs.declared.undecided.UndecidedCall.{UndecidedCall}
-use Rattle.undecided_calls.specs.Words.{Call, IsBare, IsOver, Known, Lock, MOST_STEPS, Owes, Plan, QuestionsView, RecordKey, Store, Trying, Turn, Writes, is_done, is_full, owes, plan_of, questions_facts, questions_left, questions_locks, questions_turn, writes_facts, writes_left_in, writes_locks, writes_turn}
+use Rattle.undecided_calls.specs.Words.{Call, IsBare, IsOver, Known, Lock, MOST_STEPS, Owes, Plan, QuestionsView, RecordKey, Store, Trying, Turn, Writes, is_done, is_full, left_of, owes, plan_of, questions_facts, questions_left, questions_locks, questions_turn, writes_facts, writes_left_in, writes_locks, writes_turn}
 
 -- the plan of its inquiry where that has come
 abbrev pub its_plan : Call → QuestionsView → Plan
@@ -79,11 +80,23 @@ CanDecideIn call q (Some t) = IsOver (its_plan call q) t.writes
 abbrev pub CanDecide : Call → UndecidedCall → Type 0
 CanDecide call u = CanDecideIn call u.questions u.trials
 
+-- no question is under way while it tries
+abbrev pub IsCalmIn : QuestionsView → Option Trials → Type 0
+IsCalmIn q None = ⊤
+IsCalmIn q (Some t) = q.question ≡ None
+
+abbrev pub IsCalm : UndecidedCall → Type 0
+IsCalm u = IsCalmIn u.questions u.trials
+
 -- a trial has no room
 abbrev pub has_no_room : UndecidedCall → Bool
 has_no_room u = is_full (trials_of u)
 
 -- it has just begun, or begins anew: it holds nothing, and has asked and tried nothing
-pub record IsFresh (u : UndecidedCall) : Type 0 where
+pub record IsFresh (call : Call) (u : UndecidedCall) : Type 0 where
   pub bare : IsBare u.questions
   pub untried : u.trials ≡ None
+  -- no search has begun
+  pub finds : u.questions.finds ≡ 0
+  -- no more questions are left than it may ask
+  pub few : left_of call u.questions.inquiry ≤ most_asked call

@@ -4,7 +4,7 @@ use Rattle.file_pages.specs.declared.fault.FileFault.{FileFault}
 use Rattle.undecided_calls.specs.declared.trials.Trials.{Trials}
 use Rattle.undecided_calls.specs.declared.undecided.UndecidedCall.{UndecidedCall}
 use Rattle.undecided_calls.specs.Words.{Call, Change, Ended, Exclusive, IsRightSoFar, KnowsNear, NearsOrSpares, OnlyWrites, PoolState, Progress, QuestionsView, RecordKey, Records, State, Step, Table, TrialLacksRoom, caller_of, guard_of, is_fault, is_write, kind_of, overlaid, store_of, with_row, world}
-use Rattle.undecided_calls.specs.Undecided.{CanDecide, has_no_room, its_plan, trials_of, undecided_facts, undecided_left, undecided_locks, undecided_owes, undecided_turn}
+use Rattle.undecided_calls.specs.Undecided.{CanDecide, IsCalm, has_no_room, its_plan, trials_of, undecided_facts, undecided_left, undecided_locks, undecided_owes, undecided_turn}
 use Rattle.undecided_calls.specs.Knowing.{IsTrying, IsUndecided}
 
 -- ---- whatever the device gives
@@ -14,6 +14,9 @@ pub record KeepsUndecided {F : Type 0} (call : Call) (did : Progress F) (old new
   -- it has ended just where it can decide, and stays so
   pub ended : (did ≡ Ended) ↔ CanDecide call old
   pub rests : did ≡ Ended → new ≡ old
+  -- the room has room for as many bytes
+  pub most : new.questions.room.most ≡ old.questions.room.most
+  pub calm : IsCalm old → IsCalm new
 
 -- ---- on an honest device, in a sound world
 

@@ -1,7 +1,8 @@
 -- Words of the crates below, under one name.
 pub use Rattle.call_decisions.specs.Settling.{AreAlike, IsRight, Means, settled_by}
 pub use Rattle.call_decisions.specs.declared.settled.Settled.{Settled}
-pub use Rattle.call_questions.specs.Words.{AnyInquiry, AreNames, Call, Caller, IsFiled, KnowsOf, LockName, NotASystem, Roomful, State, asked_of, caller_of, left_of, names_for, names_in, plan_of, record_of}
+pub use Rattle.call_questions.specs.Agreeing.{Agrees}
+pub use Rattle.call_questions.specs.Words.{AnyInquiry, AreNames, Blocked, MAX_NAMES, Call, Caller, IsFiled, KnowsOf, LockName, NotASystem, Roomful, State, asked_of, caller_of, left_of, names_for, names_in, plan_of, record_of}
 pub use Rattle.call_questions.specs.Questions.{IsBare, KnowsNear, QuestionsView, is_done, questions_facts, questions_left, questions_locks, questions_turn}
 pub use Rattle.call_questions.specs.Questions.{IsRight as IsRightSoFar}
 pub use Rattle.call_writes.specs.Carrying.{IsCarrying}
@@ -16,3 +17,5 @@ pub use Rattle.page_locks.specs.Table.{with_row}
 pub use Rattle.page_locks.specs.declared.lock.LockKind.TheVariants.{Exclusive}
 pub use Rattle.xsi_inquiry.specs.Writing.{inserted, nothing}
 pub use Rattle.xsi_inquiry.specs.declared.decision.Decision.{Decision}
+pub use Rattle.xsi_inquiry.specs.declared.decision.Sweep.{Sweep}
+pub use Rattle.stale_search.specs.Steps.{Sees}

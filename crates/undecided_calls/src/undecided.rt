@@ -3,9 +3,9 @@
 ghost use Rattle.std.specs.Prelude.{◌≡◌, ◌≤◌, ℕ, IfOk, IsSome, None, false, true, not};
 ghost use Rattle.held_names.specs.NameSteps.{GivesBack, MakesNameStep};
 ghost use Rattle.xsi_inquiry.specs.Rooms.{HasRoom};
-ghost use Rattle.xsi_inquiry.specs.Telling.{Gives, most_asked};
-ghost use Rattle.undecided_calls.specs.Words.{Change, IsBare, IsReady, IsSeat, KnowsNear, NearsOrSpares, OnlyWrites, PoolState, RecordKey, Records, State, Table, caller_of, is_done, is_fault, left_of, plan_of, row_of, store_of, with_row};
-ghost use Rattle.undecided_calls.specs.Undecided.{CanDecide, IsFresh, undecided_left, undecided_locks};
+ghost use Rattle.xsi_inquiry.specs.Telling.{Gives};
+ghost use Rattle.undecided_calls.specs.Words.{Change, IsBare, IsReady, IsSeat, KnowsNear, NearsOrSpares, OnlyWrites, PoolState, RecordKey, Records, State, Table, caller_of, is_done, is_fault, plan_of, row_of, store_of, with_row};
+ghost use Rattle.undecided_calls.specs.Undecided.{CanDecide, IsFresh, trials_of, undecided_left, undecided_locks};
 ghost use Rattle.undecided_calls.specs.Knowing.{IsUndecided};
 ghost use Rattle.undecided_calls.specs.UndecidedSteps.{GoesOn, KeepsUndecided, MakesUndecided};
 ghost use Rattle.undecided_calls.specs.Deciding.{IsDecided};
@@ -37,8 +37,7 @@ impl UndecidedCall {
     /// A call that begins. The bytes that it is answered have this room.
     pub fn begin(by: Caller, call: &Call, room: Room) -> UndecidedCall
         ensures caller { caller_of result.questions.inquiry ≡ by }
-        ensures few { left_of call.now result.questions.inquiry ≤ most_asked call.now }
-        ensures fresh { IsFresh result }
+        ensures fresh { IsFresh call.now result }
         ensures room { result.questions.room ≡ room }
         ensures knows { (s : State) → HasRoom call.now room →
             KnowsNear call.now result.questions s }
@@ -53,8 +52,7 @@ impl UndecidedCall {
     pub fn begin_again(&mut self, by: Caller, call: &Call)
         requires { IsBare self.old.questions }
         ensures caller { caller_of self.new.questions.inquiry ≡ by }
-        ensures few { left_of call.now self.new.questions.inquiry ≤ most_asked call.now }
-        ensures fresh { IsFresh self.new }
+        ensures fresh { IsFresh call.now self.new }
         ensures room { self.new.questions.room ≡ self.old.questions.room }
         ensures knows { (s : State) → HasRoom call.now self.old.questions.room →
             KnowsNear call.now self.new.questions s }
@@ -146,7 +144,7 @@ impl UndecidedCall {
         // whatever the device gives
         ensures questions { self.new.questions ≡ self.old.questions }
         ensures untried { self.new.trials ≡ None }
-        ensures rests { IfOk result (λ decided. decided.trials.access ≡ None) }
+        ensures trials { IfOk result (λ decided. decided.trials ≡ trials_of self.old) }
         // on an honest device, in a sound world
         ensures decided { (hash : RecordKey → ℕ) (seat : ℕ) (s : State) (records : Records)
             (pool : PoolState) (locks : Table) (change : Change) →

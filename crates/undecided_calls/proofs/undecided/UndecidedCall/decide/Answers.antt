@@ -1,8 +1,9 @@
 -- What it comes to where nothing was inserted on trial, and by its trials.
-use Rattle.std.proofs.Common.{sym, ◌∙◌, subst, Option}
+use Rattle.std.proofs.Common.{◌≡◌, sym, ◌∙◌, subst, Option, Ok}
+use Rattle.any_inquiry.specs.Anything.{decided_of}
 use Rattle.call_writes.specs.declared.writes.CallWrites.{CallWrites}
 use Rattle.undecided_calls.specs.declared.trials.Trials.{Trials}
-use Rattle.undecided_calls.specs.Words.{Settled}
+use Rattle.undecided_calls.specs.Words.{AnyInquiry, Settled}
 use Rattle.undecided_calls.specs.Undecided.{CanDecideIn, untried}
 use Rattle.undecided_calls.specs.Knowing.{IsUndecidedIn}
 use Rattle.undecided_calls.specs.Deciding.{IsDecidedIn, IsSettled}
@@ -24,8 +25,10 @@ returns-in_default-clause-decided c = λ hash seat s records pool locks change i
     let decision = c.in_ok-decision.decision in
     let decides = decision_of call q c.inquiry.result.now c.inquiry.ensures c.decide.result c.decide.ensures.right
     decision c.in_ok-decision.was in
+    let value = subst (λ (i : AnyInquiry). decided_of c.args.call.now i ≡ Ok c.in_ok-decision.decision)
+    c.inquiry.ensures (sym c.decide.ensures.value ∙ c.in_ok-decision.was) in
     let settles = decides_untried hash seat call s q records pool locks change c.args.stopped mark asking
-    c.keep_order.ensures done idle decision
+    c.keep_order.ensures done idle decision value
     (right_here hash seat call s q records pool locks change asking decision decides) in
     subst (λ (w : CallWrites). IsSettled hash seat c.args.call.now s c.args.self.now.questions c.of.result w records
     pool locks change) (sym (new_is c.new.result c.new.ensures.due c.new.ensures.rests))

@@ -1,0 +1,91 @@
+-- A step of what a call asks and tries.
+use Rattle.std.proofs.Common.{◌≡◌, refl, sym, ap, ◌∙◌, subst, ℕ, Bool, true, false, not, arith}
+use Rattle.std.proofs.lemmas.Bool.{true≢false}
+use Rattle.xsi_calls.proofs.Names.{FileFault, nears_with}
+use Rattle.xsi_calls.specs.declared.stage.Stage.{Stage}
+use Rattle.xsi_calls.specs.declared.stage.Stage.TheVariants.{Undecided, Paying, Releasing}
+use Rattle.xsi_calls.specs.Words.{Blocked, Call, Caller, Change, Ended, Fault, GoesOn, IsUndecided, Moved, NearsOrSpares, OnlyWrites, PoolState, Progress, RecordKey, Records, State, Table, UndecidedCall, is_fault, store_of, undecided_left, undecided_locks, with_row}
+use Rattle.xsi_calls.specs.Machine.{CallView, STEPS_FROM_DECIDE, is_undecided}
+use Rattle.xsi_calls.specs.CallSteps.{MakesCall, is_end}
+
+abbrev pub asking : Caller → Call → UndecidedCall → CallView
+asking caller call u = record { caller = caller; call = call; undecided = u; stage = Undecided }
+
+pub goes_on : (hash : RecordKey → ℕ) (seat : ℕ) (stopped : Bool) (caller : Caller) (call : Call)
+    (u u' : UndecidedCall) (did : Progress FileFault) (pool pool' : PoolState) (locks locks' : Table) →
+    (did ≡ Ended → ⊥) → OnlyWrites (not (is_fault did)) pool pool' →
+    locks' ≡ with_row locks seat (undecided_locks u') →
+    ((s : State) (records : Records) (change : Change) → IsUndecided hash seat call s u records pool locks change →
+    NearsOrSpares did (undecided_left call u (store_of pool.images)) (undecided_left call u' (store_of pool'.images))
+    pool pool') →
+    ((s : State) (records : Records) (change : Change) → IsUndecided hash seat call s u records pool locks change →
+    is_fault did ≡ false → GoesOn hash seat call s did u u' records pool pool' locks locks' change) →
+    MakesCall hash seat stopped did (asking caller call u) (asking caller call u') pool pool' locks locks'
+goes_on hash seat stopped caller call u u' did pool pool' locks locks' more writes row progress step = record {
+  writes = writes;
+  aim = record {
+    caller = refl;
+    call = refl;
+    decides = λ none some. absurd cc;
+    stays = λ c is. absurd cc;
+    bytes = λ some. absurd cc;
+    ended = (λ e. absurd (more e), λ over. absurd over);
+    over = λ e. absurd (more e);
+  };
+  row = row;
+  progress = λ s records change is mark.
+      nears_with did (undecided_left call u (store_of pool.images)) (undecided_left call u' (store_of pool'.images))
+      STEPS_FROM_DECIDE STEPS_FROM_DECIDE pool pool' (omega arith) (progress s records change is);
+  step = λ s records change is mark fine.
+      let on = step s records change is fine in record {
+        step = on.step;
+        after = on.after;
+        still = on.still;
+        elsewhere = on.elsewhere;
+        owed = λ same key. on.owed key;
+        concludes = λ none c is_so. absurd cc;
+        behind = on.behind;
+        full = on.full;
+      };
+}
+
+-- ---- from its place
+
+pub not_end : (did : Progress FileFault) → is_end did ≡ false → did ≡ Ended → ⊥
+not_end did more e = true≢false (sym (ap is_end e) ∙ more)
+
+pub at_end : (did : Progress FileFault) → is_end did ≡ true → did ≡ Ended
+at_end (Moved kind) is = absurd cc
+at_end (Blocked other) is = absurd cc
+at_end (Fault fault) is = absurd cc
+at_end Ended is = refl
+
+pub at_undecided : (stage : Stage) → is_undecided stage ≡ true → stage ≡ Undecided
+at_undecided Undecided is = refl
+at_undecided (Paying v conclusion) is = absurd cc
+at_undecided (Releasing conclusion) is = absurd cc
+
+abbrev pub with_stage : Caller → Call → UndecidedCall → Stage → CallView
+with_stage caller call u stage = record { caller = caller; call = call; undecided = u; stage = stage }
+
+pub goes_from : (hash : RecordKey → ℕ) (seat : ℕ) (stopped : Bool) (caller : Caller) (call : Call)
+    (u u' : UndecidedCall) (stage : Stage) (now : CallView) → with_stage caller call u stage ≡ now →
+    is_undecided now.stage ≡ true → (did : Progress FileFault) (pool pool' : PoolState) (locks locks' : Table) →
+    is_end did ≡ false → OnlyWrites (not (is_fault did)) pool pool' →
+    locks' ≡ with_row locks seat (undecided_locks u') →
+    ((s : State) (records : Records) (change : Change) → IsUndecided hash seat call s u records pool locks change →
+    NearsOrSpares did (undecided_left call u (store_of pool.images)) (undecided_left call u' (store_of pool'.images))
+    pool pool') →
+    ((s : State) (records : Records) (change : Change) → IsUndecided hash seat call s u records pool locks change →
+    is_fault did ≡ false → GoesOn hash seat call s did u u' records pool pool' locks locks' change) →
+    MakesCall hash seat stopped did now (with_stage caller call u' stage) pool pool' locks locks'
+goes_from hash seat stopped caller call u u' stage now view undecided did pool pool' locks locks' more writes row
+    progress step =
+    subst (λ (m : CallView). MakesCall hash seat stopped did m (with_stage caller call u' stage) pool pool' locks locks')
+    view
+    (subst (λ (x : Stage). MakesCall hash seat stopped did (with_stage caller call u x) (with_stage caller call u' x)
+    pool pool' locks locks') (sym there)
+    (goes_on hash seat stopped caller call u u' did pool pool' locks locks' (not_end did more) writes row progress step))
+  where
+    there : stage ≡ Undecided
+    there = at_undecided stage (subst (λ (m : CallView). is_undecided m.stage ≡ true) (sym view) undecided)

@@ -1,0 +1,256 @@
+-- A step of what a call owes, and the first name that is given back behind the last one.
+use Rattle.std.proofs.Common.{◌≡◌, refl, sym, ap, ◌∙◌, subst, ℕ, ◌+◌, Bool, true, false, not, List, [], Option, None, length, arith}
+use Rattle.std.proofs.lemmas.Bool.{true≢false}
+use Rattle.step_rules.specs.Does.{KeepsOthers}
+use Rattle.step_rules.specs.Turns.{TurnsAt, no_ask}
+use Rattle.xsi_calls.proofs.Names.{AccessView, Deed, FileFault, FollowsRow, facts_under, locks_under, next_deed, set_out, turn_under, nears_with, owes_nothing_at_end, row_of-same, with_row-twice}
+use Rattle.call_payments.specs.declared.payment.Stage.TheVariants as stages
+use Rattle.xsi_calls.specs.declared.conclusion.Conclusion.{Conclusion}
+use Rattle.xsi_calls.specs.declared.stage.Stage.{Stage}
+use Rattle.xsi_calls.specs.declared.stage.Stage.TheVariants.{Paying, Releasing}
+use Rattle.xsi_calls.proofs.GoLemmas.{at_end, not_end, with_stage}
+use Rattle.xsi_calls.specs.Words.{AreNames, Blocked, Call, Caller, Change, Ended, Fault, IsPaid, IsPaying, IsSeat, KeepsPayment, Known, Lock, Moved, NearsOrSpares, OnlyWrites, PaymentStage, Pays, Plan, PoolState, Progress, QuestionsView, RecordKey, Records, Sees, State, Store, Table, Turn, UndecidedCall, World, is_fault, its_plan, TrialLacksRoom, trials_of, payment_facts, payment_left, payment_locks, payment_turn, row_of, store_of, with_row, world}
+use Rattle.xsi_calls.specs.Machine.{CallView, call_left, call_locks}
+use Rattle.xsi_calls.specs.Calling.{IsReleasing}
+use Rattle.xsi_calls.specs.CallSteps.{MakesCall, MakesRelease, StepsCall, is_end}
+
+-- ---- nothing is left to do
+
+paid_locks : (p : Plan) (v : PaymentStage) (names : List Lock) → IsPaid p v → payment_locks v names ≡ names
+paid_locks p (stages.Sweeping v) names paid = absurd paid
+paid_locks p (stages.Writing w) names paid = ap (λ (o : Option AccessView). locks_under o names) paid.rests
+
+paid_facts : (p : Plan) (v : PaymentStage) → IsPaid p v → payment_facts v ≡ []
+paid_facts p (stages.Sweeping v) paid = absurd paid
+paid_facts p (stages.Writing w) paid = ap facts_under paid.rests
+
+paid_turn : (hash : RecordKey → ℕ) (p : Plan) (v : PaymentStage) (s : Store) → IsPaid p v →
+    payment_turn hash p v s ≡ no_ask
+paid_turn hash p (stages.Sweeping v) s paid = absurd paid
+paid_turn hash p (stages.Writing w) s paid =
+    ap (λ (o : Option AccessView). turn_under (set_out hash (next_deed p w.due) o) s) paid.rests
+    ∙ ap (λ (d : Option Deed). turn_under (set_out hash d None) s) paid.last
+
+paid_sees : (hash : RecordKey → ℕ) (seat : ℕ) (names : List Lock) (p : Plan) (v : PaymentStage) (records : Records)
+    (pool : PoolState) (locks : Table) (change : Change) → IsPaid p v →
+    IsPaying hash seat names p v records pool locks change → Sees hash seat [] pool locks change
+paid_sees hash seat names p (stages.Sweeping v) records pool locks change paid is = absurd paid
+paid_sees hash seat names p (stages.Writing w) records pool locks change paid is =
+    subst (λ (facts : List Known). Sees hash seat facts pool locks change) (ap facts_under paid.rests) is.carries.sees
+
+nears_release : (did : Progress FileFault) (left names names' : ℕ) (pool pool' : PoolState) → is_fault did ≡ false →
+    NearsOrSpares did names names' pool' pool' → NearsOrSpares did (left + names) names' pool pool'
+nears_release (Moved kind) left names names' pool pool' fine near = omega (arith, near)
+nears_release (Blocked other) left names names' pool pool' fine near = tt
+nears_release (Fault fault) left names names' pool pool' fine near = absurd cc
+nears_release Ended left names names' pool pool' fine near = tt
+
+-- ---- a step
+
+module _ (hash : RecordKey → ℕ) (seat : ℕ) (caller : Caller) (call : Call) (u : UndecidedCall)
+    (conclusion : Conclusion) (ordered : AreNames u.questions.names) where
+  abbrev p : Plan
+  p = its_plan call u.questions
+
+  abbrev names : List Lock
+  names = u.questions.names
+
+  abbrev pub paying : PaymentStage → CallView
+  paying v = record { caller = caller; call = call; undecided = u; stage = Paying v conclusion }
+
+  abbrev pub paid : CallView
+  paid = record { caller = caller; call = call; undecided = u; stage = Releasing conclusion }
+
+  module _ (v v' : PaymentStage) (did : Progress FileFault) (pool pool' : PoolState) (locks locks' : Table)
+      (row : row_of locks seat ≡ payment_locks v names) (writes : OnlyWrites (not (is_fault did)) pool pool')
+      (aim : KeepsPayment p did v v') (follows : FollowsRow seat (payment_locks v) (payment_locks v') locks locks')
+      (progress : (held : List Lock) (records : Records) (change : Change) →
+      IsPaying hash seat held p v records pool locks change →
+      NearsOrSpares did (payment_left p v (store_of pool.images)) (payment_left p v' (store_of pool'.images)) pool
+      pool')
+      (step : (held : List Lock) (records : Records) (change : Change) →
+      IsPaying hash seat held p v records pool locks change → is_fault did ≡ false →
+      Pays hash seat held p did v v' records pool pool' locks locks' change) where
+    row_on : locks' ≡ with_row locks seat (payment_locks v' names)
+    row_on = follows names ordered.no_file row
+
+    -- ---- it goes on
+
+    pub pays_on : (did ≡ Ended → ⊥) → (stopped : Bool) →
+        MakesCall hash seat stopped did (paying v) (paying v') pool pool' locks locks'
+    pays_on more stopped = record {
+      writes = writes;
+      aim = record {
+        caller = refl;
+        call = refl;
+        decides = λ none some. absurd cc;
+        stays = λ c is. is;
+        bytes = λ some. refl;
+        ended = (λ e. absurd (more e), λ over. absurd (more (aim.ended.1 over.0)));
+        over = λ e. absurd (more e);
+      };
+      row = row_on;
+      progress = λ s records change is mark.
+          nears_with did (payment_left p v (store_of pool.images)) (payment_left p v' (store_of pool'.images))
+          (length names) (length names) pool pool' (omega arith) (progress names records change is);
+      step = λ s records change is mark fine.
+          let on = step names records change is fine in record {
+            step = on.step;
+            after = on.after;
+            still = on.still;
+            elsewhere = on.elsewhere;
+            owed = λ same key. on.owed key;
+            concludes = λ none c is_so. absurd cc;
+            behind = on.pays;
+            full = λ before full. absurd (true≢false (sym full ∙ before));
+          };
+    }
+
+    -- ---- it has ended
+
+    module _ (is : did ≡ Ended) (seated : IsSeat locks seat) where
+      all_paid : IsPaid p v
+      all_paid = aim.ended.0 is
+
+      rests : v' ≡ v
+      rests = aim.rests is
+
+      row_now : locks' ≡ with_row locks seat names
+      row_now = row_on ∙ ap (λ (x : PaymentStage). with_row locks seat (payment_locks x names)) rests
+          ∙ ap (with_row locks seat) (paid_locks p v names all_paid)
+
+      pub row_paid : row_of locks' seat ≡ names
+      row_paid = ap (λ (t : Table). row_of t seat) row_now ∙ row_of-same locks seat names seated
+
+      first : OnlyWrites true pool pool'
+      first = subst (λ (d : Progress FileFault). OnlyWrites (not (is_fault d)) pool pool') is writes
+
+      module _ (records : Records) (change : Change) (y : IsPaying hash seat names p v records pool locks change)
+        where
+          on : Pays hash seat names p did v v' records pool pool' locks locks' change
+          on = step names records change y (ap is_fault is)
+
+          same : world pool'.images locks' on.step.after ≡ world pool.images locks change
+          same = subst (λ (d : Progress FileFault). TurnsAt hash (payment_turn hash p v (store_of pool.images)) d seat
+              (world pool.images locks change) (world pool'.images locks' on.step.after)) is on.step.does
+
+          releasing : IsReleasing hash seat names pool' locks' on.step.after
+          releasing = record {
+            sees = paid_sees hash seat names p v on.after pool' locks' on.step.after all_paid
+                (subst (λ (x : PaymentStage). IsPaying hash seat names p x on.after pool' locks' on.step.after) rests
+                on.pays);
+            row = row_paid;
+          }
+
+          module _ (s : State) (did2 : Progress FileFault) (m : CallView) (locks2 : Table)
+              (r : StepsCall hash seat s did2 paid m records pool' pool' locks' locks2 on.step.after) where
+            both : StepsCall hash seat s did2 (paying v) m records pool pool' locks locks2 change
+            both = record {
+              step = record {
+                after = r.step.after;
+                file = r.step.file;
+                others = subst (λ (w : World). KeepsOthers hash seat w (world pool'.images locks2 r.step.after)) same
+                    r.step.others;
+                known = r.step.known;
+                does = subst (λ (t : Turn). TurnsAt hash t did2 seat (world pool.images locks change)
+                    (world pool'.images locks2 r.step.after))
+                    (sym (paid_turn hash p v (store_of pool.images) all_paid))
+                    (subst (λ (w : World). TurnsAt hash no_ask did2 seat w (world pool'.images locks2 r.step.after)) same
+                    r.step.does);
+              };
+              after = r.after;
+              still = r.still;
+              elsewhere = r.elsewhere;
+              owed = λ kept key. r.owed kept key
+                  ∙ sym (owes_nothing_at_end hash seat names p v records pool locks change y all_paid key);
+              concludes = λ none c is_so. absurd cc;
+              behind = r.behind;
+              full = λ before full. subst (λ (w : World). TrialLacksRoom hash p (trials_of u).due
+                  (world pool'.images locks2 w.change)) same (r.full before full);
+            }
+
+      pub then_released : (did2 : Progress FileFault) (m : CallView) (locks2 : Table) →
+          MakesRelease seat did2 paid m locks' locks2 → (stopped : Bool) →
+          MakesCall hash seat stopped did2 (paying v) m pool pool' locks locks2
+      then_released did2 m locks2 released stopped =
+          let r = released.makes hash stopped pool' first.ready in record {
+            writes = record {
+              ready = first.ready;
+              honest = first.honest;
+              later = first.later;
+              file = λ honest done file. first.file honest refl file;
+            };
+            aim = record {
+              caller = r.aim.caller;
+              call = r.aim.call;
+              decides = λ none some. absurd cc;
+              stays = r.aim.stays;
+              bytes = r.aim.bytes;
+              ended = (λ e. (all_paid, r.aim.ended.0 e), λ over. r.aim.ended.1 over.1);
+              over = r.aim.over;
+            };
+            row = r.row ∙ ap (λ (t : Table). with_row t seat (call_locks m)) row_now
+                ∙ with_row-twice locks seat names (call_locks m);
+            progress = λ s records change y mark.
+                nears_release did2 (payment_left p v (store_of pool.images)) (length names)
+                (call_left m (store_of pool'.images)) pool pool' released.fine
+                (r.progress s records (on records change y).step.after (releasing records change y) mark);
+            step = λ s records change y mark fine.
+                both records change y s did2 m locks2
+                (r.step s records (on records change y).step.after (releasing records change y) mark fine);
+          }
+
+-- ---- from its place
+
+-- a step of a payment by this plan
+pub record StepsPayment (hash : RecordKey → ℕ) (seat : ℕ) (x : Plan) (did : Progress FileFault) (v v' : PaymentStage)
+    (pool pool' : PoolState) (locks locks' : Table) : Type 0 where
+  pub writes : OnlyWrites (not (is_fault did)) pool pool'
+  pub aim : KeepsPayment x did v v'
+  pub row : FollowsRow seat (payment_locks v) (payment_locks v') locks locks'
+  pub progress : (held : List Lock) (records : Records) (change : Change) →
+      IsPaying hash seat held x v records pool locks change →
+      NearsOrSpares did (payment_left x v (store_of pool.images)) (payment_left x v' (store_of pool'.images)) pool
+      pool'
+  pub step : (held : List Lock) (records : Records) (change : Change) →
+      IsPaying hash seat held x v records pool locks change → is_fault did ≡ false →
+      Pays hash seat held x did v v' records pool pool' locks locks' change
+
+module _ (hash : RecordKey → ℕ) (seat : ℕ) (caller : Caller) (call : Call) (u : UndecidedCall) (stage : Stage)
+    (now : CallView) (view : with_stage caller call u stage ≡ now) (v : PaymentStage) (conclusion : Conclusion)
+    (there : stage ≡ Paying v conclusion) (q : QuestionsView) (lent : q ≡ u.questions) (names : AreNames q.names)
+    (x : Plan) (plan : x ≡ its_plan call u.questions) (v' : PaymentStage) (did : Progress FileFault)
+    (pool pool' : PoolState) (locks locks' : Table) (row : row_of locks seat ≡ call_locks now)
+    (made : StepsPayment hash seat x did v v' pool pool' locks locks') where
+  ordered : AreNames u.questions.names
+  ordered = subst (λ (y : QuestionsView). AreNames y.names) lent names
+
+  sees_now : with_stage caller call u (Paying v conclusion) ≡ now
+  sees_now = ap (with_stage caller call u) (sym there) ∙ view
+
+  row_here : row_of locks seat ≡ payment_locks v u.questions.names
+  row_here = subst (λ (m : CallView). row_of locks seat ≡ call_locks m) (sym sees_now) row
+
+  by_plan : StepsPayment hash seat (its_plan call u.questions) did v v' pool pool' locks locks'
+  by_plan = subst (λ (y : Plan). StepsPayment hash seat y did v v' pool pool' locks locks') plan made
+
+  pub pays_from : is_end did ≡ false → (stopped : Bool) →
+      MakesCall hash seat stopped did now (with_stage caller call u (Paying v' conclusion)) pool pool' locks locks'
+  pays_from more stopped =
+      subst (λ (m : CallView). MakesCall hash seat stopped did m (with_stage caller call u (Paying v' conclusion)) pool
+      pool' locks locks') sees_now
+      (pays_on hash seat caller call u conclusion ordered v v' did pool pool' locks locks' row_here by_plan.writes
+      by_plan.aim by_plan.row by_plan.progress by_plan.step (not_end did more) stopped)
+
+  pub row_behind : is_end did ≡ true → IsSeat locks seat → row_of locks' seat ≡ u.questions.names
+  row_behind is seated =
+      row_paid hash seat caller call u conclusion ordered v v' did pool pool' locks locks' row_here by_plan.writes
+      by_plan.aim by_plan.row by_plan.progress by_plan.step (at_end did is) seated
+
+  pub released_from : is_end did ≡ true → IsSeat locks seat → (did2 : Progress FileFault) (m : CallView)
+      (locks2 : Table) → MakesRelease seat did2 (with_stage caller call u (Releasing conclusion)) m locks' locks2 →
+      (stopped : Bool) → MakesCall hash seat stopped did2 now m pool pool' locks locks2
+  released_from is seated did2 m locks2 released stopped =
+      subst (λ (old : CallView). MakesCall hash seat stopped did2 old m pool pool' locks locks2) sees_now
+      (then_released hash seat caller call u conclusion ordered v v' did pool pool' locks locks' row_here by_plan.writes
+      by_plan.aim by_plan.row by_plan.progress by_plan.step (at_end did is) seated did2 m locks2 released stopped)

@@ -1,0 +1,88 @@
+-- What a step of a call does. docs/STEPS.md, "Calls".
+use Rattle.std.specs.Prelude.{ℕ, ◌≡◌, ◌↔◌, true, false, not, Bool, Some, None, IsSome}
+use Rattle.file_pages.specs.declared.fault.FileFault.{FileFault}
+use Rattle.step_rules.specs.declared.kind.Kind.TheVariants.{Decide}
+use Rattle.xsi_calls.specs.declared.conclusion.Conclusion.{Conclusion}
+use Rattle.xsi_calls.specs.declared.stage.Stage.{Stage}
+use Rattle.xsi_calls.specs.declared.stage.Stage.TheVariants.{Undecided, Paying, Releasing}
+use Rattle.xsi_calls.specs.Words.{Blocked, Call, Change, Ended, Exclusive, Fault, IsBehind, IsPaying, IsReady, Moved, NearsOrSpares, OnlyWrites, PoolState, Progress, RecordKey, Records, State, Step, Table, TrialLacksRoom, UndecidedCall, guard_of, has_no_room, is_fault, is_write, its_plan, kind_of, overlaid, store_of, trials_of, with_row, world}
+use Rattle.xsi_calls.specs.Concluding.{IsRightConclusion}
+use Rattle.xsi_calls.specs.Machine.{CallView, IsOver, call_facts, call_left, call_locks, call_owes, call_turn, conclusion_of}
+use Rattle.xsi_calls.specs.Calling.{IsCalling, IsReleasing}
+
+-- ---- whatever the device gives
+
+pub record KeepsCall {F : Type 0} (did : Progress F) (old new : CallView) : Type 0 where
+  pub caller : new.caller ≡ old.caller
+  pub call : new.call ≡ old.call
+  -- it comes to something at its Decide alone
+  pub decides : conclusion_of old ≡ None → IsSome (conclusion_of new) → did ≡ Moved Decide
+  -- and once; with the bytes of its answer
+  pub stays : (c : Conclusion) → conclusion_of old ≡ Some c → conclusion_of new ≡ Some c
+  pub bytes : IsSome (conclusion_of new) → new.undecided.questions.room ≡ old.undecided.questions.room
+  -- it has ended just where nothing is owed and no name is held, and stays so
+  pub ended : (did ≡ Ended) ↔ IsOver old
+  pub over : did ≡ Ended → IsOver new
+
+-- ---- on an honest device, in a sound world
+
+-- before its Decide it has come so far by its own steps, behind it it pays, or gives its names back
+abbrev pub GoesOnAt : (RecordKey → ℕ) → ℕ → Call → State → UndecidedCall → Stage → Records → PoolState → Table →
+    Change → Type 0
+GoesOnAt hash seat call s u Undecided records pool locks change =
+    IsBehind hash seat call s u.questions u.trials records pool locks change
+GoesOnAt hash seat call s u (Paying payment conclusion) records pool locks change =
+    IsPaying hash seat u.questions.names (its_plan call u.questions) payment records pool locks change
+GoesOnAt hash seat call s u (Releasing conclusion) records pool locks change =
+    IsReleasing hash seat u.questions.names pool locks change
+
+-- a step of the rules, behind which these records stand
+pub record StepsCall {F : Type 0} (hash : RecordKey → ℕ) (seat : ℕ) (s : State) (did : Progress F)
+    (old new : CallView) (records : Records) (pool pool' : PoolState) (locks locks' : Table) (change : Change)
+    : Type 0 where
+  pub step : Step hash seat (call_turn hash old (store_of pool.images)) did (call_facts new) pool pool' locks locks'
+      change
+  pub after : Records
+  pub still : is_write did ≡ false → after ≡ records
+  -- a record whose name it does not hold Exclusive stays
+  pub elsewhere : (key : RecordKey) → (kind_of new.undecided.questions.names (guard_of key) ≡ Some Exclusive → ⊥) →
+      after key ≡ records key
+  -- what will stand once nothing is owed is the same, but at its Decide
+  pub owed : conclusion_of new ≡ conclusion_of old → (key : RecordKey) →
+      overlaid (call_owes new) after key ≡ overlaid (call_owes old) records key
+  -- there it comes to what the rules say
+  pub concludes : conclusion_of old ≡ None → (c : Conclusion) → conclusion_of new ≡ Some c →
+      IsRightConclusion new.caller new.call s new.undecided.questions.room.bytes new.undecided.questions.names
+      (has_no_room old.undecided) (call_owes old) (call_owes new) after c
+  pub behind : GoesOnAt hash seat new.call s new.undecided new.stage after pool' locks' step.after
+  -- a trial turns to having no room only where there is none for its record
+  pub full : has_no_room old.undecided ≡ false → has_no_room new.undecided ≡ true →
+      TrialLacksRoom hash (its_plan old.call old.undecided.questions) (trials_of old.undecided).due
+      (world pool'.images locks' change)
+
+abbrev pub is_end : {F : Type 0} → Progress F → Bool
+is_end (Moved kind) = false
+is_end (Blocked other) = false
+is_end (Fault fault) = false
+is_end Ended = true
+
+-- one step at the pseudokeys that this function gives, with this stop mark
+pub record MakesCall (hash : RecordKey → ℕ) (seat : ℕ) (stopped : Bool) (did : Progress FileFault) (old new : CallView)
+    (pool pool' : PoolState) (locks locks' : Table) : Type 0 where
+  -- whatever the device gives
+  pub writes : OnlyWrites (not (is_fault did)) pool pool'
+  pub aim : KeepsCall did old new
+  pub row : locks' ≡ with_row locks seat (call_locks new)
+  -- on an honest device, in a sound world
+  pub progress : (s : State) (records : Records) (change : Change) →
+      IsCalling hash seat s old records pool locks change → s.stopped ≡ stopped →
+      NearsOrSpares did (call_left old (store_of pool.images)) (call_left new (store_of pool'.images)) pool pool'
+  pub step : (s : State) (records : Records) (change : Change) →
+      IsCalling hash seat s old records pool locks change → s.stopped ≡ stopped → is_fault did ≡ false →
+      StepsCall hash seat s did old new records pool pool' locks locks' change
+
+-- a step that meets no page, and no fault
+pub record MakesRelease (seat : ℕ) (did : Progress FileFault) (old new : CallView) (locks locks' : Table) : Type 0 where
+  pub fine : is_fault did ≡ false
+  pub makes : (hash : RecordKey → ℕ) (stopped : Bool) (pool : PoolState) → IsReady pool →
+      MakesCall hash seat stopped did old new pool pool locks locks'
