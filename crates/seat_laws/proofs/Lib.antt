@@ -1,0 +1,10 @@
+pub mod BesideLemmas
+pub mod NameLemmas
+pub mod OwnLemmas
+pub mod PayLemmas
+pub mod AskLemmas
+pub mod ApartLemmas
+pub mod HoldLemmas
+pub mod SameLemmas
+pub mod GivenLemmas
+pub mod SettleLemmas

@@ -1,0 +1,5 @@
+pub mod Words
+pub mod Beside
+pub mod Apart
+pub mod Laws
+pub mod DecisionLaws

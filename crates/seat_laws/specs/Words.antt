@@ -1,0 +1,22 @@
+-- Words of the crates below, under one name.
+pub use Rattle.call_decisions.specs.Others.{DecidesApart, HoldsOwn}
+pub use Rattle.call_decisions.specs.Settling.{IsAnswer, writes_owed}
+pub use Rattle.call_decisions.specs.Words.{Answer, Caller, Owes, Sweep, Verdict, outcome}
+pub use Rattle.call_payments.specs.Paying.{AreSameUnder, IsPaying}
+pub use Rattle.call_payments.specs.declared.payment.Stage.{Stage}
+pub use Rattle.call_questions.specs.Words.{AnyInquiry, Counter, Roomful, StandsAt, counter_key}
+pub use Rattle.call_writes.specs.declared.writes.CallWrites.{CallWrites}
+pub use Rattle.call_writes.specs.Words.{HasNoFileLock, Known, Owns, Progress, Sees, Step, Turn, world}
+pub use Rattle.file_pages.specs.Files.{IsFilePool}
+pub use Rattle.file_pages.specs.declared.fault.FileFault.{FileFault}
+pub use Rattle.page_locks.specs.Table.{IsLawful, held}
+pub use Rattle.page_locks.specs.declared.lock.LockKind.TheVariants.{Exclusive}
+pub use Rattle.step_rules.specs.Known.{IsKnown}
+pub use Rattle.step_rules.specs.Sound.{IsSoundWorld}
+pub use Rattle.undecided_calls.specs.Deciding.{IsSettled}
+pub use Rattle.undecided_calls.specs.Knowing.{IsAsking, IsTrying, IsUndecided}
+pub use Rattle.undecided_calls.specs.Undecided.{its_plan}
+pub use Rattle.undecided_calls.specs.UndecidedSteps.{AsksOn}
+pub use Rattle.undecided_calls.specs.Words.{AreAlike, Call, Change, IsFiled, KnowsNear, KnowsOf, Lock, LockName, Plan, PoolState, QuestionsView, Record, RecordKey, Records, State, Store, Table, asked_of, caller_of, guard_of, kind_of, locked_of, names_for, names_in, questions_facts, questions_locks, record_of, row_of, store_of}
+pub use Rattle.undecided_calls.specs.declared.trials.Trials.{Trials}
+pub use Rattle.undecided_calls.specs.declared.undecided.UndecidedCall.{UndecidedCall}
