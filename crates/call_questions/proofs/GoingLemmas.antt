@@ -17,7 +17,8 @@ use Rattle.call_questions.specs.Words.{RecordKey, PoolState, Table, Lock, Change
 use Rattle.call_questions.specs.Answering.{MayRead}
 use Rattle.call_questions.specs.Questions.{FIND_STEPS, ROUND_STEPS, IsAsked, IsRightQuestion, IsUnderWay, KnowsNear, QuestionsView, asks_more, changes, facts_of, locks_behind, questions_left, untold}
 use Rattle.call_questions.specs.QuestionSteps.{Closes, Faces, IsOver, Learns, MakesQuestions, Rests}
-use Rattle.call_questions.proofs.FindLemmas.{ended_locks, owns_written, reads_only}
+use Rattle.record_access.proofs.OperationLemmas.{ended_free, owns_found}
+use Rattle.call_questions.proofs.FindLemmas.{reads_only}
 
 abbrev round_of : Bool → ℕ
 round_of told = if told then ROUND_STEPS else 0
@@ -55,7 +56,7 @@ module _ (hash : RecordKey → ℕ) (seat : ℕ) (call : Call) (i : AnyInquiry) 
       sees = f.sees;
       before = held;
       bare = names.no_file;
-      owns = owns_written key held q.access.operation under.finds.kind;
+      owns = owns_found key held q.access.operation under.finds.kind;
       row = row;
       stands = stands;
       allows = tt;
@@ -88,7 +89,7 @@ module _ (hash : RecordKey → ℕ) (seat : ℕ) (call : Call) (i : AnyInquiry) 
     same_locks = by closes
       where
         by : Closes q' o → access_locks a' held ≡ locks_behind o held
-        by (inl is) = ended_locks key held a'.operation kind_on (over is.0)
+        by (inl is) = ended_free a'.operation held (over is.0)
             ∙ sym (ap (λ (x : Option Question). locks_behind x held) is.1)
         by (inr is) = ap (λ (a : AccessView). access_locks a held) (sym access)
             ∙ sym (ap (λ (x : Option Question). locks_behind x held) is.1)

@@ -4,6 +4,8 @@ pub use Rattle.any_inquiry.specs.Words.{Plan, nothing}
 pub use Rattle.call_names.proofs.AskLemmas.{ask_under_names}
 pub use Rattle.call_names.proofs.GrowLemmas.{names_grow}
 pub use Rattle.call_names.proofs.Words.{GetInquiry, Getting, Lock, ReceiveInquiry, RemoveInquiry, SendInquiry, SetInquiry, Sought, StatInquiry, get_locked, get_wanted, if_of, key_of_key, key_of_message, key_of_queue, key_of_type, key_wanted, of_get, of_receive, of_remove, of_send, of_set, of_stat, set_wanted, sought_next}
+pub use Rattle.call_names.proofs.NamesLemmas.{take_in_order}
+pub use Rattle.call_names.proofs.WriteLemmas.{write_under_names}
 pub use Rattle.call_names.specs.Laws.{KeepsNames}
 pub use Rattle.call_names.specs.Names.{by_phase, exclusively, queue_for}
 pub use Rattle.limits.specs.declared.TheConstants.{MAX_QBYTES}

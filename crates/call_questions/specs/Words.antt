@@ -5,9 +5,10 @@ pub use Rattle.record_access.specs.Accesses.{AccessView, HasFound, Serves, acces
 pub use Rattle.any_inquiry.specs.declared.any_inquiry.AnyInquiry.{AnyInquiry}
 pub use Rattle.any_inquiry.specs.Anything.{KnowsOf, asked_of, caller_of, left_of, plan_of}
 pub use Rattle.call_names.specs.Laws.{AreNames, names_in}
-pub use Rattle.call_names.specs.Names.{names_for}
+pub use Rattle.call_names.specs.Names.{by_phase, exclusively, names_for, queue_for}
 pub use Rattle.call_names.specs.declared.held.TheConstants.{MAX_NAMES}
 pub use Rattle.held_names.specs.Laws.{Begins}
+pub use Rattle.held_names.specs.NameSteps.{GivesBack, MakesNameStep}
 pub use Rattle.held_names.specs.NameTurns.{name_turn, names_left}
 pub use Rattle.held_names.specs.declared.turn.NameTurn.{NameTurn}
 pub use Rattle.held_names.specs.declared.turn.NameTurn.TheVariants.{Take, GiveBack, Ready}

@@ -1,8 +1,7 @@
 -- An access of a deed that has just begun.
 use Rattle.std.proofs.Common.{◌≡◌, refl, ℕ, false, List, []}
-use Rattle.record_operation.specs.Operations.{IsKeyed}
 use Rattle.call_writes.specs.declared.deed.Deed.TheVariants as deeds
-use Rattle.call_writes.specs.Words.{RecordKey, Replace, Relink, Delete, Lock, HasEnded, Deed, access_facts, access_key, access_locks, has_no_room}
+use Rattle.call_writes.specs.Words.{RecordKey, Replace, Relink, Delete, Lock, HasEnded, IsKeyed, Deed, access_facts, access_key, access_locks, has_no_room}
 use Rattle.call_writes.specs.Dues.{deed_key}
 use Rattle.call_writes.specs.Views.{begun_deed}
 

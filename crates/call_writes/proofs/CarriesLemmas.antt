@@ -8,7 +8,7 @@ use Rattle.step_rules.specs.Known.{AllKnown}
 use Rattle.call_writes.proofs.BeginLemmas.{begun_room}
 use Rattle.call_writes.proofs.BegunLemmas.{doing_start, owned_start, row_start, sees_start}
 use Rattle.call_writes.proofs.CarryLemmas.{IsMade, all_made, neither}
-use Rattle.call_writes.proofs.EndLemmas.{ended_locks}
+use Rattle.record_access.proofs.OperationLemmas.{ended_free}
 use Rattle.call_writes.proofs.Names.{FileFault, Turn}
 use Rattle.call_writes.proofs.SortLemmas.{Anew, EndsAs, Fails, Fills, Goes, Idles, IsIdle, IsSorted, LetsGo, Over, Refused, StartsAs, Stepping, Steps, Stuck, Under}
 use Rattle.call_writes.proofs.StepLemmas.{full_unwritten, unpaid}
@@ -257,10 +257,10 @@ module _ (hash : RecordKey → ℕ) (seat : ℕ) (p : Plan) (did : Progress File
       (goes_on s d doing (sym (ap is_fault same) ∙ fine) going)
   ends s d doing fine (LetsGo ended written same kept) =
       kept_on s.made (record { due = s.due'; access = None }) same kept
-      (lets_go s d doing (sym (ap is_fault same) ∙ fine) written (ended_locks s.a'.operation names ended))
+      (lets_go s d doing (sym (ap is_fault same) ∙ fine) written (ended_free s.a'.operation names ended))
   ends s d doing fine (Fills standing ended full due same kept) =
       kept_on s.made (record { due = Full standing; access = None }) same kept
-      (fills s d doing (sym (ap is_fault same) ∙ fine) standing full due (ended_locks s.a'.operation names ended))
+      (fills s d doing (sym (ap is_fault same) ∙ fine) standing full due (ended_free s.a'.operation names ended))
   ends s d doing fine (Fails ended unwritten fine' untried fault kept) =
       absurd (true≢false (sym (ap is_fault fault) ∙ fine))
 

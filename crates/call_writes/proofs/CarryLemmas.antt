@@ -10,10 +10,9 @@ use Rattle.queue_records.specs.declared.links.Links.{Links}
 use Rattle.queue_records.specs.declared.links.Links.TheVariants as kinds
 use Rattle.queue_records.specs.declared.record.Record.TheVariants as entries
 use Rattle.queue_records.specs.Relinking.{HasSuch, linked, relinked}
-use Rattle.record_operation.specs.declared.operation.RecordOperation.{RecordOperation}
-use Rattle.record_operation.specs.declared.operation.RecordOperation.TheVariants as operations
+use Rattle.record_access.proofs.OperationLemmas.{owns_any}
 use Rattle.xsi_inquiry.proofs.LeadLemmas.{same_keys}
-use Rattle.call_writes.proofs.Names.{Faces, FileFault, IsKnown, OwnsWritten, Stepped, TellsOf, Told, contents, keeps_told, left_by, operation_aside, operation_key, tells_written, wrote_not, wrote_of}
+use Rattle.call_writes.proofs.Names.{Faces, FileFault, IsKnown, Stepped, TellsOf, Told, contents, keeps_told, left_by, operation_aside, tells_written, wrote_not, wrote_of}
 use Rattle.call_writes.specs.declared.deed.Deed.TheVariants as deeds
 use Rattle.call_writes.specs.Words.{RecordKey, is_same, Record, guard_of, Write, Replace, Relink, Delete, IsSmall, Plan, Records, with_at, overlaid, kind_of, Owns, PoolState, Table, Lock, Change, row_of, store_of, pair, IsSeat, HasNoRoom, Progress, is_fault, HasNoFileLock, Sees, Step, world, StandsAt, made, is_write, has_no_room, AccessView, Allows, access_facts, access_key, access_locks, access_turn, MakesAccess, Deed, Due}
 use Rattle.call_writes.specs.Dues.{CanGoOn, IsBehind, after_deed, deed_key, next_deed, owes, purpose_of}
@@ -34,12 +33,6 @@ neither true b b' is none = absurd (true≢false (sym is ∙ none))
 neither false b b' is none = (refl, sym is ∙ none)
 
 -- ---- deeds
-
-owns_written : (names : List Lock) (o : RecordOperation) → Owns names (operation_key o) → OwnsWritten names o
-owns_written names (operations.Find f) owns = tt
-owns_written names (operations.Insert i) owns = owns
-owns_written names (operations.Replace r) owns = owns
-owns_written names (operations.Delete d) owns = owns
 
 made_is : (d : Deed) (records : Records) →
     with_at (deed_key d) (made (purpose_of d) (records (deed_key d))) records ≡ after_deed d records
@@ -169,7 +162,7 @@ module _ (hash : RecordKey → ℕ) (seat : ℕ) (names : List Lock) (did : Prog
     sees = sees;
     before = names;
     bare = bare;
-    owns = owns_written names a.operation doing.owns;
+    owns = owns_any a.operation names doing.owns;
     row = row;
     stands = stands (access_key a) owned;
     allows = doing.allows;

@@ -5,7 +5,6 @@ pub mod CarryLemmas
 pub mod DecidedLemmas
 pub mod DoneLemmas
 pub mod DueLemmas
-pub mod EndLemmas
 pub mod LawLemmas
 pub mod Names
 pub mod NearLemmas

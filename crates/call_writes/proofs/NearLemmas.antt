@@ -2,13 +2,12 @@
 use Rattle.std.proofs.Common.{◌≡◌, refl, sym, ap, ◌∙◌, subst, ℕ, suc, ◌+◌, ◌-◌, ◌*◌, ◌<◌, ◌≤◌, Bool, true, false, not, ◌&&◌, List, Option, Some, if◌then◌else◌, arith}
 use Rattle.std.proofs.lemmas.Bool.{true≢false}
 use Rattle.record_access.specs.Words.{Blocked}
-use Rattle.record_operation.proofs.LengthLemmas.{has_few_steps}
 use Rattle.call_writes.proofs.BeginLemmas.{begun_unwritten}
 use Rattle.call_writes.proofs.BegunLemmas.{doing_start, owned_start, row_start, sees_start}
 use Rattle.call_writes.proofs.CarryLemmas.{all_made, faces}
 use Rattle.call_writes.proofs.DoneLemmas.{has_written}
 use Rattle.call_writes.proofs.DueLemmas.{paid_for}
-use Rattle.call_writes.proofs.Names.{FileFault}
+use Rattle.call_writes.proofs.Names.{FileFault, has_few_steps}
 use Rattle.call_writes.proofs.NextLemmas.{is_next}
 use Rattle.call_writes.proofs.SortLemmas.{Anew, EndsAs, Fails, Fills, Goes, Idles, IsIdle, IsSorted, LetsGo, Over, Refused, StartsAs, Stepping, Steps, Stuck, Under}
 use Rattle.call_writes.specs.declared.writes.CallWrites.{CallWrites}

@@ -7,7 +7,7 @@ use Rattle.page_locks.specs.Table.{with_row}
 use Rattle.record_access.proofs.AimLemmas.{wrote_of}
 use Rattle.call_writes.proofs.Names.{FileFault}
 use Rattle.call_writes.proofs.BeginLemmas.{begun_locks}
-use Rattle.call_writes.proofs.EndLemmas.{ended_locks}
+use Rattle.record_access.proofs.OperationLemmas.{ended_free}
 use Rattle.call_writes.proofs.SortLemmas.{Anew, EndsAs, Fails, Fills, Goes, Idles, IsIdle, IsSorted, LetsGo, Over, Refused, StartsAs, Steps, Stuck, Under}
 use Rattle.call_writes.specs.declared.writes.CallWrites.{CallWrites}
 use Rattle.call_writes.specs.Words.{RecordKey, Plan, PoolState, Table, Lock, IsReady, OnlyWrites, FollowsRow, Progress, Moved, Ended, Fault, WriteRecord, is_fault, is_write, AccessView, access_locks, Due}
@@ -67,9 +67,9 @@ module _ (hash : RecordKey → ℕ) (seat : ℕ) (p : Plan) (did : Progress File
       (before : List Lock) → access_locks a' before ≡ writes_locks new before
   end_row made due' a' (Goes still same kept) before = ap (λ (w : CallWrites). writes_locks w before) (sym kept)
   end_row made due' a' (LetsGo ended written same kept) before =
-      ended_locks a'.operation before ended ∙ ap (λ (w : CallWrites). writes_locks w before) (sym kept)
+      ended_free a'.operation before ended ∙ ap (λ (w : CallWrites). writes_locks w before) (sym kept)
   end_row made due' a' (Fills standing ended full due same kept) before =
-      ended_locks a'.operation before ended ∙ ap (λ (w : CallWrites). writes_locks w before) (sym kept)
+      ended_free a'.operation before ended ∙ ap (λ (w : CallWrites). writes_locks w before) (sym kept)
   end_row made due' a' (Fails ended unwritten fine untried fault kept) before =
       ap (λ (w : CallWrites). writes_locks w before) (sym kept)
 

@@ -10,3 +10,4 @@ pub mod ReadLemmas
 pub mod BucketLemmas
 pub mod TakeLemmas
 pub mod TakingLemmas
+pub mod OperationLemmas

@@ -11,7 +11,7 @@ use Rattle.record_access.specs.Purposes.{left_by}
 use Rattle.type_chains.specs.Entries.{message_entry}
 use Rattle.xsi_inquiry.proofs.LeadLemmas.{same_keys}
 use Rattle.xsi_sweep.proofs.TurnLemmas.{turn_read, turn_taken}
-use Rattle.xsi_remove.proofs.EndLemmas.{others_hold, owns_any}
+use Rattle.record_access.proofs.OperationLemmas.{others_hold, owns_any}
 use Rattle.xsi_remove.proofs.LeftLemmas.{guard_is, left_other, left_reading, left_there, same_left, same_purpose, swept_key}
 use Rattle.xsi_remove.specs.declared.work.Deed.{Deed}
 use Rattle.xsi_remove.specs.declared.work.Deed.TheVariants.{Reading, DeletingMessage, DeletingType}

@@ -3,10 +3,6 @@ use Rattle.std.proofs.Common.{◌≡◌, refl, sym, ap, ◌∙◌, subst, ℕ, �
 use Rattle.std.specs.Prelude.{◌==◌, if◌then◌else◌}
 use Rattle.std.proofs.lemmas.Bool.{true≢false}
 use Rattle.file_pages.specs.declared.fault.FileFault.{FileFault}
-use Rattle.record_operation.specs.declared.operation.RecordOperation.TheVariants as operations
-use Rattle.record_operation.specs.declared.operation.RecordOperation.{RecordOperation}
-use Rattle.record_operation.specs.Operations.{operation_key, operation_turn}
-use Rattle.record_access.specs.Accesses.{IsOfKind}
 use Rattle.xsi_remove.specs.declared.work.Deed.{Deed}
 use Rattle.xsi_remove.specs.declared.work.Deed.TheVariants.{Reading, DeletingMessage, DeletingType}
 use Rattle.xsi_remove.specs.declared.work.Next.{Next}
@@ -94,22 +90,6 @@ nears_next (Moved kind) left left' more all pool pool' moved less near = omega (
 nears_next (Blocked other) left left' more all pool pool' moved less near = absurd cc
 nears_next (Fault fault) left left' more all pool pool' moved less near = absurd cc
 nears_next Ended left left' more all pool pool' moved less near = absurd cc
-
--- ---- the record that is deleted
-
-pub removes_its : (o : RecordOperation) (bytes : List ℕ) (file : Store) (key : RecordKey) →
-    IsOfKind (ToWrite (Delete key)) o → (operation_turn o bytes file).write ≡ Some (Remove (operation_key o))
-removes_its (operations.Find f) bytes file key kind = absurd kind
-removes_its (operations.Insert i) bytes file key kind = absurd kind
-removes_its (operations.Replace r) bytes file key kind = absurd kind
-removes_its (operations.Delete d) bytes file key kind = refl
-
-pub finds_none : (o : RecordOperation) (bytes : List ℕ) (file : Store) (key : RecordKey) → IsOfKind (ToFind key) o →
-    (operation_turn o bytes file).write ≡ None
-finds_none (operations.Find f) bytes file key kind = refl
-finds_none (operations.Insert i) bytes file key kind = absurd kind
-finds_none (operations.Replace r) bytes file key kind = absurd kind
-finds_none (operations.Delete d) bytes file key kind = absurd kind
 
 -- ---- faults
 

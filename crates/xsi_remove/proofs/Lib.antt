@@ -1,4 +1,3 @@
-pub mod EndLemmas
 pub mod HearLemmas
 pub mod LeftLemmas
 pub mod DeedLemmas

@@ -4,9 +4,9 @@ use Rattle.std.proofs.lemmas.Bool.{true≢false}
 use Rattle.file_pages.specs.declared.fault.FileFault.{FileFault}
 use Rattle.file_pages.specs.declared.fault.FileFault.TheVariants.{Failed}
 use Rattle.record_access.specs.AccessSteps.{MakesAccess, Rests as RestsAccess}
-use Rattle.xsi_remove.proofs.FreshLemmas.{IsFresh, same_in, fresh_led, no_more, nears_with, nears_next, removes_its, finds_none, faulted, over_none, fine_of}
+use Rattle.xsi_remove.proofs.FreshLemmas.{IsFresh, same_in, fresh_led, no_more, nears_with, nears_next, faulted, over_none, fine_of}
 use Rattle.xsi_remove.proofs.DeedLemmas.{IsDriven, driven, faced, hears_well, stepped}
-use Rattle.xsi_remove.proofs.EndLemmas.{ended_free, find_writes_none}
+use Rattle.record_access.proofs.OperationLemmas.{asks_no_write, ended_free, find_writes_none, removes_its}
 use Rattle.xsi_remove.proofs.LeftLemmas.{swept_key}
 use Rattle.xsi_remove.proofs.NextLemmas.{Follows, follows}
 use Rattle.xsi_remove.specs.declared.work.Deed.{Deed}
@@ -85,7 +85,7 @@ module _ (hash : RecordKey → ℕ) (seat : ℕ) (did : Progress FileFault) (w w
                 subst (λ (x : Deed). Serves (purpose_of x w.turn) w.access) is serves in
                 absurd (find_writes_none hash seat did (world pool.images locks change)
                 (world pool'.images locks' made.after) f.sees.sound fine w.access.operation w.access.bytes
-                (finds_none w.access.operation w.access.bytes (store_of pool.images) (message_of w.turn) finds.kind)
+                (asks_no_write w.access.operation w.access.bytes (store_of pool.images) (message_of w.turn) finds.kind)
                 made.does wrote)
             by DeletingMessage is serves =
                 deletes (message_of w.turn) (swept_key DeletingMessage w.turn id f.sweeps.works.its)

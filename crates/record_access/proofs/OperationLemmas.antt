@@ -1,21 +1,36 @@
--- An operation that has ended holds no lock, and one that writes no other record leaves what stands at other keys.
+-- An operation: what it owns, what it holds once it has ended, what it asks to be written, and what it leaves at other
+-- keys.
 use Rattle.std.proofs.Common.{◌≡◌, refl, ap, ◌∙◌, subst, ℕ, Bool, true, false, List, [], if◌then◌else◌, Option, Some, None, IsSome}
+use Rattle.std.specs.Prelude.{unwrap_or}
 use Rattle.bucket_merge.specs.Places.{is_done, locks_at as merge_locks_at}
-use Rattle.xsi_remove.proofs.Names.{ApproachView, FileFault, FirstTryStage, HasEnded, InsertStage, IsSoundWorld, MergePlace, OwnsWritten, RecordOperation, RemovalStage, ReplaceStage, SearchView, SecondPlace, TurnsAt, WritesAsked, contents, guard_of, holds_still, is_same, one_changed, operation_key, operation_locks, operation_turn, pair, with_front, wrote_not, wrote_of}
+use Rattle.bucket_merge.specs.declared.place.MergePlace.{MergePlace}
 use Rattle.bucket_merge.specs.declared.place.MergePlace.TheVariants as to
+use Rattle.hash_file.specs.Changes as changes
+use Rattle.page_locks.specs.declared.lock.LockKind.TheVariants.{Exclusive}
+use Rattle.queue_records.specs.Keys.{guard_of}
+use Rattle.record_file.proofs.CallerLemmas.{holds_still}
 use Rattle.record_file.specs.Deletes.{DeleteView, IsOver as IsDeleteOver, delete_locks}
 use Rattle.record_file.specs.FirstTries.{locks_in as first_try_locks_in}
 use Rattle.record_file.specs.Replaces.{locks_in as replace_locks_in}
+use Rattle.record_file.specs.declared.first_try.FirstTryStage.{FirstTryStage}
 use Rattle.record_file.specs.declared.first_try.FirstTryStage.TheVariants as tries
+use Rattle.record_file.specs.declared.removal.RemovalStage.{RemovalStage}
 use Rattle.record_file.specs.declared.removal.RemovalStage.TheVariants as removals
+use Rattle.record_file.specs.declared.replace.ReplaceStage.{ReplaceStage}
 use Rattle.record_insert.specs.Inserts.{IsOver as IsInsertOver, is_ended, locks_in as insert_locks_in}
 use Rattle.record_insert.specs.SecondTries.{locks_at as second_locks_at, tried_at}
+use Rattle.record_insert.specs.declared.insert.InsertStage.{InsertStage}
 use Rattle.record_insert.specs.declared.insert.InsertStage.TheVariants.{First, Second}
+use Rattle.record_insert.specs.declared.second_place.SecondPlace.{SecondPlace}
 use Rattle.record_insert.specs.declared.second_place.SecondPlace.TheVariants as seconds
 use Rattle.record_operation.specs.declared.operation.RecordOperation.TheVariants as operations
-use Rattle.hash_file.specs.Changes as changes
-use Rattle.xsi_remove.specs.Words.{RecordKey, Lock, Progress, Moved, WriteRecord, World, StepTurn, is_fault, kind_of, Exclusive, RecordWrite, Remove, is_write}
-use Rattle.std.specs.Prelude.{unwrap_or}
+use Rattle.stale_search.specs.Approaches.{ApproachView}
+use Rattle.stale_search.specs.Searches.{SearchView}
+use Rattle.record_access.proofs.AimLemmas.{wrote_not, wrote_of}
+use Rattle.record_access.proofs.Names.{FileFault, RecordWrite, TurnsAt, WritesAsked, is_same, one_changed}
+use Rattle.record_access.specs.Accesses.{IsOfKind}
+use Rattle.record_access.specs.Purposes.{ToFind, ToWrite, is_write}
+use Rattle.record_access.specs.Words.{Delete, HasEnded, IsSoundWorld, Lock, Moved, OwnsWritten, Progress, RecordKey, RecordOperation, Store, Turn, World, WriteRecord, contents, is_fault, kind_of, operation_key, operation_locks, operation_turn, pair, with_front}
 
 -- ---- its locks
 
@@ -82,7 +97,7 @@ ended_free (operations.Insert i) before is = insert_free i.stage before is
 ended_free (operations.Replace r) before is = ap (λ (stage : ReplaceStage). replace_locks_in stage r.search before) is
 ended_free (operations.Delete d) before is = delete_free d.removal.stage d before refl is
 
--- ---- its record
+-- ---- what it owns
 
 pub owns_any : (o : RecordOperation) (held : List Lock) → kind_of held (guard_of (operation_key o)) ≡ Some Exclusive →
     OwnsWritten held o
@@ -91,15 +106,40 @@ owns_any (operations.Insert i) held owns = owns
 owns_any (operations.Replace r) held owns = owns
 owns_any (operations.Delete d) held owns = owns
 
+pub owns_found : (key : RecordKey) (held : List Lock) (o : RecordOperation) → IsOfKind (ToFind key) o →
+    OwnsWritten held o
+owns_found key held (operations.Find f) kind = tt
+owns_found key held (operations.Insert i) kind = absurd kind
+owns_found key held (operations.Replace r) kind = absurd kind
+owns_found key held (operations.Delete d) kind = absurd kind
+
+-- ---- what it asks to be written
+
+pub removes_its : (o : RecordOperation) (bytes : List ℕ) (file : Store) (key : RecordKey) →
+    IsOfKind (ToWrite (Delete key)) o → (operation_turn o bytes file).write ≡ Some (changes.Remove (operation_key o))
+removes_its (operations.Find f) bytes file key kind = absurd kind
+removes_its (operations.Insert i) bytes file key kind = absurd kind
+removes_its (operations.Replace r) bytes file key kind = absurd kind
+removes_its (operations.Delete d) bytes file key kind = refl
+
+pub asks_no_write : (o : RecordOperation) (bytes : List ℕ) (file : Store) (key : RecordKey) → IsOfKind (ToFind key) o →
+    (operation_turn o bytes file).write ≡ None
+asks_no_write (operations.Find f) bytes file key kind = refl
+asks_no_write (operations.Insert i) bytes file key kind = absurd kind
+asks_no_write (operations.Replace r) bytes file key kind = absurd kind
+asks_no_write (operations.Delete d) bytes file key kind = absurd kind
+
+-- ---- what it leaves at other keys
+
 module _ (hash : RecordKey → ℕ) (seat : ℕ) (did : Progress FileFault) (w w' : World) (sound : IsSoundWorld hash w)
     (fine : is_fault did ≡ false) where
-  writes_none : (turn : StepTurn) → turn.write ≡ None → did ≡ Moved WriteRecord → TurnsAt hash turn did seat w w' → ⊥
+  writes_none : (turn : Turn) → turn.write ≡ None → did ≡ Moved WriteRecord → TurnsAt hash turn did seat w w' → ⊥
   writes_none turn none is does =
       let does' : WritesAsked hash turn.write seat w w' =
       subst (λ (d : Progress FileFault). TurnsAt hash turn d seat w w') is does in
       subst (λ (write : Option RecordWrite). WritesAsked hash write seat w w') none does'
 
-  elsewhere : (turn : StepTurn) (write : RecordWrite) → turn.write ≡ Some write → did ≡ Moved WriteRecord →
+  elsewhere : (turn : Turn) (write : RecordWrite) → turn.write ≡ Some write → did ≡ Moved WriteRecord →
       TurnsAt hash turn did seat w w' → (key : RecordKey) → is_same (changes.key_of write) key ≡ false →
       contents w'.store key ≡ contents w.store key
   elsewhere turn write asked wrote does key other =
