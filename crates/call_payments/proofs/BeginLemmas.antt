@@ -8,7 +8,7 @@ use Rattle.call_writes.specs.Views.{locks_under}
 use Rattle.call_writes.specs.declared.due.Due.TheVariants.{Undoing}
 use Rattle.owed_records.specs.Owing as owed
 use Rattle.queue_model.specs.declared.answer.Answer.{Answer}
-use Rattle.record_access.specs.Accesses.{AccessView}
+use Rattle.call_writes.specs.Words.{AccessView}
 use Rattle.xsi_inquiry.specs.Writing.{CanAllBe, HasRange, written}
 use Rattle.xsi_inquiry.specs.declared.write.Write.{Write}
 use Rattle.call_payments.specs.declared.payment.Stage.TheVariants as stages

@@ -9,7 +9,7 @@ use Rattle.call_writes.specs.Dues.{deeds_left, next_deed}
 use Rattle.owed_records.specs.Owing as owed
 use Rattle.page_locks.specs.declared.lock.LockName.TheVariants as names_are
 use Rattle.queue_records.specs.declared.record.Record.{Record}
-use Rattle.record_access.specs.Words.{MOST_STEPS}
+use Rattle.call_writes.specs.Words.{MOST_STEPS}
 use Rattle.xsi_inquiry.specs.declared.write.TheConstants.{MAX_WRITES}
 use Rattle.xsi_remove.proofs.LeftLemmas.{guard_is, swept_key}
 use Rattle.xsi_remove.specs.Sweeps.{IsSweeping, begun_at}

@@ -1,8 +1,8 @@
 -- Words of the crates below, under one name for the proofs of this one.
 pub use Rattle.call_writes.specs.Views.{locks_under}
 pub use Rattle.owed_records.proofs.OverlayLemmas.{written_local}
-pub use Rattle.record_access.specs.Accesses.{AccessView}
-pub use Rattle.record_access.specs.Words.{Blocked}
+pub use Rattle.call_writes.specs.Words.{AccessView}
+pub use Rattle.xsi_remove.specs.Words.{Blocked}
 pub use Rattle.xsi_remove.proofs.FreshLemmas.{nears_next, nears_with, no_more}
 pub use Rattle.xsi_remove.proofs.LawLemmas.{begins_right, ends_swept, has_few_steps}
 pub use Rattle.xsi_remove.specs.Deeds.{message_of}

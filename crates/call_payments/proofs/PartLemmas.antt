@@ -4,7 +4,7 @@ use Rattle.file_pages.specs.declared.fault.FileFault.{FileFault}
 use Rattle.file_pages.specs.declared.fault.FileFault.TheVariants.{Failed}
 use Rattle.page_locks.proofs.ChangeLemmas.{with_row-own}
 use Rattle.page_locks.specs.Table.{with_row}
-use Rattle.xsi_remove.proofs.EndLemmas.{ended_free}
+use Rattle.call_writes.proofs.Names.{ended_free}
 use Rattle.xsi_remove.specs.SweepSteps.{IsOf, IsOver, MakesSweep}
 use Rattle.call_payments.specs.declared.payment.Stage.{Stage}
 use Rattle.call_payments.specs.declared.payment.Stage.TheVariants as stages

@@ -7,9 +7,7 @@ use Rattle.file_pages.specs.declared.fault.FileFault.{FileFault}
 use Rattle.hash_file.specs.Changes.{Remove}
 use Rattle.owed_records.specs.Owing.{Sweeps, is_swept}
 use Rattle.page_locks.proofs.TableLemmas.{row_of-same}
-use Rattle.record_access.proofs.AimLemmas.{wrote_not, wrote_of}
-use Rattle.record_file.proofs.CallerLemmas.{holds_still, one_changed}
-use Rattle.record_file.specs.Words.{contents}
+use Rattle.call_writes.proofs.Names.{contents, holds_still, one_changed, wrote_not, wrote_of}
 use Rattle.xsi_inquiry.specs.Writing.{with_at}
 use Rattle.xsi_inquiry.specs.declared.write.Write.{Write}
 use Rattle.xsi_remove.specs.SweepSteps.{IsOf, IsOver, MakesSweep, Rests, SweepsAway, SweepsOn}

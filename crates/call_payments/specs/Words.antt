@@ -1,10 +1,9 @@
 -- Words of the crates below, under one name.
-pub use Rattle.record_access.specs.Words.{RecordKey, PoolState, Table, Lock, Change, Store, Known, Turn, row_of, store_of, IsReady, IsSeat, EndsRow, OnlyWrites, FollowsRow, NearsOrSpares, Progress, Moved, Ended, Fault, is_fault, Step, World, world}
-pub use Rattle.record_access.specs.Purposes.{StandsAt, is_write}
+pub use Rattle.call_writes.specs.Words.{RecordKey, PoolState, Table, Lock, Change, Store, Known, Turn, row_of, store_of, IsReady, IsSeat, EndsRow, OnlyWrites, FollowsRow, NearsOrSpares, Progress, Moved, Ended, Fault, is_fault, Step, World, world}
+pub use Rattle.call_writes.specs.Words.{StandsAt, is_write}
 pub use Rattle.page_locks.specs.declared.lock.LockKind.TheVariants.{Exclusive}
 pub use Rattle.page_locks.specs.declared.lock.LockName.{LockName}
-pub use Rattle.record_file.specs.Words.{kind_of}
-pub use Rattle.record_file.specs.Writers.{Owns}
+pub use Rattle.call_writes.specs.Words.{Owns, kind_of}
 pub use Rattle.queue_model.specs.declared.call.Call.{Call}
 pub use Rattle.queue_model.specs.declared.caller.Caller.{Caller}
 pub use Rattle.queue_model.specs.declared.queue.Queue.{Queue}

@@ -14,7 +14,7 @@ use Rattle.record_access.proofs.OperationLemmas.{owns_any}
 use Rattle.xsi_inquiry.proofs.LeadLemmas.{same_keys}
 use Rattle.call_writes.proofs.Names.{Faces, FileFault, IsKnown, Stepped, TellsOf, Told, contents, keeps_told, left_by, operation_aside, tells_written, wrote_not, wrote_of}
 use Rattle.call_writes.specs.declared.deed.Deed.TheVariants as deeds
-use Rattle.call_writes.specs.Words.{RecordKey, is_same, Record, guard_of, Write, Replace, Relink, Delete, IsSmall, Plan, Records, with_at, overlaid, kind_of, Owns, PoolState, Table, Lock, Change, row_of, store_of, pair, IsSeat, HasNoRoom, Progress, is_fault, HasNoFileLock, Sees, Step, world, StandsAt, made, is_write, has_no_room, AccessView, Allows, access_facts, access_key, access_locks, access_turn, MakesAccess, Deed, Due}
+use Rattle.call_writes.specs.Words.{RecordKey, is_same, Record, guard_of, Replace, Relink, Delete, IsSmall, Plan, Records, with_at, overlaid, kind_of, Owns, PoolState, Table, Lock, Change, row_of, store_of, pair, IsSeat, HasNoRoom, Progress, is_fault, HasNoFileLock, Sees, Step, world, StandsAt, made, is_write, has_no_room, AccessView, Allows, access_facts, access_key, access_locks, access_turn, MakesAccess, Deed, Due}
 use Rattle.call_writes.specs.Dues.{CanGoOn, IsBehind, after_deed, deed_key, next_deed, owes, purpose_of}
 use Rattle.call_writes.specs.Carrying.{IsDoing}
 use Rattle.call_writes.specs.CarrySteps.{AsMade, AsTheyWere, Leaves}

@@ -7,7 +7,7 @@ use Rattle.any_inquiry.specs.Anything.{caller_of}
 use Rattle.any_inquiry.specs.Words.{RemoveInquiry, Roomful}
 use Rattle.any_inquiry.specs.declared.any_inquiry.AnyInquiry.TheVariants as any
 use Rattle.call_decisions.proofs.OtherLemmas.{leaves_others}
-use Rattle.call_questions.specs.Questions.{asks_more, keeping}
+use Rattle.undecided_calls.specs.Below.{asks_more, keeping}
 use Rattle.queue_model.specs.declared.call.Call.TheVariants as calls
 use Rattle.undecided_calls.specs.Knowing.{IsAsking, IsUndecidedIn, standing}
 use Rattle.undecided_calls.specs.Undecided.{its_plan}

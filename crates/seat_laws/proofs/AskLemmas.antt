@@ -3,7 +3,7 @@ use Rattle.std.proofs.Common.{ℕ, ◌≡◌, ◌≢◌, ◌+◌, inl, inr, refl
 use Rattle.std.specs.Prelude.{nat_lt}
 use Rattle.std.specs.List.{Contains}
 use Rattle.page_locks.specs.declared.lock.LockName.TheVariants as names_are
-use Rattle.call_questions.specs.Questions.{questions_facts}
+use Rattle.undecided_calls.specs.Below.{questions_facts}
 use Rattle.undecided_calls.proofs.HeldLemmas.{is_among}
 use Rattle.undecided_calls.specs.Knowing.{IsAsking, IsUndecidedIn, standing}
 use Rattle.undecided_calls.specs.Undecided.{its_plan}

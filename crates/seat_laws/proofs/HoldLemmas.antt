@@ -6,7 +6,7 @@ use Rattle.any_inquiry.specs.Anything.{IsOfKind, if_of, of_get, of_receive, of_r
 use Rattle.any_inquiry.specs.Words.{GetInquiry, RemoveInquiry, Roomful, get_locked}
 use Rattle.call_decisions.proofs.Names.{key_names}
 use Rattle.call_decisions.specs.Others.{HoldsKey}
-use Rattle.call_names.specs.Names.{by_phase, exclusively, names_for, queue_for}
+use Rattle.undecided_calls.specs.Below.{by_phase, exclusively, names_for, queue_for}
 use Rattle.page_locks.specs.declared.lock.LockKind.{LockKind}
 use Rattle.page_locks.specs.declared.lock.LockName.TheVariants as names
 use Rattle.queue_model.specs.declared.call.Call.TheVariants as calls

@@ -3,11 +3,8 @@ use Rattle.std.proofs.Common.{ℕ, zero, suc, ◌≡◌, refl, sym, ap, ◌∙�
 use Rattle.std.specs.List.{Contains}
 use Rattle.call_payments.specs.declared.payment.Stage.TheVariants as stages
 use Rattle.call_payments.specs.Words.{Work, sweep_locks}
-use Rattle.call_questions.specs.declared.question.Question.{Question}
-use Rattle.call_questions.specs.Questions.{locks_behind}
-use Rattle.call_writes.proofs.Names.{operation_aside}
-use Rattle.call_writes.specs.Views.{locks_under}
-use Rattle.call_writes.specs.Words.{AccessView}
+use Rattle.undecided_calls.proofs.Names.{operation_aside}
+use Rattle.undecided_calls.specs.Below.{AccessView, Question, locks_behind, locks_under}
 use Rattle.page_locks.proofs.NameLemmas.{is_same-itself}
 use Rattle.page_locks.proofs.WriterLemmas.{exclusive_alone}
 use Rattle.page_locks.specs.declared.lock.LockName.TheVariants as names_are

@@ -3,10 +3,7 @@ use Rattle.std.proofs.Common.{◌≡◌, Bool, true, false, ℕ, zero, suc, List
 use Rattle.std.specs.Prelude.{if◌then◌else◌}
 use Rattle.std.specs.List.{All}
 use Rattle.std.proofs.lemmas.List.Elements.{All-drop, All-head, All-nil, All-push, All-tail, All-take}
-use Rattle.call_writes.specs.declared.due.Due.{Due}
-use Rattle.call_writes.specs.declared.due.Due.TheVariants.{Trying, Full, Undoing, Writing}
-use Rattle.call_writes.specs.Dues.{CanGoOn, MayGoOn, due_writes}
-use Rattle.call_writes.specs.Words.{is_same, key_of, undoing}
+use Rattle.undecided_calls.specs.Below.{CanGoOn, Due, Full, MayGoOn, Trying, Undoing, Writing, due_writes, is_same, key_of, undoing}
 use Rattle.owed_records.proofs.OverlayLemmas.{one_local}
 use Rattle.xsi_inquiry.specs.Writing.{AreAbsent, CanAllBe, CanBe, inserted, key_written, somes, with_at, writes_of, written_by}
 use Rattle.xsi_inquiry.specs.declared.write.Write.{Write}

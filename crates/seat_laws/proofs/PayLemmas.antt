@@ -4,10 +4,7 @@ use Rattle.call_payments.proofs.RecordLemmas.{swept_guard, without_at}
 use Rattle.call_payments.specs.declared.payment.Stage.TheVariants as stages
 use Rattle.call_payments.specs.Paying.{IsPayingSweep}
 use Rattle.call_payments.specs.Words.{CallWrites, Faces, IsCarrying, Owns, Work, sweep_facts, sweep_locks, writes_facts, writes_locks}
-use Rattle.call_writes.specs.Carrying.{IsUnderWay}
-use Rattle.call_writes.specs.Dues.{purpose_of}
-use Rattle.call_writes.specs.Words.{AccessView, Allows, access_key, made}
-use Rattle.call_writes.specs.declared.due.Due.{Due}
+use Rattle.undecided_calls.specs.Below.{AccessView, Allows, Due, IsUnderWay, access_key, made, purpose_of}
 use Rattle.queue_model.specs.declared.queue.Queue.{Queue}
 use Rattle.seat_laws.specs.Words.{AreSameUnder, Change, IsPaying, Known, Lock, Plan, PoolState, Record, RecordKey, Records, Sees, Stage, StandsAt, State, Table, guard_of, kind_of, store_of}
 use Rattle.seat_laws.specs.Beside.{HoldsNames, LeavesSeat}

@@ -4,9 +4,7 @@ pub use Rattle.call_decisions.specs.Settling.{IsAnswer, writes_owed}
 pub use Rattle.call_decisions.specs.Words.{Answer, Caller, Owes, Sweep, Verdict, outcome}
 pub use Rattle.call_payments.specs.Paying.{AreSameUnder, IsPaying}
 pub use Rattle.call_payments.specs.declared.payment.Stage.{Stage}
-pub use Rattle.call_questions.specs.Words.{AnyInquiry, Counter, Roomful, StandsAt, counter_key}
-pub use Rattle.call_writes.specs.declared.writes.CallWrites.{CallWrites}
-pub use Rattle.call_writes.specs.Words.{HasNoFileLock, Known, Owns, Progress, Sees, Step, Turn, world}
+pub use Rattle.undecided_calls.specs.Below.{AnyInquiry, CallWrites, Counter, HasNoFileLock, Known, Owns, Progress, Roomful, Sees, StandsAt, Step, Turn, counter_key, world}
 pub use Rattle.file_pages.specs.Files.{IsFilePool}
 pub use Rattle.file_pages.specs.declared.fault.FileFault.{FileFault}
 pub use Rattle.page_locks.specs.Table.{IsLawful, held}

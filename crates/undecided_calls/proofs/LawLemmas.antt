@@ -5,7 +5,7 @@ use Rattle.call_questions.specs.declared.question.Question.{Question}
 use Rattle.call_questions.specs.Agreeing.{Agrees}
 use Rattle.call_questions.specs.Laws.{BeginFewSearches as QuestionsBeginFew, HaveFewSteps as QuestionsHaveFew}
 use Rattle.call_questions.specs.Questions.{IsRightQuestion, facts_of, locks_behind}
-use Rattle.held_names.specs.Laws.{Begins}
+use Rattle.call_questions.specs.Words.{Begins}
 use Rattle.stale_search.specs.Steps.{Sees}
 use Rattle.xsi_inquiry.specs.Telling.{most_asked}
 use Rattle.undecided_calls.specs.declared.trials.Trials.{Trials}

@@ -2,8 +2,7 @@
 pub use Rattle.any_inquiry.specs.Asked.{few_of}
 pub use Rattle.call_decisions.proofs.SettleLemmas.{settles, tries_rightly}
 pub use Rattle.call_decisions.specs.Laws.{CanTry}
-pub use Rattle.call_names.proofs.NamesLemmas.{take_in_order}
-pub use Rattle.call_names.proofs.WriteLemmas.{write_under_names}
+pub use Rattle.call_questions.proofs.Names.{take_in_order, write_under_names}
 pub use Rattle.call_questions.proofs.LeftLemmas.{few_searches}
 pub use Rattle.call_questions.proofs.PlanLemmas.{held_names}
 pub use Rattle.call_questions.proofs.TurnLemmas.{writes_none}
@@ -13,6 +12,7 @@ pub use Rattle.call_questions.specs.Questions.{changes_by, facts_of, has_asked, 
 pub use Rattle.call_writes.proofs.DecidedLemmas.{all_stand, one_more_stands}
 pub use Rattle.call_writes.proofs.DueLemmas.{drop_next, own_deed, undoing_next}
 pub use Rattle.call_writes.proofs.LawLemmas.{times_most}
+pub use Rattle.call_writes.proofs.Names.{operation_aside}
 pub use Rattle.call_writes.specs.CarrySteps.{Advances, Carries, KeepsPlan, Leaves}
 pub use Rattle.call_writes.specs.Carrying.{OwnsPlan}
 pub use Rattle.call_writes.specs.Dues.{CanGoOn, after_deed, deed_key, deeds_left, next_deed}
@@ -26,4 +26,4 @@ pub use Rattle.xsi_inquiry.specs.Owning.{IsUnder}
 pub use Rattle.call_questions.specs.declared.question.Question.{Question}
 pub use Rattle.call_writes.specs.Views.{decided_at, facts_under, is_full_at, locks_under, set_out, turn_under}
 pub use Rattle.call_writes.specs.declared.due.Due.TheVariants.{Writing}
-pub use Rattle.held_names.specs.NameSteps.{GivesBack, MakesNameStep}
+pub use Rattle.call_questions.specs.Words.{GivesBack, MakesNameStep}

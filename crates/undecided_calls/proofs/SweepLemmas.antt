@@ -1,11 +1,11 @@
 -- A Remove that sweeps changes the file behind its sweep.
-use Rattle.std.proofs.Common.{◌≡◌, ◌≢◌, sym, ap, subst, ℕ, Bool, true, false, List, Option, Some, None, Result, Ok, Err}
+use Rattle.std.proofs.Common.{◌≡◌, ◌≢◌, sym, ap, subst, ℕ, Bool, true, false, List, Option, Some, None, Ok, Err}
 use Rattle.std.proofs.lemmas.Bool.{true≢false}
 use Rattle.std.specs.Option.{is_some}
 use Rattle.std.specs.Prelude.{slice_get}
 use Rattle.any_inquiry.specs.Anything.{decided_of, if_of, of_remove}
 use Rattle.any_inquiry.specs.Words.{RemoveInquiry}
-use Rattle.call_decisions.specs.declared.settled.Settled.TheVariants.{Answers, Sweeps, Waits}
+use Rattle.call_decisions.specs.declared.settled.Settled.TheVariants.{Sweeps}
 use Rattle.queue_model.specs.declared.call.Call.TheVariants as calls
 use Rattle.xsi_inquiry.specs.declared.decision.Decision.TheVariants as decisions
 use Rattle.xsi_sweep.specs.declared.stage.Stage.{Stage}

@@ -1,4 +1,5 @@
 pub mod Words
+pub mod Below
 pub mod Undecided
 pub mod Knowing
 pub mod UndecidedSteps

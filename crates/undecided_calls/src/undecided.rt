@@ -1,7 +1,7 @@
 //! A call up to its Decide.
 
 ghost use Rattle.std.specs.Prelude.{◌≡◌, ◌≤◌, ℕ, IfOk, IsSome, None, false, true, not};
-ghost use Rattle.held_names.specs.NameSteps.{GivesBack, MakesNameStep};
+ghost use Rattle.call_questions.specs.Words.{GivesBack, MakesNameStep};
 ghost use Rattle.xsi_inquiry.specs.Rooms.{HasRoom};
 ghost use Rattle.xsi_inquiry.specs.Telling.{Gives};
 ghost use Rattle.undecided_calls.specs.Words.{Change, IsBare, IsReady, IsSeat, KnowsNear, NearsOrSpares, OnlyWrites, PoolState, RecordKey, Records, State, Table, caller_of, is_done, is_fault, plan_of, row_of, store_of, with_row};

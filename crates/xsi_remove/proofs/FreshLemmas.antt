@@ -12,7 +12,7 @@ use Rattle.xsi_remove.specs.Deeds.{begun_work, led_to, with_deed}
 use Rattle.xsi_remove.specs.Sweeps.{sweep_facts, sweep_locks}
 use Rattle.xsi_remove.specs.SweepSteps.{IsOf, turns_of}
 use Rattle.xsi_remove.specs.Works.{is_move}
-use Rattle.xsi_remove.specs.Words.{RecordKey, PoolState, Lock, Store, OnlyWrites, Progress, Moved, Blocked, Fault, Ended, is_fault, NearsOrSpares, Delete, ToFind, ToWrite, begun_turn, Remove}
+use Rattle.xsi_remove.specs.Words.{RecordKey, PoolState, Lock, OnlyWrites, Progress, Moved, Blocked, Fault, Ended, is_fault, NearsOrSpares, begun_turn}
 
 -- ---- what follows holds nothing yet
 

@@ -1,5 +1,5 @@
 -- How a sweep begins and ends.
-use Rattle.std.proofs.Common.{◌≡◌, refl, sym, ap, ◌∙◌, subst, ℕ, ◌-◌, ◌≤◌, true, List, length, Option, Some, None, arith}
+use Rattle.std.proofs.Common.{◌≡◌, refl, sym, ap, ◌∙◌, subst, ℕ, ◌≤◌, true, length, Option, Some, None, arith}
 use Rattle.std.proofs.lemmas.Bool.{true≢false}
 use Rattle.std.specs.List.{find}
 use Rattle.owed_records.proofs.DecideLemmas.{none_left as none_stands}
@@ -12,9 +12,8 @@ use Rattle.xsi_sweep.specs.Words.{find-Some, lawful_queue}
 use Rattle.xsi_sweep.proofs.SweepLemmas.{begins_whole}
 use Rattle.xsi_remove.proofs.NextLemmas.{none_left}
 use Rattle.xsi_remove.specs.Laws.{BeginsRight, EndsSwept, HasFewSteps, MOST_SWEEP_STEPS}
-use Rattle.xsi_remove.specs.Deeds.{begun_work}
-use Rattle.xsi_remove.specs.Sweeps.{IsSweeping, IsWorking, begun_at, records_left, sweep_left}
-use Rattle.xsi_remove.specs.Words.{RecordKey, Store, StandsAt, Queue, State, is_swept, swept, IsFiled, Record, Records, Sweep, MAX_MESSAGES, begun_turn}
+use Rattle.xsi_remove.specs.Sweeps.{IsWorking, begun_at, records_left, sweep_left}
+use Rattle.xsi_remove.specs.Words.{RecordKey, Store, StandsAt, Queue, State, is_swept, swept, IsFiled, Records, MAX_MESSAGES}
 
 module _ (hash : RecordKey → ℕ) (id : ℕ) (q : Queue) (s : State) (file : Store) (filed : IsFiled s)
     (alive : find (has_id id) s.queues ≡ Some q) where

@@ -1,5 +1,5 @@
 -- How a sweep begins and ends. Each is the contract of a function of laws.rt. docs/STEPS.md, "Remove".
-use Rattle.std.specs.Prelude.{ℕ, ◌≡◌, ◌≤◌, true, Option, Some, None}
+use Rattle.std.specs.Prelude.{ℕ, ◌≡◌, ◌≤◌, true, Some, None}
 use Rattle.std.specs.List.{find}
 use Rattle.queue_model.specs.Rules.{has_id}
 use Rattle.type_chains.specs.Lists.{serials}
