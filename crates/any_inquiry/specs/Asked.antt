@@ -1,6 +1,8 @@
 -- The laws of the inquiry of any call: they are those of the inquiry of its kind.
 use Rattle.std.proofs.Common.{inl, refl, Bool, List, Option, Some, None, Result, Err}
-use Rattle.any_inquiry.specs.Words.{LockName, Call, State, Record, few_of_get, get_asks, get_asks_given, get_inserts, few_of_set, set_asks, set_asks_given, set_inserts, Decision, NotASystem, Wanted, AgreesFor, IsCovered, InsertsOnlyFor, sought_next, IsTold, IsToldGiven, IsSmall, Plan, nothing, at_none, given_asks, given_none, sought_asks, sought_given, small_none, get_decided, get_plan, get_wanted, set_decided, set_plan, set_wanted, stat_decided, GetInquiry, SetInquiry, StatInquiry, ReceiveInquiry, SendInquiry, RemoveInquiry}
+use Rattle.any_inquiry.specs.Words.{LockName, Call, State, Record, few_of_get, get_asks, get_asks_given, get_inserts, few_of_set, set_asks, set_asks_given, set_inserts, Decision, NotASystem, Wanted, AgreesFor, IsCovered, InsertsOnlyFor, sought_next, IsTold, IsToldGiven, IsSmall, Plan, nothing, get_decided, get_plan, get_wanted, set_decided, set_plan, set_wanted, stat_decided, GetInquiry, SetInquiry, StatInquiry, ReceiveInquiry, SendInquiry, RemoveInquiry}
+use Rattle.xsi_inquiry.proofs.AskLemmas.{at_none, given_asks, given_none, sought_asks, sought_given}
+use Rattle.xsi_inquiry.proofs.DecisionLemmas.{small_none}
 use Rattle.queue_model.specs.declared.call.Call.TheVariants as calls
 use Rattle.any_inquiry.specs.declared.any_inquiry.AnyInquiry.{AnyInquiry}
 use Rattle.any_inquiry.specs.Anything.{asked_of, decided_of, if_of, of_get, of_receive, of_remove, of_send, of_set, of_stat, plan_of}

@@ -1,9 +1,9 @@
 //! The inquiry of any call.
 
 use queue_model::{Call, Caller};
-use queue_records::Record;
+use xsi_control::queue_records::Record;
+use xsi_control::xsi_inquiry::{Decision, Inquiry, NotASystem, Room, Wanted, Write};
 use xsi_control::{GetInquiry, SetInquiry, StatInquiry};
-use xsi_inquiry::{Decision, Inquiry, NotASystem, Room, Wanted, Write};
 use xsi_receive::ReceiveInquiry;
 use xsi_send::SendInquiry;
 use xsi_sweep::RemoveInquiry;

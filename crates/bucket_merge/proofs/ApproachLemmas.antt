@@ -1,8 +1,8 @@
 -- The steps of a merge on its way to the bucket.
 use Rattle.std.proofs.Common.{◌≡◌, refl, sym, subst, ℕ, ◌+◌, false, not, List, None, Some, Option, IsSome, arith}
 use Rattle.std.proofs.lemmas.Bool.{true≢false}
-use Rattle.file_pages.specs.declared.fault.FileFault.{FileFault}
-use Rattle.file_pages.specs.Reads.{OnlyReads}
+use Rattle.stale_search.specs.file_pages.declared.fault.FileFault.{FileFault}
+use Rattle.stale_search.specs.file_pages.Reads.{OnlyReads}
 use Rattle.hash_file.specs.Changes.{RecordWrite, Remove}
 use Rattle.hash_file.specs.Kept.{KeepsContents}
 use Rattle.step_rules.specs.declared.kind.Kind.{Kind}

@@ -5,9 +5,9 @@ use Rattle.positions.proofs.BuddyLaws.{lower_buddies, upper_buddies, buddy_is}
 use Rattle.hash_file.specs.Store.{Store, page_at, range_at, has_bucket}
 use Rattle.hash_file.specs.Chain.{chain, IsBucketOf}
 use Rattle.hash_file.proofs.Roles.{numbered}
-use Rattle.file_pages.specs.declared.sight.BucketSight.{BucketSight}
-use Rattle.file_pages.specs.Reads.{IsSeen}
-use Rattle.file_pages.proofs.StoreLemmas.{layout_is, pages_are}
+use Rattle.stale_search.specs.file_pages.declared.sight.BucketSight.{BucketSight}
+use Rattle.stale_search.specs.file_pages.Reads.{IsSeen}
+use Rattle.stale_search.proofs.of_file_pages.StoreLemmas.{layout_is, pages_are}
 use Rattle.page_locks.specs.Writers.{IsWriter}
 use Rattle.step_rules.specs.World.{World}
 use Rattle.step_rules.specs.Sound.{IsSoundWorld}

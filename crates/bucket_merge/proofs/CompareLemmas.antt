@@ -3,13 +3,13 @@ use Rattle.std.proofs.Common.{◌≡◌, ◌≢◌, ◌⊎◌, refl, sym, ap, �
 use Rattle.std.proofs.lemmas.Bool.{cases_lt}
 use Rattle.std.specs.Prelude.{IsTrue}
 use Rattle.std.specs.List.{Contains}
-use Rattle.file_pages.specs.Fault.{IsDevicesFault}
+use Rattle.stale_search.specs.file_pages.Fault.{IsDevicesFault}
 use Rattle.page_locks.specs.Locks.{kind_of}
 use Rattle.page_locks.specs.Writers.{may_write}
-use Rattle.file_pages.specs.declared.fault.FileFault.{FileFault}
-use Rattle.file_pages.specs.declared.sight.BucketSight.{BucketSight}
-use Rattle.file_pages.specs.Files.{IsFilePool}
-use Rattle.file_pages.specs.Reads.{OnlyReads, IsSeen}
+use Rattle.stale_search.specs.file_pages.declared.fault.FileFault.{FileFault}
+use Rattle.stale_search.specs.file_pages.declared.sight.BucketSight.{BucketSight}
+use Rattle.stale_search.specs.file_pages.Files.{IsFilePool}
+use Rattle.stale_search.specs.file_pages.Reads.{OnlyReads, IsSeen}
 use Rattle.hash_file.specs.Store.{page_at, range_at}
 use Rattle.hash_file.specs.Chain.{chain}
 use Rattle.step_rules.specs.declared.kind.Kind.TheVariants as kinds

@@ -11,3 +11,5 @@ pub mod JoinLemmas
 pub mod LockArms
 pub mod LookLemmas
 pub mod MoveLemmas
+pub use Rattle.stale_search.proofs as of_stale_search
+pub use Rattle.stale_search.proofs.of_file_pages

@@ -3,16 +3,16 @@ pub use Rattle.bucket_page.specs.Bucket.{Bucket}
 pub use Rattle.bucket_page.specs.Dividing.{ShareNoKey}
 pub use Rattle.bucket_page.specs.Records.{Pair, record_bytes}
 pub use Rattle.directory.specs.declared.header.Header.{Header}
-pub use Rattle.file_pages.proofs.StoreLemmas.{header_is, layout_is, pages_are}
-pub use Rattle.file_pages.specs.Buckets.{AreJoinable, IsThere, MayJoin}
-pub use Rattle.file_pages.specs.Entries.{MayRetarget}
-pub use Rattle.file_pages.specs.Fault.{IsDevicesFault}
-pub use Rattle.file_pages.specs.Files.{IsFilePool, IsReady, SpellsFile}
-pub use Rattle.file_pages.specs.Headers.{MayMergeCount}
-pub use Rattle.file_pages.specs.Reads.{IsSeen, OnlyReads}
-pub use Rattle.file_pages.specs.Writes.{OnlyWrites}
-pub use Rattle.file_pages.specs.declared.fault.FileFault.{FileFault}
-pub use Rattle.file_pages.specs.declared.sight.BucketSight.{BucketSight}
+pub use Rattle.stale_search.proofs.of_file_pages.StoreLemmas.{header_is, layout_is, pages_are}
+pub use Rattle.stale_search.specs.file_pages.Buckets.{AreJoinable, IsThere, MayJoin}
+pub use Rattle.stale_search.specs.file_pages.Entries.{MayRetarget}
+pub use Rattle.stale_search.specs.file_pages.Fault.{IsDevicesFault}
+pub use Rattle.stale_search.specs.file_pages.Files.{IsFilePool, IsReady, SpellsFile}
+pub use Rattle.stale_search.specs.file_pages.Headers.{MayMergeCount}
+pub use Rattle.stale_search.specs.file_pages.Reads.{IsSeen, OnlyReads}
+pub use Rattle.stale_search.specs.file_pages.Writes.{OnlyWrites}
+pub use Rattle.stale_search.specs.file_pages.declared.fault.FileFault.{FileFault}
+pub use Rattle.stale_search.specs.file_pages.declared.sight.BucketSight.{BucketSight}
 pub use Rattle.hash_file.proofs.Chains.{chain_valid}
 pub use Rattle.hash_file.proofs.Lookups.{absent_elsewhere}
 pub use Rattle.hash_file.proofs.Roles.{numbered}

@@ -1,6 +1,6 @@
 -- What a step of a merge does. docs/STEPS.md, "Merge".
 use Rattle.std.specs.Prelude.{ℕ, ◌≡◌, ◌↔◌, true, false, List, Result, Ok, Err}
-use Rattle.file_pages.specs.declared.fault.FileFault.{FileFault}
+use Rattle.stale_search.specs.file_pages.declared.fault.FileFault.{FileFault}
 use Rattle.page_locks.specs.Table.{with_lock, with_kind, Opposes, IsOpposed}
 use Rattle.stale_search.specs.Steps.{Stays, WritesOrSpares}
 use Rattle.step_rules.specs.Turns.{is_fault}

@@ -10,8 +10,8 @@ pub use Rattle.page_locks.specs.declared.lock.LockKind.TheVariants.{Read, Select
 pub use Rattle.page_locks.specs.declared.lock.LockName.{LockName}
 pub use Rattle.page_locks.specs.declared.lock.LockName.TheVariants.{Directory, Page}
 pub use Rattle.page_locks.specs.Table.{Table, row_of, with_row}
-pub use Rattle.buffer_pool.specs.Pool.{PoolState}
-unfoldable pub use Rattle.file_pages.specs.Files.{store_of}
+pub use Rattle.stale_search.specs.buffer_pool.Pool.{PoolState}
+unfoldable pub use Rattle.stale_search.specs.file_pages.Files.{store_of}
 pub use Rattle.hash_file.specs.Store.{Store}
 pub use Rattle.hash_file.specs.Change.{Change, Quiet, Absorbed, Buried, Drained, Freed}
 pub use Rattle.step_rules.specs.declared.kind.TheConstants.{MERGED_BYTES}

@@ -14,3 +14,5 @@ mod place;
 pub use laws::a_merge_keeps_what_its_caller_knows;
 pub use merge::Merge;
 pub use place::{Buddies, Joint, MergePlace, Own, Seen};
+pub use stale_search;
+pub use stale_search::{buffer_pool, file_pages};

@@ -3,7 +3,7 @@
 ghost use Rattle.std.specs.Prelude.{◌≡◌, ◌≤◌, ◌↔◌, ◌+◌, IsTrue};
 ghost use Rattle.step_rules.specs.declared.kind.TheConstants.{MERGED_BYTES};
 ghost use Rattle.directory.specs.declared.layout.TheConstants.{GREATEST_DEPTH};
-ghost use Rattle.file_pages.specs.Files.{IsReady};
+ghost use Rattle.stale_search.specs.file_pages.Files.{IsReady};
 ghost use Rattle.stale_search.specs.declared.place.ApproachPlace.TheVariants as approach_places;
 ghost use Rattle.bucket_merge.specs.declared.place.MergePlace.TheVariants as places;
 ghost use Rattle.bucket_merge.specs.Places.{AreBuddies, IsOwn};
@@ -11,10 +11,10 @@ ghost use Rattle.bucket_merge.specs.Steps.{MakesStepHere};
 
 use crate::merge::Merge;
 use crate::place::{Buddies, MergePlace, Own, Seen};
-use buffer_pool::Pool;
-use file_pages::{FileFault, read_bucket, read_entry};
 use page_device::PageDevice;
 use positions::{Range, index};
+use stale_search::buffer_pool::Pool;
+use stale_search::file_pages::{FileFault, read_bucket, read_entry};
 use step_rules::{Kind, MERGED_BYTES, Progress};
 
 impl Merge {

@@ -5,7 +5,7 @@ ghost use Rattle.bucket_page.specs.declared.record_key.RecordKey.{RecordKey};
 ghost use Rattle.page_locks.specs.declared.lock.Lock.{Lock};
 ghost use Rattle.page_locks.specs.declared.row.TheConstants.{MAX_LOCKS};
 ghost use Rattle.page_locks.specs.Table.{IsSeat, row_of, with_row, without_lock, held};
-ghost use Rattle.file_pages.specs.Files.{IsReady};
+ghost use Rattle.stale_search.specs.file_pages.Files.{IsReady};
 ghost use Rattle.hash_file.specs.Change.{Change};
 ghost use Rattle.step_rules.specs.Turns.{is_fault};
 ghost use Rattle.stale_search.specs.Rows.{HasNoFileLock};
@@ -16,14 +16,14 @@ ghost use Rattle.bucket_merge.specs.Steps.{GoesOn, IsConverted, IsGranted, Keeps
 
 use crate::place::MergePlace;
 use bucket_page::RecordKey;
-use buffer_pool::Pool;
 use directory::page_of;
-use file_pages::{
+use page_device::PageDevice;
+use page_locks::{Grant, LockKind, LockName, LockTable};
+use stale_search::buffer_pool::Pool;
+use stale_search::file_pages::{
     FileFault, count_merge, link_free, lower_depth, read_header, retarget, write_free, write_left,
     write_tombstone,
 };
-use page_device::PageDevice;
-use page_locks::{Grant, LockKind, LockName, LockTable};
 use stale_search::{Approach, ApproachPlace};
 use std::marker::Model;
 use std::mem::size_of;

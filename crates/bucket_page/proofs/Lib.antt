@@ -12,3 +12,5 @@ pub mod RecordLaws
 pub mod SpliceLaws
 pub mod StandingLaws
 pub mod Steps
+pub use Rattle.directory.proofs as of_directory
+pub use Rattle.directory.proofs.of_fields

@@ -4,19 +4,19 @@ use Rattle.std.proofs.lemmas.Bool.{le-leb, lt-ltb}
 use Rattle.std.proofs.lemmas.List.{take_at, drop_at}
 use Rattle.std.proofs.Math.Nat.{pow-le-pow_right}
 use Rattle.bucket_page.specs.declared.layout.TheConstants.{LINK_BYTES, ROOM_BYTES}
-use Rattle.page_device.specs.declared.page.TheConstants.{PAYLOAD_BYTES}
+use Rattle.directory.specs.page_device.declared.page.TheConstants.{PAYLOAD_BYTES}
 use Rattle.directory.specs.declared.layout.TheConstants.{GREATEST_DEPTH}
 use Rattle.bucket_page.specs.declared.page.Malformed.{Malformed}
 use Rattle.bucket_page.specs.declared.page.PageKind.{PageKind}
 use Rattle.bucket_page.specs.declared.page.PageKind.TheVariants as kinds
-use Rattle.fields.specs.Numbers.{four, zeros, four_at}
+use Rattle.directory.specs.fields.Numbers.{four, zeros, four_at}
 use Rattle.bucket_page.specs.Records.{record_bytes, pairs_of, fills, ascend}
 use Rattle.bucket_page.specs.Bucket.{Bucket}
 use Rattle.bucket_page.specs.Spelling.{head_of, bucket_bytes, link_bytes, bytes_of, IsBucket, IsPage, Spells}
 use Rattle.bucket_page.specs.Reading.{record_count_at, used_at, area, after_area, bucket_in, page_in, bucket_fault, link_fault, fault_of, reading, answer}
-use Rattle.fields.specs.Numbers.{is_zero}
-use Rattle.fields.proofs.ZeroLaws.{zeros_again, length-zeros}
-use Rattle.fields.proofs.NumberLaws.{after_part, four_again, length-four}
+use Rattle.directory.specs.fields.Numbers.{is_zero}
+use Rattle.directory.proofs.of_fields.ZeroLaws.{zeros_again, length-zeros}
+use Rattle.directory.proofs.of_fields.NumberLaws.{after_part, four_again, length-four}
 use Rattle.bucket_page.proofs.HeadLaws.{head_again}
 use Rattle.bucket_page.proofs.RecordLaws.{records_again, count_below}
 use Rattle.directory.specs.Pages.{IsDirectoryPage}

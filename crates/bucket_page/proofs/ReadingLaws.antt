@@ -4,20 +4,20 @@ use Rattle.std.specs.Prelude.{IfOk}
 use Rattle.std.proofs.lemmas.Bool.{eqb-true, leb-true, ltb-true}
 use Rattle.std.proofs.lemmas.List.{take-append-drop, length-take, length-drop}
 use Rattle.bucket_page.specs.declared.layout.TheConstants.{BUCKET, LINK_BYTES, ROOM_BYTES}
-use Rattle.page_device.specs.declared.page.TheConstants.{PAYLOAD_BYTES}
+use Rattle.directory.specs.page_device.declared.page.TheConstants.{PAYLOAD_BYTES}
 use Rattle.bucket_page.specs.declared.page.Malformed.{Malformed}
 use Rattle.bucket_page.specs.declared.page.Malformed.TheVariants as faults
 use Rattle.bucket_page.specs.declared.page.PageKind.{PageKind}
 use Rattle.bucket_page.specs.declared.page.PageKind.TheVariants as kinds
-use Rattle.fields.specs.Numbers.{two, four, zeros, two_at, four_at}
+use Rattle.directory.specs.fields.Numbers.{two, four, zeros, two_at, four_at}
 use Rattle.bucket_page.specs.Records.{Pair, record_bytes, pairs_of}
 use Rattle.directory.specs.Pages.{entries_at}
 use Rattle.bucket_page.specs.Spelling.{head_bytes, padded, link_bytes, Spells}
 use Rattle.bucket_page.specs.Reading.{kind_at, depth_at, record_count_at, used_at, area, after_area, head_at, bucket_in, page_in, bucket_fault, directory_fault, link_fault, fault_of, answer, reading}
-use Rattle.fields.specs.Numbers.{is_zero}
-use Rattle.fields.proofs.Tests.{both_true}
-use Rattle.fields.proofs.ZeroLaws.{zeros_at, zeros_of}
-use Rattle.fields.proofs.NumberLaws.{IsBytes, IsBytes-drop, IsBytes-take, two_takes, four_takes, four_small}
+use Rattle.directory.specs.fields.Numbers.{is_zero}
+use Rattle.directory.proofs.of_fields.Tests.{both_true}
+use Rattle.directory.proofs.of_fields.ZeroLaws.{zeros_at, zeros_of}
+use Rattle.directory.proofs.of_fields.NumberLaws.{IsBytes, IsBytes-drop, IsBytes-take, two_takes, four_takes, four_small}
 use Rattle.bucket_page.proofs.RecordLaws.{records_take}
 use Rattle.directory.proofs.PageLaws.{directory_takes}
 use Rattle.bucket_page.proofs.HeadLaws.{head_parts}

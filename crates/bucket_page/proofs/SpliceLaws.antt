@@ -1,10 +1,10 @@
 -- Bytes of records with some put in or taken out.
 use Rattle.std.proofs.Common.{◌≡◌, ℕ, ◌+◌, ◌-◌, ◌≤◌, List, ◌++◌, length, take, drop, refl, sym, ap, ◌∙◌, append_assoc, arith}
 use Rattle.std.proofs.lemmas.List.{take_at, drop_at, drop-drop, drop-take, length-append, length-take, length-drop, take-take}
-use Rattle.fields.specs.Numbers.{zeros}
+use Rattle.directory.specs.fields.Numbers.{zeros}
 use Rattle.bucket_page.specs.Spelling.{padded}
 use Rattle.bucket_page.specs.Changes.{inserted_at, taken_out}
-use Rattle.fields.proofs.ZeroLaws.{drop-zeros, zeros-zeros}
+use Rattle.directory.proofs.of_fields.ZeroLaws.{drop-zeros, zeros-zeros}
 
 -- the parts that `insert` makes are those of its contract
 pub insert_parts : (bytes : List ℕ) (used at n : ℕ) (new front back region rest placed : List ℕ) → at ≤ used

@@ -8,3 +8,6 @@ pub mod Pseudokeys
 pub mod Reading
 pub mod Records
 pub mod Spelling
+pub use Rattle.directory.specs as directory
+pub use Rattle.directory.specs.fields
+pub use Rattle.directory.specs.page_device

@@ -2,12 +2,12 @@
 use Rattle.std.specs.Prelude.{◌≡◌, ℕ, ◌-◌, ◌≤◌, ◌<◌, ◌^◌, true, List, ◌∷◌, ◌++◌, length}
 use Rattle.std.specs.List.{AllByRecursion}
 use Rattle.bucket_page.specs.declared.layout.TheConstants.{BUCKET, FREE, LINK_BYTES, ROOM_BYTES, TOMBSTONE}
-use Rattle.page_device.specs.declared.page.TheConstants.{PAYLOAD_BYTES}
+use Rattle.directory.specs.page_device.declared.page.TheConstants.{PAYLOAD_BYTES}
 use Rattle.directory.specs.declared.layout.TheConstants.{GREATEST_DEPTH}
 use Rattle.bucket_page.specs.declared.head.Head.{Head}
 use Rattle.bucket_page.specs.declared.page.PageKind.{PageKind}
 use Rattle.bucket_page.specs.declared.page.PageKind.TheVariants as kinds
-use Rattle.fields.specs.Numbers.{two, four, zeros}
+use Rattle.directory.specs.fields.Numbers.{two, four, zeros}
 use Rattle.bucket_page.specs.Records.{IsPair, record_bytes, ascend}
 use Rattle.bucket_page.specs.Bucket.{Bucket}
 use Rattle.directory.specs.Pages.{IsDirectory, directory_bytes}

@@ -11,8 +11,8 @@ use crate::record_key::RecordKey;
 use crate::records::Records;
 use crate::splice::{insert, take_out};
 use directory::HEAD_BYTES;
-use fields::{set_bytes, two_at};
-use page_device::{PAYLOAD_BYTES, Payload};
+use directory::fields::{set_bytes, two_at};
+use directory::page_device::{PAYLOAD_BYTES, Payload};
 use thiserror::Error;
 
 /// A record has more bytes than its bucket has room. The bucket is as it was.

@@ -9,9 +9,9 @@ use crate::change::{append, put_fitting, records_of};
 use crate::head::Head;
 use crate::pseudokey::PseudoKey;
 use crate::write::write_bucket;
+use directory::fields::four_at;
+use directory::page_device::Payload;
 use directory::{GREATEST_DEPTH, HEAD_BYTES};
-use fields::four_at;
-use page_device::Payload;
 
 /// Cuts a bucket in two: the old one keeps the records whose pseudokeys have 0 in the next bit, and
 /// the new one, which is to stand on `page`, gets the others and follows it (Fagin et al. 1979).

@@ -6,7 +6,7 @@ ghost use Rattle.bucket_page.specs.Spelling.{head_bytes};
 
 use crate::layout::BUCKET;
 use directory::HEAD_BYTES;
-use fields::{blank, four_at, two_at, write_four, write_two};
+use directory::fields::{blank, four_at, two_at, write_four, write_two};
 
 /// The numbers at the head of a bucket.
 #[derive(Clone, Copy, Debug)]

@@ -1,7 +1,7 @@
 //! Where the fields of a page stand (docs/FORMAT.md, "Pages").
 
 use directory::HEAD_BYTES;
-use page_device::PAYLOAD_BYTES;
+use directory::page_device::PAYLOAD_BYTES;
 
 /// Bytes that a bucket has for records.
 pub const ROOM_BYTES: usize = PAYLOAD_BYTES - HEAD_BYTES;

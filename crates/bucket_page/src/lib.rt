@@ -16,6 +16,8 @@ mod view;
 mod write;
 
 pub use change::{DoesNotFit, put, remove, replace, replace_front};
+pub use directory;
+pub use directory::{fields, page_device, positions};
 pub use divide::{cut, join, write_lower_half, write_upper_half};
 pub use layout::{BUCKET, FREE, RECORD_HEAD_BYTES, ROOM_BYTES, TOMBSTONE};
 pub use page::{Malformed, PageKind, bucket_of, link_of, read_page};

@@ -1,9 +1,9 @@
 //! Which page a payload spells.
 
 ghost use Rattle.std.specs.Prelude.{◌≡◌, IfOk, Ok, drop, length, take};
-ghost use Rattle.faults.specs.declared.TheConstants.{MALFORMED};
-ghost use Rattle.page_device.specs.declared.page.TheConstants.{PAYLOAD_BYTES};
-ghost use Rattle.fields.specs.Numbers.{four_at};
+ghost use Rattle.directory.specs.faults.declared.TheConstants.{MALFORMED};
+ghost use Rattle.directory.specs.page_device.declared.page.TheConstants.{PAYLOAD_BYTES};
+ghost use Rattle.directory.specs.fields.Numbers.{four_at};
 ghost use Rattle.bucket_page.specs.Reading.{answer, bucket_in, bucket_fault, link_fault, reading};
 ghost use Rattle.bucket_page.specs.Spelling.{Spells};
 ghost use Rattle.bucket_page.specs.Changes.{IsBucketPage};
@@ -12,10 +12,10 @@ use crate::change::records_of;
 use crate::layout::{BUCKET, FREE, LINK_BYTES, ROOM_BYTES, TOMBSTONE};
 use crate::records::Records;
 use crate::view::BucketView;
+use directory::faults::MALFORMED;
+use directory::fields::{four_at, is_zero, two_at};
+use directory::page_device::{PAYLOAD_BYTES, Payload};
 use directory::{DIRECTORY, DirectoryView, GREATEST_DEPTH, HEAD_BYTES, read_entries};
-use faults::MALFORMED;
-use fields::{four_at, is_zero, two_at};
-use page_device::{PAYLOAD_BYTES, Payload};
 use thiserror::Error;
 
 /// The first test that a payload fails.

@@ -4,7 +4,7 @@ ghost use Rattle.std.specs.Prelude.{◌≡◌, ◌%◌, ◌^◌};
 ghost use Rattle.bucket_page.specs.Pseudokeys.{sha_key};
 
 use crate::record_key::RecordKey;
-use fields::four_at;
+use directory::fields::four_at;
 use sha2::{Digest, Sha256};
 
 /// A way to make a pseudokey of a key. The pseudokey of a key is always the same.

@@ -1,10 +1,10 @@
 //! Keys of records, and their thirteen bytes.
 
 ghost use Rattle.std.specs.Prelude.{◌≡◌, ◌≤◌, length, true, IsTrue, ◌↔◌};
-ghost use Rattle.fields.specs.Numbers.{four, eight};
+ghost use Rattle.directory.specs.fields.Numbers.{four, eight};
 ghost use Rattle.bucket_page.specs.Keys.{IsKey, key_bytes, key_at, is_below};
 
-use fields::{eight_at, four_at, write_eight, write_four};
+use directory::fields::{eight_at, four_at, write_eight, write_four};
 
 /// Bytes of a key.
 pub const KEY_BYTES: usize = 13;

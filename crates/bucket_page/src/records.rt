@@ -3,11 +3,11 @@
 ghost use Rattle.std.specs.Prelude.{◌≡◌, true, false, length, ◌<◌, ◌+◌, ◌≤◌, IfSome, IfNone, Some, None};
 ghost use Rattle.bucket_page.specs.Keys.{is_below};
 ghost use Rattle.bucket_page.specs.Records.{Pair, pair_at, after_pair, pairs_of, begins, fills, record_bytes, lookup, ascend, is_above};
-ghost use Rattle.fields.specs.Numbers.{two_at};
+ghost use Rattle.directory.specs.fields.Numbers.{two_at};
 
 use crate::layout::RECORD_HEAD_BYTES;
 use crate::record_key::{RecordKey, key_at};
-use fields::two_at;
+use directory::fields::two_at;
 use std::marker::Model;
 
 /// A record: its key, and its value as the page holds it.

@@ -1,13 +1,13 @@
 //! Edits of the bytes of records, which stand at the front of a slice with room behind them.
 
 ghost use Rattle.std.specs.Prelude.{◌≡◌, ◌+◌, ◌-◌, ◌≤◌, ◌++◌, drop, length, take};
-ghost use Rattle.fields.specs.Numbers.{zeros};
+ghost use Rattle.directory.specs.fields.Numbers.{zeros};
 ghost use Rattle.bucket_page.specs.Records.{pair, pair_bytes};
 ghost use Rattle.bucket_page.specs.Changes.{inserted_at, taken_out};
 
 use crate::layout::{RECORD_HEAD_BYTES, ROOM_BYTES};
 use crate::record_key::{KEY_BYTES, RecordKey, write_key};
-use fields::{blank, write_two};
+use directory::fields::{blank, write_two};
 
 /// Puts a record among the used bytes.
 pub fn insert(bytes: &mut [u8], used: usize, at: usize, key: &RecordKey, value: &[u8])

@@ -8,9 +8,9 @@ ghost use Rattle.bucket_page.specs.Changes.{SpellsBucket};
 use crate::head::Head;
 use crate::layout::{FREE, TOMBSTONE};
 use crate::page::PageKind;
+use directory::fields::{blank, write_four};
+use directory::page_device::{PAYLOAD_BYTES, Payload};
 use directory::{GREATEST_DEPTH, HEAD_BYTES};
-use fields::{blank, write_four};
-use page_device::{PAYLOAD_BYTES, Payload};
 
 /// Writes a tombstone, whose link is the page of the bucket that took its records.
 pub fn write_tombstone(payload: &mut Payload, link: u32)

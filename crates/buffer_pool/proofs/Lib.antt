@@ -2,3 +2,4 @@ pub mod ImagesLemmas
 pub mod PoolLemmas
 pub mod TableLemmas
 pub mod TransferLemmas
+pub use Rattle.page_forms.proofs as of_page_forms

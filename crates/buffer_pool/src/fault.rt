@@ -2,7 +2,7 @@
 ghost use Rattle.std.specs.Prelude.{◌≡◌};
 ghost use Rattle.buffer_pool.specs.Fault.{number_of};
 
-use page_device::DeviceFault;
+use page_device::{DeviceFault, faults};
 use std::alloc::AllocError;
 use thiserror::Error;
 

@@ -4,3 +4,4 @@ pub mod HoldLemmas
 pub mod OtherLemmas
 pub mod SettleLemmas
 pub mod Names
+pub use Rattle.owed_records.proofs as of_owed_records

@@ -11,7 +11,7 @@ use Rattle.queue_model.specs.declared.call.Call.{Call}
 use Rattle.queue_model.specs.declared.call.Call.TheVariants.{Remove}
 use Rattle.queue_records.specs.Keys.{guard_of}
 use Rattle.stale_search.specs.Rows.{HasNoFileLock}
-use Rattle.step_rules.specs.Turns.{rank_of}
+use Rattle.stale_search.specs.step_rules.Turns.{rank_of}
 use Rattle.xsi_inquiry.specs.declared.wanted.Wanted.TheVariants.{At}
 use Rattle.any_inquiry.specs.declared.any_inquiry.AnyInquiry.{AnyInquiry}
 use Rattle.any_inquiry.specs.Anything.{asked_of, left_of, locked_of, plan_of}

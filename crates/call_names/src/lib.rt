@@ -11,3 +11,4 @@ pub use laws::{
     a_call_asks_under_its_names, a_call_takes_names_in_order, a_call_writes_under_its_names,
     a_calls_names_grow,
 };
+pub use stale_search::file_pages;

@@ -14,9 +14,9 @@ use file_pages::FileFault;
 use page_device::PageDevice;
 use page_locks::LockTable;
 use std::marker::Model;
-use step_rules::Progress;
 use xsi_inquiry::Sweep;
 use xsi_remove::SweepTurns;
+use xsi_remove::step_rules::Progress;
 
 /// What a call owes behind its decision, paid step by step: first the sweep of a Remove, then its
 /// writes, or the deletions of its trials where one had no room. It holds no name: whoever drives

@@ -60,6 +60,8 @@ module _ (hash : RecordKey → ℕ) (seat : ℕ) (call : Call) (i : AnyInquiry) 
         question = right_question (asks_leave call i room s f.agrees.filed wanted asked
             (f.knows s f.agrees.filed (agrees_itself call _ s)));
         begins = f.right.begins;
+        grows = f.right.grows;
+        apart = f.right.apart;
         few = let before = f.right.few in omega (arith, before, one_more);
       };
       sees = f.sees;

@@ -2,7 +2,7 @@
 use Rattle.std.proofs.Common.{ℕ, ◌≡◌, ◌<◌, ◌≤◌, ◌+◌, ◌*◌, Bool, true, false, List, Option, Some, None, IfSome, if◌then◌else◌, refl, sym, ap, ◌∙◌, subst, inl, inr, ◌⊎◌, arith}
 use Rattle.std.proofs.lemmas.Bool.{true≢false}
 use Rattle.std.specs.List.{Contains}
-use Rattle.call_names.specs.Laws.{KeepsNames}
+use Rattle.held_names.specs.call_names.Laws.{KeepsNames}
 use Rattle.page_locks.specs.declared.lock.LockName.TheVariants.{Counter}
 use Rattle.file_pages.specs.declared.fault.FileFault.{FileFault}
 use Rattle.file_pages.specs.declared.fault.FileFault.TheVariants.{Failed}
@@ -10,12 +10,12 @@ use Rattle.step_rules.specs.Known.{AllKnown}
 use Rattle.record_access.specs.AccessSteps.{Faces as FacesAccess, MakesAccess, Rests as RestsAccess}
 use Rattle.record_access.specs.Accesses.{IsOfKind}
 use Rattle.xsi_inquiry.specs.Telling.{most_asked}
-use Rattle.call_names.proofs.NamesLemmas.{take_in_order}
+use Rattle.held_names.proofs.of_call_names.NamesLemmas.{take_in_order}
 use Rattle.held_names.proofs.TurnLemmas.{are_few_turns}
 use Rattle.call_questions.specs.declared.question.Question.{Question}
 use Rattle.call_questions.specs.Words.{RecordKey, PoolState, Table, Lock, Change, Store, row_of, with_row, store_of, Progress, Moved, Blocked, Fault, Ended, Look, World, is_fault, Step, world, NearsOrSpares, HasEnded, Record, ToFind, StandsAt, AccessView, Serves, access_answer, access_facts, access_key, access_left, access_locks, access_pseudokey, access_turn, AnyInquiry, caller_of, left_of, AreNames, names_in, names_for, names_left, MAX_NAMES, Begins, Call, State, Roomful}
 use Rattle.call_questions.specs.Answering.{MayRead}
-use Rattle.call_questions.specs.Questions.{FIND_STEPS, ROUND_STEPS, IsAsked, IsRightQuestion, IsUnderWay, KnowsNear, QuestionsView, asks_more, changes, facts_of, locks_behind, questions_left, untold}
+use Rattle.call_questions.specs.Questions.{FIND_STEPS, ROUND_STEPS, IsAsked, IsRightQuestion, IsUnderWay, KnowsApart, KnowsNear, QuestionsView, asks_more, changes, facts_of, locks_behind, questions_left, untold}
 use Rattle.call_questions.specs.QuestionSteps.{Closes, Faces, IsOver, Learns, MakesQuestions, Rests}
 use Rattle.record_access.proofs.OperationLemmas.{ended_free, owns_found}
 use Rattle.call_questions.proofs.FindLemmas.{reads_only}
@@ -66,6 +66,8 @@ module _ (hash : RecordKey → ℕ) (seat : ℕ) (call : Call) (i : AnyInquiry) 
   pub record Comes (s : State) (j : AnyInquiry) (r : Roomful) (told : Bool) : Type 0 where
     pub begins : asks_more call j ≡ false → changes call j ≡ true →
         KeepsNames call ⊎ Contains (names_in held) Counter → Begins held (names_for call j)
+    pub grows : KeepsNames call → asks_more call j ≡ true → Begins held (names_for call j)
+    pub apart : KeepsNames call → KnowsApart call j r held
     pub knows : KnowsNear call (view_of j r None) s
     pub asked : told ≡ false → IsAsked call (view_of j r None) a'
     -- fewer questions are left where one was told
@@ -277,6 +279,8 @@ module _ (hash : RecordKey → ℕ) (seat : ℕ) (call : Call) (i : AnyInquiry) 
           right = record {
             question = by closes;
             begins = (comes s change f fine).begins;
+            grows = (comes s change f fine).grows;
+            apart = (comes s change f fine).apart;
             few = few_searches;
           };
           knows = (comes s change f fine).knows;

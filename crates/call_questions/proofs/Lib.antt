@@ -1,5 +1,6 @@
 pub mod AskLemmas
 pub mod CounterLemmas
+pub mod OwnLemmas
 pub mod PlanLemmas
 pub mod KnowLemmas
 pub mod LeftLemmas
@@ -11,3 +12,4 @@ pub mod GoingLemmas
 pub mod ListenLemmas
 pub mod OpenLemmas
 pub mod Names
+pub use Rattle.step_rules.proofs as of_step_rules

@@ -3,7 +3,8 @@ use Rattle.std.proofs.Common.{ℕ, ◌≡◌, Bool, false, List, [], Option, Som
 use Rattle.std.proofs.lemmas.Bool.{true≢false}
 use Rattle.std.specs.List.{Contains}
 use Rattle.std.specs.Option.{is_some}
-use Rattle.call_names.specs.Laws.{KeepsNames}
+use Rattle.call_decisions.specs.Others.{HoldsOwn}
+use Rattle.held_names.specs.call_names.Laws.{KeepsNames}
 use Rattle.page_locks.specs.declared.lock.LockName.TheVariants.{Counter}
 use Rattle.file_pages.specs.declared.fault.FileFault.{FileFault}
 use Rattle.file_pages.specs.declared.fault.FileFault.TheVariants.{Failed}
@@ -18,7 +19,8 @@ use Rattle.call_questions.specs.QuestionSteps.{Closes, Faces, IsHeard, IsQuiet, 
 use Rattle.call_questions.proofs.AskLemmas.{asks_under}
 use Rattle.call_questions.proofs.GoingLemmas.{Comes, faces, fails, goes_on, view_of}
 use Rattle.call_questions.proofs.KnowLemmas.{files_answer, heard, some_stands}
-use Rattle.call_questions.proofs.PlanLemmas.{begins_on}
+use Rattle.call_questions.proofs.OwnLemmas.{own_names}
+use Rattle.call_questions.proofs.PlanLemmas.{begins_on, grows_on}
 
 some_not_none : (o : Option Wanted) (wanted : Wanted) → o ≡ Some wanted → o ≡ None → ⊥
 some_not_none o wanted is none = true≢false (sym (ap is_some is) ∙ ap is_some none)
@@ -97,6 +99,8 @@ module _ (hash : RecordKey → ℕ) (seat : ℕ) (call : Call) (i : AnyInquiry) 
           } in
           subst (λ (t : Told). ComesTo s t.inquiry t.room q'.told) (sym quiet.same.1) (record {
             begins = f.right.begins;
+            grows = f.right.grows;
+            apart = f.right.apart;
             knows = f.knows;
             asked = asked;
             left = inl (told, refl);
@@ -141,6 +145,11 @@ module _ (hash : RecordKey → ℕ) (seat : ℕ) (call : Call) (i : AnyInquiry) 
               (h.hears.fewer hears.0) (f.knows s f.agrees.filed (agrees_itself call _ s))
               (hears.1 s f.agrees.filed (agrees_itself call _ s))
               (subst (λ (ls : List Lock). KeepsNames call ⊎ Contains (names_in ls) Counter) was.names keeps));
+          grows = λ keeps asks. subst (λ (ls : List Lock). Begins ls (names_for call j)) (sym was.names)
+              (grows_on call i j keeps (some_not_none (asked_of call i) was.wanted was.asked) asks
+              (h.hears.fewer hears.0));
+          apart = λ keeps. inr (subst (λ (ls : List Lock). HoldsOwn call (names_in ls)) (sym was.names)
+              (own_names call i room s (f.knows s f.agrees.filed (agrees_itself call _ s))));
           knows = hears.1;
           asked = λ untold. absurd (true≢false (sym (h.counts hears.0) ∙ untold));
           left = inr (h.untold, h.counts hears.0, h.hears.fewer hears.0);

@@ -1,13 +1,13 @@
 -- Words of the crates below, under one name.
 pub use Rattle.any_inquiry.specs.Anything.{IsOfKind}
 pub use Rattle.any_inquiry.specs.Words.{Plan, nothing}
-pub use Rattle.call_names.proofs.AskLemmas.{ask_under_names}
-pub use Rattle.call_names.proofs.GrowLemmas.{names_grow}
-pub use Rattle.call_names.proofs.Words.{GetInquiry, Getting, Lock, ReceiveInquiry, RemoveInquiry, SendInquiry, SetInquiry, Sought, StatInquiry, get_locked, get_wanted, if_of, key_of_key, key_of_message, key_of_queue, key_of_type, key_wanted, of_get, of_receive, of_remove, of_send, of_set, of_stat, set_wanted, sought_next}
-pub use Rattle.call_names.proofs.NamesLemmas.{take_in_order}
-pub use Rattle.call_names.proofs.WriteLemmas.{write_under_names}
-pub use Rattle.call_names.specs.Laws.{KeepsNames}
-pub use Rattle.call_names.specs.Names.{by_phase, exclusively, queue_for}
+pub use Rattle.held_names.proofs.of_call_names.AskLemmas.{ask_under_names}
+pub use Rattle.held_names.proofs.of_call_names.GrowLemmas.{names_grow}
+pub use Rattle.held_names.proofs.of_call_names.Words.{GetInquiry, Getting, Lock, ReceiveInquiry, RemoveInquiry, SendInquiry, SetInquiry, Sought, StatInquiry, get_locked, get_wanted, if_of, key_of_key, key_of_message, key_of_queue, key_of_type, key_wanted, of_get, of_receive, of_remove, of_send, of_set, of_stat, set_wanted, sought_next}
+pub use Rattle.held_names.proofs.of_call_names.NamesLemmas.{take_in_order}
+pub use Rattle.held_names.proofs.of_call_names.WriteLemmas.{write_under_names}
+pub use Rattle.held_names.specs.call_names.Laws.{KeepsNames}
+pub use Rattle.held_names.specs.call_names.Names.{by_phase, exclusively, queue_for}
 pub use Rattle.limits.specs.declared.TheConstants.{MAX_QBYTES}
 pub use Rattle.page_locks.specs.declared.lock.LockKind.{LockKind}
 pub use Rattle.queue_model.specs.Rules.{has_id}

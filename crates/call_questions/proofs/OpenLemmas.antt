@@ -1,67 +1,59 @@
--- A step of the question that there is, as one of the call.
-use Rattle.std.proofs.Common.{ℕ, ◌≡◌, List, Option, Some, None, IfSome, IsSome, Result, Ok, subst}
+-- A step of the question that is under way, as one of the call.
+use Rattle.std.proofs.Common.{ℕ, ◌≡◌, Bool, true, false, List, Option, Some, None, IfSome, IsSome, if◌then◌else◌, Result, Ok, refl, subst}
 use Rattle.file_pages.specs.declared.fault.FileFault.{FileFault}
 use Rattle.file_pages.specs.declared.fault.FileFault.TheVariants.{Failed}
+use Rattle.record_access.specs.AccessSteps.{MakesAccess}
 use Rattle.call_questions.specs.declared.question.Question.{Question}
 use Rattle.call_questions.specs.Words.{RecordKey, PoolState, Table, Lock, row_of, Progress, Fault, AnyInquiry, AreNames, Call, NotASystem, Roomful}
 use Rattle.call_questions.specs.Questions.{IsUnderWay, locks_behind}
-use Rattle.call_questions.specs.QuestionSteps.{ClosesIn, Listens, ListensIn, MakesQuestions, ReadsIn}
+use Rattle.call_questions.specs.QuestionSteps.{Closes, Listens, MakesQuestions}
 use Rattle.call_questions.proofs.ListenLemmas.{failed, under_on, went_on}
+
+-- the one under way, where one is
+abbrev asked_if : Bool → Question → Option Question
+asked_if asks q = if asks then Some q else None
 
 module _ (hash : RecordKey → ℕ) (seat : ℕ) (call : Call) (i : AnyInquiry) (room : Roomful) (held : List Lock)
     (searches : ℕ) (names : AreNames held) (did : Progress FileFault) (pool pool' : PoolState) (locks locks' : Table)
-    (j : AnyInquiry) (r : Roomful) (result : Result Unit NotASystem) where
+    (j : AnyInquiry) (r : Roomful) (result : Result Unit NotASystem) (q q' q'' : Question) (after : Bool)
+    (told : q'.told ≡ q.told)
+    (reads : MakesAccess hash seat did q.access q'.access pool pool' locks locks')
+    (hears : Listens call did result q' q'' (record { inquiry = i; room = room }) (record { inquiry = j; room = r }))
+    (closes : Closes q'' (asked_if after q'')) where
   abbrev MakesBy : Progress FileFault → (old new : Option Question) → Type 0
   MakesBy d old new =
       MakesQuestions hash seat call d
       (record { inquiry = i; room = room; names = held; question = old; finds = searches })
       (record { inquiry = j; room = r; names = held; question = new; finds = searches }) pool pool' locks locks'
 
-  abbrev Hears : (old new : Option Question) → Type 0
-  Hears old new =
-      ListensIn call did result old new (record { inquiry = i; room = room }) (record { inquiry = j; room = r })
-
-  abbrev Reads : (old new : Option Question) → Type 0
-  Reads old new = ReadsIn hash seat did old new pool pool' locks locks'
-
-  abbrev AreUnderWay : Option Question → Type 0
-  AreUnderWay o = IfSome o (λ (u : Question). IsUnderWay u.access)
-
   -- the question that was read, as it was but for its access
-  same_told : (q q' q'' : Question) → q'.told ≡ q.told →
-      Listens call did result q' q'' (record { inquiry = i; room = room }) (record { inquiry = j; room = r }) →
-      Listens call did result (record { access = q'.access; told = q.told }) q'' (record { inquiry = i; room = room })
-      (record { inquiry = j; room = r })
-  same_told q q' q'' told =
+  heard : Listens call did result (record { access = q'.access; told = q.told }) q''
+      (record { inquiry = i; room = room }) (record { inquiry = j; room = r })
+  heard =
       let same : q' ≡ record { access = q'.access; told = q.told } =
       (λ n. record { access = q'.access; told = told n }) in
       subst (λ (x : Question). Listens call did result x q'' (record { inquiry = i; room = room })
-      (record { inquiry = j; room = r })) same
+      (record { inquiry = j; room = r })) same hears
 
-  pub went_in : (o o' o'' new : Option Question) → IsSome o → AreUnderWay o → row_of locks seat ≡ locks_behind o held →
-      Reads o o' → Hears o' o'' → ClosesIn o'' new → MakesBy did o new
-  went_in None o' o'' new some under row reads hears closes = absurd cc
-  went_in (Some q) None o'' new some under row reads hears closes = absurd reads
-  went_in (Some q) (Some q') None new some under row reads hears closes = absurd hears
-  went_in (Some q) (Some q') (Some q'') new some under row reads hears closes =
-      went_on hash seat call i room held searches names q under did q'.access pool pool' locks locks' row reads.1 j r
-      q'' result (same_told q q' q'' reads.0 hears) new closes
+  pub went_in : (asks : Bool) → IsSome (asked_if asks q) → (asks ≡ true → IsUnderWay q.access) →
+      row_of locks seat ≡ locks_behind (asked_if asks q) held → MakesBy did (asked_if asks q) (asked_if after q'')
+  went_in false some under row = absurd cc
+  went_in true some under row =
+      went_on hash seat call i room held searches names q (under refl) did q'.access pool pool' locks locks' row reads
+      j r q'' result heard (asked_if after q'') closes
 
-  pub failed_in : (o o' o'' new : Option Question) → IsSome o → AreUnderWay o →
-      row_of locks seat ≡ locks_behind o held → Reads o o' → Hears o' o'' → ClosesIn o'' new →
-      ((x : Unit) → result ≡ Ok x → ⊥) → MakesBy (Fault Failed) o new
-  failed_in None o' o'' new some under row reads hears closes not = absurd cc
-  failed_in (Some q) None o'' new some under row reads hears closes not = absurd reads
-  failed_in (Some q) (Some q') None new some under row reads hears closes not = absurd hears
-  failed_in (Some q) (Some q') (Some q'') new some under row reads hears closes not =
-      failed hash seat call i room held searches names q under did q'.access pool pool' locks locks' row reads.1 j r
-      q'' result (same_told q q' q'' reads.0 hears) new closes not
+  pub failed_in : (asks : Bool) → IsSome (asked_if asks q) → (asks ≡ true → IsUnderWay q.access) →
+      row_of locks seat ≡ locks_behind (asked_if asks q) held → ((x : Unit) → result ≡ Ok x → ⊥) →
+      MakesBy (Fault Failed) (asked_if asks q) (asked_if after q'')
+  failed_in false some under row not = absurd cc
+  failed_in true some under row not =
+      failed hash seat call i room held searches names q (under refl) did q'.access pool pool' locks locks' row reads
+      j r q'' result heard (asked_if after q'') closes not
 
-  pub under_in : (o o' o'' new : Option Question) → IsSome o → AreUnderWay o →
-      row_of locks seat ≡ locks_behind o held → Reads o o' → Hears o' o'' → ClosesIn o'' new → AreUnderWay new
-  under_in None o' o'' new some under row reads hears closes = absurd cc
-  under_in (Some q) None o'' new some under row reads hears closes = absurd reads
-  under_in (Some q) (Some q') None new some under row reads hears closes = absurd hears
-  under_in (Some q) (Some q') (Some q'') new some under row reads hears closes =
-      under_on hash seat call i room held searches names q under did q'.access pool pool' locks locks' row reads.1 j r
-      q'' result (same_told q q' q'' reads.0 hears) new closes
+  pub under_in : (asks : Bool) → IsSome (asked_if asks q) → (asks ≡ true → IsUnderWay q.access) →
+      row_of locks seat ≡ locks_behind (asked_if asks q) held → after ≡ true → IsUnderWay q''.access
+  under_in false some under row on = absurd cc
+  under_in true some under row on =
+      subst (λ (b : Bool). IfSome (asked_if b q'') (λ (u : Question). IsUnderWay u.access)) on
+      (under_on hash seat call i room held searches names q (under refl) did q'.access pool pool' locks locks' row reads
+      j r q'' result heard (asked_if after q'') closes)

@@ -1,10 +1,11 @@
 -- What a call changes, and the names under which it does, which grew.
-use Rattle.std.proofs.Common.{ℕ, zero, suc, ◌≡◌, ◌≢◌, ◌<◌, ◌++◌, ◌∷◌, inl, inr, ◌⊎◌, Bool, true, false, not, ◌&&◌, ◌||◌, cond, List, [], Option, Some, None, Result, Ok, Err, length, drop, refl, sym, ap, ◌∙◌, subst, arith}
+use Rattle.std.proofs.Common.{ℕ, zero, suc, ◌≡◌, ◌≢◌, ◌<◌, ◌++◌, ◌∷◌, inl, inr, ◌⊎◌, Bool, true, false, not, ◌&&◌, ◌||◌, cond, List, [], Option, Some, None, Result, Ok, Err, length, drop, take, refl, sym, ap, ◌∙◌, subst, arith}
 use Rattle.std.proofs.lemmas.Bool.{true≢false}
 use Rattle.std.proofs.lemmas.List.{append-nil, take-append-drop}
 use Rattle.std.specs.List.{Contains}
+use Rattle.std.specs.Option.{is_some}
 use Rattle.std.specs.Prelude.{nat_lt}
-use Rattle.call_names.proofs.WriteLemmas.{write_under_names}
+use Rattle.held_names.proofs.of_call_names.WriteLemmas.{write_under_names}
 use Rattle.call_questions.proofs.Names.{Errno, GetArguments, GetInquiry, Getting, IsKeyed, IsOfKind, KeepsNames, Lock, MAX_QBYTES, Plan, QueueEntry, ReceiveInquiry, Removal, RemoveInquiry, SendArguments, SendInquiry, SetArguments, SetInquiry, Sought, StatInquiry, by_phase, get_plan, if_of, key_deletion, key_of_queue, kind_of, names_grow, names_of, nothing, of_get, of_receive, of_remove, of_send, of_set, of_stat, one_more, plan_by, plan_made, plan_on, queue_for, set_entry, set_plan}
 use Rattle.held_names.specs.declared.turn.NameTurn.TheVariants as turns
 use Rattle.held_names.proofs.TurnLemmas.{turns_are_right}
@@ -176,14 +177,24 @@ get_inserts : (a : GetArguments) (o : Option GetInquiry) →
 get_inserts a None does = absurd (changes_nothing does)
 get_inserts a (Some i) does = get_tries i.caller a i.getting does
 
-grown : (call : Call) (i j : AnyInquiry) → KeepsNames call → asked_of call i ≢ None → (plan_of call j).trials ≢ [] →
-    left_of call j < left_of call i → Begins (names_for call i) (names_for call j)
-grown call i j keeps asks tries fewer =
-    let n = length (names_for call i) in
-    let begun = names_grow call i j keeps (inl asks) (inr tries) fewer in (
+begun_by : (call : Call) (i j : AnyInquiry) →
+    take (length (names_for call i)) (names_for call j) ≡ names_for call i →
+    Begins (names_for call i) (names_for call j)
+begun_by call i j begun =
+    let n = length (names_for call i) in (
       drop n (names_for call j),
       sym (take-append-drop n (names_for call j)) ∙ ap (λ xs. xs ++ drop n (names_for call j)) begun,
     )
+
+grown : (call : Call) (i j : AnyInquiry) → KeepsNames call → asked_of call i ≢ None → (plan_of call j).trials ≢ [] →
+    left_of call j < left_of call i → Begins (names_for call i) (names_for call j)
+grown call i j keeps asks tries fewer = begun_by call i j (names_grow call i j keeps (inl asks) (inr tries) fewer)
+
+-- so do those of a call that asks on
+pub grows_on : (call : Call) (i j : AnyInquiry) → KeepsNames call → asked_of call i ≢ None → asks_more call j ≡ true →
+    left_of call j < left_of call i → Begins (names_for call i) (names_for call j)
+grows_on call i j keeps asks more fewer = begun_by call i j
+    (names_grow call i j keeps (inl asks) (inl (λ none. true≢false (sym more ∙ ap is_some none))) fewer)
 
 -- a Remove that has its Counter knows the key of its queue
 

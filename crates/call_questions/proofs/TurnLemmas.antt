@@ -6,22 +6,23 @@ use Rattle.std.proofs.lemmas.List.Elements.{Contains-append_left}
 use Rattle.std.specs.List.{Contains}
 use Rattle.page_locks.proofs.ChangeLemmas.{with_row-own}
 use Rattle.page_locks.specs.declared.lock.LockName.TheVariants as names
-use Rattle.call_names.specs.Laws.{KeepsNames}
+use Rattle.held_names.specs.call_names.Laws.{KeepsNames}
 use Rattle.file_pages.specs.declared.fault.FileFault.{FileFault}
 use Rattle.step_rules.specs.Turns.{ForLock}
 use Rattle.step_rules.proofs.LockStepLemmas.{KeepsOthers-same}
 use Rattle.step_rules.specs.declared.kind.Kind.TheVariants as kinds
 use Rattle.step_rules.specs.declared.kind.Kind.{Kind}
 use Rattle.held_names.specs.declared.turn.NameTurn.{NameTurn}
-use Rattle.call_names.proofs.NamesLemmas.{take_in_order}
+use Rattle.held_names.proofs.of_call_names.NamesLemmas.{take_in_order}
 use Rattle.held_names.specs.Laws.{IsNext}
 use Rattle.held_names.specs.NameSteps.{GivesBack, MakesNameStep, Takes}
 use Rattle.held_names.proofs.OrderLemmas.{begin_are_names}
 use Rattle.held_names.proofs.TurnLemmas.{turns_are_right, turns_come_nearer}
 use Rattle.call_questions.specs.Words.{RecordKey, PoolState, Table, Lock, row_of, with_row, IsReady, OnlyWrites, Progress, Moved, Blocked, Fault, Ended, Step, world, is_write, AnyInquiry, KnowsOf, AreNames, names_in, names_for, Begins, name_turn, Take, GiveBack, LockName, Call, Roomful}
-use Rattle.call_questions.specs.Questions.{QuestionsView, IsRight, asks_more, changes, has_asked, is_done, is_ready, turn_of_names}
+use Rattle.call_questions.specs.Questions.{QuestionsView, IsRight, KnowsApart, asks_more, changes, has_asked, is_done, is_ready, turn_of_names}
 use Rattle.call_questions.specs.QuestionSteps.{MakesQuestions}
 use Rattle.call_questions.proofs.KnowLemmas.{near_more}
+use Rattle.call_questions.proofs.OwnLemmas.{own_more}
 
 -- nothing was read or written
 pub writes_none : (pool : PoolState) → IsReady pool → OnlyWrites true pool pool
@@ -74,6 +75,12 @@ module _ (hash : RecordKey → ℕ) (seat : ℕ) (call : Call) (i : AnyInquiry) 
       subst (λ (xs : List LockName). Contains xs name) (sym (map-append (λ (l : Lock). l.name) held (lock ∷ [])))
       (Contains-append_left (names_in held) (lock.name ∷ []) name within)
 
+  more_apart : (held : List Lock) (lock : Lock) → KnowsApart call i room held →
+      KnowsApart call i room (held ++ lock ∷ [])
+  more_apart held lock (inl knows) = inl knows
+  more_apart held lock (inr own) =
+      inr (own_more call (names_in held) (names_in (held ++ lock ∷ [])) (more_names held lock) own)
+
   module _ (held : List Lock) (left : has_asked call (bare held) ≡ false) (row : row_of locks seat ≡ held) where
     abbrev pub goal : List Lock
     goal = names_for call i
@@ -104,7 +111,13 @@ module _ (hash : RecordKey → ℕ) (seat : ℕ) (call : Call) (i : AnyInquiry) 
             subst (λ (t : NameTurn). Step {F = FileFault} hash seat (turn_of_names t) (Moved kind) [] pool pool locks
             locks' change) (sym turn) (step hash pool change None f.sees);
         means = λ s change f fine. record {
-          right = record { question = tt; begins = λ none does keeps. begins_next; few = f.right.few };
+          right = record {
+            question = tt;
+            begins = λ none does keeps. begins_next;
+            grows = λ keeps asks. begins_next;
+            apart = λ keeps. more_apart held lock (f.right.apart keeps);
+            few = f.right.few;
+          };
           knows = near_more call (asks_more call i) held (held ++ lock ∷ []) (KnowsOf call i room) s
               (λ none. more_names held lock names.Counter) f.knows;
           reads = ap (λ (k : Kind). is_write {F = FileFault} (Moved k)) granted;
@@ -150,6 +163,14 @@ module _ (hash : RecordKey → ℕ) (seat : ℕ) (call : Call) (i : AnyInquiry) 
       keeps_not right none keeps = begins_not (right.begins none (changes_on (asks_more call i) (changes call i)
           (is_ready (name_turn held goal)) left none) keeps)
 
+      -- so it is a Remove
+      removes : IsRight hash call (bare held) → KeepsNames call → ⊥
+      removes right keeps = by (asks_more call i) refl
+        where
+          by : (b : Bool) → asks_more call i ≡ b → ⊥
+          by true asks = begins_not (right.grows keeps asks)
+          by false none = keeps_not right none (inl keeps)
+
       fewer_names : (held' : List Lock) (last : Lock) → held ≡ held' ++ last ∷ [] →
           KeepsNames call ⊎ Contains (names_in held') names.Counter →
           KeepsNames call ⊎ Contains (names_in held) names.Counter
@@ -175,6 +196,8 @@ module _ (hash : RecordKey → ℕ) (seat : ℕ) (call : Call) (i : AnyInquiry) 
           right = record {
             question = tt;
             begins = λ none does keeps. absurd (keeps_not f.right none (fewer_names held' gives.1.0 gives.1.1 keeps));
+            grows = λ keeps asks. absurd (removes f.right keeps);
+            apart = λ keeps. absurd (removes f.right keeps);
             few = f.right.few;
           };
           knows = near_more call (asks_more call i) held held' (KnowsOf call i room) s

@@ -1,10 +1,8 @@
 -- What a step of a call does that asks the file its questions. docs/STEPS.md, "Calls".
 use Rattle.std.specs.Prelude.{ℕ, ◌≡◌, ◌<◌, ◌↔◌, ◌⊎◌, Bool, true, false, not, List, Option, Some, None, IsOk, Result, ⊤}
 use Rattle.file_pages.specs.declared.fault.FileFault.{FileFault}
-use Rattle.record_access.specs.AccessSteps.{MakesAccess}
-use Rattle.record_access.specs.Words.{EndsRow}
 use Rattle.call_questions.specs.declared.question.Question.{Question}
-use Rattle.call_questions.specs.Words.{RecordKey, PoolState, Table, Lock, Change, with_row, store_of, OnlyWrites, Progress, Moved, Blocked, Fault, Ended, Look, is_fault, Sees, Step, NearsOrSpares, Record, is_write, HasEnded, ToFind, AccessView, HasFound, Serves, access_answer, access_locks, AnyInquiry, KnowsOf, asked_of, caller_of, left_of, names_in, LockName, Call, State, Wanted, NotASystem, IsCovered, IsSoNear, IsFiled, Roomful}
+use Rattle.call_questions.specs.Words.{RecordKey, PoolState, Table, Change, with_row, store_of, OnlyWrites, Progress, Moved, Blocked, Fault, Ended, Look, is_fault, Sees, Step, NearsOrSpares, Record, is_write, HasEnded, ToFind, AccessView, HasFound, Serves, access_answer, AnyInquiry, KnowsOf, asked_of, caller_of, left_of, names_in, LockName, Call, State, Wanted, NotASystem, IsCovered, IsSoNear, IsFiled, Roomful}
 use Rattle.call_questions.specs.Answering.{Answers}
 use Rattle.call_questions.specs.Agreeing.{Agrees}
 use Rattle.call_questions.specs.Questions.{QuestionsView, IsRight, KnowsNear, is_done, questions_facts, questions_left, questions_locks, questions_turn}
@@ -127,27 +125,3 @@ IsOver a = HasEnded a.operation
 -- a question that has ended is dropped
 abbrev pub Closes : Question → Option Question → Type 0
 Closes q new = (IsOver q.access × (new ≡ None)) ⊎ ((HasEnded q.access.operation → ⊥) × (new ≡ Some q))
-
--- ---- of the question that there is
-
-abbrev pub HasRowIn : Option Question → List Lock → Type 0
-HasRowIn None row = ⊤
-HasRowIn (Some q) row = EndsRow (access_locks q.access) 3 row
-
--- its access makes a step
-abbrev pub ReadsIn : (RecordKey → ℕ) → ℕ → Progress FileFault → (old new : Option Question) →
-    (pool pool' : PoolState) → (locks locks' : Table) → Type 0
-ReadsIn hash seat did (Some q) (Some q') pool pool' locks locks' =
-    (q'.told ≡ q.told) × MakesAccess hash seat did q.access q'.access pool pool' locks locks'
-ReadsIn hash seat did (Some q) None pool pool' locks locks' = ⊥
-ReadsIn hash seat did None new pool pool' locks locks' = ⊤
-
-abbrev pub ListensIn : {F T : Type 0} → Call → Progress F → Result T NotASystem → (q q' : Option Question) →
-    (old new : Told) → Type 0
-ListensIn call did result (Some q) (Some q') old new = Listens call did result q q' old new
-ListensIn call did result (Some q) None old new = ⊥
-ListensIn call did result None q' old new = ⊤
-
-abbrev pub ClosesIn : (old new : Option Question) → Type 0
-ClosesIn (Some q) new = Closes q new
-ClosesIn None new = ⊤

@@ -2,7 +2,8 @@
 use Rattle.std.specs.Prelude.{ℕ, ◌≡◌, ◌≤◌, ◌<◌, ◌⊎◌, ◌+◌, ◌*◌, ◌&&◌, ◌||◌, Bool, true, false, not, List, [], Option, Some, None, IfSome, if◌then◌else◌, slice_get}
 use Rattle.std.specs.List.{Contains}
 use Rattle.std.specs.Option.{is_some}
-use Rattle.call_names.specs.Laws.{KeepsNames}
+use Rattle.call_decisions.specs.Others.{HoldsOwn}
+use Rattle.held_names.specs.call_names.Laws.{KeepsNames}
 use Rattle.page_locks.specs.declared.lock.LockKind.TheVariants.{Read}
 use Rattle.page_locks.specs.declared.lock.LockName.TheVariants.{Counter, Directory}
 use Rattle.step_rules.specs.Turns.{ForLock, asks, no_ask}
@@ -10,7 +11,7 @@ use Rattle.xsi_inquiry.specs.Slots.{writes_left}
 use Rattle.xsi_inquiry.specs.Telling.{most_asked}
 use Rattle.xsi_inquiry.specs.Writing.{Plan}
 use Rattle.call_questions.specs.declared.question.Question.{Question}
-use Rattle.call_questions.specs.Words.{RecordKey, Store, Lock, LockName, Known, Turn, HasEnded, ToFind, AccessView, Serves, access_answer, access_facts, access_key, access_left, access_locks, access_pseudokey, access_turn, AnyInquiry, KnowsOf, asked_of, left_of, plan_of, names_in, names_for, MAX_NAMES, Begins, name_turn, names_left, NameTurn, Take, GiveBack, Ready, Call, State, Wanted, IsSoNear, Roomful}
+use Rattle.call_questions.specs.Words.{RecordKey, Store, Lock, LockName, Known, Turn, HasEnded, ToFind, AccessView, Serves, access_answer, access_facts, access_key, access_left, access_locks, access_pseudokey, access_turn, AnyInquiry, KnowsOf, asked_of, left_of, plan_of, names_in, names_for, MAX_NAMES, Begins, name_turn, names_left, NameTurn, Take, GiveBack, Ready, Call, State, Wanted, IsSoNear, IsFiled, Roomful}
 use Rattle.call_questions.specs.Answering.{MayRead, key_asked}
 
 pub record QuestionsView : Type 0 where
@@ -126,12 +127,22 @@ abbrev pub untold : Option Question → ℕ
 untold None = 0
 untold (Some q) = if q.told then 0 else 1
 
+-- why others don't change what it knows: it was told nothing yet, so all that it knows is so in each system; or it
+-- holds the name of the queue, or of the key, that it was given
+abbrev pub KnowsApart : Call → AnyInquiry → Roomful → List Lock → Type 0
+KnowsApart call i room held =
+    ((s : State) → IsFiled s → KnowsOf call i room s) ⊎ HoldsOwn call (names_in held)
+
 -- it has come so far by steps of this call, on an honest device
 pub record IsRight (hash : RecordKey → ℕ) (call : Call) (v : QuestionsView) : Type 0 where
   pub question : IfSome v.question (IsRightQuestion hash call v)
   -- where it is to change the file its names begin those that it needs; so do a Remove's that holds the Counter
   pub begins : asks_more call v.inquiry ≡ false → changes call v.inquiry ≡ true →
       KeepsNames call ⊎ Contains (names_in v.names) Counter → Begins v.names (names_for call v.inquiry)
+  -- while it asks, all but a Remove's begin those that it needs
+  pub grows : KeepsNames call → asks_more call v.inquiry ≡ true → Begins v.names (names_for call v.inquiry)
+  -- so others don't change what it knows
+  pub apart : KeepsNames call → KnowsApart call v.inquiry v.room v.names
   -- it begins one search a question: those that it has begun, with the questions that are left, are at most as many as
   -- it asks; a question that was not told yet is counted as both
   pub few : v.finds + left_of call v.inquiry ≤ most_asked call + untold v.question

@@ -4,9 +4,9 @@ pub use Rattle.record_access.specs.Purposes.{ToFind, StandsAt, is_write}
 pub use Rattle.record_access.specs.Accesses.{AccessView, HasFound, Serves, access_answer, access_facts, access_key, access_left, access_locks, access_pseudokey, access_turn, begun}
 pub use Rattle.any_inquiry.specs.declared.any_inquiry.AnyInquiry.{AnyInquiry}
 pub use Rattle.any_inquiry.specs.Anything.{KnowsOf, asked_of, caller_of, left_of, plan_of}
-pub use Rattle.call_names.specs.Laws.{AreNames, names_in}
-pub use Rattle.call_names.specs.Names.{by_phase, exclusively, names_for, queue_for}
-pub use Rattle.call_names.specs.declared.held.TheConstants.{MAX_NAMES}
+pub use Rattle.held_names.specs.call_names.Laws.{AreNames, names_in}
+pub use Rattle.held_names.specs.call_names.Names.{by_phase, exclusively, names_for, queue_for}
+pub use Rattle.held_names.specs.call_names.declared.held.TheConstants.{MAX_NAMES}
 pub use Rattle.held_names.specs.Laws.{Begins}
 pub use Rattle.held_names.specs.NameSteps.{GivesBack, MakesNameStep}
 pub use Rattle.held_names.specs.NameTurns.{name_turn, names_left}

@@ -13,3 +13,4 @@ pub use laws::{
     questions_begin_few_searches, questions_have_few_steps, what_stands_answers_a_question,
 };
 pub use questions::Questions;
+pub use step_rules;

@@ -1,8 +1,10 @@
 //! A question under way.
 
-ghost use Rattle.std.specs.Prelude.{◌≡◌, true, IsSome};
-ghost use Rattle.call_questions.specs.Words.{IsReady, IsSeat, Look, Moved, row_of};
-ghost use Rattle.call_questions.specs.QuestionSteps.{ClosesIn, HasRowIn, Listens, ListensIn, ReadsIn};
+ghost use Rattle.std.specs.Prelude.{◌≡◌, true, None, Some, if◌then◌else◌};
+ghost use Rattle.record_access.specs.AccessSteps.{MakesAccess};
+ghost use Rattle.record_access.specs.Words.{EndsRow};
+ghost use Rattle.call_questions.specs.Words.{IsReady, IsSeat, Look, Moved, access_locks, row_of};
+ghost use Rattle.call_questions.specs.QuestionSteps.{Closes, Listens};
 
 use crate::hearing::hear;
 use any_inquiry::AnyInquiry;
@@ -24,9 +26,9 @@ pub(crate) struct Question {
     pub(crate) told: bool,
 }
 
-/// One step of the access of the question that is under way.
+/// One step of its access.
 pub(crate) fn read<D: PageDevice, K: PseudoKey>(
-    question: &mut Option<Question>,
+    question: &mut Question,
     pool: &mut Pool<D>,
     locks: &mut LockTable,
     keys: &K,
@@ -34,38 +36,17 @@ pub(crate) fn read<D: PageDevice, K: PseudoKey>(
 ) -> Progress<FileFault>
     requires seat { IsSeat locks.old seat }
     requires ready { IsReady pool.old }
-    requires under_way { IsSome question.old }
-    requires row { HasRowIn question.old (row_of locks.old seat) }
-    ensures { ReadsIn (K.of_key keys.now) seat result question.old question.new
-        pool.old pool.new locks.old locks.new }
+    requires row { EndsRow (access_locks question.old.access) 3 (row_of locks.old seat) }
+    ensures told { question.new.told ≡ question.old.told }
+    ensures step { MakesAccess (K.of_key keys.now) seat result question.old.access
+        question.new.access pool.old pool.new locks.old locks.new }
 {
-    match question {
-        Some(open) => open.access.step(pool, locks, keys, seat),
-        None => Progress::Ended,
-    }
-}
-
-/// Tells the inquiry what that access has found.
-pub(crate) fn hear_of(
-    question: &mut Option<Question>,
-    inquiry: &mut AnyInquiry,
-    room: &mut Room,
-    call: &Call,
-    did: Progress<FileFault>,
-) -> Result<(), NotASystem>
-    ensures { ListensIn call.now did result question.old question.new
-        (record { inquiry = inquiry.old; room = room.old })
-        (record { inquiry = inquiry.new; room = room.new }) }
-{
-    match question {
-        Some(open) => listen(open, inquiry, room, call, did),
-        None => Ok(()),
-    }
+    question.access.step(pool, locks, keys, seat)
 }
 
 /// Tells the inquiry what the access has found, in the Look by which a page answered: behind it
 /// another seat may change the Counter.
-fn listen(
+pub(crate) fn listen(
     question: &mut Question,
     inquiry: &mut AnyInquiry,
     room: &mut Room,
@@ -90,16 +71,14 @@ fn listen(
     heard
 }
 
-/// A question that has given all its locks back is over.
-pub(crate) fn close(question: &mut Option<Question>)
-    ensures { ClosesIn question.old question.new }
+/// Whether it still holds or asks for a lock. Else it is over.
+pub(crate) fn goes_on(question: &Question) -> bool
+    ensures { Closes question.now (if result then Some question.now else None) }
 {
-    let Some(open) = question else {
-        return;
-    };
-    if open.access.has_ended() {
-        *question = None;
+    if question.access.has_ended() {
+        return false;
     }
+    true
 }
 
 /// Whether a page was looked at.

@@ -9,7 +9,7 @@ ghost use Rattle.call_questions.specs.Answering.{key_asked};
 ghost use Rattle.call_questions.specs.Questions.{IsBare, KnowsNear, changes, has_asked, is_done, is_ready, questions_facts, questions_left, questions_locks, questions_turn};
 ghost use Rattle.call_questions.specs.QuestionSteps.{Faces, KeepsQuestions, Learns, MakesQuestions, is_blocked};
 
-use crate::question::{Question, close, hear_of, read};
+use crate::question::{Question, goes_on, listen, read};
 use any_inquiry::AnyInquiry;
 use bucket_page::{PseudoKey, RecordKey};
 use buffer_pool::Pool;
@@ -24,19 +24,20 @@ use std::marker::Model;
 use step_rules::Progress;
 use xsi_inquiry::{Inquiry, Room, Wanted, next_write};
 
-/// A call's reading half: what it asks of the file, under the names that it takes for that.
+/// A call's reading half: what it asks of the file, under the names that it takes for that. The
+/// next question begins where the last one was.
 #[derive(Drop)]
 pub struct Questions {
     inquiry: AnyInquiry,
     room: Room,
     names: HeldNames,
-    question: Option<Question>,
+    question: Question,
+    is_asking: bool,
     finds: usize,
 }
 
 impl Model for Questions {
-    ghost use Rattle.std.specs.Prelude.{IfSome};
-    ghost use Rattle.call_questions.specs.declared.question.Question.{Question};
+    ghost use Rattle.std.specs.Prelude.{◌≡◌, Some, None, true, if◌then◌else◌};
     ghost use Rattle.call_questions.specs.Questions.{QuestionsView, IsUnderWay};
 
     ghost Value = { QuestionsView };
@@ -45,11 +46,11 @@ impl Model for Questions {
       inquiry = q.inquiry;
       room = q.room;
       names = q.names;
-      question = q.question;
+      question = if q.is_asking then Some q.question else None;
       finds = q.finds;
     } };
 
-    ghost invariant = { λ q. IfSome q.question (λ (u : Question). IsUnderWay u.access) };
+    ghost invariant = { λ q. q.is_asking ≡ true → IsUnderWay q.question.access };
 }
 
 impl Questions {
@@ -66,7 +67,11 @@ impl Questions {
             inquiry: AnyInquiry::begin(by, call),
             room,
             names: HeldNames::new(),
-            question: None,
+            question: Question {
+                access: Access::find(counter_key(), 0),
+                told: false,
+            },
+            is_asking: false,
             finds: 0,
         }
     }
@@ -100,6 +105,13 @@ impl Questions {
         self.finds
     }
 
+    /// The room for the bytes that the call is answered.
+    pub fn room(&self) -> &Room
+        ensures { result.now ≡ self.now.room }
+    {
+        &self.room
+    }
+
     /// The room, for the answer.
     pub fn into_room(self) -> Room
         ensures { result ≡ self.room }
@@ -119,7 +131,7 @@ impl Questions {
     pub fn is_done(&self, call: &Call) -> bool
         ensures { result ≡ is_done call.now self.now }
     {
-        if self.question.is_some() {
+        if self.is_asking {
             return false;
         }
         self.has_asked(call)
@@ -196,7 +208,7 @@ impl Questions {
             Faces (K.of_key keys.now) seat call.now s self.old pool.old locks.old change →
             is_fault result ≡ false → Learns (K.of_key keys.now) call.now s result self.new }
     {
-        if self.question.is_some() {
+        if self.is_asking {
             self.go_on(pool, locks, keys, seat, call)
         } else {
             self.turn(pool, locks, keys, seat, call)
@@ -254,14 +266,13 @@ impl Questions {
         };
         let key = key_asked(wanted);
         let finds = self.finds;
-        self.question = Some(Question {
-            access: Access::find(key, keys.of(&key)),
-            told: false,
-        });
+        self.question.access.begin_find(key, keys.of(&key));
+        self.question.told = false;
+        self.is_asking = true;
         self.finds = finds.saturating_add(1);
         let did = self.go_on(pool, locks, keys, seat, call);
         if is_blocked(did) {
-            self.question = None;
+            self.is_asking = false;
             self.finds = finds;
             return did;
         }
@@ -286,14 +297,14 @@ impl Questions {
     {
         self.names.keep_order();
         let did = read(&mut self.question, pool, locks, keys, seat);
-        let heard = hear_of(
+        let heard = listen(
             &mut self.question,
             &mut self.inquiry,
             &mut self.room,
             call,
             did,
         );
-        close(&mut self.question);
+        self.is_asking = goes_on(&self.question);
         let Ok(()) = heard else {
             return Progress::Fault(FileFault::Failed);
         };

@@ -3,8 +3,8 @@ use Rattle.std.proofs.Common.{◌≡◌, refl, sym, ap, ◌∙◌, subst, ℕ, �
 use Rattle.std.specs.Prelude.{slice_get, option_map}
 use Rattle.std.proofs.lemmas.Bool.{true≢false}
 use Rattle.std.proofs.lemmas.Option.{slice_get_within}
-use Rattle.step_rules.proofs.LockStepLemmas.{KeepsOthers-same}
-use Rattle.step_rules.specs.Known.{AllKnown}
+use Rattle.record_access.proofs.of_step_rules.LockStepLemmas.{KeepsOthers-same}
+use Rattle.record_access.specs.step_rules.Known.{AllKnown}
 use Rattle.call_writes.proofs.BeginLemmas.{begun_room}
 use Rattle.call_writes.proofs.BegunLemmas.{doing_start, owned_start, row_start, sees_start}
 use Rattle.call_writes.proofs.CarryLemmas.{IsMade, all_made, neither}

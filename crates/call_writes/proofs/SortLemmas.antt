@@ -1,6 +1,6 @@
 -- A step by its parts, told at once: nothing is done, or an access makes its step.
 use Rattle.std.proofs.Common.{◌≡◌, sym, ap, ◌∙◌, subst, ℕ, true, false, not, ◌&&◌, Option, Some, None}
-use Rattle.file_pages.specs.declared.fault.FileFault.TheVariants.{Failed}
+use Rattle.record_access.specs.file_pages.declared.fault.FileFault.TheVariants.{Failed}
 use Rattle.call_writes.proofs.Names.{FileFault}
 use Rattle.std.proofs.lemmas.Bool.{true≢false}
 use Rattle.call_writes.proofs.BeginLemmas.{not_ended}

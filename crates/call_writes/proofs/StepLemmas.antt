@@ -1,7 +1,7 @@
 -- What a step does whatever the device gives.
 use Rattle.std.proofs.Common.{◌≡◌, refl, sym, ap, ◌∙◌, subst, ℕ, Bool, true, false, not, ◌&&◌, List, Option, if◌then◌else◌, arith}
 use Rattle.std.proofs.lemmas.Bool.{true≢false}
-use Rattle.file_pages.specs.declared.fault.FileFault.TheVariants.{Failed}
+use Rattle.record_access.specs.file_pages.declared.fault.FileFault.TheVariants.{Failed}
 use Rattle.page_locks.proofs.ChangeLemmas.{with_row-own}
 use Rattle.page_locks.specs.Table.{with_row}
 use Rattle.record_access.proofs.AimLemmas.{wrote_of}

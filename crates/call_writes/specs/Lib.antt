@@ -5,3 +5,4 @@ pub mod Carrying
 pub mod CarrySteps
 pub mod MakeSteps
 pub mod Laws
+pub use Rattle.record_access.specs.stale_search

@@ -1,7 +1,7 @@
 -- The parts of a step of a call that writes: an access begins, makes its step, and is let go.
 use Rattle.std.specs.Prelude.{ℕ, ◌≡◌, Bool, true, false, not, ◌&&◌, Option, Some, None, Result, Ok, Err}
-use Rattle.file_pages.specs.declared.fault.FileFault.{FileFault}
-use Rattle.file_pages.specs.declared.fault.FileFault.TheVariants.{Failed}
+use Rattle.record_access.specs.file_pages.declared.fault.FileFault.{FileFault}
+use Rattle.record_access.specs.file_pages.declared.fault.FileFault.TheVariants.{Failed}
 use Rattle.call_writes.specs.declared.writes.CallWrites.{CallWrites}
 use Rattle.call_writes.specs.Words.{RecordKey, Record, Plan, PoolState, Table, Progress, Ended, Fault, is_fault, HasEnded, ToInsert, Allows, Serves, AccessView, MakesAccess, has_no_room, Deed, Due, Trying, Full}
 use Rattle.call_writes.specs.Dues.{IsBehind, IsDeedInRange, next_deed, purpose_of}

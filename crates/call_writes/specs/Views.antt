@@ -1,6 +1,6 @@
 -- What a call that writes holds, knows and asks for. docs/STEPS.md, "Calls".
 use Rattle.std.specs.Prelude.{ℕ, ◌≡◌, ◌+◌, ◌-◌, ◌*◌, Bool, true, false, List, [], Option, Some, None, option_map, if◌then◌else◌}
-use Rattle.step_rules.specs.Turns.{no_ask}
+use Rattle.record_access.specs.step_rules.Turns.{no_ask}
 use Rattle.call_writes.specs.declared.writes.CallWrites.{CallWrites}
 use Rattle.call_writes.specs.Words.{RecordKey, Plan, Lock, Store, Known, Turn, MOST_STEPS, AccessView, access_facts, access_left, access_locks, access_turn, begun, has_no_room, Deed, Due, Trying, Full, Undoing, Writing}
 use Rattle.call_writes.specs.Dues.{deed_key, deeds_left, next_deed, purpose_of}

@@ -30,16 +30,16 @@ impl Deed<'_> {
         }
     }
 
-    /// Its access, which has just begun.
-    pub(crate) fn begin<K: PseudoKey>(&self, keys: &K) -> Access
+    /// The access becomes its own, in place.
+    pub(crate) fn begin<K: PseudoKey>(&self, access: &mut Access, keys: &K)
         requires { IsDeedInRange self.now }
-        ensures value { result ≡ begun (purpose_of self.now)
+        ensures value { access.new ≡ begun (purpose_of self.now)
             (K.of_key keys.now (deed_key self.now)) }
-        ensures serves { Serves (purpose_of self.now) result }
+        ensures serves { Serves (purpose_of self.now) access.new }
     {
         match self {
-            Deed::Trial(entry) => Access::insert(entry, keys.of(&entry.key())),
-            Deed::Write(write) => Access::write(write, keys.of(&key_written(write))),
+            Deed::Trial(entry) => access.begin_insert(entry, keys.of(&entry.key())),
+            Deed::Write(write) => access.begin_write(write, keys.of(&key_written(write))),
         }
     }
 }

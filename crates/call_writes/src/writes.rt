@@ -11,17 +11,17 @@ use crate::due::Due;
 use crate::plan::PlanOf;
 use bucket_page::PseudoKey;
 use buffer_pool::Pool;
-use file_pages::FileFault;
 use page_device::PageDevice;
 use page_locks::LockTable;
-use record_access::Access;
-use step_rules::Progress;
+use record_access::AccessPlace;
+use record_access::file_pages::FileFault;
+use record_access::step_rules::Progress;
 
 /// The writing half of a call: it carries out a plan, one access after the other.
 #[derive(Drop)]
 pub struct CallWrites {
     due: Due,
-    access: Option<Access>,
+    access: AccessPlace,
 }
 
 impl CallWrites {
@@ -32,7 +32,7 @@ impl CallWrites {
     {
         CallWrites {
             due: Due::Trying(0),
-            access: None,
+            access: AccessPlace::new(),
         }
     }
 
@@ -40,7 +40,7 @@ impl CallWrites {
     pub fn is_full(&self) -> bool
         ensures { result ≡ is_full self.now }
     {
-        match (&self.due, &self.access) {
+        match (&self.due, self.access.get()) {
             (Due::Full(_), _) => true,
             (Due::Trying(_), Some(access)) => access.has_no_room(),
             (_, _) => false,
@@ -126,7 +126,7 @@ impl CallWrites {
     fn set_out<K: PseudoKey>(&mut self, plan: &PlanOf<'_>, keys: &K) -> Result<bool, FileFault>
         ensures { SetsOut (K.of_key keys.now) plan.now result self.old self.new }
     {
-        if self.access.is_some() {
+        if self.access.is_under_way() {
             return Ok(true);
         }
         let Some(deed) = plan.deed(self.due) else {
@@ -135,7 +135,7 @@ impl CallWrites {
         if !deed.is_in_range() {
             return Err(FileFault::Failed);
         }
-        self.access = Some(deed.begin(keys));
+        deed.begin(self.access.open(), keys);
         Ok(true)
     }
 
@@ -157,7 +157,7 @@ impl CallWrites {
         ensures { MakesDeed (K.of_key keys.now) seat plan.now result self.old self.new
             pool.old pool.new locks.old locks.new }
     {
-        let Some(access) = &mut self.access else {
+        let Some(access) = self.access.get_mut() else {
             return Progress::Ended;
         };
         if access.has_ended() {
@@ -178,14 +178,14 @@ impl CallWrites {
         if is_fault(did) {
             return did;
         }
-        let Some(access) = &self.access else {
+        let Some(access) = self.access.get() else {
             return did;
         };
         if !access.has_ended() {
             return did;
         }
         if access.has_written() {
-            self.access = None;
+            self.access.close();
             return did;
         }
         match self.due {
@@ -194,7 +194,7 @@ impl CallWrites {
                     return Progress::Fault(FileFault::Failed);
                 }
                 self.due = Due::Full(standing);
-                self.access = None;
+                self.access.close();
                 did
             }
             _ => Progress::Fault(FileFault::Failed),

@@ -26,11 +26,17 @@ fn each_command_line_is_read_or_wrong(rt: HostRuntime) -> Result<(), Fail> {
     let new = |pages| Some(Task::New { file: "q", pages });
     let run = |script| Some(Task::Run { file: "q", script });
     let tells = |report| Some(Task::Report { file: "q", report });
+    let replay = Task::Replay {
+        file: "q",
+        script: "-",
+        schedule: "t",
+    };
     reads(&rt, "msgq", Some(Task::Serve))?;
     reads(&rt, "msgq new q 258", new(258))?;
     reads(&rt, "msgq new q 065536", new(65_536))?;
     reads(&rt, "msgq run q s", run("s"))?;
     reads(&rt, "msgq run q -", run("-"))?;
+    reads(&rt, "msgq replay q - t", Some(replay))?;
     reads(&rt, "msgq check q", tells(Report::Counts))?;
     reads(&rt, "msgq stat q", tells(Report::Queues))?;
     for line in [
@@ -43,6 +49,8 @@ fn each_command_line_is_read_or_wrong(rt: HostRuntime) -> Result<(), Fail> {
         "msgq new q",
         "msgq new q 300 300",
         "msgq run q",
+        "msgq replay q s",
+        "msgq replay q - -",
         "msgq check",
         "msgq stat q q",
         "msgq go",

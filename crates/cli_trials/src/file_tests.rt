@@ -3,10 +3,10 @@
 use crate::trial::{buffered, printed, unbuffered};
 use bucket_page::Malformed;
 use directory::LEAST_PAGES;
-use file_check::CheckFault;
 use file_walk::StructureFault;
+use msgq_cli::file_check::CheckFault;
+use msgq_cli::one_caller::OpenFault;
 use msgq_cli::{Ending, Failure, Stage, new_file, new_on, read_script, run_file, run_on};
-use one_caller::OpenFault;
 use page_device::{FaultyDevice, MemDevice, PAGE_BYTES, PageDevice, seal, unseal};
 use std::alloc::Global;
 use std::fs;

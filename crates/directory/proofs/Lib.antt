@@ -2,3 +2,4 @@ pub mod EntryLaws
 pub mod HalfLaws
 pub mod HeaderLaws
 pub mod PageLaws
+pub use Rattle.fields.proofs as of_fields

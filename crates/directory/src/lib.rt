@@ -12,11 +12,15 @@ mod write;
 
 pub use directory::{page_of, slot_of};
 pub use entries::{copy_upper, lower_page, retarget, set_entry};
+pub use fields;
 pub use header::Header;
 pub use layout::{
     DIRECTORY, DIRECTORY_PAGES, FIRST_DIRECTORY_PAGE, GREATEST_DEPTH, HEAD_BYTES, HEADER, LAYOUT,
     LEAST_PAGES, LOCAL_DEPTHS, Layout, PAGE_ENTRIES, ROOT_PAGE,
 };
 pub use page::{DirectoryView, directory_of, read_entries, write_directory};
+pub use page_device;
+pub use page_device::faults;
+pub use positions;
 pub use read::{HeaderFault, header_of, read_header};
 pub use write::write_header;

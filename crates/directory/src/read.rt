@@ -12,7 +12,7 @@ use crate::layout::{
     COUNTS_BEGIN, GREATEST_DEPTH, HEADER, HEADER_BYTES, LEAST_PAGES, LOCAL_DEPTHS, MAGIC, VERSION,
 };
 use fields::{four_at, is_zero, read_numbers};
-use page_device::{MAX_PAGES, Payload};
+use page_device::{MAX_PAGES, Payload, faults};
 use thiserror::Error;
 
 /// Why a payload is no header.

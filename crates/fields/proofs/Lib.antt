@@ -1,5 +1,6 @@
 pub mod ListLaws
 pub mod NumberLaws
 pub mod Tests
+pub mod UnionLaws
 pub mod WrittenLaws
 pub mod ZeroLaws

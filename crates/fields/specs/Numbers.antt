@@ -1,6 +1,7 @@
 -- Numbers in bytes, the highest byte first; unfoldable, so that no proof counts their bytes out.
 use Rattle.std.specs.Prelude.{ℕ, zero, suc, ◌+◌, ◌==◌, Bool, List, [], ◌∷◌, ◌++◌, length, take, drop, replicate}
-use Rattle.std.specs.List.{flat_map, list_all}
+use Rattle.std.specs.Int.Bits.{bit_or}
+use Rattle.std.specs.List.{flat_map, fold, list_all}
 use Rattle.byteorder.specs.Endian.{big_bytes, big_number}
 
 -- the two, four or eight bytes of a number
@@ -35,6 +36,10 @@ numbers_of (suc n) bytes = four_at 0 bytes ∷ numbers_of n (drop 4 bytes)
 -- so many zeros
 unfoldable pub zeros : ℕ → List ℕ
 zeros n = replicate n 0
+
+-- the bits that are set in one byte or more
+abbrev pub union : List ℕ → ℕ
+union bytes = fold bit_or 0 bytes
 
 abbrev pub is_zero : List ℕ → Bool
 is_zero bytes = list_all (λ b. b == 0) bytes

@@ -3,7 +3,7 @@
 #![tactic(auto)]
 
 ghost use Rattle.std.specs.Prelude.{◌≡◌, ◌+◌, ◌*◌, ◌≤◌, length};
-ghost use Rattle.fields.specs.Numbers.{two, four, eight, two_at, four_at, eight_at, is_zero, numbers_bytes, numbers_of, overwritten, zeros};
+ghost use Rattle.fields.specs.Numbers.{two, four, eight, two_at, four_at, eight_at, is_zero, numbers_bytes, numbers_of, overwritten, union, zeros};
 
 use byteorder::{BigEndian, ByteOrder};
 
@@ -116,9 +116,16 @@ pub fn blank(bytes: &mut [u8])
     bytes.fill(0);
 }
 
-/// Whether all bytes are zero.
+/// The bits that are set in one byte or more.
+fn union(bytes: &[u8]) -> u8
+    ensures { result ≡ union bytes.now }
+{
+    bytes.iter().fold(0, |bits, byte| bits | *byte)
+}
+
+/// Whether all bytes are zero: no jump at each byte, since most of a page is padding.
 pub fn is_zero(bytes: &[u8]) -> bool
     ensures { result ≡ is_zero bytes.now }
 {
-    bytes.iter().all(|byte| *byte == 0)
+    union(bytes) == 0
 }

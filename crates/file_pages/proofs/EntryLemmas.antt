@@ -11,7 +11,7 @@ use Rattle.directory.specs.declared.layout.TheConstants.{DIRECTORY_PAGES, FIRST_
 use Rattle.directory.specs.Entries.{copied, entry_in, is_in_range, is_upper, page_of, retargeted}
 use Rattle.directory.specs.Pages.{IsDirectoryPage}
 use Rattle.directory.specs.Reading.{header_at}
-use Rattle.page_forms.specs.Forms.{IsHeaderPage}
+use Rattle.buffer_pool.specs.page_forms.Forms.{IsHeaderPage}
 use Rattle.hash_file.specs.Store.{Store, entry_at}
 use Rattle.hash_file.specs.Changes.{copy_directory, mapped_from, retarget}
 use Rattle.file_pages.specs.Entries.{IsLowerHalf}

@@ -21,9 +21,9 @@ use crate::pinning::pin;
 use crate::read::read_page;
 use bucket_page::PseudoKey;
 use buffer_pool::Pool;
+use buffer_pool::page_forms::FilePage;
 use directory::{GREATEST_DEPTH, ROOT_PAGE};
 use page_device::PageDevice;
-use page_forms::FilePage;
 
 /// A page becomes the upper half of a bucket. It is `Failed` where that is no bucket, or one
 /// of the greatest depth.

@@ -15,9 +15,9 @@ use crate::header::read_header;
 use crate::pinning::pin;
 use crate::read::read_page;
 use buffer_pool::Pool;
+use buffer_pool::page_forms::FilePage;
 use directory::{DIRECTORY_PAGES, FIRST_DIRECTORY_PAGE, GREATEST_DEPTH, lower_page};
 use page_device::PageDevice;
-use page_forms::FilePage;
 use positions::Range;
 
 /// The directory is about to double: on one of its pages, each entry of the upper half becomes that

@@ -4,6 +4,7 @@ ghost use Rattle.std.specs.Prelude.{◌≡◌};
 ghost use Rattle.file_pages.specs.Fault.{number_of};
 
 use buffer_pool::PoolFault;
+use page_device::faults;
 use thiserror::Error;
 
 /// Why a step could not read or write its page. Nothing was changed.

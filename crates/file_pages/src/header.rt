@@ -12,7 +12,7 @@ ghost use Rattle.directory.specs.Reading.{header_at};
 ghost use Rattle.directory.specs.Spelling.{IsHeader};
 ghost use Rattle.hash_file.specs.Changes.{link_free, lower_depth, merge_counts, raise_depth, set_counts, split_counts, take_page, with_header};
 ghost use Rattle.hash_file.specs.Store.{IsFreePage, next_at};
-ghost use Rattle.page_forms.specs.Forms.{IsHeaderPage};
+ghost use Rattle.buffer_pool.specs.page_forms.Forms.{IsHeaderPage};
 ghost use Rattle.file_pages.specs.Fault.{FileHasCause, IsDevicesFault};
 ghost use Rattle.file_pages.specs.Files.{IsReady, IsFilePool, store_of};
 ghost use Rattle.file_pages.specs.Headers.{HasFreePage, MayMergeCount, MaySplitCount};
@@ -22,9 +22,9 @@ ghost use Rattle.file_pages.specs.Writes.{OnlyWrites};
 use crate::fault::FileFault;
 use crate::pinning::pin;
 use buffer_pool::Pool;
+use buffer_pool::page_forms::FilePage;
 use directory::{GREATEST_DEPTH, Header, ROOT_PAGE};
 use page_device::PageDevice;
-use page_forms::FilePage;
 
 /// The first free page leaves the list of free pages. It is `Failed` where there is none, or the
 /// page is not free.

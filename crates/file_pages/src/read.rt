@@ -9,7 +9,7 @@ ghost use Rattle.directory.specs.Entries.{slot_at};
 ghost use Rattle.directory.specs.Pages.{IsDirectoryPage};
 ghost use Rattle.directory.specs.Reading.{header_at};
 ghost use Rattle.hash_file.specs.Store.{entry_at, is_bucket, page_at, records_at};
-ghost use Rattle.page_forms.specs.Forms.{IsHeaderPage};
+ghost use Rattle.buffer_pool.specs.page_forms.Forms.{IsHeaderPage};
 ghost use Rattle.file_pages.specs.Fault.{FileHasCause, IsDevicesFault};
 ghost use Rattle.file_pages.specs.Files.{IsReady, IsFilePool, image, store_of};
 ghost use Rattle.file_pages.specs.Reads.{OnlyReads, IsCopied, fronted, IsOnWay, IsSeen, IsSight};
@@ -19,9 +19,9 @@ use crate::pinning::pin;
 use crate::sight::{BucketSight, Sight, see, see_bucket};
 use bucket_page::RecordKey;
 use buffer_pool::Pool;
+use buffer_pool::page_forms::FilePage;
 use directory::{ROOT_PAGE, page_of, slot_of};
 use page_device::PageDevice;
-use page_forms::FilePage;
 use std::cmp::min;
 
 /// The depth of the directory.

@@ -19,9 +19,9 @@ use crate::fault::FileFault;
 use crate::pinning::pin;
 use bucket_page::{RECORD_HEAD_BYTES, ROOM_BYTES, RecordKey};
 use buffer_pool::Pool;
+use buffer_pool::page_forms::FilePage;
 use directory::ROOT_PAGE;
 use page_device::PageDevice;
-use page_forms::FilePage;
 
 /// Puts a record into the bucket on a page. It is `Failed` where the page is no bucket, or the
 /// bucket has the key or no room.

@@ -8,7 +8,7 @@ ghost use Rattle.file_pages.specs.Reads.{IsOnWay, IsSight, sight_of};
 
 use crate::fault::FileFault;
 use bucket_page::RecordKey;
-use page_forms::FilePage;
+use buffer_pool::page_forms::FilePage;
 use positions::Range;
 
 /// What a search for a key sees of a page.

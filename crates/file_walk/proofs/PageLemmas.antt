@@ -10,6 +10,7 @@ use Rattle.bucket_page.specs.declared.page.Malformed.TheVariants as reasons
 use Rattle.bucket_page.specs.declared.page.PageKind.{PageKind}
 use Rattle.bucket_page.specs.declared.page.PageKind.TheVariants as kinds
 use Rattle.bucket_page.specs.Reading.{reading, fault_of, page_in, answer}
+use Rattle.bucket_page.specs.Spelling.{Spells}
 use Rattle.file_walk.specs.declared.fault.StructureFault.{StructureFault}
 use Rattle.file_walk.specs.declared.fault.StructureFault.TheVariants as faults
 use Rattle.file_walk.specs.Files.{payload_on, said_by, said_on, header_on, entries_of}
@@ -49,10 +50,13 @@ module _ (content : List (List ℕ)) (n : ℕ) (payload : List ℕ) (h : IsPaylo
       ∙ ap (λ p. after_reading None (may_stand n p)) (said page e)
 
   -- it is right where a page of that kind may stand there
-  pub is_right : (page : PageKind) → Ok page ≡ reading payload → may_stand n page ≡ true → IsRightPage content n
-  is_right page e stands = record {
+  pub is_right : (page : PageKind) → Ok page ≡ reading payload → Spells page payload → may_stand n page ≡ true →
+      IsRightPage content n
+  is_right page e it stands = record {
     sealed = h.sealed;
     formed = judged page e ∙ ap (after_reading None) stands;
+    spelled = subst (λ (p : PageKind). Spells p (payload_on content n)) (sym (said page e))
+        (subst (Spells page) h.value it);
   }
 
   -- and malformed where it may not
@@ -120,10 +124,10 @@ module _ (content : List (List ℕ)) where
 
   -- a page from the root on that is no directory page is kept so
   pub form_taken : (n : ℕ) (payload : List ℕ) (page : PageKind) (form : Form) → IsPayloadOf content n payload →
-      Ok page ≡ reading payload → ROOT_PAGE ≤ n → is_directory page ≡ false → shown form ≡ bare page →
-      IsFormOf content n form
-  form_taken n payload page form h e behind other same = record {
-    right = is_right content n payload h page e (may_behind n page behind other);
+      Ok page ≡ reading payload → Spells page payload → ROOT_PAGE ≤ n → is_directory page ≡ false →
+      shown form ≡ bare page → IsFormOf content n form
+  form_taken n payload page form h e it behind other same = record {
+    right = is_right content n payload h page e it (may_behind n page behind other);
     value = same ∙ ap bare (sym (said content n payload h page e));
   }
 
@@ -161,11 +165,12 @@ module _ (content : List (List ℕ)) (payload : List ℕ) (h : Header) (pages : 
 
 -- the entries of a directory page are taken
 pub entries_taken : (honest : Bool) (content : List (List ℕ)) (n most : ℕ) (old new es payload : List ℕ) →
-    (IsTrue honest → IsPayloadOf content n payload) → Ok (kinds.Directory es) ≡ reading payload → n < ROOT_PAGE →
-    length es ≡ PAGE_ENTRIES → new ≡ take most (old ++ es) → TakesEntries honest content n most old new
-entries_taken honest content n most old new es payload h e below long taken = record {
+    (IsTrue honest → IsPayloadOf content n payload) → Ok (kinds.Directory es) ≡ reading payload →
+    Spells (kinds.Directory es) payload → n < ROOT_PAGE → length es ≡ PAGE_ENTRIES → new ≡ take most (old ++ es) →
+    TakesEntries honest content n most old new
+entries_taken honest content n most old new es payload h e it below long taken = record {
   number = ap length taken ∙ taken_length most old es ∙ ap (λ k. min most (length old + k)) long;
-  right = λ is. is_right content n payload (h is) (kinds.Directory es) e
+  right = λ is. is_right content n payload (h is) (kinds.Directory es) e it
       (may_below n (kinds.Directory es) true below refl);
   value = λ is.
       taken

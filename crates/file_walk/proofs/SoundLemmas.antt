@@ -46,7 +46,7 @@ stands None true e = refl
 stands None false e = absurd cc
 stands (Some reason) b e = absurd cc
 
-right_directory : (content : List (List ℕ)) (n : ℕ) → n < ROOT_PAGE → IsRightPage content n →
+pub right_directory : (content : List (List ℕ)) (n : ℕ) → n < ROOT_PAGE → IsRightPage content n →
     is_directory (said_on content n) ≡ true
 right_directory content n below right =
     let low : nat_lt n ROOT_PAGE ≡ true = grind (arith, nat_tests) in
@@ -54,7 +54,7 @@ right_directory content n below right =
     rw low at stood
 
 -- so many pages of so many entries each
-pieces_length : (f : List ℕ → List ℕ) (k : ℕ) (pages : List (List ℕ)) →
+pub pieces_length : (f : List ℕ → List ℕ) (k : ℕ) (pages : List (List ℕ)) →
     ((i : ℕ) → i < length pages → length (f (slice_index_or pages i [])) ≡ k)
     → length (flat_map f pages) ≡ length pages * k
 pieces_length f k [] each = sym (zero-mul k)

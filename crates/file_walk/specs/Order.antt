@@ -6,12 +6,13 @@ use Rattle.directory.specs.declared.layout.TheConstants.{FIRST_DIRECTORY_PAGE, R
 use Rattle.directory.specs.declared.read.HeaderFault.{HeaderFault}
 use Rattle.directory.specs.declared.read.HeaderFault.TheVariants as headers
 use Rattle.directory.specs.Reading as header
-use Rattle.directory.specs.Spelling.{IsHeader}
+use Rattle.directory.specs.Spelling.{IsHeader, header_bytes}
 use Rattle.bucket_page.specs.declared.page.Malformed.{Malformed}
 use Rattle.bucket_page.specs.declared.page.Malformed.TheVariants as reasons
 use Rattle.bucket_page.specs.declared.page.PageKind.{PageKind}
 use Rattle.bucket_page.specs.declared.page.PageKind.TheVariants as kinds
 use Rattle.bucket_page.specs.Reading.{fault_of}
+use Rattle.bucket_page.specs.Spelling.{Spells}
 use Rattle.file_walk.specs.declared.fault.StructureFault.{StructureFault}
 use Rattle.file_walk.specs.declared.fault.StructureFault.TheVariants as faults
 use Rattle.file_walk.specs.Files.{page_on, payload_on, said_on, header_on}
@@ -29,6 +30,7 @@ pub record HasHeader (content : List (List ℕ)) : Type 0 where
   pub sealed : IsSealed 0 (page_on content 0)
   pub read : header.reading (payload_on content 0) ≡ Ok (header_on content)
   pub in_range : IsHeader (header_on content)
+  pub spelled : payload_on content 0 ≡ header_bytes (header_on content)
   pub as_many : (header_on content).pages ≡ length content
 
 -- the header tells of more pages than there are
@@ -75,10 +77,11 @@ after_reading None stands = if stands then None else Some reasons.Kind
 abbrev pub malformed_on : List (List ℕ) → ℕ → Option Malformed
 malformed_on content n = after_reading (fault_of (payload_on content n)) (may_stand n (said_on content n))
 
--- page n is sealed, and is a page that may stand there
+-- page n is sealed, and its payload spells a page that may stand there
 pub record IsRightPage (content : List (List ℕ)) (n : ℕ) : Type 0 where
   pub sealed : IsSealed n (page_on content n)
   pub formed : malformed_on content n ≡ None
+  pub spelled : Spells (said_on content n) (payload_on content n)
 
 abbrev pub AreRight : List (List ℕ) → ℕ → ℕ → Type 0
 AreRight content from to = (n : ℕ) → from ≤ n → n < to → IsRightPage content n

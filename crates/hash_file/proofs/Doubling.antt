@@ -6,7 +6,7 @@ use Rattle.std.proofs.Math.Nat.{two-pow-succ, pow-le-pow_right}
 use Rattle.positions.proofs.MemberLaws.{contains_cases, contains_none}
 use Rattle.positions.proofs.RangeLaws.{covers_above}
 use Rattle.bucket_page.specs.declared.record_key.RecordKey.{RecordKey}
-use Rattle.directory.specs.Entries.{page_of, is_upper}
+use Rattle.bucket_page.specs.directory.Entries.{page_of, is_upper}
 use Rattle.hash_file.specs.Store.{Store, entry_at, bucket_at, range_at, count_at}
 use Rattle.hash_file.specs.Chain.{chain, IsBucketOn, how_many, number_on}
 use Rattle.hash_file.specs.Change.{Change, Quiet, Taken}

@@ -13,7 +13,7 @@ use Rattle.bucket_page.specs.declared.record_key.RecordKey.{RecordKey}
 use Rattle.bucket_page.specs.Bucket.{Bucket}
 use Rattle.bucket_page.specs.Records.{Pair, is_above, ascend_from, lookup}
 use Rattle.bucket_page.specs.Dividing.{has_bit, lower_half, upper_half}
-use Rattle.fields.proofs.Tests.{both_true}
+use Rattle.bucket_page.proofs.of_fields.Tests.{both_true}
 use Rattle.bucket_page.proofs.OrderLaws.{ascend_lower}
 use Rattle.bucket_page.proofs.LookupLaws.{lookup_half}
 use Rattle.hash_file.specs.Store.{range_of}

@@ -2,7 +2,7 @@
 use Rattle.std.proofs.Common.{ℕ, zero, suc, ◌≡◌, ◌+◌, ◌<◌, ◌≤◌, List, [], ◌∷◌, length, slice_index_or, arith, refl, sym, ap, ◌∙◌, inl, inr}
 use Rattle.std.specs.List.{Contains}
 use Rattle.bucket_page.specs.declared.record_key.RecordKey.{RecordKey}
-use Rattle.directory.specs.declared.header.Header.{Header}
+use Rattle.bucket_page.specs.directory.declared.header.Header.{Header}
 use Rattle.hash_file.specs.Store.{Store, bucket_at}
 use Rattle.hash_file.specs.Chain.{chain, IsChain}
 use Rattle.hash_file.specs.Change.{Change, aside}

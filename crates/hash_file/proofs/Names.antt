@@ -4,7 +4,7 @@ pub use Rattle.positions.specs.Ranges.{AreHalvesOf, Covers, HasPosition, IsRange
 pub use Rattle.positions.specs.Tiles.{AreNeighbours, begun}
 pub use Rattle.positions.specs.declared.pseudokey.TheConstants.{POSITIONS, PSEUDOKEY_BITS}
 pub use Rattle.positions.specs.declared.range.Range.{Range}
-pub use Rattle.directory.specs.declared.header.Header.{Header}
+pub use Rattle.bucket_page.specs.directory.declared.header.Header.{Header}
 pub use Rattle.bucket_page.specs.Bucket.{Bucket}
 pub use Rattle.bucket_page.specs.Dividing.{has_bit, joined, lower_half, upper_half}
 pub use Rattle.bucket_page.specs.Keys.{is_same}

@@ -7,8 +7,8 @@ use Rattle.positions.specs.declared.range.Range.{Range}
 use Rattle.positions.specs.Ranges.{IsRange, Covers, upper_half_of}
 use Rattle.positions.proofs.RangeLaws.{half_in_range}
 use Rattle.bucket_page.specs.declared.record_key.RecordKey.{RecordKey}
-use Rattle.fields.proofs.Tests.{both_true}
-use Rattle.directory.specs.Entries.{page_of, is_in_range}
+use Rattle.bucket_page.proofs.of_fields.Tests.{both_true}
+use Rattle.bucket_page.specs.directory.Entries.{page_of, is_in_range}
 use Rattle.hash_file.specs.Store.{Store, entry_at, count_at}
 use Rattle.hash_file.specs.Chain.{chain, IsBucketOn, number_on}
 use Rattle.hash_file.specs.Change.{Change, Quiet, Linked, Buried, Drained, TakesDetour, gained, lost}

@@ -8,8 +8,8 @@ use Rattle.bucket_page.specs.Bucket.{Bucket}
 use Rattle.bucket_page.specs.Records.{Pair, lookup}
 use Rattle.bucket_page.specs.Changes.{inserted, replaced, removed}
 use Rattle.bucket_page.specs.Dividing.{lower_half, upper_half, joined}
-use Rattle.directory.specs.declared.header.Header.{Header}
-use Rattle.directory.specs.Entries.{page_of, is_upper, is_in_range}
+use Rattle.bucket_page.specs.directory.declared.header.Header.{Header}
+use Rattle.bucket_page.specs.directory.Entries.{page_of, is_upper, is_in_range}
 use Rattle.hash_file.specs.Store.{Store, entry_at, bucket_at, records_at, next_at}
 
 abbrev pub with_page : ℕ → PageKind → Store → Store

@@ -5,7 +5,7 @@ use Rattle.std.specs.List.{Contains}
 use Rattle.positions.specs.declared.range.Range.{Range}
 use Rattle.positions.specs.Ranges.{AreHalvesOf}
 use Rattle.bucket_page.specs.declared.record_key.RecordKey.{RecordKey}
-use Rattle.directory.specs.declared.header.Header.{Header}
+use Rattle.bucket_page.specs.directory.declared.header.Header.{Header}
 use Rattle.hash_file.specs.Store.{Store, bucket_at, range_at, records_at}
 use Rattle.hash_file.specs.Chain.{chain, IsBucketOf}
 use Rattle.hash_file.specs.Change.{Change, Quiet, Taken, Filled, Absorbed, Drained, busy}

@@ -6,7 +6,7 @@ use Rattle.bucket_page.specs.declared.page.PageKind.{PageKind}
 use Rattle.bucket_page.specs.declared.page.PageKind.TheVariants as kinds
 use Rattle.bucket_page.specs.Bucket.{Bucket, bucket}
 use Rattle.bucket_page.specs.Records.{Pair}
-use Rattle.directory.specs.declared.header.Header.{Header}
+use Rattle.bucket_page.specs.directory.declared.header.Header.{Header}
 
 -- where the first bucket of the chain stands, and how deep the directory may grow
 pub record Layout : Type 0 where

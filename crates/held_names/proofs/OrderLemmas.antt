@@ -10,8 +10,8 @@ use Rattle.page_locks.specs.Table.{row_of}
 use Rattle.step_rules.specs.Words.{Lock, LockKind, LockName, Directory, Page}
 use Rattle.step_rules.specs.World.{World}
 use Rattle.step_rules.specs.Turns.{MayBeGranted, rank_of}
-use Rattle.stale_search.specs.Words.{is_on, kind_of, without}
-use Rattle.stale_search.proofs.RowLemmas.{without-none}
+use Rattle.call_names.specs.stale_search.Words.{is_on, kind_of, without}
+use Rattle.call_names.proofs.of_stale_search.RowLemmas.{without-none}
 use Rattle.call_names.specs.Laws.{AreNames, IsInOrder}
 
 -- ---- the last of a list in order

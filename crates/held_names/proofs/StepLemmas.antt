@@ -3,14 +3,14 @@ use Rattle.std.proofs.Common.{ℕ, ◌≡◌, List, [], ◌∷◌, ◌++◌, Opt
 use Rattle.page_locks.proofs.NameLemmas.{is_same-itself}
 use Rattle.page_locks.proofs.RowLemmas.{kind_of-append}
 use Rattle.hash_file.specs.Changes.{RecordWrite}
-use Rattle.file_pages.specs.declared.fault.FileFault.{FileFault}
+use Rattle.call_names.specs.file_pages.declared.fault.FileFault.{FileFault}
 use Rattle.step_rules.specs.Words.{Change, Directory, Lock, Page}
 use Rattle.step_rules.specs.declared.kind.Kind.TheVariants.{Release}
 use Rattle.step_rules.specs.LockSteps.{Releases}
 use Rattle.step_rules.proofs.KindLemmas.{kind_keeps}
 use Rattle.step_rules.proofs.LockLemmas.{IsHeld-some}
-use Rattle.stale_search.specs.Words.{IsSeat, Moved, PoolState, RecordKey, Table, World, held, kind_of, row_of, with_row, without, without_lock}
-use Rattle.stale_search.specs.Steps.{Sees, Step, world}
+use Rattle.call_names.specs.stale_search.Words.{IsSeat, Moved, PoolState, RecordKey, Table, World, held, kind_of, row_of, with_row, without, without_lock}
+use Rattle.call_names.specs.stale_search.Steps.{Sees, Step, world}
 use Rattle.call_names.specs.Laws.{AreNames}
 use Rattle.held_names.proofs.OrderLemmas.{last_is_new, last_is_not, without_last}
 

@@ -4,8 +4,8 @@ use Rattle.page_locks.specs.declared.lock.Lock.{Lock}
 use Rattle.hash_file.specs.Changes.{RecordWrite}
 use Rattle.step_rules.specs.declared.kind.Kind.TheVariants as kinds
 use Rattle.step_rules.specs.Words.{Change}
-use Rattle.stale_search.specs.Words.{Ask, Blocked, Ended, Moved, Opposes, PoolState, Progress, RecordKey, Table}
-use Rattle.stale_search.specs.Steps.{Sees, Step}
+use Rattle.call_names.specs.stale_search.Words.{Ask, Blocked, Ended, Moved, Opposes, PoolState, Progress, RecordKey, Table}
+use Rattle.call_names.specs.stale_search.Steps.{Sees, Step}
 
 -- the lock stands last among those that are held, or another seat stands in its way and all stays
 abbrev pub Takes : {F : Type 0} → Progress F → ℕ → Lock → Table → (held held' : List Lock) → Type 0

@@ -6,7 +6,7 @@ use Rattle.std.proofs.lemmas.Bool.{eqb-true, true≢false}
 use Rattle.std.proofs.lemmas.List.{get_or-set_other, get_or-set_same, length-set}
 use Rattle.page_locks.specs.Locks.{is_same}
 use Rattle.page_locks.proofs.NameLemmas.{is_same-itself, is_same-true}
-use Rattle.owed_records.proofs.OverlayLemmas.{leaves_others, owes_alone}
+use Rattle.call_decisions.proofs.of_owed_records.OverlayLemmas.{leaves_others, owes_alone}
 use Rattle.kernel_laws.specs.Words.{LockName, Owes, OwesUnder, RecordKey, Records, Writes, guard_of, overlaid, overlaid_by, owes_at}
 use Rattle.kernel_laws.specs.Seats.{OweUnderTheirs, WillStand, names_of, owes_of}
 use Rattle.kernel_laws.specs.Laws.{AreApart, DecisionsLead, RestsOnRecords, WritesPay}

@@ -7,6 +7,7 @@ use clap::error::ErrorKind;
 use msgq_cli::{
     Output, Task, new_file, print_fault, read_command_line, report_file, run_file, serve,
 };
+use replays::{Sources, replay_file};
 use std::io;
 use std::io::BufWriter;
 use std::process::ExitCode;
@@ -25,6 +26,20 @@ fn main(rt: HostRuntime) -> ExitCode {
         Ok(Task::Serve) => serve(alloc, &mut rt.reader(), &mut output, &mut errors),
         Ok(Task::New { file, pages }) => new_file(&rt, file, pages, &mut output, &mut errors),
         Ok(Task::Run { file, script }) => run_file(&rt, file, script, &mut output, &mut errors),
+        Ok(
+            Task::Replay {
+                file,
+                script,
+                schedule,
+            },
+        ) => {
+            let sources = Sources {
+                file,
+                script,
+                schedule,
+            };
+            replay_file(&rt, sources, &mut output, &mut errors)
+        }
         Ok(Task::Report { file, report }) => {
             report_file(&rt, file, report, &mut output, &mut errors)
         }

@@ -10,11 +10,11 @@ use Rattle.one_caller.specs.declared.file_fault.OpenFault.{OpenFault}
 use Rattle.one_caller.specs.declared.file_fault.OpenFault.TheVariants.{TooFewFrames, Wrong}
 use Rattle.one_caller.specs.FileFault as open_faults
 use Rattle.one_caller.specs.FileFault.{device_failed}
-use Rattle.record_file.specs.Files.{MayNotFormat}
+use Rattle.one_caller.specs.record_file.Files.{MayNotFormat}
 use Rattle.bucket_page.specs.Pseudokeys.{sha_key}
-use Rattle.file_check.specs.declared.fault.CheckFault.TheVariants.{Structure}
+use Rattle.one_caller.specs.file_check.declared.fault.CheckFault.TheVariants.{Structure}
 use Rattle.file_walk.specs.declared.fault.StructureFault.TheVariants as structure
-use Rattle.one_bucket_file.specs.Files.{IsOneBucketFile}
+use Rattle.one_caller.specs.one_bucket_file.Files.{IsOneBucketFile}
 use Rattle.one_caller.specs.Laws.{IsNeverRefused, IsOfMachine}
 use Rattle.msgq_cli.specs.Outputs.{OutputState}
 use Rattle.msgq_cli.specs.Runs.{IsRun}

@@ -12,7 +12,7 @@ use Rattle.msgq_cli.specs.Scripts.{Parts, caller_of}
 use Rattle.msgq_cli.specs.declared.command.Command.{Command}
 use Rattle.msgq_cli.specs.declared.command.Command.TheVariants as command
 use Rattle.msgq_cli.specs.declared.ending.Ending.{Ending}
-use Rattle.msgq_cli.specs.declared.ending.Ending.TheVariants.{Done, Faulty, Failed, Unopened, WrongLine}
+use Rattle.msgq_cli.specs.declared.ending.Ending.TheVariants.{Done, Faulty, Failed, Unopened, WrongLine, WrongWord}
 use Rattle.msgq_cli.specs.declared.line.Line.{Line}
 use Rattle.msgq_cli.specs.declared.line.SeatIds.{SeatIds}
 use Rattle.msgq_cli.specs.declared.reply.Reply.{Reply}
@@ -85,6 +85,7 @@ pub record IsRun (script : Parts) (s : State) (Holds : State → Type 0) (old ne
 -- the exit status of a program that ends so, and whose output refused a write or did not
 abbrev pub status_of : Bool → Ending → ℕ
 status_of refused (WrongLine line) = 2
+status_of refused (WrongWord word) = 2
 status_of refused Faulty = 1
 status_of refused (Failed failure) = 1
 status_of refused (Unopened refusal) = 1

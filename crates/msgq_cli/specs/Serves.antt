@@ -6,7 +6,7 @@ use Rattle.faults.specs.declared.TheConstants.{DEVICE, NO_MEMORY}
 use Rattle.page_device.specs.Device.{HasRisen}
 use Rattle.queue_model.specs.State.{State}
 use Rattle.bucket_page.specs.Pseudokeys.{sha_key}
-use Rattle.one_bucket_file.specs.Files.{IsOneBucketFile, no_queues}
+use Rattle.one_caller.specs.one_bucket_file.Files.{IsOneBucketFile, no_queues}
 use Rattle.one_caller.specs.FileFault.{device_failed, number_of}
 use Rattle.one_caller.specs.Opening.{MayRefuse}
 use Rattle.one_caller.specs.Serving.{restarted}
@@ -16,11 +16,11 @@ use Rattle.msgq_cli.specs.Answers.{fault_text, made_text}
 use Rattle.msgq_cli.specs.Outputs.{OutputState, Prints}
 use Rattle.msgq_cli.specs.Runs.{IsPrinted, IsRun}
 use Rattle.msgq_cli.specs.Scripts.{Parts, script_of}
-use Rattle.record_file.specs.Files.{IsNewFile}
+use Rattle.one_caller.specs.record_file.Files.{IsNewFile}
 use Rattle.msgq_cli.specs.declared.script.ScriptError.{ScriptError}
 use Rattle.msgq_cli.specs.declared.script.ScriptError.TheVariants as errors
 use Rattle.msgq_cli.specs.declared.ending.Ending.{Ending}
-use Rattle.msgq_cli.specs.declared.ending.Ending.TheVariants.{Done, Faulty, Failed, Unopened, WrongLine}
+use Rattle.msgq_cli.specs.declared.ending.Ending.TheVariants.{Done, Faulty, Failed, Unopened, WrongLine, WrongWord}
 
 -- a run ends by a fault of this number that no line met
 abbrev pub EndsBy : ℕ → Ending → Type 0
@@ -29,6 +29,7 @@ EndsBy fault Faulty = ⊥
 EndsBy fault (Failed failure) = failure.fault ≡ fault
 EndsBy fault (Unopened refusal) = number_of refusal ≡ fault
 EndsBy fault (WrongLine line) = ⊥
+EndsBy fault (WrongWord word) = ⊥
 
 -- a fault that no line met is printed, and nothing else
 pub record IsFaultAlone (fault : ℕ) (old new : OutputState) (ending : Ending) : Type 0 where

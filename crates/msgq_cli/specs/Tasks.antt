@@ -1,11 +1,12 @@
 -- What a command line asks for. docs/SCRIPTS.md, "Runs".
-use Rattle.std.specs.Prelude.{ℕ, ◌≤◌, ◌&&◌, nat_le, List, Option, Some, None, ⊤, if◌then◌else◌}
+use Rattle.std.specs.Prelude.{ℕ, ◌≡◌, ◌≤◌, ◌&&◌, nat_le, Bool, false, List, codes, Option, Some, None, ⊤, if◌then◌else◌}
+use Rattle.std.specs.Str.{bytes_eq}
 use Rattle.page_device.specs.declared.page.TheConstants.{MAX_PAGES}
 use Rattle.directory.specs.declared.layout.TheConstants.{LEAST_PAGES}
 use Rattle.script_words.specs.Numbers.{number_of}
 use Rattle.script_words.specs.Reading.{◌>>=◌}
 use Rattle.msgq_cli.specs.declared.command_line.Task.{Task}
-use Rattle.msgq_cli.specs.declared.command_line.Task.TheVariants.{Serve, New, Run, Report}
+use Rattle.msgq_cli.specs.declared.command_line.Task.TheVariants.{Serve, New, Run, Replay, Report}
 
 -- a file can have so many pages
 pub record IsFileSize (pages : ℕ) : Type 0 where
@@ -24,4 +25,17 @@ abbrev pub HasPages : Task → Type 0
 HasPages Serve = ⊤
 HasPages (New file pages) = IsFileSize pages
 HasPages (Run file script) = ⊤
+HasPages (Replay file script schedule) = ⊤
 HasPages (Report file report) = ⊤
+
+-- this names the text of standard input
+abbrev pub is_input : List ℕ → Bool
+is_input name = bytes_eq name (codes "-")
+
+-- standard input is one text at most
+abbrev pub ReadsInputOnce : Task → Type 0
+ReadsInputOnce Serve = ⊤
+ReadsInputOnce (New file pages) = ⊤
+ReadsInputOnce (Run file script) = ⊤
+ReadsInputOnce (Replay file script schedule) = (is_input script.now && is_input schedule.now) ≡ false
+ReadsInputOnce (Report file report) = ⊤

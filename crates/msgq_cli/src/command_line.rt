@@ -1,8 +1,9 @@
 //! The command line.
 
 ghost use Rattle.std.specs.Prelude.{◌≡◌, IfOk, IfSome};
-ghost use Rattle.msgq_cli.specs.Tasks.{HasPages, IsFileSize, pages_of};
+ghost use Rattle.msgq_cli.specs.Tasks.{HasPages, IsFileSize, ReadsInputOnce, pages_of};
 
+use crate::files::STANDARD_INPUT;
 use crate::reports::Report;
 use clap::error::ErrorKind;
 use clap::{Arg, ArgAction, Command, Error};
@@ -30,6 +31,15 @@ pub enum Task<'a> {
         /// The script.
         script: &'a str,
     },
+    /// A script, on a file, its lines beside one another by a schedule.
+    Replay {
+        /// The file.
+        file: &'a str,
+        /// The script.
+        script: &'a str,
+        /// The schedule.
+        schedule: &'a str,
+    },
     /// A report of the system that a file holds.
     Report {
         /// The file.
@@ -46,6 +56,8 @@ const PAGES: &str = "PAGES";
 
 const SCRIPT: &str = "SCRIPT";
 
+const SCHEDULE: &str = "SCHEDULE";
+
 /// Behind the help of the program.
 const ENDING: &str = "\
 Without a subcommand, the script of standard input is run on a new file of 352 pages in memory.
@@ -57,9 +69,10 @@ error says why.
 Exit status:
   0  every line was answered or refused; the file is right; help and version
   1  a fault was printed, or standard output refused a write
-  2  the command line or the script is wrong, and nothing was run; standard error says what is wrong
+  2  the command line, the script or the schedule is wrong, and nothing was run; standard error says
+     what is wrong
 
-Scripts: docs/SCRIPTS.md, with examples in examples/. Faults: docs/FAULTS.md.";
+Scripts and schedules: docs/SCRIPTS.md, with examples in examples/. Faults: docs/FAULTS.md.";
 
 /// Behind the help of `new`.
 const NEW_PRINTS: &str = "\
@@ -75,6 +88,17 @@ well.
 Exit status 0, 1 where a fault was printed or standard output refused a write, 2 where the
 command line or SCRIPT is wrong: then nothing was run, and standard error says 'script line N'
 and what stands there.";
+
+/// Behind the help of `replay`.
+const REPLAY_PRINTS: &str = "\
+Runs the lines of the seats beside one another: SCHEDULE says which seat makes the next steps. Behind
+it the seats make a step each, in turns, until all lines are answered.
+Prints the number and the answer of each line, in the order of SCRIPT; 'fault 20' alone where SCRIPT
+or SCHEDULE can't be read, 'fault N' alone where FILE is not opened, 'fault N' behind the answers
+where a line is left that no seat can finish, or FILE is not closed well.
+Exit status 0, 1 where a fault was printed or standard output refused a write, 2 where the command
+line, SCRIPT or SCHEDULE is wrong: then nothing was run, and standard error says 'script line N' or
+'schedule word N'.";
 
 /// Behind the help of `check`.
 const CHECK_PRINTS: &str = "\
@@ -93,14 +117,18 @@ and behind them 'next ID', the id of the next queue; or 'fault N' alone.
 Exit status 0, 1 where a fault was printed or standard output refused a write, 2 where the
 command line is wrong.";
 
+/// What is wrong with two texts that would both be that of standard input.
+const ONE_INPUT: &str = "SCRIPT and SCHEDULE can't both be standard input";
+
 /// What is wrong with a PAGES that is no number of pages.
 const WRONG_PAGES: &str = "PAGES is a decimal number from 258 to 65536, without a sign";
 
 /// Reads the words of a command line, of which the first names the program.
 ///
-/// A number of pages is one that a file can have.
+/// A number of pages is one that a file can have, and one text at most is that of standard input.
 pub fn read_command_line<'a>(alloc: Global, words: &'a [String]) -> Result<Task<'a>, Error>
-    ensures { IfOk result HasPages }
+    ensures pages { IfOk result HasPages }
+    ensures input { IfOk result ReadsInputOnce }
 {
     let matches = command(alloc)?.try_get_matches_from(words)?;
     let Some((name, arguments)) = matches.subcommand() else {
@@ -110,6 +138,18 @@ pub fn read_command_line<'a>(alloc: Global, words: &'a [String]) -> Result<Task<
     if name == "run" {
         let script = arguments.get_str(SCRIPT).unwrap_or("");
         return Ok(Task::Run { file, script });
+    }
+    if name == "replay" {
+        let script = arguments.get_str(SCRIPT).unwrap_or("");
+        let schedule = arguments.get_str(SCHEDULE).unwrap_or("");
+        if script == STANDARD_INPUT && schedule == STANDARD_INPUT {
+            return Err(command(alloc)?.error(ErrorKind::ValueValidation, ONE_INPUT)?);
+        }
+        return Ok(Task::Replay {
+            file,
+            script,
+            schedule,
+        });
     }
     if name == "check" {
         return Ok(Task::Report {
@@ -146,6 +186,7 @@ fn pages(word: &[u8]) -> Option<u32>
 fn command<'a>(alloc: Global) -> Result<Command<'a>, AllocError> {
     let new = new_command(alloc)?;
     let run = run_command(alloc)?;
+    let replay = replay_command(alloc)?;
     let check = report_command(
         alloc,
         "check",
@@ -160,6 +201,7 @@ fn command<'a>(alloc: Global) -> Result<Command<'a>, AllocError> {
         .disable_help_subcommand(true)
         .subcommand(new)?
         .subcommand(run)?
+        .subcommand(replay)?
         .subcommand(check)?
         .subcommand(stat)
 }
@@ -182,6 +224,18 @@ fn run_command<'a>(alloc: Global) -> Result<Command<'a>, AllocError> {
         .after_help(RUN_PRINTS)
         .arg(argument(alloc, FILE).help("The file"))?
         .arg(script)
+}
+
+/// `replay FILE SCRIPT SCHEDULE`.
+fn replay_command<'a>(alloc: Global) -> Result<Command<'a>, AllocError> {
+    let script = argument(alloc, SCRIPT).help("The script, or - for that of standard input");
+    let schedule = argument(alloc, SCHEDULE).help("The schedule, or - for that of standard input");
+    Command::new(alloc, "replay")
+        .about("Runs the lines of several seats beside one another, by a schedule")
+        .after_help(REPLAY_PRINTS)
+        .arg(argument(alloc, FILE).help("The file"))?
+        .arg(script)?
+        .arg(schedule)
 }
 
 /// A subcommand with the one argument FILE.

@@ -12,21 +12,16 @@ use std::io::Write;
 const MOST_SHOWN: usize = 64;
 
 /// `msgq: FILE: what: why`.
-pub(crate) fn complain<E: Write, D: Display + Drop>(
-    file: &str,
-    what: &str,
-    why: D,
-    errors: &mut E,
-) {
+pub fn complain<E: Write, D: Display + Drop>(file: &str, what: &str, why: D, errors: &mut E) {
     let _ = writeln!(errors, "msgq: {file}: {what}: {why}");
 }
 
 /// Says of a run on a file that ended by a fault that no line met what this was.
-pub(crate) fn complain_of<E: Write>(file: &str, ending: Ending, errors: &mut E) {
+pub fn complain_of<E: Write>(file: &str, ending: Ending, errors: &mut E) {
     match ending {
         Ending::Failed(failure) => complain(file, what(failure.stage), why(failure), errors),
         Ending::Unopened(fault) => complain(file, what(Stage::Opening), fault, errors),
-        Ending::Done | Ending::Faulty | Ending::WrongLine(_) => {}
+        Ending::Done | Ending::Faulty | Ending::WrongLine(_) | Ending::WrongWord(_) => {}
     }
 }
 

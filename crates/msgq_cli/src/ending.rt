@@ -19,6 +19,8 @@ pub enum Ending {
     Unopened(OpenFault),
     /// The script's line of this number is wrong, and nothing was run.
     WrongLine(u64),
+    /// The schedule's word of this number is wrong, and nothing was run.
+    WrongWord(u64),
 }
 
 /// A fault that no line met.
@@ -52,14 +54,14 @@ impl Ending {
         ensures { result ≡ status_of refused self }
     {
         match self {
-            Ending::WrongLine(_) => 2,
+            Ending::WrongLine(_) | Ending::WrongWord(_) => 2,
             Ending::Faulty | Ending::Failed(_) | Ending::Unopened(_) => 1,
             Ending::Done => u8::from(refused),
         }
     }
 
     /// How it ends after one reply more.
-    pub(crate) fn after(self, reply: &Reply) -> Ending
+    pub fn after(self, reply: &Reply) -> Ending
         ensures { result ≡ (if is_fault reply.now then Ending.Faulty else self) }
     {
         if reply.is_fault() {

@@ -12,8 +12,8 @@ use crate::reply::print_made;
 use crate::script::read_script;
 use crate::serving::{fail, read_text, refuse, run_on, unread};
 use directory::LEAST_PAGES;
+use one_caller::record_file::format;
 use page_device::{FileDevice, MAX_PAGES, PageDevice, SystemFile};
-use record_file::format;
 use std::fs::{OpenFile, OpenOptions};
 use std::io::{Read, Seek, Write};
 use std::rt::Files;
@@ -131,7 +131,7 @@ where
 }
 
 /// All bytes of a file, or of standard input.
-fn read_file<R, F>(rt: &R, path: &str) -> io::Result<Vec<u8>>
+pub fn read_file<R, F>(rt: &R, path: &str) -> io::Result<Vec<u8>>
 where
     R: Files<File = F> + AllocGlobal + Input,
     F: Read + Drop,
@@ -144,7 +144,7 @@ where
 }
 
 /// Says why a file was not opened so: in the system's words, where it does not open it.
-pub(crate) fn complain_unopened<R: Files, E: Write>(
+pub fn complain_unopened<R: Files, E: Write>(
     rt: &R,
     how: &OpenOptions,
     file: &str,

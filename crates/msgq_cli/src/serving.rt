@@ -15,10 +15,10 @@ use crate::reply::print_fault;
 use crate::runs::run;
 use crate::script::{Script, ScriptError, read_script};
 use bucket_page::ShaKey;
-use one_bucket_file::a_new_file_has_no_queues;
+use one_caller::one_bucket_file::a_new_file_has_no_queues;
+use one_caller::record_file::format;
 use one_caller::{OneCaller, OpenFault, a_file_of_one_bucket_is_never_refused};
 use page_device::{MemDevice, PageDevice};
-use record_file::format;
 use std::alloc::Global;
 use std::io;
 use std::io::{ErrorKind, Read, Write};
@@ -127,7 +127,7 @@ fn run_open<D: PageDevice, W: Write + Drop>(
 }
 
 /// Ends a run whose script is not read.
-pub(crate) fn refuse<W: Write + Drop, E: Write>(
+pub fn refuse<W: Write + Drop, E: Write>(
     alloc: Global,
     error: ScriptError,
     text: &[u8],
@@ -159,7 +159,7 @@ pub(crate) fn read_text<R: Read>(alloc: Global, reader: &mut R) -> io::Result<Ve
 }
 
 /// Ends a run of whose script the system refused to open or read the file.
-pub(crate) fn unread<W: Write + Drop, E: Write>(
+pub fn unread<W: Write + Drop, E: Write>(
     name: &str,
     error: &io::Error,
     output: &mut Output<W>,
@@ -190,7 +190,7 @@ fn leave_unopened<W: Write + Drop>(fault: OpenFault, output: &mut Output<W>) -> 
 }
 
 /// Prints a fault that no line met.
-pub(crate) fn fail<W: Write + Drop>(stage: Stage, fault: u8, output: &mut Output<W>) -> Ending
+pub fn fail<W: Write + Drop>(stage: Stage, fault: u8, output: &mut Output<W>) -> Ending
     ensures { IsFaultAlone fault output.old output.new result }
 {
     print_fault(fault, output);

@@ -1,7 +1,9 @@
 -- A file of which another payload of a root bucket comes to stand on the root page keeps its structure.
 use Rattle.std.proofs.Common.{ℕ, suc, ◌+◌, ◌≡◌, ◌<◌, ◌≤◌, ◌&&◌, nat_le, nat_lt, ◌==◌, Bool, List, [], ◌∷◌, ◌++◌, length, Ok, refl, sym, ap, subst, ◌∙◌, inl, inr, if◌then◌else◌, slice_index_or, arith}
 use Rattle.directory.specs.Reading as header
+use Rattle.directory.specs.Spelling.{header_bytes}
 use Rattle.bucket_page.specs.declared.page.PageKind.TheVariants as kinds
+use Rattle.bucket_page.specs.Spelling.{Spells}
 use Rattle.file_walk.specs.Files.{entries_of, entries_on, file_layout, file_of, header_on, pages_on, payload_on, said_by, said_on}
 use Rattle.one_bucket_file.proofs.Names.{Covers, DIRECTORY_PAGES, FIRST_DIRECTORY_PAGE, HasHeader, HasRightSpares, Header, IsFreePage, IsHeader, IsPartition, IsRightChain, IsRightDirectory, IsRightPage, IsRightStructure, LEAST_PAGES, Links, PageKind, Pair, ROOT_PAGE, Range, Store, after_reading, bucket_of, cases_eq, cases_lt, entry_at, fault_of, flat_map, flat_map-cons, fun_ext, how_many, is_bucket, may_stand, next_at, number_on, page_at, page_in, pages_at, pages_length, range_at, range_of, root_bucket}
 use Rattle.one_bucket_file.proofs.PageLemmas.{directory_length, directory_of, directory_page, is_right, may_behind, page_low, page_past, said_is, stands_at}
@@ -178,6 +180,9 @@ module _ (old new : List (List ℕ)) (ns : List ℕ) (qs rs : List Pair) (struct
           formed = ap (λ p. after_reading (fault_of p) (may_stand n (said_on new n))) (payload_same n inside other)
               ∙ ap (λ p. after_reading (fault_of (payload_on old n)) (may_stand n p)) (said_on_same n inside other)
               ∙ (structure.pages.pages n behind inside).formed;
+          spelled = subst (Spells (said_on new n)) (sym (payload_same n inside other))
+              (subst (λ (p : PageKind). Spells p (payload_on old n)) (sym (said_on_same n inside other))
+              (structure.pages.pages n behind inside).spelled);
         })
   ]
 
@@ -188,6 +193,7 @@ module _ (old new : List (List ℕ)) (ns : List ℕ) (qs rs : List Pair) (struct
         sealed = changed.sealed 0 (omega (arith, long_too));
         read = ap header.reading header_payload ∙ h.read ∙ ap (λ (x : Header). Ok x) (sym header_same);
         in_range = subst IsHeader (sym header_same) h.in_range;
+        spelled = header_payload ∙ h.spelled ∙ ap header_bytes (sym header_same);
         as_many = ap (λ (x : Header). x.pages) header_same ∙ h.as_many ∙ sym as_long;
       }
 

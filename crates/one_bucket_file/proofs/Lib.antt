@@ -9,3 +9,5 @@ pub mod EmptyLemmas
 pub mod NewLemmas
 pub mod NewStructure
 pub mod NewLaws
+pub use Rattle.file_check.proofs as of_file_check
+pub use Rattle.record_file.proofs as of_record_file

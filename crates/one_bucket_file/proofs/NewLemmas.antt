@@ -9,7 +9,7 @@ use Rattle.directory.specs.declared.header.Header.{Header}
 use Rattle.directory.specs.declared.read.HeaderFault.{HeaderFault}
 use Rattle.directory.specs.Pages.{IsDirectory}
 use Rattle.directory.specs.Reading as header
-use Rattle.directory.specs.Spelling.{IsHeader}
+use Rattle.directory.specs.Spelling.{IsHeader, header_bytes}
 use Rattle.directory.proofs.HeaderLaws.{spelled_reads}
 use Rattle.bucket_page.specs.declared.page.PageKind.TheVariants as kinds
 use Rattle.bucket_page.specs.Records.{Pair}
@@ -151,6 +151,7 @@ module _ (pages : ℕ) (rs : List Pair) (content : List (List ℕ)) (it : IsFile
       sealed = it.sealed 0 (omega (arith, within_root));
       read = header_read ∙ ap (λ (h : Header). Ok h) (sym header_says);
       in_range = subst IsHeader (sym header_says) (header_is pages it.least it.most);
+      spelled = page_is 0 (omega (arith, within_root)) ∙ ap header_bytes (sym header_says);
       as_many = ap (λ (h : Header). h.pages) header_says ∙ sym as_many;
     };
     pages = λ n behind within. right_page n behind (omega (arith, within, as_many));

@@ -46,6 +46,7 @@ module _ (content : List (List ℕ)) (n : ℕ) (page : PageKind) (is : Spells pa
     formed = ap (λ f. after_reading f (may_stand n (said_on content n))) read.0
         ∙ ap (λ p. after_reading None (may_stand n p)) says
         ∙ ap (after_reading None) stands;
+    spelled = subst (λ (p : PageKind). Spells p payload) (sym says) is;
   }
 
   pub stands_at : ROOT_PAGE ≤ n → n < length content → page_at (file_of content) n ≡ page

@@ -9,8 +9,8 @@ use Rattle.bucket_page.specs.Bucket.{Bucket}
 use Rattle.bucket_page.specs.Changes.{IsBucketPage, SpellsBucket, Changes}
 use Rattle.bucket_page.specs.Reading.{bucket_in, records_in}
 use Rattle.bucket_page.specs.Records.{Pair}
-use Rattle.record_file.specs.Files.{root_bucket}
-use Rattle.record_file.proofs.FileLemmas.{read_again}
+use Rattle.one_bucket_file.specs.record_file.Files.{root_bucket}
+use Rattle.one_bucket_file.proofs.of_record_file.FileLemmas.{read_again}
 use Rattle.one_caller.specs.OneBucket.{OneBucketState, IsKept, IsPinnedRoot, IsRoot, root_records, root_payload, shown, without_root}
 
 -- a root bucket's payload is a bucket's

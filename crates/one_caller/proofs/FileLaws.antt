@@ -5,7 +5,7 @@ use Rattle.page_device.specs.Sealed.{payload_of}
 use Rattle.buffer_pool.specs.Pool.{payloads_of}
 use Rattle.buffer_pool.proofs.ImagesLemmas.{payload_at}
 use Rattle.directory.specs.declared.layout.TheConstants.{ROOT_PAGE}
-use Rattle.file_check.proofs.WholeLemmas.{file_has_no_fault}
+use Rattle.one_bucket_file.proofs.of_file_check.WholeLemmas.{file_has_no_fault}
 use Rattle.file_walk.specs.Files.{payload_on}
 use Rattle.file_walk.specs.Order.{HasHeader}
 use Rattle.one_bucket_file.specs.Files.{ChangesRootPage}

@@ -18,8 +18,8 @@ use Rattle.directory.specs.declared.layout.TheConstants.{LEAST_PAGES, ROOT_PAGE}
 use Rattle.bucket_page.specs.Bucket.{Bucket, bucket}
 use Rattle.bucket_page.specs.Changes.{SpellsBucket}
 use Rattle.bucket_page.specs.Reading.{records_in}
-use Rattle.record_file.specs.Files.{root_bucket}
-use Rattle.record_file.proofs.FileLemmas.{read_again}
+use Rattle.one_bucket_file.specs.record_file.Files.{root_bucket}
+use Rattle.one_bucket_file.proofs.of_record_file.FileLemmas.{read_again}
 use Rattle.file_walk.specs.Files.{page_on, payload_on}
 use Rattle.file_walk.specs.Order.{HasHeader}
 use Rattle.one_caller.proofs.Names.{Pair}

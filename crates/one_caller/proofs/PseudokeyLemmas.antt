@@ -6,8 +6,8 @@ use Rattle.std.proofs.lemmas.List.{get_or_default}
 use Rattle.bucket_page.specs.declared.page.PageKind.{PageKind}
 use Rattle.bucket_page.specs.declared.record_key.RecordKey.{RecordKey}
 use Rattle.directory.specs.declared.layout.TheConstants.{ROOT_PAGE}
-use Rattle.file_check.specs.Records.{AreRightRecords}
-use Rattle.file_check.proofs.RightLemmas.{right_sound}
+use Rattle.one_bucket_file.specs.file_check.Records.{AreRightRecords}
+use Rattle.one_bucket_file.proofs.of_file_check.RightLemmas.{right_sound}
 use Rattle.file_walk.specs.Files.{file_of}
 use Rattle.file_walk.specs.Structure.{IsRightStructure}
 use Rattle.hash_file.specs.Store.{bucket_at, bucket_of, range_at}

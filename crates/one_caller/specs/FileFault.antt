@@ -1,8 +1,8 @@
 -- The numbers of the faults of files.
 use Rattle.std.specs.Prelude.{ℕ}
 use Rattle.faults.specs.declared.TheConstants.{DEVICE, FAILED, TOO_FEW_FRAMES}
-use Rattle.file_check.specs.Fault as check
-use Rattle.file_check.specs.declared.fault.CheckFault.TheVariants.{Structure}
+use Rattle.one_bucket_file.specs.file_check.Fault as check
+use Rattle.one_bucket_file.specs.file_check.declared.fault.CheckFault.TheVariants.{Structure}
 use Rattle.file_walk.specs.declared.fault.StructureFault.TheVariants as structure
 use Rattle.one_caller.specs.declared.file_fault.OpenFault.{OpenFault}
 use Rattle.one_caller.specs.declared.file_fault.OpenFault.TheVariants.{TooFewFrames, Wrong, ManyBuckets}

@@ -1,7 +1,7 @@
 -- A file of one bucket is not refused. It is the contract of a function of laws.rt.
 use Rattle.std.specs.Prelude.{ℕ, List, ⊤}
 use Rattle.bucket_page.specs.declared.record_key.RecordKey.{RecordKey}
-use Rattle.file_check.specs.Fault.{IsOfMachineToo}
+use Rattle.one_bucket_file.specs.file_check.Fault.{IsOfMachineToo}
 use Rattle.queue_model.specs.State.{State}
 use Rattle.one_bucket_file.specs.Files.{IsOneBucketFile}
 use Rattle.one_caller.specs.declared.file_fault.OpenFault.{OpenFault}

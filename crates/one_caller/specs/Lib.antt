@@ -9,3 +9,6 @@ pub mod OneBucket
 pub mod Opening
 pub mod Serving
 pub mod Sweeping
+pub use Rattle.one_bucket_file.specs as one_bucket_file
+pub use Rattle.one_bucket_file.specs.file_check
+pub use Rattle.one_bucket_file.specs.record_file

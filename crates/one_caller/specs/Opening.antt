@@ -3,8 +3,8 @@
 use Rattle.std.specs.Prelude.{◌≡◌, ◌≢◌, ◌⊎◌, ℕ, ◌<◌, ◌≤◌, List, length, ⊤}
 use Rattle.bucket_page.specs.declared.record_key.RecordKey.{RecordKey}
 use Rattle.directory.specs.declared.layout.TheConstants.{ROOT_PAGE}
-use Rattle.file_check.specs.Whole.{IsFileOf, IsToldOf}
-use Rattle.file_check.specs.declared.fault.CheckFault.TheVariants.{Structure}
+use Rattle.one_bucket_file.specs.file_check.Whole.{IsFileOf, IsToldOf}
+use Rattle.one_bucket_file.specs.file_check.declared.fault.CheckFault.TheVariants.{Structure}
 use Rattle.file_walk.specs.Files.{page_on, payload_on}
 use Rattle.file_walk.specs.Order.{IsHeaderFault, IsOfMachine}
 use Rattle.file_walk.specs.declared.fault.StructureFault.{StructureFault}

@@ -3,8 +3,8 @@
 ghost use Rattle.std.specs.Prelude.{◌≡◌};
 ghost use Rattle.one_caller.specs.FileFault.{close_number_of, number_of};
 
-use file_check::CheckFault;
 use file_walk::StructureFault;
+use one_bucket_file::file_check::CheckFault;
 use thiserror::Error;
 
 /// Why a file is not opened. Nothing was written.
@@ -36,7 +36,7 @@ impl OpenFault {
 
 impl From<StructureFault> for OpenFault {
     ghost use Rattle.std.specs.Prelude.{◌≡◌};
-    ghost use Rattle.file_check.specs.declared.fault.CheckFault.TheVariants.{Structure};
+    ghost use Rattle.one_bucket_file.specs.file_check.declared.fault.CheckFault.TheVariants.{Structure};
     ghost use Rattle.one_caller.specs.declared.file_fault.OpenFault.TheVariants.{Wrong};
 
     ghost from_gives = { λ fault given. given ≡ Wrong (Structure fault) };

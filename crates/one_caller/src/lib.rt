@@ -22,5 +22,7 @@ pub use fault::CallFault;
 pub use file_fault::{CloseFault, OpenFault};
 pub use laws::a_file_of_one_bucket_is_never_refused;
 pub use one_bucket::OneBucket;
+pub use one_bucket_file;
+pub use one_bucket_file::{file_check, record_file};
 pub use one_caller::OneCaller;
 pub use served::Served;

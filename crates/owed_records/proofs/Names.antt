@@ -12,7 +12,7 @@ pub use Rattle.queue_records.specs.Keys.{guard_of}
 pub use Rattle.queue_records.specs.Spelling.{key_of}
 pub use Rattle.queue_records.specs.declared.layout.TheConstants.{TYPE, MESSAGE}
 pub use Rattle.queue_records.specs.declared.record.Record.{Record}
-pub use Rattle.type_chains.specs.RecordOf.{has_serial, message_record, record_of, type_record}
+pub use Rattle.xsi_inquiry.specs.type_chains.RecordOf.{has_serial, message_record, record_of, type_record}
 pub use Rattle.xsi_inquiry.proofs.LeadLemmas.{same_keys}
 pub use Rattle.xsi_inquiry.specs.Deciding.{IsAnswered, IsSwept}
 pub use Rattle.xsi_inquiry.specs.Sweeping.{has_type_number, message_left, swept, type_left}

@@ -10,7 +10,7 @@ use Rattle.queue_model.specs.State.{State}
 use Rattle.queue_records.specs.declared.record.Record.{Record}
 use Rattle.queue_records.specs.Keys.{guard_of}
 use Rattle.queue_records.specs.Spelling.{key_of}
-use Rattle.type_chains.specs.RecordOf.{record_of}
+use Rattle.xsi_inquiry.specs.type_chains.RecordOf.{record_of}
 use Rattle.xsi_inquiry.specs.declared.decision.Sweep.{Sweep}
 use Rattle.xsi_inquiry.specs.declared.verdict.Verdict.{Verdict}
 use Rattle.xsi_inquiry.specs.declared.write.Write.{Write}

@@ -4,3 +4,4 @@ pub mod Faulty
 pub mod File
 pub mod Pages
 pub mod Sealed
+pub use Rattle.faults.specs as faults

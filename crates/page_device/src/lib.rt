@@ -13,6 +13,7 @@ mod sealed;
 
 pub use device::PageDevice;
 pub use fault::DeviceFault;
+pub use faults;
 pub use faulty::FaultyDevice;
 pub use file::FileDevice;
 pub use memory::MemDevice;

@@ -6,15 +6,15 @@ use Rattle.bucket_page.specs.declared.page.Malformed.{Malformed}
 use Rattle.bucket_page.specs.Reading.{page_in, kind_at, fault_of, answer}
 use Rattle.bucket_page.specs.declared.layout.TheConstants.{FREE}
 use Rattle.bucket_page.specs.declared.page.PageKind.TheVariants as kinds
-use Rattle.fields.specs.Numbers.{four_at}
+use Rattle.bucket_page.specs.fields.Numbers.{four_at}
 use Rattle.bucket_page.specs.Spelling.{Spells}
 use Rattle.bucket_page.proofs.PageLaws.{spelled_reads}
-use Rattle.directory.specs.declared.header.Header.{Header}
-use Rattle.directory.specs.declared.read.HeaderFault.{HeaderFault}
-use Rattle.directory.specs.Pages.{SpellsDirectory}
-use Rattle.directory.specs.Reading.{header_at, fault_of as header_fault_of, answer as header_answer}
-use Rattle.directory.specs.Spelling.{Spells as SpellsHeader}
-use Rattle.directory.proofs.HeaderLaws.{spelled_reads as header_reads}
+use Rattle.bucket_page.specs.directory.declared.header.Header.{Header}
+use Rattle.bucket_page.specs.directory.declared.read.HeaderFault.{HeaderFault}
+use Rattle.bucket_page.specs.directory.Pages.{SpellsDirectory}
+use Rattle.bucket_page.specs.directory.Reading.{header_at, fault_of as header_fault_of, answer as header_answer}
+use Rattle.bucket_page.specs.directory.Spelling.{Spells as SpellsHeader}
+use Rattle.bucket_page.proofs.of_directory.HeaderLaws.{spelled_reads as header_reads}
 use Rattle.page_forms.specs.Forms.{IsFreePage, IsHeaderPage, IsWell}
 
 value_is : (f : Option Malformed) (x p : PageKind) → answer f x ≡ Ok p → x ≡ p

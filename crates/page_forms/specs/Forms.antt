@@ -1,11 +1,11 @@
 -- Payloads that spell a page of a file, and those of each kind (docs/FORMAT.md, "Pages").
 use Rattle.std.specs.Prelude.{ℕ, ◌⊎◌, List}
-use Rattle.fields.specs.Numbers.{four_at}
+use Rattle.bucket_page.specs.fields.Numbers.{four_at}
 use Rattle.bucket_page.specs.declared.page.PageKind.TheVariants as kinds
 use Rattle.bucket_page.specs.Reading.{page_in}
 use Rattle.bucket_page.specs.Spelling.{Spells, bytes_of}
-use Rattle.directory.specs.Reading.{header_at}
-use Rattle.directory.specs.Spelling.{Spells as SpellsHeader}
+use Rattle.bucket_page.specs.directory.Reading.{header_at}
+use Rattle.bucket_page.specs.directory.Spelling.{Spells as SpellsHeader}
 
 -- the payload is a header's
 abbrev pub IsHeaderPage : List ℕ → Type 0

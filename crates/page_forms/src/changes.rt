@@ -1,24 +1,24 @@
 //! Changes of a page in place.
 
 ghost use Rattle.std.specs.Prelude.{◌≡◌, ◌↔◌, ℕ, ◌+◌, ◌<◌, ◌≤◌, IsErr, IsSome, None, OnErr, OnOk, length};
-ghost use Rattle.page_device.specs.declared.page.TheConstants.{MAX_PAGES};
+ghost use Rattle.bucket_page.specs.page_device.declared.page.TheConstants.{MAX_PAGES};
 ghost use Rattle.bucket_page.specs.declared.layout.TheConstants.{RECORD_HEAD_BYTES, ROOM_BYTES};
 ghost use Rattle.bucket_page.specs.declared.page.PageKind.TheVariants as kinds;
 ghost use Rattle.bucket_page.specs.Changes.{Changes, HasValueOf, IsBucketPage, fronted, inserted, removed, replaced, value_of_key};
 ghost use Rattle.bucket_page.specs.Reading.{records_in};
 ghost use Rattle.bucket_page.specs.Records.{lookup, pair, record_bytes};
 ghost use Rattle.bucket_page.specs.Spelling.{Spells};
-ghost use Rattle.directory.specs.declared.layout.TheConstants.{DIRECTORY_PAGES, FIRST_DIRECTORY_PAGE, GREATEST_DEPTH, LEAST_PAGES};
-ghost use Rattle.directory.specs.Entries.{copied, entry_in, page_of, retargeted};
-ghost use Rattle.directory.specs.Pages.{IsDirectoryPage};
-ghost use Rattle.directory.specs.Spelling.{Spells as SpellsHeader};
+ghost use Rattle.bucket_page.specs.directory.declared.layout.TheConstants.{DIRECTORY_PAGES, FIRST_DIRECTORY_PAGE, GREATEST_DEPTH, LEAST_PAGES};
+ghost use Rattle.bucket_page.specs.directory.Entries.{copied, entry_in, page_of, retargeted};
+ghost use Rattle.bucket_page.specs.directory.Pages.{IsDirectoryPage};
+ghost use Rattle.bucket_page.specs.directory.Spelling.{Spells as SpellsHeader};
 
 use crate::file_page::FilePage;
+use bucket_page::directory::{Header, copy_upper, retarget, write_header};
+use bucket_page::positions::Range;
 use bucket_page::{
     DoesNotFit, RecordKey, put, remove, replace, replace_front, write_free, write_tombstone,
 };
-use directory::{Header, copy_upper, retarget, write_header};
-use positions::Range;
 
 impl FilePage {
     /// Puts a record into a bucket that has none of its key. Where it does not fit

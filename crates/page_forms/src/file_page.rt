@@ -2,16 +2,18 @@
 
 ghost use Rattle.std.specs.Prelude.{◌≡◌, ◌↔◌, IsSome, IsTrue, IfNone, IfSome};
 ghost use Rattle.bucket_page.specs.Changes.{IsBucketPage};
-ghost use Rattle.fields.specs.Numbers.{four_at};
+ghost use Rattle.bucket_page.specs.fields.Numbers.{four_at};
 ghost use Rattle.bucket_page.specs.Reading.{bucket_in, page_in};
 ghost use Rattle.bucket_page.specs.Spelling.{Spells};
-ghost use Rattle.directory.specs.Pages.{IsDirectoryPage, entries_at};
-ghost use Rattle.directory.specs.Reading.{header_at};
+ghost use Rattle.bucket_page.specs.directory.Pages.{IsDirectoryPage, entries_at};
+ghost use Rattle.bucket_page.specs.directory.Reading.{header_at};
 ghost use Rattle.page_forms.specs.Forms.{IsFreePage, IsHeaderPage, IsTombstonePage, IsWell, blank_page};
 
+use bucket_page::directory::{
+    DIRECTORY, DirectoryView, HEADER, Header, directory_of, header_of, read_header,
+};
+use bucket_page::page_device::{PAYLOAD_BYTES, Payload};
 use bucket_page::{BUCKET, BucketView, FREE, TOMBSTONE, bucket_of, link_of, read_page, write_free};
-use directory::{DIRECTORY, DirectoryView, HEADER, Header, directory_of, header_of, read_header};
-use page_device::{PAYLOAD_BYTES, Payload};
 use std::marker::Model;
 
 /// A payload that spells a page of a file, whatever the page's number is. A clause sees its bytes.

@@ -4,11 +4,11 @@ ghost use Rattle.std.specs.Prelude.{◌≡◌, ◌<◌};
 ghost use Rattle.bucket_page.specs.Changes.{IsBucketPage, SpellsBucket};
 ghost use Rattle.bucket_page.specs.Dividing.{AreBuddies, FitTogether, ShareNoKey, joined, lower_half, upper_half};
 ghost use Rattle.bucket_page.specs.Reading.{bucket_in, records_in};
-ghost use Rattle.directory.specs.declared.layout.TheConstants.{GREATEST_DEPTH};
+ghost use Rattle.bucket_page.specs.directory.declared.layout.TheConstants.{GREATEST_DEPTH};
 
 use crate::file_page::FilePage;
+use bucket_page::page_device::PAYLOAD_BYTES;
 use bucket_page::{PseudoKey, join, write_lower_half, write_upper_half};
-use page_device::PAYLOAD_BYTES;
 
 impl FilePage {
     /// The half of a bucket whose pseudokeys have 1 in the next bit.

@@ -12,6 +12,7 @@ mod row;
 mod slot;
 mod slots;
 
+pub use faults;
 pub use faults::NoMemory;
 pub use grant::{Attempt, Grant};
 pub use laws::{changes_are_local, names_differ};

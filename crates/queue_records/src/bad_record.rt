@@ -1,9 +1,9 @@
 //! Why bytes are no record.
 
 ghost use Rattle.std.specs.Prelude.{◌≡◌};
-ghost use Rattle.faults.specs.declared.TheConstants.{BAD_RECORD};
+ghost use Rattle.page_locks.specs.faults.declared.TheConstants.{BAD_RECORD};
 
-use faults::BAD_RECORD;
+use page_locks::faults::BAD_RECORD;
 use thiserror::Error;
 
 /// The key and the value are not the spelling of a record in range.

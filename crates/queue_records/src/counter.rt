@@ -12,7 +12,7 @@ use crate::field::four_fits;
 use crate::layout::{COUNTER, COUNTER_BYTES};
 use crate::value::Value;
 use bucket_page::RecordKey;
-use fields::four_at;
+use bucket_page::fields::four_at;
 use limits::MAX_QUEUES;
 
 /// Which ids were given out, and how many queues are alive. A file has one such record.

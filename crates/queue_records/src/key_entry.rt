@@ -12,7 +12,7 @@ use crate::field::{four_fits, is_id};
 use crate::layout::{KEY, KEY_BYTES};
 use crate::value::Value;
 use bucket_page::RecordKey;
-use fields::four_at;
+use bucket_page::fields::four_at;
 
 /// Which queue a key has. A private queue has no such record.
 #[derive(Clone, Copy, Debug, PartialEq, Eq)]

@@ -20,6 +20,7 @@ mod value;
 
 pub use bad_record::BadRecord;
 pub use body::Body;
+pub use bucket_page;
 pub use counter::Counter;
 pub use field::{eight_fits, four_fits, type_fits};
 pub use key_entry::KeyEntry;

@@ -1,7 +1,7 @@
 //! Links set in the bytes of a value, where the record stands.
 
 ghost use Rattle.std.specs.Prelude.{◌≡◌, ◌≤◌, ◌+◌, ◌++◌, ℕ, ℤ, List, Option, Some, length, unwrap_or};
-ghost use Rattle.fields.specs.Numbers.{eight};
+ghost use Rattle.bucket_page.specs.fields.Numbers.{eight};
 ghost use Rattle.queue_records.specs.declared.layout.TheConstants.{MESSAGE_BYTES, TYPE_BYTES};
 ghost use Rattle.queue_records.specs.declared.message_entry.MessageEntry.{MessageEntry};
 ghost use Rattle.queue_records.specs.declared.record.Record.{Record};
@@ -13,7 +13,7 @@ ghost use Rattle.queue_records.specs.Spelling.{message_bytes, type_bytes, value_
 use crate::field::type_number;
 use crate::layout::{MESSAGE_BYTES, TYPE_BYTES};
 use crate::links::{Link, Links, MessageLinks, TypeLinks};
-use fields::{set_bytes, write_eight};
+use bucket_page::fields::{set_bytes, write_eight};
 
 impl Links {
     /// The links of such a record stand among so many bytes at the front of its value.

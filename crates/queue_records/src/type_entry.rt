@@ -15,7 +15,7 @@ use crate::field::{
 use crate::layout::{TYPE, TYPE_BYTES};
 use crate::value::Value;
 use bucket_page::RecordKey;
-use fields::eight_at;
+use bucket_page::fields::eight_at;
 
 /// A type of which a message stands on a queue. The messages of a type are a list, and so are the
 /// types of a queue, in ascending order.

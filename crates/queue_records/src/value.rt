@@ -1,11 +1,11 @@
 //! The bytes of a record's value, in a buffer of fixed size.
 
 ghost use Rattle.std.specs.Prelude.{◌≡◌, ◌≤◌, ◌+◌, [], ◌∷◌, ◌++◌, length};
-ghost use Rattle.fields.specs.Numbers.{two, four, eight};
+ghost use Rattle.bucket_page.specs.fields.Numbers.{two, four, eight};
 
 use crate::layout::MAX_VALUE_BYTES;
 use arrayvec::ArrayVec;
-use fields::{write_eight, write_four, write_two};
+use bucket_page::fields::{write_eight, write_four, write_two};
 use std::marker::Model;
 
 /// The bytes of a record's value, which contracts see as a list. It takes no memory beside itself.

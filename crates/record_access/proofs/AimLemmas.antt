@@ -3,7 +3,7 @@ use Rattle.std.proofs.Common.{◌≡◌, refl, sym, ap, ◌∙◌, subst, ℕ, B
 use Rattle.std.proofs.lemmas.Bool.{true≢false}
 use Rattle.std.specs.Option.{is_some}
 use Rattle.std.specs.Prelude.{unwrap_or}
-use Rattle.step_rules.specs.declared.kind.Kind.TheVariants as kinds
+use Rattle.record_operation.specs.step_rules.declared.kind.Kind.TheVariants as kinds
 use Rattle.record_operation.specs.OperationSteps.{KeepsKind, KeepsOperation}
 use Rattle.record_operation.specs.declared.operation.RecordOperation.TheVariants as operations
 use Rattle.record_access.proofs.Names.{FileFault}

@@ -2,7 +2,7 @@
 use Rattle.std.proofs.Common.{◌≡◌, refl, sym, ap, ◌∙◌, subst, ℕ, Bool, true, false, not, ◌&&◌, List, length, if◌then◌else◌, inl, inr, Option, Some, None, IsSome}
 use Rattle.std.proofs.lemmas.Bool.{true≢false}
 use Rattle.std.specs.Option.{option_map}
-use Rattle.record_insert.specs.SecondSteps.{IsSeenThere, SaysAt}
+use Rattle.record_operation.specs.record_insert.SecondSteps.{IsSeenThere, SaysAt}
 use Rattle.record_access.proofs.Names.{FileFault}
 use Rattle.record_access.proofs.RecordLemmas.{front_stays, is_such, such_then}
 use Rattle.record_access.specs.Words.{RecordKey, pair, contents, Progress, Moved, WriteRecord, World, HasNoRoom, Tried, IsPut, IsThere, IsFull, LeavesSearch, RecordOperation, TellsNone, has_searched, operation_found, operation_tried, Links, Record, HasSuch, relinked, value_of, Write, Replace, Relink, Delete}

@@ -1,12 +1,12 @@
 -- A write that has ended has written.
 use Rattle.std.proofs.Common.{◌≡◌, refl, sym, ap, ◌∙◌, Bool, true, false, Option}
 use Rattle.std.proofs.lemmas.Bool.{true≢false}
-use Rattle.bucket_merge.specs.declared.place.MergePlace.{MergePlace}
-use Rattle.record_file.specs.Deletes.{IsOver}
-use Rattle.record_file.specs.Removals.{has_searched as removal_has_searched}
-use Rattle.record_file.specs.Replaces.{has_searched as replace_has_searched}
-use Rattle.record_file.specs.declared.removal.RemovalStage.{RemovalStage}
-use Rattle.record_file.specs.declared.removal.RemovalStage.TheVariants.{Searching, Written, Ended}
+use Rattle.record_operation.specs.bucket_merge.declared.place.MergePlace.{MergePlace}
+use Rattle.record_operation.specs.record_file.Deletes.{IsOver}
+use Rattle.record_operation.specs.record_file.Removals.{has_searched as removal_has_searched}
+use Rattle.record_operation.specs.record_file.Replaces.{has_searched as replace_has_searched}
+use Rattle.record_operation.specs.record_file.declared.removal.RemovalStage.{RemovalStage}
+use Rattle.record_operation.specs.record_file.declared.removal.RemovalStage.TheVariants.{Searching, Written, Ended}
 use Rattle.record_operation.specs.declared.operation.RecordOperation.TheVariants as operations
 use Rattle.record_access.specs.Words.{HasEnded, Record, RecordOperation, has_searched, Write, Replace, Relink, Delete}
 use Rattle.record_access.specs.Purposes.{ToWrite}

@@ -11,3 +11,4 @@ pub mod BucketLemmas
 pub mod TakeLemmas
 pub mod TakingLemmas
 pub mod OperationLemmas
+pub use Rattle.record_operation.proofs.of_step_rules

@@ -2,30 +2,30 @@
 -- keys.
 use Rattle.std.proofs.Common.{◌≡◌, refl, ap, ◌∙◌, subst, ℕ, Bool, true, false, List, [], if◌then◌else◌, Option, Some, None, IsSome}
 use Rattle.std.specs.Prelude.{unwrap_or}
-use Rattle.bucket_merge.specs.Places.{is_done, locks_at as merge_locks_at}
-use Rattle.bucket_merge.specs.declared.place.MergePlace.{MergePlace}
-use Rattle.bucket_merge.specs.declared.place.MergePlace.TheVariants as to
+use Rattle.record_operation.specs.bucket_merge.Places.{is_done, locks_at as merge_locks_at}
+use Rattle.record_operation.specs.bucket_merge.declared.place.MergePlace.{MergePlace}
+use Rattle.record_operation.specs.bucket_merge.declared.place.MergePlace.TheVariants as to
 use Rattle.hash_file.specs.Changes as changes
 use Rattle.page_locks.specs.declared.lock.LockKind.TheVariants.{Exclusive}
 use Rattle.queue_records.specs.Keys.{guard_of}
-use Rattle.record_file.proofs.CallerLemmas.{holds_still}
-use Rattle.record_file.specs.Deletes.{DeleteView, IsOver as IsDeleteOver, delete_locks}
-use Rattle.record_file.specs.FirstTries.{locks_in as first_try_locks_in}
-use Rattle.record_file.specs.Replaces.{locks_in as replace_locks_in}
-use Rattle.record_file.specs.declared.first_try.FirstTryStage.{FirstTryStage}
-use Rattle.record_file.specs.declared.first_try.FirstTryStage.TheVariants as tries
-use Rattle.record_file.specs.declared.removal.RemovalStage.{RemovalStage}
-use Rattle.record_file.specs.declared.removal.RemovalStage.TheVariants as removals
-use Rattle.record_file.specs.declared.replace.ReplaceStage.{ReplaceStage}
-use Rattle.record_insert.specs.Inserts.{IsOver as IsInsertOver, is_ended, locks_in as insert_locks_in}
-use Rattle.record_insert.specs.SecondTries.{locks_at as second_locks_at, tried_at}
-use Rattle.record_insert.specs.declared.insert.InsertStage.{InsertStage}
-use Rattle.record_insert.specs.declared.insert.InsertStage.TheVariants.{First, Second}
-use Rattle.record_insert.specs.declared.second_place.SecondPlace.{SecondPlace}
-use Rattle.record_insert.specs.declared.second_place.SecondPlace.TheVariants as seconds
+use Rattle.record_operation.proofs.of_record_file.CallerLemmas.{holds_still}
+use Rattle.record_operation.specs.record_file.Deletes.{DeleteView, IsOver as IsDeleteOver, delete_locks}
+use Rattle.record_operation.specs.record_file.FirstTries.{locks_in as first_try_locks_in}
+use Rattle.record_operation.specs.record_file.Replaces.{locks_in as replace_locks_in}
+use Rattle.record_operation.specs.record_file.declared.first_try.FirstTryStage.{FirstTryStage}
+use Rattle.record_operation.specs.record_file.declared.first_try.FirstTryStage.TheVariants as tries
+use Rattle.record_operation.specs.record_file.declared.removal.RemovalStage.{RemovalStage}
+use Rattle.record_operation.specs.record_file.declared.removal.RemovalStage.TheVariants as removals
+use Rattle.record_operation.specs.record_file.declared.replace.ReplaceStage.{ReplaceStage}
+use Rattle.record_operation.specs.record_insert.Inserts.{IsOver as IsInsertOver, is_ended, locks_in as insert_locks_in}
+use Rattle.record_operation.specs.record_insert.SecondTries.{locks_at as second_locks_at, tried_at}
+use Rattle.record_operation.specs.record_insert.declared.insert.InsertStage.{InsertStage}
+use Rattle.record_operation.specs.record_insert.declared.insert.InsertStage.TheVariants.{First, Second}
+use Rattle.record_operation.specs.record_insert.declared.second_place.SecondPlace.{SecondPlace}
+use Rattle.record_operation.specs.record_insert.declared.second_place.SecondPlace.TheVariants as seconds
 use Rattle.record_operation.specs.declared.operation.RecordOperation.TheVariants as operations
-use Rattle.stale_search.specs.Approaches.{ApproachView}
-use Rattle.stale_search.specs.Searches.{SearchView}
+use Rattle.record_operation.specs.stale_search.Approaches.{ApproachView}
+use Rattle.record_operation.specs.stale_search.Searches.{SearchView}
 use Rattle.record_access.proofs.AimLemmas.{wrote_not, wrote_of}
 use Rattle.record_access.proofs.Names.{FileFault, RecordWrite, TurnsAt, WritesAsked, is_same, one_changed}
 use Rattle.record_access.specs.Accesses.{IsOfKind}

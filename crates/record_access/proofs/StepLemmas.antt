@@ -2,13 +2,13 @@
 use Rattle.std.proofs.Common.{◌≡◌, refl, sym, ap, ◌∙◌, subst, ℕ, Bool, true, false, length, inl, inr, Option, None, IsSome}
 use Rattle.std.proofs.lemmas.Bool.{true≢false}
 use Rattle.record_operation.specs.OperationSteps.{TellsOf as TellsOfOperation}
-use Rattle.record_file.specs.Machines.{FindsAt}
+use Rattle.record_operation.specs.record_file.Machines.{FindsAt}
 use Rattle.record_access.proofs.Names.{FileFault, MakesOperation, SuitsFile, holds_still}
 use Rattle.record_access.proofs.AimLemmas.{behind, same_answer, serves_on, tells_on, writes_answered, wrote_not, wrote_of}
 use Rattle.record_access.proofs.AllowLemmas.{allows_on, came_on, due_on, lacks_on, left, then_written}
 use Rattle.record_access.proofs.StandLemmas.{finds_none, left_behind, written_at}
 use Rattle.record_access.proofs.SuitLemmas.{IsReplacing, is_replace, suits_file}
-use Rattle.stale_search.specs.Steps.{Stays}
+use Rattle.record_operation.specs.stale_search.Steps.{Stays}
 use Rattle.record_access.specs.Words.{RecordKey, pair, PoolState, Table, Change, contents, store_of, HasNoRoom, Progress, Moved, Blocked, Fault, Ended, Look, World, is_fault, Step, world, NearsOrSpares, RecordOperation, operation_facts, operation_found, operation_key, operation_tried, Links, Record, Relink}
 use Rattle.record_access.specs.Purposes.{Purpose, ToWrite, StandsAt, is_write, left_by}
 use Rattle.record_access.specs.Accesses.{AccessView, IsOfKind, access_key, access_left, access_turn, has_no_room}

@@ -6,13 +6,13 @@ use Rattle.bucket_page.specs.Records.{lookup}
 use Rattle.file_pages.proofs.ReadLemmas.{devices_after}
 use Rattle.file_pages.specs.Fault.{IsDevicesFault}
 use Rattle.hash_file.specs.Store.{has_bucket, records_at}
-use Rattle.record_file.specs.Machines.{FindsAt, IsFoundAtLook}
+use Rattle.record_operation.specs.record_file.Machines.{FindsAt, IsFoundAtLook}
 use Rattle.record_operation.specs.OperationSteps.{SparesPages}
 use Rattle.record_operation.specs.declared.operation.RecordOperation.TheVariants as operations
 use Rattle.file_pages.specs.Files.{IsFilePool}
-use Rattle.step_rules.specs.Does.{KeepsOthers}
-use Rattle.step_rules.specs.Known.{AllKnown}
-use Rattle.step_rules.specs.Turns.{TurnsAt}
+use Rattle.record_operation.specs.step_rules.Does.{KeepsOthers}
+use Rattle.record_operation.specs.step_rules.Known.{AllKnown}
+use Rattle.record_operation.specs.step_rules.Turns.{TurnsAt}
 use Rattle.record_access.proofs.Names.{FileFault, MakesOperation}
 use Rattle.record_access.proofs.AimLemmas.{behind, none_told, same_parts, serves_on, told_none}
 use Rattle.record_access.proofs.AllowLemmas.{allows_taken, searches_on, then_written}

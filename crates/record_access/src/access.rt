@@ -13,16 +13,16 @@ ghost use Rattle.record_access.specs.Readings.{IsReplace, Takes};
 use crate::fitting::links_fit;
 use crate::reading::{read_front, read_value};
 use bucket_page::{PseudoKey, RecordKey};
-use buffer_pool::Pool;
 use file_pages::FileFault;
+use file_pages::buffer_pool::Pool;
 use page_device::PageDevice;
 use page_locks::LockTable;
-use queue_records::{Links, MAX_VALUE_BYTES, MESSAGE_BYTES, Record, Value};
-use record_file::Tried;
+use queue_records::{Links, MAX_VALUE_BYTES, MESSAGE_BYTES, Record, Value, counter_key};
 use record_operation::RecordOperation;
+use record_operation::record_file::Tried;
+use record_operation::step_rules::{Kind, Progress};
 use std::marker::Model;
 use std::mem::size_of;
-use step_rules::{Kind, Progress};
 use xsi_inquiry::Write;
 
 /// One access to the record of one key: it is found, inserted, or written.
@@ -60,7 +60,14 @@ impl Access {
         ensures value { result ≡ begun (ToFind key) pseudokey }
         ensures serves { Serves (ToFind key) result }
     {
-        Access::begin(key, RecordOperation::find(key, pseudokey), None, &[])
+        Access {
+            key,
+            operation: RecordOperation::find(key, pseudokey),
+            links: None,
+            bytes: [0; MAX_VALUE_BYTES],
+            len: 0,
+            written: false,
+        }
     }
 
     /// An insert of a record whose key has this pseudokey.
@@ -69,15 +76,9 @@ impl Access {
         ensures value { result ≡ begun (ToInsert entry.now) pseudokey }
         ensures serves { Serves (ToInsert entry.now) result }
     {
-        let mut value = Value::new();
-        entry.encode(&mut value);
-        let key = entry.key();
-        Access::begin(
-            key,
-            RecordOperation::insert(key, pseudokey),
-            None,
-            value.as_slice(),
-        )
+        let mut access = Access::find(entry.key(), pseudokey);
+        access.begin_insert(entry, pseudokey);
+        access
     }
 
     /// A write at a key that has this pseudokey.
@@ -86,60 +87,94 @@ impl Access {
         ensures value { result ≡ begun (ToWrite write.now) pseudokey }
         ensures serves { Serves (ToWrite write.now) result }
     {
+        let mut access = Access::find(counter_key(), pseudokey);
+        access.begin_write(write, pseudokey);
+        access
+    }
+
+    /// Becomes a find of a key that has this pseudokey, in place.
+    pub fn begin_find(&mut self, key: RecordKey, pseudokey: u32)
+        ensures value { self.new ≡ begun (ToFind key) pseudokey }
+        ensures serves { Serves (ToFind key) self.new }
+    {
+        self.begin_again(key, RecordOperation::find(key, pseudokey), None, &[]);
+    }
+
+    /// Becomes an insert of a record whose key has this pseudokey, in place.
+    pub fn begin_insert(&mut self, entry: &Record<'_>, pseudokey: u32)
+        requires { IsInRange entry.now }
+        ensures value { self.new ≡ begun (ToInsert entry.now) pseudokey }
+        ensures serves { Serves (ToInsert entry.now) self.new }
+    {
+        let mut value = Value::new();
+        entry.encode(&mut value);
+        let key = entry.key();
+        self.begin_again(
+            key,
+            RecordOperation::insert(key, pseudokey),
+            None,
+            value.as_slice(),
+        );
+    }
+
+    /// Becomes a write at a key that has this pseudokey, in place.
+    pub fn begin_write(&mut self, write: &Write, pseudokey: u32)
+        requires { HasRange write.now }
+        ensures value { self.new ≡ begun (ToWrite write.now) pseudokey }
+        ensures serves { Serves (ToWrite write.now) self.new }
+    {
         match write {
             Write::Replace(entry) => {
                 let mut value = Value::new();
                 entry.encode(&mut value);
                 let key = entry.key();
-                Access::begin(
+                self.begin_again(
                     key,
                     RecordOperation::replace(key, pseudokey),
                     None,
                     value.as_slice(),
-                )
+                );
             }
             Write::Relink(key, links) => {
                 links_fit(links);
-                Access::begin(
+                self.begin_again(
                     *key,
                     RecordOperation::replace(*key, pseudokey),
                     Some(*links),
                     &[],
-                )
+                );
             }
             Write::Delete(key) => {
-                Access::begin(*key, RecordOperation::delete(*key, pseudokey), None, &[])
+                self.begin_again(*key, RecordOperation::delete(*key, pseudokey), None, &[]);
             }
         }
     }
 
-    /// An access by an operation, to which these bytes are lent.
-    fn begin(
+    /// Begins by an operation to which these bytes are lent. Those that stand behind them are
+    /// nobody's, and stay.
+    fn begin_again(
+        &mut self,
         key: RecordKey,
         operation: RecordOperation,
         links: Option<Links>,
         value: &[u8],
-    ) -> Access
+    )
         requires key { operation_key operation ≡ key }
         requires within { length value.now ≤ MAX_VALUE_BYTES }
         requires lent { MayBeLent (length value.now) operation }
-        ensures { result ≡ record {
+        ensures { self.new ≡ record {
           operation = operation;
           links = links;
           bytes = value.now;
           written = false;
         } }
     {
-        let mut bytes = [0; MAX_VALUE_BYTES];
-        bytes[..value.len()].copy_from_slice(value);
-        Access {
-            key,
-            operation,
-            links,
-            bytes,
-            len: value.len(),
-            written: false,
-        }
+        self.bytes[..value.len()].copy_from_slice(value);
+        self.key = key;
+        self.operation = operation;
+        self.links = links;
+        self.len = value.len();
+        self.written = false;
     }
 
     /// The record that a find has found at its key, or that there is none, once a page answered.
@@ -289,6 +324,7 @@ impl Access {
             }
         }
     }
+
     /// Takes the value that a find has found.
     fn take_value<D: PageDevice>(
         &mut self,

@@ -9,7 +9,7 @@ ghost use Rattle.record_access.specs.Accesses.{IsFrontOf};
 ghost use Rattle.record_access.specs.Readings.{SeesBucket, value_on};
 
 use bucket_page::RecordKey;
-use buffer_pool::Pool;
+use file_pages::buffer_pool::Pool;
 use file_pages::{FileFault, copy_value};
 use page_device::PageDevice;
 use queue_records::{Links, MAX_VALUE_BYTES, MESSAGE_BYTES, Record, relink};

@@ -3,7 +3,7 @@ use Rattle.std.proofs.Common.{◌≡◌, refl, sym, ap, ◌∙◌, subst, ℕ, L
 use Rattle.record_file.proofs.Names.{COUNTER, ChangesRecord, Counter, FileFault, Found, GrantDirectory, GrantPage, Hop, KEY, KeepsContents, Key, LockName, Queue, ReadDepth, ReadEntry, ReleaseDirectory, SearchPlace, TurnsAt, WritesAsked, changes_just, first_kind, is_of_its_kind, is_same, key_of, kind_keeps_contents, kind_of-append, locks_at, row_of-same, value_after}
 use Rattle.bucket_page.specs.Keys.{is_same as is_same_key}
 use Rattle.step_rules.specs.declared.progress.Progress.TheVariants as answers
-use Rattle.stale_search.specs.declared.place.SearchPlace.TheVariants.{Look as AtLook}
+use Rattle.bucket_merge.specs.stale_search.declared.place.SearchPlace.TheVariants.{Look as AtLook}
 use Rattle.record_file.specs.Words.{RecordKey, RecordWrite, PoolState, Table, Lock, LockKind, Read, Selective, Directory, Page, Change, row_of, held, kind_of, lock_of, guard_of, contents, Progress, Moved, WriteRecord, World, IsHeld, Turn, IsSoundWorld, is_fault, world, SearchView, search_locks, in_directory, on_page}
 use Rattle.record_file.specs.Callers.{IsToldWritten, KeepsNames, MovesRow, StaysTold}
 use Rattle.record_file.specs.Finds.{FindView, find_locks}

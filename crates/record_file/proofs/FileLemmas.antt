@@ -21,7 +21,7 @@ use Rattle.bucket_page.specs.Spelling.{IsBucket}
 use Rattle.fields.proofs.NumberLaws.{length-four, length-two}
 use Rattle.bucket_page.proofs.KeyLaws.{length-key}
 use Rattle.bucket_page.proofs.PageLaws.{bucket_again}
-use Rattle.queue_records.specs.Spelling.{counter_bytes, counter_key}
+use Rattle.step_rules.specs.queue_records.Spelling.{counter_bytes, counter_key}
 use Rattle.record_file.specs.Files.{IsNewFile, entries_on, new_counter, new_page, new_records, root_bucket}
 
 -- page n is sealed and is that of a new file

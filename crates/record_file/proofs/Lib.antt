@@ -10,3 +10,4 @@ pub mod RemovedLemmas
 pub mod RoomLemmas
 pub mod CallerLemmas
 pub mod PartLemmas
+pub use Rattle.bucket_merge.proofs as of_bucket_merge

@@ -4,12 +4,12 @@ use Rattle.std.proofs.lemmas.Bool.{cases_lt, le-leb, leb-true}
 use Rattle.fields.proofs.Tests.{both_true}
 use Rattle.bucket_page.specs.declared.layout.TheConstants.{RECORD_HEAD_BYTES, ROOM_BYTES}
 use Rattle.bucket_page.proofs.Steps.{length-pair}
-use Rattle.buffer_pool.specs.Pool.{PoolState}
-use Rattle.file_pages.specs.declared.fault.FileFault.{FileFault}
-use Rattle.file_pages.specs.Writes.{TakesRecord}
-use Rattle.file_pages.proofs.ReadLemmas.{devices_after}
+use Rattle.bucket_merge.specs.buffer_pool.Pool.{PoolState}
+use Rattle.bucket_merge.specs.file_pages.declared.fault.FileFault.{FileFault}
+use Rattle.bucket_merge.specs.file_pages.Writes.{TakesRecord}
+use Rattle.bucket_merge.proofs.of_file_pages.ReadLemmas.{devices_after}
 use Rattle.hash_file.specs.Chain.{IsBucketOf}
-use Rattle.stale_search.specs.declared.place.SearchPlace.TheVariants.{Found}
+use Rattle.bucket_merge.specs.stale_search.declared.place.SearchPlace.TheVariants.{Found}
 use Rattle.step_rules.specs.Turns.{LacksRoom}
 use Rattle.step_rules.specs.Does.{KeepsOthers}
 use Rattle.step_rules.specs.Turns.{TurnsAt}

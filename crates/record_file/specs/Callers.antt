@@ -1,7 +1,7 @@
 -- What the caller of a machine knows of records under its own locks, and keeps.
 use Rattle.std.specs.Prelude.{ℕ, ◌≡◌, List, Option, Some, false, if◌then◌else◌}
 use Rattle.bucket_page.specs.Keys.{is_same}
-use Rattle.file_pages.specs.declared.fault.FileFault.{FileFault}
+use Rattle.bucket_merge.specs.file_pages.declared.fault.FileFault.{FileFault}
 use Rattle.hash_file.specs.Changes.{key_of, value_after}
 use Rattle.step_rules.specs.Known.{Told}
 use Rattle.record_file.specs.Words.{RecordKey, RecordWrite, PoolState, Table, Lock, Change, IsSeat, row_of, with_row, kind_of, guard_of, Progress, Moved, WriteRecord, Known, Turn, IsKnown, IsSoundWorld, is_fault, world, Step}

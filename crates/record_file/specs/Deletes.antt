@@ -5,7 +5,7 @@ use Rattle.bucket_merge.specs.Places.{MergeView, merge_locks, is_done}
 use Rattle.bucket_merge.specs.Facts.{merge_facts, merge_turn, steps_left as merge_left}
 use Rattle.bucket_merge.specs.declared.place.MergePlace.{MergePlace}
 use Rattle.bucket_merge.specs.declared.place.MergePlace.TheVariants.{Approaching}
-use Rattle.stale_search.specs.declared.place.ApproachPlace.TheVariants.{GrantDirectory}
+use Rattle.bucket_merge.specs.stale_search.declared.place.ApproachPlace.TheVariants.{GrantDirectory}
 use Rattle.record_file.specs.Words.{Remove, Lock, Store, Progress, Ended, Stays, Known, Turn}
 use Rattle.record_file.specs.declared.removal.RemovalStage.{RemovalStage}
 use Rattle.record_file.specs.declared.removal.RemovalStage.TheVariants.{Ended as HasEnded}

@@ -12,8 +12,8 @@ use Rattle.bucket_page.specs.declared.page.PageKind.TheVariants as kinds
 use Rattle.bucket_page.specs.Bucket.{Bucket, bucket}
 use Rattle.bucket_page.specs.Records.{Pair, pair}
 use Rattle.bucket_page.specs.Spelling.{IsBucket, bytes_of}
-use Rattle.queue_records.specs.declared.counter.Counter.{Counter}
-use Rattle.queue_records.specs.Spelling.{counter_key, counter_bytes}
+use Rattle.step_rules.specs.queue_records.declared.counter.Counter.{Counter}
+use Rattle.step_rules.specs.queue_records.Spelling.{counter_key, counter_bytes}
 
 -- the page that follows on the list of free pages, 0 behind the last
 abbrev pub free_behind : ℕ → ℕ → ℕ

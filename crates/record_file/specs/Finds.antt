@@ -1,6 +1,6 @@
 -- What a find holds, knows and asks for at each place: a search that locks its pages Read, and the Release of the page.
 use Rattle.std.specs.Prelude.{ℕ, ◌≡◌, ◌↔◌, ◌+◌, Bool, true, List, [], if◌then◌else◌, Option, None, IsSome}
-use Rattle.stale_search.specs.Searches.{KeepsAim}
+use Rattle.bucket_merge.specs.stale_search.Searches.{KeepsAim}
 use Rattle.record_file.specs.Words.{Lock, Read, Store, PoolState, Progress, Ended, Stays, Known, Turn, SearchView, search_locks, search_facts, search_turn, found_at, steps_left}
 
 pub record FindView : Type 0 where

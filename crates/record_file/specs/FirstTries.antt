@@ -3,7 +3,7 @@
 use Rattle.std.specs.Prelude.{ℕ, ◌≡◌, ◌↔◌, ◌+◌, ◌&&◌, nat_le, Bool, List, [], Option, Some, ⊤}
 use Rattle.bucket_page.specs.declared.layout.TheConstants.{RECORD_HEAD_BYTES, ROOM_BYTES}
 use Rattle.step_rules.specs.Turns.{LacksRoom}
-use Rattle.stale_search.specs.Searches.{ask_at}
+use Rattle.bucket_merge.specs.stale_search.Searches.{ask_at}
 use Rattle.record_file.specs.Words.{RecordKey, pair, Put, Lock, Selective, Store, Progress, Ended, Stays, World, Known, Turn, SearchView, search_locks, found_at, steps_left, on_page}
 use Rattle.record_file.specs.Writers.{seen_at}
 use Rattle.record_file.specs.declared.first_try.FirstTryStage.{FirstTryStage}

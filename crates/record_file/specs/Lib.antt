@@ -8,3 +8,4 @@ pub mod Removals
 pub mod FirstTries
 pub mod Callers
 pub mod Deletes
+pub use Rattle.bucket_merge.specs as bucket_merge

@@ -4,7 +4,7 @@ use Rattle.std.specs.Prelude.{ℕ, ◌≡◌, ◌↔◌, ◌+◌, ◌-◌, ◌&&
 use Rattle.bucket_page.specs.declared.layout.TheConstants.{RECORD_HEAD_BYTES}
 use Rattle.step_rules.specs.declared.kind.TheConstants.{MERGED_BYTES}
 use Rattle.step_rules.specs.Rooms.{TurnsAway}
-use Rattle.stale_search.specs.Searches.{ask_at}
+use Rattle.bucket_merge.specs.stale_search.Searches.{ask_at}
 use Rattle.record_file.specs.Words.{RecordKey, Remove, Lock, Selective, Store, Progress, Ended, Stays, World, Known, Turn, SearchView, search_locks, found_at, steps_left, on_page}
 use Rattle.record_file.specs.Writers.{LeavesSearch, seen_at}
 use Rattle.record_file.specs.declared.removal.RemovalStage.{RemovalStage}

@@ -1,8 +1,8 @@
 -- What a replace holds, knows and asks for at each place: a search, the WriteRecord where the key is there, and the
 -- Release of the page.
 use Rattle.std.specs.Prelude.{ℕ, ◌≡◌, ◌≤◌, ◌↔◌, ◌+◌, Bool, true, false, not, IsTrue, List, [], ◌++◌, Option, Some, IsSome, length, drop, unwrap_or}
-use Rattle.stale_search.specs.Rows.{on_page}
-use Rattle.stale_search.specs.Searches.{ask_at}
+use Rattle.bucket_merge.specs.stale_search.Rows.{on_page}
+use Rattle.bucket_merge.specs.stale_search.Searches.{ask_at}
 use Rattle.record_file.specs.Words.{RecordKey, pair, Replace, contents, Lock, Selective, Store, PoolState, OnlyWrites, Progress, Moved, Ended, WriteRecord, is_fault, Stays, Known, Turn, SearchView, search_locks, found_at, steps_left}
 use Rattle.record_file.specs.Writers.{LeavesSearch, seen_at}
 use Rattle.record_file.specs.declared.replace.ReplaceStage.{ReplaceStage}

@@ -2,8 +2,8 @@
 
 ghost use Rattle.std.specs.Prelude.{◌≡◌, ◌↔◌, ℕ, List, Option, true, false};
 ghost use Rattle.bucket_merge.specs.Steps.{TurnsAwayAt};
-ghost use Rattle.stale_search.specs.declared.place.ApproachPlace.{ApproachPlace};
-ghost use Rattle.stale_search.specs.declared.place.SearchPlace.{SearchPlace};
+ghost use Rattle.bucket_merge.specs.stale_search.declared.place.ApproachPlace.{ApproachPlace};
+ghost use Rattle.bucket_merge.specs.stale_search.declared.place.SearchPlace.{SearchPlace};
 ghost use Rattle.bucket_merge.specs.declared.place.MergePlace.{MergePlace};
 ghost use Rattle.record_file.specs.declared.removal.RemovalStage.{RemovalStage};
 ghost use Rattle.record_file.specs.Words.{RecordKey, Lock, IsSeat, row_of, with_row, IsReady, Change, WritesOrSpares, Selective, is_fault, Sees, Step, world, EndsRow, HasNoFileLock, Nears, store_of};
@@ -13,10 +13,10 @@ ghost use Rattle.record_file.specs.Removals.{TurnsAwayIn, removed_at};
 ghost use Rattle.record_file.specs.Deletes.{IsOver, KeepsDelete, delete_facts, delete_left, delete_locks, delete_turn};
 
 use crate::removal::Removal;
+use bucket_merge::buffer_pool::Pool;
+use bucket_merge::file_pages::FileFault;
 use bucket_merge::{Merge, MergePlace};
 use bucket_page::RecordKey;
-use buffer_pool::Pool;
-use file_pages::FileFault;
 use page_device::PageDevice;
 use page_locks::LockTable;
 use std::marker::Model;

@@ -1,18 +1,18 @@
 //! A record that is found.
 
 ghost use Rattle.std.specs.Prelude.{◌≡◌, ℕ, IsSome, List, Option, false, not, true};
-ghost use Rattle.stale_search.specs.declared.place.SearchPlace.{SearchPlace};
+ghost use Rattle.bucket_merge.specs.stale_search.declared.place.SearchPlace.{SearchPlace};
 ghost use Rattle.record_file.specs.Words.{RecordKey, Lock, IsSeat, row_of, with_row, IsReady, Change, OnlyReads, Read, is_fault, Sees, Step, world, EndsRow, HasNoFileLock, Nears, found_at};
 ghost use Rattle.record_file.specs.Machines.{FindsAt};
 ghost use Rattle.record_file.specs.Finds.{KeepsFind, find_facts, find_left, find_locks, find_turn, found_of};
-ghost use Rattle.file_pages.specs.Files.{store_of};
+ghost use Rattle.bucket_merge.specs.file_pages.Files.{store_of};
 
+use bucket_merge::buffer_pool::Pool;
+use bucket_merge::file_pages::FileFault;
+use bucket_merge::stale_search::{Search, SearchPlace};
 use bucket_page::RecordKey;
-use buffer_pool::Pool;
-use file_pages::FileFault;
 use page_device::PageDevice;
 use page_locks::{LockKind, LockName, LockTable};
-use stale_search::{Search, SearchPlace};
 use std::marker::Model;
 use std::mem::size_of;
 use step_rules::{Kind, Progress};

@@ -1,18 +1,18 @@
 //! The first try of an Insert.
 
 ghost use Rattle.std.specs.Prelude.{◌≡◌, ℕ, List, Option, false, length};
-ghost use Rattle.stale_search.specs.declared.place.SearchPlace.{SearchPlace};
+ghost use Rattle.bucket_merge.specs.stale_search.declared.place.SearchPlace.{SearchPlace};
 ghost use Rattle.record_file.specs.Words.{RecordKey, Lock, IsSeat, row_of, with_row, IsReady, Change, WritesOrSpares, Selective, is_fault, Sees, Step, world, EndsRow, HasNoFileLock, Nears, store_of};
 ghost use Rattle.record_file.specs.Machines.{FindsAt};
 ghost use Rattle.record_file.specs.Writers.{Owns};
 ghost use Rattle.record_file.specs.FirstTries.{GivesUp, KeepsFirstTry, first_try_facts, first_try_left, first_try_locks, first_try_turn, has_room, tried_at};
 
+use bucket_merge::buffer_pool::Pool;
+use bucket_merge::file_pages::{FileFault, put_record, read_bucket};
+use bucket_merge::stale_search::{Search, SearchPlace};
 use bucket_page::{RECORD_HEAD_BYTES, ROOM_BYTES, RecordKey};
-use buffer_pool::Pool;
-use file_pages::{FileFault, put_record, read_bucket};
 use page_device::PageDevice;
 use page_locks::{LockKind, LockName, LockTable};
-use stale_search::{Search, SearchPlace};
 use std::marker::Model;
 use std::mem::size_of;
 use step_rules::{Kind, Progress};

@@ -14,7 +14,7 @@ use directory::{
     write_header,
 };
 use page_device::{DeviceFault, PAYLOAD_BYTES, PageDevice, Payload, seal};
-use queue_records::{Counter, Value};
+use step_rules::queue_records::{Counter, Value};
 
 /// Makes a new file of so many pages on a device without pages: an empty directory of depth 0, a
 /// root bucket with the record that counts queues, and all other pages on the list of free pages

@@ -1,18 +1,18 @@
 //! A record whose value is replaced.
 
 ghost use Rattle.std.specs.Prelude.{◌≡◌, ◌↔◌, ℕ, List, Option, true, false};
-ghost use Rattle.stale_search.specs.declared.place.SearchPlace.{SearchPlace};
+ghost use Rattle.bucket_merge.specs.stale_search.declared.place.SearchPlace.{SearchPlace};
 ghost use Rattle.record_file.specs.Words.{RecordKey, Lock, IsSeat, row_of, with_row, IsReady, Change, Selective, is_fault, Sees, Step, world, EndsRow, HasNoFileLock, Nears, store_of};
 ghost use Rattle.record_file.specs.Machines.{FindsAt};
 ghost use Rattle.record_file.specs.Writers.{Owns};
 ghost use Rattle.record_file.specs.Replaces.{KeepsReplace, WritesOnce, IsFrontAt, replace_facts, replace_left, replace_locks, replace_turn, replaced_at};
 
+use bucket_merge::buffer_pool::Pool;
+use bucket_merge::file_pages::{FileFault, replace_front};
+use bucket_merge::stale_search::{Search, SearchPlace};
 use bucket_page::RecordKey;
-use buffer_pool::Pool;
-use file_pages::{FileFault, replace_front};
 use page_device::PageDevice;
 use page_locks::{LockKind, LockName, LockTable};
-use stale_search::{Search, SearchPlace};
 use std::marker::Model;
 use std::mem::size_of;
 use step_rules::{Kind, Progress};

@@ -3,13 +3,13 @@ use Rattle.std.proofs.Common.{◌≡◌, refl, sym, ap, ◌∙◌, subst, ℕ, �
 use Rattle.std.proofs.lemmas.Bool.{true≢false}
 use Rattle.page_locks.specs.Writers.{may_write}
 use Rattle.page_locks.proofs.TableLemmas.{row_of-same}
-use Rattle.file_pages.specs.declared.fault.FileFault.{FileFault}
-use Rattle.stale_search.specs.Approaches.{KeepsGoal, approach_facts_at, approach_locks_at, approach_turn}
-use Rattle.stale_search.specs.Steps.{Advances, MakesStep as MakesApproachStep, Nears}
-use Rattle.stale_search.specs.declared.place.ApproachPlace.{ApproachPlace}
-use Rattle.stale_search.specs.declared.place.ApproachPlace.TheVariants.{GrantDirectory, ReadDepth, ReadEntry, GrantPage, At}
-use Rattle.bucket_merge.proofs.MoveLemmas.{read_only}
-use Rattle.bucket_merge.proofs.RowLemmas.{page_held}
+use Rattle.split_merge.specs.file_pages.declared.fault.FileFault.{FileFault}
+use Rattle.split_merge.specs.stale_search.Approaches.{KeepsGoal, approach_facts_at, approach_locks_at, approach_turn}
+use Rattle.split_merge.specs.stale_search.Steps.{Advances, MakesStep as MakesApproachStep, Nears}
+use Rattle.split_merge.specs.stale_search.declared.place.ApproachPlace.{ApproachPlace}
+use Rattle.split_merge.specs.stale_search.declared.place.ApproachPlace.TheVariants.{GrantDirectory, ReadDepth, ReadEntry, GrantPage, At}
+use Rattle.record_file.proofs.of_bucket_merge.MoveLemmas.{read_only}
+use Rattle.record_file.proofs.of_bucket_merge.RowLemmas.{page_held}
 use Rattle.record_insert.specs.Words.{RecordKey, pair, Put, PoolState, Table, IsSeat, Lock, Selective, Page, kind_of, row_of, held, with_row, store_of, OnlyReads, Progress, Moved, Blocked, Fault, Ended, World, AllKnown, is_fault, HasNoFileLock, Stays, world, ApproachView, approach_locks, approach_facts, approach_left, reached_at, FollowsRow, SecondPlace, Approaching, Look}
 use Rattle.record_insert.specs.SecondTries.{IsOnWayTo, splits_left, left_at, on_one}
 use Rattle.record_insert.specs.SecondSteps.{KeepsSecondTry, NearsOrSpares}

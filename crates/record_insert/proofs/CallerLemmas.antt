@@ -1,9 +1,9 @@
 -- The names of records are held as before.
 use Rattle.std.proofs.Common.{◌≡◌, refl, ◌∙◌, ℕ, List, ◌==◌, Bool, true, false, if◌then◌else◌}
-use Rattle.queue_records.specs.declared.layout.TheConstants.{COUNTER, KEY}
+use Rattle.step_rules.specs.queue_records.declared.layout.TheConstants.{COUNTER, KEY}
 use Rattle.step_rules.specs.Words.{LockName, Key, Counter, Queue}
-use Rattle.stale_search.specs.Callers.{AddsFileLocks, IsAside}
-use Rattle.stale_search.proofs.CallerLemmas.{approach_adds_locks, in_aside, on_aside, search_adds_locks}
+use Rattle.split_merge.specs.stale_search.Callers.{AddsFileLocks, IsAside}
+use Rattle.split_merge.proofs.of_stale_search.CallerLemmas.{approach_adds_locks, in_aside, on_aside, search_adds_locks}
 use Rattle.record_file.specs.Callers.{KeepsNames}
 use Rattle.record_file.specs.FirstTries.{locks_in as first_locks_in}
 use Rattle.record_file.specs.Words.{SearchView}

@@ -1,8 +1,8 @@
 -- A second try has few steps left.
 use Rattle.std.proofs.Common.{ℕ, ◌+◌, ◌≤◌, arith}
-use Rattle.stale_search.specs.Approaches.{approach_left_at}
-use Rattle.stale_search.specs.declared.place.ApproachPlace.{ApproachPlace}
-use Rattle.stale_search.specs.declared.place.ApproachPlace.TheVariants as way
+use Rattle.split_merge.specs.stale_search.Approaches.{approach_left_at}
+use Rattle.split_merge.specs.stale_search.declared.place.ApproachPlace.{ApproachPlace}
+use Rattle.split_merge.specs.stale_search.declared.place.ApproachPlace.TheVariants as way
 use Rattle.split_merge.specs.Splits.{left_at as split_left_at}
 use Rattle.split_merge.specs.declared.place.SplitPlace.{SplitPlace}
 use Rattle.split_merge.specs.declared.place.SplitPlace.TheVariants as to

@@ -8,15 +8,15 @@ use Rattle.page_locks.specs.declared.row.TheConstants.{MAX_LOCKS}
 use Rattle.page_locks.proofs.ChangeLemmas.{without_lock-with_lock}
 use Rattle.page_locks.proofs.TableLemmas.{row_of-same}
 use Rattle.page_locks.proofs.WriterLemmas.{IsFree-unopposed}
-use Rattle.file_pages.specs.declared.sight.Sight.TheVariants.{Covering as SeesCovering, Naming}
+use Rattle.split_merge.specs.file_pages.declared.sight.Sight.TheVariants.{Covering as SeesCovering, Naming}
 use Rattle.step_rules.specs.declared.kind.Kind.TheVariants as kinds
 use Rattle.step_rules.specs.Words.{chain}
 use Rattle.step_rules.proofs.BuddyLemmas.{hop_goes_elsewhere}
 use Rattle.step_rules.proofs.KindLemmas.{kind_keeps}
 use Rattle.step_rules.proofs.LockStepLemmas.{KeepsOthers-same, none_busy}
-use Rattle.stale_search.proofs.WayLemmas.{leads_in_file}
-use Rattle.bucket_merge.proofs.MoveLemmas.{read_only}
-use Rattle.bucket_merge.proofs.RowLemmas.{directory_beside, no_other_held, no_page_held, page_held, without_last}
+use Rattle.split_merge.proofs.of_stale_search.WayLemmas.{leads_in_file}
+use Rattle.record_file.proofs.of_bucket_merge.MoveLemmas.{read_only}
+use Rattle.record_file.proofs.of_bucket_merge.RowLemmas.{directory_beside, no_other_held, no_page_held, page_held, without_last}
 use Rattle.record_insert.specs.Words.{RecordKey, PoolState, IsDevicesFault, Table, IsSeat, Lock, Selective, Page, Directory, Change, Store, Answers, range_at, next_at, kind_of, lock_of, row_of, held, with_row, without, without_lock, store_of, IsFilePool, OnlyReads, Progress, Moved, Blocked, Fault, World, HasNoFileLock, EndsRow, in_directory, on_page, AllKnown, world, SecondPlace, Look, Hop}
 use Rattle.record_insert.specs.SecondTries.{near_facts, locks_at, home_at, splits_left, look_left, on_one}
 use Rattle.record_insert.proofs.HomeLemmas.{home_here, home_on, look_here, next_answers, next_live, next_near}

@@ -1,15 +1,15 @@
 -- An insert in its first try, which passes on to the second, and in its second one.
 use Rattle.std.proofs.Common.{◌≡◌, refl, sym, ap, ◌∙◌, subst, ℕ, ◌+◌, true, false, List, [], Option, Some, None, is_some, length, arith, inl, inr}
 use Rattle.std.proofs.lemmas.Bool.{true≢false}
-use Rattle.file_pages.specs.declared.fault.FileFault.{FileFault}
+use Rattle.split_merge.specs.file_pages.declared.fault.FileFault.{FileFault}
 use Rattle.step_rules.specs.declared.kind.Kind.TheVariants as kinds
-use Rattle.stale_search.specs.Steps.{Nears}
+use Rattle.split_merge.specs.stale_search.Steps.{Nears}
 use Rattle.record_file.specs.Machines.{FindsAt}
 use Rattle.record_file.specs.FirstTries.{FirstTryView, GivesUp, KeepsFirstTry, first_try_facts, first_try_left, first_try_locks, first_try_turn}
 use Rattle.record_file.specs.FirstTries.{facts_in as first_facts_in, left_in as first_left_in, locks_in as first_locks_in, tried_at as found_in}
 use Rattle.record_file.specs.declared.first_try.FirstTryStage.{FirstTryStage}
 use Rattle.record_file.specs.declared.first_try.FirstTryStage.TheVariants.{Searching, Written, Ended as FirstEnded}
-use Rattle.stale_search.proofs.StayLemmas.{Stays-of}
+use Rattle.split_merge.proofs.of_stale_search.StayLemmas.{Stays-of}
 use Rattle.record_insert.specs.Words.{RecordKey, Pair, pair, Put, Known, Ask, Turn, PoolState, Table, Lock, Change, Progress, Moved, Blocked, Fault, Ended, World, is_fault, HasNoFileLock, Owns, row_of, with_row, store_of, Stays, Tells, WritesOrSpares, world, Sees, Step, Tried, IsPut, IsThere}
 use Rattle.record_insert.specs.SecondSteps.{IsSeenThere, MakesStep, NearsOrSpares, SaysAt}
 use Rattle.record_insert.specs.SecondTries.{SecondTryView, said_at, second_facts, second_turn}
@@ -17,7 +17,7 @@ use Rattle.record_insert.specs.Inserts.{InsertView, IsFirstAt, IsOver, IsSecondA
 use Rattle.record_insert.specs.InsertSteps.{MakesInsert}
 use Rattle.record_insert.specs.declared.insert.InsertStage.{InsertStage}
 use Rattle.record_insert.specs.declared.insert.InsertStage.TheVariants.{First, Second}
-use Rattle.stale_search.specs.declared.place.ApproachPlace.TheVariants.{GrantDirectory}
+use Rattle.split_merge.specs.stale_search.declared.place.ApproachPlace.TheVariants.{GrantDirectory}
 use Rattle.record_insert.specs.declared.second_place.SecondPlace.TheVariants.{Approaching}
 
 pub none_said : (said : Option Tried) → is_some said ≡ false → said ≡ None

@@ -11,3 +11,8 @@ pub mod SplitLemmas
 pub mod ReleaseLemmas
 pub mod InsertLemmas
 pub mod FewLemmas
+pub use Rattle.record_file.proofs as of_record_file
+pub use Rattle.step_rules.proofs as of_step_rules
+pub use Rattle.record_file.proofs.of_bucket_merge
+pub use Rattle.split_merge.proofs.of_file_pages
+pub use Rattle.split_merge.proofs.of_stale_search

@@ -5,16 +5,16 @@ use Rattle.std.specs.Prelude.{IsTrue}
 use Rattle.bucket_page.proofs.Steps.{length-pair}
 use Rattle.positions.specs.declared.range.Range.{Range}
 use Rattle.positions.specs.Ranges.{Covers}
-use Rattle.file_pages.specs.declared.sight.Sight.TheVariants.{Covering as SeesCovering, Naming}
-use Rattle.file_pages.proofs.ReadLemmas.{devices_after, reads_on}
-use Rattle.file_pages.proofs.StoreLemmas.{layout_is}
+use Rattle.split_merge.specs.file_pages.declared.sight.Sight.TheVariants.{Covering as SeesCovering, Naming}
+use Rattle.split_merge.proofs.of_file_pages.ReadLemmas.{devices_after, reads_on}
+use Rattle.split_merge.proofs.of_file_pages.StoreLemmas.{layout_is}
 use Rattle.step_rules.specs.declared.kind.Kind.TheVariants as kinds
 use Rattle.step_rules.specs.Words.{IsBucketOf}
 use Rattle.step_rules.proofs.AnswerLemmas.{look_may_tell}
 use Rattle.step_rules.proofs.LockLemmas.{IsHeld-writer}
-use Rattle.stale_search.proofs.WayLemmas.{leads_in_file}
-use Rattle.bucket_merge.proofs.BuddyFacts.{live_page, seen_shape, seen_used, seen_depth}
-use Rattle.bucket_merge.proofs.MoveLemmas.{read_only}
+use Rattle.split_merge.proofs.of_stale_search.WayLemmas.{leads_in_file}
+use Rattle.record_file.proofs.of_bucket_merge.BuddyFacts.{live_page, seen_shape, seen_used, seen_depth}
+use Rattle.record_file.proofs.of_bucket_merge.MoveLemmas.{read_only}
 use Rattle.split_merge.specs.declared.place.SplitPlace.TheVariants.{TakePage}
 use Rattle.record_insert.specs.Words.{RECORD_HEAD_BYTES, ROOM_BYTES, GREATEST_DEPTH, RecordKey, pair, lookup, PoolState, IsDevicesFault, Table, Store, Lock, HasNoFileLock, row_of, Page, Directory, Change, Answers, range_at, store_of, records_at, IsFilePool, OnlyReads, Progress, Moved, Fault, World, Sees, SplitView, IsThere, IsFull, SecondPlace, Look, Hop, Write, Splitting, GiveBackPage}
 use Rattle.record_insert.specs.SecondTries.{facts_at, locks_at, second_turn, splits_left}

@@ -4,7 +4,7 @@ use Rattle.std.proofs.lemmas.Bool.{true≢false}
 use Rattle.std.specs.Prelude.{IsTrue}
 use Rattle.page_locks.proofs.ChangeLemmas.{with_row-own}
 use Rattle.page_locks.proofs.TableLemmas.{row_of-same}
-use Rattle.file_pages.specs.declared.fault.FileFault.{FileFault}
+use Rattle.split_merge.specs.file_pages.declared.fault.FileFault.{FileFault}
 use Rattle.step_rules.specs.declared.kind.Kind.{Kind}
 use Rattle.step_rules.specs.declared.kind.Kind.TheVariants as kinds
 use Rattle.step_rules.specs.Known.{AllAnchored}
@@ -14,9 +14,9 @@ use Rattle.step_rules.proofs.KindLemmas.{kind_keeps}
 use Rattle.step_rules.proofs.LockLemmas.{IsHeld-some}
 use Rattle.step_rules.proofs.LockStepLemmas.{KeepsOthers-same, none_busy}
 use Rattle.step_rules.proofs.MachineLemmas.{AllKnown-relocked}
-use Rattle.stale_search.proofs.StepLemmas.{read as read_page}
-use Rattle.bucket_merge.proofs.MoveLemmas.{nothing_written, read_only}
-use Rattle.bucket_merge.proofs.RowLemmas.{held_last, without_last}
+use Rattle.split_merge.proofs.of_stale_search.StepLemmas.{read as read_page}
+use Rattle.record_file.proofs.of_bucket_merge.MoveLemmas.{nothing_written, read_only}
+use Rattle.record_file.proofs.of_bucket_merge.RowLemmas.{held_last, without_last}
 use Rattle.record_insert.specs.Words.{RecordKey, pair, PoolState, IsDevicesFault, Table, IsSeat, Lock, LockKind, Selective, Exclusive, LockName, Directory, Page, Change, Quiet, kind_of, lock_of, row_of, held, with_row, without, without_lock, store_of, IsReady, OnlyReads, OnlyWrites, Progress, Moved, Fault, Ended, World, AllKnown, HasNoFileLock, world, Sees, Tried, SecondPlace, HasEnded}
 use Rattle.record_insert.specs.SecondTries.{SecondTryView, locks_at, facts_at, left_at, said_at, tried_at, second_turn}
 use Rattle.record_insert.specs.SecondSteps.{KeepsSecondTry, MakesStep, SaysAt}

@@ -2,7 +2,7 @@
 use Rattle.std.proofs.Common.{◌≡◌, refl, ap, ℕ, List, arith}
 use Rattle.page_locks.specs.Writers.{may_write}
 use Rattle.step_rules.specs.declared.kind.Kind.TheVariants as kinds
-use Rattle.bucket_merge.proofs.RowLemmas.{directory_held, no_page_held}
+use Rattle.record_file.proofs.of_bucket_merge.RowLemmas.{directory_held, no_page_held}
 use Rattle.record_insert.specs.Words.{RecordKey, PoolState, Table, IsSeat, Selective, Page, Directory, without_lock, IsReady, Moved, Tried, GiveBackPage, GiveBackDirectory, HasEnded}
 use Rattle.record_insert.proofs.MoveLemmas.{Makes, released}
 

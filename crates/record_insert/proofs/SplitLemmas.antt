@@ -2,7 +2,7 @@
 use Rattle.std.proofs.Common.{◌≡◌, refl, sym, ap, ◌∙◌, subst, ℕ, suc, ◌+◌, ◌<◌, true, false, not, List, length, arith, inl, inr}
 use Rattle.std.proofs.lemmas.Bool.{true≢false}
 use Rattle.positions.specs.declared.range.Range.{Range}
-use Rattle.file_pages.specs.declared.fault.FileFault.{FileFault}
+use Rattle.split_merge.specs.file_pages.declared.fault.FileFault.{FileFault}
 use Rattle.hash_file.specs.Change.{Linked, Buried}
 use Rattle.hash_file.specs.Changes.{set_counts, split_counts}
 use Rattle.hash_file.specs.Phases.{HasPhase, IsLinked}

@@ -2,8 +2,8 @@
 use Rattle.std.proofs.Common.{◌≡◌, refl, ap, ◌∙◌, ℕ, ◌+◌, ◌≤◌, true, false, List, None, Some, length, arith}
 use Rattle.std.specs.Prelude.{IsTrue}
 use Rattle.bucket_page.proofs.Steps.{length-pair}
-use Rattle.file_pages.specs.declared.fault.FileFault.{FileFault}
-use Rattle.file_pages.specs.Writes.{TakesRecord}
+use Rattle.split_merge.specs.file_pages.declared.fault.FileFault.{FileFault}
+use Rattle.split_merge.specs.file_pages.Writes.{TakesRecord}
 use Rattle.hash_file.specs.Changes.{write_record}
 use Rattle.step_rules.specs.declared.kind.Kind.TheVariants as kinds
 use Rattle.record_file.proofs.WriteLemmas.{there, wrote}

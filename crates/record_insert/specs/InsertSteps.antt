@@ -1,6 +1,6 @@
 -- What a step of an insert does. docs/STEPS.md, "Insert, Replace, Delete".
 use Rattle.std.specs.Prelude.{ℕ, ◌≡◌, ◌↔◌, false, not, List, length, ⊤}
-use Rattle.file_pages.specs.declared.fault.FileFault.{FileFault}
+use Rattle.split_merge.specs.file_pages.declared.fault.FileFault.{FileFault}
 use Rattle.record_insert.specs.Words.{RecordKey, pair, PoolState, Table, Lock, Change, Progress, Ended, is_fault, HasNoFileLock, row_of, store_of, OnlyWrites, Owns, FollowsRow, Stays, world, Sees, Step}
 use Rattle.record_insert.specs.SecondSteps.{KeepsSecondTry, NearsOrSpares, SaysAt}
 use Rattle.record_insert.specs.Inserts.{InsertView, IsLent, IsOver, insert_facts, insert_left, insert_locks, insert_turn, said_of}

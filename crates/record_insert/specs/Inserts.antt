@@ -1,7 +1,7 @@
 -- What an insert holds, knows and asks for: its first try, and then the second one. docs/STEPS.md, "Insert, Replace,
 -- Delete".
 use Rattle.std.specs.Prelude.{ℕ, ◌≡◌, ◌+◌, Bool, true, false, List, Option, Some, None, IsSome, ⊤}
-use Rattle.stale_search.specs.Searches.{ask_at as search_ask_at}
+use Rattle.split_merge.specs.stale_search.Searches.{ask_at as search_ask_at}
 use Rattle.record_file.specs.FirstTries.{FirstTryView, first_try_facts, first_try_left, first_try_locks}
 use Rattle.record_file.specs.FirstTries.{tried_at as found_in}
 use Rattle.record_file.specs.declared.first_try.FirstTryStage.{FirstTryStage}

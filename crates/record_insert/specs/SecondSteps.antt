@@ -2,7 +2,7 @@
 use Rattle.std.specs.Prelude.{ℕ, ◌≡◌, ◌↔◌, ◌<◌, false, not, List, Option, Some, None, IsSome, ⊤}
 use Rattle.step_rules.specs.declared.kind.Kind.TheVariants as kinds
 use Rattle.record_insert.specs.Words.{RecordKey, Pair, pair, PoolState, Table, Lock, Change, Progress, Moved, Fault, Ended, World, is_fault, HasNoFileLock, row_of, store_of, OnlyWrites, HasNoRoom, Tells, Owns, IsSparingFault, FollowsRow, Stays, world, Sees, Step, Tried, IsPut, IsThere, IsFull}
-use Rattle.file_pages.specs.declared.fault.FileFault.{FileFault}
+use Rattle.split_merge.specs.file_pages.declared.fault.FileFault.{FileFault}
 use Rattle.record_insert.specs.SecondTries.{SecondTryView, second_locks, second_facts, second_turn, second_left, tried_at, said_at}
 
 -- what it is about stays, it has ended where it gave all locks back, and where it did not move it is what it was

@@ -13,9 +13,9 @@ pub use Rattle.step_rules.specs.Pages.{Using}
 pub use Rattle.step_rules.specs.Structure.{InPhase, HasDepth, BucketOf, Near, Shaped}
 pub use Rattle.step_rules.specs.Rooms.{HasNoRoom}
 pub use Rattle.step_rules.specs.Turns.{Ask, ForLock, HopFrom}
-pub use Rattle.stale_search.specs.Approaches.{ApproachView, approach_locks, approach_facts, approach_ask_at, approach_left, reached_at}
-pub use Rattle.stale_search.specs.Searches.{answers_at}
-pub use Rattle.stale_search.specs.Steps.{FollowsRow, Stays, WritesOrSpares}
+pub use Rattle.split_merge.specs.stale_search.Approaches.{ApproachView, approach_locks, approach_facts, approach_ask_at, approach_left, reached_at}
+pub use Rattle.split_merge.specs.stale_search.Searches.{answers_at}
+pub use Rattle.split_merge.specs.stale_search.Steps.{FollowsRow, Stays, WritesOrSpares}
 pub use Rattle.split_merge.specs.Splits.{SplitView, split_locks, split_facts, has_ended, IsSparingFault}
 pub use Rattle.split_merge.specs.Splits.{steps_left as split_left}
 pub use Rattle.split_merge.specs.declared.wanted.Wanted.{Wanted}

@@ -2,7 +2,7 @@
 
 ghost use Rattle.std.specs.Prelude.{◌≡◌, ◌↔◌, ℕ, List, IsSome, None, true, false, length, not};
 ghost use Rattle.record_file.specs.declared.first_try.FirstTryStage.{FirstTryStage};
-ghost use Rattle.stale_search.specs.declared.place.SearchPlace.{SearchPlace};
+ghost use Rattle.split_merge.specs.stale_search.declared.place.SearchPlace.{SearchPlace};
 ghost use Rattle.record_insert.specs.Words.{RecordKey, pair, Lock, Change, Selective, IsReady, IsSeat, row_of, store_of, OnlyWrites, is_fault, EndsRow, HasNoFileLock, Owns, FollowsRow, Sees, Step, world};
 ghost use Rattle.record_insert.specs.SecondSteps.{NearsOrSpares, SaysAt};
 ghost use Rattle.record_insert.specs.Inserts.{IsLent, IsOver, insert_facts, insert_left, insert_locks, insert_turn, is_ended, is_there, said_of};
@@ -10,11 +10,11 @@ ghost use Rattle.record_insert.specs.InsertSteps.{KeepsInsert, MakesInsert};
 
 use crate::second_try::SecondTry;
 use bucket_page::{PseudoKey, RecordKey};
-use buffer_pool::Pool;
-use file_pages::FileFault;
 use page_device::PageDevice;
 use page_locks::LockTable;
 use record_file::{FirstTry, FirstTryStage, Tried};
+use split_merge::buffer_pool::Pool;
+use split_merge::file_pages::FileFault;
 use std::marker::Model;
 use std::mem::size_of;
 use step_rules::{Kind, Progress};

@@ -3,7 +3,7 @@
 ghost use Rattle.std.specs.Prelude.{◌≤◌};
 ghost use Rattle.hash_file.specs.Store.{Store};
 ghost use Rattle.record_file.specs.Callers.{KeepsNames};
-ghost use Rattle.stale_search.specs.Callers.{CallerKeeps};
+ghost use Rattle.split_merge.specs.stale_search.Callers.{CallerKeeps};
 ghost use Rattle.record_insert.specs.Inserts.{InsertView, SECOND_STEPS, insert_locks};
 ghost use Rattle.record_insert.specs.SecondTries.{SecondTryView, second_left, second_locks};
 

@@ -16,5 +16,8 @@ pub use laws::{
     a_second_try_has_few_steps, a_second_try_keeps_what_its_caller_knows,
     an_insert_keeps_what_its_caller_knows,
 };
+pub use record_file;
 pub use second_place::SecondPlace;
 pub use second_try::SecondTry;
+pub use split_merge::{buffer_pool, file_pages};
+pub use step_rules;

@@ -2,7 +2,7 @@
 
 use record_file::Tried;
 use split_merge::Split;
-use stale_search::Approach;
+use split_merge::stale_search::Approach;
 
 /// From which its next step is made. The directory is locked from the end of the approach on.
 #[derive(Drop)]

@@ -1,7 +1,7 @@
 //! The second try of an Insert.
 
 ghost use Rattle.std.specs.Prelude.{◌≡◌, ℕ, List, false, length, not};
-ghost use Rattle.stale_search.specs.declared.place.ApproachPlace.{ApproachPlace};
+ghost use Rattle.split_merge.specs.stale_search.declared.place.ApproachPlace.{ApproachPlace};
 ghost use Rattle.record_file.specs.FirstTries.{has_room};
 ghost use Rattle.record_insert.specs.declared.second_place.SecondPlace.TheVariants as places;
 ghost use Rattle.record_insert.specs.Words.{RecordKey, pair, Lock, Change, IsReady, IsSeat, row_of, store_of, OnlyWrites, is_fault, HasNoFileLock, Owns, FollowsRow, Sees, Step, world};
@@ -10,14 +10,14 @@ ghost use Rattle.record_insert.specs.SecondSteps.{KeepsSecondTry, MakesStep, Mak
 
 use crate::second_place::SecondPlace;
 use bucket_page::{PseudoKey, RECORD_HEAD_BYTES, ROOM_BYTES, RecordKey};
-use buffer_pool::Pool;
 use directory::GREATEST_DEPTH;
-use file_pages::{FileFault, Sight, look, put_record, read_bucket};
 use page_device::PageDevice;
 use page_locks::{Grant, LockKind, LockName, LockTable};
 use record_file::Tried;
+use split_merge::buffer_pool::Pool;
+use split_merge::file_pages::{FileFault, Sight, look, put_record, read_bucket};
+use split_merge::stale_search::{Approach, ApproachPlace};
 use split_merge::{Split, SplitPlace, Wanted};
-use stale_search::{Approach, ApproachPlace};
 use std::marker::Model;
 use std::mem::size_of;
 use step_rules::{Kind, Progress};

@@ -1,20 +1,20 @@
 -- An operation has few steps left.
 use Rattle.std.proofs.Common.{◌≡◌, ap, ℕ, ◌+◌, ◌*◌, ◌≤◌, Bool, true, false, if◌then◌else◌, List, [], ◌∷◌, length, arith}
 use Rattle.record_operation.proofs.Names.{ApproachPlace, ApproachView, Header, Layout, MergePlace, MergeView, ROOT_PAGE, Range, SearchPlace, SearchView, answers_at, approach_left_at, begun, begun_one, chain, distance, header_at, header_is, hops_between, image, layout_is, merge_left, merge_left_at, operation_left, position_of, range_at, search_left_at, steps_left, ways_are_short}
-use Rattle.bucket_merge.specs.declared.place.MergePlace.TheVariants as to
+use Rattle.record_insert.specs.bucket_merge.declared.place.MergePlace.TheVariants as to
 use Rattle.hash_file.specs.Words.{HasShortWays}
-use Rattle.stale_search.specs.declared.place.ApproachPlace.TheVariants as way
-use Rattle.stale_search.specs.declared.place.SearchPlace.TheVariants.{GrantDirectory, ReadDepth, ReadEntry, GrantPage, ReleaseDirectory, Look, Hop, Found}
-use Rattle.record_file.specs.FirstTries.{left_in as first_left_in}
-use Rattle.record_file.specs.Removals.{left_in as removal_left_in}
-use Rattle.record_file.specs.Replaces.{left_in as replace_left_in}
-use Rattle.record_file.specs.Deletes.{part}
-use Rattle.record_file.specs.declared.first_try.FirstTryStage.{FirstTryStage}
-use Rattle.record_file.specs.declared.first_try.FirstTryStage.TheVariants as tries
-use Rattle.record_file.specs.declared.removal.RemovalStage.{RemovalStage}
-use Rattle.record_file.specs.declared.removal.RemovalStage.TheVariants as removals
-use Rattle.record_file.specs.declared.replace.ReplaceStage.{ReplaceStage}
-use Rattle.record_file.specs.declared.replace.ReplaceStage.TheVariants as replaces
+use Rattle.record_insert.specs.stale_search.declared.place.ApproachPlace.TheVariants as way
+use Rattle.record_insert.specs.stale_search.declared.place.SearchPlace.TheVariants.{GrantDirectory, ReadDepth, ReadEntry, GrantPage, ReleaseDirectory, Look, Hop, Found}
+use Rattle.record_insert.specs.record_file.FirstTries.{left_in as first_left_in}
+use Rattle.record_insert.specs.record_file.Removals.{left_in as removal_left_in}
+use Rattle.record_insert.specs.record_file.Replaces.{left_in as replace_left_in}
+use Rattle.record_insert.specs.record_file.Deletes.{part}
+use Rattle.record_insert.specs.record_file.declared.first_try.FirstTryStage.{FirstTryStage}
+use Rattle.record_insert.specs.record_file.declared.first_try.FirstTryStage.TheVariants as tries
+use Rattle.record_insert.specs.record_file.declared.removal.RemovalStage.{RemovalStage}
+use Rattle.record_insert.specs.record_file.declared.removal.RemovalStage.TheVariants as removals
+use Rattle.record_insert.specs.record_file.declared.replace.ReplaceStage.{ReplaceStage}
+use Rattle.record_insert.specs.record_file.declared.replace.ReplaceStage.TheVariants as replaces
 use Rattle.record_insert.proofs.FewLemmas.{few_left}
 use Rattle.record_insert.specs.Inserts.{left_in as insert_left_in}
 use Rattle.record_insert.specs.declared.insert.InsertStage.{InsertStage}

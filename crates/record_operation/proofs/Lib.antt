@@ -2,3 +2,5 @@ pub mod Names
 pub mod KindLemmas
 pub mod CallerLemmas
 pub mod LengthLemmas
+pub use Rattle.record_insert.proofs.of_record_file
+pub use Rattle.record_insert.proofs.of_step_rules

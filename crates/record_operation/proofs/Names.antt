@@ -1,13 +1,13 @@
 -- Words of the crates below, under one name for the proofs of this one.
-pub use Rattle.bucket_merge.specs.Facts.{left_at as merge_left_at, steps_left as merge_left}
-pub use Rattle.bucket_merge.specs.Places.{MergeView, merge_locks}
-pub use Rattle.bucket_merge.specs.declared.place.MergePlace.{MergePlace}
+pub use Rattle.record_insert.specs.bucket_merge.Facts.{left_at as merge_left_at, steps_left as merge_left}
+pub use Rattle.record_insert.specs.bucket_merge.Places.{MergeView, merge_locks}
+pub use Rattle.record_insert.specs.bucket_merge.declared.place.MergePlace.{MergePlace}
 pub use Rattle.directory.specs.Reading.{header_at}
 pub use Rattle.directory.specs.declared.header.Header.{Header}
 pub use Rattle.directory.specs.declared.layout.TheConstants.{ROOT_PAGE}
-pub use Rattle.file_pages.proofs.StoreLemmas.{header_is, layout_is}
-pub use Rattle.file_pages.specs.Files.{image}
-pub use Rattle.file_pages.specs.declared.fault.FileFault.{FileFault}
+pub use Rattle.record_insert.proofs.of_file_pages.StoreLemmas.{header_is, layout_is}
+pub use Rattle.record_insert.specs.file_pages.Files.{image}
+pub use Rattle.record_insert.specs.file_pages.declared.fault.FileFault.{FileFault}
 pub use Rattle.hash_file.proofs.Short.{ways_are_short}
 pub use Rattle.hash_file.specs.Chain.{chain}
 pub use Rattle.hash_file.specs.Search.{distance}
@@ -17,12 +17,12 @@ pub use Rattle.positions.proofs.CountLaws.{begun_one}
 pub use Rattle.positions.specs.Positions.{position_of}
 pub use Rattle.positions.specs.Tiles.{begun}
 pub use Rattle.positions.specs.declared.range.Range.{Range}
-pub use Rattle.stale_search.proofs.StayLemmas.{Stays-of}
-pub use Rattle.stale_search.specs.Approaches.{ApproachView, approach_left, approach_left_at}
-pub use Rattle.stale_search.specs.Searches.{SearchView, answers_at, left_at as search_left_at, steps_left}
-pub use Rattle.stale_search.specs.declared.place.ApproachPlace.{ApproachPlace}
-pub use Rattle.stale_search.specs.declared.place.SearchPlace.{SearchPlace}
-pub use Rattle.step_rules.specs.Turns.{Turn, TurnsAt, WritesAsked}
-pub use Rattle.step_rules.specs.Ways.{hops_between}
+pub use Rattle.record_insert.proofs.of_stale_search.StayLemmas.{Stays-of}
+pub use Rattle.record_insert.specs.stale_search.Approaches.{ApproachView, approach_left, approach_left_at}
+pub use Rattle.record_insert.specs.stale_search.Searches.{SearchView, answers_at, left_at as search_left_at, steps_left}
+pub use Rattle.record_insert.specs.stale_search.declared.place.ApproachPlace.{ApproachPlace}
+pub use Rattle.record_insert.specs.stale_search.declared.place.SearchPlace.{SearchPlace}
+pub use Rattle.record_insert.specs.step_rules.Turns.{Turn, TurnsAt, WritesAsked}
+pub use Rattle.record_insert.specs.step_rules.Ways.{hops_between}
 pub use Rattle.record_operation.specs.OperationSteps.{MakesOperation}
 pub use Rattle.record_operation.specs.Operations.{operation_facts, operation_left, operation_locks, operation_turn}

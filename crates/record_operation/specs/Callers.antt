@@ -1,9 +1,9 @@
 -- What the caller of an operation knows of records under its own locks, and keeps.
 use Rattle.std.specs.Prelude.{ℕ, ◌≡◌, List, Option, false, if◌then◌else◌}
 use Rattle.bucket_page.specs.Keys.{is_same}
-use Rattle.file_pages.specs.declared.fault.FileFault.{FileFault}
-use Rattle.step_rules.specs.Known.{Told}
-use Rattle.record_file.specs.Callers.{KeepsNames}
+use Rattle.record_insert.specs.file_pages.declared.fault.FileFault.{FileFault}
+use Rattle.record_insert.specs.step_rules.Known.{Told}
+use Rattle.record_insert.specs.record_file.Callers.{KeepsNames}
 use Rattle.record_operation.specs.Words.{RecordKey, PoolState, Table, Lock, Change, IsSeat, row_of, with_row, store_of, Progress, Moved, WriteRecord, IsKnown, IsSoundWorld, is_fault, world, Step, RecordOperation}
 use Rattle.record_operation.specs.Operations.{operation_facts, operation_key, operation_locks, operation_turn, operation_writes}
 

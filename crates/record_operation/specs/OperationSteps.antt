@@ -1,6 +1,6 @@
 -- What a step of an operation does. docs/STEPS.md, "Insert, Replace, Delete".
 use Rattle.std.specs.Prelude.{ℕ, ◌≡◌, ◌↔◌, true, false, not, IsTrue, List, length, ⊤}
-use Rattle.file_pages.specs.declared.fault.FileFault.{FileFault}
+use Rattle.record_insert.specs.file_pages.declared.fault.FileFault.{FileFault}
 use Rattle.record_operation.specs.Words.{RecordKey, pair, PoolState, Table, Lock, Change, Progress, Moved, Ended, WriteRecord, World, is_fault, HasNoFileLock, LeavesSearch, row_of, store_of, OnlyWrites, Stays, Sees, Step, FollowsRow, NearsOrSpares, world, FindsAt, SaysAt, TurnsAwayAt, TurnsAwayIn, KeepsFind, KeepsInsert, KeepsReplace, KeepsDelete, RecordOperation, Find, Insert, Replace, Delete}
 use Rattle.record_operation.specs.Operations.{HasEnded, IsKeyed, MayBeLent, OwnsWritten, SuitsFile, has_searched, operation_facts, operation_found, operation_key, operation_left, operation_locks, operation_pseudokey, operation_tried, operation_turn}
 

@@ -1,17 +1,17 @@
 -- What an operation on a record is about, holds, knows and asks for: each as the machine of its kind says.
 -- docs/STEPS.md, "Search" and "Insert, Replace, Delete".
 use Rattle.std.specs.Prelude.{ℕ, ◌≡◌, Bool, true, false, List, [], Option, Some, None, IsSome, ⊤, unwrap_or}
-use Rattle.bucket_merge.specs.declared.place.MergePlace.TheVariants.{Approaching}
-use Rattle.stale_search.specs.Searches.{SearchView}
-use Rattle.stale_search.specs.declared.place.ApproachPlace.TheVariants.{GrantDirectory as ToDirectory}
-use Rattle.stale_search.specs.declared.place.SearchPlace.TheVariants.{GrantDirectory}
-use Rattle.step_rules.specs.Words.{LockKind}
-use Rattle.record_file.specs.Deletes.{IsOver as IsDeleteOver}
-use Rattle.record_file.specs.Removals.{has_searched as removal_has_searched}
-use Rattle.record_file.specs.Replaces.{has_searched as replace_has_searched}
-use Rattle.record_file.specs.declared.first_try.FirstTryStage.TheVariants as tries
-use Rattle.record_file.specs.declared.removal.RemovalStage.TheVariants as removals
-use Rattle.record_file.specs.declared.replace.ReplaceStage.TheVariants as replaces
+use Rattle.record_insert.specs.bucket_merge.declared.place.MergePlace.TheVariants.{Approaching}
+use Rattle.record_insert.specs.stale_search.Searches.{SearchView}
+use Rattle.record_insert.specs.stale_search.declared.place.ApproachPlace.TheVariants.{GrantDirectory as ToDirectory}
+use Rattle.record_insert.specs.stale_search.declared.place.SearchPlace.TheVariants.{GrantDirectory}
+use Rattle.record_insert.specs.step_rules.Words.{LockKind}
+use Rattle.record_insert.specs.record_file.Deletes.{IsOver as IsDeleteOver}
+use Rattle.record_insert.specs.record_file.Removals.{has_searched as removal_has_searched}
+use Rattle.record_insert.specs.record_file.Replaces.{has_searched as replace_has_searched}
+use Rattle.record_insert.specs.record_file.declared.first_try.FirstTryStage.TheVariants as tries
+use Rattle.record_insert.specs.record_file.declared.removal.RemovalStage.TheVariants as removals
+use Rattle.record_insert.specs.record_file.declared.replace.ReplaceStage.TheVariants as replaces
 use Rattle.record_insert.specs.Inserts.{IsOver as IsInsertOver}
 use Rattle.record_insert.specs.declared.insert.InsertStage.TheVariants.{First}
 use Rattle.record_operation.specs.Words.{RecordKey, Lock, Read, Selective, Store, contents, Known, Turn, Owns, find_facts, find_left, find_locks, find_turn, found_of, IsFrontAt, with_front, replace_facts, replace_left, replace_locks, replace_turn, replaced_at, removed_at, delete_facts, delete_left, delete_locks, delete_turn, Tried, IsLent, insert_facts, insert_left, insert_locks, insert_turn, said_of, RecordOperation, Find, Insert, Replace, Delete}

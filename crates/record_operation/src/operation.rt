@@ -1,21 +1,21 @@
 //! The operation.
 
 ghost use Rattle.std.specs.Prelude.{◌≡◌, ◌↔◌, ℕ, List, true, false, length};
-ghost use Rattle.stale_search.specs.Steps.{FollowsRow};
+ghost use Rattle.record_insert.specs.stale_search.Steps.{FollowsRow};
 ghost use Rattle.record_insert.specs.SecondSteps.{NearsOrSpares};
 ghost use Rattle.record_operation.specs.Words.{RecordKey, Lock, Change, IsReady, IsSeat, row_of, store_of, is_fault, EndsRow, HasNoFileLock, Sees, Step, world};
 ghost use Rattle.record_operation.specs.Operations.{FoundAtEnd, HasEnded, IsKeyed, MayBeLent, OwnsWritten, SuitsFile, TriedAtEnd, begun_delete, begun_find, begun_insert, begun_replace, operation_facts, operation_found, operation_left, operation_locks, operation_tried, operation_turn};
 ghost use Rattle.record_operation.specs.OperationSteps.{KeepsOperation, LeavesPages, MakesOperation, TellsOf};
 
 use bucket_page::{PseudoKey, RecordKey};
-use buffer_pool::Pool;
-use file_pages::FileFault;
 use page_device::PageDevice;
 use page_locks::LockTable;
-use record_file::{Delete, Find, Replace, Tried};
 use record_insert::Insert;
+use record_insert::buffer_pool::Pool;
+use record_insert::file_pages::FileFault;
+use record_insert::record_file::{Delete, Find, Replace, Tried};
+use record_insert::step_rules::Progress;
 use std::mem::size_of;
-use step_rules::Progress;
 
 /// One operation on the record of one key.
 #[derive(Drop)]

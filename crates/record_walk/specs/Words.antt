@@ -1,5 +1,5 @@
 -- The words of the crates below that statements of this crate use.
-pub use Rattle.bucket_page.specs.declared.record_key.RecordKey.{RecordKey}
+pub use Rattle.queue_records.specs.bucket_page.declared.record_key.RecordKey.{RecordKey}
 pub use Rattle.queue_model.specs.declared.message.Message.{Message}
 pub use Rattle.queue_model.specs.declared.queue.Queue.{Queue}
 pub use Rattle.queue_model.specs.Lawful.{IsLawful, IsLawfulQueue}

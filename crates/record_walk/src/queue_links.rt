@@ -65,9 +65,31 @@ impl QueueLinks {
         requires { AreLinksOf queue.now.messages self.now }
         ensures { IfSome result (λ entry. Contains (type_records queue.now) (records.Type entry)) }
     {
-        match self.kinds.binary_search(&mtype) {
-            Ok(place) => Some(self.type_at(queue, place)),
-            Err(_) => None,
+        let place = self.place_of_type(mtype)?;
+        Some(self.type_at(queue, place))
+    }
+
+    /// The place of a type. Types ascend, so where some are missing each look halves the places
+    /// that are left.
+    fn place_of_type(&self, mtype: i64) -> Option<usize>
+        ensures { IfSome result (λ place. place < length self.now.kinds.items) }
+    {
+        match self.place_without_gaps(mtype) {
+            Some(place) => Some(place),
+            None => self.kinds.binary_search(&mtype).ok(),
+        }
+    }
+
+    /// The place of a type, where none between it and the first is missing.
+    fn place_without_gaps(&self, mtype: i64) -> Option<usize>
+        ensures { IfSome result (λ place. place < length self.now.kinds.items) }
+    {
+        let first = *self.kinds.first()?;
+        let place = usize::try_from(mtype.checked_sub(first)?).ok()?;
+        if *self.kinds.get(place)? == mtype {
+            Some(place)
+        } else {
+            None
         }
     }
 

@@ -5,6 +5,7 @@ pub mod PayLemmas
 pub mod AskLemmas
 pub mod ApartLemmas
 pub mod HoldLemmas
+pub mod StayLemmas
 pub mod SameLemmas
 pub mod GivenLemmas
 pub mod SettleLemmas

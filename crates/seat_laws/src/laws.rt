@@ -1,6 +1,6 @@
 //! Laws of a seat beside the others. The functions do nothing; their contracts are the laws.
 
-ghost use Rattle.seat_laws.specs.DecisionLaws.{BeginApart, GoesOver, HoldApart, IdsAreGivenOutUnderNames, LeavesWhatItDoesNotWrite, OthersAnswer, OthersDecide, OthersSweep, StopsBeside, TryApart};
+ghost use Rattle.seat_laws.specs.DecisionLaws.{BeginApart, BehindApart, GoesOver, HoldApart, IdsAreGivenOutUnderNames, LeavesWhatItDoesNotWrite, OthersAnswer, OthersDecide, OthersSweep, StaysApart, StepsApart, StopsBeside, TryApart};
 ghost use Rattle.seat_laws.specs.Laws.{AskUnderNames, AsksUnderNewNames, CountsForOthers, LeaveWhatTheyRead, NamesAreApart, OthersLeave, PayUnderNames, PaysOn, RecordsStay, SeesBehind, SeesOn, StaysUndecided};
 
 /// A step of another seat leaves a seat what it holds and knows, and the records whose names it
@@ -67,4 +67,12 @@ pub fn others_leave_what_a_call_knows()
     ensures begins { BeginApart }
     ensures holds { HoldApart }
     ensures tries { TryApart }
+{}
+
+/// A call that has not decided, and is no Remove, others leave what it knows: it has come so far by
+/// its own steps, and while it asks it gives no name back. So they do behind each of its steps.
+pub fn a_call_stays_apart_by_its_own_steps()
+    ensures stays { StaysApart }
+    ensures behind { BehindApart }
+    ensures steps { StepsApart }
 {}

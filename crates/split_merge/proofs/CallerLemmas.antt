@@ -13,7 +13,7 @@ use Rattle.step_rules.specs.Turns.{Turn, TurnsAt, is_fault}
 use Rattle.step_rules.proofs.TurnLemmas.{is_of_its_kind}
 use Rattle.step_rules.proofs.KindLemmas.{kind_keeps_contents}
 use Rattle.stale_search.specs.Steps.{world}
-use Rattle.queue_records.specs.declared.layout.TheConstants.{COUNTER, KEY}
+use Rattle.step_rules.specs.queue_records.declared.layout.TheConstants.{COUNTER, KEY}
 use Rattle.split_merge.specs.Words.{RecordKey, Lock, Selective, Directory, Page, lock_of, Progress, Moved, WriteRecord, World, IsSoundWorld, SplitPlace, TakePage, CopyDirectory, RaiseDepth, WriteNew, WriteOld, Retarget, SetCounts, Done, Full}
 use Rattle.split_merge.specs.Splits.{SplitView, split_locks, locks_at, in_directory, on_bucket}
 use Rattle.split_merge.specs.Callers.{CallerKeeps}

@@ -8,9 +8,9 @@ use Rattle.hash_file.specs.Chain.{how_many}
 use Rattle.hash_file.specs.Sound.{IsSoundFile}
 use Rattle.hash_file.specs.Store.{bucket_at, count_at, has_bucket, next_at}
 use Rattle.hash_file.proofs.Roles.{numbered}
-use Rattle.file_pages.specs.Headers.{MaySplitCount}
-use Rattle.file_pages.specs.Entries.{MayCopy, MayRetarget}
-use Rattle.file_pages.specs.Buckets.{IsThere, MaySplit}
+use Rattle.stale_search.specs.file_pages.Headers.{MaySplitCount}
+use Rattle.stale_search.specs.file_pages.Entries.{MayCopy, MayRetarget}
+use Rattle.stale_search.specs.file_pages.Buckets.{IsThere, MaySplit}
 use Rattle.step_rules.specs.Words.{Store, chain}
 use Rattle.step_rules.specs.Known.{AllKnown}
 use Rattle.split_merge.specs.Words.{RecordKey, GREATEST_DEPTH, ROOT_PAGE, World, IsSoundWorld, Change, Taken, Linked, Range, upper_half_of, page_of, CopyDirectory, WriteNew, Retarget, SetCounts}

@@ -8,7 +8,7 @@ use Rattle.hash_file.specs.Sound.{IsSoundFile}
 use Rattle.hash_file.specs.Change.{Quiet}
 use Rattle.hash_file.specs.Chain.{chain}
 use Rattle.hash_file.proofs.Roles.{numbered}
-use Rattle.file_pages.specs.Headers.{HasFreePage}
+use Rattle.stale_search.specs.file_pages.Headers.{HasFreePage}
 use Rattle.split_merge.specs.Words.{RecordKey, ROOT_PAGE}
 
 -- of a sound file it is one of the file's pages, and free

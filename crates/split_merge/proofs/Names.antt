@@ -2,9 +2,9 @@
 pub use Rattle.bucket_page.proofs.Steps.{length-pair}
 pub use Rattle.bucket_page.specs.Dividing.{upper_half}
 pub use Rattle.bucket_page.specs.Records.{lookup}
-pub use Rattle.file_pages.proofs.StoreLemmas.{layout_is}
-pub use Rattle.file_pages.specs.Writes.{OnlyWrites}
-pub use Rattle.file_pages.specs.declared.fault.FileFault.{FileFault}
+pub use Rattle.stale_search.proofs.of_file_pages.StoreLemmas.{layout_is}
+pub use Rattle.stale_search.specs.file_pages.Writes.{OnlyWrites}
+pub use Rattle.stale_search.specs.file_pages.declared.fault.FileFault.{FileFault}
 pub use Rattle.hash_file.proofs.Frames.{page_other}
 pub use Rattle.hash_file.proofs.OffChain.{write_new_keeps}
 pub use Rattle.hash_file.proofs.Retargeting.{retarget_keeps_split, set_counts_keeps_split}

@@ -1,7 +1,7 @@
 -- What the caller of a split knows, and keeps.
 use Rattle.std.specs.Prelude.{ℕ, ◌≡◌, List, Option, false}
 use Rattle.page_locks.specs.Table.{Table, IsSeat, row_of, with_row}
-use Rattle.file_pages.specs.declared.fault.FileFault.{FileFault}
+use Rattle.stale_search.specs.file_pages.declared.fault.FileFault.{FileFault}
 use Rattle.split_merge.specs.Words.{RecordKey, Lock, Change, WriteRecord, Progress, Moved, Known, Told, PoolState, IsKnown, IsSoundWorld}
 use Rattle.step_rules.specs.Turns.{Turn, is_fault}
 use Rattle.stale_search.specs.Steps.{world, Step}

@@ -1,8 +1,8 @@
 -- What a split holds, knows and asks for at each place. docs/STEPS.md, "Split".
 use Rattle.std.specs.Prelude.{ℕ, ◌≡◌, ◌↔◌, ◌≤◌, ◌+◌, ◌-◌, ◌<◌, Bool, true, false, IsTrue, List, [], ◌∷◌, ◌++◌, length, None, Some, ⊤}
 use Rattle.split_merge.specs.Words.{RecordKey, RECORD_HEAD_BYTES, ROOM_BYTES, Pair, PoolState, DIRECTORY_PAGES, GREATEST_DEPTH, ROOT_PAGE, page_of, Range, IsRange, upper_half_of, Lock, Selective, Directory, Page, lock_of, Quiet, Taken, Filled, Linked, WriteRecord, Progress, Moved, Fault, Ended, World, Known, OnPage, Live, Built, InPhase, HasDepth, Copied, Retargeted, Shaped, BucketOf, Near, Lacking, Using, SplitPlace, TakePage, CopyDirectory, RaiseDepth, WriteNew, WriteOld, Retarget, SetCounts, Done, Full}
-use Rattle.file_pages.specs.Fault.{IsDevicesFault}
-use Rattle.file_pages.specs.declared.fault.FileFault.{FileFault}
+use Rattle.stale_search.specs.file_pages.Fault.{IsDevicesFault}
+use Rattle.stale_search.specs.file_pages.declared.fault.FileFault.{FileFault}
 use Rattle.hash_file.specs.Changes.{Put}
 use Rattle.step_rules.specs.Rooms.{HasNoRoom}
 use Rattle.step_rules.specs.Turns.{Turn}

@@ -1,7 +1,7 @@
 -- What taking a free page does.
 use Rattle.std.specs.Prelude.{ℕ, ◌≡◌, ◌≢◌, List, Option, Some, None}
 use Rattle.hash_file.specs.Changes.{take_page}
-use Rattle.file_pages.specs.Files.{store_of}
+use Rattle.stale_search.specs.file_pages.Files.{store_of}
 
 -- this page was the first free one, and has left the list
 pub record TakesFirst (page : ℕ) (images images' : List (List ℕ)) : Type 0 where

@@ -2,7 +2,7 @@
 pub use Rattle.bucket_page.specs.declared.record_key.RecordKey.{RecordKey}
 pub use Rattle.bucket_page.specs.declared.layout.TheConstants.{RECORD_HEAD_BYTES, ROOM_BYTES}
 pub use Rattle.bucket_page.specs.Records.{Pair}
-pub use Rattle.buffer_pool.specs.Pool.{PoolState}
+pub use Rattle.stale_search.specs.buffer_pool.Pool.{PoolState}
 pub use Rattle.directory.specs.declared.layout.TheConstants.{DIRECTORY_PAGES, GREATEST_DEPTH, ROOT_PAGE}
 pub use Rattle.directory.specs.Entries.{page_of}
 pub use Rattle.positions.specs.declared.range.Range.{Range}
@@ -12,8 +12,8 @@ pub use Rattle.page_locks.specs.declared.lock.LockKind.TheVariants.{Selective}
 pub use Rattle.page_locks.specs.declared.lock.LockName.TheVariants.{Directory, Page}
 pub use Rattle.page_locks.specs.Locks.{lock_of}
 pub use Rattle.page_locks.specs.Table.{IsSeat, row_of, with_row}
-pub use Rattle.file_pages.specs.Files.{IsReady}
-pub use Rattle.file_pages.specs.Writes.{OnlyWrites}
+pub use Rattle.stale_search.specs.file_pages.Files.{IsReady}
+pub use Rattle.stale_search.specs.file_pages.Writes.{OnlyWrites}
 pub use Rattle.hash_file.specs.Change.{Change, Quiet, Taken, Filled, Linked}
 pub use Rattle.step_rules.specs.declared.kind.Kind.TheVariants.{WriteRecord}
 pub use Rattle.step_rules.specs.declared.progress.Progress.{Progress}

@@ -1,15 +1,15 @@
 //! The page that a split takes.
 
 ghost use Rattle.std.specs.Prelude.{◌≡◌, ◌≢◌, is_ok, IsTrue, IfErr, IfOk, OnErr};
-ghost use Rattle.file_pages.specs.Fault.{FileHasCause, IsDevicesFault};
-ghost use Rattle.file_pages.specs.Files.{IsReady, IsFilePool, store_of};
-ghost use Rattle.file_pages.specs.Headers.{HasFreePage};
-ghost use Rattle.file_pages.specs.Writes.{OnlyWrites};
+ghost use Rattle.stale_search.specs.file_pages.Fault.{FileHasCause, IsDevicesFault};
+ghost use Rattle.stale_search.specs.file_pages.Files.{IsReady, IsFilePool, store_of};
+ghost use Rattle.stale_search.specs.file_pages.Headers.{HasFreePage};
+ghost use Rattle.stale_search.specs.file_pages.Writes.{OnlyWrites};
 ghost use Rattle.split_merge.specs.Taking.{Takes};
 
-use buffer_pool::Pool;
-use file_pages::{FileFault, read_header, take_page};
 use page_device::PageDevice;
+use stale_search::buffer_pool::Pool;
+use stale_search::file_pages::{FileFault, read_header, take_page};
 
 /// Takes the first free page off the list. Where the list is empty nothing changes.
 pub fn take_free<D: PageDevice>(pool: &mut Pool<D>) -> Result<Option<u32>, FileFault>

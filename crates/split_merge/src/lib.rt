@@ -16,4 +16,6 @@ mod wanted;
 pub use laws::a_split_keeps_what_its_caller_knows;
 pub use place::SplitPlace;
 pub use split::Split;
+pub use stale_search;
+pub use stale_search::{buffer_pool, file_pages};
 pub use wanted::Wanted;

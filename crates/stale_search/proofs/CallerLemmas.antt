@@ -4,7 +4,7 @@ use Rattle.step_rules.specs.Words.{Lock, LockKind, Read, Selective, LockName, Ke
 use Rattle.stale_search.specs.Words.{RecordKey, kind_of, lock_of, is_same, Table, row_of, held, SearchPlace, GrantDirectory, ReadDepth, ReadEntry, GrantPage, ReleaseDirectory, Look, Hop, Found}
 use Rattle.page_locks.proofs.TableLemmas.{row_of-same}
 use Rattle.page_locks.proofs.RowLemmas.{kind_of-append, first_kind}
-use Rattle.queue_records.specs.declared.layout.TheConstants.{COUNTER, KEY}
+use Rattle.step_rules.specs.queue_records.declared.layout.TheConstants.{COUNTER, KEY}
 use Rattle.step_rules.specs.World.{guard_of}
 use Rattle.stale_search.specs.declared.place.ApproachPlace.{ApproachPlace}
 use Rattle.stale_search.specs.declared.place.ApproachPlace.TheVariants as to

@@ -3,10 +3,10 @@ use Rattle.std.proofs.Common.{◌≡◌, ◌≢◌, refl, sym, ap, ◌∙◌, su
 use Rattle.std.specs.Option.{option_map}
 use Rattle.step_rules.specs.Words.{Lock, LockKind, Read, LockName, Directory, Page, next_at, records_at, Change, PageLeads, Answers}
 use Rattle.stale_search.specs.Words.{RecordKey, PoolState, MAX_LOCKS, kind_of, Table, IsSeat, IsOpposed, Opposes, row_of, held, with_lock, without_lock, OnlyReads, Moved, Blocked, World, IsHeld, IsReached, Known, LeadsTo, AllKnown, Ask, ForLock, HopFrom, Turn}
-use Rattle.bucket_page.specs.Records.{lookup}
+use Rattle.file_pages.specs.bucket_page.Records.{lookup}
 use Rattle.page_locks.specs.Writers.{may_write, IsWriter}
 use Rattle.page_locks.proofs.WriterLemmas.{IsFree-unopposed}
-use Rattle.hash_file.specs.Changes.{RecordWrite}
+use Rattle.file_pages.specs.hash_file.Changes.{RecordWrite}
 use Rattle.file_pages.specs.declared.fault.FileFault.{FileFault}
 use Rattle.step_rules.specs.declared.kind.Kind.{Kind}
 use Rattle.step_rules.specs.declared.kind.Kind.TheVariants.{Grant, Release, Look, Hop}

@@ -1,7 +1,7 @@
 -- A search's own steps take its walk on.
 use Rattle.std.proofs.Common.{◌≡◌, refl, sym, ap, ◌∙◌, subst, ℕ, suc, ◌+◌, ◌-◌, ◌^◌, ◌≤◌, ◌%◌, ◌==◌, min, Bool, true, false, Option, Some, None, if◌then◌else◌, eq-eqb, inl, inr, arith}
 use Rattle.std.proofs.lemmas.Int.{clamps}
-use Rattle.hash_file.specs.Changes.{RecordWrite}
+use Rattle.file_pages.specs.hash_file.Changes.{RecordWrite}
 use Rattle.file_pages.specs.declared.fault.FileFault.{FileFault}
 use Rattle.page_locks.specs.Table.{held}
 use Rattle.step_rules.specs.Words.{LockKind, Read, Directory, Page, Answers, next_at, entry_at}

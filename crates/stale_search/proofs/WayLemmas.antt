@@ -4,13 +4,13 @@ use Rattle.std.specs.List.{Contains}
 use Rattle.step_rules.specs.Words.{Store, chain, Change, Quiet, Taken, Filled, Linked, Absorbed, Buried, Drained, Freed, owned, PageLeads, IsSoundFile}
 use Rattle.stale_search.specs.Words.{RecordKey, store_of, IsOnWay}
 use Rattle.positions.proofs.MemberLaws.{contains_cases, contains_none}
-use Rattle.bucket_page.specs.declared.page.PageKind.{PageKind}
-use Rattle.bucket_page.specs.declared.page.PageKind.TheVariants as kinds
-use Rattle.directory.specs.declared.layout.TheConstants.{ROOT_PAGE}
-use Rattle.hash_file.specs.Store.{is_bucket, page_at}
-use Rattle.hash_file.specs.Change.{aside}
-use Rattle.hash_file.specs.Phases.{HasPhase}
-use Rattle.hash_file.proofs.Roles.{numbered}
+use Rattle.file_pages.specs.bucket_page.declared.page.PageKind.{PageKind}
+use Rattle.file_pages.specs.bucket_page.declared.page.PageKind.TheVariants as kinds
+use Rattle.file_pages.specs.directory.declared.layout.TheConstants.{ROOT_PAGE}
+use Rattle.file_pages.specs.hash_file.Store.{is_bucket, page_at}
+use Rattle.file_pages.specs.hash_file.Change.{aside}
+use Rattle.file_pages.specs.hash_file.Phases.{HasPhase}
+use Rattle.file_pages.proofs.of_hash_file.Roles.{numbered}
 use Rattle.file_pages.proofs.StoreLemmas.{layout_is, pages_are}
 
 bucket_on_way : (p : PageKind) → is_bucket p ≡ true → IsOnWay p

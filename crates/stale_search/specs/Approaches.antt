@@ -2,8 +2,8 @@
 use Rattle.std.specs.Prelude.{ℕ, ◌≡◌, ◌↔◌, ◌≤◌, List, [], ◌∷◌, Option, Some, None, IsSome, ⊤}
 use Rattle.step_rules.specs.Words.{Lock, Selective, Directory, Page, Quiet}
 use Rattle.stale_search.specs.Words.{Progress, Ended, Known, Built, Ask, ForLock, Turn}
-use Rattle.directory.specs.declared.layout.TheConstants.{GREATEST_DEPTH}
-use Rattle.hash_file.specs.Changes.{RecordWrite}
+use Rattle.file_pages.specs.directory.declared.layout.TheConstants.{GREATEST_DEPTH}
+use Rattle.file_pages.specs.hash_file.Changes.{RecordWrite}
 use Rattle.step_rules.specs.Structure.{InPhase, HasDepth, BucketOf}
 use Rattle.stale_search.specs.Rows.{EndsRow, in_directory, on_page}
 use Rattle.stale_search.specs.Steps.{Stays}

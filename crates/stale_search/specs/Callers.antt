@@ -1,6 +1,6 @@
 -- What the caller of a machine knows, and keeps.
 use Rattle.std.specs.Prelude.{ℕ, ◌≡◌, List, Option, ⊤}
-use Rattle.hash_file.specs.Chain.{contents}
+use Rattle.file_pages.specs.hash_file.Chain.{contents}
 use Rattle.step_rules.specs.Words.{Lock, LockName, Directory, Page, Change}
 use Rattle.stale_search.specs.Words.{RecordKey, Table, IsSeat, kind_of, row_of, with_row, store_of, Told, IsKnown}
 use Rattle.stale_search.specs.Steps.{world}

@@ -4,9 +4,9 @@ use Rattle.std.specs.Prelude.{List, [], ◌∷◌, length, Option, Some, None, I
 use Rattle.std.specs.Option.{option_map}
 use Rattle.step_rules.specs.Words.{Lock, LockKind, Read, Exclusive, Directory, Page, Store, Change, Answers, entry_at, next_at, range_at}
 use Rattle.stale_search.specs.Words.{RecordKey, PoolState, Table, store_of, Progress, Moved, Ended, World, Known, Deep, LeadsTo, Ask, ForLock, HopFrom, Turn, SearchPlace, GrantDirectory, ReadDepth, ReadEntry, GrantPage, ReleaseDirectory, Look, Hop, Found}
-use Rattle.directory.specs.declared.layout.TheConstants.{GREATEST_DEPTH}
-use Rattle.hash_file.specs.Store.{has_bucket}
-use Rattle.hash_file.specs.Changes.{RecordWrite}
+use Rattle.file_pages.specs.directory.declared.layout.TheConstants.{GREATEST_DEPTH}
+use Rattle.file_pages.specs.hash_file.Store.{has_bucket}
+use Rattle.file_pages.specs.hash_file.Changes.{RecordWrite}
 use Rattle.step_rules.specs.declared.kind.Kind.{Kind}
 use Rattle.step_rules.specs.declared.kind.Kind.TheVariants as kinds
 use Rattle.step_rules.specs.Answering.{TakesAnswer}

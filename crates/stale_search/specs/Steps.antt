@@ -6,7 +6,7 @@ use Rattle.file_pages.specs.declared.fault.FileFault.{FileFault}
 use Rattle.step_rules.specs.Words.{Lock, Change}
 use Rattle.stale_search.specs.Words.{PoolState, RecordKey, Table, row_of, with_row, IsFilePool, store_of, Progress, Moved, Fault, World, IsSoundWorld, Known, AllKnown, Turn}
 use Rattle.step_rules.specs.Does.{KeepsOthers}
-use Rattle.hash_file.specs.Changes.{RecordWrite}
+use Rattle.file_pages.specs.hash_file.Changes.{RecordWrite}
 use Rattle.step_rules.specs.Turns.{TurnsAt, is_fault}
 use Rattle.stale_search.specs.Rows.{HasNoFileLock}
 

@@ -1,6 +1,6 @@
 -- The walk of a search: how far it has come, and the hops that it made. docs/STEPS.md, "Search".
 use Rattle.std.specs.Prelude.{ℕ, suc, ◌≡◌, ◌≤◌, true, false, Option, Some, None}
-use Rattle.hash_file.specs.Changes.{RecordWrite}
+use Rattle.file_pages.specs.hash_file.Changes.{RecordWrite}
 use Rattle.file_pages.specs.declared.fault.FileFault.{FileFault}
 use Rattle.step_rules.specs.Words.{Change}
 use Rattle.step_rules.specs.Turns.{is_fault}

@@ -1,6 +1,6 @@
 -- Words of the crates below, under one name.
-pub use Rattle.bucket_page.specs.declared.record_key.RecordKey.{RecordKey}
-pub use Rattle.buffer_pool.specs.Pool.{PoolState}
+pub use Rattle.file_pages.specs.bucket_page.declared.record_key.RecordKey.{RecordKey}
+pub use Rattle.file_pages.specs.buffer_pool.Pool.{PoolState}
 pub use Rattle.page_locks.specs.declared.row.TheConstants.{MAX_LOCKS}
 pub use Rattle.page_locks.specs.Locks.{kind_of, lock_of, is_same, is_on, without}
 pub use Rattle.page_locks.specs.Table.{Table, IsSeat, IsOpposed, Opposes, row_of, held, with_row, with_lock, without_lock}

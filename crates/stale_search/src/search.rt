@@ -13,10 +13,10 @@ ghost use Rattle.stale_search.specs.Searches.{GivesAnswer, HasRow, IsShared, Kee
 ghost use Rattle.stale_search.specs.Searches.{search_facts, search_locks, search_turn, left_in};
 
 use crate::place::SearchPlace;
-use bucket_page::RecordKey;
-use buffer_pool::Pool;
+use file_pages::bucket_page::RecordKey;
+use file_pages::buffer_pool::Pool;
+use file_pages::page_device::PageDevice;
 use file_pages::{FileFault, Sight, look, read_depth, read_entry};
-use page_device::PageDevice;
 use page_locks::{Grant, LockKind, LockName, LockTable};
 use positions::index;
 use std::marker::Model;

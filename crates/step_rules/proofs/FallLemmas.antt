@@ -8,7 +8,7 @@ use Rattle.bucket_page.specs.declared.record_key.RecordKey.{RecordKey}
 use Rattle.bucket_page.specs.declared.page.PageKind.{PageKind}
 use Rattle.bucket_page.specs.declared.page.PageKind.TheVariants as kinds
 use Rattle.bucket_page.specs.Dividing.{lower_half}
-use Rattle.directory.specs.Entries.{page_of, is_upper, is_in_range}
+use Rattle.bucket_page.specs.directory.Entries.{page_of, is_upper, is_in_range}
 use Rattle.hash_file.specs.Changes.{copy_directory, retarget}
 use Rattle.hash_file.proofs.Doubling.{within_entries, copied_at}
 use Rattle.hash_file.proofs.Frames.{page_same}

@@ -6,7 +6,7 @@ use Rattle.positions.specs.Ranges.{upper_half_of}
 use Rattle.bucket_page.specs.declared.page.PageKind.TheVariants as kinds
 use Rattle.bucket_page.specs.Bucket.{Bucket}
 use Rattle.bucket_page.specs.Dividing.{lower_half, upper_half, joined}
-use Rattle.directory.specs.Entries.{page_of, is_upper, is_in_range}
+use Rattle.bucket_page.specs.directory.Entries.{page_of, is_upper, is_in_range}
 use Rattle.page_locks.specs.declared.lock.LockKind.TheVariants.{Exclusive}
 use Rattle.page_locks.specs.declared.lock.LockName.TheVariants.{Directory}
 use Rattle.page_locks.specs.Table.{with_lock, without_lock, with_kind}

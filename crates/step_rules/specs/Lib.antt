@@ -18,3 +18,4 @@ pub mod Walks
 pub mod Answering
 pub mod Rooms
 pub mod Falls
+pub use Rattle.queue_records.specs as queue_records

@@ -8,8 +8,8 @@ use Rattle.page_locks.specs.Table.{held, with_lock, without_lock}
 use Rattle.page_locks.specs.Writers.{ChangesOnly}
 use Rattle.bucket_page.specs.declared.page.PageKind.{PageKind}
 use Rattle.bucket_page.specs.declared.record_key.RecordKey.{RecordKey}
-use Rattle.directory.specs.declared.header.Header.{Header}
-use Rattle.directory.specs.Entries.{page_of}
+use Rattle.bucket_page.specs.directory.declared.header.Header.{Header}
+use Rattle.bucket_page.specs.directory.Entries.{page_of}
 use Rattle.hash_file.specs.Store.{Store, entry_at, next_at}
 use Rattle.hash_file.specs.Changes.{with_header, with_page}
 use Rattle.step_rules.specs.declared.kind.Kind.{Kind}

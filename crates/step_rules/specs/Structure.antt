@@ -6,7 +6,7 @@ use Rattle.positions.specs.declared.range.Range.{Range}
 use Rattle.positions.specs.Ranges.{Covers}
 use Rattle.bucket_page.specs.declared.page.PageKind.{PageKind}
 use Rattle.bucket_page.specs.declared.page.PageKind.TheVariants as kinds
-use Rattle.directory.specs.Entries.{page_of}
+use Rattle.bucket_page.specs.directory.Entries.{page_of}
 use Rattle.hash_file.specs.Store.{Store, page_at, entry_at, count_at, has_bucket, range_at, next_at}
 use Rattle.hash_file.specs.Chain.{chain, IsBucketOf}
 use Rattle.hash_file.specs.Change.{Change, Linked, Buried}

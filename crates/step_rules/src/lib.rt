@@ -22,3 +22,4 @@ pub use learns::{
     own_locks_keep_what_is_known,
 };
 pub use progress::Progress;
+pub use queue_records;

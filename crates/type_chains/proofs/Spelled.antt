@@ -4,7 +4,7 @@ use Rattle.std.specs.Prelude.{IfSome, FitsSigned}
 use Rattle.std.specs.Int.{w64}
 use Rattle.std.specs.List.{All, Contains, filter, position_or_len}
 use Rattle.std.proofs.lemmas.List.Elements.{All-nil, All-contains, All-filter, All-map, All-weaker}
-use Rattle.bucket_page.specs.declared.record_key.RecordKey.{RecordKey}
+use Rattle.queue_records.specs.bucket_page.declared.record_key.RecordKey.{RecordKey}
 use Rattle.queue_model.specs.declared.message.Message.{Message}
 use Rattle.queue_model.specs.declared.queue.Queue.{Queue}
 use Rattle.queue_model.specs.Lawful.{IsLawful, IsLawfulMessage}

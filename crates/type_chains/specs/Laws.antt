@@ -1,7 +1,7 @@
 -- The laws of the records of a system.
 use Rattle.std.specs.Prelude.{◌≡◌, ◌≢◌, ◌↔◌, Some}
 use Rattle.std.specs.List.{AllPairs, Contains}
-use Rattle.bucket_page.specs.declared.record_key.RecordKey.{RecordKey}
+use Rattle.queue_records.specs.bucket_page.declared.record_key.RecordKey.{RecordKey}
 use Rattle.queue_model.specs.declared.queue.Queue.{Queue}
 use Rattle.queue_model.specs.Lawful.{IsLawful}
 use Rattle.queue_model.specs.State.{State}

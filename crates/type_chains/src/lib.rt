@@ -14,4 +14,6 @@ pub use laws::{
     records_of_the_image_have_distinct_keys, the_image_is_the_records_at_their_keys,
     the_types_are_those_of_the_messages,
 };
+pub use queue_records;
+pub use queue_records::bucket_page;
 pub use reading::{info_in, lacks_room_in, permissions_in};

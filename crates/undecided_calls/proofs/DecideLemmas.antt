@@ -9,7 +9,7 @@ use Rattle.call_writes.specs.Views.{is_full_at}
 use Rattle.call_writes.specs.declared.due.Due.TheVariants.{Undoing, Writing}
 use Rattle.call_writes.specs.Words.{AccessView}
 use Rattle.undecided_calls.specs.declared.trials.Trials.{Trials}
-use Rattle.undecided_calls.proofs.Names.{all_stand, settles, write_under_names}
+use Rattle.undecided_calls.proofs.Names.{all_stand, settles, tries_rightly, write_under_names}
 use Rattle.undecided_calls.specs.Words.{AreAlike, AreNames, Call, Change, Decision, Due, Exclusive, Full, IsOver, IsRight, Lock, LockName, Means, Plan, PoolState, QuestionsView, Record, RecordKey, Records, State, Table, Trying, caller_of, guard_of, inserted, is_done, is_full, kind_of, locked_of, names_in, next_deed, record_of, settled_by}
 use Rattle.undecided_calls.specs.Undecided.{its_plan, untried}
 use Rattle.undecided_calls.specs.Knowing.{IsAsking, IsOnTrial, IsTrying, standing}
@@ -36,7 +36,8 @@ module _ (hash : RecordKey → ℕ) (seat : ℕ) (call : Call) (s : State) (q : 
   no_trials none = no_first p.trials (ap is_some none)
 
   pub decides_untried : IsAsking hash seat call s q records pool locks change → AreNames q.names →
-      is_done call q ≡ true → slice_get p.trials 0 ≡ None → (decision : Decision) → decided_of call q.inquiry ≡ Ok decision →
+      is_done call q ≡ true → slice_get p.trials 0 ≡ None → (decision : Decision) →
+      decided_of call q.inquiry ≡ Ok decision →
       IsRight (caller_of q.inquiry) call (locked_of call q.inquiry) q.room.bytes s p decision →
       IsSettled hash seat call s q (settled_by stopped decision) untried records pool locks change
   decides_untried a names done none decision value right = record {
@@ -84,6 +85,8 @@ module _ (hash : RecordKey → ℕ) (seat : ℕ) (call : Call) (s : State) (q : 
       sweeps = λ sweep is_sweep. is.changes;
       writes = λ some. record {
         exclusive = exclusive;
+        own = (tries_rightly (caller_of q.inquiry) call (locked_of call q.inquiry) q.room.bytes s p t.decision
+            right).own;
         alike = λ key within. all_there place due key
             (is_among q.names (guard_of key) (subst IsSome (sym (exclusive (guard_of key) within)) refl));
       };

@@ -1,12 +1,13 @@
 -- A call that has just begun.
-use Rattle.std.proofs.Common.{refl, sym, ap, ◌∙◌, subst, ◌≤◌, List, [], Option, Some, None, IfSome, arith}
+use Rattle.std.proofs.Common.{inl, refl, sym, ap, ◌∙◌, subst, ◌≤◌, List, [], Option, Some, None, IfSome, arith}
 use Rattle.std.specs.List.{Contains}
 use Rattle.call_questions.specs.declared.question.Question.{Question}
 use Rattle.call_questions.specs.Agreeing.{Agrees}
 use Rattle.call_questions.specs.Laws.{BeginFewSearches as QuestionsBeginFew, HaveFewSteps as QuestionsHaveFew}
 use Rattle.call_questions.specs.Questions.{IsRightQuestion, facts_of, locks_behind}
 use Rattle.call_questions.specs.Words.{Begins}
-use Rattle.stale_search.specs.Steps.{Sees}
+use Rattle.call_writes.specs.stale_search.Steps.{Sees}
+use Rattle.xsi_inquiry.proofs.AgreeLemmas.{agrees_itself}
 use Rattle.xsi_inquiry.specs.Telling.{most_asked}
 use Rattle.undecided_calls.specs.declared.trials.Trials.{Trials}
 use Rattle.undecided_calls.specs.Words.{AreAlike, Known, Lock, LockName, guard_of, names_for, names_in, record_of, store_of}
@@ -35,13 +36,16 @@ begin_right hash seat call s u records pool locks change fresh knows row sees ag
               (sym question) tt;
           begins = λ none does keeps. subst (λ (ls : List Lock). Begins ls (names_for call u.questions.inquiry))
               (sym names) (names_for call u.questions.inquiry, refl);
+          grows = λ keeps asks. subst (λ (ls : List Lock). Begins ls (names_for call u.questions.inquiry))
+              (sym names) (names_for call u.questions.inquiry, refl);
+          apart = λ keeps. inl (λ t filed. knows t t filed (agrees_itself call _ t));
           few = let none = fresh.finds in
               let few = fresh.few in
               omega (arith, none, few);
         };
         sees = subst (λ (facts : List Known). Sees hash seat facts pool locks change) (sym (ap facts_of question)) sees;
         agrees = subst (λ (ls : List Lock). Agrees (names_in ls) (store_of pool.images) s) (sym names) agrees;
-        knows = knows;
+        knows = knows s;
       };
       row = row ∙ sym (ap (λ (o : Option Question). locks_behind o u.questions.names) question ∙ names);
       alike = subst (λ (ls : List Lock). AreAlike (names_in ls) records (record_of s)) (sym names)

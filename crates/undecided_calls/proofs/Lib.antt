@@ -7,3 +7,4 @@ pub mod TryLemmas
 pub mod StepLemmas
 pub mod DecideLemmas
 pub mod LawLemmas
+pub use Rattle.call_questions.proofs as of_call_questions

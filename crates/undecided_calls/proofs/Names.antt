@@ -12,7 +12,7 @@ pub use Rattle.call_questions.specs.Questions.{changes_by, facts_of, has_asked, 
 pub use Rattle.call_writes.proofs.DecidedLemmas.{all_stand, one_more_stands}
 pub use Rattle.call_writes.proofs.DueLemmas.{drop_next, own_deed, undoing_next}
 pub use Rattle.call_writes.proofs.LawLemmas.{times_most}
-pub use Rattle.call_writes.proofs.Names.{operation_aside}
+pub use Rattle.call_writes.proofs.Names.{operation_aside, wrote_not, wrote_of}
 pub use Rattle.call_writes.specs.CarrySteps.{Advances, Carries, KeepsPlan, Leaves}
 pub use Rattle.call_writes.specs.Carrying.{OwnsPlan}
 pub use Rattle.call_writes.specs.Dues.{CanGoOn, after_deed, deed_key, deeds_left, next_deed}

@@ -8,7 +8,7 @@ use Rattle.undecided_calls.proofs.Names.{AreAbsent, HasRange, HoldsNames, IsUnde
 use Rattle.call_questions.specs.declared.question.Question.{Question}
 use Rattle.xsi_inquiry.specs.declared.decision.Decision.TheVariants as decisions
 use Rattle.undecided_calls.specs.Words.{AreAlike, AreNames, Call, Caller, Change, Decision, IsCarrying, IsRight, Known, LockName, Plan, PoolState, QuestionsView, Record, RecordKey, Records, State, Table, asked_of, caller_of, guard_of, inserted, is_done, locked_of, nothing, record_of, store_of}
-use Rattle.stale_search.specs.Steps.{Sees}
+use Rattle.call_writes.specs.stale_search.Steps.{Sees}
 use Rattle.undecided_calls.specs.Undecided.{its_plan, untried}
 use Rattle.undecided_calls.specs.Knowing.{IsAsking, IsDecision, IsTrying}
 use Rattle.undecided_calls.specs.Deciding.{MayWrite}
@@ -115,6 +115,7 @@ module _ (hash : RecordKey → ℕ) (seat : ℕ) (call : Call) (s : State) (q : 
     pub may_write : p.trials ≡ [] → p ≢ nothing → MayWrite call s q records
     may_write none some = record {
       exclusive = (needed call q done some).exclusive;
+      own = can_try.own;
       alike = subst (λ (rs : List Record). AreAlike locked records (inserted rs (record_of s))) (sym none)
           (under_locked some);
     }

@@ -3,7 +3,7 @@ use Rattle.std.proofs.Common.{◌≡◌, ◌≢◌, refl, sym, ap, ◌∙◌, su
 use Rattle.std.proofs.lemmas.Bool.{true≢false}
 use Rattle.std.specs.Prelude.{option_map, slice_get}
 use Rattle.page_locks.proofs.ChangeLemmas.{with_row-own}
-use Rattle.step_rules.proofs.LockStepLemmas.{KeepsOthers-same}
+use Rattle.call_questions.proofs.of_step_rules.LockStepLemmas.{KeepsOthers-same}
 use Rattle.xsi_inquiry.specs.declared.write.TheConstants.{MAX_TRIALS}
 use Rattle.call_writes.specs.declared.deed.Deed.TheVariants as deeds
 use Rattle.call_writes.specs.declared.writes.CallWrites.{CallWrites}
@@ -84,6 +84,7 @@ module _ (hash : RecordKey → ℕ) (seat : ℕ) (call : Call) (q : QuestionsVie
             (sym asks) (step s change a.faces fine);
         after = records;
         still = λ unwritten. refl;
+        reads = λ none. (means s change a.faces fine).reads;
         elsewhere = λ key free. refl;
         owed = λ key. refl;
         behind = record { right = (means s change a.faces fine).right; knows = (means s change a.faces fine).knows };
@@ -121,6 +122,7 @@ module _ (hash : RecordKey → ℕ) (seat : ℕ) (call : Call) (q : QuestionsVie
       };
       after = records;
       still = λ unwritten. refl;
+      reads = λ none. refl;
       elsewhere = λ key free. refl;
       owed = λ key. refl;
       behind = record { right = a.faces.right; knows = a.faces.knows };
@@ -168,6 +170,7 @@ module _ (hash : RecordKey → ℕ) (seat : ℕ) (call : Call) (q : QuestionsVie
               on.step;
           after = on.after;
           still = on.still;
+          reads = on.reads;
           elsewhere = on.elsewhere;
           owed = on.owed;
           behind = on.behind;
@@ -235,6 +238,7 @@ module _ (hash : RecordKey → ℕ) (seat : ℕ) (call : Call) (q : QuestionsVie
         step = on.step;
         after = on.after;
         still = on.still;
+        reads = λ none. absurd cc;
         elsewhere = elsewhere_of p t.writes.due w.due records on.after is.carries.own on.leaves;
         owed = on.owed;
         behind = tries_on;

@@ -1,17 +1,18 @@
 -- What a call has come to at its Decide. docs/STEPS.md, "Calls".
 use Rattle.std.specs.Prelude.{ℕ, ◌≡◌, ◌≢◌, Bool, Option, Some, None, if◌then◌else◌}
-use Rattle.std.specs.List.{Contains}
+use Rattle.std.specs.List.{All, Contains}
 use Rattle.call_writes.specs.declared.writes.CallWrites.{CallWrites}
 use Rattle.call_decisions.specs.declared.settled.Settled.TheVariants.{Sweeps}
 use Rattle.undecided_calls.specs.declared.decided.Decided.{Decided}
 use Rattle.undecided_calls.specs.declared.trials.Trials.{Trials}
-use Rattle.undecided_calls.specs.Words.{AreAlike, Call, Change, Exclusive, Full, IsCarrying, LockName, Means, PoolState, QuestionsView, RecordKey, Records, Settled, State, Sweep, Table, Trying, caller_of, inserted, is_full, kind_of, locked_of, names_in, next_deed, nothing, record_of, settled_by}
+use Rattle.undecided_calls.specs.Words.{AreAlike, Call, Change, Exclusive, Full, IsCarrying, LockName, Means, PoolState, QuestionsView, Record, RecordKey, Records, Settled, State, Sweep, Table, Trying, caller_of, guard_of, inserted, is_full, key_of, kind_of, locked_of, names_in, next_deed, nothing, record_of, settled_by}
 use Rattle.undecided_calls.specs.Undecided.{its_plan}
 
--- it is to write: each name under which it does is held Exclusive, and under these, too, stand the records of s with
--- all trials inserted
+-- it is to write: each name under which it does is held Exclusive, all that it inserts on trial is under one of these,
+-- and under them, too, stand the records of s with all trials inserted
 pub record MayWrite (call : Call) (s : State) (q : QuestionsView) (records : Records) : Type 0 where
   pub exclusive : (name : LockName) → Contains (locked_of call q.inquiry) name → kind_of q.names name ≡ Some Exclusive
+  pub own : All (λ (r : Record). Contains (locked_of call q.inquiry) (guard_of (key_of r))) (its_plan call q).trials
   pub alike : AreAlike (locked_of call q.inquiry) records (inserted (its_plan call q).trials (record_of s))
 
 -- the call is settled by the rules, and all its trials stand

@@ -16,12 +16,13 @@ abbrev pub HaveFewSteps : Type 0
 HaveFewSteps = (call : Call) (u : UndecidedCall) (s : Store) → IsFresh call u →
     undecided_left call u s ≤ MOST_UNDECIDED_STEPS
 
--- a call that has just begun asks: over each system with which the file agrees, and whatever records stand
+-- a call that has just begun, and knows of each system what it was told, asks: over each with which the file agrees,
+-- and whatever records stand
 abbrev pub BeginRight : Type 0
 BeginRight = (hash : RecordKey → ℕ) (seat : ℕ) (call : Call) (s : State) (u : UndecidedCall) (records : Records)
-    (pool : PoolState) (locks : Table) (change : Change) → IsFresh call u → KnowsNear call u.questions s →
-    row_of locks seat ≡ [] → Sees hash seat [] pool locks change → Agrees [] (store_of pool.images) s →
-    IsUndecided hash seat call s u records pool locks change
+    (pool : PoolState) (locks : Table) (change : Change) → IsFresh call u →
+    ((t : State) → KnowsNear call u.questions t) → row_of locks seat ≡ [] → Sees hash seat [] pool locks change →
+    Agrees [] (store_of pool.images) s → IsUndecided hash seat call s u records pool locks change
 
 -- a call that has not decided has begun at most as many searches as it asks questions
 abbrev pub BeginFewSearches : Type 0

@@ -39,6 +39,8 @@ pub record GoesOn {F : Type 0} (hash : RecordKey → ℕ) (seat : ℕ) (call : C
       locks locks' change
   pub after : Records
   pub still : is_write did ≡ false → after ≡ records
+  -- while it asks no record is written
+  pub reads : new.trials ≡ None → is_write did ≡ false
   -- a record whose name it does not hold Exclusive stays
   pub elsewhere : (key : RecordKey) → (kind_of new.questions.names (guard_of key) ≡ Some Exclusive → ⊥) →
       after key ≡ records key

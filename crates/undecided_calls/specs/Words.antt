@@ -9,7 +9,7 @@ pub use Rattle.call_writes.specs.Carrying.{IsCarrying}
 pub use Rattle.call_writes.specs.CarrySteps.{TrialLacksRoom}
 pub use Rattle.call_writes.specs.Dues.{next_deed, owes}
 pub use Rattle.call_writes.specs.Views.{IsOver, is_full, writes_facts, writes_left_in, writes_locks, writes_turn}
-pub use Rattle.call_writes.specs.Words.{Change, Known, Lock, MOST_STEPS, NearsOrSpares, OnlyWrites, Owes, Plan, PoolState, Progress, Ended, Fault, Record, RecordKey, Records, IsReady, IsSeat, Step, Store, Table, Turn, World, Writes, guard_of, is_fault, is_write, kind_of, overlaid, row_of, store_of, world}
+pub use Rattle.call_writes.specs.Words.{Change, Known, Lock, MOST_STEPS, NearsOrSpares, OnlyWrites, Owes, Plan, PoolState, Progress, Ended, Fault, Record, RecordKey, Records, IsReady, IsSeat, Step, Store, Table, Turn, World, Writes, guard_of, is_fault, is_write, key_of, kind_of, overlaid, row_of, store_of, world}
 pub use Rattle.call_writes.specs.declared.due.Due.{Due}
 pub use Rattle.call_writes.specs.declared.due.Due.TheVariants.{Trying, Full}
 pub use Rattle.any_inquiry.specs.Anything.{decided_of, locked_of}
@@ -18,4 +18,4 @@ pub use Rattle.page_locks.specs.declared.lock.LockKind.TheVariants.{Exclusive}
 pub use Rattle.xsi_inquiry.specs.Writing.{inserted, nothing}
 pub use Rattle.xsi_inquiry.specs.declared.decision.Decision.{Decision}
 pub use Rattle.xsi_inquiry.specs.declared.decision.Sweep.{Sweep}
-pub use Rattle.stale_search.specs.Steps.{Sees}
+pub use Rattle.call_writes.specs.stale_search.Steps.{Sees}

@@ -17,12 +17,12 @@ use bucket_page::PseudoKey;
 use buffer_pool::Pool;
 use call_decisions::{Settled, decide};
 use call_questions::Questions;
+use call_questions::step_rules::Progress;
 use call_writes::{CallWrites, PlanOf};
 use file_pages::FileFault;
 use page_device::PageDevice;
 use page_locks::LockTable;
 use queue_model::{Call, Caller};
-use step_rules::Progress;
 use xsi_inquiry::{Inquiry, NotASystem, Room};
 
 /// A call up to its Decide: it asks the file its questions, and then inserts on trial what its

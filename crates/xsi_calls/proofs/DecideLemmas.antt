@@ -1,7 +1,7 @@
 -- The Decide of a call, behind the last step of what it asks and tries.
 use Rattle.std.proofs.Common.{◌≡◌, refl, sym, ap, ◌∙◌, subst, ℕ, Bool, true, false, not, List, [], Option, Some, None, IsTrue, ◌≤◌, arith}
 use Rattle.std.proofs.lemmas.Bool.{true≢false}
-use Rattle.call_decisions.specs.declared.settled.Settled.TheVariants as settlements
+use Rattle.kernel_laws.specs.call_decisions.declared.settled.Settled.TheVariants as settlements
 use Rattle.step_rules.specs.Known.{AllKnown}
 use Rattle.step_rules.specs.Sound.{IsSoundWorld}
 use Rattle.file_pages.specs.declared.fault.FileFault.TheVariants.{Failed}
@@ -165,14 +165,16 @@ module _ (hash : RecordKey → ℕ) (seat : ℕ) (stopped : Bool) (caller : Call
           on.step.after
       comes = of settled (decided s records on.step.after now mark)
         where
+          owed : undecided_owes call u ≡ owes p trials.due
+          owed = owes_so call q u.trials ∙ ap (λ (w : CallWrites). owes p w.due) (sym trials_are)
+
           of : (x : Option Settled) → IsDecidedIn hash seat call s q x trials records pool' locks' on.step.after →
               Concluded hash seat call s q (has_no_room u) (undecided_owes call u) x trials records pool' locks'
               on.step.after
           of None so = short hash seat call s q (has_no_room u) (undecided_owes call u) trials records pool' locks'
-              on.step.after so (ap is_full (sym trials_are))
-              (owes_so call q u.trials ∙ ap (λ (w : CallWrites). owes (its_plan call u.questions) w.due) (sym trials_are))
-          of (Some x) so = settles hash seat call s q (has_no_room u) (undecided_owes call u) trials records pool' locks'
-              on.step.after (filed_in hash seat call s q u.trials records pool locks change is) x so
+              on.step.after owed so (ap is_full (sym trials_are))
+          of (Some x) so = settles hash seat call s q (has_no_room u) (undecided_owes call u) trials records pool'
+              locks' on.step.after owed (filed_in hash seat call s q u.trials records pool locks change is) x so
 
       steps : StepsCall {F = FileFault} hash seat s (Moved Decide) (asking caller call u) concluded records pool pool'
           locks locks' change
@@ -187,6 +189,7 @@ module _ (hash : RecordKey → ℕ) (seat : ℕ) (stopped : Bool) (caller : Call
         };
         after = records;
         still = λ unwritten. refl;
+        reads = λ reading. absurd reading;
         elsewhere = λ key free. refl;
         owed = λ kept key. absurd cc;
         concludes = λ none c same. subst (IsRightConclusion caller call s q.room.bytes q.names (has_no_room u)
@@ -210,6 +213,7 @@ module _ (hash : RecordKey → ℕ) (seat : ℕ) (stopped : Bool) (caller : Call
       aim = record {
         caller = refl;
         call = refl;
+        most = refl;
         decides = λ none some. refl;
         stays = λ c same. absurd cc;
         bytes = λ some. refl;
@@ -228,8 +232,8 @@ module _ (hash : RecordKey → ℕ) (seat : ℕ) (stopped : Bool) (caller : Call
 
   pub fails : ((s : State) (records : Records) (change : Change) →
       IsUndecided hash seat call s u records pool locks change → s.stopped ≡ stopped → ⊥) →
-      MakesCall hash seat stopped (Fault Failed) (asking caller call u) (asking caller call untried_yet) pool pool' locks
-      locks'
+      MakesCall hash seat stopped (Fault Failed) (asking caller call u) (asking caller call untried_yet) pool pool'
+      locks locks'
   fails never = record {
     writes = record {
       ready = writes.ready;
@@ -240,6 +244,7 @@ module _ (hash : RecordKey → ℕ) (seat : ℕ) (stopped : Bool) (caller : Call
     aim = record {
       caller = refl;
       call = refl;
+      most = refl;
       decides = λ none some. absurd cc;
       stays = λ c same. absurd cc;
       bytes = λ some. absurd cc;
@@ -270,8 +275,8 @@ pub decides_from : (hash : RecordKey → ℕ) (seat : ℕ) (stopped : Bool) (cal
     (conclusion : Conclusion) → conclusion ≡ conclusion_by settled →
     MakesCall hash seat stopped (Moved Decide) place (with_stage caller call u2 (Paying payment conclusion)) pool pool'
     locks locks'
-decides_from hash seat stopped caller call u u' stage place view undecided calm by ordered did is pool pool' locks locks'
-    writes aim row step settled trials trials_are decided u2 same none payment pays conclusion comes =
+decides_from hash seat stopped caller call u u' stage place view undecided calm by ordered did is pool pool' locks
+    locks' writes aim row step settled trials trials_are decided u2 same none payment pays conclusion comes =
     subst (λ (m : CallView). MakesCall hash seat stopped (Moved Decide) m
     (with_stage caller call u2 (Paying payment conclusion)) pool pool' locks locks') view
     (subst (λ (x : Stage). MakesCall hash seat stopped (Moved Decide) (with_stage caller call u x)

@@ -1,19 +1,23 @@
 -- A step of what a call asks and tries.
-use Rattle.std.proofs.Common.{◌≡◌, refl, sym, ap, ◌∙◌, subst, ℕ, Bool, true, false, not, arith}
+use Rattle.std.proofs.Common.{◌≡◌, refl, sym, ap, ◌∙◌, subst, ℕ, Bool, true, false, not, Option, Some, None, arith}
 use Rattle.std.proofs.lemmas.Bool.{true≢false}
 use Rattle.xsi_calls.proofs.Names.{FileFault, nears_with}
 use Rattle.xsi_calls.specs.declared.stage.Stage.{Stage}
 use Rattle.xsi_calls.specs.declared.stage.Stage.TheVariants.{Undecided, Paying, Releasing}
-use Rattle.xsi_calls.specs.Words.{Blocked, Call, Caller, Change, Ended, Fault, GoesOn, IsUndecided, Moved, NearsOrSpares, OnlyWrites, PoolState, Progress, RecordKey, Records, State, Table, UndecidedCall, is_fault, store_of, undecided_left, undecided_locks, with_row}
-use Rattle.xsi_calls.specs.Machine.{CallView, STEPS_FROM_DECIDE, is_undecided}
+use Rattle.xsi_calls.specs.Words.{Blocked, Call, Caller, Change, Ended, Fault, GoesOn, IsUndecided, Moved, NearsOrSpares, OnlyWrites, PoolState, Progress, RecordKey, Records, State, Table, Trials, UndecidedCall, is_fault, store_of, undecided_left, undecided_locks, with_row}
+use Rattle.xsi_calls.specs.Machine.{CallView, IsReading, STEPS_FROM_DECIDE, is_undecided}
 use Rattle.xsi_calls.specs.CallSteps.{MakesCall, is_end}
 
 abbrev pub asking : Caller → Call → UndecidedCall → CallView
 asking caller call u = record { caller = caller; call = call; undecided = u; stage = Undecided }
 
+untried_there : (o : Option Trials) → IsReading o Undecided → o ≡ None
+untried_there None reading = refl
+untried_there (Some t) reading = absurd reading
+
 pub goes_on : (hash : RecordKey → ℕ) (seat : ℕ) (stopped : Bool) (caller : Caller) (call : Call)
     (u u' : UndecidedCall) (did : Progress FileFault) (pool pool' : PoolState) (locks locks' : Table) →
-    (did ≡ Ended → ⊥) → OnlyWrites (not (is_fault did)) pool pool' →
+    (did ≡ Ended → ⊥) → u'.questions.room.most ≡ u.questions.room.most → OnlyWrites (not (is_fault did)) pool pool' →
     locks' ≡ with_row locks seat (undecided_locks u') →
     ((s : State) (records : Records) (change : Change) → IsUndecided hash seat call s u records pool locks change →
     NearsOrSpares did (undecided_left call u (store_of pool.images)) (undecided_left call u' (store_of pool'.images))
@@ -21,11 +25,12 @@ pub goes_on : (hash : RecordKey → ℕ) (seat : ℕ) (stopped : Bool) (caller :
     ((s : State) (records : Records) (change : Change) → IsUndecided hash seat call s u records pool locks change →
     is_fault did ≡ false → GoesOn hash seat call s did u u' records pool pool' locks locks' change) →
     MakesCall hash seat stopped did (asking caller call u) (asking caller call u') pool pool' locks locks'
-goes_on hash seat stopped caller call u u' did pool pool' locks locks' more writes row progress step = record {
+goes_on hash seat stopped caller call u u' did pool pool' locks locks' more most writes row progress step = record {
   writes = writes;
   aim = record {
     caller = refl;
     call = refl;
+    most = most;
     decides = λ none some. absurd cc;
     stays = λ c is. absurd cc;
     bytes = λ some. absurd cc;
@@ -41,6 +46,7 @@ goes_on hash seat stopped caller call u u' did pool pool' locks locks' more writ
         step = on.step;
         after = on.after;
         still = on.still;
+        reads = λ reading. on.reads (untried_there u'.trials reading);
         elsewhere = on.elsewhere;
         owed = λ same key. on.owed key;
         concludes = λ none c is_so. absurd cc;
@@ -71,7 +77,7 @@ with_stage caller call u stage = record { caller = caller; call = call; undecide
 pub goes_from : (hash : RecordKey → ℕ) (seat : ℕ) (stopped : Bool) (caller : Caller) (call : Call)
     (u u' : UndecidedCall) (stage : Stage) (now : CallView) → with_stage caller call u stage ≡ now →
     is_undecided now.stage ≡ true → (did : Progress FileFault) (pool pool' : PoolState) (locks locks' : Table) →
-    is_end did ≡ false → OnlyWrites (not (is_fault did)) pool pool' →
+    is_end did ≡ false → u'.questions.room.most ≡ u.questions.room.most → OnlyWrites (not (is_fault did)) pool pool' →
     locks' ≡ with_row locks seat (undecided_locks u') →
     ((s : State) (records : Records) (change : Change) → IsUndecided hash seat call s u records pool locks change →
     NearsOrSpares did (undecided_left call u (store_of pool.images)) (undecided_left call u' (store_of pool'.images))
@@ -79,13 +85,14 @@ pub goes_from : (hash : RecordKey → ℕ) (seat : ℕ) (stopped : Bool) (caller
     ((s : State) (records : Records) (change : Change) → IsUndecided hash seat call s u records pool locks change →
     is_fault did ≡ false → GoesOn hash seat call s did u u' records pool pool' locks locks' change) →
     MakesCall hash seat stopped did now (with_stage caller call u' stage) pool pool' locks locks'
-goes_from hash seat stopped caller call u u' stage now view undecided did pool pool' locks locks' more writes row
+goes_from hash seat stopped caller call u u' stage now view undecided did pool pool' locks locks' more most writes row
     progress step =
-    subst (λ (m : CallView). MakesCall hash seat stopped did m (with_stage caller call u' stage) pool pool' locks locks')
-    view
+    subst (λ (m : CallView). MakesCall hash seat stopped did m (with_stage caller call u' stage) pool pool' locks
+    locks') view
     (subst (λ (x : Stage). MakesCall hash seat stopped did (with_stage caller call u x) (with_stage caller call u' x)
     pool pool' locks locks') (sym there)
-    (goes_on hash seat stopped caller call u u' did pool pool' locks locks' (not_end did more) writes row progress step))
+    (goes_on hash seat stopped caller call u u' did pool pool' locks locks' (not_end did more) most writes row progress
+    step))
   where
     there : stage ≡ Undecided
     there = at_undecided stage (subst (λ (m : CallView). is_undecided m.stage ≡ true) (sym view) undecided)

@@ -14,7 +14,7 @@ few_steps few m s new =
 pub begin_right : UndecidedBeginRight → BeginRight
 begin_right begins hash seat s m records pool locks change new row sees agrees =
     subst (λ (x : Stage). IsCallingAt hash seat m.call s m.undecided x records pool locks change) (sym new.stage)
-    (begins hash seat m.call s m.undecided records pool locks change new.fresh (new.knows s) row sees agrees)
+    (begins hash seat m.call s m.undecided records pool locks change new.fresh new.knows row sees agrees)
 
 pub begin_few : UndecidedBeginFew → BeginFewSearches
 begin_few few hash seat s m records pool locks change at is =

@@ -1,8 +1,12 @@
 pub mod Names
+pub mod Below
 pub mod IdleLemmas
+pub mod TrialLemmas
 pub mod ConcludeLemmas
 pub mod DecideLemmas
+pub mod DecidedLemmas
 pub mod GoLemmas
 pub mod ReleaseLemmas
 pub mod PayLemmas
+pub mod RowLemmas
 pub mod LawLemmas

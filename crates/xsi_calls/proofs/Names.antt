@@ -1,5 +1,5 @@
 -- Words of the crates below, under one name for the proofs of this one.
-pub use Rattle.call_decisions.specs.Settling.{IsAnswer, IsSweepOf, Means}
+pub use Rattle.kernel_laws.specs.call_decisions.Settling.{IsAnswer, IsSweepOf, Means}
 pub use Rattle.call_payments.proofs.BeginLemmas.{undoes_its_trials}
 pub use Rattle.call_payments.proofs.DecidedLemmas.{has_few, owes_nothing_at_end, pays_what_is_decided}
 pub use Rattle.call_payments.proofs.Names.{AccessView, begun_at, nears_with}
@@ -12,6 +12,7 @@ pub use Rattle.page_locks.proofs.TableLemmas.{row_of-same}
 pub use Rattle.queue_model.specs.declared.answer.Answer.{Answer}
 pub use Rattle.step_rules.proofs.LockStepLemmas.{KeepsOthers-same}
 pub use Rattle.undecided_calls.proofs.Names.{Deed, GivesBack, MakesNameStep, Question, Writing, changes_by, decided_at, facts_under, is_full_at, locks_behind, locks_under, next_deed, set_out, turn_under, writes_none}
+pub use Rattle.undecided_calls.specs.Below.{is_same, key_of, undoing}
 pub use Rattle.undecided_calls.specs.Deciding.{IsDecidedIn, IsSettled, IsShortOfRoom, MayWrite}
 pub use Rattle.undecided_calls.specs.Knowing.{IsAsking, IsTrying, IsUndecidedIn}
 pub use Rattle.undecided_calls.specs.Undecided.{CanDecideIn, IsCalmIn, locks_in, owes_in, trials_in, untried}
@@ -20,3 +21,6 @@ pub use Rattle.undecided_calls.specs.declared.trials.Trials.{Trials}
 pub use Rattle.xsi_inquiry.specs.Deciding.{answer_of}
 pub use Rattle.xsi_inquiry.specs.Writing.{CanAllBe, HasRange}
 pub use Rattle.xsi_inquiry.specs.declared.write.Write.{Write}
+pub use Rattle.xsi_inquiry.specs.declared.write.Write.TheVariants.{Delete}
+pub use Rattle.xsi_inquiry.proofs.LeadLemmas.{same_keys}
+pub use Rattle.xsi_inquiry.specs.Writing.{key_written}

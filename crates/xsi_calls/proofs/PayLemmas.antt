@@ -16,7 +16,7 @@ use Rattle.xsi_calls.specs.CallSteps.{MakesCall, MakesRelease, StepsCall, is_end
 
 -- ---- nothing is left to do
 
-paid_locks : (p : Plan) (v : PaymentStage) (names : List Lock) → IsPaid p v → payment_locks v names ≡ names
+pub paid_locks : (p : Plan) (v : PaymentStage) (names : List Lock) → IsPaid p v → payment_locks v names ≡ names
 paid_locks p (stages.Sweeping v) names paid = absurd paid
 paid_locks p (stages.Writing w) names paid = ap (λ (o : Option AccessView). locks_under o names) paid.rests
 
@@ -83,6 +83,7 @@ module _ (hash : RecordKey → ℕ) (seat : ℕ) (caller : Caller) (call : Call)
       aim = record {
         caller = refl;
         call = refl;
+        most = refl;
         decides = λ none some. absurd cc;
         stays = λ c is. is;
         bytes = λ some. refl;
@@ -98,6 +99,7 @@ module _ (hash : RecordKey → ℕ) (seat : ℕ) (caller : Caller) (call : Call)
             step = on.step;
             after = on.after;
             still = on.still;
+            reads = λ reading. absurd reading;
             elsewhere = on.elsewhere;
             owed = λ same key. on.owed key;
             concludes = λ none c is_so. absurd cc;
@@ -155,11 +157,12 @@ module _ (hash : RecordKey → ℕ) (seat : ℕ) (caller : Caller) (call : Call)
                 does = subst (λ (t : Turn). TurnsAt hash t did2 seat (world pool.images locks change)
                     (world pool'.images locks2 r.step.after))
                     (sym (paid_turn hash p v (store_of pool.images) all_paid))
-                    (subst (λ (w : World). TurnsAt hash no_ask did2 seat w (world pool'.images locks2 r.step.after)) same
-                    r.step.does);
+                    (subst (λ (w : World). TurnsAt hash no_ask did2 seat w (world pool'.images locks2 r.step.after))
+                    same r.step.does);
               };
               after = r.after;
               still = r.still;
+              reads = r.reads;
               elsewhere = r.elsewhere;
               owed = λ kept key. r.owed kept key
                   ∙ sym (owes_nothing_at_end hash seat names p v records pool locks change y all_paid key);
@@ -183,6 +186,7 @@ module _ (hash : RecordKey → ℕ) (seat : ℕ) (caller : Caller) (call : Call)
             aim = record {
               caller = r.aim.caller;
               call = r.aim.call;
+              most = r.aim.most;
               decides = λ none some. absurd cc;
               stays = r.aim.stays;
               bytes = r.aim.bytes;

@@ -2,10 +2,11 @@
 use Rattle.std.proofs.Common.{◌≡◌, refl, sym, ap, ◌∙◌, subst, ℕ, suc, ◌++◌, false, List, [], ◌∷◌, length, None, arith}
 use Rattle.std.proofs.lemmas.Bool.{true≢false}
 use Rattle.xsi_calls.proofs.Names.{FileFault, GivesBack, MakesNameStep, row_of-same, writes_none}
+use Rattle.step_rules.specs.declared.kind.Kind.{Kind}
 use Rattle.xsi_calls.specs.declared.conclusion.Conclusion.{Conclusion}
 use Rattle.xsi_calls.specs.declared.stage.Stage.{Stage}
 use Rattle.xsi_calls.specs.declared.stage.Stage.TheVariants.{Undecided, Paying, Releasing}
-use Rattle.xsi_calls.specs.Words.{Blocked, Call, Caller, Change, Ended, Fault, IsSeat, Lock, Moved, NearsOrSpares, PoolState, Progress, RecordKey, Records, State, Table, UndecidedCall, is_fault, row_of, with_row}
+use Rattle.xsi_calls.specs.Words.{Blocked, Call, Caller, Change, Ended, Fault, IsSeat, Lock, Moved, NearsOrSpares, PoolState, Progress, RecordKey, Records, State, Table, UndecidedCall, is_fault, is_write, row_of, with_row}
 use Rattle.xsi_calls.specs.Machine.{CallView, call_locks, is_paying, is_undecided, locks_at}
 use Rattle.xsi_calls.specs.Calling.{IsReleasing}
 use Rattle.xsi_calls.specs.CallSteps.{MakesRelease, StepsCall}
@@ -33,6 +34,7 @@ module _ (seat : ℕ) (caller : Caller) (call : Call) (u : UndecidedCall) (concl
   module _ (did : Progress FileFault) (names' : List Lock) (locks' : Table) (fine : is_fault did ≡ false)
       (is_end : (did ≡ Ended → names ≡ []) × (names ≡ [] → did ≡ Ended)) (over : did ≡ Ended → names' ≡ [])
       (row' : locks' ≡ with_row locks seat names') (step : MakesNameStep seat None did locks locks')
+      (reads : is_write did ≡ false)
       (near : (pool : PoolState) → NearsOrSpares did (length names) (length names') pool pool) where
     steps : (hash : RecordKey → ℕ) (s : State) (records : Records) (pool : PoolState) (change : Change) →
         IsReleasing hash seat names pool locks change →
@@ -42,6 +44,7 @@ module _ (seat : ℕ) (caller : Caller) (call : Call) (u : UndecidedCall) (concl
           step = on;
           after = records;
           still = λ unwritten. refl;
+          reads = λ reading. reads;
           elsewhere = λ key free. refl;
           owed = λ same key. refl;
           concludes = λ none c is_so. absurd cc;
@@ -60,6 +63,7 @@ module _ (seat : ℕ) (caller : Caller) (call : Call) (u : UndecidedCall) (concl
         aim = record {
           caller = refl;
           call = refl;
+          most = refl;
           decides = λ none some. absurd cc;
           stays = λ c is. is;
           bytes = λ some. refl;
@@ -79,11 +83,12 @@ module _ (seat : ℕ) (caller : Caller) (call : Call) (u : UndecidedCall) (concl
       let (last, is) = gives.1 in
       makes (Moved kind) names' locks' refl
       (λ e. absurd cc, λ none. absurd (some_there names' last (sym is ∙ none))) (λ e. absurd cc) row' step
+      (ap (λ (k : Kind). is_write {F = FileFault} (Moved k)) gives.0)
       (λ pool. let more = ap length is ∙ one_more names' last in omega (arith, more))
   gives_back (Blocked other) names' locks' gives row' step = absurd gives
   gives_back (Fault fault) names' locks' gives row' step = absurd gives
   gives_back Ended names' locks' gives row' step =
-      makes Ended names' locks' refl (λ e. gives.0, λ none. refl) (λ e. gives.1) row' step (λ pool. tt)
+      makes Ended names' locks' refl (λ e. gives.0, λ none. refl) (λ e. gives.1) row' step refl (λ pool. tt)
 
 abbrev at_stage : CallView → UndecidedCall → Stage → CallView
 at_stage m u stage = record { caller = m.caller; call = m.call; undecided = u; stage = stage }

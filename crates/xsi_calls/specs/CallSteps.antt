@@ -1,13 +1,14 @@
 -- What a step of a call does. docs/STEPS.md, "Calls".
-use Rattle.std.specs.Prelude.{ℕ, ◌≡◌, ◌↔◌, true, false, not, Bool, Some, None, IsSome}
+use Rattle.std.specs.Prelude.{ℕ, ◌≡◌, ◌↔◌, true, false, not, Bool, Option, Some, None, IsSome, Result, Ok, Err}
 use Rattle.file_pages.specs.declared.fault.FileFault.{FileFault}
 use Rattle.step_rules.specs.declared.kind.Kind.TheVariants.{Decide}
 use Rattle.xsi_calls.specs.declared.conclusion.Conclusion.{Conclusion}
 use Rattle.xsi_calls.specs.declared.stage.Stage.{Stage}
 use Rattle.xsi_calls.specs.declared.stage.Stage.TheVariants.{Undecided, Paying, Releasing}
-use Rattle.xsi_calls.specs.Words.{Blocked, Call, Change, Ended, Exclusive, Fault, IsBehind, IsPaying, IsReady, Moved, NearsOrSpares, OnlyWrites, PoolState, Progress, RecordKey, Records, State, Step, Table, TrialLacksRoom, UndecidedCall, guard_of, has_no_room, is_fault, is_write, its_plan, kind_of, overlaid, store_of, trials_of, with_row, world}
-use Rattle.xsi_calls.specs.Concluding.{IsRightConclusion}
-use Rattle.xsi_calls.specs.Machine.{CallView, IsOver, call_facts, call_left, call_locks, call_owes, call_turn, conclusion_of}
+use Rattle.undecided_calls.specs.Deciding.{IsDecidedIn}
+use Rattle.xsi_calls.specs.Words.{Blocked, Call, Change, Ended, Exclusive, Fault, IsBehind, IsPaying, IsReady, IsUndecided, Moved, NearsOrSpares, OnlyWrites, PoolState, Progress, RecordKey, Records, Settled, State, Step, Table, TrialLacksRoom, UndecidedCall, begun_payment, guard_of, has_no_room, is_fault, is_write, its_plan, kind_of, overlaid, store_of, trials_of, with_row, world}
+use Rattle.xsi_calls.specs.Concluding.{IsRightConclusion, conclusion_by}
+use Rattle.xsi_calls.specs.Machine.{CallView, IsOver, IsReading, call_facts, call_left, call_locks, call_owes, call_turn, conclusion_of}
 use Rattle.xsi_calls.specs.Calling.{IsCalling, IsReleasing}
 
 -- ---- whatever the device gives
@@ -15,6 +16,8 @@ use Rattle.xsi_calls.specs.Calling.{IsCalling, IsReleasing}
 pub record KeepsCall {F : Type 0} (did : Progress F) (old new : CallView) : Type 0 where
   pub caller : new.caller ≡ old.caller
   pub call : new.call ≡ old.call
+  -- the bytes of its answer have room for as many
+  pub most : new.undecided.questions.room.most ≡ old.undecided.questions.room.most
   -- it comes to something at its Decide alone
   pub decides : conclusion_of old ≡ None → IsSome (conclusion_of new) → did ≡ Moved Decide
   -- and once; with the bytes of its answer
@@ -44,6 +47,8 @@ pub record StepsCall {F : Type 0} (hash : RecordKey → ℕ) (seat : ℕ) (s : S
       change
   pub after : Records
   pub still : is_write did ≡ false → after ≡ records
+  -- where it neither tries nor pays no record is written
+  pub reads : IsReading new.undecided.trials new.stage → is_write did ≡ false
   -- a record whose name it does not hold Exclusive stays
   pub elsewhere : (key : RecordKey) → (kind_of new.undecided.questions.names (guard_of key) ≡ Some Exclusive → ⊥) →
       after key ≡ records key
@@ -59,6 +64,34 @@ pub record StepsCall {F : Type 0} (hash : RecordKey → ℕ) (seat : ℕ) (s : S
   pub full : has_no_room old.undecided ≡ false → has_no_room new.undecided ≡ true →
       TrialLacksRoom hash (its_plan old.call old.undecided.questions) (trials_of old.undecided).due
       (world pool'.images locks' change)
+
+-- ---- the Decide, behind the last step of what a call asks and tries
+
+-- over each system of which it knows what it was told it comes to this as it may, and it pays from then on
+pub record ComesTo (hash : RecordKey → ℕ) (call : Call) (stopped : Bool) (old new : UndecidedCall) (stage : Stage)
+    : Type 0 where
+  pub settled : Option Settled
+  pub decided : (seat : ℕ) (s : State) (records : Records) (pool : PoolState) (locks : Table) (change : Change) →
+      IsUndecided hash seat call s old records pool locks change → s.stopped ≡ stopped →
+      IsDecidedIn hash seat call s old.questions settled (trials_of old) records pool locks change
+  pub questions : new.questions ≡ old.questions
+  -- its trials are taken out
+  pub untried : new.trials ≡ None
+  pub pays : stage ≡ Paying (begun_payment hash settled (trials_of old)) (conclusion_by settled)
+
+-- it was told what no system has
+pub record HasNoSystem (hash : RecordKey → ℕ) (call : Call) (stopped : Bool) (old new : UndecidedCall)
+    (before stage : Stage) : Type 0 where
+  pub never : (seat : ℕ) (s : State) (records : Records) (pool : PoolState) (locks : Table) (change : Change) →
+      IsUndecided hash seat call s old records pool locks change → s.stopped ≡ stopped → ⊥
+  pub questions : new.questions ≡ old.questions
+  pub untried : new.trials ≡ None
+  pub stays : stage ≡ before
+
+abbrev pub Decides : {X E : Type 0} → (RecordKey → ℕ) → Call → Bool → Result X E → (old new : UndecidedCall) →
+    (before stage : Stage) → Type 0
+Decides hash call stopped (Ok x) old new before stage = ComesTo hash call stopped old new stage
+Decides hash call stopped (Err e) old new before stage = HasNoSystem hash call stopped old new before stage
 
 abbrev pub is_end : {F : Type 0} → Progress F → Bool
 is_end (Moved kind) = false

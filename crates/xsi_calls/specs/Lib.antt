@@ -1,4 +1,5 @@
 pub mod Words
+pub mod Below
 pub mod Concluding
 pub mod Machine
 pub mod Calling

@@ -1,5 +1,5 @@
 -- A call as one machine: what it holds, knows, asks for and owes at each place. docs/STEPS.md, "Calls".
-use Rattle.std.specs.Prelude.{ℕ, ◌≡◌, ◌+◌, Bool, true, false, List, [], Option, Some, None, length}
+use Rattle.std.specs.Prelude.{ℕ, ◌≡◌, ◌+◌, Bool, true, false, List, [], Option, Some, None, length, ⊤}
 use Rattle.queue_model.specs.declared.answer.Answer.{Answer}
 use Rattle.step_rules.specs.Turns.{no_ask}
 use Rattle.call_payments.specs.Laws.{MOST_PAYMENT_STEPS}
@@ -7,7 +7,7 @@ use Rattle.xsi_calls.specs.declared.conclusion.Conclusion.{Conclusion}
 use Rattle.xsi_calls.specs.Concluding.{answer_in}
 use Rattle.xsi_calls.specs.declared.stage.Stage.{Stage}
 use Rattle.xsi_calls.specs.declared.stage.Stage.TheVariants.{Undecided, Paying, Releasing}
-use Rattle.xsi_calls.specs.Words.{MAX_NAMES, Writes, Call, Caller, HasRoom, IsCalm, IsFresh, IsPaid, KnowsNear, Known, Lock, Owes, RecordKey, State, Store, Turn, UndecidedCall, caller_of, its_plan, owes_now, payment_facts, payment_left, payment_locks, payment_turn, undecided_facts, undecided_left, undecided_locks, undecided_owes, undecided_turn}
+use Rattle.xsi_calls.specs.Words.{MAX_NAMES, Writes, Call, Caller, HasRoom, IsCalm, IsFresh, IsPaid, KnowsNear, Known, Lock, Owes, RecordKey, State, Store, Trials, Turn, UndecidedCall, caller_of, its_plan, owes_now, payment_facts, payment_left, payment_locks, payment_turn, undecided_facts, undecided_left, undecided_locks, undecided_owes, undecided_turn}
 
 -- a call, with what it has asked and the names that it holds, and where it stands
 pub record CallView : Type 0 where
@@ -58,6 +58,13 @@ abbrev pub is_paying : Stage → Bool
 is_paying Undecided = false
 is_paying (Paying payment conclusion) = true
 is_paying (Releasing conclusion) = false
+
+-- it asks, or gives its names back
+abbrev pub IsReading : Option Trials → Stage → Type 0
+IsReading None Undecided = ⊤
+IsReading (Some t) Undecided = ⊥
+IsReading trials (Paying payment conclusion) = ⊥
+IsReading trials (Releasing conclusion) = ⊤
 
 -- ---- locks, facts, turns, and what is owed
 

@@ -10,6 +10,7 @@ pub use Rattle.undecided_calls.specs.Knowing.{IsUndecided}
 pub use Rattle.undecided_calls.specs.UndecidedSteps.{AsksOn, GoesOn, IsBehind, KeepsUndecided}
 pub use Rattle.undecided_calls.specs.Deciding.{IsDecided}
 pub use Rattle.undecided_calls.specs.declared.decided.Decided.{Decided}
+pub use Rattle.undecided_calls.specs.declared.trials.Trials.{Trials}
 pub use Rattle.undecided_calls.specs.declared.undecided.UndecidedCall.{UndecidedCall}
 pub use Rattle.xsi_inquiry.specs.Rooms.{HasRoom}
 pub use Rattle.xsi_inquiry.specs.Telling.{most_asked}

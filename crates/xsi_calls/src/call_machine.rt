@@ -2,10 +2,10 @@
 
 ghost use Rattle.std.specs.Prelude.{◌≡◌, Bool, IfOk, IfErr, Some, true, false, not};
 ghost use Rattle.xsi_calls.specs.declared.conclusion.Conclusion.TheVariants.{Waits};
-ghost use Rattle.xsi_calls.specs.Words.{Change, IsReady, IsSeat, NearsOrSpares, OnlyWrites, Records, State, is_fault, row_of, store_of, with_row};
+ghost use Rattle.xsi_calls.specs.Words.{CanDecide, Change, IsReady, IsSeat, NearsOrSpares, OnlyWrites, Records, State, is_fault, row_of, store_of, with_row};
 ghost use Rattle.xsi_calls.specs.Machine.{Begins, IsOver, answer_of_call, call_left, call_locks, conclusion_of, is_paying, is_undecided};
 ghost use Rattle.xsi_calls.specs.Calling.{IsCalling};
-ghost use Rattle.xsi_calls.specs.CallSteps.{KeepsCall, MakesCall, MakesRelease, StepsCall, is_end};
+ghost use Rattle.xsi_calls.specs.CallSteps.{Decides, KeepsCall, MakesCall, MakesRelease, StepsCall, is_end};
 
 use crate::conclusion::Conclusion;
 use crate::stage::Stage;
@@ -20,7 +20,7 @@ use std::alloc::Global;
 use std::marker::Model;
 use step_rules::{Kind, Progress};
 use undecided_calls::{Decided, UndecidedCall};
-use xsi_inquiry::Room;
+use xsi_inquiry::{NotASystem, Room};
 
 /// A call of a seat as one machine. It is lent pool, lock table, pseudokeys and the stop mark at
 /// each step, and owns the room for its answer: no step takes memory.
@@ -76,7 +76,8 @@ impl CallMachine {
     pub fn begin_again(&mut self)
         requires waits { conclusion_of self.old ≡ Some Waits }
         requires over { IsOver self.old }
-        ensures { Begins self.old.caller self.old.call self.new }
+        ensures begins { Begins self.old.caller self.old.call self.new }
+        ensures room { self.new.undecided.questions.room ≡ self.old.undecided.questions.room }
     {
         self.undecided.begin_again(self.caller, &self.call);
         self.stage = Stage::Undecided;
@@ -120,6 +121,27 @@ impl CallMachine {
     {
         match self.conclusion() {
             Some(conclusion) => conclusion.answer_in(self.undecided.into_room()),
+            None => None,
+        }
+    }
+
+    /// Room for another copy of its answer.
+    pub fn try_twin(&self) -> Result<Room, NoMemory>
+        ensures { IfOk result (λ twin. twin.most ≡ self.now.undecided.questions.room.most) }
+    {
+        self.undecided.questions().room().try_twin()
+    }
+
+    /// The answer, with a copy of its bytes in other room for as many; none where it has come to
+    /// none. No memory is taken.
+    pub fn answer_in(&self, other: Room) -> Option<Answer>
+        requires { other.most ≡ self.now.undecided.questions.room.most }
+        ensures { result ≡ answer_of_call self.now }
+    {
+        match self.conclusion() {
+            Some(conclusion) => {
+                conclusion.answer_in(self.undecided.questions().room().copied_to(other))
+            }
             None => None,
         }
     }
@@ -196,13 +218,16 @@ impl CallMachine {
             return did;
         }
         self.undecided.questions().keep_order();
-        let Ok(decided) = self.undecided.decide(&self.call, stopped) else {
-            return Progress::Fault(FileFault::Failed);
-        };
-        let Decided { settled, trials } = decided;
-        let payment = Payment::begin(settled, trials, keys);
-        self.stage = Stage::Paying(payment, Conclusion::of(settled));
-        Progress::Moved(Kind::Decide)
+        match decide(
+            &mut self.undecided,
+            &mut self.stage,
+            &self.call,
+            keys,
+            stopped,
+        ) {
+            Ok(()) => Progress::Moved(Kind::Decide),
+            Err(_) => Progress::Fault(FileFault::Failed),
+        }
     }
 
     /// One step of what it owes; behind the last one it gives its names back.
@@ -244,6 +269,26 @@ impl CallMachine {
     {
         self.undecided.give_back(locks, seat)
     }
+}
+
+/// What a call comes to that has asked and tried all, and what it pays from then on. It stands apart,
+/// since each step would make room for what it alone needs.
+#[inline(never)]
+fn decide<K: PseudoKey>(
+    undecided: &mut UndecidedCall,
+    stage: &mut Stage,
+    call: &Call,
+    keys: &K,
+    stopped: bool,
+) -> Result<(), NotASystem>
+    requires { CanDecide call.now undecided.old }
+    ensures { Decides (K.of_key keys.now) call.now stopped result undecided.old undecided.new
+        stage.old stage.new }
+{
+    let Decided { settled, trials } = undecided.decide(call, stopped)?;
+    let payment = Payment::begin(settled, trials, keys);
+    *stage = Stage::Paying(payment, Conclusion::of(settled));
+    Ok(())
 }
 
 /// Whether it has ended.

@@ -4,7 +4,7 @@ use Rattle.std.specs.Prelude.{ℕ, ◌==◌, nat_lt, Bool, not, ◌&&◌, [], �
 use Rattle.queue_model.specs.declared.permissions.Permissions.{Permissions}
 use Rattle.queue_model.specs.Access.{changed, is_owner}
 use Rattle.queue_records.specs.declared.record.Record.TheVariants as records
-use Rattle.type_chains.specs.Reading.{permissions_in}
+use Rattle.xsi_inquiry.specs.type_chains.Reading.{permissions_in}
 use Rattle.xsi_inquiry.specs.declared.decision.Decision.{Decision}
 use Rattle.xsi_inquiry.specs.declared.decision.Decision.TheVariants.{Answers}
 use Rattle.xsi_inquiry.specs.declared.inquiry.NotASystem.{NotASystem}

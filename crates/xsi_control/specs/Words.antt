@@ -1,9 +1,8 @@
 -- Words of the crates below, under one name.
-pub use Rattle.bucket_page.specs.Keys.{is_same}
-pub use Rattle.bucket_page.specs.declared.record_key.RecordKey.{RecordKey}
+pub use Rattle.queue_records.specs.bucket_page.Keys.{is_same}
+pub use Rattle.queue_records.specs.bucket_page.declared.record_key.RecordKey.{RecordKey}
 pub use Rattle.limits.specs.declared.TheConstants.{END_OF_IDS, MAX_QBYTES, MAX_QUEUES, SUPERUSER}
 pub use Rattle.page_locks.specs.declared.lock.LockName.{LockName}
-pub use Rattle.queue_model.proofs.LawfulLemmas.{IsLawful-Effect, IsLawful-create}
 pub use Rattle.queue_model.specs.Access.{is_owner, lacks_access}
 pub use Rattle.queue_model.specs.Lawful.{IsLawful}
 pub use Rattle.queue_model.specs.Places.{IsFreshKey}
@@ -17,7 +16,6 @@ pub use Rattle.queue_model.specs.declared.errno.Errno.{Errno}
 pub use Rattle.queue_model.specs.declared.errno.Errno.TheVariants.{EACCES, EEXIST, EINVAL, ENOENT, ENOSPC, EPERM}
 pub use Rattle.queue_model.specs.declared.permissions.Access.TheVariants.{Read}
 pub use Rattle.queue_model.specs.declared.queue.Queue.{Queue}
-pub use Rattle.queue_records.proofs.Lengths.{length-counter, length-queue}
 pub use Rattle.queue_records.specs.Keys.{guard_of, key_of_key, key_of_queue}
 pub use Rattle.queue_records.specs.Spelling.{counter_key, key_of}
 pub use Rattle.queue_records.specs.declared.counter.Counter.{Counter}
@@ -25,13 +23,9 @@ pub use Rattle.queue_records.specs.declared.queue_entry.QueueEntry.{QueueEntry}
 pub use Rattle.queue_records.specs.declared.record.Record.{Record}
 pub use Rattle.std.specs.List.{All, Contains, find}
 pub use Rattle.std.specs.Prelude.{Err, Ok, Result, nat_lt, not, option_map}
-pub use Rattle.type_chains.proofs.Limits.{in_range}
-pub use Rattle.type_chains.proofs.Tests.{by_guard, mapped}
-pub use Rattle.type_chains.specs.Entries.{counter_of, key_entry, queue_entry}
-pub use Rattle.type_chains.specs.Reading.{info_in, permissions_in}
-pub use Rattle.type_chains.specs.RecordOf.{at_counter, at_key, at_queue, at_queue_of, message_record, record_of, type_record}
-pub use Rattle.xsi_inquiry.proofs.DecisionLemmas.{decides_left, decides_refused}
-pub use Rattle.xsi_inquiry.proofs.LeadLemmas.{Fills, IsNew, Misses, MissesRecord, leads_by}
+pub use Rattle.xsi_inquiry.specs.type_chains.Entries.{counter_of, key_entry, queue_entry}
+pub use Rattle.xsi_inquiry.specs.type_chains.Reading.{info_in, permissions_in}
+pub use Rattle.xsi_inquiry.specs.type_chains.RecordOf.{at_counter, at_key, at_queue, at_queue_of, message_record, record_of, type_record}
 pub use Rattle.xsi_inquiry.specs.Deciding.{IsAnswered, refuses}
 pub use Rattle.xsi_inquiry.specs.Owning.{AscendOnTrial, IsBefore, trial_rank}
 pub use Rattle.xsi_inquiry.specs.Seeking.{IsEntryOf, sought_next}

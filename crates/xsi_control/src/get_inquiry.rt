@@ -2,7 +2,7 @@
 
 ghost use Rattle.std.specs.Prelude.{◌≡◌, slice_get};
 ghost use Rattle.queue_model.specs.Rules.{new_queue};
-ghost use Rattle.type_chains.specs.Entries.{queue_entry};
+ghost use Rattle.xsi_inquiry.specs.type_chains.Entries.{queue_entry};
 ghost use Rattle.xsi_control.specs.Getting.{absent_or_counted, get_locked, made_trials, making_names, one_more};
 
 use page_locks::LockName;

@@ -5,7 +5,7 @@ ghost use Rattle.xsi_control.specs.Setting.{entry_with_settings, set_entry};
 
 use queue_model::{Caller, Errno, MAX_QBYTES, SUPERUSER, SetArguments};
 use queue_records::{QueueEntry, Record};
-use type_chains::permissions_in;
+use xsi_inquiry::type_chains::permissions_in;
 use xsi_inquiry::{Decision, Inquiry, NotASystem, Room, Sought, Verdict, Wanted, Write};
 
 /// A Set (POSIX.1-2017, `msgctl()` with `IPC_SET`). Where `qbytes` is over the limit of all

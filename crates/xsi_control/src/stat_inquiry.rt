@@ -2,7 +2,7 @@
 
 use queue_model::{Access, Caller, Errno};
 use queue_records::Record;
-use type_chains::{info_in, permissions_in};
+use xsi_inquiry::type_chains::{info_in, permissions_in};
 use xsi_inquiry::{Decision, Inquiry, NotASystem, Room, Sought, Verdict, Wanted, Write};
 
 /// A Stat (POSIX.1-2017, `msgctl()` with `IPC_STAT`). It is given an id. It reads the Queue; where

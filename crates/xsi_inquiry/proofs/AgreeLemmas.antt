@@ -2,15 +2,15 @@
 use Rattle.std.proofs.Common.{◌≡◌, ℕ, List, Option, Some, None, refl, ap, ◌∙◌, subst}
 use Rattle.std.specs.Prelude.{option_map, option_and_then, Result, Ok, Err}
 use Rattle.std.specs.List.{Contains}
-use Rattle.page_locks.specs.declared.lock.LockName.{LockName}
-use Rattle.page_locks.specs.declared.lock.LockName.TheVariants.{Counter}
+use Rattle.type_chains.specs.page_locks.declared.lock.LockName.{LockName}
+use Rattle.type_chains.specs.page_locks.declared.lock.LockName.TheVariants.{Counter}
 use Rattle.queue_model.specs.declared.call.Call.{Call}
 use Rattle.queue_model.specs.declared.call.Call.TheVariants.{Get, Send, Receive, Stat, Set, Remove}
 use Rattle.queue_model.specs.declared.queue.Queue.{Queue}
 use Rattle.queue_model.specs.State.{State}
-use Rattle.queue_records.specs.declared.record.Record.TheVariants as records
+use Rattle.type_chains.specs.queue_records.declared.record.Record.TheVariants as records
 use Rattle.type_chains.specs.Entries.{queue_entry}
-use Rattle.queue_records.specs.Keys.{key_of_queue}
+use Rattle.type_chains.specs.queue_records.Keys.{key_of_queue}
 use Rattle.type_chains.specs.RecordOf.{message_record, record_of, type_record}
 use Rattle.xsi_inquiry.specs.Agreeing.{AgreeOnCall, AgreeOnId, AgreeOnKey, AgreesFor, IsSoNear}
 use Rattle.xsi_inquiry.specs.Telling.{Gives}

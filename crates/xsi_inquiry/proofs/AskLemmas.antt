@@ -1,11 +1,11 @@
 -- What is asked is the same in systems that agree at what the call names.
 use Rattle.std.proofs.Common.{◌≡◌, ◌∙◌, refl, subst, ℕ, Bool, nat_lt, Option, Some, None}
-use Rattle.bucket_page.specs.declared.record_key.RecordKey.{RecordKey}
+use Rattle.type_chains.specs.bucket_page.declared.record_key.RecordKey.{RecordKey}
 use Rattle.queue_model.specs.State.{State}
-use Rattle.queue_records.specs.declared.record.Record.{Record}
-use Rattle.queue_records.specs.declared.record.Record.TheVariants as records
-use Rattle.queue_records.specs.Keys.{key_of_queue}
-use Rattle.queue_records.specs.Spelling.{counter_key}
+use Rattle.type_chains.specs.queue_records.declared.record.Record.{Record}
+use Rattle.type_chains.specs.queue_records.declared.record.Record.TheVariants as records
+use Rattle.type_chains.specs.queue_records.Keys.{key_of_queue}
+use Rattle.type_chains.specs.queue_records.Spelling.{counter_key}
 use Rattle.type_chains.specs.RecordOf.{record_of}
 use Rattle.xsi_inquiry.specs.declared.sought.Sought.{Sought}
 use Rattle.xsi_inquiry.specs.declared.sought.Sought.TheVariants.{Unread, Absent, Found, Refused}

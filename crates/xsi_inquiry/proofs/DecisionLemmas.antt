@@ -2,7 +2,7 @@
 use Rattle.std.proofs.Common.{arith}
 use Rattle.std.specs.Prelude.{◌≡◌, ℕ, refl, List, Some}
 use Rattle.std.proofs.lemmas.List.Elements.{All-nil}
-use Rattle.page_locks.specs.declared.lock.LockName.{LockName}
+use Rattle.type_chains.specs.page_locks.declared.lock.LockName.{LockName}
 use Rattle.queue_model.specs.declared.call.Call.{Call}
 use Rattle.queue_model.specs.declared.caller.Caller.{Caller}
 use Rattle.queue_model.specs.declared.errno.Errno.{Errno}

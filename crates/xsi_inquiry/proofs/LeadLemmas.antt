@@ -4,18 +4,18 @@ use Rattle.std.specs.Prelude.{◌==◌, ◌&&◌, option_map, unwrap_or, IfSome,
 use Rattle.std.specs.List.{All}
 use Rattle.std.proofs.lemmas.Bool.{eqb-true}
 use Rattle.std.proofs.lemmas.List.Elements.{All-nil, All-cons, All-head, All-tail, All-weaker}
-use Rattle.bucket_page.specs.declared.record_key.RecordKey.{RecordKey}
-use Rattle.bucket_page.specs.Keys.{is_same}
-use Rattle.fields.proofs.Tests.{both_true}
-use Rattle.queue_records.specs.declared.record.Record.{Record}
-use Rattle.queue_records.specs.declared.record.Record.TheVariants as records
-use Rattle.queue_records.specs.declared.links.Link.{Link}
-use Rattle.queue_records.specs.declared.links.Link.TheVariants.{Stays, Ends, LeadsTo}
-use Rattle.queue_records.specs.declared.links.Links.{Links}
-use Rattle.queue_records.specs.declared.links.Links.TheVariants as links
-use Rattle.queue_records.specs.Range.{IsInRange, IsSerial, IsType}
-use Rattle.queue_records.specs.Relinking.{HasSuch, IfLeads, linked, relinked, with_message_links, with_type_links}
-use Rattle.queue_records.specs.Spelling.{key_of}
+use Rattle.type_chains.specs.bucket_page.declared.record_key.RecordKey.{RecordKey}
+use Rattle.type_chains.specs.bucket_page.Keys.{is_same}
+use Rattle.type_chains.proofs.of_fields.Tests.{both_true}
+use Rattle.type_chains.specs.queue_records.declared.record.Record.{Record}
+use Rattle.type_chains.specs.queue_records.declared.record.Record.TheVariants as records
+use Rattle.type_chains.specs.queue_records.declared.links.Link.{Link}
+use Rattle.type_chains.specs.queue_records.declared.links.Link.TheVariants.{Stays, Ends, LeadsTo}
+use Rattle.type_chains.specs.queue_records.declared.links.Links.{Links}
+use Rattle.type_chains.specs.queue_records.declared.links.Links.TheVariants as links
+use Rattle.type_chains.specs.queue_records.Range.{IsInRange, IsSerial, IsType}
+use Rattle.type_chains.specs.queue_records.Relinking.{HasSuch, IfLeads, linked, relinked, with_message_links, with_type_links}
+use Rattle.type_chains.specs.queue_records.Spelling.{key_of}
 use Rattle.type_chains.proofs.Tests.{key_is, mapped}
 use Rattle.xsi_inquiry.specs.declared.write.Write.{Write}
 use Rattle.xsi_inquiry.specs.declared.write.Write.TheVariants.{Replace, Relink, Delete}

@@ -7,11 +7,11 @@ use Rattle.queue_model.specs.Lawful.{IsLawful}
 use Rattle.queue_model.specs.Rules.{Outcome, has_id, on_found, on_queue, refuse}
 use Rattle.queue_model.specs.State.{State}
 use Rattle.queue_model.proofs.ListLemmas.{find-Some}
-use Rattle.queue_records.specs.declared.queue_entry.QueueEntry.{QueueEntry}
-use Rattle.queue_records.specs.declared.record.Record.{Record}
-use Rattle.queue_records.specs.declared.record.Record.TheVariants as records
+use Rattle.type_chains.specs.queue_records.declared.queue_entry.QueueEntry.{QueueEntry}
+use Rattle.type_chains.specs.queue_records.declared.record.Record.{Record}
+use Rattle.type_chains.specs.queue_records.declared.record.Record.TheVariants as records
 use Rattle.type_chains.specs.Entries.{queue_entry}
-use Rattle.queue_records.specs.Keys.{key_of_queue}
+use Rattle.type_chains.specs.queue_records.Keys.{key_of_queue}
 use Rattle.type_chains.specs.RecordOf.{record_of}
 use Rattle.type_chains.proofs.Cases.{found_id}
 use Rattle.type_chains.proofs.Elements.{image_has}

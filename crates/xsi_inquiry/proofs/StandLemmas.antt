@@ -13,10 +13,10 @@ use Rattle.queue_model.specs.Rules.{has_id}
 use Rattle.queue_model.specs.State.{State}
 use Rattle.queue_model.specs.declared.message.Message.{Message}
 use Rattle.queue_model.specs.declared.queue.Queue.{Queue}
-use Rattle.queue_records.specs.declared.record.Record.{Record}
-use Rattle.queue_records.specs.declared.record.Record.TheVariants as records
-use Rattle.queue_records.specs.Fields.{type_number}
-use Rattle.queue_records.specs.Keys.{key_of_message, key_of_queue, key_of_type}
+use Rattle.type_chains.specs.queue_records.declared.record.Record.{Record}
+use Rattle.type_chains.specs.queue_records.declared.record.Record.TheVariants as records
+use Rattle.type_chains.specs.queue_records.Fields.{type_number}
+use Rattle.type_chains.specs.queue_records.Keys.{key_of_message, key_of_queue, key_of_type}
 use Rattle.type_chains.proofs.Limits.{all_types, lawful_queue}
 use Rattle.type_chains.proofs.Pairs.{all_of}
 use Rattle.type_chains.proofs.Tests.{mapped}

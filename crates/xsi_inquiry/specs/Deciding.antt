@@ -2,7 +2,7 @@
 -- docs/QUEUES.md, "Calls".
 use Rattle.std.specs.Prelude.{◌≡◌, ◌⊎◌, ℕ, List, [], length, Some, None, Result, Ok, Err, ⊤, if◌then◌else◌}
 use Rattle.std.specs.List.{All, find}
-use Rattle.page_locks.specs.declared.lock.LockName.{LockName}
+use Rattle.type_chains.specs.page_locks.declared.lock.LockName.{LockName}
 use Rattle.queue_model.specs.declared.answer.Answer.{Answer}
 use Rattle.queue_model.specs.declared.answer.Answer.TheVariants as answers
 use Rattle.queue_model.specs.declared.call.Call.{Call}

@@ -7,3 +7,4 @@ pub mod Slots
 pub mod Sweeping
 pub mod Telling
 pub mod Writing
+pub use Rattle.type_chains.specs as type_chains

@@ -2,12 +2,12 @@
 -- docs/STEPS.md, "Locks", "What a call writes".
 use Rattle.std.specs.Prelude.{◌≡◌, ℕ, ◌<◌, ◌==◌, ◌⊎◌, List, [], ◌∷◌, ⊤, if◌then◌else◌}
 use Rattle.std.specs.List.{All, Contains}
-use Rattle.bucket_page.specs.declared.record_key.RecordKey.{RecordKey}
-use Rattle.page_locks.specs.declared.lock.LockName.{LockName}
-use Rattle.queue_records.specs.declared.layout.TheConstants.{KEY, QUEUE, TYPE, MESSAGE}
-use Rattle.queue_records.specs.declared.record.Record.{Record}
-use Rattle.queue_records.specs.Keys.{guard_of}
-use Rattle.queue_records.specs.Spelling.{key_of}
+use Rattle.type_chains.specs.bucket_page.declared.record_key.RecordKey.{RecordKey}
+use Rattle.type_chains.specs.page_locks.declared.lock.LockName.{LockName}
+use Rattle.type_chains.specs.queue_records.declared.layout.TheConstants.{KEY, QUEUE, TYPE, MESSAGE}
+use Rattle.type_chains.specs.queue_records.declared.record.Record.{Record}
+use Rattle.type_chains.specs.queue_records.Keys.{guard_of}
+use Rattle.type_chains.specs.queue_records.Spelling.{key_of}
 use Rattle.xsi_inquiry.specs.declared.write.Write.{Write}
 use Rattle.xsi_inquiry.specs.declared.write.Write.TheVariants.{Replace, Relink, Delete}
 use Rattle.xsi_inquiry.specs.Writing.{Plan, key_written, writes_of}

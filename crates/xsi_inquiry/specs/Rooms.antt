@@ -1,14 +1,19 @@
 -- Room for the bytes of the message that a Receive takes.
 -- docs/STEPS.md, "Calls".
-use Rattle.std.specs.Prelude.{ℕ, ◌≤◌, min, List, ⊤}
+use Rattle.std.specs.Prelude.{ℕ, ◌≤◌, min, List, length, ⊤}
 use Rattle.queue_model.specs.declared.call.Call.{Call}
 use Rattle.queue_model.specs.declared.call.Call.TheVariants.{Get, Send, Receive, Stat, Set, Remove}
-use Rattle.limits.specs.declared.TheConstants.{MAX_BODY}
+use Rattle.queue_model.specs.limits.declared.TheConstants.{MAX_BODY}
 
 -- the bytes in a room, and as how many it has room for
 pub record Roomful : Type 0 where
   pub bytes : List ℕ
   pub most : ℕ
+
+-- memory for as many bytes was taken, and there are no more
+pub record IsRoom (bytes : List ℕ) (most capacity : ℕ) : Type 0 where
+  pub taken : most ≤ capacity
+  pub fits : length bytes ≤ most
 
 -- the bytes that a call is answered have room
 abbrev pub HasRoom : Call → Roomful → Type 0

@@ -7,9 +7,9 @@ use Rattle.queue_model.specs.declared.errno.Errno.TheVariants.{EIDRM, EINVAL}
 use Rattle.queue_model.specs.declared.queue.Queue.{Queue}
 use Rattle.queue_model.specs.Rules.{Outcome, has_id, on_queue, refuse}
 use Rattle.queue_model.specs.State.{State}
-use Rattle.queue_records.specs.declared.queue_entry.QueueEntry.{QueueEntry}
+use Rattle.type_chains.specs.queue_records.declared.queue_entry.QueueEntry.{QueueEntry}
 use Rattle.type_chains.specs.Entries.{queue_entry}
-use Rattle.queue_records.specs.Keys.{key_of_queue}
+use Rattle.type_chains.specs.queue_records.Keys.{key_of_queue}
 use Rattle.xsi_inquiry.specs.declared.sought.Sought.{Sought}
 use Rattle.xsi_inquiry.specs.declared.sought.Sought.TheVariants.{Unread, Absent, Found, Refused}
 use Rattle.xsi_inquiry.specs.declared.wanted.Wanted.{Wanted}

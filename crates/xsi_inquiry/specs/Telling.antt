@@ -1,12 +1,12 @@
 -- What a call is told of the records of a system.
 -- docs/STEPS.md, "What a call reads".
 use Rattle.std.specs.Prelude.{◌≡◌, ℕ, nat_lt, Bool, Option, Some, None, Result, Ok, Err, ⊤}
-use Rattle.bucket_page.specs.declared.record_key.RecordKey.{RecordKey}
+use Rattle.type_chains.specs.bucket_page.declared.record_key.RecordKey.{RecordKey}
 use Rattle.queue_model.specs.declared.call.Call.{Call}
 use Rattle.queue_model.specs.declared.call.Call.TheVariants.{Get, Send, Receive, Stat, Set, Remove}
 use Rattle.queue_model.specs.Lawful.{IsLawful}
 use Rattle.queue_model.specs.State.{State}
-use Rattle.queue_records.specs.declared.record.Record.{Record}
+use Rattle.type_chains.specs.queue_records.declared.record.Record.{Record}
 use Rattle.type_chains.specs.Fits.{HasFittingNumbers}
 use Rattle.type_chains.specs.RecordOf.{record_of}
 use Rattle.xsi_inquiry.specs.declared.wanted.Wanted.{Wanted}

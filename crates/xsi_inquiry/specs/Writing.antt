@@ -3,12 +3,12 @@
 use Rattle.std.specs.Prelude.{◌≡◌, ℕ, ◌≤◌, List, [], ◌∷◌, length, Option, Some, None, IsSome, ⊤, if◌then◌else◌}
 use Rattle.std.specs.List.{All}
 use Rattle.std.specs.Option.{option_map}
-use Rattle.bucket_page.specs.declared.record_key.RecordKey.{RecordKey}
-use Rattle.bucket_page.specs.Keys.{is_same}
-use Rattle.queue_records.specs.declared.record.Record.{Record}
-use Rattle.queue_records.specs.Range.{IsInRange}
-use Rattle.queue_records.specs.Relinking.{AreLinksInRange, HasSuch, relinked}
-use Rattle.queue_records.specs.Spelling.{key_of, value_of}
+use Rattle.type_chains.specs.bucket_page.declared.record_key.RecordKey.{RecordKey}
+use Rattle.type_chains.specs.bucket_page.Keys.{is_same}
+use Rattle.type_chains.specs.queue_records.declared.record.Record.{Record}
+use Rattle.type_chains.specs.queue_records.Range.{IsInRange}
+use Rattle.type_chains.specs.queue_records.Relinking.{AreLinksInRange, HasSuch, relinked}
+use Rattle.type_chains.specs.queue_records.Spelling.{key_of, value_of}
 use Rattle.xsi_inquiry.specs.declared.write.TheConstants.{MAX_TRIALS, MAX_WRITES}
 use Rattle.xsi_inquiry.specs.declared.write.Write.{Write}
 use Rattle.xsi_inquiry.specs.declared.write.Write.TheVariants.{Replace, Relink, Delete}

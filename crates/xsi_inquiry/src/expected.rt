@@ -1,11 +1,11 @@
 //! The record that a key's kind lets expect.
 
 ghost use Rattle.std.specs.Prelude.{◌≡◌, IfOk, Ok};
-ghost use Rattle.queue_records.specs.declared.message_entry.MessageEntry.{MessageEntry};
-ghost use Rattle.queue_records.specs.declared.record.Record.TheVariants as records;
+ghost use Rattle.type_chains.specs.queue_records.declared.message_entry.MessageEntry.{MessageEntry};
+ghost use Rattle.type_chains.specs.queue_records.declared.record.Record.TheVariants as records;
 
 use crate::inquiry::NotASystem;
-use queue_records::{Counter, KeyEntry, MessageEntry, QueueEntry, Record, TypeEntry};
+use type_chains::queue_records::{Counter, KeyEntry, MessageEntry, QueueEntry, Record, TypeEntry};
 
 /// The Counter.
 pub fn counter_in(found: Record<'_>) -> Result<Counter, NotASystem>

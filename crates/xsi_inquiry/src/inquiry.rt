@@ -1,11 +1,11 @@
 //! How a call asks for records and decides on them.
 
 ghost use Rattle.std.specs.Prelude.{◌≡◌, ◌<◌, ◌≤◌, ℕ, Bool, List, Option, None, Result, OnErr, OnOk, slice_get, slice_index_or};
-ghost use Rattle.page_locks.specs.declared.lock.LockName.{LockName};
+ghost use Rattle.type_chains.specs.page_locks.declared.lock.LockName.{LockName};
 ghost use Rattle.queue_model.specs.declared.call.Call.{Call};
 ghost use Rattle.queue_model.specs.declared.caller.Caller.{Caller};
 ghost use Rattle.queue_model.specs.State.{State};
-ghost use Rattle.queue_records.specs.declared.record.Record.{Record};
+ghost use Rattle.type_chains.specs.queue_records.declared.record.Record.{Record};
 ghost use Rattle.xsi_inquiry.specs.declared.decision.Decision.{Decision};
 ghost use Rattle.xsi_inquiry.specs.declared.inquiry.NotASystem.{NotASystem};
 ghost use Rattle.xsi_inquiry.specs.declared.wanted.Wanted.{Wanted};
@@ -20,8 +20,8 @@ use crate::room::Room;
 use crate::wanted::Wanted;
 use crate::write::Write;
 use queue_model::Caller;
-use queue_records::Record;
 use thiserror::Error;
+use type_chains::queue_records::Record;
 
 /// What was told are not the records of a system.
 #[derive(Clone, Copy, Debug, PartialEq, Eq, Error)]

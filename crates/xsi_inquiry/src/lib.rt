@@ -22,6 +22,7 @@ pub use near::{carry_over, others_leave_an_id, tell, tell_given};
 pub use room::Room;
 pub use slots::next_write;
 pub use sought::Sought;
+pub use type_chains;
 pub use verdict::{Taken, Verdict};
 pub use wanted::Wanted;
 pub use write::{MAX_TRIALS, MAX_WRITES, Write};

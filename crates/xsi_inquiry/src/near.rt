@@ -2,7 +2,7 @@
 
 ghost use Rattle.std.specs.Prelude.{◌≡◌, ◌≢◌, ℕ, List, OnErr, OnOk, Some, ◌<◌};
 ghost use Rattle.std.specs.List.{Contains};
-ghost use Rattle.page_locks.specs.declared.lock.LockName.{LockName};
+ghost use Rattle.type_chains.specs.page_locks.declared.lock.LockName.{LockName};
 ghost use Rattle.queue_model.specs.declared.answer.Answer.{Answer};
 ghost use Rattle.queue_model.specs.declared.call.Call.{Call};
 ghost use Rattle.queue_model.specs.declared.caller.Caller.{Caller};
@@ -15,7 +15,7 @@ ghost use Rattle.xsi_inquiry.specs.Telling.{AsksGiven, AsksRecord, Gives, IsFile
 
 use crate::inquiry::{Inquiry, NotASystem};
 use crate::room::Room;
-use queue_records::Record;
+use type_chains::queue_records::Record;
 
 /// Tells a call the record that it asked for under names that it holds. What it knew of each system
 /// that it could not tell from s it knows of each such system afterwards too.

@@ -16,14 +16,14 @@ pub struct Room {
 }
 
 impl Model for Room {
-    ghost use Rattle.std.specs.Prelude.{◌≤◌, vec_capacity};
-    ghost use Rattle.xsi_inquiry.specs.Rooms.{Roomful};
+    ghost use Rattle.std.specs.Prelude.{vec_capacity};
+    ghost use Rattle.xsi_inquiry.specs.Rooms.{IsRoom, Roomful};
 
     ghost Value = { Roomful };
 
     ghost view = { λ r. record { bytes = r.bytes.items; most = r.most } };
 
-    ghost invariant = { λ r. r.most ≤ vec_capacity r.bytes };
+    ghost invariant = { λ r. IsRoom r.bytes.items r.most (vec_capacity r.bytes) };
 }
 
 impl Room {
@@ -48,6 +48,29 @@ impl Room {
         let most = bytes.len().min(self.most);
         self.bytes.clear();
         self.bytes.extend_from_slice(&bytes[..most]).unwrap();
+    }
+
+    /// Room for as many bytes, in which there are none yet.
+    pub fn try_twin(&self) -> Result<Room, NoMemory>
+        ensures { IfOk result (λ twin. twin.most ≡ self.now.most) }
+    {
+        let alloc: Global = *self.bytes.allocator();
+        let bytes = Vec::with_capacity(alloc, self.most)?;
+        Ok(Room {
+            bytes,
+            most: self.most,
+        })
+    }
+
+    /// Other room for as many bytes, with a copy of these in the place of what was there. No memory
+    /// is taken.
+    pub fn copied_to(&self, other: Room) -> Room
+        requires { other.most ≡ self.now.most }
+        ensures { result ≡ self.now }
+    {
+        let mut other = other;
+        other.fill(self.bytes.as_slice());
+        other
     }
 
     /// The bytes, as the body of a message.

@@ -9,7 +9,7 @@ use crate::expected::queue_in;
 use crate::inquiry::NotASystem;
 use crate::wanted::Wanted;
 use queue_model::Errno;
-use queue_records::{QueueEntry, Record, queue_key};
+use type_chains::queue_records::{QueueEntry, Record, queue_key};
 
 /// What is known of the queue of an id.
 #[derive(Clone, Copy, Debug, PartialEq)]

@@ -1,7 +1,7 @@
 //! Writes of records that a decision leaves to be carried out.
 
-use bucket_page::RecordKey;
-use queue_records::{Links, Record};
+use type_chains::bucket_page::RecordKey;
+use type_chains::queue_records::{Links, Record};
 
 /// As many writes follow a decision at most.
 pub const MAX_WRITES: usize = 7;

@@ -1,5 +1,5 @@
 -- Words of the crates below, under one name for the proofs of this one.
-pub use Rattle.bucket_page.specs.Keys.{is_same}
+pub use Rattle.queue_records.specs.bucket_page.Keys.{is_same}
 pub use Rattle.page_locks.specs.declared.lock.LockName.{LockName}
 pub use Rattle.queue_model.proofs.LawfulLemmas.{IsLawful-set, IsLawfulQueue-remove}
 pub use Rattle.queue_model.proofs.ListLemmas.{find-None, position_None}

@@ -1,5 +1,5 @@
 -- Words of the crates below, under one name.
-pub use Rattle.bucket_page.specs.declared.record_key.RecordKey.{RecordKey}
+pub use Rattle.queue_records.specs.bucket_page.declared.record_key.RecordKey.{RecordKey}
 pub use Rattle.queue_model.proofs.ListLemmas.{find-None-All, find-Some, map-remove}
 pub use Rattle.queue_model.specs.Lawful.{IsLawful, IsLawfulMessage, IsLawfulQueue}
 pub use Rattle.queue_model.specs.Rules.{has_id, outcome, put_off, receive_found, receive_from, refuse, with_queue, without_message}

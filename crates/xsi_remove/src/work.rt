@@ -54,11 +54,12 @@ impl Work {
     pub(crate) fn begin<K: PseudoKey>(turn: Turn, turns: u16, keys: &K) -> Work
         ensures { result ≡ begun_work (K.of_key keys.now) turn turns }
     {
+        let key = message_key(turn.id, turn.serial);
         Work {
             turn,
             deed: Deed::Reading,
             turns,
-            access: access_for(&turn, Deed::Reading, keys),
+            access: Access::find(key, keys.of(&key)),
         }
     }
 
@@ -133,29 +134,31 @@ impl Work {
         ensures { self.new ≡ with_deed (K.of_key keys.now) deed self.old }
     {
         self.deed = deed;
-        self.access = access_for(&self.turn, deed, keys);
+        begin_access(&mut self.access, &self.turn, deed, keys);
     }
 }
 
-/// The access of a deed.
-fn access_for<K: PseudoKey>(turn: &Turn, deed: Deed, keys: &K) -> Access
-    ensures { result ≡ begun (purpose_of deed turn.now)
+/// The access becomes that of a deed, in place.
+fn begin_access<K: PseudoKey>(access: &mut Access, turn: &Turn, deed: Deed, keys: &K)
+    ensures { access.new ≡ begun (purpose_of deed turn.now)
         (K.of_key keys.now (aimed_at (purpose_of deed turn.now))) }
 {
     match deed {
         Deed::Reading => {
             let key = message_key(turn.id, turn.serial);
-            Access::find(key, keys.of(&key))
+            access.begin_find(key, keys.of(&key));
         }
-        Deed::DeletingMessage => deletion(message_key(turn.id, turn.serial), keys),
-        Deed::DeletingType(mtype) => deletion(type_key(turn.id, mtype), keys),
+        Deed::DeletingMessage => {
+            begin_deletion(access, message_key(turn.id, turn.serial), keys);
+        }
+        Deed::DeletingType(mtype) => begin_deletion(access, type_key(turn.id, mtype), keys),
     }
 }
 
-fn deletion<K: PseudoKey>(key: RecordKey, keys: &K) -> Access
-    ensures { result ≡ begun (ToWrite (Delete key)) (K.of_key keys.now key) }
+fn begin_deletion<K: PseudoKey>(access: &mut Access, key: RecordKey, keys: &K)
+    ensures { access.new ≡ begun (ToWrite (Delete key)) (K.of_key keys.now key) }
 {
-    Access::write(&Write::Delete(key), keys.of(&key))
+    access.begin_write(&Write::Delete(key), keys.of(&key));
 }
 
 /// What a find has found of a Message, once a page answered.

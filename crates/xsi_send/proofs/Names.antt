@@ -1,5 +1,14 @@
 -- Words of the crates below, under one name for the proofs of this one.
-pub use Rattle.bucket_page.specs.Keys.{is_same}
+pub use Rattle.queue_model.proofs.ListLemmas.{find-None, find-Some, position_None}
+pub use Rattle.type_chains.proofs.Limits.{all_types, in_range, lawful_queue, types_stand}
+pub use Rattle.type_chains.proofs.Members.{contains_head, contains_tail, head_or_tail, in_map}
+pub use Rattle.type_chains.proofs.OneQueueChanged.{agree_but, found_new}
+pub use Rattle.type_chains.proofs.Pairs.{all_of}
+pub use Rattle.type_chains.proofs.Unique.{find_one, pairs_head, pairs_tail, types_ascend}
+pub use Rattle.xsi_inquiry.proofs.LeadLemmas.{Fills, IsNew, Misses, MissesRecord, leads_by}
+pub use Rattle.xsi_inquiry.proofs.SeekLemmas.{clash}
+pub use Rattle.xsi_inquiry.proofs.SlotLemmas.{InSlot, all_each, each_all, ranked_ascend, slot_all}
+pub use Rattle.queue_records.specs.bucket_page.Keys.{is_same}
 pub use Rattle.queue_model.proofs.EffectLemmas.{Effect-outcome}
 pub use Rattle.queue_model.proofs.LawfulLemmas.{IsLawful-Effect}
 pub use Rattle.queue_model.specs.Selection.{total_bytes}
@@ -26,7 +35,7 @@ pub use Rattle.xsi_inquiry.specs.Deciding.{IsAnswered}
 pub use Rattle.xsi_send.specs.Knowing.{IsOpen, KnowsAt}
 pub use Rattle.xsi_send.specs.Places.{IsBetween, IsPlaceOf, IsWalked}
 pub use Rattle.xsi_send.specs.Planning.{behind_end, higher_write, link_if, links_behind, lower_write, new_type, plan_at, queue_write, takes_more, type_write}
-pub use Rattle.xsi_send.specs.Words.{All, AllPairs, Ascend, At, Caller, Contains, END_OF_SERIALS, Fills, InSlot, IsFiled, IsInRange, IsLawful, IsLawfulMessage, IsLawfulQueue, IsNew, IsOrdered, IsTold, IsType, IsUnder, Leads, LeadsTo, MAX_MESSAGES, MESSAGE, Message, Misses, MissesRecord, Plan, QUEUE, Queue, QueueEntry, Record, RecordKey, Relink, Replace, Send, SendArguments, Sent, State, Stays, TYPE, TypeEntry, Write, agree_but, all_each, all_of, all_types, before, before_place, behind, clash, contains_head, contains_tail, each_all, filter, find, find-None, find-Some, first_of, fold, found_new, guard_of, has_id, has_number, has_serial, head_or_tail, in_range, int_eq, int_lt, is_number, is_of_type, is_same_type, key_of, key_of_message, key_of_type, key_written, last_message, last_of, lawful_queue, leads_by, linked, message_entry, message_of, message_record, pairs_head, pairs_tail, position_None, position_or_len, queue_entry, ranked_ascend, record_of, relinked, serials, serials_of_type, slot_all, somes, trial_rank, type_entry, type_number, type_record, types, types_ascend, types_stand, unwrap_or, value_length, w64, with_message, with_message_links, with_one_more, with_queue, with_type, with_type_links, write_rank}
+pub use Rattle.xsi_send.specs.Words.{All, AllPairs, Ascend, At, Caller, Contains, END_OF_SERIALS, IsFiled, IsInRange, IsLawful, IsLawfulMessage, IsLawfulQueue, IsOrdered, IsTold, IsType, IsUnder, Leads, LeadsTo, MAX_MESSAGES, MESSAGE, Message, Plan, QUEUE, Queue, QueueEntry, Record, RecordKey, Relink, Replace, Send, SendArguments, Sent, State, Stays, TYPE, TypeEntry, Write, before, before_place, behind, filter, find, first_of, fold, guard_of, has_id, has_number, has_serial, int_eq, int_lt, is_number, is_of_type, is_same_type, key_of, key_of_message, key_of_type, key_written, last_message, last_of, linked, message_entry, message_of, message_record, position_or_len, queue_entry, record_of, relinked, serials, serials_of_type, somes, trial_rank, type_entry, type_number, type_record, types, unwrap_or, value_length, w64, with_message, with_message_links, with_one_more, with_queue, with_type, with_type_links, write_rank}
 pub use Rattle.xsi_send.specs.declared.stage.Stage.TheVariants.{Done}
 pub use Rattle.xsi_send.specs.declared.stage.Walk.{Walk}
 pub use Rattle.xsi_send.specs.declared.type_place.TypePlace.TheVariants.{Between, Standing}

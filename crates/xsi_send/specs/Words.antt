@@ -1,7 +1,6 @@
 -- Words of the crates below, under one name.
-pub use Rattle.bucket_page.specs.declared.record_key.RecordKey.{RecordKey}
+pub use Rattle.queue_records.specs.bucket_page.declared.record_key.RecordKey.{RecordKey}
 pub use Rattle.limits.specs.declared.TheConstants.{END_OF_SERIALS, MAX_MESSAGES}
-pub use Rattle.queue_model.proofs.ListLemmas.{find-None, find-Some, position_None}
 pub use Rattle.queue_model.specs.Lawful.{IsLawful, IsLawfulMessage, IsLawfulQueue}
 pub use Rattle.queue_model.specs.Rules.{has_id, with_message, with_queue}
 pub use Rattle.queue_model.specs.State.{State}
@@ -25,19 +24,11 @@ pub use Rattle.std.specs.Int.{w64}
 pub use Rattle.std.specs.List.{All, AllPairs, Contains, filter, find, fold, position_or_len}
 pub use Rattle.std.specs.Ordering.{int_eq}
 pub use Rattle.std.specs.Prelude.{int_lt, option_and_then, option_map, slice_index, unwrap_or}
-pub use Rattle.type_chains.proofs.Limits.{all_types, in_range, lawful_queue, types_stand}
-pub use Rattle.type_chains.proofs.Members.{contains_head, contains_tail, head_or_tail, in_map}
-pub use Rattle.type_chains.proofs.OneQueueChanged.{agree_but, found_new}
-pub use Rattle.type_chains.proofs.Pairs.{all_of}
-pub use Rattle.type_chains.proofs.Unique.{find_one, pairs_head, pairs_tail, types_ascend}
 pub use Rattle.type_chains.specs.Entries.{is_number, is_same_type, message_entry, queue_entry, type_entry}
 pub use Rattle.type_chains.specs.Lists.{is_of_type, serials, serials_of_type, types, with_type}
 pub use Rattle.type_chains.specs.Neighbours.{before, before_place, behind, first_of, last_of}
 pub use Rattle.type_chains.specs.RecordOf.{has_number, has_serial, message_record, record_of, type_record}
 pub use Rattle.type_chains.specs.Sending.{last_message, message_of, with_one_more}
-pub use Rattle.xsi_inquiry.proofs.LeadLemmas.{Fills, IsNew, Misses, MissesRecord, leads_by}
-pub use Rattle.xsi_inquiry.proofs.SeekLemmas.{clash}
-pub use Rattle.xsi_inquiry.proofs.SlotLemmas.{InSlot, all_each, each_all, ranked_ascend, slot_all}
 pub use Rattle.xsi_inquiry.specs.Owning.{Ascend, IsOrdered, IsUnder, trial_rank, write_rank}
 pub use Rattle.xsi_inquiry.specs.Telling.{IsFiled, IsTold}
 pub use Rattle.xsi_inquiry.specs.Writing.{Leads, Plan, key_written, somes, value_length}

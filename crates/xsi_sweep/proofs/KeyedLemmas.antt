@@ -7,8 +7,8 @@ use Rattle.std.proofs.lemmas.Bool.Decides.{nat_tests}
 use Rattle.std.proofs.lemmas.List.Folds.{find_at}
 use Rattle.std.proofs.lemmas.Option.{slice_get-get_or}
 use Rattle.queue_model.proofs.EffectLemmas.{Changes, Effect, Effect-outcome, Stands}
-use Rattle.type_chains.proofs.Elements.{image_has}
-use Rattle.type_chains.proofs.OneQueueChanged.{found_new}
+use Rattle.xsi_inquiry.proofs.of_type_chains.Elements.{image_has}
+use Rattle.xsi_inquiry.proofs.of_type_chains.OneQueueChanged.{found_new}
 use Rattle.xsi_inquiry.proofs.OthersLemmas.{agrees_by_others}
 use Rattle.xsi_sweep.proofs.RemovingLemmas.{gone}
 

@@ -7,8 +7,8 @@ use Rattle.std.proofs.lemmas.Bool.{eqb-true}
 use Rattle.std.proofs.lemmas.Bool.Decides.{Decides-eqb, Decides-int_eq, nat_tests}
 use Rattle.std.proofs.lemmas.List.Elements.{All-contains, All-head, All-tail}
 use Rattle.std.proofs.lemmas.Int.{ints}
-use Rattle.type_chains.specs.Entries.{is_number}
-use Rattle.type_chains.specs.Neighbours.{behind, first_of}
+use Rattle.xsi_inquiry.specs.type_chains.Entries.{is_number}
+use Rattle.xsi_inquiry.specs.type_chains.Neighbours.{behind, first_of}
 use Rattle.xsi_sweep.proofs.FindLemmas.{not_true, place_here, place_later}
 
 -- ---- from a place on

@@ -5,7 +5,7 @@ use Rattle.xsi_sweep.specs.Words.{Contains, find, list_any, both_true, find-Some
 use Rattle.std.proofs.lemmas.Bool.{eqb-true}
 use Rattle.std.proofs.lemmas.Option.{slice_get_within}
 use Rattle.queue_records.specs.declared.record.Record.TheVariants as records
-use Rattle.type_chains.proofs.Pairs.{all_of}
+use Rattle.xsi_inquiry.proofs.of_type_chains.Pairs.{all_of}
 use Rattle.xsi_sweep.specs.declared.turn.Turn.{Turn}
 use Rattle.xsi_sweep.specs.Turns.{IsAtTurn}
 use Rattle.xsi_sweep.proofs.FindLemmas.{none_passes}

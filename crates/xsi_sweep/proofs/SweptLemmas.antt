@@ -4,7 +4,7 @@ use Rattle.std.specs.Prelude.{◌==◌, ◌≢◌, ◌&&◌, IsSome, option_and_
 use Rattle.xsi_sweep.specs.Words.{find, RecordKey, both_true, Queue, has_id, State, TYPE, MESSAGE, Record, message_record, record_of, type_record, swept, type_left, message_left}
 use Rattle.std.proofs.lemmas.Bool.{eqb-true}
 use Rattle.std.proofs.lemmas.Bool.Decides.{nat_tests}
-use Rattle.type_chains.proofs.Tests.{by_guard, by_test, chained}
+use Rattle.xsi_inquiry.proofs.of_type_chains.Tests.{by_guard, by_test, chained}
 use Rattle.xsi_sweep.proofs.KindLemmas.{kind_message, kind_type}
 
 pub some_is : {X : Type 0} (o : Option X) (x : X) → o ≡ Some x → IsSome o

@@ -8,7 +8,7 @@ use Rattle.std.proofs.lemmas.List.Elements.{All-contains, All-cons, All-drop, Al
 use Rattle.std.proofs.lemmas.List.Folds.{list_any_none}
 use Rattle.page_locks.specs.declared.lock.LockName.TheVariants as names
 use Rattle.queue_records.specs.declared.record.Record.TheVariants as records
-use Rattle.type_chains.proofs.Images.{queue_has}
+use Rattle.xsi_inquiry.proofs.of_type_chains.Images.{queue_has}
 use Rattle.xsi_sweep.specs.declared.turn.Turn.{Turn}
 use Rattle.xsi_sweep.specs.Turns.{IsAtTurn, last_by, read_of, turn_plan, type_deletion}
 use Rattle.xsi_sweep.proofs.PlaceLemmas.{any_alike, at_place, drop_at, first_left, left_at, none_behind, pairs_behind, place_of_serial, same_number, some_behind}

@@ -10,9 +10,9 @@ use Rattle.queue_model.specs.Rules.{has_id, outcome, refuse, without_queue}
 use Rattle.queue_model.specs.State.{State}
 use Rattle.queue_records.specs.declared.counter.Counter.{Counter}
 use Rattle.queue_records.specs.declared.queue_entry.QueueEntry.{QueueEntry}
-use Rattle.type_chains.specs.Entries.{counter_of}
-use Rattle.type_chains.specs.Lists.{serials}
-use Rattle.type_chains.specs.Neighbours.{first_of}
+use Rattle.xsi_inquiry.specs.type_chains.Entries.{counter_of}
+use Rattle.xsi_inquiry.specs.type_chains.Lists.{serials}
+use Rattle.xsi_inquiry.specs.type_chains.Neighbours.{first_of}
 use Rattle.xsi_inquiry.specs.Seeking.{IsEntryOf, IsKeyed, Tells, sought_next}
 use Rattle.xsi_sweep.specs.declared.removal.Removal.{Removal}
 use Rattle.xsi_sweep.specs.declared.stage.Stage.{Stage}

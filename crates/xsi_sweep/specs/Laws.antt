@@ -1,7 +1,7 @@
 -- How a sweep begins and ends, and what others keep meanwhile.
 -- docs/STEPS.md, "Remove".
 use Rattle.std.specs.Prelude.{◌≡◌, ◌↔◌, ℕ, ◌<◌, ◌≤◌, length, Option, Some, None}
-use Rattle.bucket_page.specs.declared.record_key.RecordKey.{RecordKey}
+use Rattle.queue_records.specs.bucket_page.declared.record_key.RecordKey.{RecordKey}
 use Rattle.queue_model.specs.declared.answer.Answer.{Answer}
 use Rattle.queue_model.specs.declared.call.Call.{Call}
 use Rattle.queue_model.specs.declared.caller.Caller.{Caller}
@@ -9,9 +9,9 @@ use Rattle.limits.specs.declared.TheConstants.{MAX_MESSAGES}
 use Rattle.queue_model.specs.declared.queue.Queue.{Queue}
 use Rattle.queue_model.specs.Rules.{outcome}
 use Rattle.queue_model.specs.State.{State}
-use Rattle.type_chains.specs.Lists.{serials}
-use Rattle.type_chains.specs.Neighbours.{first_of}
-use Rattle.type_chains.specs.RecordOf.{record_of}
+use Rattle.xsi_inquiry.specs.type_chains.Lists.{serials}
+use Rattle.xsi_inquiry.specs.type_chains.Neighbours.{first_of}
+use Rattle.xsi_inquiry.specs.type_chains.RecordOf.{record_of}
 use Rattle.xsi_inquiry.specs.Seeking.{IsKeyed}
 use Rattle.xsi_inquiry.specs.Sweeping.{swept, unswept}
 use Rattle.xsi_inquiry.specs.Telling.{IsFiled}

@@ -7,8 +7,8 @@ use Rattle.queue_model.specs.Rules.{has_id}
 use Rattle.queue_model.specs.State.{State}
 use Rattle.queue_records.specs.declared.message_entry.MessageEntry.{MessageEntry}
 use Rattle.queue_records.specs.Keys.{key_of_message, key_of_type}
-use Rattle.type_chains.specs.Lists.{serials}
-use Rattle.type_chains.specs.Neighbours.{first_of}
+use Rattle.xsi_inquiry.specs.type_chains.Lists.{serials}
+use Rattle.xsi_inquiry.specs.type_chains.Neighbours.{first_of}
 use Rattle.xsi_inquiry.specs.declared.wanted.Wanted.{Wanted}
 use Rattle.xsi_inquiry.specs.declared.wanted.Wanted.TheVariants.{At}
 use Rattle.xsi_inquiry.specs.declared.write.Write.{Write}

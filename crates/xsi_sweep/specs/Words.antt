@@ -1,6 +1,6 @@
 -- Words of the crates below, under one name.
-pub use Rattle.bucket_page.specs.Keys.{is_same}
-pub use Rattle.bucket_page.specs.declared.record_key.RecordKey.{RecordKey}
+pub use Rattle.queue_records.specs.bucket_page.Keys.{is_same}
+pub use Rattle.queue_records.specs.bucket_page.declared.record_key.RecordKey.{RecordKey}
 pub use Rattle.fields.proofs.Tests.{both_true}
 pub use Rattle.limits.specs.declared.TheConstants.{MAX_MESSAGES}
 pub use Rattle.page_locks.specs.declared.lock.LockName.{LockName}
@@ -25,17 +25,17 @@ pub use Rattle.queue_records.specs.declared.message_entry.MessageEntry.{MessageE
 pub use Rattle.queue_records.specs.declared.queue_entry.QueueEntry.{QueueEntry}
 pub use Rattle.queue_records.specs.declared.record.Record.{Record}
 pub use Rattle.std.specs.List.{All, AllPairs, Contains, filter, find, list_any, position_or_len, remove}
-pub use Rattle.type_chains.proofs.Cases.{found_id}
-pub use Rattle.type_chains.proofs.Limits.{in_range, lawful_queue}
-pub use Rattle.type_chains.proofs.Members.{contains_tail, head_or_tail, in_map}
-pub use Rattle.type_chains.proofs.TypesStand.{are_types_of}
-pub use Rattle.type_chains.proofs.Unique.{PassesOnce, find_one, key_has, pairs_head, pairs_tail, pairs_unmap}
-pub use Rattle.type_chains.specs.Entries.{counter_of, key_entry, message_entry, queue_entry, type_entry}
-pub use Rattle.type_chains.specs.Image.{key_records, message_records, queue_records, type_records}
-pub use Rattle.type_chains.specs.Lists.{is_of_type, serials, types}
-pub use Rattle.type_chains.specs.Neighbours.{first_of}
-pub use Rattle.type_chains.specs.Others.{queue_of}
-pub use Rattle.type_chains.specs.RecordOf.{at_counter, at_key, at_queue, at_queue_of, has_number, has_serial, message_record, record_of, type_record}
+pub use Rattle.xsi_inquiry.proofs.of_type_chains.Cases.{found_id}
+pub use Rattle.xsi_inquiry.proofs.of_type_chains.Limits.{in_range, lawful_queue}
+pub use Rattle.xsi_inquiry.proofs.of_type_chains.Members.{contains_tail, head_or_tail, in_map}
+pub use Rattle.xsi_inquiry.proofs.of_type_chains.TypesStand.{are_types_of}
+pub use Rattle.xsi_inquiry.proofs.of_type_chains.Unique.{PassesOnce, find_one, key_has, pairs_head, pairs_tail, pairs_unmap}
+pub use Rattle.xsi_inquiry.specs.type_chains.Entries.{counter_of, key_entry, message_entry, queue_entry, type_entry}
+pub use Rattle.xsi_inquiry.specs.type_chains.Image.{key_records, message_records, queue_records, type_records}
+pub use Rattle.xsi_inquiry.specs.type_chains.Lists.{is_of_type, serials, types}
+pub use Rattle.xsi_inquiry.specs.type_chains.Neighbours.{first_of}
+pub use Rattle.xsi_inquiry.specs.type_chains.Others.{queue_of}
+pub use Rattle.xsi_inquiry.specs.type_chains.RecordOf.{at_counter, at_key, at_queue, at_queue_of, has_number, has_serial, message_record, record_of, type_record}
 pub use Rattle.xsi_inquiry.proofs.LeadLemmas.{Fills, IsNew, Misses, leads_by}
 pub use Rattle.xsi_inquiry.proofs.SeekLemmas.{clash, found_told, none_found, queue_is_taken}
 pub use Rattle.xsi_inquiry.specs.Deciding.{IsSwept}

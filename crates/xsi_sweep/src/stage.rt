@@ -5,7 +5,7 @@ ghost use Rattle.queue_model.specs.State.{State};
 ghost use Rattle.queue_records.specs.declared.counter.Counter.{Counter};
 ghost use Rattle.queue_records.specs.declared.record.Record.TheVariants as records;
 ghost use Rattle.queue_model.specs.declared.caller.Caller.{Caller};
-ghost use Rattle.type_chains.specs.Entries.{counter_of};
+ghost use Rattle.xsi_inquiry.specs.type_chains.Entries.{counter_of};
 ghost use Rattle.xsi_inquiry.specs.Seeking.{Tells, asks_of_sought};
 ghost use Rattle.xsi_inquiry.specs.Telling.{AsksGiven, AsksRecord, Gives, IsFiled, IsTold, IsToldGiven};
 ghost use Rattle.xsi_sweep.specs.Asking.{asked, asks_left, gone};
@@ -14,7 +14,7 @@ ghost use Rattle.xsi_sweep.specs.Knowing.{KnowsAt, KnowsQueue};
 use crate::removal::Removal;
 use queue_model::{Caller, Errno};
 use queue_records::{Counter, QueueEntry, Record};
-use type_chains::permissions_in;
+use xsi_inquiry::type_chains::permissions_in;
 use xsi_inquiry::{NotASystem, Sought, counter_in, queue_in};
 
 /// What is known, and with it what is asked next.

@@ -1,7 +1,7 @@
 -- The header and its number of pages, or what is wrong with them.
 use Rattle.std.proofs.Common.{inr, sym, ◌∙◌, ap, subst, arith, ◌≡◌, length}
 use Rattle.std.proofs.lemmas.Result.{err_from_is_err_and}
-use Rattle.directory.specs.Spelling.{IsHeader}
+use Rattle.directory.specs.Spelling.{IsHeader, header_bytes}
 use Rattle.file_walk.proofs.PageLemmas.{header_is, header_read, header_fault, header_cut, header_too_long}
 use Rattle.file_walk.proofs.header_page.header_of.Goals as goal
 
@@ -34,6 +34,7 @@ returns-clause-ok g c =
             sealed = p.sealed;
             read = header_read _ _ _ p e;
             in_range = subst IsHeader (header_is _ _ _ p e) c.in-Ok.ensures.ok.in_range;
+            spelled = sym p.value ∙ c.in-Ok.ensures.ok.spelled ∙ ap header_bytes (header_is _ _ _ p e);
             as_many = sym (ap (λ h. h.pages) (header_is _ _ _ p e)) ∙ same;
           };
       value = λ honest. header_is _ _ _ (c.in_ok-read_sealed.ensures.ok honest) c.in-Ok.ensures.value;

@@ -9,18 +9,21 @@ use Rattle.file_walk.proofs.pages.form_of.Goals as goal
 pub returns-in-Ok-Bucket-clause-ok : goal.returns-in-Ok-Bucket-clause-ok
 returns-in-Ok-Bucket-clause-ok g c = λ honest.
     let e = rw c.in-Ok-Bucket.field-0-is at c.in-Ok-Bucket.ensures.value in
-    form_taken _ _ _ _ _ (c.in_ok-read_sealed.ensures.ok honest) e c.requires.behind refl
+    let s = rw c.in-Ok-Bucket.field-0-is at c.in-Ok-Bucket.ensures.ok in
+    form_taken _ _ _ _ _ (c.in_ok-read_sealed.ensures.ok honest) e s c.requires.behind refl
     (ap (λ shape. shown (forms.Bucket shape)) c.shape_of.ensures)
 
 pub returns-in-Ok-Tombstone-clause-ok : goal.returns-in-Ok-Tombstone-clause-ok
 returns-in-Ok-Tombstone-clause-ok g c = λ honest.
     let e = rw c.in-Ok-Tombstone.field-0-is at c.in-Ok-Tombstone.ensures.value in
-    form_taken _ _ _ _ _ (c.in_ok-read_sealed.ensures.ok honest) e c.requires.behind refl refl
+    let s = rw c.in-Ok-Tombstone.field-0-is at c.in-Ok-Tombstone.ensures.ok in
+    form_taken _ _ _ _ _ (c.in_ok-read_sealed.ensures.ok honest) e s c.requires.behind refl refl
 
 pub returns-in-Ok-Free-clause-ok : goal.returns-in-Ok-Free-clause-ok
 returns-in-Ok-Free-clause-ok g c = λ honest.
     let e = rw c.in-Ok-Free.field-0-is at c.in-Ok-Free.ensures.value in
-    form_taken _ _ _ _ _ (c.in_ok-read_sealed.ensures.ok honest) e c.requires.behind refl refl
+    let s = rw c.in-Ok-Free.field-0-is at c.in-Ok-Free.ensures.ok in
+    form_taken _ _ _ _ _ (c.in_ok-read_sealed.ensures.ok honest) e s c.requires.behind refl refl
 
 pub returns-in-Ok-Directory-clause-err : goal.returns-in-Ok-Directory-clause-err
 returns-in-Ok-Directory-clause-err g c = λ honest.

@@ -7,7 +7,7 @@ pub returns-clause-ok : goal.returns-clause-ok
 returns-clause-ok g c =
     let e = rw c.in-Ok-Directory.field-0-is at c.in-Ok-Directory.ensures.value in
     let s = rw c.in-Ok-Directory.field-0-is at c.in-Ok-Directory.ensures.ok in
-    entries_taken _ _ _ _ _ _ _ _ c.in_ok-read_sealed.ensures.ok e c.requires.below s.in_range.number
+    entries_taken _ _ _ _ _ _ _ _ c.in_ok-read_sealed.ensures.ok e s c.requires.below s.in_range.number
     c.in_ok-keep_entries.ensures
 
 pub returns-in-Err-clause-err : goal.returns-in-Err-clause-err

@@ -1,5 +1,5 @@
 use Rattle.std.proofs.Common.{inl, refl}
-use Rattle.one_bucket_file.specs.Files.{no_queues}
+use Rattle.one_caller.specs.one_bucket_file.Files.{no_queues}
 use Rattle.msgq_cli.proofs.ServeLemmas.{runs_in_memory}
 use Rattle.msgq_cli.proofs.serving.serve_text.Goals as goal
 

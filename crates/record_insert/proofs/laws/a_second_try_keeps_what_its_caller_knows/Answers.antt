@@ -1,4 +1,4 @@
-use Rattle.stale_search.proofs.CallerLemmas.{adders_keep}
+use Rattle.split_merge.proofs.of_stale_search.CallerLemmas.{adders_keep}
 use Rattle.record_insert.specs.SecondTries.{second_locks}
 use Rattle.record_insert.proofs.CallerLemmas.{second_adds_locks, second_aside}
 use Rattle.record_insert.proofs.laws.a_second_try_keeps_what_its_caller_knows.Goals as goal

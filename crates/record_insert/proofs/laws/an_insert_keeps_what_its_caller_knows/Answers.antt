@@ -1,4 +1,4 @@
-use Rattle.stale_search.proofs.CallerLemmas.{adders_keep}
+use Rattle.split_merge.proofs.of_stale_search.CallerLemmas.{adders_keep}
 use Rattle.record_insert.specs.Inserts.{insert_locks}
 use Rattle.record_insert.proofs.CallerLemmas.{insert_adds_locks, insert_aside}
 use Rattle.record_insert.proofs.laws.an_insert_keeps_what_its_caller_knows.Goals as goal

@@ -3,7 +3,7 @@ use Rattle.std.proofs.Common.{rules, ◌≡◌, sym, subst, Bool, Result}
 use Rattle.any_inquiry.specs.Anything.{KnowsOf, asked_of}
 use Rattle.any_inquiry.specs.Words.{Call, IsToldGiven, NotASystem, Roomful, State}
 use Rattle.any_inquiry.specs.declared.any_inquiry.AnyInquiry.{AnyInquiry}
-use Rattle.xsi_inquiry.specs.Telling.{AsksGiven, Gives}
+use Rattle.xsi_control.specs.xsi_inquiry.Telling.{AsksGiven, Gives}
 use Rattle.any_inquiry.proofs.any_inquiry.AnyInquiryInquiry.take_given.Goals as goal
 use Rattle.any_inquiry.proofs.any_inquiry.AnyInquiryInquiry.take_given.Goals.{in-Get-Get, in-Send-Send, in-Receive-Receive, in-Stat-Stat, in-Set-Set, in-Remove-Remove, in_default, in_default-2, in_default-3, in_default-4, in_default-5, in_default-6}
 

@@ -1,4 +1,4 @@
-use Rattle.file_pages.specs.declared.fault.FileFault.TheVariants.{Failed}
+use Rattle.stale_search.specs.file_pages.declared.fault.FileFault.TheVariants.{Failed}
 use Rattle.bucket_merge.specs.Words.{Approaching}
 use Rattle.bucket_merge.proofs.ArmLemmas.{stays}
 use Rattle.bucket_merge.proofs.LookLemmas.{own_not_read, own_not_valid, own_is_whole, own_seen}

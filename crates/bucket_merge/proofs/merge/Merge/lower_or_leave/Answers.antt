@@ -1,7 +1,7 @@
 use Rattle.std.proofs.Common.{sym, ap, subst, is_ok, ◌∙◌, ◌≤◌, ℕ, List, slice_index_or}
 use Rattle.directory.specs.declared.header.Header.{Header}
 use Rattle.bucket_merge.specs.Words.{store_of}
-use Rattle.file_pages.proofs.ReadLemmas.{fails_after}
+use Rattle.stale_search.proofs.of_file_pages.ReadLemmas.{fails_after}
 use Rattle.hash_file.specs.Changes.{lower_depth}
 use Rattle.bucket_merge.proofs.LockArms.{leave_page}
 use Rattle.bucket_merge.proofs.FreeLemmas.{lowers, read_then_written, ok_through, err_through}

@@ -1,5 +1,5 @@
 use Rattle.std.proofs.Common.{sym, ap, ◌∙◌, ◌%◌, ◌^◌}
-use Rattle.file_pages.specs.declared.fault.FileFault.TheVariants.{Failed}
+use Rattle.stale_search.specs.file_pages.declared.fault.FileFault.TheVariants.{Failed}
 use Rattle.hash_file.specs.Store.{entry_at}
 use Rattle.step_rules.proofs.OwnLemmas.{low_bits_below}
 use Rattle.bucket_merge.specs.Words.{Range, ReadBuddy, store_of}

@@ -14,7 +14,8 @@ returns g c =
     ∙ c.requires.names in
     let more : c.saturating_add-self-inside.result ≤ c.self.inside.finds + 1 =
     let e = c.saturating_add-self-inside.ensures in omega (arith, e) in
-    let access = c.find.ensures.value ∙ ap (λ (k : RecordKey). begun (ToFind k) c.of.result) c.key_asked-key.ensures in
+    let access = c.begin_find.ensures.value
+    ∙ ap (λ (k : RecordKey). begun (ToFind k) c.of.result) c.key_asked-key.ensures in
     let made = subst (λ (a : AccessView). MakesQuestions (g.K.PseudoKey.of_key c.args.keys.now) c.args.seat
     c.args.call.now c.go_on-did.result (record {
       inquiry = c.self.inside.inquiry;
@@ -38,7 +39,8 @@ returns-then-is_blocked g c =
     ∙ c.requires.names in
     let more : c.saturating_add-self-inside.result ≤ c.self.inside.finds + 1 =
     let e = c.saturating_add-self-inside.ensures in omega (arith, e) in
-    let access = c.find.ensures.value ∙ ap (λ (k : RecordKey). begun (ToFind k) c.of.result) c.key_asked-key.ensures in
+    let access = c.begin_find.ensures.value
+    ∙ ap (λ (k : RecordKey). begun (ToFind k) c.of.result) c.key_asked-key.ensures in
     let made = subst (λ (a : AccessView). MakesQuestions (g.K.PseudoKey.of_key c.args.keys.now) c.args.seat
     c.args.call.now c.go_on-did.result (record {
       inquiry = c.self.inside.inquiry;

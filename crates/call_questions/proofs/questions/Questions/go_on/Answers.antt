@@ -11,9 +11,10 @@ invariant_of-self g c =
     under_in (g.K.PseudoKey.of_key c.args.keys.now) c.args.seat c.args.call.now
     c.self.inside.inquiry c.self.inside.room c.self.inside.names c.self.inside.finds
     c.keep_order.ensures c.read-did.result c.args.pool.now
-    c.read-did.new.pool c.args.locks.now c.read-did.new.locks c.hear_of-heard.new.inquiry c.hear_of-heard.new.room
-    c.hear_of-heard.result c.self.inside.question c.read-did.new.question c.hear_of-heard.new.question
-    c.close.new.question some c.self.invariant row c.read-did.ensures c.hear_of-heard.ensures c.close.ensures
+    c.read-did.new.pool c.args.locks.now c.read-did.new.locks c.listen-heard.new.inquiry c.listen-heard.new.room
+    c.listen-heard.result c.self.inside.question c.read-did.new.question c.listen-heard.new.question
+    c.goes_on-self-inside.result c.read-did.ensures.told c.read-did.ensures.step c.listen-heard.ensures
+    c.goes_on-self-inside.ensures c.self.inside.is_asking some c.self.invariant row
 
 pub invariant_of-self-2 : goal.invariant_of-self-2
 invariant_of-self-2 g c =
@@ -22,9 +23,10 @@ invariant_of-self-2 g c =
     under_in (g.K.PseudoKey.of_key c.args.keys.now) c.args.seat c.args.call.now
     c.self.inside.inquiry c.self.inside.room c.self.inside.names c.self.inside.finds
     c.keep_order.ensures c.read-did.result c.args.pool.now
-    c.read-did.new.pool c.args.locks.now c.read-did.new.locks c.hear_of-heard.new.inquiry c.hear_of-heard.new.room
-    c.hear_of-heard.result c.self.inside.question c.read-did.new.question c.hear_of-heard.new.question
-    c.close.new.question some c.self.invariant row c.read-did.ensures c.hear_of-heard.ensures c.close.ensures
+    c.read-did.new.pool c.args.locks.now c.read-did.new.locks c.listen-heard.new.inquiry c.listen-heard.new.room
+    c.listen-heard.result c.self.inside.question c.read-did.new.question c.listen-heard.new.question
+    c.goes_on-self-inside.result c.read-did.ensures.told c.read-did.ensures.step c.listen-heard.ensures
+    c.goes_on-self-inside.ensures c.self.inside.is_asking some c.self.invariant row
 
 pub returns : goal.returns
 returns g c =
@@ -33,9 +35,10 @@ returns g c =
     rw (← c.self.view_is) (went_in (g.K.PseudoKey.of_key c.args.keys.now) c.args.seat c.args.call.now
     c.self.inside.inquiry c.self.inside.room c.self.inside.names c.self.inside.finds
     c.keep_order.ensures c.read-did.result c.args.pool.now
-    c.read-did.new.pool c.args.locks.now c.read-did.new.locks c.hear_of-heard.new.inquiry c.hear_of-heard.new.room
-    c.hear_of-heard.result c.self.inside.question c.read-did.new.question c.hear_of-heard.new.question
-    c.close.new.question some c.self.invariant row c.read-did.ensures c.hear_of-heard.ensures c.close.ensures)
+    c.read-did.new.pool c.args.locks.now c.read-did.new.locks c.listen-heard.new.inquiry c.listen-heard.new.room
+    c.listen-heard.result c.self.inside.question c.read-did.new.question c.listen-heard.new.question
+    c.goes_on-self-inside.result c.read-did.ensures.told c.read-did.ensures.step c.listen-heard.ensures
+    c.goes_on-self-inside.ensures c.self.inside.is_asking some c.self.invariant row)
 
 pub returns-in_default : goal.returns-in_default
 returns-in_default g c =
@@ -44,7 +47,7 @@ returns-in_default g c =
     rw (← c.self.view_is) (failed_in (g.K.PseudoKey.of_key c.args.keys.now) c.args.seat c.args.call.now
     c.self.inside.inquiry c.self.inside.room c.self.inside.names c.self.inside.finds
     c.keep_order.ensures c.read-did.result c.args.pool.now
-    c.read-did.new.pool c.args.locks.now c.read-did.new.locks c.hear_of-heard.new.inquiry c.hear_of-heard.new.room
-    c.hear_of-heard.result c.self.inside.question c.read-did.new.question c.hear_of-heard.new.question
-    c.close.new.question some c.self.invariant row c.read-did.ensures c.hear_of-heard.ensures c.close.ensures
-    c.in_default.not-Ok)
+    c.read-did.new.pool c.args.locks.now c.read-did.new.locks c.listen-heard.new.inquiry c.listen-heard.new.room
+    c.listen-heard.result c.self.inside.question c.read-did.new.question c.listen-heard.new.question
+    c.goes_on-self-inside.result c.read-did.ensures.told c.read-did.ensures.step c.listen-heard.ensures
+    c.goes_on-self-inside.ensures c.self.inside.is_asking some c.self.invariant row c.in_default.not-Ok)

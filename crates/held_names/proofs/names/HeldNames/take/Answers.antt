@@ -1,9 +1,9 @@
 use Rattle.std.proofs.Common.{ap, ◌∙◌, [], arith, length}
 use Rattle.std.proofs.lemmas.List.{length_push}
 use Rattle.step_rules.specs.Words.{Page}
-use Rattle.stale_search.specs.Words.{kind_of}
-use Rattle.stale_search.specs.Steps.{world}
-use Rattle.stale_search.proofs.StepLemmas.{granted_to}
+use Rattle.call_names.specs.stale_search.Words.{kind_of}
+use Rattle.call_names.specs.stale_search.Steps.{world}
+use Rattle.call_names.proofs.of_stale_search.StepLemmas.{granted_to}
 use Rattle.held_names.proofs.OrderLemmas.{last_is_new, last_is_not, next_may}
 use Rattle.held_names.proofs.names.HeldNames.take.Goals as goal
 

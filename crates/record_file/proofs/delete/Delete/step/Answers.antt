@@ -5,7 +5,7 @@ use Rattle.bucket_merge.specs.Facts.{merge_facts, merge_turn, steps_left as merg
 use Rattle.step_rules.specs.Turns.{Ask}
 use Rattle.record_file.specs.Words.{Remove, Known, Turn, Nears, Sees, Step, with_row, store_of}
 use Rattle.record_file.specs.Deletes.{part}
-use Rattle.stale_search.proofs.StayLemmas.{Stays-of}
+use Rattle.bucket_merge.proofs.of_stale_search.StayLemmas.{Stays-of}
 use Rattle.record_file.specs.Removals.{RemovalView, removal_facts, removal_left, removal_locks, removal_turn}
 use Rattle.record_file.proofs.AnswerLemmas.{nears_on}
 use Rattle.record_file.proofs.PartLemmas.{begun_left, in_merge, in_removal, merges_on, nears_more, not_ended, not_over, passed_facts, passed_left, passed_locks, still_begun, turned_before}

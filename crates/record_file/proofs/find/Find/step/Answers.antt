@@ -1,8 +1,8 @@
 -- The search goes on, or its page is given back.
 use Rattle.std.proofs.Common.{◌≡◌, refl, sym, ap, ◌∙◌, subst, ℕ, false, List, None}
-use Rattle.stale_search.specs.declared.place.SearchPlace.{SearchPlace}
-use Rattle.stale_search.specs.Searches.{facts_at, locks_at}
-use Rattle.stale_search.proofs.StayLemmas.{Stays-of}
+use Rattle.bucket_merge.specs.stale_search.declared.place.SearchPlace.{SearchPlace}
+use Rattle.bucket_merge.specs.stale_search.Searches.{facts_at, locks_at}
+use Rattle.bucket_merge.proofs.of_stale_search.StayLemmas.{Stays-of}
 use Rattle.record_file.specs.Words.{SearchView, Lock, Page, AllKnown, row_of, with_row, without, store_of, steps_left, world, on_page}
 use Rattle.record_file.proofs.AnswerLemmas.{found_place, nears_on, told}
 use Rattle.record_file.proofs.SeenLemmas.{none_found}

@@ -1,9 +1,9 @@
 -- The search goes on, the record is put, or the page is given back.
 use Rattle.std.proofs.Common.{◌≡◌, refl, sym, ap, ◌∙◌, subst, ℕ, ◌+◌, ◌≤◌, ◌<◌, true, Option, Some, None, length, inl}
 use Rattle.bucket_page.specs.declared.layout.TheConstants.{RECORD_HEAD_BYTES, ROOM_BYTES}
-use Rattle.file_pages.specs.declared.sight.BucketSight.{BucketSight}
+use Rattle.bucket_merge.specs.file_pages.declared.sight.BucketSight.{BucketSight}
 use Rattle.hash_file.specs.Changes.{write_record}
-use Rattle.stale_search.proofs.StayLemmas.{Stays-of}
+use Rattle.bucket_merge.proofs.of_stale_search.StayLemmas.{Stays-of}
 use Rattle.record_file.specs.Words.{SearchView, Put, pair, Selective, store_of, steps_left, found_at}
 use Rattle.record_file.specs.declared.first_try.FirstTryStage.TheVariants.{Searching}
 use Rattle.record_file.proofs.AnswerLemmas.{nears_on}

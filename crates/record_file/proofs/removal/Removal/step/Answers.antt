@@ -1,9 +1,9 @@
 -- The search goes on, the record is taken out, or the page is given back.
 use Rattle.std.proofs.Common.{◌≡◌, refl, sym, ap, ◌∙◌, subst, ℕ, true, Option, Some, None, inl}
-use Rattle.file_pages.specs.declared.sight.BucketSight.{BucketSight}
+use Rattle.bucket_merge.specs.file_pages.declared.sight.BucketSight.{BucketSight}
 use Rattle.hash_file.specs.Chain.{IsBucketOf}
 use Rattle.hash_file.specs.Changes.{write_record}
-use Rattle.stale_search.proofs.StayLemmas.{Stays-of}
+use Rattle.bucket_merge.proofs.of_stale_search.StayLemmas.{Stays-of}
 use Rattle.record_file.specs.Words.{SearchView, Remove, Selective, store_of, steps_left, found_at, world}
 use Rattle.record_file.specs.Removals.{is_due}
 use Rattle.record_file.specs.declared.removal.RemovalStage.TheVariants.{Searching}

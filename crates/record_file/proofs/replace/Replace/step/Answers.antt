@@ -1,6 +1,6 @@
 -- The search goes on, the record is written, or the page is given back.
 use Rattle.std.proofs.Common.{◌≡◌, sym, ap, ◌∙◌, ℕ, Option, Some, None}
-use Rattle.stale_search.proofs.StayLemmas.{Stays-of}
+use Rattle.bucket_merge.proofs.of_stale_search.StayLemmas.{Stays-of}
 use Rattle.record_file.specs.Words.{SearchView, Selective, store_of, steps_left, found_at}
 use Rattle.record_file.specs.declared.replace.ReplaceStage.TheVariants.{Searching}
 use Rattle.record_file.proofs.AnswerLemmas.{nears_on}

@@ -1,6 +1,6 @@
 use Rattle.std.proofs.Common.{ap, ◌∙◌, []}
 use Rattle.page_locks.specs.Table.{Table, without_lock}
-use Rattle.file_pages.specs.declared.fault.FileFault.TheVariants.{Failed}
+use Rattle.split_merge.specs.file_pages.declared.fault.FileFault.TheVariants.{Failed}
 use Rattle.record_insert.specs.Words.{Page}
 use Rattle.record_insert.proofs.HopLemmas.{not_looked, hopped_back, is_itself, is_fresh, is_kept_from, moves_on}
 use Rattle.record_insert.proofs.second_try.SecondTry.hop_from.Goals as goal

@@ -1,5 +1,5 @@
 use Rattle.std.proofs.Common.{sym, ◌∙◌}
-use Rattle.file_pages.specs.declared.fault.FileFault.TheVariants.{Failed}
+use Rattle.split_merge.specs.file_pages.declared.fault.FileFault.TheVariants.{Failed}
 use Rattle.record_file.proofs.RoomLemmas.{no_room_is}
 use Rattle.record_insert.proofs.LookLemmas.{not_looked, is_named, is_there, not_read, fits, is_full, is_too_deep, splits, no_length}
 use Rattle.record_insert.proofs.second_try.SecondTry.look_at.Goals as goal

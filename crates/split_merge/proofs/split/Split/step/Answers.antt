@@ -3,8 +3,8 @@ use Rattle.std.proofs.Common.{◌≡◌, sym, ap, subst, ◌∙◌, ℕ, List}
 use Rattle.page_locks.specs.Locks.{without}
 use Rattle.page_locks.specs.Table.{Table, row_of, with_row}
 use Rattle.page_locks.proofs.TableLemmas.{row_of-same}
-use Rattle.file_pages.specs.Entries.{MayRetarget}
-use Rattle.file_pages.proofs.StoreLemmas.{layout_is}
+use Rattle.stale_search.specs.file_pages.Entries.{MayRetarget}
+use Rattle.stale_search.proofs.of_file_pages.StoreLemmas.{layout_is}
 use Rattle.stale_search.specs.Steps.{world}
 use Rattle.split_merge.specs.Words.{Lock, Page, Range, page_of, Retarget}
 use Rattle.split_merge.specs.Order.{IsPlaced}

@@ -18,16 +18,20 @@ returns-then-is_paying-clause-step g c = (c.pay.ensures c.args.stopped).step
 
 pub returns-clause-aim : goal.returns-clause-aim
 returns-clause-aim g c =
-    (c.release.ensures.makes (g.K.PseudoKey.of_key c.args.keys.now) c.args.stopped c.args.pool.now c.requires.ready).aim
+    (c.release.ensures.makes (g.K.PseudoKey.of_key c.args.keys.now) c.args.stopped c.args.pool.now
+    c.requires.ready).aim
 
 pub returns-clause-row : goal.returns-clause-row
 returns-clause-row g c =
-    (c.release.ensures.makes (g.K.PseudoKey.of_key c.args.keys.now) c.args.stopped c.args.pool.now c.requires.ready).row
+    (c.release.ensures.makes (g.K.PseudoKey.of_key c.args.keys.now) c.args.stopped c.args.pool.now
+    c.requires.ready).row
 
 pub returns-clause-progress : goal.returns-clause-progress
 returns-clause-progress g c =
-    (c.release.ensures.makes (g.K.PseudoKey.of_key c.args.keys.now) c.args.stopped c.args.pool.now c.requires.ready).progress
+    (c.release.ensures.makes (g.K.PseudoKey.of_key c.args.keys.now) c.args.stopped c.args.pool.now
+    c.requires.ready).progress
 
 pub returns-clause-step : goal.returns-clause-step
 returns-clause-step g c =
-    (c.release.ensures.makes (g.K.PseudoKey.of_key c.args.keys.now) c.args.stopped c.args.pool.now c.requires.ready).step
+    (c.release.ensures.makes (g.K.PseudoKey.of_key c.args.keys.now) c.args.stopped c.args.pool.now
+    c.requires.ready).step

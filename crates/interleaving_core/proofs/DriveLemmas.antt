@@ -1,0 +1,62 @@
+-- A seat is driven.
+use Rattle.std.proofs.Common.{◌≡◌, refl, subst, inl, inr, ℕ, suc, ◌+◌, ◌<◌, true, None, arith}
+use Rattle.step_rules.specs.declared.kind.Kind.{Kind}
+use Rattle.interleaving_core.specs.Words.{IsSeat, RecordKey}
+use Rattle.interleaving_core.specs.Driving.{IsDriven, IsStep, Moves}
+use Rattle.interleaving_core.specs.Kernel.{IsWhole, KernelState}
+use Rattle.interleaving_core.specs.Owing.{IsMove, IsRun, answer_told, failed}
+use Rattle.interleaving_core.specs.declared.kernel.TheConstants.{MOST_STEPS}
+use Rattle.interleaving_core.specs.declared.step.Step.{Step}
+use Rattle.interleaving_core.specs.declared.step.Step.TheVariants as steps
+use Rattle.interleaving_core.proofs.KernelLemmas.{its_row}
+use Rattle.interleaving_core.proofs.RunLemmas.{runs_on, seat_stays, stays_put}
+
+-- so far each step has moved
+pub record HasMoved {K : Type 0} (of : K → RecordKey → ℕ) (seat moves : ℕ) (old now : KernelState K) : Type 0 where
+  pub moved : Moves (of old.keys) seat moves old now
+  pub run : IsRun seat None old now
+  pub seated : IsSeat now.locks seat
+
+pub none_made : {K : Type 0} (of : K → RecordKey → ℕ) (seat : ℕ) (s : KernelState K) → IsWhole s →
+    IsSeat s.locks seat → HasMoved of seat 0 s s
+none_made of seat s whole is = record { moved = refl; run = stays_put seat s (its_row s whole seat); seated = is }
+
+module _ {K : Type 0} (of : K → RecordKey → ℕ) (seat moves : ℕ) (old now : KernelState K)
+    (so_far : HasMoved of seat moves old now) where
+  module _ (did : Step) (new : KernelState K) (step : IsStep (of now.keys) seat did now new) where
+    -- no step changes the pseudokeys
+    at_its_keys : IsStep (of old.keys) seat did now new
+    at_its_keys = subst (λ (keys : K). IsStep (of keys) seat did now new) so_far.run.rest.keys step
+
+    pub moves_on : (kind : Kind) → did ≡ steps.Moved kind → HasMoved of seat (moves + 1) old new
+    moves_on kind is = subst (λ (n : ℕ). HasMoved of seat n old new) more record {
+      moved = record {
+        before = now;
+        stands = so_far.moved;
+        kind = kind;
+        step = subst (λ (d : Step). IsStep (of old.keys) seat d now new) is at_its_keys;
+      };
+      run = subst (λ (d : Step). IsRun seat (answer_told d) old new) is
+          (runs_on seat did old now new so_far.run step.turn);
+      seated = seat_stays seat (answer_told did) now new step.turn.run so_far.seated;
+    }
+      where
+        more : suc moves ≡ moves + 1
+        more = omega arith
+
+    pub rests_at : moves < MOST_STEPS → (IsMove did → ⊥) → IsDriven (of old.keys) seat did old new
+    rests_at few rests = record {
+      moves = moves;
+      before = now;
+      moved = so_far.moved;
+      ends = inl (record { few = few; step = at_its_keys; rests = rests });
+    }
+
+  pub is_spent : (new : KernelState K) → moves ≡ MOST_STEPS → new ≡ record now { failed = true } →
+      IsDriven (of old.keys) seat failed old new
+  is_spent new most marked = record {
+    moves = moves;
+    before = now;
+    moved = so_far.moved;
+    ends = inr (record { most = most; told = refl; marked = marked });
+  }

@@ -1,0 +1,169 @@
+-- A step of a seat leaves a kernel whole, and tells that seat what the journal says.
+use Rattle.std.proofs.Common.{◌≡◌, sym, ap, ◌∙◌, subst, ℕ, ◌+◌, ◌-◌, ◌≤◌, Bool, false, ◌||◌, IsSome, inl, inr, List, ◌++◌, Option, Some, None, length, map, slice_set, slice_index_or, append-nil, length-append, arith}
+use Rattle.std.specs.Prelude.{sum_by}
+use Rattle.std.proofs.lemmas.Bool.{cases_eq}
+use Rattle.std.proofs.lemmas.List.{get_or_read, length-map}
+use Rattle.interleaving_core.specs.Words.{Caller, Entry, IsSeat, RecordKey, Table, caller_at, row_of, with_row}
+use Rattle.interleaving_core.specs.Active.{ActiveView}
+use Rattle.interleaving_core.specs.Kernel.{IsCallOf, IsWhole, KernelState, call_at, due_at, due_for_stop, entries_of, locks_of, with_call}
+use Rattle.interleaving_core.specs.Owing.{IsRun, IsTurn, answer_told, call_of, is_failure, told, untold}
+use Rattle.interleaving_core.specs.Turn.{MakesTurn, Turns}
+use Rattle.interleaving_core.specs.declared.step.Step.{Step}
+use Rattle.interleaving_core.proofs.TurnLemmas.{Does, turn_does}
+use Rattle.interleaving_core.proofs.PlaceLemmas.{Seats, at_other, at_place, at_same, due_with, length-with_call, row_at, rows_with, with_place}
+
+-- ---- a whole kernel
+
+module _ {K : Type 0} (s : KernelState K) (whole : IsWhole s) where
+  pub as_many : length s.locks ≡ length s.seats
+  as_many = ap length whole.rows ∙ length-map s.seats locks_of
+
+  pub its_row : (seat : ℕ) → row_of s.locks seat ≡ locks_of (call_at s.seats seat)
+  its_row seat = ap (λ (t : Table). row_of t seat) whole.rows ∙ row_at s.seats seat
+
+  -- what is left of the room for a seat's entry
+  pub has_room : (seat : ℕ) → IsSeat s.locks seat → due_at (call_at s.seats seat) + length s.journal ≤ s.room
+  has_room seat is =
+      let many = as_many in
+      let all = due_with s.seats seat None is.0 (omega (arith, is.1, many)) in
+      let room = whole.room in
+      omega (arith, all, room)
+
+  -- it has a place in the list
+  pub seat_there : (seat : ℕ) → IsSeat s.locks seat → seat ≤ length s.seats
+  seat_there seat is = let many = as_many in let last = is.1 in omega (arith, last, many)
+
+-- a step leaves it whole
+module _ {K : Type 0} (seat : ℕ) (did : Step) (left : Option ActiveView) (old new : KernelState K)
+    (whole : IsWhole old) (is : IsSeat old.locks seat)
+    (does : Does seat did (call_at old.seats seat) left old.pool new.pool old.locks new.locks old.journal new.journal)
+    (seats : new.seats ≡ with_call old.seats seat left) (keys : new.keys ≡ old.keys)
+    (callers : new.callers ≡ old.callers) (stopped : new.stopped ≡ old.stopped) where
+  many : length old.locks ≡ length old.seats
+  many = as_many old whole
+
+  within : seat ≤ length old.seats
+  within = omega (arith, is.1, many)
+
+  same_here : call_at new.seats seat ≡ left
+  same_here = ap (λ (x : Seats). call_at x seat) seats ∙ at_same old.seats seat left is.0 within
+
+  row : new.locks ≡ with_row old.locks seat (locks_of left)
+  row = does.row (its_row old whole seat)
+
+  no_more : entries_of new ≤ entries_of old
+  no_more =
+      let sums = ap (sum_by due_at) seats in
+      let all = due_with old.seats seat left is.0 within in
+      let grown = ap length does.grows ∙ length-append old.journal does.added in
+      let stops = ap due_for_stop stopped in
+      let due = does.due in
+      omega (arith, sums, all, grown, stops, due)
+
+  calls : (other : ℕ) → IsCallOf (caller_at new.callers other) (call_at new.seats other)
+  calls other = subst (λ (cs : List Caller). IsCallOf (caller_at cs other) (call_at new.seats other)) (sym callers)
+      (elim (cases_eq other seat) [
+        | inl e ↦ subst (λ (n : ℕ). IsCallOf (caller_at old.callers n) (call_at new.seats n)) (sym e)
+            (subst (IsCallOf (caller_at old.callers seat)) (sym same_here)
+            (does.caller (caller_at old.callers seat) (whole.calls seat)))
+        | inr ne ↦ subst (IsCallOf (caller_at old.callers other))
+            (sym (ap (λ (x : Seats). call_at x other) seats ∙ at_other old.seats seat other left ne))
+            (whole.calls other)
+      ])
+
+  pub whole_behind : old.room ≤ new.room → IsWhole new
+  whole_behind more = record {
+    ready = does.ready whole.ready;
+    rows = row ∙ ap (λ (t : Table). with_row t seat (locks_of left)) whole.rows ∙ rows_with old.seats seat left
+        ∙ sym (ap (map locks_of) seats);
+    callers = ap length callers ∙ whole.callers
+        ∙ sym (ap length seats ∙ length-with_call old.seats seat left);
+    calls = calls;
+    room = let few = no_more in let had = whole.room in omega (arith, few, had, more);
+    few = let fewer = no_more in let had = whole.few in omega (arith, fewer, had);
+  }
+
+  run : IsRun seat (answer_told did) old new
+  run = record {
+    seats = seats ∙ sym (ap (with_call old.seats seat) same_here);
+    locks = row ∙ sym (ap (λ (x : Option ActiveView). with_row old.locks seat (locks_of x)) same_here);
+    call = subst (λ (x : Option ActiveView). IsSome (call_of x) → call_of x ≡ call_of (call_at old.seats seat))
+        (sym same_here) does.call;
+    added = does.added;
+    journal = does.grows;
+    owed = does.owed
+        ∙ sym (ap (λ (x : Option ActiveView). told seat (call_at old.seats seat) (answer_told did) ++ untold seat x)
+        same_here);
+    rest = record {
+      keys = keys;
+      callers = callers;
+      stopped = stopped;
+      honest = does.honest;
+      later = does.later;
+    };
+  }
+
+  pub turn_behind : old.failed ≡ false → new.failed ≡ is_failure did → IsTurn seat did old new
+  turn_behind sound failed = record {
+    run = run;
+    idle = does.idle;
+    decides = λ other. does.grows ∙ ap (λ (es : List Entry). old.journal ++ es) (does.decides other)
+        ∙ append-nil old.journal;
+    failed = failed ∙ sym (ap (λ (b : Bool). b || is_failure did) sound);
+    fails = λ broken. absurd cc;
+    still = λ broken. absurd cc;
+  }
+
+-- ---- a step of the machine of its call
+
+pub record MakesStep {K : Type 0} (of : K → RecordKey → ℕ) (seat : ℕ) (did : Step) (old new : KernelState K)
+    : Type 0 where
+  pub whole : IsWhole new
+  pub turn : IsTurn seat did old new
+  pub makes : (a : ActiveView) → call_at old.seats seat ≡ Some a → old.failed ≡ false →
+      MakesTurn (of old.keys) seat old.stopped did a (call_at new.seats seat) old.pool new.pool old.locks new.locks
+      old.journal new.journal
+
+-- the seat's place in the list
+pub slot_here : (seats : Seats) (seat : ℕ) (slot : Option ActiveView) → 1 ≤ seat → seat ≤ length seats →
+    slot ≡ slice_index_or seats (seat - 1) slot → slot ≡ call_at seats seat
+slot_here seats seat slot some within is =
+    get_or_read seats (seat - 1) slot (omega (arith, some, within)) is None ∙ at_place seats seat some
+
+pub makes_step : {K : Type 0} (of : K → RecordKey → ℕ) (seat : ℕ) (did : Step) (slot left : Option ActiveView)
+    (old new now : KernelState K) → old ≡ now → IsWhole old → IsSeat now.locks seat →
+    slot ≡ slice_index_or old.seats (seat - 1) slot →
+    Turns (of old.keys) seat old.stopped did slot left old.pool new.pool old.locks new.locks old.journal new.journal →
+    new.seats ≡ slice_set old.seats (seat - 1) left → new.keys ≡ old.keys → new.callers ≡ old.callers →
+    new.stopped ≡ old.stopped → old.room ≤ new.room → old.failed ≡ false → new.failed ≡ is_failure did →
+    MakesStep of seat did now new
+makes_step of seat did slot left old new now view whole seated at turns seats keys callers stopped room sound failed =
+    subst (λ (k : KernelState _). MakesStep of seat did k new) view record {
+      whole = whole_behind seat did left old new whole is does seats_are keys callers stopped room;
+      turn = turn_behind seat did left old new whole is does seats_are keys callers stopped sound failed;
+      makes = λ a at_a fine. subst (λ (x : Option ActiveView). Turns (of old.keys) seat old.stopped did (Some a) x
+          old.pool new.pool old.locks new.locks old.journal new.journal) (sym left_is)
+          (subst (λ (x : Option ActiveView). Turns (of old.keys) seat old.stopped did x left old.pool new.pool
+          old.locks new.locks old.journal new.journal) at_a here);
+    }
+  where
+    is : IsSeat old.locks seat
+    is = subst (λ (k : KernelState _). IsSeat k.locks seat) (sym view) seated
+
+    within : seat ≤ length old.seats
+    within = let many = as_many old whole in let last = is.1 in omega (arith, last, many)
+
+    seats_are : new.seats ≡ with_call old.seats seat left
+    seats_are = seats ∙ with_place old.seats seat left is.0
+
+    left_is : call_at new.seats seat ≡ left
+    left_is = ap (λ (x : Seats). call_at x seat) seats_are ∙ at_same old.seats seat left is.0 within
+
+    here : Turns (of old.keys) seat old.stopped did (call_at old.seats seat) left old.pool new.pool old.locks new.locks
+        old.journal new.journal
+    here = subst (λ (x : Option ActiveView). Turns (of old.keys) seat old.stopped did x left old.pool new.pool
+        old.locks new.locks old.journal new.journal) (slot_here old.seats seat slot is.0 within at) turns
+
+    does : Does seat did (call_at old.seats seat) left old.pool new.pool old.locks new.locks old.journal new.journal
+    does = turn_does (of old.keys) seat old.stopped did (call_at old.seats seat) left old.pool new.pool old.locks
+        new.locks old.journal new.journal here

@@ -1,0 +1,111 @@
+-- Steps of one seat, one behind the other.
+use Rattle.std.proofs.Common.{◌≡◌, refl, sym, ap, ◌∙◌, subst, ℕ, Bool, true, ◌||◌, IsSome, List, [], ◌++◌, Option, Some, None, append-nil, append_assoc, arith}
+use Rattle.page_locks.proofs.ChangeLemmas.{IsSeat-with_row, with_row-own, with_row-twice}
+use Rattle.step_rules.specs.declared.kind.Kind.{Kind}
+use Rattle.interleaving_core.specs.Words.{Answer, Call, Entry, IsSeat, Table, row_of, with_row}
+use Rattle.interleaving_core.specs.Active.{ActiveView}
+use Rattle.interleaving_core.specs.Kernel.{IsWhole, KernelState, call_at, locks_of, with_call}
+use Rattle.interleaving_core.specs.Owing.{IsMove, IsRun, IsTurn, answer_told, call_of, entry_of, is_failure, told, told_of_failure, untold}
+use Rattle.interleaving_core.specs.declared.step.Step.{Step}
+use Rattle.interleaving_core.specs.declared.step.Step.TheVariants as steps
+use Rattle.interleaving_core.proofs.PlaceLemmas.{Seats, with_own, with_twice}
+use Rattle.interleaving_core.proofs.KernelLemmas.{its_row}
+
+-- ---- nothing changes
+
+pub stays_put : {K : Type 0} (seat : ℕ) (s : KernelState K) → row_of s.locks seat ≡ locks_of (call_at s.seats seat) →
+    IsRun seat None s s
+stays_put seat s row = record {
+  seats = sym (with_own s.seats seat);
+  locks = sym (with_row-own s.locks seat) ∙ ap (with_row s.locks seat) row;
+  call = λ some. refl;
+  added = [];
+  journal = sym (append-nil s.journal);
+  owed = append-nil (untold seat (call_at s.seats seat)) ∙ by (call_at s.seats seat);
+  rest = record { keys = refl; callers = refl; stopped = refl; honest = refl; later = omega arith };
+}
+  where
+    by : (at : Option ActiveView) → untold seat at ≡ told seat at None ++ untold seat at
+    by None = refl
+    by (Some a) = refl
+
+pub fails_put : {K : Type 0} (seat : ℕ) (did : Step) (s : KernelState K) → IsWhole s → s.failed ≡ true →
+    did ≡ told_of_failure (call_at s.seats seat) → IsTurn seat did s s
+fails_put seat did s whole broken is = record {
+  run = subst (λ (x : Option Answer). IsRun seat x s s) (sym (ap answer_told is ∙ none (call_at s.seats seat)))
+      (stays_put seat s (its_row s whole seat));
+  idle = (λ e. idle_at (call_at s.seats seat) (sym is ∙ e), λ e. is ∙ ap told_of_failure e);
+  decides = λ other. refl;
+  failed = broken ∙ sym (ap (λ (b : Bool). b || is_failure did) broken);
+  fails = λ b. is;
+  still = λ b. refl;
+}
+  where
+    none : (at : Option ActiveView) → answer_told (told_of_failure at) ≡ None
+    none None = refl
+    none (Some a) = refl
+
+    idle_at : (at : Option ActiveView) → told_of_failure at ≡ steps.Idle → at ≡ None
+    idle_at None e = refl
+    idle_at (Some a) e = absurd cc
+
+-- ---- one step more
+
+untold_none : (seat : ℕ) (at : Option ActiveView) → told seat at None ≡ []
+untold_none seat None = refl
+untold_none seat (Some a) = refl
+
+pub runs_on : {K : Type 0} (seat : ℕ) (did : Step) (a b c : KernelState K) → IsRun seat None a b →
+    IsTurn seat did b c → IsRun seat (answer_told did) a c
+runs_on seat did a b c r t =
+    let q = t.run in
+    let at_a = call_at a.seats seat in
+    let at_b = call_at b.seats seat in
+    let at_c = call_at c.seats seat in
+    record {
+      seats = q.seats ∙ ap (λ (x : Seats). with_call x seat at_c) r.seats ∙ with_twice a.seats seat at_b at_c;
+      locks = q.locks ∙ ap (λ (x : Table). with_row x seat (locks_of at_c)) r.locks
+          ∙ with_row-twice a.locks seat (locks_of at_b) (locks_of at_c);
+      call = λ some. q.call some ∙ r.call (subst IsSome (q.call some) some);
+      added = r.added ++ q.added;
+      journal = q.journal ∙ ap (λ (es : List Entry). es ++ q.added) r.journal
+          ∙ append_assoc a.journal r.added q.added;
+      owed = sym (append_assoc (untold seat at_a) r.added q.added)
+          ∙ ap (λ (es : List Entry). es ++ q.added) (r.owed
+          ∙ ap (λ (es : List Entry). es ++ untold seat at_b) (untold_none seat at_a))
+          ∙ q.owed ∙ ap (λ (es : List Entry). es ++ untold seat at_c) (same_told at_b refl);
+      rest = record {
+        keys = q.rest.keys ∙ r.rest.keys;
+        callers = q.rest.callers ∙ r.rest.callers;
+        stopped = q.rest.stopped ∙ r.rest.stopped;
+        honest = q.rest.honest ∙ r.rest.honest;
+        later = let first = r.rest.later in let last = q.rest.later in omega (arith, first, last);
+      };
+    }
+  where
+    same_told : (at : Option ActiveView) → call_at b.seats seat ≡ at →
+        told seat (call_at b.seats seat) (answer_told did) ≡ told seat (call_at a.seats seat) (answer_told did)
+    same_told None is =
+        let idle : did ≡ steps.Idle = t.idle.1 is in
+        ap (λ (d : Step). told seat (call_at b.seats seat) (answer_told d)) idle
+        ∙ untold_none seat (call_at b.seats seat) ∙ sym (untold_none seat (call_at a.seats seat))
+        ∙ ap (λ (d : Step). told seat (call_at a.seats seat) (answer_told d)) (sym idle)
+    same_told (Some x) is =
+        ap (λ (y : Option Call). entry_of seat y (answer_told did))
+        (r.call (subst (λ (y : Option ActiveView). IsSome (call_of y)) (sym is) refl))
+
+-- the seat stays one
+pub seat_stays : {K : Type 0} (seat : ℕ) (answer : Option Answer) (a b : KernelState K) → IsRun seat answer a b →
+    IsSeat a.locks seat → IsSeat b.locks seat
+seat_stays seat answer a b r is =
+    subst (λ (t : Table). IsSeat t seat) (sym r.locks)
+    (IsSeat-with_row a.locks seat seat (locks_of (call_at b.seats seat)) is)
+
+-- a step that does not move
+pub no_move : (did : Step) → ((kind : Kind) → did ≡ steps.Moved kind → ⊥) → IsMove did → ⊥
+no_move (steps.Moved kind) other move = other kind refl
+no_move (steps.Blocked seat) other move = move
+no_move steps.Waiting other move = move
+no_move (steps.Answered answer) other move = move
+no_move steps.Idle other move = move
+no_move (steps.Fault fault) other move = move

@@ -1,0 +1,19 @@
+-- Nobody has a call, or a lock.
+use Rattle.std.proofs.Common.{◌≡◌, ◌∙◌, refl, ap, ◌≤◌, length, vec_capacity, arith}
+use Rattle.std.proofs.lemmas.Bool.Decides.{nat_tests}
+use Rattle.std.proofs.lemmas.Grind.{common_steps}
+use Rattle.buffer_pool.specs.Pool.{PoolState}
+use Rattle.interleaving_core.proofs.BeginLemmas.{opened_whole}
+use Rattle.interleaving_core.proofs.kernel.Kernel.open.Goals as goal
+
+pub invariant_of-result : goal.invariant_of-result
+invariant_of-result g c =
+    let frames : c.in-Ok-open.pool.frames ≡ c.args.frames =
+    ap (λ (s : PoolState). s.frames) c.in-Ok-open.ensures.ok in
+    let least : c.least_frames.result ≤ c.args.frames = grind (arith, nat_tests) in
+    let needs = c.least_frames.ensures in
+    let memory : 1 ≤ vec_capacity c.reserve.new.self = grind (arith, common_steps) in
+    opened_whole (length c.args.callers.now) _
+    (record { rest = c.in-Ok-open.ensures.rest; frames = omega (arith, frames, least, needs) })
+    c.in-Ok-new.ensures c.in-Ok-idle_seats.ensures (ap length c.in-Ok-copied.ensures)
+    (c.in-Ok-reserve.ensures.items ∙ c.new-journal.ensures.items) refl memory

@@ -1,0 +1,6 @@
+-- The callers that were reached.
+use Rattle.std.proofs.Common.{◌≡◌, take}
+use Rattle.interleaving_core.proofs.opening.copied.Given as goal
+
+abbrev pub invariant-loop-caller : goal.invariant-loop-caller
+invariant-loop-caller l = l.copy.items ≡ take l.caller-index l.callers

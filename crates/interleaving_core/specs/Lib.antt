@@ -1,0 +1,10 @@
+pub mod Words
+pub mod Active
+pub mod Fault
+pub mod Turn
+pub mod Kernel
+pub mod Owing
+pub mod Driving
+pub mod Beginning
+pub mod Closing
+pub use Rattle.xsi_calls.specs as xsi_calls

@@ -1,0 +1,101 @@
+-- What a step of a seat leaves of a kernel, and which entries its seat is told. docs/QUEUES.md, "Journals".
+use Rattle.std.specs.Prelude.{ℕ, ◌≡◌, ◌≢◌, ◌↔◌, ◌≤◌, Bool, true, false, ◌||◌, IsSome, List, [], ◌∷◌, ◌++◌, Option, Some, None, ⊤}
+use Rattle.file_pages.specs.declared.fault.FileFault.TheVariants.{Failed}
+use Rattle.queue_model.specs.declared.entry.Entry.TheVariants.{Decided}
+use Rattle.step_rules.specs.declared.kind.Kind.TheVariants.{Decide}
+use Rattle.interleaving_core.specs.Words.{Answer, Call, Entry, answer_of_call, with_row}
+use Rattle.interleaving_core.specs.Active.{ActiveView}
+use Rattle.interleaving_core.specs.Kernel.{KernelState, call_at, locks_of, with_call}
+use Rattle.interleaving_core.specs.declared.fault.StepFault.TheVariants as faults
+use Rattle.interleaving_core.specs.declared.step.Step.{Step}
+use Rattle.interleaving_core.specs.declared.step.Step.TheVariants as steps
+
+-- the call under way
+abbrev pub call_of : Option ActiveView → Option Call
+call_of None = None
+call_of (Some a) = Some a.machine.call
+
+-- the entry of a call with an answer
+abbrev pub entry_of : ℕ → Option Call → Option Answer → List Entry
+entry_of seat None answer = []
+entry_of seat (Some call) None = []
+entry_of seat (Some call) (Some answer) = Decided seat call answer ∷ []
+
+-- the entry that a seat's call has in the journal, and of which the seat was not told yet
+abbrev pub untold : ℕ → Option ActiveView → List Entry
+untold seat None = []
+untold seat (Some a) = entry_of seat (Some a.machine.call) (answer_of_call a.machine)
+
+abbrev pub answer_told : Step → Option Answer
+answer_told (steps.Moved kind) = None
+answer_told (steps.Blocked other) = None
+answer_told steps.Waiting = None
+answer_told (steps.Answered answer) = Some answer
+answer_told steps.Idle = None
+answer_told (steps.Fault fault) = None
+
+-- the entry of which it is told by this answer
+abbrev pub told : ℕ → Option ActiveView → Option Answer → List Entry
+told seat at answer = entry_of seat (call_of at) answer
+
+-- the file fails a call
+abbrev pub is_failure : Step → Bool
+is_failure (steps.Moved kind) = false
+is_failure (steps.Blocked other) = false
+is_failure steps.Waiting = false
+is_failure (steps.Answered answer) = false
+is_failure steps.Idle = false
+is_failure (steps.Fault (faults.File fault)) = true
+is_failure (steps.Fault faults.NoRoom) = false
+
+abbrev pub failed : Step
+failed = steps.Fault (faults.File Failed)
+
+-- its seat's call goes on
+abbrev pub IsMove : Step → Type 0
+IsMove (steps.Moved kind) = ⊤
+IsMove (steps.Blocked other) = ⊥
+IsMove steps.Waiting = ⊥
+IsMove (steps.Answered answer) = ⊥
+IsMove steps.Idle = ⊥
+IsMove (steps.Fault fault) = ⊥
+
+-- what a seat with this call is told behind a failure
+abbrev pub told_of_failure : Option ActiveView → Step
+told_of_failure None = steps.Idle
+told_of_failure (Some a) = failed
+
+-- what no step changes
+pub record KeepsRest {K : Type 0} (old new : KernelState K) : Type 0 where
+  pub keys : new.keys ≡ old.keys
+  pub callers : new.callers ≡ old.callers
+  pub stopped : new.stopped ≡ old.stopped
+  pub honest : new.pool.honest ≡ old.pool.honest
+  pub later : old.pool.faults ≤ new.pool.faults
+
+-- steps of one seat, in which it was told this answer, or none
+pub record IsRun {K : Type 0} (seat : ℕ) (answer : Option Answer) (old new : KernelState K) : Type 0 where
+  -- nothing changes at another seat, and of the locks its own row alone
+  pub seats : new.seats ≡ with_call old.seats seat (call_at new.seats seat)
+  pub locks : new.locks ≡ with_row old.locks seat (locks_of (call_at new.seats seat))
+  -- a call that goes on is the same call
+  pub call : IsSome (call_of (call_at new.seats seat)) →
+      call_of (call_at new.seats seat) ≡ call_of (call_at old.seats seat)
+  -- the entries that joined the journal are of its call: it is told each once, now or later
+  pub added : List Entry
+  pub journal : new.journal ≡ old.journal ++ added
+  pub owed : untold seat (call_at old.seats seat) ++ added ≡
+      told seat (call_at old.seats seat) answer ++ untold seat (call_at new.seats seat)
+  pub rest : KeepsRest old new
+
+-- one step of a seat
+pub record IsTurn {K : Type 0} (seat : ℕ) (did : Step) (old new : KernelState K) : Type 0 where
+  pub run : IsRun seat (answer_told did) old new
+  -- it is idle just where it has no call
+  pub idle : (did ≡ steps.Idle) ↔ (call_at old.seats seat ≡ None)
+  -- the journal grows at its Decide alone
+  pub decides : did ≢ steps.Moved Decide → new.journal ≡ old.journal
+  -- behind a failure of the file each call is told of it, and nothing changes
+  pub failed : new.failed ≡ (old.failed || is_failure did)
+  pub fails : old.failed ≡ true → did ≡ told_of_failure (call_at old.seats seat)
+  pub still : old.failed ≡ true → new ≡ old

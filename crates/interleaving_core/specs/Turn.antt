@@ -1,0 +1,74 @@
+-- What a step of a seat's call does, and what its seat is told. docs/STEPS.md, "Calls".
+use Rattle.std.specs.Prelude.{ℕ, ◌≡◌, Bool, true, false, List, ◌++◌, Option, Some, None}
+use Rattle.file_pages.specs.declared.fault.FileFault.{FileFault}
+use Rattle.step_rules.specs.declared.progress.Progress.TheVariants as progress
+use Rattle.xsi_calls.specs.CallSteps.{MakesCall}
+use Rattle.interleaving_core.specs.Words.{Answer, CallView, Entry, PoolState, Progress, RecordKey, Table, answer_of_call, conclusion_of}
+use Rattle.interleaving_core.specs.Active.{ActiveView, BeginsAgain, IsDrafted, draft_by, entries_by, is_waiting, told_at_end}
+use Rattle.interleaving_core.specs.declared.fault.StepFault.TheVariants as faults
+use Rattle.interleaving_core.specs.declared.step.Step.{Step}
+use Rattle.interleaving_core.specs.declared.step.Step.TheVariants as steps
+
+-- ---- what is told
+
+abbrev pub told_when_over : Bool → Option Answer → Step
+told_when_over true answer = steps.Waiting
+told_when_over false answer = told_at_end answer
+
+-- of a step by which the call has come so far
+abbrev pub told_of : Progress FileFault → CallView → Step
+told_of (progress.Moved kind) m = steps.Moved kind
+told_of (progress.Blocked other) m = steps.Blocked other
+told_of (progress.Fault fault) m = steps.Fault (faults.File fault)
+told_of progress.Ended m = told_when_over (is_waiting (conclusion_of m)) (answer_of_call m)
+
+-- ---- what is left at the seat
+
+-- a call that will wait begins anew, any other is gone
+abbrev pub IsLeftWhenOver : Bool → ActiveView → Option ActiveView → Type 0
+IsLeftWhenOver true a left = (again : ActiveView) × (left ≡ Some again) × BeginsAgain a again
+IsLeftWhenOver false a left = left ≡ None
+
+abbrev pub IsLeft : Progress FileFault → ActiveView → Option ActiveView → Type 0
+IsLeft (progress.Moved kind) a left = left ≡ Some a
+IsLeft (progress.Blocked other) a left = left ≡ Some a
+IsLeft (progress.Fault fault) a left = left ≡ Some a
+IsLeft progress.Ended a left = IsLeftWhenOver (is_waiting (conclusion_of a.machine)) a left
+
+-- the end of a call that is over
+pub record Finishes (told : Step) (a : ActiveView) (left : Option ActiveView) : Type 0 where
+  pub told_is : told ≡ told_when_over (is_waiting (conclusion_of a.machine)) (answer_of_call a.machine)
+  pub left_is : IsLeftWhenOver (is_waiting (conclusion_of a.machine)) a left
+
+-- ---- the whole of it
+
+-- a step of a call at a seat, at the pseudokeys that this function gives, with this stop mark
+pub record MakesTurn (hash : RecordKey → ℕ) (seat : ℕ) (stopped : Bool) (told : Step) (old : ActiveView)
+    (left : Option ActiveView) (pool pool' : PoolState) (locks locks' : Table) (entries entries' : List Entry)
+    : Type 0 where
+  -- its machine makes one step, by which the call comes so far
+  pub did : Progress FileFault
+  pub come : ActiveView
+  pub makes : MakesCall hash seat stopped did old.machine come.machine pool pool' locks locks'
+  -- what was kept for its entry joins the journal where it comes to an answer
+  pub kept : IsDrafted old.machine old.draft
+  pub draft : come.draft ≡ draft_by (answer_of_call come.machine) old.draft
+  pub journal : entries' ≡ entries ++ entries_by seat (answer_of_call come.machine) old.draft
+  pub told_is : told ≡ told_of did come.machine
+  pub left_is : IsLeft did come left
+
+-- a seat that has no call
+pub record StaysIdle (told : Step) (left : Option ActiveView) (pool pool' : PoolState) (locks locks' : Table)
+    (journal journal' : List Entry) : Type 0 where
+  pub told_is : told ≡ steps.Idle
+  pub left_is : left ≡ None
+  pub same_pool : pool' ≡ pool
+  pub same_locks : locks' ≡ locks
+  pub same_journal : journal' ≡ journal
+
+abbrev pub Turns : (RecordKey → ℕ) → ℕ → Bool → Step → Option ActiveView → Option ActiveView → PoolState → PoolState →
+    Table → Table → List Entry → List Entry → Type 0
+Turns hash seat stopped told None left pool pool' locks locks' journal journal' =
+    StaysIdle told left pool pool' locks locks' journal journal'
+Turns hash seat stopped told (Some a) left pool pool' locks locks' journal journal' =
+    MakesTurn hash seat stopped told a left pool pool' locks locks' journal journal'

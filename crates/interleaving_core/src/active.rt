@@ -1,0 +1,163 @@
+//! A call under way at a seat, and what is kept for its entry in the journal.
+
+ghost use Rattle.std.specs.Prelude.{◌≡◌, ◌+◌, ◌≤◌, ◌++◌, IfErr, IfOk, IfSome, length, true, vec_capacity};
+ghost use Rattle.xsi_calls.specs.CallSteps.{MakesCall};
+ghost use Rattle.xsi_calls.specs.Machine.{IsOver, answer_of_call, call_locks, conclusion_of};
+ghost use Rattle.interleaving_core.specs.Active.{BeginsAgain, HasBegun, HasRoomAs, IsDrafted, draft_by, drafted, entries_by, is_waiting, told_at_end};
+ghost use Rattle.interleaving_core.specs.Words.{IsReady, IsSeat, row_of};
+
+use crate::fault::StepFault;
+use crate::step::Step;
+use bucket_page::PseudoKey;
+use buffer_pool::Pool;
+use file_pages::FileFault;
+use page_device::PageDevice;
+use page_locks::LockTable;
+use queue_model::{Call, Caller, Entry};
+use std::alloc::Global;
+use std::marker::Model;
+use step_rules::Progress;
+use xsi_calls::{CallMachine, Conclusion};
+use xsi_inquiry::Room;
+
+/// What is kept for the entry of a call that is not answered yet: a copy of the call, and room for a
+/// copy of the bytes of its answer.
+#[derive(Drop)]
+pub(crate) struct Draft {
+    pub(crate) call: Call,
+    pub(crate) room: Room,
+}
+
+/// A call under way at a seat. What is kept for its entry joins the journal at its Decide.
+#[derive(Drop)]
+pub(crate) struct Active {
+    machine: CallMachine,
+    draft: Option<Draft>,
+}
+
+impl Model for Active {
+    ghost use Rattle.interleaving_core.specs.Active.{ActiveView, IsDrafted};
+
+    ghost Value = { ActiveView };
+
+    ghost view = { λ a. record { machine = a.machine; draft = a.draft } };
+
+    ghost invariant = { λ a. IsDrafted a.machine a.draft };
+}
+
+impl Active {
+    /// A call of a caller begins. All memory that it and its entry can need is taken here. Where
+    /// there is none the call comes back whole.
+    pub(crate) fn begin(alloc: Global, caller: Caller, call: Call) -> Result<Active, Call>
+        ensures ok { IfOk result (HasBegun caller call) }
+        ensures err { IfErr result (λ back. back ≡ call) }
+    {
+        let copy = match call.try_copy() {
+            Ok(copy) => copy,
+            Err(_) => return Err(call),
+        };
+        let machine = match CallMachine::new(alloc, caller, call) {
+            Ok(machine) => machine,
+            Err((call, _)) => return Err(call),
+        };
+        let room = match machine.try_twin() {
+            Ok(room) => room,
+            Err(_) => return Err(copy),
+        };
+        Ok(Active {
+            machine,
+            draft: Some(Draft { call: copy, room }),
+        })
+    }
+
+    /// One step of the call. Where it comes to an answer, its entry joins the journal.
+    pub(crate) fn step<D: PageDevice, K: PseudoKey>(
+        &mut self,
+        pool: &mut Pool<D>,
+        locks: &mut LockTable,
+        keys: &K,
+        journal: &mut Vec<Entry>,
+        stopped: bool,
+        seat: u8,
+    ) -> Progress<FileFault>
+        requires seat { IsSeat locks.old seat }
+        requires ready { IsReady pool.old }
+        requires row { row_of locks.old seat ≡ call_locks self.old.machine }
+        requires room { drafted self.old.draft + length journal.old.items
+            ≤ vec_capacity journal.old }
+        ensures makes { MakesCall (K.of_key keys.now) seat stopped result
+            self.old.machine self.new.machine pool.old pool.new locks.old locks.new }
+        ensures journal { journal.new.items ≡ journal.old.items ++
+            entries_by seat (answer_of_call self.new.machine) self.old.draft }
+        ensures draft { self.new.draft ≡
+            draft_by (answer_of_call self.new.machine) self.old.draft }
+        ensures capacity { vec_capacity journal.old ≤ vec_capacity journal.new }
+        ensures kept { IsDrafted self.old.machine self.old.draft }
+    {
+        let did = self.machine.step(pool, locks, keys, stopped, seat);
+        note(&self.machine, &mut self.draft, journal, seat);
+        did
+    }
+
+    /// The entries that are due for it.
+    pub(crate) fn due(&self) -> usize
+        ensures { result ≡ drafted self.now.draft }
+    {
+        match &self.draft {
+            Some(_) => 1,
+            None => 0,
+        }
+    }
+
+    /// Whether its call will wait.
+    pub(crate) fn waits(&self) -> bool
+        ensures { result ≡ is_waiting (conclusion_of self.now.machine) }
+    {
+        matches!(self.machine.conclusion(), Some(Conclusion::Waits))
+    }
+
+    /// The call that will wait, and has given its names back, begins anew.
+    pub(crate) fn begin_again(&mut self)
+        requires waits { is_waiting (conclusion_of self.old.machine) ≡ true }
+        requires over { IsOver self.old.machine }
+        ensures { BeginsAgain self.old self.new }
+    {
+        self.machine.begin_again();
+    }
+
+    /// What its seat is told of a call that is over, and does not wait.
+    pub(crate) fn end(self) -> Step
+        ensures { result ≡ told_at_end (answer_of_call self.machine) }
+    {
+        match self.machine.into_answer() {
+            Some(answer) => Step::Answered(answer),
+            None => Step::Fault(StepFault::NoRoom),
+        }
+    }
+}
+
+/// The entry of a call that has come to an answer joins the journal, where it has not yet.
+fn note(machine: &CallMachine, draft: &mut Option<Draft>, journal: &mut Vec<Entry>, seat: u8)
+    requires fits { IfSome draft.old (λ d. HasRoomAs d.room machine.now) }
+    requires room { drafted draft.old + length journal.old.items ≤ vec_capacity journal.old }
+    ensures journal { journal.new.items ≡ journal.old.items ++
+        entries_by seat (answer_of_call machine.now) draft.old }
+    ensures draft { draft.new ≡ draft_by (answer_of_call machine.now) draft.old }
+    ensures capacity { vec_capacity journal.old ≤ vec_capacity journal.new }
+{
+    let Some(Conclusion::Answers(_)) = machine.conclusion() else {
+        return;
+    };
+    let Some(kept) = draft.take() else {
+        return;
+    };
+    let Some(answer) = machine.answer_in(kept.room) else {
+        return;
+    };
+    let entry = Entry::Decided {
+        seat,
+        call: kept.call,
+        answer,
+    };
+    journal.push(entry).unwrap();
+}

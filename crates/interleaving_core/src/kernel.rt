@@ -1,0 +1,333 @@
+//! The kernel.
+
+ghost use Rattle.std.specs.Prelude.{◌≡◌, ◌↔◌, ◌+◌, ◌*◌, ◌^◌, ◌≤◌, ◌<◌, Some, false, true, IsTrue, IsErrAnd, IfErr, IfOk, length, sum_by};
+ghost use Rattle.std.specs.List.{list_any};
+ghost use Rattle.buffer_pool.specs.Pool.{payloads_of};
+ghost use Rattle.page_device.specs.Device.{HasRisen};
+ghost use Rattle.interleaving_core.specs.Active.{ActiveView};
+ghost use Rattle.interleaving_core.specs.Beginning.{HasCall, HasSystem, IsOpened, IsRefused, IsStopped, MayRefuse};
+ghost use Rattle.interleaving_core.specs.Closing.{IfBusy, IsBusy, IsReleased, OnDevice, fault_in, has_one, is_busy, journal_in};
+ghost use Rattle.interleaving_core.specs.Driving.{IsDriven};
+ghost use Rattle.interleaving_core.specs.Fault.{device_failed};
+ghost use Rattle.interleaving_core.specs.Kernel.{IsWhole, call_at, entries_of};
+ghost use Rattle.interleaving_core.specs.Owing.{IsMove, IsRun, IsTurn, answer_told, is_failure, told_of_failure};
+ghost use Rattle.interleaving_core.specs.Turn.{MakesTurn};
+ghost use Rattle.interleaving_core.specs.Words.{IsSeat};
+
+use crate::active::Active;
+use crate::advance::advance;
+use crate::fault::{BeginFault, CloseFault, OpenFault, StepFault};
+use crate::opening::{copied, idle_seats, least_frames};
+use crate::places::{due, has_call, told_of_failure};
+use crate::step::Step;
+use bucket_page::PseudoKey;
+use buffer_pool::{Pool, PoolFault};
+use file_check::{Checked, check};
+use file_pages::FileFault;
+use page_device::PageDevice;
+use page_locks::{LockTable, MAX_SEATS};
+use queue_model::{Call, Caller, Entry};
+use std::alloc::Global;
+use std::marker::Model;
+
+/// The calls that one session decides at most.
+pub const MAX_DECIDED: usize = 65_536;
+
+/// The steps that a drive makes at most: more than any call makes by itself.
+pub const MOST_STEPS: u32 = 4_000_000;
+
+/// Seats at calls over one file: whoever steps them decides which of them makes the next step. It
+/// reads records and never keeps a system.
+#[derive(Drop)]
+pub struct Kernel<D: PageDevice, K: PseudoKey> {
+    pool: Pool<D>,
+    locks: LockTable,
+    keys: K,
+    callers: Vec<Caller>,
+    seats: Vec<Option<Active>>,
+    journal: Vec<Entry>,
+    stopped: bool,
+    failed: bool,
+}
+
+impl<D: PageDevice, K: PseudoKey> Model for Kernel<D, K> {
+    ghost use Rattle.std.specs.Prelude.{vec_capacity};
+    ghost use Rattle.interleaving_core.specs.Kernel.{IsWhole, KernelState};
+
+    ghost Value = { KernelState K };
+
+    ghost view = { λ k. record {
+      keys = k.keys;
+      pool = k.pool;
+      locks = k.locks;
+      callers = k.callers.items;
+      seats = k.seats.items;
+      journal = k.journal.items;
+      room = vec_capacity k.journal;
+      stopped = k.stopped;
+      failed = k.failed;
+    } };
+
+    ghost invariant = { λ k. IsWhole (record {
+      keys = k.keys;
+      pool = k.pool;
+      locks = k.locks;
+      callers = k.callers.items;
+      seats = k.seats.items;
+      journal = k.journal.items;
+      room = vec_capacity k.journal;
+      stopped = k.stopped;
+      failed = k.failed;
+    }) };
+}
+
+/// What is left of a kernel that was closed.
+#[derive(Drop)]
+pub struct Closed<D> {
+    /// The device.
+    pub device: D,
+    /// What was decided, in its order.
+    pub journal: Vec<Entry>,
+}
+
+/// Why a kernel was not closed, or not closed well.
+#[derive(Drop)]
+pub enum NotClosed<D: PageDevice, K: PseudoKey> {
+    /// A seat has a call under way. Nothing changed.
+    Busy(Kernel<D, K>),
+    /// What was changed may be lost.
+    Fault(Closed<D>, CloseFault),
+}
+
+impl<D: PageDevice + Drop, K: PseudoKey + Copy> Kernel<D, K> {
+    /// Checks the file on a device and opens it for these callers, one a seat, with so many frames
+    /// for its pages. The system is not stopped. A file with which anything is wrong is refused by
+    /// the first thing that is. Each refusal gives the device back.
+    pub fn open(
+        alloc: Global,
+        device: D,
+        keys: K,
+        callers: &[Caller],
+        frames: usize,
+    ) -> Result<Kernel<D, K>, (D, OpenFault)>
+        requires some { 1 ≤ length callers.now }
+        requires few { length callers.now ≤ MAX_SEATS }
+        ensures ok { IfOk result (IsOpened keys (D.content device) (D.is_honest device)
+            callers.now frames) }
+        ensures file { IsTrue (D.is_honest device) →
+            IfOk result (λ _. HasSystem (K.of_key keys) (D.content device)) }
+        ensures few { IsErrAnd result (λ refusal. refusal.1 ≡ OpenFault.TooFewFrames) ↔
+            (frames < 4 * length callers.now + 8) }
+        ensures refused { IsTrue (D.is_honest device) → IfErr result (λ refusal.
+            MayRefuse (K.of_key keys) (D.content device) refusal.1) }
+        ensures err { IfErr result (λ refusal. (D.content refusal.0 ≡ D.content device)
+            × (D.is_honest refusal.0 ≡ D.is_honest device)) }
+        ensures cause { IfErr result (λ refusal. refusal.1 ≡ device_failed →
+            HasRisen (D.fault_count device) (D.fault_count refusal.0)) }
+    {
+        let seats = callers.len();
+        if frames < least_frames(seats) {
+            return Err((device, OpenFault::TooFewFrames));
+        }
+        let Checked { device, found } = check(alloc, device, keys);
+        match found {
+            Ok(_) => {}
+            Err(fault) => return Err((device, OpenFault::Wrong(fault))),
+        }
+        let Ok(locks) = LockTable::new(alloc, seats as u8) else {
+            return Err((device, OpenFault::NoMemory));
+        };
+        let Ok(callers) = copied(alloc, callers) else {
+            return Err((device, OpenFault::NoMemory));
+        };
+        let Ok(seats) = idle_seats(alloc, seats) else {
+            return Err((device, OpenFault::NoMemory));
+        };
+        let mut journal = Vec::new(alloc);
+        let Ok(()) = journal.reserve(1) else {
+            return Err((device, OpenFault::NoMemory));
+        };
+        match Pool::open(alloc, device, frames) {
+            Ok(pool) => Ok(Kernel {
+                pool,
+                locks,
+                keys,
+                callers,
+                seats,
+                journal,
+                stopped: false,
+                failed: false,
+            }),
+            Err((device, PoolFault::TooFewFrames)) => Err((device, OpenFault::TooFewFrames)),
+            Err((device, _)) => Err((device, OpenFault::NoMemory)),
+        }
+    }
+
+    /// How many seats there are. They count from 1.
+    pub fn seats(&self) -> u8
+        ensures { result ≡ length self.now.locks }
+    {
+        self.locks.seats()
+    }
+
+    /// What was decided, in its order.
+    pub fn journal(&self) -> &[Entry]
+        ensures { result.now ≡ self.now.journal }
+    {
+        self.journal.as_slice()
+    }
+
+    /// Whether a step has failed: then no call begins, and none goes on.
+    pub fn has_failed(&self) -> bool
+        ensures { result ≡ self.now.failed }
+    {
+        self.failed
+    }
+
+    /// A kernel is always whole, whatever the device gives.
+    pub fn is_whole(&self)
+        ensures { IsWhole self.now }
+    {
+        let _ = &self.failed;
+    }
+
+    /// A call begins at a seat. All memory that it and its entry in the journal can need is taken
+    /// here. A call that is refused comes back.
+    pub fn begin(&mut self, seat: u8, call: Call) -> Result<(), (Call, BeginFault)>
+        requires { IsSeat self.old.locks seat }
+        ensures ok { IfOk result (λ _. HasCall seat call self.old self.new) }
+        ensures err { IfErr result (λ back. IsRefused seat call back self.old self.new) }
+    {
+        if self.failed {
+            return Err((call, BeginFault::Failed));
+        }
+        let place = seat as usize - 1;
+        if self.seats[place].is_some() {
+            return Err((call, BeginFault::Busy));
+        }
+        if self.entries() > MAX_DECIDED {
+            return Err((call, BeginFault::SessionFull));
+        }
+        let Ok(()) = self.journal.reserve(self.seats.len() + 1) else {
+            return Err((call, BeginFault::NoMemory));
+        };
+        let alloc: Global = *self.journal.allocator();
+        match Active::begin(alloc, self.callers[place], call) {
+            Ok(active) => {
+                self.seats[place] = Some(active);
+                Ok(())
+            }
+            Err(call) => Err((call, BeginFault::NoMemory)),
+        }
+    }
+
+    /// One step of the call at a seat. It takes no memory.
+    pub fn step(&mut self, seat: u8) -> Step
+        requires { IsSeat self.old.locks seat }
+        ensures turn { IsTurn seat result self.old self.new }
+        // The step is one of the machine of its call.
+        ensures makes { (a : ActiveView) → call_at self.old.seats seat ≡ Some a →
+            self.old.failed ≡ false → MakesTurn (K.of_key self.old.keys) seat self.old.stopped
+            result a (call_at self.new.seats seat) self.old.pool self.new.pool
+            self.old.locks self.new.locks self.old.journal self.new.journal }
+    {
+        let place = seat as usize - 1;
+        if self.failed {
+            return told_of_failure(&self.seats[place]);
+        }
+        let step = advance(
+            &mut self.seats[place],
+            &mut self.pool,
+            &mut self.locks,
+            &self.keys,
+            &mut self.journal,
+            self.stopped,
+            seat,
+        );
+        self.failed = is_failure(&step);
+        step
+    }
+
+    /// Steps a seat until its call does not move: it is answered, waits, is blocked, meets a fault,
+    /// or there is none. A call that still moves after `MOST_STEPS` fails the kernel.
+    pub fn drive(&mut self, seat: u8) -> Step
+        requires { IsSeat self.old.locks seat }
+        ensures run { IsRun seat (answer_told result) self.old self.new }
+        ensures rests { IsMove result → ⊥ }
+        // Each step of it is one of the seat, from where the one before it led.
+        ensures driven { IsDriven (K.of_key self.old.keys) seat result self.old self.new }
+    {
+        self.is_whole();
+        for _ in 0..MOST_STEPS {
+            match self.step(seat) {
+                Step::Moved(_) => {}
+                other => return other,
+            }
+        }
+        self.failed = true;
+        Step::Fault(StepFault::File(FileFault::Failed))
+    }
+
+    /// Stops the system: from here on a call that would wait is refused EINTR.
+    pub fn stop(&mut self)
+        ensures { IsStopped self.old self.new }
+    {
+        if self.stopped {
+            return;
+        }
+        self.journal.push(Entry::Stopped).unwrap();
+        self.stopped = true;
+    }
+
+    /// Writes the pages to the device, and gives it back with the journal. Where a step has failed
+    /// nothing is written; where a seat has a call under way the kernel comes back.
+    pub fn close(self) -> Result<Closed<D>, NotClosed<D, K>>
+        ensures ok { IsTrue self.pool.honest → IfOk result (λ closed.
+            payloads_of (D.content closed.device) ≡ self.pool.images) }
+        ensures journal { journal_in result ≡ self.journal }
+        ensures busy { (is_busy result ≡ true) ↔ IsBusy self }
+        ensures failed { (fault_in result ≡ Some CloseFault.Failed) ↔ (self.failed ≡ true) }
+        ensures device { OnDevice (λ d. IsReleased self (fault_in result)
+            (D.content d) (D.is_honest d) (D.fault_count d)) result }
+        ensures back { IfBusy (λ kernel. kernel ≡ self) result }
+    {
+        if !self.failed && has_call(self.seats.as_slice()) {
+            return Err(NotClosed::Busy(self));
+        }
+        let Kernel {
+            mut pool,
+            locks: _,
+            keys: _,
+            callers: _,
+            seats: _,
+            journal,
+            stopped: _,
+            failed,
+        } = self;
+        if failed {
+            let device = pool.into_device();
+            return Err(NotClosed::Fault(Closed { device, journal }, CloseFault::Failed));
+        }
+        let flushed = pool.flush();
+        let device = pool.into_device();
+        match flushed {
+            Ok(()) => Ok(Closed { device, journal }),
+            Err(_) => Err(NotClosed::Fault(Closed { device, journal }, CloseFault::Device)),
+        }
+    }
+
+    /// The entries that the journal has, and those that are due.
+    fn entries(&self) -> usize
+        ensures { result ≡ entries_of self.now }
+    {
+        let due = due(self.seats.as_slice());
+        due + (self.journal.len() + usize::from(!self.stopped))
+    }
+}
+
+/// Whether the file has failed a call.
+fn is_failure(step: &Step) -> bool
+    ensures { result ≡ is_failure step.now }
+{
+    matches!(step, Step::Fault(StepFault::File(_)))
+}

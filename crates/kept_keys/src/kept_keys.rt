@@ -1,0 +1,66 @@
+//! A way to make a pseudokey that keeps those that it made.
+
+ghost use Rattle.std.specs.Prelude.{◌≡◌, ◌<◌};
+ghost use Rattle.kept_keys.specs.declared.kept_keys.TheConstants.{SLOTS};
+
+use crate::alike::Alike;
+use crate::kept::Kept;
+use bucket_page::{PseudoKey, RecordKey};
+use std::cell::Cell;
+use std::marker::Model;
+
+/// How many pseudokeys are kept.
+pub const SLOTS: usize = 64;
+
+/// Makes the pseudokeys of another way, and keeps them: each in the slot of its key, where it
+/// takes the place of an older one.
+#[derive(Drop)]
+pub struct KeptKeys<K: Alike> {
+    keys: K,
+    slots: [Cell<Option<Kept<K>>>; SLOTS],
+}
+
+impl<K: Alike> Model for KeptKeys<K> {
+    ghost Value = { K };
+
+    ghost view = { λ k. k.keys };
+}
+
+impl<K: Alike> KeptKeys<K> {
+    /// Keeps none at first.
+    pub fn new(keys: K) -> KeptKeys<K>
+        ensures { result ≡ keys }
+    {
+        KeptKeys {
+            keys,
+            slots: std::array::from_fn(|_| Cell::new(None)),
+        }
+    }
+}
+
+impl<K: Alike> PseudoKey for KeptKeys<K> {
+    ghost of_key = { K.of_key };
+
+    ghost small = { K.small };
+
+    fn of(&self, key: &RecordKey) -> u32 {
+        let slot = &self.slots[slot_of(key)];
+        if let Some(kept) = slot.get()
+            && let Some(pseudokey) = kept.of(key)
+        {
+            return pseudokey;
+        }
+        let pseudokey = self.keys.of(key);
+        slot.set(Some(Kept::new(*key, pseudokey)));
+        pseudokey
+    }
+}
+
+/// The slot of a key. Keys of different kinds have different slots, and so have the keys of
+/// messages that stand near one another.
+fn slot_of(key: &RecordKey) -> usize
+    ensures { result < SLOTS }
+{
+    let place = (u64::from(key.queue) ^ key.number) % 8;
+    usize::from(key.kind % 8) * 8 + place as usize
+}

@@ -1,0 +1,63 @@
+//! Keys that are asked for again, and keys that take one another's slots.
+
+use crate::{Alike, KeptKeys};
+use bucket_page::{NumberKey, PseudoKey, RecordKey, ShaKey};
+use std::cell::Cell;
+use std::test::Fail;
+
+/// A message's key. Those of a number and of the eighth behind it have one slot.
+fn message(number: u64) -> RecordKey {
+    RecordKey {
+        kind: 5,
+        queue: 1,
+        number,
+    }
+}
+
+#[test]
+fn keys_that_share_slots_have_their_own_pseudokeys(rt: HostRuntime) -> Result<(), Fail> {
+    let kept = KeptKeys::new(ShaKey);
+    for number in 0..100 {
+        for asked in [number, number, number + 8, number + 1, number] {
+            assert!(rt; kept.of(&message(asked)) == ShaKey.of(&message(asked)));
+        }
+    }
+    Ok(())
+}
+
+/// Counts how often it is asked.
+#[derive(Drop)]
+struct Counted<'a> {
+    asked: &'a Cell<u32>,
+}
+
+impl PseudoKey for Counted<'_> {
+    ghost use Rattle.bucket_page.specs.Pseudokeys.{number_key};
+    ghost use Rattle.bucket_page.specs.PseudokeyLaws.{number_key_small};
+
+    ghost of_key = { λ _. number_key };
+
+    ghost small = { λ _. number_key_small };
+
+    fn of(&self, key: &RecordKey) -> u32 {
+        self.asked.set(self.asked.get().wrapping_add(1));
+        NumberKey.of(key)
+    }
+}
+
+impl Alike for Counted<'_> {
+    ghost use Rattle.std.specs.Prelude.{refl};
+
+    ghost same = { λ _ _ _. refl };
+}
+
+#[test]
+fn a_pseudokey_that_is_kept_is_not_computed_again(rt: HostRuntime) -> Result<(), Fail> {
+    let asked = Cell::new(0);
+    let kept = KeptKeys::new(Counted { asked: &asked });
+    for (number, count) in [(1, 1), (1, 1), (2, 2), (1, 2), (9, 3), (2, 3), (1, 4)] {
+        assert!(rt; u64::from(kept.of(&message(number))) == number);
+        assert!(rt; asked.get() == count);
+    }
+    Ok(())
+}

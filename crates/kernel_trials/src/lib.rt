@@ -1,0 +1,29 @@
+//! Trials of the kernel from outside. They stand here, so that they are proved without that crate
+//! being proved once more.
+
+#![tactic(auto)]
+
+#[cfg(test)]
+mod asks;
+#[cfg(test)]
+mod cases;
+#[cfg(test)]
+mod closing;
+#[cfg(test)]
+mod finding;
+#[cfg(test)]
+mod long_queues;
+#[cfg(test)]
+mod no_room;
+#[cfg(test)]
+mod plain;
+#[cfg(test)]
+mod racing;
+#[cfg(test)]
+mod rows;
+#[cfg(test)]
+mod scripts;
+#[cfg(test)]
+mod splitting;
+#[cfg(test)]
+mod waiting;

@@ -1,0 +1,82 @@
+//! Sends for which there is no room.
+
+use crate::asks::Asks::{Get, ReceiveCut, SendLong};
+use crate::cases::Left::{Bytes, Entries, Header};
+use crate::cases::{Case, page_of, run, run_all};
+use crate::rows::Row;
+use crate::rows::Row::Calls;
+use crate::rows::Want::{Id, NoRoom, Received, Sent};
+use bucket_page::{ConstantKey, ShaKey};
+use std::process::Abort;
+use std::test::Fail;
+
+/// A queue of three long messages: the Counter has 23 bytes, a Key 19, a Queue 114, a Type 47, and
+/// each Message 1,075.
+const THREE_MESSAGES: [Row; 4] = [
+    Calls(1, Get(7), Id(1)),
+    Calls(1, SendLong(1, 1024), Sent(1)),
+    Calls(1, SendLong(1, 1024), Sent(2)),
+    Calls(1, SendLong(1, 1024), Sent(3)),
+];
+
+/// A Message that has no room, and one of 581 bytes, of the 620 that are left, whose Type has none.
+const REFUSED: [Row; 2] = [
+    Calls(1, SendLong(1, 1024), NoRoom),
+    Calls(1, SendLong(2, 530), NoRoom),
+];
+
+/// The first message is received, and leaves room for another.
+const GOES_ON: [Row; 2] = [
+    Calls(2, ReceiveCut(1, 0, 0), Received(1)),
+    Calls(1, SendLong(1, 1024), Sent(4)),
+];
+
+const BEFORE: Case = Case {
+    pages: 258,
+    rows: &[&THREE_MESSAGES],
+    left: &[Bytes(257, 3428), Entries(4)],
+};
+
+const BEHIND: Case = Case {
+    pages: 258,
+    rows: &[&THREE_MESSAGES, &REFUSED],
+    left: &[Bytes(257, 3428), Entries(4)],
+};
+
+const ON: Case = Case {
+    pages: 258,
+    rows: &[&THREE_MESSAGES, &REFUSED, &GOES_ON],
+    left: &[Bytes(257, 3428), Entries(6)],
+};
+
+#[test]
+fn a_send_without_room_leaves_the_file(rt: HostRuntime) -> Result<(), Fail> {
+    let mut before = run(&rt, ShaKey, BEFORE)?;
+    let mut behind = run(&rt, ShaKey, BEHIND)?;
+    assert!(rt; page_of(&mut before, 257)? == page_of(&mut behind, 257)?);
+    run(&rt, ShaKey, ON)?;
+    Ok(())
+}
+
+/// One message more.
+const DEEP: [Row; 1] = [Calls(1, SendLong(1, 1024), NoRoom)];
+
+/// All pseudokeys are 0, so the bucket is split down to the greatest depth, and has no room there.
+/// Of its 18 live buckets 17 were free pages.
+const TOO_DEEP: [Case; 2] = [
+    Case {
+        pages: 288,
+        rows: &[&THREE_MESSAGES, &DEEP],
+        left: &[Bytes(257, 3428), Header(17, 275), Entries(4)],
+    },
+    Case {
+        pages: 288,
+        rows: &[&THREE_MESSAGES, &DEEP, &GOES_ON],
+        left: &[Bytes(257, 3428), Entries(6)],
+    },
+];
+
+#[test]
+fn a_send_into_a_bucket_of_the_greatest_depth_has_no_room(rt: HostRuntime) -> Result<(), Fail> {
+    run_all(&rt, ConstantKey(0), &TOO_DEEP)
+}

@@ -1,0 +1,4 @@
+pub mod Words
+pub mod Serving
+pub mod Laws
+pub use Rattle.opened_files.specs as opened_files

@@ -1,0 +1,3 @@
+pub mod RestingLemmas
+pub mod StepLemmas
+pub mod DriveLemmas

@@ -1,0 +1,3 @@
+pub mod Words
+pub mod Lone
+pub mod Laws

@@ -1,0 +1,4 @@
+pub mod SameLemmas
+pub mod StoredLemmas
+pub mod OpenLemmas
+pub mod CloseLemmas

@@ -1,0 +1,5 @@
+pub mod PlaceLemmas
+pub mod EventLemmas
+pub mod RoundLemmas
+pub mod PrintLemmas
+pub mod OpeningLemmas

@@ -1,0 +1,11 @@
+use Rattle.replays.proofs.RoundLemmas.{Comes-nothing, Comes-on}
+use Rattle.replays.proofs.rounds.round.Goals as goal
+
+pub loop-place-init : goal.loop-place-init
+loop-place-init g c = Comes-nothing c.args.replay.now
+
+-- one seat more
+pub loop-place-preserved : goal.loop-place-preserved
+loop-place-preserved g c =
+    Comes-on c.args.replay.now c.loop-place.replay c.turn_unless_waiting-has_moved.new.replay
+    c.loop-place.invariant c.turn_unless_waiting-has_moved.ensures

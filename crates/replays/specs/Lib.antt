@@ -1,0 +1,4 @@
+pub mod Events
+pub mod Places
+pub mod Rounds
+pub mod Replays

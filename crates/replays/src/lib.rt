@@ -1,0 +1,20 @@
+//! The lines of several seats of a script, run beside one another by a schedule.
+
+#![tactic(auto)]
+
+mod deed;
+mod ending;
+mod files;
+mod line_events;
+mod opening;
+mod printing;
+mod progress;
+mod replay;
+mod rounds;
+
+pub use deed::Deed;
+pub use ending::run;
+pub use files::{Sources, replay_file};
+pub use opening::open;
+pub use progress::{Place, Progress};
+pub use replay::{MOST_STEPS, Replay};
