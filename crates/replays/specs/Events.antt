@@ -7,9 +7,10 @@ use Rattle.bucket_page.specs.Pseudokeys.{sha_key}
 use Rattle.bucket_page.specs.declared.pseudokey.ShaKey.{ShaKey}
 use Rattle.interleaving_core.specs.Active.{ActiveView}
 use Rattle.interleaving_core.specs.Beginning.{HasCall, IsRefused, IsStopped}
+use Rattle.interleaving_core.specs.Driving.{IsDriven}
 use Rattle.interleaving_core.specs.Fault.{begin_number_of, step_number_of}
 use Rattle.interleaving_core.specs.Kernel.{KernelState, call_at}
-use Rattle.interleaving_core.specs.Owing.{IsMove, IsRun, IsTurn, answer_told}
+use Rattle.interleaving_core.specs.Owing.{IsRun, IsTurn, answer_told}
 use Rattle.interleaving_core.specs.Turn.{MakesTurn}
 use Rattle.interleaving_core.specs.declared.fault.BeginFault.{BeginFault}
 use Rattle.interleaving_core.specs.declared.step.Step.{Step}
@@ -137,21 +138,21 @@ abbrev pub IsReadied : ℕ → Option ℕ → ReplayState → ReplayState → Ty
 IsReadied seat None old new = (did : Deed) × BeginsNext seat (next_line seat old) did old new
 IsReadied seat (Some place) old new = new ≡ old
 
--- steps of the call under way for as long as it moves
+-- steps of the call under way for as long as it moves, as a drive of the kernel makes them
 pub record DrivesLine (seat place : ℕ) (old new : ReplayState) : Type 0 where
   pub step : Step
   pub run : IsRun seat (answer_told step) old.kernel new.kernel
-  pub rests : IsMove step → ⊥
+  pub driven : IsDriven sha_key seat step old.kernel new.kernel
   pub script : new.script ≡ told seat place (reply_by step) old.script
 
-abbrev pub IsDriven : ℕ → Option ℕ → ReplayState → ReplayState → Type 0
-IsDriven seat None old new = new ≡ old
-IsDriven seat (Some place) old new = DrivesLine seat place old new
+abbrev pub DrivesOn : ℕ → Option ℕ → ReplayState → ReplayState → Type 0
+DrivesOn seat None old new = new ≡ old
+DrivesOn seat (Some place) old new = DrivesLine seat place old new
 
 pub record Drives (seat : ℕ) (old new : ReplayState) : Type 0 where
   pub ready : ReplayState
   pub readied : IsReadied seat (line_under_way seat old) old ready
-  pub driven : IsDriven seat (line_under_way seat ready) ready new
+  pub driven : DrivesOn seat (line_under_way seat ready) ready new
 
 -- it is a step of a kind other than this
 abbrev pub IsOtherMove : Kind → Deed → Type 0
