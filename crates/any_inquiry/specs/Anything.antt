@@ -1,6 +1,6 @@
 -- What the inquiry of any call asks for, knows, decides and writes: as the inquiry of the call's kind.
 -- docs/STEPS.md, "Calls".
-use Rattle.std.specs.Prelude.{ℕ, List, [], ◌∷◌, Option, Some, None, Result, Err}
+use Rattle.std.specs.Prelude.{ℕ, List, [], ◌∷◌, Option, Some, None, Result, Err, ⊤}
 use Rattle.any_inquiry.specs.Words.{LockName, Call, Caller, State, GetInquiry, SetInquiry, StatInquiry, KnowsOfGet, get_decided, get_left, get_locked, get_plan, get_wanted, set_decided, set_plan, set_wanted, stat_decided, Decision, NotASystem, Wanted, Roomful, Tells, reads_left, sought_next, Plan, nothing, ReceiveInquiry, SendInquiry, RemoveInquiry}
 use Rattle.page_locks.specs.declared.lock.LockName.TheVariants as names
 use Rattle.queue_model.specs.declared.call.Call.TheVariants as calls
@@ -93,6 +93,17 @@ KnowsOf (calls.Set a) any room s =
     IsOfKind (λ (i : SetInquiry). Tells a.id i.sought s) (of_set any)
 KnowsOf (calls.Remove id) any room s =
     IsOfKind (λ (i : RemoveInquiry). remove_knowing.KnowsAt i.caller id i.stage s) (of_remove any)
+
+-- where it may come to, from where it is, once it was told an answer
+abbrev pub FollowsOf : Call → AnyInquiry → AnyInquiry → Type 0
+FollowsOf (calls.Get a) any then = ⊤
+FollowsOf (calls.Send a) any then = ⊤
+FollowsOf (calls.Receive a) any then = ⊤
+FollowsOf (calls.Stat id) any then = ⊤
+FollowsOf (calls.Set a) any then = ⊤
+FollowsOf (calls.Remove id) any then =
+    IsOfKind (λ (i : RemoveInquiry). IsOfKind (λ (j : RemoveInquiry). removes.FollowsAt i.stage j.stage)
+    (of_remove then)) (of_remove any)
 
 -- at most as many questions are still asked
 abbrev pub left_of : Call → AnyInquiry → ℕ

@@ -29,7 +29,7 @@ pub enum AnyInquiry {
 const _: () = prove!(size_of::<AnyInquiry>() <= 400);
 
 impl Inquiry for AnyInquiry {
-    ghost use Rattle.any_inquiry.specs.Anything.{KnowsOf, asked_of, caller_of, decided_of, left_of, locked_of, plan_of};
+    ghost use Rattle.any_inquiry.specs.Anything.{FollowsOf, KnowsOf, asked_of, caller_of, decided_of, left_of, locked_of, plan_of};
     ghost use Rattle.any_inquiry.specs.Asked.{any_asks, any_asks_given, any_inserts, few_of};
 
     type Arguments = Call;
@@ -43,6 +43,8 @@ impl Inquiry for AnyInquiry {
     ghost locked = { λ call i. locked_of call i };
 
     ghost Knows = { λ call i room s. KnowsOf call i room s };
+
+    ghost Follows = { λ call i j. FollowsOf call i j };
 
     ghost left = { λ call i. left_of call i };
 

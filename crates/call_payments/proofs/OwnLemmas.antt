@@ -27,7 +27,7 @@ module _ (P : RecordKey → Type 0) where
   abbrev IsOwnTrial : Record → Type 0
   IsOwnTrial r = P (key_of r)
 
-  own_written : (ws : List Write) (key : RecordKey) → All IsOwn ws → is_written ws key ≡ true → P key
+  pub own_written : (ws : List Write) (key : RecordKey) → All IsOwn ws → is_written ws key ≡ true → P key
   own_written [] key own is = absurd cc
   own_written (w ∷ ws) key own is =
       by (is_same key (key_written w)) refl is (own_written ws key (All-tail IsOwn w ws own))
@@ -42,7 +42,7 @@ module _ (P : RecordKey → Type 0) where
   undoing_own (r ∷ rs) own = All-push IsOwn (undoing rs) (Delete (key_of r))
       (undoing_own rs (All-tail IsOwnTrial r rs own)) (All-head IsOwnTrial r rs own)
 
-  undone_own : (n : ℕ) (rs : List Record) → All IsOwnTrial rs → All IsOwn (undoing (take n rs))
+  pub undone_own : (n : ℕ) (rs : List Record) → All IsOwnTrial rs → All IsOwn (undoing (take n rs))
   undone_own n rs own = undoing_own (take n rs) (All-take IsOwnTrial n rs own)
 
   left_own : (os : List (Option Write)) (from : ℕ) → All IsOwn (somes os) → All IsOwn (somes (drop from os))

@@ -34,6 +34,11 @@ owes_sweep : (p : Plan) (id : ℕ) (v : Option Work) → IsOf id v → (IsOver v
 owes_sweep p id None its going = absurd (going tt)
 owes_sweep p id (Some w) its going = ap (λ (n : ℕ). Sweeps n (writes_of p)) its
 
+-- and it is one of no other queue
+one_queue : (id other : ℕ) (v : Option Work) → IsOf id v → IsOf other v → (IsOver v → ⊥) → id ≡ other
+one_queue id other None its others going = absurd (going tt)
+one_queue id other (Some w) its others going = sym its ∙ others
+
 -- in a sound world it ends with no message left
 none_left : (hash : RecordKey → ℕ) (id count : ℕ) (q : Queue) (s : State) (v : Option Work) →
     IsWorking hash id count q s v → IsOver v → v ≡ None
@@ -136,8 +141,15 @@ module _ (hash : RecordKey → ℕ) (seat : ℕ) (names : List Lock) (p : Plan) 
     elsewhere : (key : RecordKey) → (Owns names key → ⊥) → now.after key ≡ records key
     elsewhere key none = now.elsewhere key (λ its. none (owns_swept key its))
 
+    its_queue : IsOf y.id v
+    its_queue = of_queue hash y.id y.count y.queue y.system v y.faces.sweeps.works
+
+    leaves : (id : ℕ) → IsOf id v → (key : RecordKey) → is_swept id key ≡ false → now.after key ≡ records key
+    leaves id its key other = now.elsewhere key (λ swept. true≢false (sym swept
+        ∙ subst (λ (n : ℕ). is_swept n key ≡ false) (one_queue id y.id v its its_queue y.goes_on) other))
+
     owed_before : owes_now p (stages.Sweeping v) ≡ Sweeps y.id (writes_of p)
-    owed_before = owes_sweep p y.id v (of_queue hash y.id y.count y.queue y.system v y.faces.sweeps.works) y.goes_on
+    owed_before = owes_sweep p y.id v its_queue y.goes_on
 
     -- ---- it goes on
 
@@ -164,6 +176,7 @@ module _ (hash : RecordKey → ℕ) (seat : ℕ) (names : List Lock) (p : Plan) 
         after = now.after;
         still = now.still;
         elsewhere = elsewhere;
+        leaves = leaves;
         pays = record {
           id = y.id;
           count = on.count';
@@ -224,6 +237,7 @@ module _ (hash : RecordKey → ℕ) (seat : ℕ) (names : List Lock) (p : Plan) 
         after = now.after;
         still = now.still;
         elsewhere = elsewhere;
+        leaves = leaves;
         pays = record {
           carries = record {
             small = y.small;

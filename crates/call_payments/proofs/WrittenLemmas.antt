@@ -65,6 +65,7 @@ writes_on hash seat names p did w w' pool pool' locks locks' makes records chang
       after = c.after;
       still = c.still;
       elsewhere = written_elsewhere names p w.due w'.due records c.after y.carries.own c.leaves;
+      leaves = c.leaves;
       pays = record {
         carries = c.carries;
         decided = decided_on p did w.due w'.due y.decided makes.aim.due;

@@ -2,7 +2,8 @@
 use Rattle.std.specs.Prelude.{ℕ, ◌≡◌, ◌↔◌, true, false, not, List, Option}
 use Rattle.file_pages.specs.declared.fault.FileFault.{FileFault}
 use Rattle.file_pages.specs.declared.fault.FileFault.TheVariants.{Failed}
-use Rattle.call_writes.specs.CarrySteps.{Advances, Carries, KeepsPlan}
+use Rattle.call_writes.specs.CarrySteps.{Advances, Carries, KeepsPlan, Leaves}
+use Rattle.owed_records.specs.Owing.{is_swept}
 use Rattle.xsi_remove.specs.SweepSteps.{IsOf, IsOver, MakesSweep}
 use Rattle.call_payments.specs.declared.payment.Stage.{Stage}
 use Rattle.call_payments.specs.declared.payment.Stage.TheVariants as stages
@@ -32,6 +33,14 @@ pub record KeepsPayment {F : Type 0} (p : Plan) (did : Progress F) (old new : St
 
 -- ---- on an honest device, in a sound world
 
+-- the records behind a step: a sweep leaves all but the Messages and Types of its queue, and a write leaves what its
+-- deed makes
+abbrev pub LeavesPart : Plan → (old new : Stage) → (records after : Records) → Type 0
+LeavesPart p (stages.Sweeping v) new records after =
+    (id : ℕ) → IsOf id v → (key : RecordKey) → is_swept id key ≡ false → after key ≡ records key
+LeavesPart p (stages.Writing w) (stages.Sweeping v) records after = ⊥
+LeavesPart p (stages.Writing w) (stages.Writing w') records after = Leaves p w.due w'.due records after
+
 -- a step of the rules, behind which the seat pays further, and what will stand once nothing is owed is the same
 pub record Pays {F : Type 0} (hash : RecordKey → ℕ) (seat : ℕ) (names : List Lock) (p : Plan) (did : Progress F)
     (old new : Stage) (records : Records) (pool pool' : PoolState) (locks locks' : Table) (change : Change)
@@ -42,6 +51,8 @@ pub record Pays {F : Type 0} (hash : RecordKey → ℕ) (seat : ℕ) (names : Li
   -- records change by a WriteRecord alone, and where their names are held exclusively
   pub still : is_write did ≡ false → after ≡ records
   pub elsewhere : (key : RecordKey) → (Owns names key → ⊥) → after key ≡ records key
+  -- and as its part says
+  pub leaves : LeavesPart p old new records after
   pub pays : IsPaying hash seat names p new after pool' locks' step.after
   pub owed : (key : RecordKey) → overlaid (owes_now p new) after key ≡ overlaid (owes_now p old) records key
 

@@ -1,9 +1,6 @@
 -- A step of the question under way is one of the call.
 use Rattle.std.proofs.Common.{ℕ, ◌≡◌, ◌<◌, ◌≤◌, ◌+◌, ◌*◌, Bool, true, false, List, Option, Some, None, IfSome, if◌then◌else◌, refl, sym, ap, ◌∙◌, subst, inl, inr, ◌⊎◌, arith}
 use Rattle.std.proofs.lemmas.Bool.{true≢false}
-use Rattle.std.specs.List.{Contains}
-use Rattle.held_names.specs.call_names.Laws.{KeepsNames}
-use Rattle.page_locks.specs.declared.lock.LockName.TheVariants.{Counter}
 use Rattle.file_pages.specs.declared.fault.FileFault.{FileFault}
 use Rattle.file_pages.specs.declared.fault.FileFault.TheVariants.{Failed}
 use Rattle.step_rules.specs.Known.{AllKnown}
@@ -15,7 +12,7 @@ use Rattle.held_names.proofs.TurnLemmas.{are_few_turns}
 use Rattle.call_questions.specs.declared.question.Question.{Question}
 use Rattle.call_questions.specs.Words.{RecordKey, PoolState, Table, Lock, Change, Store, row_of, with_row, store_of, Progress, Moved, Blocked, Fault, Ended, Look, World, is_fault, Step, world, NearsOrSpares, HasEnded, Record, ToFind, StandsAt, AccessView, Serves, access_answer, access_facts, access_key, access_left, access_locks, access_pseudokey, access_turn, AnyInquiry, caller_of, left_of, AreNames, names_in, names_for, names_left, MAX_NAMES, Begins, Call, State, Roomful}
 use Rattle.call_questions.specs.Answering.{MayRead}
-use Rattle.call_questions.specs.Questions.{FIND_STEPS, ROUND_STEPS, IsAsked, IsRightQuestion, IsUnderWay, KnowsApart, KnowsNear, QuestionsView, asks_more, changes, facts_of, locks_behind, questions_left, untold}
+use Rattle.call_questions.specs.Questions.{FIND_STEPS, ROUND_STEPS, IsAsked, IsRightQuestion, IsUnderWay, KnowsApart, KnowsItsKey, KnowsNear, QuestionsView, asks_more, changes, facts_of, locks_behind, questions_left, untold}
 use Rattle.call_questions.specs.QuestionSteps.{Closes, Faces, IsOver, Learns, MakesQuestions, Rests}
 use Rattle.record_access.proofs.OperationLemmas.{ended_free, owns_found}
 use Rattle.call_questions.proofs.FindLemmas.{reads_only}
@@ -64,10 +61,9 @@ module _ (hash : RecordKey → ℕ) (seat : ℕ) (call : Call) (i : AnyInquiry) 
 
   -- what the inquiry has come to behind the step, in which it was told an answer, or not
   pub record Comes (s : State) (j : AnyInquiry) (r : Roomful) (told : Bool) : Type 0 where
-    pub begins : asks_more call j ≡ false → changes call j ≡ true →
-        KeepsNames call ⊎ Contains (names_in held) Counter → Begins held (names_for call j)
-    pub grows : KeepsNames call → asks_more call j ≡ true → Begins held (names_for call j)
-    pub apart : KeepsNames call → KnowsApart call j r held
+    pub begins : asks_more call j ≡ false → changes call j ≡ true → Begins held (names_for call j)
+    pub grows : asks_more call j ≡ true → Begins held (names_for call j) ⊎ KnowsItsKey call j
+    pub apart : KnowsApart call j r held
     pub knows : KnowsNear call (view_of j r None) s
     pub asked : told ≡ false → IsAsked call (view_of j r None) a'
     -- fewer questions are left where one was told

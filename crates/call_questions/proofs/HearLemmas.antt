@@ -3,7 +3,7 @@ use Rattle.std.proofs.Common.{ℕ, ◌≡◌, ◌<◌, Bool, List, Option, Some,
 use Rattle.std.specs.Prelude.{nat_lt}
 use Rattle.queue_records.specs.declared.record.Record.TheVariants as records
 use Rattle.xsi_inquiry.specs.Telling.{AsksGiven, Gives, IsTold, IsToldGiven}
-use Rattle.call_questions.specs.Words.{RecordKey, Record, Counter, AnyInquiry, KnowsOf, asked_of, caller_of, left_of, LockName, Call, State, record_of, Wanted, At, Given, NotASystem, IsCovered, IsSoNear, IsFiled, Roomful}
+use Rattle.call_questions.specs.Words.{RecordKey, Record, Counter, AnyInquiry, FollowsOf, KnowsOf, asked_of, caller_of, left_of, LockName, Call, State, record_of, Wanted, At, Given, NotASystem, IsCovered, IsSoNear, IsFiled, Roomful}
 use Rattle.call_questions.specs.Answering.{Answers}
 use Rattle.call_questions.specs.QuestionSteps.{Hears}
 
@@ -29,7 +29,8 @@ same_given a b is = cc
 
 module _ (call : Call) (i j : AnyInquiry) (room room' : Roomful) (found : Option Record)
     (result : Result Unit NotASystem) (caller : caller_of j ≡ caller_of i)
-    (fewer : OnOk result (left_of call j < left_of call i)) (most : room'.most ≡ room.most) where
+    (fewer : OnOk result (left_of call j < left_of call i)) (follows : OnOk result (FollowsOf call i j))
+    (most : room'.most ≡ room.most) where
   pub hears_record : (key : RecordKey) → asked_of call i ≡ Some (At key) →
       ((held : List LockName) (s : State) → IsFiled s → IsCovered held (asked_of call i) →
       IsSoNear call held (KnowsOf call i room) s → IsTold s (asked_of call i) found →
@@ -38,6 +39,7 @@ module _ (call : Call) (i j : AnyInquiry) (room room' : Roomful) (found : Option
   hears_record key at told = record {
     caller = caller;
     fewer = on_ok result fewer;
+    follows = on_ok result follows;
     most = most;
     hears = λ wanted asked held s filed covered near answers.
         let same : wanted ≡ At key = same_wanted wanted (At key) (sym asked ∙ at) in
@@ -56,6 +58,7 @@ module _ (call : Call) (i j : AnyInquiry) (room room' : Roomful) (found : Option
   hears_given id given at kept counts told = record {
     caller = caller;
     fewer = on_ok result fewer;
+    follows = on_ok result follows;
     most = most;
     hears = λ wanted asked held s filed covered near answers.
         let same : wanted ≡ Given id = same_wanted wanted (Given id) (sym asked ∙ at) in

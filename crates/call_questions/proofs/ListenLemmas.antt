@@ -1,11 +1,8 @@
 -- What a call knows behind a step of its question, whether it was told an answer or not.
 use Rattle.std.proofs.Common.{ℕ, ◌≡◌, Bool, false, List, [], Option, Some, None, IfSome, IsOk, Result, Ok, Err, refl, sym, ap, ◌∙◌, subst, inl, inr, ◌⊎◌}
 use Rattle.std.proofs.lemmas.Bool.{true≢false}
-use Rattle.std.specs.List.{Contains}
 use Rattle.std.specs.Option.{is_some}
 use Rattle.call_decisions.specs.Others.{HoldsOwn}
-use Rattle.held_names.specs.call_names.Laws.{KeepsNames}
-use Rattle.page_locks.specs.declared.lock.LockName.TheVariants.{Counter}
 use Rattle.file_pages.specs.declared.fault.FileFault.{FileFault}
 use Rattle.file_pages.specs.declared.fault.FileFault.TheVariants.{Failed}
 use Rattle.record_access.specs.AccessSteps.{FindsRecord, MakesAccess}
@@ -14,7 +11,7 @@ use Rattle.call_questions.specs.declared.question.Question.{Question}
 use Rattle.call_questions.specs.Words.{RecordKey, PoolState, Table, Lock, Change, row_of, store_of, Progress, Moved, Fault, Look, is_fault, Record, ToFind, StandsAt, AccessView, Serves, access_answer, access_key, access_locks, AnyInquiry, KnowsOf, asked_of, AreNames, names_in, names_for, Begins, Call, State, NotASystem, IsSoNear, Roomful, Wanted}
 use Rattle.call_questions.specs.Answering.{Answers, IsAskedUnder}
 use Rattle.call_questions.specs.Laws.{IsAnswered}
-use Rattle.call_questions.specs.Questions.{IsAsked, IsUnderWay, QuestionsView, asks_more, keeping}
+use Rattle.call_questions.specs.Questions.{Holds, IsAsked, IsUnderWay, KnowsItsKey, QuestionsView, asks_more, keeping}
 use Rattle.call_questions.specs.QuestionSteps.{Closes, Faces, IsHeard, IsQuiet, IsSilent, Listens, MakesQuestions, Told}
 use Rattle.call_questions.proofs.AskLemmas.{asks_under}
 use Rattle.call_questions.proofs.GoingLemmas.{Comes, faces, fails, goes_on, view_of}
@@ -140,15 +137,13 @@ module _ (hash : RecordKey → ℕ) (seat : ℕ) (call : Call) (i : AnyInquiry) 
 
         aloud : ComesTo s j r q'.told
         aloud = record {
-          begins = λ none does keeps. subst (λ (ls : List Lock). Begins ls (names_for call j)) (sym was.names)
-              (begins_on call i j room r s (some_not_none (asked_of call i) was.wanted was.asked) does
-              (h.hears.fewer hears.0) (f.knows s f.agrees.filed (agrees_itself call _ s))
-              (hears.1 s f.agrees.filed (agrees_itself call _ s))
-              (subst (λ (ls : List Lock). KeepsNames call ⊎ Contains (names_in ls) Counter) was.names keeps));
-          grows = λ keeps asks. subst (λ (ls : List Lock). Begins ls (names_for call j)) (sym was.names)
-              (grows_on call i j keeps (some_not_none (asked_of call i) was.wanted was.asked) asks
-              (h.hears.fewer hears.0));
-          apart = λ keeps. inr (subst (λ (ls : List Lock). HoldsOwn call (names_in ls)) (sym was.names)
+          begins = λ none does. subst (λ (ls : List Lock). Begins ls (names_for call j)) (sym was.names)
+              (begins_on call i j (some_not_none (asked_of call i) was.wanted was.asked) does
+              (h.hears.fewer hears.0) (h.hears.follows hears.0));
+          grows = λ asks. subst (λ (ls : List Lock). Begins ls (names_for call j) ⊎ KnowsItsKey call j) (sym was.names)
+              (grows_on call i j (some_not_none (asked_of call i) was.wanted was.asked) asks
+              (h.hears.fewer hears.0) (h.hears.follows hears.0));
+          apart = Holds (subst (λ (ls : List Lock). HoldsOwn call (names_in ls)) (sym was.names)
               (own_names call i room s (f.knows s f.agrees.filed (agrees_itself call _ s))));
           knows = hears.1;
           asked = λ untold. absurd (true≢false (sym (h.counts hears.0) ∙ untold));

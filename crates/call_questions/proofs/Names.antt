@@ -21,6 +21,5 @@ pub use Rattle.queue_records.specs.declared.queue_entry.QueueEntry.{QueueEntry}
 pub use Rattle.page_locks.specs.Locks.{kind_of}
 pub use Rattle.xsi_control.specs.Getting.{get_left, get_plan, one_more, plan_made}
 pub use Rattle.xsi_control.specs.Setting.{plan_by, plan_on, set_entry, set_plan}
-pub use Rattle.xsi_inquiry.specs.Seeking.{IsKeyed, Tells, asks_of_sought, reads_left}
+pub use Rattle.xsi_inquiry.specs.Seeking.{Tells, asks_of_sought, reads_left}
 pub use Rattle.xsi_sweep.specs.Removing.{key_deletion, names_of}
-pub use Rattle.xsi_sweep.specs.declared.removal.Removal.{Removal}

@@ -1,16 +1,14 @@
 -- What a call changes, and the names under which it does, which grew.
-use Rattle.std.proofs.Common.{ℕ, zero, suc, ◌≡◌, ◌≢◌, ◌<◌, ◌++◌, ◌∷◌, inl, inr, ◌⊎◌, Bool, true, false, not, ◌&&◌, ◌||◌, cond, List, [], Option, Some, None, Result, Ok, Err, length, drop, take, refl, sym, ap, ◌∙◌, subst, arith}
+use Rattle.std.proofs.Common.{ℕ, ◌≡◌, ◌≢◌, ◌<◌, ◌++◌, ◌∷◌, inl, inr, ◌⊎◌, Bool, true, false, not, ◌&&◌, ◌||◌, cond, List, [], Option, Some, None, Result, Ok, Err, length, drop, take, refl, sym, ap, ◌∙◌, subst}
 use Rattle.std.proofs.lemmas.Bool.{true≢false}
 use Rattle.std.proofs.lemmas.List.{append-nil, take-append-drop}
-use Rattle.std.specs.List.{Contains}
 use Rattle.std.specs.Option.{is_some}
 use Rattle.std.specs.Prelude.{nat_lt}
 use Rattle.held_names.proofs.of_call_names.WriteLemmas.{write_under_names}
-use Rattle.call_questions.proofs.Names.{Errno, GetArguments, GetInquiry, Getting, IsKeyed, IsOfKind, KeepsNames, Lock, MAX_QBYTES, Plan, QueueEntry, ReceiveInquiry, Removal, RemoveInquiry, SendArguments, SendInquiry, SetArguments, SetInquiry, Sought, StatInquiry, by_phase, get_plan, if_of, key_deletion, key_of_queue, kind_of, names_grow, names_of, nothing, of_get, of_receive, of_remove, of_send, of_set, of_stat, one_more, plan_by, plan_made, plan_on, queue_for, set_entry, set_plan}
+use Rattle.call_questions.proofs.Names.{Errno, GetArguments, GetInquiry, Getting, IsOfKind, KeepsNames, Lock, MAX_QBYTES, Plan, QueueEntry, ReceiveInquiry, RemoveInquiry, SendArguments, SendInquiry, SetArguments, SetInquiry, Sought, StatInquiry, by_phase, get_plan, if_of, key_deletion, key_of_queue, kind_of, names_grow, names_of, nothing, of_get, of_receive, of_remove, of_send, of_set, of_stat, one_more, plan_by, plan_made, plan_on, queue_for, set_entry, set_plan}
 use Rattle.held_names.specs.declared.turn.NameTurn.TheVariants as turns
 use Rattle.held_names.proofs.TurnLemmas.{turns_are_right}
 use Rattle.page_locks.specs.declared.lock.LockKind.TheVariants.{Exclusive, Read}
-use Rattle.page_locks.specs.declared.lock.LockName.TheVariants as names
 use Rattle.queue_model.specs.declared.call.Call.TheVariants as calls
 use Rattle.queue_records.specs.declared.record.Record.TheVariants as records
 use Rattle.xsi_control.specs.declared.get_inquiry.Getting.TheVariants as gets
@@ -24,12 +22,12 @@ use Rattle.xsi_send.specs.declared.stage.Stage as send_stages
 use Rattle.xsi_send.specs.declared.stage.Stage.TheVariants as send
 use Rattle.xsi_send.specs.declared.type_place.TypePlace.TheVariants as places
 use Rattle.xsi_sweep.specs.Asking as removes
-use Rattle.xsi_sweep.specs.Knowing as remove_knowing
 use Rattle.xsi_sweep.specs.declared.stage.Stage as remove_stages
 use Rattle.xsi_sweep.specs.declared.stage.Stage.TheVariants as remove
-use Rattle.call_questions.specs.Words.{AnyInquiry, KnowsOf, asked_of, left_of, plan_of, Begins, Call, Caller, Counter, NameTurn, Ready, State, Roomful, Wanted, name_turn, names_for, names_in}
+use Rattle.any_inquiry.specs.declared.any_inquiry.AnyInquiry.TheVariants as any
+use Rattle.call_questions.specs.Words.{AnyInquiry, FollowsOf, asked_of, left_of, plan_of, Begins, Call, Caller, Counter, NameTurn, Ready, Wanted, name_turn, names_for}
 use Rattle.call_questions.specs.Laws.{WriteUnderNames}
-use Rattle.call_questions.specs.Questions.{asks_more, changes, changes_by, is_ready}
+use Rattle.call_questions.specs.Questions.{KnowsItsKey, asks_more, changes, changes_by, is_ready}
 
 -- ---- a plan that is not to do nothing changes something
 
@@ -191,72 +189,106 @@ grown : (call : Call) (i j : AnyInquiry) → KeepsNames call → asked_of call i
 grown call i j keeps asks tries fewer = begun_by call i j (names_grow call i j keeps (inl asks) (inr tries) fewer)
 
 -- so do those of a call that asks on
-pub grows_on : (call : Call) (i j : AnyInquiry) → KeepsNames call → asked_of call i ≢ None → asks_more call j ≡ true →
+asks_grow : (call : Call) (i j : AnyInquiry) → KeepsNames call → asked_of call i ≢ None → asks_more call j ≡ true →
     left_of call j < left_of call i → Begins (names_for call i) (names_for call j)
-grows_on call i j keeps asks more fewer = begun_by call i j
+asks_grow call i j keeps asks more fewer = begun_by call i j
     (names_grow call i j keeps (inl asks) (inl (λ none. true≢false (sym more ∙ ap is_some none))) fewer)
 
--- a Remove that has its Counter knows the key of its queue
+-- ---- a Remove keeps the names of its second phase
 
-no_counter : (id : ℕ) → Contains (names_in (queue_for id Read)) names.Counter → ⊥
-no_counter id (zero, within, at) = cc
-no_counter id (suc k, within, at) = omega (arith, within)
-
-keyed_names : (c : Caller) (id : ℕ) (key : Option ℕ) (r : Removal) (s : State) → IsKeyed id key s →
-    remove_knowing.KnowsRemoval c id r s →
-    Begins (by_phase id (names_of id key)) (by_phase id (names_of id r.key))
-keyed_names c id key r s keyed knows =
-    let same : key ≡ r.key = sym (knows.key ∙ keyed.keeps knows.queue knows.alive) in
-    subst (λ (k : Option ℕ). Begins (by_phase id (names_of id key)) (by_phase id (names_of id k))) same
+keyed_names : (id : ℕ) (key k : Option ℕ) → k ≡ key →
+    Begins (by_phase id (names_of id key)) (by_phase id (names_of id k))
+keyed_names id key k same =
+    subst (λ (x : Option ℕ). Begins (by_phase id (names_of id key)) (by_phase id (names_of id x))) (sym same)
     (begins_itself (by_phase id (names_of id key)))
 
-remove_begins : (id : ℕ) (c d : Caller) (g h : remove_stages.Stage) (s : State) → removes.asked id g ≢ None →
-    changes_by (removes.plan_at id h) ≡ true → remove_knowing.KnowsAt c id g s → remove_knowing.KnowsAt d id h s →
-    Contains (names_in (by_phase id (removes.locked_at id g))) names.Counter →
-    Begins (by_phase id (removes.locked_at id g)) (by_phase id (removes.locked_at id h))
-remove_begins id c d g (remove.Seeking sought) s asks does known knows has = absurd (changes_nothing does)
-remove_begins id c d g (remove.Refused errno) s asks does known knows has = absurd (changes_nothing does)
-remove_begins id c d g (remove.Keyed key) s asks does known knows has = absurd (changes_nothing does)
-remove_begins id c d g (remove.Counting key queue) s asks does known knows has = absurd (changes_nothing does)
-remove_begins id c d (remove.Seeking sought) (remove.Removing r) s asks does known knows has =
-    absurd (no_counter id has)
-remove_begins id c d (remove.Refused errno) (remove.Removing r) s asks does known knows has = absurd (asks refl)
-remove_begins id c d (remove.Keyed key) (remove.Removing r) s asks does known knows has =
-    keyed_names d id key r s known knows
-remove_begins id c d (remove.Counting key queue) (remove.Removing r) s asks does known knows has =
-    keyed_names d id key r s known.keyed knows
-remove_begins id c d (remove.Removing q) (remove.Removing r) s asks does known knows has = absurd (asks refl)
+remove_begins : (id : ℕ) (g h : remove_stages.Stage) → changes_by (removes.plan_at id h) ≡ true →
+    removes.FollowsAt g h → Begins (by_phase id (removes.locked_at id g)) (by_phase id (removes.locked_at id h))
+remove_begins id g (remove.Seeking sought) does follows = absurd (changes_nothing does)
+remove_begins id g (remove.Refused errno) does follows = absurd (changes_nothing does)
+remove_begins id g (remove.Keyed key) does follows = absurd (changes_nothing does)
+remove_begins id g (remove.Counting key queue) does follows = absurd (changes_nothing does)
+remove_begins id (remove.Seeking sought) (remove.Removing r) does follows = absurd follows
+remove_begins id (remove.Refused errno) (remove.Removing r) does follows = absurd follows
+remove_begins id (remove.Keyed key) (remove.Removing r) does follows = keyed_names id key r.key follows
+remove_begins id (remove.Counting key queue) (remove.Removing r) does follows = keyed_names id key r.key follows
+remove_begins id (remove.Removing q) (remove.Removing r) does follows = absurd follows
 
-remove_begins_in : (id : ℕ) (o p : Option RemoveInquiry) (s : State) →
-    if_of (λ (i : RemoveInquiry). removes.asked id i.stage) None o ≢ None →
+remove_begins_in : (id : ℕ) (o p : Option RemoveInquiry) →
     changes_by (if_of (λ (i : RemoveInquiry). removes.plan_at id i.stage) nothing p) ≡ true →
-    IsOfKind (λ (i : RemoveInquiry). remove_knowing.KnowsAt i.caller id i.stage s) o →
-    IsOfKind (λ (i : RemoveInquiry). remove_knowing.KnowsAt i.caller id i.stage s) p →
-    Contains (names_in (if_of (λ (i : RemoveInquiry). by_phase id (removes.locked_at id i.stage)) [] o)) names.Counter →
+    IsOfKind (λ (i : RemoveInquiry). IsOfKind (λ (j : RemoveInquiry). removes.FollowsAt i.stage j.stage) p) o →
     Begins (if_of (λ (i : RemoveInquiry). by_phase id (removes.locked_at id i.stage)) [] o)
     (if_of (λ (i : RemoveInquiry). by_phase id (removes.locked_at id i.stage)) [] p)
-remove_begins_in id None p s asks does known knows has = absurd (asks refl)
-remove_begins_in id (Some i) None s asks does known knows has = absurd (changes_nothing does)
-remove_begins_in id (Some i) (Some j) s asks does known knows has =
-    remove_begins id i.caller j.caller i.stage j.stage s asks does known knows has
+remove_begins_in id None p does follows = absurd follows
+remove_begins_in id (Some i) None does follows = absurd follows
+remove_begins_in id (Some i) (Some j) does follows = remove_begins id i.stage j.stage does follows
 
-pub begins_on : (call : Call) (i j : AnyInquiry) (room room' : Roomful) (s : State) → asked_of call i ≢ None →
-    changes call j ≡ true → left_of call j < left_of call i → KnowsOf call i room s → KnowsOf call j room' s →
-    KeepsNames call ⊎ Contains (names_in (names_for call i)) names.Counter →
-    Begins (names_for call i) (names_for call j)
-begins_on (calls.Get a) i j room room' s asks does fewer known knows keeps =
+pub begins_on : (call : Call) (i j : AnyInquiry) → asked_of call i ≢ None → changes call j ≡ true →
+    left_of call j < left_of call i → FollowsOf call i j → Begins (names_for call i) (names_for call j)
+begins_on (calls.Get a) i j asks does fewer follows =
     grown (calls.Get a) i j tt asks (get_inserts a (of_get j) does) fewer
-begins_on (calls.Send a) i j room room' s asks does fewer known knows keeps =
+begins_on (calls.Send a) i j asks does fewer follows =
     steady _ (λ (x : SendInquiry). sends.plan_at x.caller.pid a x.stage) (queue_for a.id Exclusive) (of_send i)
     (of_send j) asks does
-begins_on (calls.Receive a) i j room room' s asks does fewer known knows keeps =
+begins_on (calls.Receive a) i j asks does fewer follows =
     steady _ (λ (x : ReceiveInquiry). receives.plan_at a.id x.stage) (queue_for a.id Exclusive) (of_receive i)
     (of_receive j) asks does
-begins_on (calls.Stat id) i j room room' s asks does fewer known knows keeps =
+begins_on (calls.Stat id) i j asks does fewer follows =
     steady _ (λ (x : StatInquiry). nothing) (queue_for id Read) (of_stat i) (of_stat j) asks does
-begins_on (calls.Set a) i j room room' s asks does fewer known knows keeps =
+begins_on (calls.Set a) i j asks does fewer follows =
     steady _ (λ (x : SetInquiry). set_plan x.caller a x.sought) (queue_for a.id Exclusive) (of_set i) (of_set j) asks
     does
-begins_on (calls.Remove id) i j room room' s asks does fewer known knows (inl keeps) = absurd keeps
-begins_on (calls.Remove id) i j room room' s asks does fewer known knows (inr has) =
-    remove_begins_in id (of_remove i) (of_remove j) s asks does known knows has
+begins_on (calls.Remove id) i j asks does fewer follows =
+    remove_begins_in id (of_remove i) (of_remove j) does follows
+
+-- ---- or is between its phases
+
+asks_not : {P : Type 0} → false ≡ true → P
+asks_not is = absurd (true≢false (sym is))
+
+abbrev IsAtKey : remove_stages.Stage → Type 0
+IsAtKey stage = (key : Option ℕ) × (stage ≡ remove.Keyed key)
+
+remove_grows : (id : ℕ) (g h : remove_stages.Stage) → is_some (removes.asked id h) ≡ true → removes.FollowsAt g h →
+    Begins (by_phase id (removes.locked_at id g)) (by_phase id (removes.locked_at id h)) ⊎ IsAtKey h
+remove_grows id g (remove.Refused errno) more follows = asks_not more
+remove_grows id g (remove.Removing r) more follows = asks_not more
+remove_grows id g (remove.Keyed key) more follows = inr (key, refl)
+remove_grows id (remove.Seeking sought) (remove.Seeking then) more follows = inl (begins_itself (queue_for id Read))
+remove_grows id (remove.Seeking sought) (remove.Counting key queue) more follows = absurd follows
+remove_grows id (remove.Refused errno) (remove.Seeking then) more follows = absurd follows
+remove_grows id (remove.Refused errno) (remove.Counting key queue) more follows = absurd follows
+remove_grows id (remove.Keyed key) (remove.Seeking then) more follows = absurd follows
+remove_grows id (remove.Keyed key) (remove.Counting k queue) more follows = inl (keyed_names id key k follows)
+remove_grows id (remove.Counting key queue) (remove.Seeking then) more follows = absurd follows
+remove_grows id (remove.Counting key queue) (remove.Counting k q) more follows = inl (keyed_names id key k follows)
+remove_grows id (remove.Removing r) (remove.Seeking then) more follows = absurd follows
+remove_grows id (remove.Removing r) (remove.Counting key queue) more follows = absurd follows
+
+remove_grows_in : (id : ℕ) (i j : AnyInquiry) → asks_more (calls.Remove id) j ≡ true →
+    FollowsOf (calls.Remove id) i j →
+    Begins (names_for (calls.Remove id) i) (names_for (calls.Remove id) j) ⊎ KnowsItsKey (calls.Remove id) j
+remove_grows_in id (any.Get i) j more follows = absurd follows
+remove_grows_in id (any.Send i) j more follows = absurd follows
+remove_grows_in id (any.Receive i) j more follows = absurd follows
+remove_grows_in id (any.Stat i) j more follows = absurd follows
+remove_grows_in id (any.Set i) j more follows = absurd follows
+remove_grows_in id (any.Remove i) (any.Get j) more follows = absurd follows
+remove_grows_in id (any.Remove i) (any.Send j) more follows = absurd follows
+remove_grows_in id (any.Remove i) (any.Receive j) more follows = absurd follows
+remove_grows_in id (any.Remove i) (any.Stat j) more follows = absurd follows
+remove_grows_in id (any.Remove i) (any.Set j) more follows = absurd follows
+remove_grows_in id (any.Remove i) (any.Remove j) more follows = elim (remove_grows id i.stage j.stage more follows) [
+  | inl begins ↦ inl begins
+  | inr at ↦ inr (record { id = id; key = at.0; is = refl; inquiry = j; asks = refl; stage = at.1 })
+]
+
+pub grows_on : (call : Call) (i j : AnyInquiry) → asked_of call i ≢ None → asks_more call j ≡ true →
+    left_of call j < left_of call i → FollowsOf call i j →
+    Begins (names_for call i) (names_for call j) ⊎ KnowsItsKey call j
+grows_on (calls.Get a) i j asks more fewer follows = inl (asks_grow (calls.Get a) i j tt asks more fewer)
+grows_on (calls.Send a) i j asks more fewer follows = inl (asks_grow (calls.Send a) i j tt asks more fewer)
+grows_on (calls.Receive a) i j asks more fewer follows = inl (asks_grow (calls.Receive a) i j tt asks more fewer)
+grows_on (calls.Stat id) i j asks more fewer follows = inl (asks_grow (calls.Stat id) i j tt asks more fewer)
+grows_on (calls.Set a) i j asks more fewer follows = inl (asks_grow (calls.Set a) i j tt asks more fewer)
+grows_on (calls.Remove id) i j asks more fewer follows = remove_grows_in id i j more follows

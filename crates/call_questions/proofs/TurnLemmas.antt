@@ -6,7 +6,6 @@ use Rattle.std.proofs.lemmas.List.Elements.{Contains-append_left}
 use Rattle.std.specs.List.{Contains}
 use Rattle.page_locks.proofs.ChangeLemmas.{with_row-own}
 use Rattle.page_locks.specs.declared.lock.LockName.TheVariants as names
-use Rattle.held_names.specs.call_names.Laws.{KeepsNames}
 use Rattle.file_pages.specs.declared.fault.FileFault.{FileFault}
 use Rattle.step_rules.specs.Turns.{ForLock}
 use Rattle.step_rules.proofs.LockStepLemmas.{KeepsOthers-same}
@@ -19,7 +18,7 @@ use Rattle.held_names.specs.NameSteps.{GivesBack, MakesNameStep, Takes}
 use Rattle.held_names.proofs.OrderLemmas.{begin_are_names}
 use Rattle.held_names.proofs.TurnLemmas.{turns_are_right, turns_come_nearer}
 use Rattle.call_questions.specs.Words.{RecordKey, PoolState, Table, Lock, row_of, with_row, IsReady, OnlyWrites, Progress, Moved, Blocked, Fault, Ended, Step, world, is_write, AnyInquiry, KnowsOf, AreNames, names_in, names_for, Begins, name_turn, Take, GiveBack, LockName, Call, Roomful}
-use Rattle.call_questions.specs.Questions.{QuestionsView, IsRight, KnowsApart, asks_more, changes, has_asked, is_done, is_ready, turn_of_names}
+use Rattle.call_questions.specs.Questions.{HasBegun, HasKey, Holds, QuestionsView, IsRight, KnowsApart, KnowsItsKey, asks_more, changes, has_asked, is_done, is_ready, turn_of_names}
 use Rattle.call_questions.specs.QuestionSteps.{MakesQuestions}
 use Rattle.call_questions.proofs.KnowLemmas.{near_more}
 use Rattle.call_questions.proofs.OwnLemmas.{own_more}
@@ -77,9 +76,10 @@ module _ (hash : RecordKey → ℕ) (seat : ℕ) (call : Call) (i : AnyInquiry) 
 
   more_apart : (held : List Lock) (lock : Lock) → KnowsApart call i room held →
       KnowsApart call i room (held ++ lock ∷ [])
-  more_apart held lock (inl knows) = inl knows
-  more_apart held lock (inr own) =
-      inr (own_more call (names_in held) (names_in (held ++ lock ∷ [])) (more_names held lock) own)
+  more_apart held lock (HasBegun knows) = HasBegun knows
+  more_apart held lock (Holds own) =
+      Holds (own_more call (names_in held) (names_in (held ++ lock ∷ [])) (more_names held lock) own)
+  more_apart held lock (HasKey key) = HasKey key
 
   module _ (held : List Lock) (left : has_asked call (bare held) ≡ false) (row : row_of locks seat ≡ held) where
     abbrev pub goal : List Lock
@@ -113,9 +113,9 @@ module _ (hash : RecordKey → ℕ) (seat : ℕ) (call : Call) (i : AnyInquiry) 
         means = λ s change f fine. record {
           right = record {
             question = tt;
-            begins = λ none does keeps. begins_next;
-            grows = λ keeps asks. begins_next;
-            apart = λ keeps. more_apart held lock (f.right.apart keeps);
+            begins = λ none does. begins_next;
+            grows = λ asks. inl begins_next;
+            apart = more_apart held lock f.right.apart;
             few = f.right.few;
           };
           knows = near_more call (asks_more call i) held (held ++ lock ∷ []) (KnowsOf call i room) s
@@ -157,27 +157,22 @@ module _ (hash : RecordKey → ℕ) (seat : ℕ) (call : Call) (i : AnyInquiry) 
       begins_not : Begins held goal → ⊥
       begins_not = (turns_are_right held goal).give_back.0 turn
 
-      -- then it asks something, or is a Remove without its Counter
-      keeps_not : IsRight hash call (bare held) → asks_more call i ≡ false →
-          KeepsNames call ⊎ Contains (names_in held) names.Counter → ⊥
-      keeps_not right none keeps = begins_not (right.begins none (changes_on (asks_more call i) (changes call i)
-          (is_ready (name_turn held goal)) left none) keeps)
+      -- then it asks something
+      asks_on : IsRight hash call (bare held) → asks_more call i ≡ false → ⊥
+      asks_on right none = begins_not (right.begins none (changes_on (asks_more call i) (changes call i)
+          (is_ready (name_turn held goal)) left none))
 
-      -- so it is a Remove
-      removes : IsRight hash call (bare held) → KeepsNames call → ⊥
-      removes right keeps = by (asks_more call i) refl
+      -- so it is a Remove between its phases
+      between : IsRight hash call (bare held) → KnowsItsKey call i
+      between right = by (asks_more call i) refl
         where
-          by : (b : Bool) → asks_more call i ≡ b → ⊥
-          by true asks = begins_not (right.grows keeps asks)
-          by false none = keeps_not right none (inl keeps)
+          has_key : Begins held goal ⊎ KnowsItsKey call i → KnowsItsKey call i
+          has_key (inl begins) = absurd (begins_not begins)
+          has_key (inr key) = key
 
-      fewer_names : (held' : List Lock) (last : Lock) → held ≡ held' ++ last ∷ [] →
-          KeepsNames call ⊎ Contains (names_in held') names.Counter →
-          KeepsNames call ⊎ Contains (names_in held) names.Counter
-      fewer_names held' last is (inl keeps) = inl keeps
-      fewer_names held' last is (inr has) =
-          inr (subst (λ (ls : List Lock). Contains (names_in ls) names.Counter) (sym is)
-          (more_names held' last names.Counter has))
+          by : (b : Bool) → asks_more call i ≡ b → KnowsItsKey call i
+          by true asks = has_key (right.grows asks)
+          by false none = absurd (asks_on right none)
 
       pub gave : (did : Progress FileFault) (held' : List Lock) (locks' : Table) → GivesBack did held held' →
           locks' ≡ with_row locks seat held' → MakesNameStep seat None did locks locks' →
@@ -195,13 +190,13 @@ module _ (hash : RecordKey → ℕ) (seat : ℕ) (call : Call) (i : AnyInquiry) 
         means = λ s change f fine. record {
           right = record {
             question = tt;
-            begins = λ none does keeps. absurd (keeps_not f.right none (fewer_names held' gives.1.0 gives.1.1 keeps));
-            grows = λ keeps asks. absurd (removes f.right keeps);
-            apart = λ keeps. absurd (removes f.right keeps);
+            begins = λ none does. absurd (asks_on f.right none);
+            grows = λ asks. inr (between f.right);
+            apart = HasKey (between f.right);
             few = f.right.few;
           };
           knows = near_more call (asks_more call i) held held' (KnowsOf call i room) s
-              (λ none has. absurd (keeps_not f.right none (inr has))) f.knows;
+              (λ none has. absurd (asks_on f.right none)) f.knows;
           reads = ap (λ (k : Kind). is_write {F = FileFault} (Moved k)) gives.0;
         };
       }

@@ -2,7 +2,7 @@
 use Rattle.std.specs.Prelude.{ℕ, ◌≡◌, ◌<◌, ◌↔◌, ◌⊎◌, Bool, true, false, not, List, Option, Some, None, IsOk, Result, ⊤}
 use Rattle.file_pages.specs.declared.fault.FileFault.{FileFault}
 use Rattle.call_questions.specs.declared.question.Question.{Question}
-use Rattle.call_questions.specs.Words.{RecordKey, PoolState, Table, Change, with_row, store_of, OnlyWrites, Progress, Moved, Blocked, Fault, Ended, Look, is_fault, Sees, Step, NearsOrSpares, Record, is_write, HasEnded, ToFind, AccessView, HasFound, Serves, access_answer, AnyInquiry, KnowsOf, asked_of, caller_of, left_of, names_in, LockName, Call, State, Wanted, NotASystem, IsCovered, IsSoNear, IsFiled, Roomful}
+use Rattle.call_questions.specs.Words.{RecordKey, PoolState, Table, Change, with_row, store_of, OnlyWrites, Progress, Moved, Blocked, Fault, Ended, Look, is_fault, Sees, Step, NearsOrSpares, Record, is_write, HasEnded, ToFind, AccessView, HasFound, Serves, access_answer, AnyInquiry, FollowsOf, KnowsOf, asked_of, caller_of, left_of, names_in, LockName, Call, State, Wanted, NotASystem, IsCovered, IsSoNear, IsFiled, Roomful}
 use Rattle.call_questions.specs.Answering.{Answers}
 use Rattle.call_questions.specs.Agreeing.{Agrees}
 use Rattle.call_questions.specs.Questions.{QuestionsView, IsRight, KnowsNear, is_done, questions_facts, questions_left, questions_locks, questions_turn}
@@ -75,6 +75,8 @@ pub record Hears {T : Type 0} (call : Call) (found : Option Record) (result : Re
     (old new : Told) : Type 0 where
   pub caller : caller_of new.inquiry ≡ caller_of old.inquiry
   pub fewer : IsOk result → left_of call new.inquiry < left_of call old.inquiry
+  -- a Remove's second phase lies behind its first
+  pub follows : IsOk result → FollowsOf call old.inquiry new.inquiry
   pub most : new.room.most ≡ old.room.most
   pub hears : (wanted : Wanted) → asked_of call old.inquiry ≡ Some wanted →
       HearsIn call wanted found result old new

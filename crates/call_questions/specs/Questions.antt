@@ -1,15 +1,17 @@
 -- A call that asks the file its questions: what it holds, knows, asks for, and is about. docs/STEPS.md, "Calls".
 use Rattle.std.specs.Prelude.{ℕ, ◌≡◌, ◌≤◌, ◌<◌, ◌⊎◌, ◌+◌, ◌*◌, ◌&&◌, ◌||◌, Bool, true, false, not, List, [], Option, Some, None, IfSome, if◌then◌else◌, slice_get}
-use Rattle.std.specs.List.{Contains}
 use Rattle.std.specs.Option.{is_some}
+use Rattle.any_inquiry.specs.Words.{RemoveInquiry}
+use Rattle.any_inquiry.specs.declared.any_inquiry.AnyInquiry.TheVariants as any
 use Rattle.call_decisions.specs.Others.{HoldsOwn}
-use Rattle.held_names.specs.call_names.Laws.{KeepsNames}
 use Rattle.page_locks.specs.declared.lock.LockKind.TheVariants.{Read}
-use Rattle.page_locks.specs.declared.lock.LockName.TheVariants.{Counter, Directory}
+use Rattle.page_locks.specs.declared.lock.LockName.TheVariants.{Directory}
+use Rattle.queue_model.specs.declared.call.Call.TheVariants as calls
 use Rattle.step_rules.specs.Turns.{ForLock, asks, no_ask}
 use Rattle.xsi_inquiry.specs.Slots.{writes_left}
 use Rattle.xsi_inquiry.specs.Telling.{most_asked}
 use Rattle.xsi_inquiry.specs.Writing.{Plan}
+use Rattle.xsi_sweep.specs.declared.stage.Stage.TheVariants.{Keyed}
 use Rattle.call_questions.specs.declared.question.Question.{Question}
 use Rattle.call_questions.specs.Words.{RecordKey, Store, Lock, LockName, Known, Turn, HasEnded, ToFind, AccessView, Serves, access_answer, access_facts, access_key, access_left, access_locks, access_pseudokey, access_turn, AnyInquiry, KnowsOf, asked_of, left_of, plan_of, names_in, names_for, MAX_NAMES, Begins, name_turn, names_left, NameTurn, Take, GiveBack, Ready, Call, State, Wanted, IsSoNear, IsFiled, Roomful}
 use Rattle.call_questions.specs.Answering.{MayRead, key_asked}
@@ -127,22 +129,33 @@ abbrev pub untold : Option Question → ℕ
 untold None = 0
 untold (Some q) = if q.told then 0 else 1
 
--- why others don't change what it knows: it was told nothing yet, so all that it knows is so in each system; or it
--- holds the name of the queue, or of the key, that it was given
-abbrev pub KnowsApart : Call → AnyInquiry → Roomful → List Lock → Type 0
-KnowsApart call i room held =
-    ((s : State) → IsFiled s → KnowsOf call i room s) ⊎ HoldsOwn call (names_in held)
+-- a Remove between its two phases
+pub record KnowsItsKey (call : Call) (i : AnyInquiry) : Type 0 where
+  pub id : ℕ
+  pub key : Option ℕ
+  pub is : call ≡ calls.Remove id
+  pub inquiry : RemoveInquiry
+  pub asks : i ≡ any.Remove inquiry
+  pub stage : inquiry.stage ≡ Keyed key
+
+-- why others don't change what it knows: it holds the name of the queue, or of the key, that it was given; or it was
+-- told nothing yet, so all that it knows is so in each system; or it is a Remove that knows its queue's key alone
+pub data KnowsApart (call : Call) (i : AnyInquiry) (room : Roomful) (held : List Lock) : Type 0 where
+  Holds : HoldsOwn call (names_in held) → KnowsApart call i room held
+  HasBegun : ((s : State) → IsFiled s → KnowsOf call i room s) → KnowsApart call i room held
+  HasKey : KnowsItsKey call i → KnowsApart call i room held
 
 -- it has come so far by steps of this call, on an honest device
 pub record IsRight (hash : RecordKey → ℕ) (call : Call) (v : QuestionsView) : Type 0 where
   pub question : IfSome v.question (IsRightQuestion hash call v)
-  -- where it is to change the file its names begin those that it needs; so do a Remove's that holds the Counter
+  -- where it is to change the file its names begin those that it needs
   pub begins : asks_more call v.inquiry ≡ false → changes call v.inquiry ≡ true →
-      KeepsNames call ⊎ Contains (names_in v.names) Counter → Begins v.names (names_for call v.inquiry)
-  -- while it asks, all but a Remove's begin those that it needs
-  pub grows : KeepsNames call → asks_more call v.inquiry ≡ true → Begins v.names (names_for call v.inquiry)
+      Begins v.names (names_for call v.inquiry)
+  -- while it asks they do so too, but for a Remove between its phases, which gives that of the first one back
+  pub grows : asks_more call v.inquiry ≡ true →
+      Begins v.names (names_for call v.inquiry) ⊎ KnowsItsKey call v.inquiry
   -- so others don't change what it knows
-  pub apart : KeepsNames call → KnowsApart call v.inquiry v.room v.names
+  pub apart : KnowsApart call v.inquiry v.room v.names
   -- it begins one search a question: those that it has begun, with the questions that are left, are at most as many as
   -- it asks; a question that was not told yet is counted as both
   pub few : v.finds + left_of call v.inquiry ≤ most_asked call + untold v.question

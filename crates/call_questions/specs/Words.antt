@@ -3,7 +3,7 @@ pub use Rattle.record_access.specs.Words.{RecordKey, PoolState, Table, Lock, Cha
 pub use Rattle.record_access.specs.Purposes.{ToFind, StandsAt, is_write}
 pub use Rattle.record_access.specs.Accesses.{AccessView, HasFound, Serves, access_answer, access_facts, access_key, access_left, access_locks, access_pseudokey, access_turn, begun}
 pub use Rattle.any_inquiry.specs.declared.any_inquiry.AnyInquiry.{AnyInquiry}
-pub use Rattle.any_inquiry.specs.Anything.{KnowsOf, asked_of, caller_of, left_of, plan_of}
+pub use Rattle.any_inquiry.specs.Anything.{FollowsOf, KnowsOf, asked_of, caller_of, left_of, plan_of}
 pub use Rattle.held_names.specs.call_names.Laws.{AreNames, names_in}
 pub use Rattle.held_names.specs.call_names.Names.{by_phase, exclusively, names_for, queue_for}
 pub use Rattle.held_names.specs.call_names.declared.held.TheConstants.{MAX_NAMES}

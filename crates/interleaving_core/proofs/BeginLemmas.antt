@@ -9,7 +9,7 @@ use Rattle.page_locks.proofs.ChangeLemmas.{with_row-own}
 use Rattle.interleaving_core.specs.Words.{Call, Caller, Entry, IsReady, IsSeat, Table, caller_at, with_row}
 use Rattle.xsi_calls.proofs.RowLemmas.{new_holds_nothing}
 use Rattle.interleaving_core.specs.Active.{ActiveView, HasBegun, drafted}
-use Rattle.interleaving_core.specs.Beginning.{HasCall}
+use Rattle.interleaving_core.specs.Beginning.{HasCall, MayBegin}
 use Rattle.interleaving_core.specs.Kernel.{IsCallOf, IsWhole, KernelState, call_at, due_at, due_for_stop, entries_of, locks_of, with_call}
 use Rattle.interleaving_core.specs.declared.kernel.TheConstants.{MAX_DECIDED}
 use Rattle.interleaving_core.proofs.PlaceLemmas.{Seats, all_due, at_other, at_same, due_with, few_due, length-with_call, less, rows_with, stop_due}
@@ -72,9 +72,10 @@ module _ {K : Type 0} (seat : ℕ) (caller : Caller) (call : Call) (a : ActiveVi
   whole_begun = subst IsWhole (sym made) begins_whole
 
 pub has_call : {K : Type 0} (seat : ℕ) (caller : Caller) (call : Call) (a : ActiveView) (old new : KernelState K) →
-    caller_at old.callers seat ≡ Some caller → HasBegun caller call a →
+    MayBegin seat old → caller_at old.callers seat ≡ Some caller → HasBegun caller call a →
     new ≡ record old { seats = with_call old.seats seat (Some a); room = new.room } → HasCall seat call old new
-has_call seat caller call a old new sits begun made = record {
+has_call seat caller call a old new may sits begun made = record {
+  may = may;
   caller = caller;
   sits = sits;
   active = a;

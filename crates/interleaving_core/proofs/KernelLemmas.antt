@@ -1,16 +1,16 @@
 -- A step of a seat leaves a kernel whole, and tells that seat what the journal says.
-use Rattle.std.proofs.Common.{◌≡◌, sym, ap, ◌∙◌, subst, ℕ, ◌+◌, ◌-◌, ◌≤◌, Bool, false, ◌||◌, IsSome, inl, inr, List, ◌++◌, Option, Some, None, length, map, slice_set, slice_index_or, append-nil, length-append, arith}
+use Rattle.std.proofs.Common.{◌≡◌, refl, sym, ap, ◌∙◌, subst, ℕ, ◌+◌, ◌-◌, ◌≤◌, Bool, false, ◌||◌, IsSome, inl, inr, List, ◌++◌, Option, Some, None, length, map, slice_set, slice_index_or, append-nil, length-append, arith}
 use Rattle.std.specs.Prelude.{sum_by}
 use Rattle.std.proofs.lemmas.Bool.{cases_eq}
 use Rattle.std.proofs.lemmas.List.{get_or_read, length-map}
-use Rattle.interleaving_core.specs.Words.{Caller, Entry, IsSeat, RecordKey, Table, caller_at, row_of, with_row}
+use Rattle.interleaving_core.specs.Words.{Caller, Entry, IsSeat, PoolState, RecordKey, Table, caller_at, row_of, with_row}
 use Rattle.interleaving_core.specs.Active.{ActiveView}
 use Rattle.interleaving_core.specs.Kernel.{IsCallOf, IsWhole, KernelState, call_at, due_at, due_for_stop, entries_of, locks_of, with_call}
 use Rattle.interleaving_core.specs.Owing.{IsRun, IsTurn, answer_told, call_of, is_failure, told, untold}
-use Rattle.interleaving_core.specs.Turn.{MakesTurn, Turns}
+use Rattle.interleaving_core.specs.Turn.{TakesTurn, Turns}
 use Rattle.interleaving_core.specs.declared.step.Step.{Step}
 use Rattle.interleaving_core.proofs.TurnLemmas.{Does, turn_does}
-use Rattle.interleaving_core.proofs.PlaceLemmas.{Seats, at_other, at_place, at_same, due_with, length-with_call, row_at, rows_with, with_place}
+use Rattle.interleaving_core.proofs.PlaceLemmas.{Seats, at_other, at_place, at_same, due_with, length-with_call, row_at, rows_with, with_own, with_place}
 
 -- ---- a whole kernel
 
@@ -33,7 +33,53 @@ module _ {K : Type 0} (s : KernelState K) (whole : IsWhole s) where
   pub seat_there : (seat : ℕ) → IsSeat s.locks seat → seat ≤ length s.seats
   seat_there seat is = let many = as_many in let last = is.1 in omega (arith, last, many)
 
--- a step leaves it whole
+-- ---- a seat without a call changes nothing
+
+same_state : {K : Type 0} (old new : KernelState K) → new.keys ≡ old.keys → new.pool ≡ old.pool →
+    new.locks ≡ old.locks → new.callers ≡ old.callers → new.seats ≡ old.seats → new.journal ≡ old.journal →
+    new.room ≡ old.room → new.stopped ≡ old.stopped → new.failed ≡ old.failed → new ≡ old
+same_state {K} old new keys pool locks callers seats journal room stopped failed =
+    ap (λ (x : K). record new { keys = x }) keys
+    ∙ ap (λ (x : PoolState). record new { keys = old.keys; pool = x }) pool
+    ∙ ap (λ (x : Table). record new { keys = old.keys; pool = old.pool; locks = x }) locks
+    ∙ ap (λ (x : List Caller). record old {
+      callers = x;
+      seats = new.seats;
+      journal = new.journal;
+      room = new.room;
+      stopped = new.stopped;
+      failed = new.failed;
+    }) callers
+    ∙ ap (λ (x : Seats). record old {
+      seats = x;
+      journal = new.journal;
+      room = new.room;
+      stopped = new.stopped;
+      failed = new.failed;
+    }) seats
+    ∙ ap (λ (x : List Entry). record old {
+      journal = x;
+      room = new.room;
+      stopped = new.stopped;
+      failed = new.failed;
+    }) journal
+    ∙ ap (λ (x : ℕ). record old { room = x; stopped = new.stopped; failed = new.failed }) room
+    ∙ ap (λ (x : Bool). record old { stopped = x; failed = new.failed }) stopped
+    ∙ ap (λ (x : Bool). record old { failed = x }) failed
+
+spares_by : {K : Type 0} (hash : RecordKey → ℕ) (seat : ℕ) (did : Step) (at left : Option ActiveView)
+    (old new : KernelState K) → call_at old.seats seat ≡ at → at ≡ None →
+    Turns hash seat old.stopped did at left old.pool new.pool old.locks new.locks old.journal new.journal →
+    new.seats ≡ with_call old.seats seat left → new.keys ≡ old.keys → new.callers ≡ old.callers →
+    new.stopped ≡ old.stopped → new.room ≡ old.room → old.failed ≡ false → new.failed ≡ is_failure did → new ≡ old
+spares_by hash seat did None left old new is none t seats keys callers stopped room sound failed =
+    same_state old new keys t.same_pool t.same_locks callers
+    (seats ∙ ap (with_call old.seats seat) (t.left_is ∙ sym is) ∙ with_own old.seats seat) t.same_journal room stopped
+    (failed ∙ ap is_failure t.told_is ∙ sym sound)
+spares_by hash seat did (Some a) left old new is none t seats keys callers stopped room sound failed = absurd cc
+
+-- ---- a step leaves it whole
+
 module _ {K : Type 0} (seat : ℕ) (did : Step) (left : Option ActiveView) (old new : KernelState K)
     (whole : IsWhole old) (is : IsSeat old.locks seat)
     (does : Does seat did (call_at old.seats seat) left old.pool new.pool old.locks new.locks old.journal new.journal)
@@ -45,10 +91,10 @@ module _ {K : Type 0} (seat : ℕ) (did : Step) (left : Option ActiveView) (old 
   within : seat ≤ length old.seats
   within = omega (arith, is.1, many)
 
-  same_here : call_at new.seats seat ≡ left
+  pub same_here : call_at new.seats seat ≡ left
   same_here = ap (λ (x : Seats). call_at x seat) seats ∙ at_same old.seats seat left is.0 within
 
-  row : new.locks ≡ with_row old.locks seat (locks_of left)
+  pub row : new.locks ≡ with_row old.locks seat (locks_of left)
   row = does.row (its_row old whole seat)
 
   no_more : entries_of new ≤ entries_of old
@@ -83,7 +129,7 @@ module _ {K : Type 0} (seat : ℕ) (did : Step) (left : Option ActiveView) (old 
     few = let fewer = no_more in let had = whole.few in omega (arith, fewer, had);
   }
 
-  run : IsRun seat (answer_told did) old new
+  pub run : IsRun seat (answer_told did) old new
   run = record {
     seats = seats ∙ sym (ap (with_call old.seats seat) same_here);
     locks = row ∙ sym (ap (λ (x : Option ActiveView). with_row old.locks seat (locks_of x)) same_here);
@@ -103,10 +149,12 @@ module _ {K : Type 0} (seat : ℕ) (did : Step) (left : Option ActiveView) (old 
     };
   }
 
-  pub turn_behind : old.failed ≡ false → new.failed ≡ is_failure did → IsTurn seat did old new
-  turn_behind sound failed = record {
+  pub turn_behind : (call_at old.seats seat ≡ None → new ≡ old) → old.failed ≡ false → new.failed ≡ is_failure did →
+      IsTurn seat did old new
+  turn_behind spares sound failed = record {
     run = run;
     idle = does.idle;
+    spares = spares;
     decides = λ other. does.grows ∙ ap (λ (es : List Entry). old.journal ++ es) (does.decides other)
         ∙ append-nil old.journal;
     failed = failed ∙ sym (ap (λ (b : Bool). b || is_failure did) sound);
@@ -121,7 +169,7 @@ pub record MakesStep {K : Type 0} (of : K → RecordKey → ℕ) (seat : ℕ) (d
   pub whole : IsWhole new
   pub turn : IsTurn seat did old new
   pub makes : (a : ActiveView) → call_at old.seats seat ≡ Some a → old.failed ≡ false →
-      MakesTurn (of old.keys) seat old.stopped did a (call_at new.seats seat) old.pool new.pool old.locks new.locks
+      TakesTurn (of old.keys) seat old.stopped did a (call_at new.seats seat) old.pool new.pool old.locks new.locks
       old.journal new.journal
 
 -- the seat's place in the list
@@ -135,12 +183,13 @@ pub makes_step : {K : Type 0} (of : K → RecordKey → ℕ) (seat : ℕ) (did :
     slot ≡ slice_index_or old.seats (seat - 1) slot →
     Turns (of old.keys) seat old.stopped did slot left old.pool new.pool old.locks new.locks old.journal new.journal →
     new.seats ≡ slice_set old.seats (seat - 1) left → new.keys ≡ old.keys → new.callers ≡ old.callers →
-    new.stopped ≡ old.stopped → old.room ≤ new.room → old.failed ≡ false → new.failed ≡ is_failure did →
-    MakesStep of seat did now new
-makes_step of seat did slot left old new now view whole seated at turns seats keys callers stopped room sound failed =
+    new.stopped ≡ old.stopped → old.room ≤ new.room → (slot ≡ None → new.room ≡ old.room) → old.failed ≡ false →
+    new.failed ≡ is_failure did → MakesStep of seat did now new
+makes_step of seat did slot left old new now view whole seated at turns seats keys callers stopped room spare sound
+    failed =
     subst (λ (k : KernelState _). MakesStep of seat did k new) view record {
       whole = whole_behind seat did left old new whole is does seats_are keys callers stopped room;
-      turn = turn_behind seat did left old new whole is does seats_are keys callers stopped sound failed;
+      turn = turn_behind seat did left old new whole is does seats_are keys callers stopped spares sound failed;
       makes = λ a at_a fine. subst (λ (x : Option ActiveView). Turns (of old.keys) seat old.stopped did (Some a) x
           old.pool new.pool old.locks new.locks old.journal new.journal) (sym left_is)
           (subst (λ (x : Option ActiveView). Turns (of old.keys) seat old.stopped did x left old.pool new.pool
@@ -156,13 +205,20 @@ makes_step of seat did slot left old new now view whole seated at turns seats ke
     seats_are : new.seats ≡ with_call old.seats seat left
     seats_are = seats ∙ with_place old.seats seat left is.0
 
+    slot_is : slot ≡ call_at old.seats seat
+    slot_is = slot_here old.seats seat slot is.0 within at
+
     left_is : call_at new.seats seat ≡ left
     left_is = ap (λ (x : Seats). call_at x seat) seats_are ∙ at_same old.seats seat left is.0 within
 
     here : Turns (of old.keys) seat old.stopped did (call_at old.seats seat) left old.pool new.pool old.locks new.locks
         old.journal new.journal
     here = subst (λ (x : Option ActiveView). Turns (of old.keys) seat old.stopped did x left old.pool new.pool
-        old.locks new.locks old.journal new.journal) (slot_here old.seats seat slot is.0 within at) turns
+        old.locks new.locks old.journal new.journal) slot_is turns
+
+    spares : call_at old.seats seat ≡ None → new ≡ old
+    spares none = spares_by (of old.keys) seat did (call_at old.seats seat) left old new refl none here seats_are keys
+        callers stopped (spare (slot_is ∙ none)) sound failed
 
     does : Does seat did (call_at old.seats seat) left old.pool new.pool old.locks new.locks old.journal new.journal
     does = turn_does (of old.keys) seat old.stopped did (call_at old.seats seat) left old.pool new.pool old.locks

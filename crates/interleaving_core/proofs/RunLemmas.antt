@@ -1,5 +1,5 @@
 -- Steps of one seat, one behind the other.
-use Rattle.std.proofs.Common.{◌≡◌, refl, sym, ap, ◌∙◌, subst, ℕ, Bool, true, ◌||◌, IsSome, List, [], ◌++◌, Option, Some, None, append-nil, append_assoc, arith}
+use Rattle.std.proofs.Common.{◌≡◌, ◌≢◌, refl, sym, ap, ◌∙◌, subst, ℕ, Bool, true, ◌||◌, IsSome, List, [], ◌++◌, Option, Some, None, append-nil, append_assoc, arith}
 use Rattle.page_locks.proofs.ChangeLemmas.{IsSeat-with_row, with_row-own, with_row-twice}
 use Rattle.step_rules.specs.declared.kind.Kind.{Kind}
 use Rattle.interleaving_core.specs.Words.{Answer, Call, Entry, IsSeat, Table, row_of, with_row}
@@ -8,7 +8,7 @@ use Rattle.interleaving_core.specs.Kernel.{IsWhole, KernelState, call_at, locks_
 use Rattle.interleaving_core.specs.Owing.{IsMove, IsRun, IsTurn, answer_told, call_of, entry_of, is_failure, told, told_of_failure, untold}
 use Rattle.interleaving_core.specs.declared.step.Step.{Step}
 use Rattle.interleaving_core.specs.declared.step.Step.TheVariants as steps
-use Rattle.interleaving_core.proofs.PlaceLemmas.{Seats, with_own, with_twice}
+use Rattle.interleaving_core.proofs.PlaceLemmas.{Seats, at_other, with_own, with_twice}
 use Rattle.interleaving_core.proofs.KernelLemmas.{its_row}
 
 -- ---- nothing changes
@@ -35,6 +35,7 @@ fails_put seat did s whole broken is = record {
   run = subst (λ (x : Option Answer). IsRun seat x s s) (sym (ap answer_told is ∙ none (call_at s.seats seat)))
       (stays_put seat s (its_row s whole seat));
   idle = (λ e. idle_at (call_at s.seats seat) (sym is ∙ e), λ e. is ∙ ap told_of_failure e);
+  spares = λ e. refl;
   decides = λ other. refl;
   failed = broken ∙ sym (ap (λ (b : Bool). b || is_failure did) broken);
   fails = λ b. is;
@@ -93,6 +94,12 @@ runs_on seat did a b c r t =
     same_told (Some x) is =
         ap (λ (y : Option Call). entry_of seat y (answer_told did))
         (r.call (subst (λ (y : Option ActiveView). IsSome (call_of y)) (sym is) refl))
+
+-- what another seat has under way stays
+pub others_stay : {K : Type 0} (seat other : ℕ) (answer : Option Answer) (a b : KernelState K) →
+    IsRun seat answer a b → other ≢ seat → call_at b.seats other ≡ call_at a.seats other
+others_stay seat other answer a b r apart =
+    ap (λ (x : Seats). call_at x other) r.seats ∙ at_other a.seats seat other (call_at b.seats seat) apart
 
 -- the seat stays one
 pub seat_stays : {K : Type 0} (seat : ℕ) (answer : Option Answer) (a b : KernelState K) → IsRun seat answer a b →

@@ -15,7 +15,8 @@ use Rattle.interleaving_core.specs.Words.{Answer, Call, CallView, Caller, Entry,
 use Rattle.interleaving_core.specs.Active.{ActiveView, BeginsAgain, IsDrafted, draft_by, drafted, entries_by, is_waiting}
 use Rattle.interleaving_core.specs.Kernel.{IsCallOf, due_at, locks_of}
 use Rattle.interleaving_core.specs.Owing.{answer_told, call_of, entry_of, told, untold}
-use Rattle.interleaving_core.specs.Turn.{IsLeft, IsLeftWhenOver, MakesTurn, StaysIdle, Turns, told_of, told_when_over}
+use Rattle.interleaving_core.specs.Turn.{IsLeft, IsLeftWhenOver, MakesTurn, StaysIdle, StaysWaiting, TakesTurn, Turns, told_of, told_when_over}
+use Rattle.interleaving_core.specs.Waiting.{stays_waiting}
 use Rattle.interleaving_core.specs.declared.active.Draft.{Draft}
 use Rattle.interleaving_core.specs.declared.step.Step.{Step}
 use Rattle.interleaving_core.specs.declared.step.Step.TheVariants as steps
@@ -151,7 +152,7 @@ waits_unanswered (Some (conclusions.Answers verdict)) bytes is = absurd cc
 waits_unanswered (Some conclusions.Waits) bytes is = refl
 waits_unanswered (Some conclusions.HasNoRoom) bytes is = absurd cc
 
-new_unanswered : (m : CallView) → IsNew m → answer_of_call m ≡ None
+pub new_unanswered : (m : CallView) → IsNew m → answer_of_call m ≡ None
 new_unanswered m new = ap (λ (x : Stage). answer_by (conclusion_at x) m.undecided.questions.room.bytes) new.stage
 
 again_there : (seat : ℕ) (come again : ActiveView) → IsOver come.machine → BeginsAgain come again →
@@ -254,6 +255,37 @@ idle_does seat did left pool pool' locks locks' journal journal' t = record {
   owed = sym (ap (untold seat) t.left_is);
 }
 
+pub waits_does : (seat : ℕ) (did : Step) (a : ActiveView) (left : Option ActiveView) (pool pool' : PoolState)
+    (locks locks' : Table) (journal journal' : List Entry) →
+    StaysWaiting did a left pool pool' locks locks' journal journal' →
+    Does seat did (Some a) left pool pool' locks locks' journal journal'
+waits_does seat did a left pool pool' locks locks' journal journal' t = record {
+  ready = λ ready. subst IsReady (sym t.same_pool) ready;
+  honest = ap (λ (p : PoolState). p.honest) t.same_pool;
+  later = let same = ap (λ (p : PoolState). p.faults) t.same_pool in omega (arith, same);
+  row = λ row. t.same_locks ∙ sym (with_row-own locks seat) ∙ ap (with_row locks seat) row
+      ∙ ap (λ (x : Option ActiveView). with_row locks seat (locks_of x)) (sym t.left_is);
+  caller = λ c same. subst (IsCallOf c) (sym t.left_is) same;
+  call = λ some. ap call_of t.left_is;
+  idle = (λ is. absurd (not_idle_at_end true None (sym t.told_is ∙ is)), λ none. absurd cc);
+  added = [];
+  grows = t.same_journal ∙ sym (append-nil journal);
+  decides = λ other. refl;
+  due = let same = ap due_at t.left_is in omega (arith, same);
+  owed = append-nil (untold seat (Some a)) ∙ sym (ap (untold seat) t.left_is)
+      ∙ sym (ap (λ (d : Step). told seat (Some a) (answer_told d) ++ untold seat left) t.told_is);
+}
+
+takes_does : (hash : RecordKey → ℕ) (seat : ℕ) (stopped : Bool) (did : Step) (a : ActiveView)
+    (left : Option ActiveView) (pool pool' : PoolState) (locks locks' : Table) (journal journal' : List Entry) →
+    TakesTurn hash seat stopped did a left pool pool' locks locks' journal journal' → (waits : Bool) →
+    stays_waiting a.wait a.machine.call journal ≡ waits →
+    Does seat did (Some a) left pool pool' locks locks' journal journal'
+takes_does hash seat stopped did a left pool pool' locks locks' journal journal' t true is =
+    waits_does seat did a left pool pool' locks locks' journal journal' (t.waits is)
+takes_does hash seat stopped did a left pool pool' locks locks' journal journal' t false is =
+    call_does hash seat stopped did a left pool pool' locks locks' journal journal' (t.goes is)
+
 pub turn_does : (hash : RecordKey → ℕ) (seat : ℕ) (stopped : Bool) (did : Step) (at left : Option ActiveView)
     (pool pool' : PoolState) (locks locks' : Table) (journal journal' : List Entry) →
     Turns hash seat stopped did at left pool pool' locks locks' journal journal' →
@@ -261,4 +293,5 @@ pub turn_does : (hash : RecordKey → ℕ) (seat : ℕ) (stopped : Bool) (did : 
 turn_does hash seat stopped did None left pool pool' locks locks' journal journal' t =
     idle_does seat did left pool pool' locks locks' journal journal' t
 turn_does hash seat stopped did (Some a) left pool pool' locks locks' journal journal' t =
-    call_does hash seat stopped did a left pool pool' locks locks' journal journal' t
+    takes_does hash seat stopped did a left pool pool' locks locks' journal journal' t
+    (stays_waiting a.wait a.machine.call journal) refl

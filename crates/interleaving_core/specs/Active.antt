@@ -4,16 +4,20 @@ use Rattle.queue_model.specs.declared.entry.Entry.TheVariants.{Decided}
 use Rattle.xsi_calls.specs.Machine.{Begins}
 use Rattle.xsi_calls.specs.declared.conclusion.Conclusion.{Conclusion}
 use Rattle.xsi_calls.specs.declared.conclusion.Conclusion.TheVariants as conclusions
-use Rattle.interleaving_core.specs.Words.{Answer, Call, CallView, Caller, Entry, Roomful, answer_of_call}
+use Rattle.interleaving_core.specs.Words.{Answer, Call, CallView, Caller, Entry, Roomful, answer_of_call, conclusion_of}
 use Rattle.interleaving_core.specs.declared.active.Draft.{Draft}
 use Rattle.interleaving_core.specs.declared.fault.StepFault.TheVariants as faults
 use Rattle.interleaving_core.specs.declared.step.Step.{Step}
 use Rattle.interleaving_core.specs.declared.step.Step.TheVariants as steps
 
--- its machine, and what is kept until it is answered
 pub record ActiveView : Type 0 where
   pub machine : CallView
+  -- what is kept until it is answered
   pub draft : Option Draft
+  -- how long the journal was at its Decide; before that, how long it was at its last step
+  pub decided : ℕ
+  -- once its seat was told that it waits: how much of the journal has not woken it
+  pub wait : Option ℕ
 
 -- room for as many bytes as its answer has room for
 abbrev pub HasRoomAs : Roomful → CallView → Type 0
@@ -35,11 +39,14 @@ IsDrafted m (Some d) = IsDraftOf m d
 pub record HasBegun (caller : Caller) (call : Call) (a : ActiveView) : Type 0 where
   pub begins : Begins caller call a.machine
   pub draft : IsSome a.draft
+  pub awake : a.wait ≡ None
 
--- the same call begins anew
+-- the same call begins anew, once something has woken it that was decided behind its Decide
 pub record BeginsAgain (old new : ActiveView) : Type 0 where
   pub begins : Begins old.machine.caller old.machine.call new.machine
   pub draft : new.draft ≡ old.draft
+  pub decided : new.decided ≡ old.decided
+  pub wait : new.wait ≡ Some old.decided
 
 -- ---- its Decide
 
@@ -48,6 +55,16 @@ abbrev pub entries_by : ℕ → Option Answer → Option Draft → List Entry
 entries_by seat None draft = []
 entries_by seat (Some answer) None = []
 entries_by seat (Some answer) (Some d) = Decided seat d.call answer ∷ []
+
+-- how long the journal was then, where it has so many entries before a step of a call that has come so far
+abbrev pub decided_by : Option Conclusion → ℕ → ℕ → ℕ
+decided_by None many decided = many
+decided_by (Some conclusion) many decided = decided
+
+-- a step that its machine makes; it waits no more
+pub record IsMarked (many : ℕ) (old new : ActiveView) : Type 0 where
+  pub decided : new.decided ≡ decided_by (conclusion_of old.machine) many old.decided
+  pub awake : new.wait ≡ None
 
 -- what is kept behind it
 abbrev pub draft_by : Option Answer → Option Draft → Option Draft

@@ -39,17 +39,24 @@ MayRefuse hash content (opens.Wrong fault) = IsToldOf hash content fault
 
 -- ---- a call begins
 
+-- the calls that are decided and those under way are as many as one session may decide
+abbrev pub IsFull : {K : Type 0} → KernelState K → Type 0
+IsFull s = MAX_DECIDED < entries_of s
+
+-- no step has failed, the seat has no call, and the session is not full
+pub record MayBegin {K : Type 0} (seat : ℕ) (s : KernelState K) : Type 0 where
+  pub sound : s.failed ≡ false
+  pub free : call_at s.seats seat ≡ None
+  pub few : IsFull s → ⊥
+
 -- a seat has this call under way, and nothing else is changed but that memory may have been taken
 pub record HasCall {K : Type 0} (seat : ℕ) (call : Call) (old new : KernelState K) : Type 0 where
+  pub may : MayBegin seat old
   pub caller : Caller
   pub sits : caller_at old.callers seat ≡ Some caller
   pub active : ActiveView
   pub begun : HasBegun caller call active
   pub is : new ≡ record old { seats = with_call old.seats seat (Some active); room = new.room }
-
--- the calls that are decided and those under way are as many as one session may decide
-abbrev pub IsFull : {K : Type 0} → KernelState K → Type 0
-IsFull s = MAX_DECIDED < entries_of s
 
 -- why it does not begin; it is refused by the first of these that is so
 abbrev pub Refuses : {K : Type 0} → ℕ → KernelState K → BeginFault → Type 0

@@ -5,7 +5,7 @@ use Rattle.interleaving_core.specs.Words.{RecordKey}
 use Rattle.interleaving_core.specs.Active.{ActiveView}
 use Rattle.interleaving_core.specs.Kernel.{KernelState, call_at}
 use Rattle.interleaving_core.specs.Owing.{IsMove, IsTurn, failed}
-use Rattle.interleaving_core.specs.Turn.{MakesTurn}
+use Rattle.interleaving_core.specs.Turn.{TakesTurn}
 use Rattle.interleaving_core.specs.declared.kernel.TheConstants.{MOST_STEPS}
 use Rattle.interleaving_core.specs.declared.step.Step.{Step}
 use Rattle.interleaving_core.specs.declared.step.Step.TheVariants as steps
@@ -13,9 +13,9 @@ use Rattle.interleaving_core.specs.declared.step.Step.TheVariants as steps
 -- a step of a seat, at the pseudokeys that this function gives
 pub record IsStep {K : Type 0} (hash : RecordKey → ℕ) (seat : ℕ) (did : Step) (old new : KernelState K) : Type 0 where
   pub turn : IsTurn seat did old new
-  -- it is one of the machine of its call
+  -- it is one of the machine of its call, or none while that waits
   pub makes : (a : ActiveView) → call_at old.seats seat ≡ Some a → old.failed ≡ false →
-      MakesTurn hash seat old.stopped did a (call_at new.seats seat) old.pool new.pool old.locks new.locks
+      TakesTurn hash seat old.stopped did a (call_at new.seats seat) old.pool new.pool old.locks new.locks
       old.journal new.journal
 
 -- a step that moves, from a kernel of which this is so

@@ -1,6 +1,7 @@
 pub mod Words
 pub mod Active
 pub mod Fault
+pub mod Waiting
 pub mod Turn
 pub mod Kernel
 pub mod Owing

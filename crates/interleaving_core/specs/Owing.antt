@@ -93,6 +93,8 @@ pub record IsTurn {K : Type 0} (seat : ℕ) (did : Step) (old new : KernelState 
   pub run : IsRun seat (answer_told did) old new
   -- it is idle just where it has no call
   pub idle : (did ≡ steps.Idle) ↔ (call_at old.seats seat ≡ None)
+  -- and then nothing changes
+  pub spares : call_at old.seats seat ≡ None → new ≡ old
   -- the journal grows at its Decide alone
   pub decides : did ≢ steps.Moved Decide → new.journal ≡ old.journal
   -- behind a failure of the file each call is told of it, and nothing changes

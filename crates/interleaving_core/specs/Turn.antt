@@ -1,10 +1,11 @@
 -- What a step of a seat's call does, and what its seat is told. docs/STEPS.md, "Calls".
-use Rattle.std.specs.Prelude.{ℕ, ◌≡◌, Bool, true, false, List, ◌++◌, Option, Some, None}
+use Rattle.std.specs.Prelude.{ℕ, ◌≡◌, Bool, true, false, List, ◌++◌, Option, Some, None, length}
 use Rattle.file_pages.specs.declared.fault.FileFault.{FileFault}
 use Rattle.step_rules.specs.declared.progress.Progress.TheVariants as progress
 use Rattle.xsi_calls.specs.CallSteps.{MakesCall}
 use Rattle.interleaving_core.specs.Words.{Answer, CallView, Entry, PoolState, Progress, RecordKey, Table, answer_of_call, conclusion_of}
-use Rattle.interleaving_core.specs.Active.{ActiveView, BeginsAgain, IsDrafted, draft_by, entries_by, is_waiting, told_at_end}
+use Rattle.interleaving_core.specs.Active.{ActiveView, BeginsAgain, IsDrafted, IsMarked, draft_by, entries_by, is_waiting, told_at_end}
+use Rattle.interleaving_core.specs.Waiting.{stays_waiting}
 use Rattle.interleaving_core.specs.declared.fault.StepFault.TheVariants as faults
 use Rattle.interleaving_core.specs.declared.step.Step.{Step}
 use Rattle.interleaving_core.specs.declared.step.Step.TheVariants as steps
@@ -24,7 +25,7 @@ told_of progress.Ended m = told_when_over (is_waiting (conclusion_of m)) (answer
 
 -- ---- what is left at the seat
 
--- a call that will wait begins anew, any other is gone
+-- a call that will wait is to begin anew, any other is gone
 abbrev pub IsLeftWhenOver : Bool → ActiveView → Option ActiveView → Type 0
 IsLeftWhenOver true a left = (again : ActiveView) × (left ≡ Some again) × BeginsAgain a again
 IsLeftWhenOver false a left = left ≡ None
@@ -42,7 +43,7 @@ pub record Finishes (told : Step) (a : ActiveView) (left : Option ActiveView) : 
 
 -- ---- the whole of it
 
--- a step of a call at a seat, at the pseudokeys that this function gives, with this stop mark
+-- a step of the machine of a call at a seat, at the pseudokeys that this function gives, with this stop mark
 pub record MakesTurn (hash : RecordKey → ℕ) (seat : ℕ) (stopped : Bool) (told : Step) (old : ActiveView)
     (left : Option ActiveView) (pool pool' : PoolState) (locks locks' : Table) (entries entries' : List Entry)
     : Type 0 where
@@ -54,8 +55,28 @@ pub record MakesTurn (hash : RecordKey → ℕ) (seat : ℕ) (stopped : Bool) (t
   pub kept : IsDrafted old.machine old.draft
   pub draft : come.draft ≡ draft_by (answer_of_call come.machine) old.draft
   pub journal : entries' ≡ entries ++ entries_by seat (answer_of_call come.machine) old.draft
+  pub marked : IsMarked (length entries) old come
   pub told_is : told ≡ told_of did come.machine
   pub left_is : IsLeft did come left
+
+-- a seat whose call waits, woken by nothing: it need not look at these entries again, and nothing else changes
+pub record StaysWaiting (told : Step) (a : ActiveView) (left : Option ActiveView) (pool pool' : PoolState)
+    (locks locks' : Table) (journal journal' : List Entry) : Type 0 where
+  pub told_is : told ≡ steps.Waiting
+  pub left_is : left ≡ Some (record a { wait = Some (length journal) })
+  pub same_pool : pool' ≡ pool
+  pub same_locks : locks' ≡ locks
+  pub same_journal : journal' ≡ journal
+
+-- a step of a seat that has a call
+pub record TakesTurn (hash : RecordKey → ℕ) (seat : ℕ) (stopped : Bool) (told : Step) (a : ActiveView)
+    (left : Option ActiveView) (pool pool' : PoolState) (locks locks' : Table) (journal journal' : List Entry)
+    : Type 0 where
+  pub waits : stays_waiting a.wait a.machine.call journal ≡ true →
+      StaysWaiting told a left pool pool' locks locks' journal journal'
+  -- one that was woken begins anew with the first step of its machine
+  pub goes : stays_waiting a.wait a.machine.call journal ≡ false →
+      MakesTurn hash seat stopped told a left pool pool' locks locks' journal journal'
 
 -- a seat that has no call
 pub record StaysIdle (told : Step) (left : Option ActiveView) (pool pool' : PoolState) (locks locks' : Table)
@@ -71,4 +92,4 @@ abbrev pub Turns : (RecordKey → ℕ) → ℕ → Bool → Step → Option Acti
 Turns hash seat stopped told None left pool pool' locks locks' journal journal' =
     StaysIdle told left pool pool' locks locks' journal journal'
 Turns hash seat stopped told (Some a) left pool pool' locks locks' journal journal' =
-    MakesTurn hash seat stopped told a left pool pool' locks locks' journal journal'
+    TakesTurn hash seat stopped told a left pool pool' locks locks' journal journal'

@@ -1,13 +1,15 @@
 //! A call under way at a seat, and what is kept for its entry in the journal.
 
-ghost use Rattle.std.specs.Prelude.{◌≡◌, ◌+◌, ◌≤◌, ◌++◌, IfErr, IfOk, IfSome, length, true, vec_capacity};
+ghost use Rattle.std.specs.Prelude.{◌≡◌, ◌+◌, ◌≤◌, ◌++◌, IfErr, IfOk, IfSome, Some, length, false, true, vec_capacity};
 ghost use Rattle.xsi_calls.specs.CallSteps.{MakesCall};
 ghost use Rattle.xsi_calls.specs.Machine.{IsOver, answer_of_call, call_locks, conclusion_of};
-ghost use Rattle.interleaving_core.specs.Active.{BeginsAgain, HasBegun, HasRoomAs, IsDrafted, draft_by, drafted, entries_by, is_waiting, told_at_end};
+ghost use Rattle.interleaving_core.specs.Active.{BeginsAgain, HasBegun, HasRoomAs, IsDrafted, IsMarked, decided_by, draft_by, drafted, entries_by, is_waiting, told_at_end};
+ghost use Rattle.interleaving_core.specs.Waiting.{stays_waiting};
 ghost use Rattle.interleaving_core.specs.Words.{IsReady, IsSeat, row_of};
 
 use crate::fault::StepFault;
 use crate::step::Step;
+use crate::waiting::is_woken;
 use bucket_page::PseudoKey;
 use buffer_pool::Pool;
 use file_pages::FileFault;
@@ -33,6 +35,8 @@ pub(crate) struct Draft {
 pub(crate) struct Active {
     machine: CallMachine,
     draft: Option<Draft>,
+    decided: usize,
+    wait: Option<usize>,
 }
 
 impl Model for Active {
@@ -40,7 +44,12 @@ impl Model for Active {
 
     ghost Value = { ActiveView };
 
-    ghost view = { λ a. record { machine = a.machine; draft = a.draft } };
+    ghost view = { λ a. record {
+      machine = a.machine;
+      draft = a.draft;
+      decided = a.decided;
+      wait = a.wait;
+    } };
 
     ghost invariant = { λ a. IsDrafted a.machine a.draft };
 }
@@ -67,6 +76,8 @@ impl Active {
         Ok(Active {
             machine,
             draft: Some(Draft { call: copy, room }),
+            decided: 0,
+            wait: None,
         })
     }
 
@@ -93,10 +104,31 @@ impl Active {
             draft_by (answer_of_call self.new.machine) self.old.draft }
         ensures capacity { vec_capacity journal.old ≤ vec_capacity journal.new }
         ensures kept { IsDrafted self.old.machine self.old.draft }
+        ensures marked { IsMarked (length journal.old.items) self.old self.new }
     {
+        self.decided = decided_by(self.machine.conclusion(), journal.len(), self.decided);
+        self.wait = None;
         let did = self.machine.step(pool, locks, keys, stopped, seat);
         note(&self.machine, &mut self.draft, journal, seat);
         did
+    }
+
+    /// Whether its seat was told that it waits, and nothing has woken it since. Then it need not look
+    /// at these entries again.
+    pub(crate) fn stays_waiting(&mut self, journal: &[Entry]) -> bool
+        ensures is { result ≡ stays_waiting self.old.wait self.old.machine.call journal.now }
+        ensures waits { result ≡ true →
+            self.new ≡ record self.old { wait = Some (length journal.now) } }
+        ensures goes { result ≡ false → self.new ≡ self.old }
+    {
+        let Some(since) = self.wait else {
+            return false;
+        };
+        if is_woken(self.machine.call(), since, journal) {
+            return false;
+        }
+        self.wait = Some(journal.len());
+        true
     }
 
     /// The entries that are due for it.
@@ -116,13 +148,15 @@ impl Active {
         matches!(self.machine.conclusion(), Some(Conclusion::Waits))
     }
 
-    /// The call that will wait, and has given its names back, begins anew.
+    /// The call that will wait, and has given its names back, is to begin anew, once an entry behind
+    /// its Decide wakes it.
     pub(crate) fn begin_again(&mut self)
         requires waits { is_waiting (conclusion_of self.old.machine) ≡ true }
         requires over { IsOver self.old.machine }
         ensures { BeginsAgain self.old self.new }
     {
         self.machine.begin_again();
+        self.wait = Some(self.decided);
     }
 
     /// What its seat is told of a call that is over, and does not wait.
@@ -133,6 +167,16 @@ impl Active {
             Some(answer) => Step::Answered(answer),
             None => Step::Fault(StepFault::NoRoom),
         }
+    }
+}
+
+/// How long the journal was at the Decide of a call; before that, how long it is.
+fn decided_by(conclusion: Option<Conclusion>, many: usize, decided: usize) -> usize
+    ensures { result ≡ decided_by conclusion many decided }
+{
+    match conclusion {
+        None => many,
+        Some(_) => decided,
     }
 }
 

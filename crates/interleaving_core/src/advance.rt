@@ -1,6 +1,6 @@
 //! A step of a seat, over the parts of a kernel.
 
-ghost use Rattle.std.specs.Prelude.{◌≡◌, ◌+◌, ◌≤◌, IfSome, Some, length, vec_capacity};
+ghost use Rattle.std.specs.Prelude.{◌≡◌, ◌+◌, ◌≤◌, IfSome, None, Some, length, vec_capacity};
 ghost use Rattle.interleaving_core.specs.Active.{ActiveView};
 ghost use Rattle.interleaving_core.specs.Kernel.{due_at, locks_of};
 ghost use Rattle.interleaving_core.specs.Turn.{Finishes, Turns};
@@ -16,8 +16,8 @@ use page_locks::LockTable;
 use queue_model::Entry;
 use step_rules::Progress;
 
-/// A step of the call at a seat, if it has one. A call that is over leaves its seat, but one that
-/// waits begins anew.
+/// A step of the call at a seat, if it has one: none while that waits, and nothing has woken it. A
+/// call that is over leaves its seat, but one that will wait.
 pub(crate) fn advance<D: PageDevice, K: PseudoKey>(
     slot: &mut Option<Active>,
     pool: &mut Pool<D>,
@@ -34,10 +34,14 @@ pub(crate) fn advance<D: PageDevice, K: PseudoKey>(
     ensures turns { Turns (K.of_key keys.now) seat stopped result slot.old slot.new
         pool.old pool.new locks.old locks.new journal.old.items journal.new.items }
     ensures capacity { vec_capacity journal.old ≤ vec_capacity journal.new }
+    ensures spare { slot.old ≡ None → vec_capacity journal.new ≡ vec_capacity journal.old }
 {
     let Some(active) = slot else {
         return Step::Idle;
     };
+    if active.stays_waiting(journal.as_slice()) {
+        return Step::Waiting;
+    }
     match active.step(pool, locks, keys, journal, stopped, seat) {
         Progress::Moved(kind) => Step::Moved(kind),
         Progress::Blocked(other) => Step::Blocked(other),
@@ -46,7 +50,7 @@ pub(crate) fn advance<D: PageDevice, K: PseudoKey>(
     }
 }
 
-/// What a seat is told whose call is over. It leaves the seat, but one that waits begins anew.
+/// What a seat is told whose call is over. It leaves the seat, but one that will wait.
 fn finish(slot: &mut Option<Active>) -> Step
     requires { IfSome slot.old (λ a. IsOver a.machine) }
     ensures { (a : ActiveView) → slot.old ≡ Some a → Finishes result a slot.new }

@@ -2,17 +2,16 @@
 
 ghost use Rattle.std.specs.Prelude.{◌≡◌, ◌↔◌, ◌+◌, ◌*◌, ◌^◌, ◌≤◌, ◌<◌, Some, false, true, IsTrue, IsErrAnd, IfErr, IfOk, length, sum_by};
 ghost use Rattle.std.specs.List.{list_any};
-ghost use Rattle.buffer_pool.specs.Pool.{payloads_of};
 ghost use Rattle.page_device.specs.Device.{HasRisen};
 ghost use Rattle.interleaving_core.specs.Active.{ActiveView};
 ghost use Rattle.interleaving_core.specs.Beginning.{HasCall, HasSystem, IsOpened, IsRefused, IsStopped, MayRefuse};
-ghost use Rattle.interleaving_core.specs.Closing.{IfBusy, IsBusy, IsReleased, OnDevice, fault_in, has_one, is_busy, journal_in};
+ghost use Rattle.interleaving_core.specs.Closing.{IfBusy, IsBusy, IsFlushedTo, IsReleased, OnDevice, fault_in, has_one, is_busy, journal_in};
 ghost use Rattle.interleaving_core.specs.Driving.{IsDriven};
 ghost use Rattle.interleaving_core.specs.Fault.{device_failed};
 ghost use Rattle.interleaving_core.specs.Kernel.{IsWhole, call_at, entries_of};
 ghost use Rattle.interleaving_core.specs.Owing.{IsMove, IsRun, IsTurn, answer_told, is_failure, told_of_failure};
-ghost use Rattle.interleaving_core.specs.Turn.{MakesTurn};
-ghost use Rattle.interleaving_core.specs.Words.{IsSeat};
+ghost use Rattle.interleaving_core.specs.Turn.{TakesTurn};
+ghost use Rattle.interleaving_core.specs.Words.{IsSeat, caller_at};
 
 use crate::active::Active;
 use crate::advance::advance;
@@ -170,6 +169,14 @@ impl<D: PageDevice + Drop, K: PseudoKey + Copy> Kernel<D, K> {
         self.locks.seats()
     }
 
+    /// Who sits at a seat.
+    pub fn caller(&self, seat: u8) -> Caller
+        requires { IsSeat self.now.locks seat }
+        ensures { caller_at self.now.callers seat ≡ Some result }
+    {
+        self.callers[seat as usize - 1]
+    }
+
     /// What was decided, in its order.
     pub fn journal(&self) -> &[Entry]
         ensures { result.now ≡ self.now.journal }
@@ -225,9 +232,9 @@ impl<D: PageDevice + Drop, K: PseudoKey + Copy> Kernel<D, K> {
     pub fn step(&mut self, seat: u8) -> Step
         requires { IsSeat self.old.locks seat }
         ensures turn { IsTurn seat result self.old self.new }
-        // The step is one of the machine of its call.
+        // The step is one of the machine of its call, or none while that waits.
         ensures makes { (a : ActiveView) → call_at self.old.seats seat ≡ Some a →
-            self.old.failed ≡ false → MakesTurn (K.of_key self.old.keys) seat self.old.stopped
+            self.old.failed ≡ false → TakesTurn (K.of_key self.old.keys) seat self.old.stopped
             result a (call_at self.new.seats seat) self.old.pool self.new.pool
             self.old.locks self.new.locks self.old.journal self.new.journal }
     {
@@ -282,8 +289,8 @@ impl<D: PageDevice + Drop, K: PseudoKey + Copy> Kernel<D, K> {
     /// Writes the pages to the device, and gives it back with the journal. Where a step has failed
     /// nothing is written; where a seat has a call under way the kernel comes back.
     pub fn close(self) -> Result<Closed<D>, NotClosed<D, K>>
-        ensures ok { IsTrue self.pool.honest → IfOk result (λ closed.
-            payloads_of (D.content closed.device) ≡ self.pool.images) }
+        ensures ok { IsTrue self.pool.honest →
+            IfOk result (λ closed. IsFlushedTo self.pool (D.content closed.device)) }
         ensures journal { journal_in result ≡ self.journal }
         ensures busy { (is_busy result ≡ true) ↔ IsBusy self }
         ensures failed { (fault_in result ≡ Some CloseFault.Failed) ↔ (self.failed ≡ true) }

@@ -10,6 +10,7 @@ mod kernel;
 mod opening;
 mod places;
 mod step;
+mod waiting;
 
 pub use fault::{BUSY, BeginFault, CloseFault, OpenFault, SESSION_FULL, StepFault};
 pub use kernel::{Closed, Kernel, MAX_DECIDED, MOST_STEPS, NotClosed};

@@ -11,7 +11,8 @@ pub enum Step {
     Moved(Kind),
     /// This seat stands in the way, and nothing changed.
     Blocked(u8),
-    /// The rules have no answer to its call now. It begins anew with the seat's next step.
+    /// The rules had no answer to its call. It begins anew with the seat's next step behind an entry
+    /// of the journal that wakes it.
     Waiting,
     /// Its call is answered, and over.
     Answered(Answer),

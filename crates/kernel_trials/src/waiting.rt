@@ -4,11 +4,12 @@ use crate::asks::Asks::{Get, Receive, Remove, Send, Set};
 use crate::cases::Left::Entries;
 use crate::cases::{Case, run_all};
 use crate::rows::Row;
-use crate::rows::Row::{Begins, Calls, Drives, Steps, Stops};
-use crate::rows::Want::{Done, Id, Idle, Received, Refused, Sent, Waiting};
+use crate::rows::Row::{Begins, Calls, Drives, Reaches, Steps, Stops};
+use crate::rows::Want::{Done, Id, Idle, Moved, Received, Refused, Sent, Waiting};
 use bucket_page::ShaKey;
 use queue_model::Errno;
 use std::test::Fail;
+use step_rules::Kind;
 
 /// A Receive waits for a message of an empty queue.
 const WAITS: [Row; 5] = [
@@ -43,7 +44,52 @@ const BOTH: [Row; 9] = [
     Calls(1, Send(1, 1, "ab"), Sent(1)),
 ];
 
-const CASES: [Case; 4] = [
+/// A Receive waits for a message of an empty queue, beside another queue. No call on that one wakes
+/// it, and no Get.
+const SLEEPS: [Row; 9] = [
+    Calls(1, Get(7), Id(1)),
+    Calls(1, Get(8), Id(2)),
+    Calls(1, Receive(1, 0), Waiting),
+    Steps(1, Waiting),
+    Calls(2, Send(2, 1, "a"), Sent(1)),
+    Steps(1, Waiting),
+    Calls(2, Get(7), Id(1)),
+    Steps(1, Waiting),
+    Drives(1, Waiting),
+];
+
+/// A call on its queue wakes it: it begins with its first step, also behind a refusal, and then waits
+/// again.
+const WOKEN: [Row; 9] = [
+    Calls(2, Send(1, 0, "a"), Refused(Errno::EINVAL)),
+    Steps(1, Moved(Kind::Grant)),
+    Drives(1, Waiting),
+    Steps(1, Waiting),
+    Begins(2, Send(1, 1, "a")),
+    Reaches(2, Kind::Decide),
+    Drives(2, Sent(1)),
+    Steps(1, Moved(Kind::Grant)),
+    Drives(1, Received(1)),
+];
+
+const WOKEN_BY_STOP: [Row; 3] = [
+    Stops,
+    Steps(1, Moved(Kind::Grant)),
+    Drives(1, Refused(Errno::EINTR)),
+];
+
+/// What is decided behind its Decide wakes it, though its seat is told only later that it waits.
+const WOKEN_EARLY: [Row; 7] = [
+    Calls(1, Get(7), Id(1)),
+    Begins(1, Receive(1, 0)),
+    Reaches(1, Kind::Decide),
+    Calls(2, Send(1, 0, "a"), Refused(Errno::EINVAL)),
+    Drives(1, Waiting),
+    Steps(1, Moved(Kind::Grant)),
+    Drives(1, Waiting),
+];
+
+const CASES: [Case; 7] = [
     Case {
         pages: 258,
         rows: &[&WAITS, &SENT],
@@ -63,6 +109,21 @@ const CASES: [Case; 4] = [
         pages: 258,
         rows: &[&BOTH],
         left: &[Entries(7)],
+    },
+    Case {
+        pages: 258,
+        rows: &[&SLEEPS, &WOKEN],
+        left: &[Entries(7)],
+    },
+    Case {
+        pages: 258,
+        rows: &[&SLEEPS, &WOKEN_BY_STOP],
+        left: &[Entries(6)],
+    },
+    Case {
+        pages: 258,
+        rows: &[&WOKEN_EARLY, &WOKEN_BY_STOP],
+        left: &[Entries(4)],
     },
 ];
 

@@ -26,13 +26,13 @@ use Rattle.lone_calls.proofs.StopLemmas.{filed_still, keeps_stopped}
 
 -- ---- it begins
 
-fresh_row : (m : CallView) → IsNew m → call_locks m ≡ []
+pub fresh_row : (m : CallView) → IsNew m → call_locks m ≡ []
 fresh_row m new =
     ap (locks_at m.undecided) new.stage ∙ ap (locks_in m.undecided.questions) new.fresh.untried
     ∙ ap (λ (o : Option Question). locks_behind o m.undecided.questions.names) new.fresh.bare.question
     ∙ new.fresh.bare.names
 
-fresh_owes : (m : CallView) → IsNew m → (records : Records) (key : RecordKey) →
+pub fresh_owes : (m : CallView) → IsNew m → (records : Records) (key : RecordKey) →
     overlaid (call_owes m) records key ≡ records key
 fresh_owes m new records key =
     ap (λ (x : Stage). overlaid (owes_at m.call m.undecided x) records key) new.stage
@@ -79,7 +79,7 @@ over_row call u (Paying (Writing w) conclusion) over =
     ap (λ (o : Option AccessView). locks_under o u.questions.names) over.0.rests ∙ over.1
 over_row call u (Releasing conclusion) over = over
 
-over_owes : (hash : RecordKey → ℕ) (seat : ℕ) (call : Call) (s : State) (u : UndecidedCall) (stage : Stage)
+pub over_owes : (hash : RecordKey → ℕ) (seat : ℕ) (call : Call) (s : State) (u : UndecidedCall) (stage : Stage)
     (records : Records) (pool : PoolState) (locks : Table) (change : Change) → IsOverAt call u stage →
     IsCallingAt hash seat call s u stage records pool locks change → (key : RecordKey) →
     overlaid (owes_at call u stage) records key ≡ records key

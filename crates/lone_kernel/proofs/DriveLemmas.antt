@@ -1,5 +1,5 @@
 -- A lone call is driven: each step that moves leaves fewer, and so there is a last one.
-use Rattle.std.proofs.Common.{ℕ, zero, suc, ◌≡◌, ◌+◌, ◌<◌, ◌≤◌, sym, ap, subst, Bool, true, false, Option, Some, None, inl, inr, arith}
+use Rattle.std.proofs.Common.{ℕ, zero, suc, ◌≡◌, ◌+◌, ◌<◌, ◌≤◌, refl, sym, ap, subst, Bool, true, false, Option, Some, None, inl, inr, arith}
 use Rattle.std.specs.Prelude.{◌⊎◌}
 use Rattle.step_rules.specs.declared.kind.Kind.{Kind}
 use Rattle.step_rules.specs.declared.progress.Progress.TheVariants as progress
@@ -9,7 +9,7 @@ use Rattle.interleaving_core.specs.Driving.{ComesToRest, IsStep, Moves}
 use Rattle.interleaving_core.specs.declared.step.Step.TheVariants as steps
 use Rattle.interleaving_core.specs.xsi_calls.Words.{Store}
 use Rattle.interleaving_core.proofs.RunLemmas.{seat_stays}
-use Rattle.lone_kernel.specs.Words.{ActiveView, Answer, Call, Caller, FileFault, HaveFewSteps, IsDriven, IsLeft, IsSeat, IsSpent, KernelState, MOST_CALL_STEPS, MakesCall, Progress, RecordKey, State, Step, call_at, call_left, store_of, told_of, told_when_over}
+use Rattle.lone_kernel.specs.Words.{ActiveView, Answer, Call, Caller, FileFault, HaveFewSteps, IsDriven, IsLeft, IsSeat, IsSpent, KernelState, MOST_CALL_STEPS, MakesCall, Progress, RecordKey, State, Step, call_at, call_left, stays_waiting, store_of, told_of, told_when_over}
 use Rattle.lone_kernel.specs.Lone.{ServesOver}
 use Rattle.lone_kernel.specs.Laws.{AnswersLoneCalls, DrivesByTheRules, StandsDriven}
 use Rattle.lone_kernel.proofs.RestingLemmas.{begins_on_a_kernel}
@@ -51,10 +51,17 @@ module _ {K : Type 0} (hash : RecordKey → ℕ) (seat : ℕ) (caller : Caller) 
 
     move_nears : IsStep hash seat (steps.Moved kind) old new → steps_left seat new < steps_left seat old
     move_nears step =
-        let t = step.makes serves.active serves.there serves.sound in
-        let fewer = nears_by t.did t.come t.makes t.left_is t.told_is in
+        let fewer = by (stays_waiting serves.active.wait serves.active.machine.call old.journal) refl in
         let was = left_now in
         omega (arith, fewer, was)
+      where
+        by : (waits : Bool) → stays_waiting serves.active.wait serves.active.machine.call old.journal ≡ waits →
+            steps_left seat new < call_left serves.active.machine (store_of old.pool.images)
+        by true is =
+            let told = ((step.makes serves.active serves.there serves.sound).waits is).told_is in absurd cc
+        by false is =
+            let t = (step.makes serves.active serves.there serves.sound).goes is in
+            nears_by t.did t.come t.makes t.left_is t.told_is
 
 -- ---- many of them, and the last step
 

@@ -52,6 +52,7 @@ module _ (begins : BeginsAtRest) (few : HaveFewSteps) {K : Type 0} (hash : Recor
     served = begins hash seat has.caller call s has.active.machine old.pool old.locks rests.file is caller_fits
         call_fits has.begun.begins;
     few = few has.active.machine (store_of old.pool.images) has.begun.begins.new;
+    waits = λ some. let none = has.begun.awake in absurd cc;
     others = λ other apart. at_other old.seats seat other (Some has.active) apart ∙ rests.idle other;
     sound = rests.sound;
     mark = rests.mark;

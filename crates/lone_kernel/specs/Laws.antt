@@ -3,7 +3,7 @@ use Rattle.std.specs.Prelude.{ℕ, ◌≡◌, ◌≤◌, Bool, true, false, IsTr
 use Rattle.page_locks.specs.declared.lock_table.TheConstants.{MAX_SEATS}
 use Rattle.interleaving_core.specs.declared.fault.StepFault.TheVariants as faults
 use Rattle.interleaving_core.specs.declared.step.Step.TheVariants as steps
-use Rattle.lone_kernel.specs.Words.{ActiveView, Answer, BeginFault, Call, Caller, FoundNoRoom, HasCall, HasFittingCall, HasFittingCaller, HasSystem, IsDriven, IsMove, IsOpened, IsRefused, IsSeat, IsSpent, IsStopped, IsTurn, IsWhole, KernelState, MOST_CALL_STEPS, MakesTurn, RecordKey, State, Step, call_at, caller_at, outcome}
+use Rattle.lone_kernel.specs.Words.{ActiveView, Answer, BeginFault, Call, Caller, FoundNoRoom, HasCall, HasFittingCall, HasFittingCaller, HasSystem, IsDriven, IsMove, IsOpened, IsRefused, IsSeat, IsSpent, IsStopped, IsTurn, IsWhole, KernelState, MOST_CALL_STEPS, RecordKey, State, Step, TakesTurn, call_at, caller_at, outcome}
 use Rattle.lone_kernel.specs.Lone.{RestsOver, ServesOver}
 
 -- ---- it is opened
@@ -42,7 +42,7 @@ abbrev pub StandsBehind : {K : Type 0} → (RecordKey → ℕ) → ℕ → Calle
 StandsBehind hash seat caller call s (steps.Moved kind) k = ServesOver hash seat caller call s k
 -- nobody stands in its way
 StandsBehind hash seat caller call s (steps.Blocked other) k = ⊥
--- the rules have no answer, and it has begun anew
+-- the rules have no answer, and it begins anew or waits on
 StandsBehind hash seat caller call s steps.Waiting k =
     (outcome caller call s ≡ None) × ServesOver hash seat caller call s k
 StandsBehind hash seat caller call s (steps.Answered answer) k = IsAnswered hash caller call s answer k
@@ -59,7 +59,7 @@ AnswersByTheRules K = (hash : RecordKey → ℕ) (seat : ℕ) (caller : Caller) 
     (old new : KernelState K) → IsSeat old.locks seat → ServesOver hash seat caller call s old →
     IsTurn seat did old new →
     ((a : ActiveView) → call_at old.seats seat ≡ Some a → old.failed ≡ false →
-    MakesTurn hash seat old.stopped did a (call_at new.seats seat) old.pool new.pool old.locks new.locks
+    TakesTurn hash seat old.stopped did a (call_at new.seats seat) old.pool new.pool old.locks new.locks
     old.journal new.journal) → StandsBehind hash seat caller call s did new
 
 -- ---- it is driven

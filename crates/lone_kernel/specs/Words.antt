@@ -3,12 +3,13 @@ pub use Rattle.lone_calls.specs.opened_files.Resting.{IsFileAtRest}
 pub use Rattle.lone_calls.specs.Serving.{FoundNoRoom, IsServed}
 pub use Rattle.lone_calls.specs.Words.{Answer, Begins, Call, CallView, Caller, Conclusion, FileFault, HasFittingCall, HasFittingCaller, IsOver, IsSeat, MakesCall, PoolState, Progress, RecordKey, State, Table, call_left, conclusion_of, outcome, store_of}
 pub use Rattle.interleaving_core.specs.Words.{caller_at}
-pub use Rattle.interleaving_core.specs.Active.{ActiveView, is_waiting}
+pub use Rattle.interleaving_core.specs.Active.{ActiveView, IsMarked, is_waiting}
 pub use Rattle.interleaving_core.specs.Beginning.{HasCall, HasSystem, IsOpened, IsRefused, IsStopped}
 pub use Rattle.interleaving_core.specs.Driving.{IsDriven, IsSpent}
 pub use Rattle.interleaving_core.specs.Kernel.{IsWhole, KernelState, call_at, with_call}
 pub use Rattle.interleaving_core.specs.Owing.{IsMove, IsTurn, is_failure}
-pub use Rattle.interleaving_core.specs.Turn.{IsLeft, IsLeftWhenOver, MakesTurn, told_of, told_when_over}
+pub use Rattle.interleaving_core.specs.Turn.{IsLeft, IsLeftWhenOver, MakesTurn, StaysWaiting, TakesTurn, told_of, told_when_over}
+pub use Rattle.interleaving_core.specs.Waiting.{stays_waiting}
 pub use Rattle.interleaving_core.specs.declared.fault.BeginFault.{BeginFault}
 pub use Rattle.interleaving_core.specs.declared.step.Step.{Step}
 pub use Rattle.interleaving_core.specs.xsi_calls.Laws.{HaveFewSteps, MOST_CALL_STEPS}

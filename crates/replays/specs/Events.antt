@@ -11,7 +11,7 @@ use Rattle.interleaving_core.specs.Driving.{IsDriven}
 use Rattle.interleaving_core.specs.Fault.{begin_number_of, step_number_of}
 use Rattle.interleaving_core.specs.Kernel.{KernelState, call_at}
 use Rattle.interleaving_core.specs.Owing.{IsRun, IsTurn, answer_told}
-use Rattle.interleaving_core.specs.Turn.{MakesTurn}
+use Rattle.interleaving_core.specs.Turn.{TakesTurn}
 use Rattle.interleaving_core.specs.declared.fault.BeginFault.{BeginFault}
 use Rattle.interleaving_core.specs.declared.step.Step.{Step}
 use Rattle.interleaving_core.specs.declared.step.Step.TheVariants as steps
@@ -104,12 +104,12 @@ reply_by (steps.Fault fault) = Some (Failed (step_number_of fault))
 
 -- ---- an event of a seat
 
--- one step of the call under way, which is a step of its machine
+-- one step of the call under way, which is a step of its machine, or none while the call waits
 pub record StepsLine (seat place : ℕ) (did : Deed) (old new : ReplayState) : Type 0 where
   pub step : Step
   pub turn : IsTurn seat step old.kernel new.kernel
   pub makes : (a : ActiveView) → call_at old.kernel.seats seat ≡ Some a → old.kernel.failed ≡ false →
-      MakesTurn sha_key seat old.kernel.stopped step a (call_at new.kernel.seats seat) old.kernel.pool new.kernel.pool
+      TakesTurn sha_key seat old.kernel.stopped step a (call_at new.kernel.seats seat) old.kernel.pool new.kernel.pool
       old.kernel.locks new.kernel.locks old.kernel.journal new.kernel.journal
   pub script : new.script ≡ told seat place (reply_by step) old.script
   pub did_is : did ≡ deed_by step

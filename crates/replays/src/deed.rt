@@ -18,7 +18,7 @@ pub enum Deed {
     Moved(Kind),
     /// Another seat stands in the way of its call.
     Blocked,
-    /// Its call has to wait, and begins anew.
+    /// Its call waits.
     Waits,
     /// A line of it is replied.
     Replied,

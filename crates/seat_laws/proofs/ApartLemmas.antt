@@ -18,8 +18,8 @@ use Rattle.xsi_sweep.proofs.KeyedLemmas.{keeps_keyed}
 use Rattle.xsi_sweep.specs.Knowing.{KnowsAt}
 use Rattle.xsi_sweep.specs.declared.stage.Stage.{Stage}
 use Rattle.xsi_sweep.specs.declared.stage.Stage.TheVariants.{Keyed}
-use Rattle.seat_laws.specs.Words.{AnyInquiry, Call, Change, DecidesApart, IsFiled, IsTrying, KnowsNear, KnowsOf, Lock, LockName, PoolState, QuestionsView, Record, RecordKey, Records, StandsAt, State, Table, Trials, guard_of, names_in, record_of, store_of}
-use Rattle.seat_laws.specs.Apart.{HasBegun, HasKey, Holds, IsAsGood, IsKeptApart, KnowsItsKey}
+use Rattle.seat_laws.specs.Words.{Answer, AnyInquiry, Call, Caller, Change, DecidesApart, HasBegun, HasKey, Holds, IsFiled, IsTrying, KnowsItsKey, KnowsNear, KnowsOf, Lock, LockName, PoolState, QuestionsView, Record, RecordKey, Records, StandsAt, State, Table, Trials, guard_of, names_in, outcome, record_of, store_of}
+use Rattle.seat_laws.specs.Apart.{IsAsGood, IsKeptApart}
 use Rattle.seat_laws.specs.DecisionLaws.{GoesOver, OthersDecide, StopsBeside}
 use Rattle.seat_laws.proofs.AskLemmas.{trying_over}
 use Rattle.seat_laws.proofs.OwnLemmas.{inserted_local}
@@ -77,7 +77,7 @@ among true names name has = absurd (none_in name has)
 among false names name has = has
 
 -- over a system that agrees under its names
-near_over : (call : Call) (q : QuestionsView) (s after : State) → AgreesFor call (names_in q.names) s after →
+pub near_over : (call : Call) (q : QuestionsView) (s after : State) → AgreesFor call (names_in q.names) s after →
     KnowsNear call q s → KnowsNear call q after
 near_over call q s after agrees near =
     let asks : Bool = asks_more call q.inquiry in
@@ -110,12 +110,12 @@ keyed_near id key s t agrees keyed =
       keeps = λ q found. keyed.keeps q (agrees.queue ∙ found);
     }
 
-key_over : (call other : Call) (q : QuestionsView) (i : AnyInquiry) (s after : State) → IsFiled s →
-    KnowsItsKey call q → DecidesApart (names_in q.names) other i s after → KnowsNear call q s → KnowsNear call q after
-key_over call other q i s after filed k d near t filed' agrees =
+pub key_over : (call other : Call) (q : QuestionsView) (c : Caller) (answer : Answer) (s after : State) → IsFiled s →
+    KnowsItsKey call q.inquiry → outcome c other s ≡ Some (answer, after) → KnowsNear call q s → KnowsNear call q after
+key_over call other q c answer s after filed k answered near t filed' agrees =
     let knows = near s filed (agrees_itself call _ s) in
     let first = keyed_of call q.inquiry q.room k.id k.key k.is k.inquiry k.asks k.stage s knows in
-    let then = keeps_keyed k.id k.key (caller_of i) other d.answer s after filed d.outcome first in
+    let then = keeps_keyed k.id k.key c other answer s after filed answered first in
     let on : AgreeOnId k.id after t = subst (λ (x : Call). AgreeOnCall x after t) k.is agrees.asked in
     of_keyed call q.inquiry q.room k.id k.key k.is k.inquiry k.asks k.stage t
     (keyed_near k.id k.key after t on then)
@@ -127,7 +127,8 @@ kept : (call other : Call) (q : QuestionsView) (i : AnyInquiry) (s after : State
 kept call other q i s after filed (Holds own) d near =
     near_over call q s after (leaves_others call other (names_in q.names) i s after filed own d) near
 kept call other q i s after filed (HasBegun all) d near = λ t filed' agrees. all t filed'
-kept call other q i s after filed (HasKey k) d near = key_over call other q i s after filed k d near
+kept call other q i s after filed (HasKey k) d near =
+    key_over call other q (caller_of i) d.answer s after filed k d.outcome near
 
 pub others_decide : OthersDecide
 others_decide call other q i s after filed filed' apart d = record {

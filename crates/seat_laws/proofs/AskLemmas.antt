@@ -110,7 +110,7 @@ asks_under_new_names hash seat call s q records pool locks change on sees row fi
 
 module _ (id n : ℕ) where
   -- one id more tells the same of each other id
-  one_more : id ≢ n → nat_lt id n ≡ nat_lt id (n + 1)
+  pub one_more : id ≢ n → nat_lt id n ≡ nat_lt id (n + 1)
   one_more apart = by (nat_lt id n) refl
     where
       by : (b : Bool) → nat_lt id n ≡ b → b ≡ nat_lt id (n + 1)

@@ -2,8 +2,7 @@
 use Rattle.std.proofs.Common.{sym, subst, List}
 use Rattle.undecided_calls.proofs.of_call_questions.OwnLemmas.{own_names}
 use Rattle.xsi_inquiry.proofs.AgreeLemmas.{agrees_itself}
-use Rattle.seat_laws.specs.Words.{HoldsOwn, Lock, names_in}
-use Rattle.seat_laws.specs.Apart.{HasBegun, Holds}
+use Rattle.seat_laws.specs.Words.{HasBegun, Holds, HoldsOwn, Lock, names_in}
 use Rattle.seat_laws.specs.DecisionLaws.{BeginApart, HoldApart, TryApart}
 
 pub begin_apart : BeginApart

@@ -6,6 +6,9 @@ pub mod AskLemmas
 pub mod ApartLemmas
 pub mod HoldLemmas
 pub mod StayLemmas
+pub mod DeedLemmas
 pub mod SameLemmas
 pub mod GivenLemmas
 pub mod SettleLemmas
+pub mod AlikeLemmas
+pub mod CountLemmas

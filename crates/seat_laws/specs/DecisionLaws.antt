@@ -1,10 +1,9 @@
 -- Laws of a call that has not decided beside the decisions of others. Each is the contract of a function of laws.rt.
 -- docs/STEPS.md, "What a call reads", "Locks".
-use Rattle.std.specs.Prelude.{ℕ, ◌≡◌, ◌≢◌, ◌⊎◌, ◌+◌, Bool, List, [], Option, None, Some}
+use Rattle.std.specs.Prelude.{ℕ, ◌≡◌, ◌⊎◌, ◌+◌, Bool, List, [], Option, None, Some}
 use Rattle.std.specs.List.{Contains}
 use Rattle.call_decisions.specs.declared.settled.Settled.TheVariants as settlements
 use Rattle.page_locks.specs.declared.lock.LockName.TheVariants as names_are
-use Rattle.queue_model.specs.declared.call.Call.TheVariants as calls
 use Rattle.seat_laws.specs.Words.{Answer, AnyInquiry, Call, CallWrites, Caller, Change, DecidesApart, FileFault, GoesOn, HoldsOwn, IsAnswer, IsBehind, IsFiled, IsSettled, IsTrying, IsUndecided, KnowsNear, KnowsOf, LockName, Owes, PoolState, Progress, QuestionsView, Record, RecordKey, Records, Roomful, State, Sweep, Table, Trials, UndecidedCall, Verdict, asked_of, caller_of, locked_of, names_for, names_in, outcome, writes_owed}
 use Rattle.seat_laws.specs.Apart.{IsAsGood, IsKeptApart}
 use Rattle.seat_laws.specs.Beside.{AreApart}
@@ -70,22 +69,21 @@ TryApart = (hash : RecordKey → ℕ) (seat : ℕ) (call : Call) (s : State) (q 
 
 -- ---- by its own steps
 
--- one that has not decided, but for a Remove, which gives the name of its first phase back
+-- one that has not decided
 abbrev pub StaysApart : Type 0
 StaysApart = (hash : RecordKey → ℕ) (seat : ℕ) (call : Call) (s : State) (u : UndecidedCall) (records : Records)
-    (pool : PoolState) (locks : Table) (change : Change) → ((id : ℕ) → call ≢ calls.Remove id) →
+    (pool : PoolState) (locks : Table) (change : Change) →
     IsUndecided hash seat call s u records pool locks change → IsKeptApart call u.questions
 
 -- also behind its own step, before it is told anew that the file agrees under its names
 abbrev pub BehindApart : Type 0
 BehindApart = (hash : RecordKey → ℕ) (seat : ℕ) (call : Call) (s : State) (q : QuestionsView) (t : Option Trials)
-    (records : Records) (pool : PoolState) (locks : Table) (change : Change) → ((id : ℕ) → call ≢ calls.Remove id) →
+    (records : Records) (pool : PoolState) (locks : Table) (change : Change) →
     IsBehind hash seat call s q t records pool locks change → IsKeptApart call q
 
 abbrev pub StepsApart : Type 0
 StepsApart = (hash : RecordKey → ℕ) (seat : ℕ) (call : Call) (s : State) (did : Progress FileFault)
     (old new : UndecidedCall) (records : Records) (pool pool' : PoolState) (locks locks' : Table) (change : Change) →
-    ((id : ℕ) → call ≢ calls.Remove id) →
     GoesOn hash seat call s did old new records pool pool' locks locks' change → IsKeptApart call new.questions
 
 -- ---- ids

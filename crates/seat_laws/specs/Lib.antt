@@ -3,3 +3,4 @@ pub mod Beside
 pub mod Apart
 pub mod Laws
 pub mod DecisionLaws
+pub mod AlikeLaws

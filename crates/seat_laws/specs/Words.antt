@@ -15,6 +15,6 @@ pub use Rattle.undecided_calls.specs.Deciding.{IsSettled}
 pub use Rattle.undecided_calls.specs.Knowing.{IsAsking, IsTrying, IsUndecided}
 pub use Rattle.undecided_calls.specs.Undecided.{its_plan}
 pub use Rattle.undecided_calls.specs.UndecidedSteps.{AsksOn, GoesOn, IsBehind}
-pub use Rattle.undecided_calls.specs.Words.{AreAlike, Call, Change, IsFiled, KnowsNear, KnowsOf, Lock, LockName, Plan, PoolState, QuestionsView, Record, RecordKey, Records, State, Store, Table, asked_of, caller_of, guard_of, kind_of, locked_of, names_for, names_in, questions_facts, questions_locks, record_of, row_of, store_of}
+pub use Rattle.undecided_calls.specs.Words.{AreAlike, Call, Change, HasBegun, HasKey, Holds, IsFiled, KnowsApart, KnowsItsKey, KnowsNear, KnowsOf, Lock, LockName, Plan, PoolState, QuestionsView, Record, RecordKey, Records, State, Store, Table, asked_of, caller_of, guard_of, kind_of, locked_of, names_for, names_in, questions_facts, questions_locks, record_of, row_of, store_of}
 pub use Rattle.undecided_calls.specs.declared.trials.Trials.{Trials}
 pub use Rattle.undecided_calls.specs.declared.undecided.UndecidedCall.{UndecidedCall}

@@ -1,5 +1,6 @@
 //! Laws of a seat beside the others. The functions do nothing; their contracts are the laws.
 
+ghost use Rattle.seat_laws.specs.AlikeLaws.{CountsWhileAlive, GivesOutNext, KeepsAliveUnderCounter, OthersLeadAlike};
 ghost use Rattle.seat_laws.specs.DecisionLaws.{BeginApart, BehindApart, GoesOver, HoldApart, IdsAreGivenOutUnderNames, LeavesWhatItDoesNotWrite, OthersAnswer, OthersDecide, OthersSweep, StaysApart, StepsApart, StopsBeside, TryApart};
 ghost use Rattle.seat_laws.specs.Laws.{AskUnderNames, AsksUnderNewNames, CountsForOthers, LeaveWhatTheyRead, NamesAreApart, OthersLeave, PayUnderNames, PaysOn, RecordsStay, SeesBehind, SeesOn, StaysUndecided};
 
@@ -69,10 +70,26 @@ pub fn others_leave_what_a_call_knows()
     ensures tries { TryApart }
 {}
 
-/// A call that has not decided, and is no Remove, others leave what it knows: it has come so far by
-/// its own steps, and while it asks it gives no name back. So they do behind each of its steps.
+/// A call that has not decided others leave what it knows: it has come so far by its own steps, and
+/// while it asks it gives no name back, but a Remove between its phases, where it knows its queue's
+/// key alone. So they do behind each of its steps.
 pub fn a_call_stays_apart_by_its_own_steps()
     ensures stays { StaysApart }
     ensures behind { BehindApart }
     ensures steps { StepsApart }
+{}
+
+/// A call goes over to each system that an answer to another leads to, where the records under its
+/// names are the same.
+pub fn a_call_goes_over_where_its_records_stay()
+    ensures { OthersLeadAlike }
+{}
+
+/// An answer leaves the next id or gives it out, and then the queue of that id is there. As long as
+/// it is, a file that is still to count it counts for each call. An answer that leaves the Counter
+/// leaves each queue there.
+pub fn a_queue_is_counted_while_it_is_alive()
+    ensures gives { GivesOutNext }
+    ensures counts { CountsWhileAlive }
+    ensures stays { KeepsAliveUnderCounter }
 {}

@@ -10,7 +10,7 @@ use Rattle.call_writes.specs.stale_search.Steps.{Sees}
 use Rattle.xsi_inquiry.proofs.AgreeLemmas.{agrees_itself}
 use Rattle.xsi_inquiry.specs.Telling.{most_asked}
 use Rattle.undecided_calls.specs.declared.trials.Trials.{Trials}
-use Rattle.undecided_calls.specs.Words.{AreAlike, Known, Lock, LockName, guard_of, names_for, names_in, record_of, store_of}
+use Rattle.undecided_calls.specs.Words.{AreAlike, HasBegun, Known, Lock, LockName, guard_of, names_for, names_in, record_of, store_of}
 use Rattle.undecided_calls.specs.Undecided.{left_in}
 use Rattle.undecided_calls.specs.Knowing.{IsUndecidedIn}
 use Rattle.undecided_calls.specs.Laws.{BeginFewSearches, BeginRight, HaveFewSteps, MOST_UNDECIDED_STEPS}
@@ -34,11 +34,11 @@ begin_right hash seat call s u records pool locks change fresh knows row sees ag
         right = record {
           question = subst (λ (o : Option Question). IfSome o (IsRightQuestion hash call u.questions))
               (sym question) tt;
-          begins = λ none does keeps. subst (λ (ls : List Lock). Begins ls (names_for call u.questions.inquiry))
+          begins = λ none does. subst (λ (ls : List Lock). Begins ls (names_for call u.questions.inquiry))
               (sym names) (names_for call u.questions.inquiry, refl);
-          grows = λ keeps asks. subst (λ (ls : List Lock). Begins ls (names_for call u.questions.inquiry))
-              (sym names) (names_for call u.questions.inquiry, refl);
-          apart = λ keeps. inl (λ t filed. knows t t filed (agrees_itself call _ t));
+          grows = λ asks. inl (subst (λ (ls : List Lock). Begins ls (names_for call u.questions.inquiry))
+              (sym names) (names_for call u.questions.inquiry, refl));
+          apart = HasBegun (λ t filed. knows t t filed (agrees_itself call _ t));
           few = let none = fresh.finds in
               let few = fresh.few in
               omega (arith, none, few);

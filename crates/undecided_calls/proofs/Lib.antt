@@ -1,5 +1,7 @@
 pub mod Names
 pub mod HeldLemmas
+pub mod PlanLemmas
+pub mod CounterLemmas
 pub mod ReadyLemmas
 pub mod SweepLemmas
 pub mod BeginLemmas

@@ -192,6 +192,7 @@ module _ (hash : RecordKey → ℕ) (seat : ℕ) (stopped : Bool) (caller : Call
         reads = λ reading. absurd reading;
         elsewhere = λ key free. refl;
         owed = λ kept key. absurd cc;
+        counter = λ kept owed. refl;
         concludes = λ none c same. subst (IsRightConclusion caller call s q.room.bytes q.names (has_no_room u)
             (undecided_owes call u) (owes_now p payment) records) (some_same same)
             (subst (λ (x : Caller). IsRightConclusion x call s q.room.bytes q.names (has_no_room u)

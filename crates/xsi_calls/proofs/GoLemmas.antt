@@ -1,6 +1,7 @@
 -- A step of what a call asks and tries.
 use Rattle.std.proofs.Common.{◌≡◌, refl, sym, ap, ◌∙◌, subst, ℕ, Bool, true, false, not, Option, Some, None, arith}
 use Rattle.std.proofs.lemmas.Bool.{true≢false}
+use Rattle.undecided_calls.proofs.CounterLemmas.{undecided_none}
 use Rattle.xsi_calls.proofs.Names.{FileFault, nears_with}
 use Rattle.xsi_calls.specs.declared.stage.Stage.{Stage}
 use Rattle.xsi_calls.specs.declared.stage.Stage.TheVariants.{Undecided, Paying, Releasing}
@@ -49,6 +50,8 @@ goes_on hash seat stopped caller call u u' did pool pool' locks locks' more most
         reads = λ reading. on.reads (untried_there u'.trials reading);
         elsewhere = on.elsewhere;
         owed = λ same key. on.owed key;
+        counter = λ same owed. absurd (true≢false (sym owed ∙ undecided_none hash seat call s u'.questions u'.trials
+            on.after pool' locks' on.step.after on.behind));
         concludes = λ none c is_so. absurd cc;
         behind = on.behind;
         full = on.full;

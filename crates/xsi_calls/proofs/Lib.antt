@@ -5,8 +5,10 @@ pub mod TrialLemmas
 pub mod ConcludeLemmas
 pub mod DecideLemmas
 pub mod DecidedLemmas
+pub mod CounterLemmas
 pub mod GoLemmas
 pub mod ReleaseLemmas
 pub mod PayLemmas
 pub mod RowLemmas
 pub mod LawLemmas
+pub use Rattle.call_payments.proofs as of_call_payments

@@ -1,4 +1,5 @@
 -- Words of the crates below, under one name for the proofs of this one.
+pub use Rattle.kernel_laws.specs.call_decisions.owed_records.Owing.{is_swept}
 pub use Rattle.kernel_laws.specs.call_decisions.Settling.{IsAnswer, IsSweepOf, Means}
 pub use Rattle.call_payments.proofs.BeginLemmas.{undoes_its_trials}
 pub use Rattle.call_payments.proofs.DecidedLemmas.{has_few, owes_nothing_at_end, pays_what_is_decided}

@@ -8,6 +8,8 @@ use Rattle.call_payments.specs.declared.payment.Stage.TheVariants as stages
 use Rattle.xsi_calls.specs.declared.conclusion.Conclusion.{Conclusion}
 use Rattle.xsi_calls.specs.declared.stage.Stage.{Stage}
 use Rattle.xsi_calls.specs.declared.stage.Stage.TheVariants.{Paying, Releasing}
+use Rattle.undecided_calls.proofs.PlanLemmas.{plans_have_one_counter}
+use Rattle.xsi_calls.proofs.CounterLemmas.{paid_counter}
 use Rattle.xsi_calls.proofs.GoLemmas.{at_end, not_end, with_stage}
 use Rattle.xsi_calls.specs.Words.{AreNames, Blocked, Call, Caller, Change, Ended, Fault, IsPaid, IsPaying, IsSeat, KeepsPayment, Known, Lock, Moved, NearsOrSpares, OnlyWrites, PaymentStage, Pays, Plan, PoolState, Progress, QuestionsView, RecordKey, Records, Sees, State, Store, Table, Turn, UndecidedCall, World, is_fault, its_plan, TrialLacksRoom, trials_of, payment_facts, payment_left, payment_locks, payment_turn, row_of, store_of, with_row, world}
 use Rattle.xsi_calls.specs.Machine.{CallView, call_left, call_locks}
@@ -102,6 +104,8 @@ module _ (hash : RecordKey → ℕ) (seat : ℕ) (caller : Caller) (call : Call)
             reads = λ reading. absurd reading;
             elsewhere = on.elsewhere;
             owed = λ same key. on.owed key;
+            counter = λ same owed. paid_counter p v v' records on.after
+                (plans_have_one_counter call u.questions.inquiry) on.leaves owed;
             concludes = λ none c is_so. absurd cc;
             behind = on.pays;
             full = λ before full. absurd (true≢false (sym full ∙ before));
@@ -166,6 +170,7 @@ module _ (hash : RecordKey → ℕ) (seat : ℕ) (caller : Caller) (call : Call)
               elsewhere = r.elsewhere;
               owed = λ kept key. r.owed kept key
                   ∙ sym (owes_nothing_at_end hash seat names p v records pool locks change y all_paid key);
+              counter = r.counter;
               concludes = λ none c is_so. absurd cc;
               behind = r.behind;
               full = λ before full. subst (λ (w : World). TrialLacksRoom hash p (trials_of u).due

@@ -47,6 +47,7 @@ module _ (seat : ℕ) (caller : Caller) (call : Call) (u : UndecidedCall) (concl
           reads = λ reading. reads;
           elsewhere = λ key free. refl;
           owed = λ same key. refl;
+          counter = λ same owed. refl;
           concludes = λ none c is_so. absurd cc;
           behind = record {
             sees = record { honest = is.sees.honest; file = on.file; sound = on.others.sound; known = tt };

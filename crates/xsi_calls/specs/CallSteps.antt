@@ -6,6 +6,7 @@ use Rattle.xsi_calls.specs.declared.conclusion.Conclusion.{Conclusion}
 use Rattle.xsi_calls.specs.declared.stage.Stage.{Stage}
 use Rattle.xsi_calls.specs.declared.stage.Stage.TheVariants.{Undecided, Paying, Releasing}
 use Rattle.undecided_calls.specs.Deciding.{IsDecidedIn}
+use Rattle.xsi_calls.specs.Below.{counter_key, owes_at}
 use Rattle.xsi_calls.specs.Words.{Blocked, Call, Change, Ended, Exclusive, Fault, IsBehind, IsPaying, IsReady, IsUndecided, Moved, NearsOrSpares, OnlyWrites, PoolState, Progress, RecordKey, Records, Settled, State, Step, Table, TrialLacksRoom, UndecidedCall, begun_payment, guard_of, has_no_room, is_fault, is_write, its_plan, kind_of, overlaid, store_of, trials_of, with_row, world}
 use Rattle.xsi_calls.specs.Concluding.{IsRightConclusion, conclusion_by}
 use Rattle.xsi_calls.specs.Machine.{CallView, IsOver, IsReading, call_facts, call_left, call_locks, call_owes, call_turn, conclusion_of}
@@ -55,6 +56,9 @@ pub record StepsCall {F : Type 0} (hash : RecordKey → ℕ) (seat : ℕ) (s : S
   -- what will stand once nothing is owed is the same, but at its Decide
   pub owed : conclusion_of new ≡ conclusion_of old → (key : RecordKey) →
       overlaid (call_owes new) after key ≡ overlaid (call_owes old) records key
+  -- while it still owes the Counter, that stands as it stood
+  pub counter : conclusion_of new ≡ conclusion_of old → owes_at (call_owes new) counter_key ≡ true →
+      after counter_key ≡ records counter_key
   -- there it comes to what the rules say
   pub concludes : conclusion_of old ≡ None → (c : Conclusion) → conclusion_of new ≡ Some c →
       IsRightConclusion new.caller new.call s new.undecided.questions.room.bytes new.undecided.questions.names

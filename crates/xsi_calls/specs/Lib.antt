@@ -5,3 +5,4 @@ pub mod Machine
 pub mod Calling
 pub mod CallSteps
 pub mod Laws
+pub use Rattle.undecided_calls.specs as undecided_calls

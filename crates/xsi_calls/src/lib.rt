@@ -9,5 +9,7 @@ mod laws;
 mod stage;
 
 pub use call_machine::CallMachine;
+pub use call_payments;
 pub use conclusion::Conclusion;
 pub use laws::{a_call_begins_few_searches, calls_begin_right, calls_have_few_steps};
+pub use undecided_calls;

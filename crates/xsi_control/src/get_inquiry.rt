@@ -72,6 +72,7 @@ impl Getting {
 }
 
 impl Inquiry for GetInquiry {
+    ghost use Rattle.std.specs.Prelude.{⊤};
     ghost use Rattle.queue_model.specs.declared.call.Call.TheVariants as calls;
     ghost use Rattle.xsi_control.specs.GetAsked.{few_of_get, get_asks, get_asks_given, get_inserts};
     ghost use Rattle.xsi_control.specs.Getting.{KnowsOfGet, get_decided, get_left, get_locked, get_plan, get_wanted};
@@ -87,6 +88,8 @@ impl Inquiry for GetInquiry {
     ghost locked = { λ a i. get_locked a i.getting };
 
     ghost Knows = { λ a i room s. KnowsOfGet i.caller a i.getting s };
+
+    ghost Follows = { λ a i j. ⊤ };
 
     ghost left = { λ a i. get_left i.getting };
 

@@ -20,7 +20,7 @@ pub struct SetInquiry {
 const _: () = prove!(size_of::<SetInquiry>() <= 400);
 
 impl Inquiry for SetInquiry {
-    ghost use Rattle.std.specs.Prelude.{[], ◌∷◌};
+    ghost use Rattle.std.specs.Prelude.{[], ◌∷◌, ⊤};
     ghost use Rattle.page_locks.specs.declared.lock.LockName.TheVariants as names;
     ghost use Rattle.queue_model.specs.declared.call.Call.TheVariants as calls;
     ghost use Rattle.xsi_inquiry.specs.Seeking.{Tells, reads_left};
@@ -38,6 +38,8 @@ impl Inquiry for SetInquiry {
     ghost locked = { λ a i. names.Queue a.id ∷ [] };
 
     ghost Knows = { λ a i room s. Tells a.id i.sought s };
+
+    ghost Follows = { λ a i j. ⊤ };
 
     ghost left = { λ a i. reads_left i.sought };
 

@@ -16,7 +16,7 @@ pub struct StatInquiry {
 const _: () = prove!(size_of::<StatInquiry>() <= 400);
 
 impl Inquiry for StatInquiry {
-    ghost use Rattle.std.specs.Prelude.{[]};
+    ghost use Rattle.std.specs.Prelude.{[], ⊤};
     ghost use Rattle.std.proofs.Common.{inl, refl};
     ghost use Rattle.queue_model.specs.declared.call.Call.TheVariants as calls;
     ghost use Rattle.xsi_inquiry.specs.Seeking.{Tells, reads_left, sought_next};
@@ -36,6 +36,8 @@ impl Inquiry for StatInquiry {
     ghost locked = { λ id i. [] };
 
     ghost Knows = { λ id i room s. Tells id i.sought s };
+
+    ghost Follows = { λ id i j. ⊤ };
 
     ghost left = { λ id i. reads_left i.sought };
 

@@ -50,6 +50,9 @@ pub trait Inquiry {
     /// What it was told, and holds in its room, is so of the records of a system.
     ghost Knows: { Self.Arguments → Self → Roomful → State → Type 0 };
 
+    /// Where it may come to, from where it is, once it was told an answer.
+    ghost Follows: { Self.Arguments → Self → Self → Type 0 };
+
     /// At most as many questions are still asked.
     ghost left: { Self.Arguments → Self → ℕ };
 
@@ -83,6 +86,7 @@ pub trait Inquiry {
             IsTold s (wanted arguments.now self.old) found.entry →
             Gives result (λ _. Knows arguments.now self.new room.new s) }
         ensures fewer { OnOk result (left arguments.now self.new < left arguments.now self.old) }
+        ensures follows { OnOk result (Follows arguments.now self.old self.new) }
         ensures err { OnErr result ((self.new ≡ self.old) × (room.new ≡ room.old)) }
         ensures caller { caller self.new ≡ caller self.old }
         ensures most { room.new.most ≡ room.old.most };
@@ -95,6 +99,7 @@ pub trait Inquiry {
             IsToldGiven s (wanted arguments.now self.old) given →
             Gives result (λ _. Knows arguments.now self.new room s) }
         ensures fewer { OnOk result (left arguments.now self.new < left arguments.now self.old) }
+        ensures follows { OnOk result (Follows arguments.now self.old self.new) }
         ensures err { OnErr result (self.new ≡ self.old) }
         ensures caller { caller self.new ≡ caller self.old };
 

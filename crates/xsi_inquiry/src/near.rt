@@ -34,6 +34,7 @@ pub fn tell<I: Inquiry>(
         (I.Knows arguments.now inquiry.new room.new) s) }
     ensures fewer { OnOk result
         (I.left arguments.now inquiry.new < I.left arguments.now inquiry.old) }
+    ensures follows { OnOk result (I.Follows arguments.now inquiry.old inquiry.new) }
     ensures err { OnErr result ((inquiry.new ≡ inquiry.old) × (room.new ≡ room.old)) }
     ensures caller { I.caller inquiry.new ≡ I.caller inquiry.old }
     ensures most { room.new.most ≡ room.old.most }
@@ -55,6 +56,7 @@ pub fn tell_given<I: Inquiry>(
         (I.Knows arguments.now inquiry.new room) s) }
     ensures fewer { OnOk result
         (I.left arguments.now inquiry.new < I.left arguments.now inquiry.old) }
+    ensures follows { OnOk result (I.Follows arguments.now inquiry.old inquiry.new) }
     ensures err { OnErr result (inquiry.new ≡ inquiry.old) }
     ensures caller { I.caller inquiry.new ≡ I.caller inquiry.old }
 {

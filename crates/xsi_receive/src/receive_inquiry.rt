@@ -21,7 +21,7 @@ pub struct ReceiveInquiry {
 const _: () = prove!(size_of::<ReceiveInquiry>() <= 400);
 
 impl Inquiry for ReceiveInquiry {
-    ghost use Rattle.std.specs.Prelude.{[], ◌∷◌};
+    ghost use Rattle.std.specs.Prelude.{[], ◌∷◌, ⊤};
     ghost use Rattle.page_locks.specs.declared.lock.LockName.TheVariants as names;
     ghost use Rattle.queue_model.specs.declared.call.Call.TheVariants.{Receive};
     ghost use Rattle.xsi_receive.specs.Asking.{asked, asks_left, decided_at, plan_at};
@@ -39,6 +39,8 @@ impl Inquiry for ReceiveInquiry {
     ghost locked = { λ a i. names.Queue a.id ∷ [] };
 
     ghost Knows = { λ a i room s. KnowsAt i.caller a i.stage room s };
+
+    ghost Follows = { λ a i j. ⊤ };
 
     ghost left = { λ a i. asks_left i.stage };
 

@@ -18,7 +18,7 @@ pub struct SendInquiry {
 const _: () = prove!(size_of::<SendInquiry>() <= 400);
 
 impl Inquiry for SendInquiry {
-    ghost use Rattle.std.specs.Prelude.{[], ◌∷◌};
+    ghost use Rattle.std.specs.Prelude.{[], ◌∷◌, ⊤};
     ghost use Rattle.page_locks.specs.declared.lock.LockName.TheVariants as names;
     ghost use Rattle.queue_model.specs.declared.call.Call.TheVariants.{Send};
     ghost use Rattle.xsi_send.specs.Knowing.{KnowsAt, asked, asks_left};
@@ -36,6 +36,8 @@ impl Inquiry for SendInquiry {
     ghost locked = { λ a i. names.Queue a.id ∷ [] };
 
     ghost Knows = { λ a i room s. KnowsAt i.caller a i.stage s };
+
+    ghost Follows = { λ a i j. ⊤ };
 
     ghost left = { λ a i. asks_left i.stage };
 

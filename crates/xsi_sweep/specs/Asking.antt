@@ -1,6 +1,6 @@
 -- What a Remove asks for next, and what it decides and writes.
 -- docs/STEPS.md, "What a call reads".
-use Rattle.std.specs.Prelude.{ℕ, zero, suc, List, [], Option, Some, None, Result, Ok, Err}
+use Rattle.std.specs.Prelude.{◌≡◌, ℕ, zero, suc, List, [], Option, Some, None, Result, Ok, Err, ⊤}
 use Rattle.page_locks.specs.declared.lock.LockName.{LockName}
 use Rattle.queue_model.specs.declared.errno.Errno.{Errno}
 use Rattle.queue_model.specs.declared.errno.Errno.TheVariants.{EIDRM, EINVAL}
@@ -33,6 +33,30 @@ asks_left (Refused errno) = 0
 asks_left (Keyed key) = 2
 asks_left (Counting key queue) = 1
 asks_left (Removing r) = 0
+
+-- a place of its first phase, or where that ends
+abbrev pub IsOfFirst : Stage → Type 0
+IsOfFirst (Seeking sought) = ⊤
+IsOfFirst (Refused errno) = ⊤
+IsOfFirst (Keyed key) = ⊤
+IsOfFirst (Counting key queue) = ⊥
+IsOfFirst (Removing r) = ⊥
+
+-- a place of its second phase, under the names of this key
+abbrev pub IsOfSecond : Option ℕ → Stage → Type 0
+IsOfSecond key (Seeking sought) = ⊥
+IsOfSecond key (Refused errno) = ⊤
+IsOfSecond key (Keyed k) = ⊥
+IsOfSecond key (Counting k queue) = k ≡ key
+IsOfSecond key (Removing r) = r.key ≡ key
+
+-- where it may come to once it was told an answer: its second phase lies behind the first, and keeps the key
+abbrev pub FollowsAt : Stage → Stage → Type 0
+FollowsAt (Seeking sought) next = IsOfFirst next
+FollowsAt (Refused errno) next = ⊥
+FollowsAt (Keyed key) next = IsOfSecond key next
+FollowsAt (Counting key queue) next = IsOfSecond key next
+FollowsAt (Removing r) next = ⊥
 
 -- how a call on an id is refused whose queue has gone; no queue has the id 0
 abbrev pub gone : ℕ → Errno

@@ -77,7 +77,7 @@ impl RemoveInquiry {
 
 impl Inquiry for RemoveInquiry {
     ghost use Rattle.queue_model.specs.declared.call.Call.TheVariants as calls;
-    ghost use Rattle.xsi_sweep.specs.Asking.{asked, asks_left, decided_at, locked_at, plan_at};
+    ghost use Rattle.xsi_sweep.specs.Asking.{FollowsAt, asked, asks_left, decided_at, locked_at, plan_at};
     ghost use Rattle.xsi_sweep.specs.Asked.{few_at, given_at, inserts_at, stage_asks};
     ghost use Rattle.xsi_sweep.specs.Knowing.{KnowsAt};
 
@@ -92,6 +92,8 @@ impl Inquiry for RemoveInquiry {
     ghost locked = { λ id i. locked_at id i.stage };
 
     ghost Knows = { λ id i room s. KnowsAt i.caller id i.stage s };
+
+    ghost Follows = { λ id i j. FollowsAt i.stage j.stage };
 
     ghost left = { λ id i. asks_left i.stage };
 

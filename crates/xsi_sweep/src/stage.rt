@@ -8,7 +8,7 @@ ghost use Rattle.queue_model.specs.declared.caller.Caller.{Caller};
 ghost use Rattle.xsi_inquiry.specs.type_chains.Entries.{counter_of};
 ghost use Rattle.xsi_inquiry.specs.Seeking.{Tells, asks_of_sought};
 ghost use Rattle.xsi_inquiry.specs.Telling.{AsksGiven, AsksRecord, Gives, IsFiled, IsTold, IsToldGiven};
-ghost use Rattle.xsi_sweep.specs.Asking.{asked, asks_left, gone};
+ghost use Rattle.xsi_sweep.specs.Asking.{FollowsAt, IsOfFirst, IsOfSecond, asked, asks_left, gone};
 ghost use Rattle.xsi_sweep.specs.Knowing.{KnowsAt, KnowsQueue};
 
 use crate::removal::Removal;
@@ -50,6 +50,7 @@ impl Stage {
         ensures knows { (c : Caller) (s : State) → IsFiled s → Tells id sought s →
             KnowsAt c id result s }
         ensures left { asks_left result ≤ asks_of_sought sought }
+        ensures first { IsOfFirst result }
     {
         match sought {
             Sought::Unread | Sought::Absent => Stage::Seeking(sought),
@@ -70,6 +71,7 @@ impl Stage {
             IsTold s (asked id self) found.entry →
             Gives result (λ stage. KnowsAt caller id stage s) }
         ensures fewer { IfOk result (λ stage. asks_left stage < asks_left self) }
+        ensures follows { IfOk result (λ stage. FollowsAt self stage) }
     {
         match self {
             Stage::Seeking(mut sought) => {
@@ -102,6 +104,7 @@ impl Stage {
         ensures knows { (s : State) → IsFiled s → KnowsQueue id key queue s →
             counter ≡ counter_of s → Gives result (λ stage. KnowsAt caller id stage s) }
         ensures left { IfOk result (λ stage. asks_left stage ≡ 0) }
+        ensures second { IfOk result (λ stage. IsOfSecond key stage) }
     {
         let Some(queue) = queue else {
             return Ok(Stage::Refused(gone(id)));
@@ -129,6 +132,7 @@ impl Stage {
             IsToldGiven s (asked id self) given →
             Gives result (λ stage. KnowsAt c id stage s) }
         ensures fewer { IfOk result (λ stage. asks_left stage < asks_left self) }
+        ensures follows { IfOk result (λ stage. FollowsAt self stage) }
     {
         match self {
             Stage::Seeking(mut sought) => {

@@ -6,13 +6,13 @@ pub returns-in-Some-At : goal.returns-in-Some-At
 returns-in-Some-At c =
     let e = c.tell.ensures in
     hears_record c.args.call.now c.args.inquiry.now c.tell.new.inquiry c.args.room.now c.tell.new.room c.args.found
-    c.tell.result e.caller e.fewer e.most c.in-Some-At.field-0-0
+    c.tell.result e.caller e.fewer e.follows e.most c.in-Some-At.field-0-0
     (sym c.wants.ensures ∙ c.in-Some-At.is ∙ ap Some c.in-Some-At.field-0-is) e.told
 
 pub returns-in_ok-is_given-in-Some-Given : goal.returns-in_ok-is_given-in-Some-Given
 returns-in_ok-is_given-in-Some-Given c =
     let e = c.tell_given.ensures in
     hears_given c.args.call.now c.args.inquiry.now c.tell_given.new.inquiry c.args.room.now c.args.room.now
-    c.args.found c.tell_given.result e.caller e.fewer refl c.in-Some-Given.id c.in_ok-is_given-in-Some-Given.field-0
-    (sym c.wants.ensures ∙ c.in-Some-Given.is ∙ ap Some c.in-Some-Given.field-0-is) refl
+    c.args.found c.tell_given.result e.caller e.fewer e.follows refl c.in-Some-Given.id
+    c.in_ok-is_given-in-Some-Given.field-0 (sym c.wants.ensures ∙ c.in-Some-Given.is ∙ ap Some c.in-Some-Given.field-0-is) refl
     (λ counter is. sym c.in_ok-is_given-in-Some-Given.was ∙ c.is_given.ensures counter is) e.told

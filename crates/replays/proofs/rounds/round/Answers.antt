@@ -1,4 +1,5 @@
-use Rattle.replays.proofs.RoundLemmas.{Comes-nothing, Comes-on}
+use Rattle.std.proofs.Common.{inl}
+use Rattle.replays.proofs.RoundLemmas.{Comes-nothing, Comes-then}
 use Rattle.replays.proofs.rounds.round.Goals as goal
 
 pub loop-place-init : goal.loop-place-init
@@ -7,5 +8,5 @@ loop-place-init g c = Comes-nothing c.args.replay.now
 -- one seat more
 pub loop-place-preserved : goal.loop-place-preserved
 loop-place-preserved g c =
-    Comes-on c.args.replay.now c.loop-place.replay c.turn_unless_waiting-has_moved.new.replay
-    c.loop-place.invariant c.turn_unless_waiting-has_moved.ensures
+    Comes-then c.args.replay.now c.loop-place.replay c.turn-has_moved.new.replay c.loop-place.invariant
+    (inl c.turn-has_moved.ensures)

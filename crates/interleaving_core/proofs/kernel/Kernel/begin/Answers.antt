@@ -2,7 +2,7 @@
 use Rattle.std.proofs.Common.{◌≡◌, ◌∙◌, sym, ap, subst, ℕ, ◌+◌, ◌-◌, ◌≤◌, None, Some, length, slice_set, vec_capacity, arith}
 use Rattle.std.proofs.lemmas.Bool.Decides.{nat_tests}
 use Rattle.std.proofs.lemmas.Grind.{common_steps}
-use Rattle.interleaving_core.specs.Beginning.{HasCall}
+use Rattle.interleaving_core.specs.Beginning.{HasCall, MayBegin}
 use Rattle.interleaving_core.specs.Kernel.{KernelState, entries_of, with_call}
 use Rattle.interleaving_core.specs.Words.{IsSeat}
 use Rattle.interleaving_core.specs.declared.kernel.TheConstants.{MAX_DECIDED}
@@ -89,8 +89,17 @@ returns-in-Ok-begin-clause-ok g c =
     subst (λ (k : KernelState g.row.K.Denot). IsSeat k.locks c.args.seat) (sym c.self.view_is) c.requires in
     let there = seat_there old c.self.invariant c.args.seat is in
     let as_many : length old.callers ≡ length old.seats = c.self.invariant.callers in
+    let none : c.index.result.now ≡ None = grind (arith, common_steps) in
+    let few : c.entries.result ≤ MAX_DECIDED = grind (arith, nat_tests) in
+    let same : c.entries.result ≡ entries_of old =
+    c.entries.ensures ∙ ap (λ (k : KernelState g.row.K.Denot). entries_of k) (sym c.self.view_is) in
+    let may : MayBegin c.args.seat old = record {
+      sound = c.if-self.false;
+      free = sym (slot_here old.seats c.args.seat c.index.result.now is.0 there c.index.ensures) ∙ none;
+      few = λ full. omega (arith, full, few, same);
+    } in
     subst (λ (k : KernelState g.row.K.Denot). HasCall c.args.seat c.args.call k new) c.self.view_is
-    (has_call c.args.seat c.index-2.result.now c.args.call c.in-Ok-begin.active old new
+    (has_call c.args.seat c.index-2.result.now c.args.call c.in-Ok-begin.active old new may
     (caller_there old.callers c.args.seat is.0 (omega (arith, there, as_many)) c.index-2.result.now c.index-2.ensures)
     c.in-Ok-begin.ensures.ok
     made)

@@ -50,16 +50,19 @@ pub invariant_of-self : goal.invariant_of-self
 invariant_of-self g c =
     (makes_step g.K.PseudoKey.of_key c.args.seat c.advance-step.result c.index_mut.result.now c.advance-step.new.slot _
     _ c.args.self.now c.self.view_is c.self.invariant c.requires c.index_mut.ensures.value c.advance-step.ensures.turns
-    refl refl refl refl c.advance-step.ensures.capacity c.if-self.false c.is_failure-self-inside.ensures).whole
+    refl refl refl refl c.advance-step.ensures.capacity c.advance-step.ensures.spare c.if-self.false
+    c.is_failure-self-inside.ensures).whole
 
 pub returns-clause-turn : goal.returns-clause-turn
 returns-clause-turn g c =
     (makes_step g.K.PseudoKey.of_key c.args.seat c.advance-step.result c.index_mut.result.now c.advance-step.new.slot _
     _ c.args.self.now c.self.view_is c.self.invariant c.requires c.index_mut.ensures.value c.advance-step.ensures.turns
-    refl refl refl refl c.advance-step.ensures.capacity c.if-self.false c.is_failure-self-inside.ensures).turn
+    refl refl refl refl c.advance-step.ensures.capacity c.advance-step.ensures.spare c.if-self.false
+    c.is_failure-self-inside.ensures).turn
 
 pub returns-clause-makes : goal.returns-clause-makes
 returns-clause-makes g c =
     (makes_step g.K.PseudoKey.of_key c.args.seat c.advance-step.result c.index_mut.result.now c.advance-step.new.slot _
     _ c.args.self.now c.self.view_is c.self.invariant c.requires c.index_mut.ensures.value c.advance-step.ensures.turns
-    refl refl refl refl c.advance-step.ensures.capacity c.if-self.false c.is_failure-self-inside.ensures).makes
+    refl refl refl refl c.advance-step.ensures.capacity c.advance-step.ensures.spare c.if-self.false
+    c.is_failure-self-inside.ensures).makes

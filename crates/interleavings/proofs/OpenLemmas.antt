@@ -1,0 +1,157 @@
+-- A kernel that is led from a system: it is opened, calls begin, it is stopped, and what it says.
+use Rattle.std.proofs.Common.{ℕ, ◌≡◌, ◌≤◌, inl, inr, refl, sym, ap, ◌∙◌, subst, Bool, true, false, List, [], ◌∷◌, ◌++◌, Option, Some, None, length}
+use Rattle.std.proofs.lemmas.Bool.{cases_eq}
+use Rattle.std.proofs.lemmas.List.{length-replicate}
+use Rattle.concurrent_calls.specs.Laws.{BeginTogether, LeaveAtRest, RestTogether, StopTogether}
+use Rattle.interleaving_core.proofs.BeginLemmas.{idle_at}
+use Rattle.interleaving_core.proofs.PlaceLemmas.{at_other, at_same, length-with_call}
+use Rattle.concurrent_calls.proofs.of_lone_calls.of_opened_files.CloseLemmas.{closes_at_rest}
+use Rattle.concurrent_calls.proofs.of_lone_calls.of_opened_files.OpenLemmas.{opens_at_rest}
+use Rattle.queue_model.proofs.JournalLemmas.{LeadsAlong-push, after-LeadsAlong}
+use Rattle.queue_model.specs.Laws.{KeepsOrder}
+use Rattle.queue_model.specs.declared.entry.Entry.TheVariants.{Stopped}
+use Rattle.interleavings.specs.Words.{ActiveView, Call, Caller, Entry, HasCall, HasFittingCall, IsFileAtRest, IsSeat, IsStopped, KernelState, LeadsAlong, PoolState, RecordKey, State, call_at, caller_at, with_call}
+use Rattle.interleavings.specs.Leading.{IsLedFrom, calls_of}
+use Rattle.interleavings.specs.Laws.{AnswersAsPlainLists, BeginsLed, ClosesLed, OpensLed, RefusesLed, StopsLed}
+use Rattle.interleavings.proofs.LeadLemmas.{machine, others_same}
+
+-- ---- it is opened
+
+pub opens_led : RestTogether → (K : Type 0) → OpensLed K
+opens_led rests K hash keys content honest callers frames k opened true_to_it has some few fitting =
+    let rest = opens_at_rest hash content has.0 frames (length callers) k.pool.faults honest k.pool.synced has.1
+    true_to_it some few in record {
+      base = has.0;
+      file = has.1;
+      led = record {
+        now = has.0;
+        leads = subst (λ (es : List Entry). LeadsAlong k.callers es has.0 has.0) (sym opened.journal) refl;
+        mark = rest.running ∙ sym opened.stopped;
+        rows = ap length opened.locks ∙ length-replicate (length callers) []
+            ∙ sym (length-replicate (length callers) None) ∙ ap length (sym opened.seats);
+        seated = ap length opened.callers ∙ sym (length-replicate (length callers) None) ∙ ap length (sym opened.seats);
+        sits = λ seat a there. absurd (none_some a (sym (idle_at (length callers) seat)
+            ∙ ap (λ (x : List (Option ActiveView)). call_at x seat) (sym opened.seats) ∙ there));
+        callers = λ seat caller sits. fitting seat caller (sym (ap (λ (cs : List Caller). caller_at cs seat)
+            opened.callers) ∙ sits);
+        together = λ sound. rests hash has.0 (calls_of k.seats) k.pool k.locks
+            (subst (λ (p : PoolState). IsFileAtRest hash has.0 p k.locks) (sym opened.pool)
+            (subst (IsFileAtRest hash has.0 _) (sym opened.locks) rest.rest))
+            (λ seat. ap machine (ap (λ (x : List (Option ActiveView)). call_at x seat) opened.seats
+            ∙ idle_at (length callers) seat));
+      };
+    }
+  where
+    none_some : (a : ActiveView) → ◌≡◌ {A = Option ActiveView} None (Some a) → ⊥
+    none_some a clash = cc
+
+-- ---- a call begins
+
+module _ (begins : BeginTogether) {K : Type 0} (hash : RecordKey → ℕ) (base : State) (seat : ℕ) (call : Call)
+    (old new : KernelState K) (is : IsSeat old.locks seat) (fits : HasFittingCall call)
+    (led : IsLedFrom hash base old) (has : HasCall seat call old new) where
+  within_begun : seat ≤ length old.seats
+  within_begun = subst (λ (n : ℕ). seat ≤ n) led.rows is.1
+
+  sits_begun : (i : ℕ) (a : ActiveView) → call_at (with_call old.seats seat (Some has.active)) i ≡ Some a →
+      caller_at old.callers i ≡ Some a.machine.caller
+  sits_begun i a there = elim (cases_eq i seat) [
+    | inl same ↦
+        let its : ◌≡◌ {A = Option ActiveView} (Some has.active) (Some a) =
+        sym (at_same old.seats seat (Some has.active) is.0 within_begun)
+        ∙ ap (call_at (with_call old.seats seat (Some has.active))) (sym same) ∙ there in
+        let is_a : has.active ≡ a = cc in
+        ap (caller_at old.callers) same ∙ has.sits
+        ∙ ap Some (sym has.begun.begins.caller_is ∙ ap (λ (x : ActiveView). x.machine.caller) is_a)
+    | inr apart ↦ led.sits i a (sym (at_other old.seats seat i (Some has.active) apart) ∙ there)
+  ]
+
+  begun_led : IsLedFrom hash base (record old { seats = with_call old.seats seat (Some has.active); room = new.room })
+  begun_led = record {
+    now = led.now;
+    leads = led.leads;
+    mark = led.mark;
+    callers = led.callers;
+    rows = led.rows ∙ sym (length-with_call old.seats seat (Some has.active));
+    seated = led.seated ∙ sym (length-with_call old.seats seat (Some has.active));
+    sits = sits_begun;
+    together = λ sound. begins hash seat has.caller call led.now has.active.machine (calls_of old.seats)
+        (calls_of (with_call old.seats seat (Some has.active))) old.pool old.locks (led.together sound)
+        (ap machine has.may.free) (led.callers seat has.caller has.sits) fits has.begun.begins
+        (ap machine (at_same old.seats seat (Some has.active) is.0 within_begun))
+        (others_same old.seats (with_call old.seats seat (Some has.active)) seat (Some has.active) refl);
+  }
+
+pub begins_led : BeginTogether → (K : Type 0) → BeginsLed K
+begins_led begins K hash base seat call old new is fits led has =
+    subst (IsLedFrom hash base) (sym has.is) (begun_led begins hash base seat call old new is fits led has)
+
+pub refuses_led : (K : Type 0) → RefusesLed K
+refuses_led K hash base seat call refusal old new led refused =
+    let still : IsLedFrom hash base (record old { room = new.room }) = record {
+      now = led.now;
+      leads = led.leads;
+      mark = led.mark;
+      callers = led.callers;
+      rows = led.rows;
+      seated = led.seated;
+      sits = led.sits;
+      together = led.together;
+    } in
+    subst (IsLedFrom hash base) (sym refused.same) still
+
+-- ---- it is stopped
+
+module _ (stops : StopTogether) {K : Type 0} (hash : RecordKey → ℕ) (base : State) (old new : KernelState K)
+    (led : IsLedFrom hash base old) (stop : IsStopped old new) where
+  first : old.stopped ≡ false →
+      IsLedFrom hash base (record old { journal = old.journal ++ Stopped ∷ []; stopped = true; room = new.room })
+  first running = record {
+    now = record led.now { stopped = true };
+    leads = LeadsAlong-push old.callers old.journal Stopped base led.now (record led.now { stopped = true }) led.leads
+        (led.mark ∙ running, refl);
+    mark = refl;
+    callers = led.callers;
+    rows = led.rows;
+    seated = led.seated;
+    sits = led.sits;
+    together = λ sound. stops hash led.now true (calls_of old.seats) old.pool old.locks (led.together sound);
+  }
+
+  pub stopped_by : (b : Bool) → old.stopped ≡ b → IsLedFrom hash base new
+  stopped_by true is = subst (IsLedFrom hash base) (sym (stop.again is)) led
+  stopped_by false is = subst (IsLedFrom hash base) (sym (stop.first is)) (first is)
+
+pub stops_led : StopTogether → (K : Type 0) → StopsLed K
+stops_led stops K hash base old new led stop = stopped_by stops hash base old new led stop old.stopped refl
+
+-- ---- the headline
+
+pub as_plain_lists : LeaveAtRest → KeepsOrder → (K : Type 0) → AnswersAsPlainLists K
+as_plain_lists rests order K hash base k lawful led = record {
+  legal = (led.now, led.leads);
+  fifo = order k.callers k.journal base led.now lawful led.leads;
+  file = λ idle sound. subst (λ (s : State). IsFileAtRest hash s k.pool k.locks)
+      (sym (after-LeadsAlong k.callers k.journal base led.now led.leads))
+      (rests hash led.now (calls_of k.seats) k.pool k.locks (led.together sound) (λ seat. ap machine (idle seat)));
+}
+
+-- ---- it is closed
+
+pub closes_led : LeaveAtRest → (K : Type 0) → ClosesLed K
+closes_led rests K hash base content k led idle sound flushed =
+    closes_at_rest hash (after k.callers k.journal base) k.pool (record k.pool { stored = content }) k.locks
+    (subst (λ (s : State). IsFileAtRest hash s k.pool k.locks)
+    (sym (after-LeadsAlong k.callers k.journal base led.now led.leads))
+    (rests hash led.now (calls_of k.seats) k.pool k.locks (led.together sound) (λ seat. ap machine (idle seat))))
+    (record {
+      written = flushed.images;
+      keeps = record {
+        images = λ _. refl;
+        pinned = λ page _. refl;
+        as_many = refl;
+        frames = refl;
+        honest = refl;
+        seals = λ _ _. flushed.seals;
+      };
+    })

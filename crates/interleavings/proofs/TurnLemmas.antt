@@ -1,0 +1,280 @@
+-- A kernel that is led from a system stays so behind a step of a seat.
+use Rattle.std.proofs.Common.{ℕ, ◌≡◌, ◌≤◌, inl, inr, refl, sym, ap, ◌∙◌, subst, Bool, true, false, ◌||◌, List, Option, Some, None, IsSome, length}
+use Rattle.std.proofs.Math.Path.{fun_ext}
+use Rattle.std.proofs.lemmas.Bool.{cases_eq, true≢false}
+use Rattle.concurrent_calls.specs.Laws.{AreTheOthers, BeginTogether, EndTogether, LeadTogether, StepTogether}
+use Rattle.concurrent_calls.specs.Together.{AreTogether, IsUnderWay}
+use Rattle.concurrent_calls.proofs.SeatLemmas.{well}
+use Rattle.interleaving_core.proofs.PlaceLemmas.{at_other, at_same, length-with_call}
+use Rattle.interleaving_core.specs.Active.{is_waiting}
+use Rattle.interleaving_core.specs.Owing.{is_failure}
+use Rattle.interleaving_core.specs.Turn.{IsLeft, IsLeftWhenOver, MakesTurn, told_of}
+use Rattle.page_locks.proofs.ChangeLemmas.{length-with_row}
+use Rattle.interleaving_core.specs.xsi_calls.declared.conclusion.Conclusion.{Conclusion}
+use Rattle.step_rules.specs.declared.kind.Kind.TheVariants.{Decide}
+use Rattle.step_rules.specs.declared.progress.Progress.TheVariants as progress
+use Rattle.interleavings.specs.Words.{ActiveView, Begins, Caller, Entry, FileFault, HasFittingCall, HasFittingCaller, IsOver, IsSeat, IsStep, KernelState, LeadsAlong, PoolState, Progress, RecordKey, State, Step, call_at, caller_at, conclusion_of, is_fault, with_call}
+use Rattle.interleavings.specs.Leading.{IsLedFrom, calls_of}
+use Rattle.interleavings.specs.Laws.{StepsLed}
+use Rattle.interleavings.proofs.LeadLemmas.{keeps_answer, leads_on, machine, others_same, still_leads}
+use Rattle.interleaving_core.specs.Turn.{StaysWaiting, TakesTurn}
+use Rattle.interleaving_core.specs.Waiting.{stays_waiting}
+use Rattle.interleavings.specs.Words.{CallView, Table}
+
+-- ---- a step
+
+module _ (steps : StepTogether) (ends : EndTogether) (begins : BeginTogether) {K : Type 0} (hash : RecordKey → ℕ)
+    (base : State) (seat : ℕ) (did : Step) (old new : KernelState K) (is : IsSeat old.locks seat)
+    (led : IsLedFrom hash base old) (step : IsStep hash seat did old new) (a : ActiveView)
+    (there : call_at old.seats seat ≡ Some a) (sound : old.failed ≡ false)
+  where
+    before : AreTogether hash led.now (calls_of old.seats) old.pool old.locks
+    before = led.together sound
+
+    under_way : IsUnderWay hash seat led.now a.machine before.records old.pool old.locks before.change
+    under_way = well hash seat led.now (calls_of old.seats seat) before.records old.pool old.locks before.change
+        a.machine (ap machine there) (before.calls seat)
+
+    failed : new.failed ≡ is_failure did
+    failed = step.turn.failed ∙ ap (λ (b : Bool). b || is_failure did) sound
+
+    sits : caller_at old.callers seat ≡ Some a.machine.caller
+    sits = led.sits seat a there
+
+    within : seat ≤ length old.seats
+    within = subst (λ (n : ℕ). seat ≤ n) led.rows is.1
+
+    callers : new.callers ≡ old.callers
+    callers = step.turn.run.rest.callers
+
+    fitting : (i : ℕ) (caller : Caller) → caller_at new.callers i ≡ Some caller → HasFittingCaller caller
+    fitting i caller at = led.callers i caller (sym (ap (λ (cs : List Caller). caller_at cs i) callers) ∙ at)
+
+    same_places : length old.seats ≡ length new.seats
+    same_places = sym (length-with_call old.seats seat (call_at new.seats seat)) ∙ ap length (sym step.turn.run.seats)
+
+    rows : length new.locks ≡ length new.seats
+    rows = ap length step.turn.run.locks ∙ length-with_row old.locks seat _ ∙ led.rows ∙ same_places
+
+    -- a call that is left at the seat is one of the same caller
+    sits_now : ((x : ActiveView) → call_at new.seats seat ≡ Some x → x.machine.caller ≡ a.machine.caller) →
+        (i : ℕ) (x : ActiveView) → call_at new.seats i ≡ Some x → caller_at new.callers i ≡ Some x.machine.caller
+    sits_now left i x at = ap (λ (cs : List Caller). caller_at cs i) callers ∙ elim (cases_eq i seat) [
+      | inl same ↦ ap (caller_at old.callers) same ∙ sits
+          ∙ ap Some (sym (left x (ap (call_at new.seats) (sym same) ∙ at)))
+      | inr apart ↦ led.sits i x (sym (ap (λ (l : List (Option ActiveView)). call_at l i) step.turn.run.seats
+          ∙ at_other old.seats seat i (call_at new.seats seat) apart) ∙ at)
+    ]
+
+    mark : led.now.stopped ≡ new.stopped
+    mark = led.mark ∙ sym step.turn.run.rest.stopped
+
+    -- ---- its machine makes a step
+
+    module _ (turn : MakesTurn hash seat old.stopped did a (call_at new.seats seat) old.pool new.pool old.locks
+        new.locks old.journal new.journal) where
+      abbrev come : ActiveView
+      come = turn.come
+
+      -- the seats while the call is still there
+      abbrev with_come : List (Option ActiveView)
+      with_come = with_call old.seats seat (Some come)
+
+      there_come : calls_of with_come seat ≡ Some come.machine
+      there_come = ap machine (at_same old.seats seat (Some come) is.0 within)
+
+      -- the other seats are what they were
+      others_come : AreTheOthers seat (calls_of with_come) (calls_of new.seats)
+      others_come other apart = ap machine (ap (λ (x : List (Option ActiveView)). call_at x other) step.turn.run.seats
+          ∙ at_other old.seats seat other (call_at new.seats seat) apart
+          ∙ sym (at_other old.seats seat other (Some come) apart))
+
+      -- ---- to a system
+
+      module _ (fine : is_fault turn.did ≡ false) where
+        leading : LeadTogether hash led.now (calls_of with_come) a.machine come.machine new.pool new.locks
+        leading = steps hash seat led.now old.stopped turn.did a.machine come.machine (calls_of old.seats)
+            (calls_of with_come) old.pool new.pool old.locks new.locks before is (ap machine there) led.mark turn.makes
+            fine there_come (others_same old.seats with_come seat (Some come) refl)
+
+        along : LeadsAlong new.callers new.journal base leading.after
+        along = subst (λ (cs : List Caller). LeadsAlong cs new.journal base leading.after) (sym callers)
+            (subst (λ (es : List Entry). LeadsAlong old.callers es base leading.after) (sym turn.journal)
+            (leads_on old.callers old.journal base led.now led.leads seat a.machine come.machine turn.did turn.makes.aim
+            a.draft turn.kept sits leading.after leading.leads))
+
+        -- the call goes on
+        goes_on : call_at new.seats seat ≡ Some come →
+            AreTogether hash leading.after (calls_of new.seats) new.pool new.locks
+        goes_on left = subst (λ (x : List (Option ActiveView)). AreTogether hash leading.after (calls_of x) new.pool
+            new.locks) (sym (step.turn.run.seats ∙ ap (with_call old.seats seat) left)) leading.together
+
+        -- it is over
+        module _ (over : IsOver come.machine) where
+          gone : call_at new.seats seat ≡ None →
+              AreTogether hash leading.after (calls_of new.seats) new.pool new.locks
+          gone left = ends hash seat leading.after come.machine (calls_of with_come) (calls_of new.seats) new.pool new.locks
+              leading.together there_come over (ap machine left) others_come
+
+          -- and begins anew
+          module _ (again : ActiveView) (left : call_at new.seats seat ≡ Some again)
+              (begun : Begins come.machine.caller come.machine.call again.machine) where
+            abbrev without : List (Option ActiveView)
+            without = with_call old.seats seat None
+
+            ended : AreTogether hash leading.after (calls_of without) new.pool new.locks
+            ended = ends hash seat leading.after come.machine (calls_of with_come) (calls_of without) new.pool new.locks
+                leading.together there_come over (ap machine (at_same old.seats seat None is.0 within))
+                (λ other apart. ap machine (at_other old.seats seat other None apart
+                ∙ sym (at_other old.seats seat other (Some come) apart)))
+
+            begins_anew : AreTogether hash leading.after (calls_of new.seats) new.pool new.locks
+            begins_anew = begins hash seat come.machine.caller come.machine.call leading.after again.machine
+                (calls_of without) (calls_of new.seats) new.pool new.locks ended
+                (ap machine (at_same old.seats seat None is.0 within))
+                (subst HasFittingCaller (sym turn.makes.aim.caller) under_way.caller_fits)
+                (subst HasFittingCall (sym turn.makes.aim.call) under_way.call_fits) begun (ap machine left)
+                (λ other apart. others_come other apart ∙ ap machine (at_other old.seats seat other (Some come) apart
+                ∙ sym (at_other old.seats seat other None apart)))
+
+          when_over : (waits : Bool) → IsLeftWhenOver waits come (call_at new.seats seat) →
+              AreTogether hash leading.after (calls_of new.seats) new.pool new.locks
+          when_over true (again, left, begun) = begins_anew again left begun.begins
+          when_over false left = gone left
+
+        led_by : ((x : ActiveView) → call_at new.seats seat ≡ Some x → x.machine.caller ≡ a.machine.caller) →
+            AreTogether hash leading.after (calls_of new.seats) new.pool new.locks → IsLedFrom hash base new
+        led_by left together = record {
+          now = leading.after;
+          leads = along;
+          mark = leading.mark ∙ mark;
+          callers = fitting;
+          rows = rows;
+          seated = ap length callers ∙ led.seated ∙ same_places;
+          sits = sits_now left;
+          together = λ fine. together;
+        }
+
+      -- ---- the file fails it
+
+      module _ (fault : FileFault) (is_fault_of : turn.did ≡ progress.Fault fault) where
+        no_decide : ◌≡◌ {A = Progress FileFault} (progress.Fault fault) (progress.Moved Decide) → ⊥
+        no_decide clash = cc
+
+        comes_to_nothing : conclusion_of come.machine ≡ conclusion_of a.machine
+        comes_to_nothing = by (conclusion_of a.machine) refl (conclusion_of come.machine) refl
+          where
+            by : (o : Option Conclusion) → conclusion_of a.machine ≡ o → (x : Option Conclusion) →
+                conclusion_of come.machine ≡ x → conclusion_of come.machine ≡ conclusion_of a.machine
+            by (Some c) earlier x later = turn.makes.aim.stays c earlier ∙ sym earlier
+            by None earlier None later = later ∙ sym earlier
+            by None earlier (Some c) later = absurd (no_decide (sym is_fault_of
+                ∙ turn.makes.aim.decides earlier (subst IsSome (sym later) refl)))
+
+        led_still : ((x : ActiveView) → call_at new.seats seat ≡ Some x → x.machine.caller ≡ a.machine.caller) →
+            new.failed ≡ true → IsLedFrom hash base new
+        led_still left broken = record {
+          now = led.now;
+          leads = subst (λ (cs : List Caller). LeadsAlong cs new.journal base led.now) (sym callers)
+              (subst (λ (es : List Entry). LeadsAlong old.callers es base led.now) (sym turn.journal)
+              (still_leads old.callers old.journal base led.now led.leads seat a.machine come.machine turn.did
+              turn.makes.aim a.draft turn.kept sits led.now refl
+              (keeps_answer seat a.machine come.machine turn.did turn.makes.aim comes_to_nothing)));
+          mark = mark;
+          callers = fitting;
+          rows = rows;
+          seated = ap length callers ∙ led.seated ∙ same_places;
+          sits = sits_now left;
+          together = λ sound_still. absurd (true≢false (sym broken ∙ sound_still));
+        }
+
+      -- ---- each
+
+      -- a call that is the one come so far
+      same_caller : call_at new.seats seat ≡ Some come → (x : ActiveView) → call_at new.seats seat ≡ Some x →
+          x.machine.caller ≡ a.machine.caller
+      same_caller left x at =
+          let both : ◌≡◌ {A = Option ActiveView} (Some come) (Some x) = sym left ∙ at in
+          let its : come ≡ x = cc in
+          sym (ap (λ (y : ActiveView). y.machine.caller) its) ∙ turn.makes.aim.caller
+
+      -- or that has begun anew
+      over_caller : (waits : Bool) → IsLeftWhenOver waits come (call_at new.seats seat) → (x : ActiveView) →
+          call_at new.seats seat ≡ Some x → x.machine.caller ≡ a.machine.caller
+      over_caller true (again, left, begun) x at =
+          let both : ◌≡◌ {A = Option ActiveView} (Some again) (Some x) = sym left ∙ at in
+          let its : again ≡ x = cc in
+          sym (ap (λ (y : ActiveView). y.machine.caller) its) ∙ begun.begins.caller_is ∙ turn.makes.aim.caller
+      over_caller false left x at = absurd (none_some (sym left ∙ at))
+        where
+          none_some : ◌≡◌ {A = Option ActiveView} None (Some x) → ⊥
+          none_some clash = cc
+
+      pub led_on : IsLedFrom hash base new
+      led_on = by turn.did refl turn.left_is
+        where
+          by : (p : Progress FileFault) → turn.did ≡ p → IsLeft p come (call_at new.seats seat) →
+              IsLedFrom hash base new
+          by (progress.Moved kind) p left =
+              led_by (ap is_fault p) (same_caller left) (goes_on (ap is_fault p) left)
+          by (progress.Blocked other) p left =
+              led_by (ap is_fault p) (same_caller left) (goes_on (ap is_fault p) left)
+          by (progress.Fault fault) p left = led_still fault p (same_caller left) (failed
+              ∙ ap is_failure (turn.told_is ∙ ap (λ (x : Progress FileFault). told_of x come.machine) p))
+          by progress.Ended p left = led_by (ap is_fault p) (over_caller (is_waiting (conclusion_of come.machine)) left)
+              (when_over (ap is_fault p) (turn.makes.aim.over p) (is_waiting (conclusion_of come.machine)) left)
+
+    -- ---- it waits on
+
+    module _ (waits : StaysWaiting did a (call_at new.seats seat) old.pool new.pool old.locks new.locks old.journal
+        new.journal) where
+      same_caller_waits : (x : ActiveView) → call_at new.seats seat ≡ Some x → x.machine.caller ≡ a.machine.caller
+      same_caller_waits x at =
+          let both : ◌≡◌ {A = Option ActiveView} (Some (record a { wait = Some (length old.journal) })) (Some x) =
+          sym waits.left_is ∙ at in
+          let its : record a { wait = Some (length old.journal) } ≡ x = cc in
+          sym (ap (λ (y : ActiveView). y.machine.caller) its)
+
+      same_calls : (i : ℕ) → calls_of new.seats i ≡ calls_of old.seats i
+      same_calls i = elim (cases_eq i seat) [
+        | inl same ↦ ap (calls_of new.seats) same ∙ ap machine waits.left_is ∙ sym (ap machine there)
+            ∙ ap (calls_of old.seats) (sym same)
+        | inr apart ↦ ap machine (ap (λ (l : List (Option ActiveView)). call_at l i) step.turn.run.seats
+            ∙ at_other old.seats seat i (call_at new.seats seat) apart)
+      ]
+
+      pub waits_on : IsLedFrom hash base new
+      waits_on = record {
+        now = led.now;
+        leads = subst (λ (cs : List Caller). LeadsAlong cs new.journal base led.now) (sym callers)
+            (subst (λ (es : List Entry). LeadsAlong old.callers es base led.now) (sym waits.same_journal) led.leads);
+        mark = mark;
+        callers = fitting;
+        rows = rows;
+        seated = ap length callers ∙ led.seated ∙ same_places;
+        sits = sits_now same_caller_waits;
+        together = λ fine. subst (λ (p : PoolState). AreTogether hash led.now (calls_of new.seats) p new.locks)
+            (sym waits.same_pool)
+            (subst (λ (t : Table). AreTogether hash led.now (calls_of new.seats) old.pool t) (sym waits.same_locks)
+            (subst (λ (f : ℕ → Option CallView). AreTogether hash led.now f old.pool old.locks)
+            (sym (fun_ext same_calls)) before));
+      }
+
+pub steps_led : StepTogether → EndTogether → BeginTogether → (K : Type 0) → StepsLed K
+steps_led steps ends begins K hash base seat did old new is led step =
+    by (call_at old.seats seat) refl old.failed refl
+  where
+    by : (o : Option ActiveView) → call_at old.seats seat ≡ o → (b : Bool) → old.failed ≡ b → IsLedFrom hash base new
+    by None there b is_b = subst (IsLedFrom hash base) (sym (step.turn.spares there)) led
+    by (Some a) there true broken = subst (IsLedFrom hash base) (sym (step.turn.still broken)) led
+    by (Some a) there false sound = by_wait (stays_waiting a.wait a.machine.call old.journal) refl
+      where
+        takes : TakesTurn hash seat old.stopped did a (call_at new.seats seat) old.pool new.pool old.locks new.locks
+            old.journal new.journal
+        takes = step.makes a there sound
+
+        by_wait : (b : Bool) → stays_waiting a.wait a.machine.call old.journal ≡ b → IsLedFrom hash base new
+        by_wait true stays = waits_on steps ends begins hash base seat did old new is led step a there sound
+            (takes.waits stays)
+        by_wait false woken = led_on steps ends begins hash base seat did old new is led step a there sound
+            (takes.goes woken)

@@ -1,0 +1,24 @@
+-- A kernel beside the plain lists of its journal. docs/STEPS.md, "Calls"; docs/QUEUES.md, "Journals".
+use Rattle.std.specs.Prelude.{ℕ, ◌≡◌, false, List, Option, Some, length, option_map}
+use Rattle.concurrent_calls.specs.Together.{AreTogether}
+use Rattle.interleavings.specs.Words.{ActiveView, CallView, Caller, HasFittingCaller, KernelState, LeadsAlong, RecordKey, State, call_at, caller_at}
+
+-- the call of each seat that has one under way
+abbrev pub calls_of : List (Option ActiveView) → ℕ → Option CallView
+calls_of seats seat = option_map (λ (a : ActiveView). a.machine) (call_at seats seat)
+
+-- it has come from this system by what its journal says, whatever its seats are at
+pub record IsLedFrom {K : Type 0} (hash : RecordKey → ℕ) (base : State) (k : KernelState K) : Type 0 where
+  -- the system after the journal, which is stopped just where the kernel is
+  pub now : State
+  pub leads : LeadsAlong k.callers k.journal base now
+  pub mark : now.stopped ≡ k.stopped
+  -- the numbers of each seat's caller fit the fields of records
+  pub callers : (seat : ℕ) (caller : Caller) → caller_at k.callers seat ≡ Some caller → HasFittingCaller caller
+  -- each seat has a row of locks, a caller, and a place for a call, which is one of that caller
+  pub rows : length k.locks ≡ length k.seats
+  pub seated : length k.callers ≡ length k.seats
+  pub sits : (seat : ℕ) (a : ActiveView) → call_at k.seats seat ≡ Some a →
+      caller_at k.callers seat ≡ Some a.machine.caller
+  -- that is the system to which its calls have come, until a step fails
+  pub together : k.failed ≡ false → AreTogether hash now (calls_of k.seats) k.pool k.locks

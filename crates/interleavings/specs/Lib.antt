@@ -1,0 +1,6 @@
+pub mod Words
+pub mod Runs
+pub mod Leading
+pub mod Headline
+pub mod Doing
+pub mod Laws

@@ -1,0 +1,32 @@
+//! What seats do on a kernel, and what comes of it.
+
+use interleaving_core::{BeginFault, Step};
+use queue_model::Call;
+
+/// What is done on a kernel. Seats count from 1.
+#[derive(Debug, Drop, PartialEq)]
+pub enum Event {
+    /// A call begins at a seat.
+    Begin(u8, Call),
+    /// The call at a seat makes one step.
+    Step(u8),
+    /// The call at a seat makes steps for as long as it moves.
+    Drive(u8),
+    /// The system is stopped.
+    Stop,
+}
+
+/// What came of an event.
+#[derive(Debug, Drop, PartialEq)]
+pub enum Outcome {
+    /// The call is under way.
+    Begun,
+    /// The call does not begin, and comes back.
+    Refused(Call, BeginFault),
+    /// What the seat is told of its step.
+    Stepped(Step),
+    /// What the seat is told of the last step of its drive.
+    Driven(Step),
+    /// The system is stopped.
+    Stopped,
+}

@@ -1,0 +1,67 @@
+//! Events are played on a kernel, one after the other.
+
+ghost use Rattle.std.specs.Prelude.{◌≡◌, ℕ, IfErr, IfOk};
+ghost use Rattle.interleavings.specs.Headline.{AnswersRightly};
+ghost use Rattle.interleavings.specs.Runs.{AreOfSeats, Happens, IsOfSeat, IsToldItsPart, Runs};
+
+use crate::event::{Event, Outcome};
+use crate::laws::{a_kernel_led_answers_as_plain_lists, events_lead_on};
+use bucket_page::PseudoKey;
+use interleaving_core::Kernel;
+use page_device::PageDevice;
+use queue_model::NoMemory;
+use std::alloc::Global;
+
+/// Plays events on a kernel, in their order, and tells what came of each. Memory for the outcomes is
+/// taken first; without it nothing is played.
+///
+/// The answers that a seat is told are its part of what joins the journal, in the journal's order,
+/// each once; but for one that it is still owed.
+///
+/// Whatever the order of the events: where the kernel was led from a lawful system, as one is that
+/// was opened over an honest device, its answers are those of plain lists asked one call at a time;
+/// and once no seat has a call the file holds just what the lists do.
+pub fn run<D: PageDevice + Drop, K: PseudoKey + Copy>(
+    alloc: Global,
+    kernel: &mut Kernel<D, K>,
+    events: Vec<Event>,
+) -> Result<Vec<Outcome>, NoMemory>
+    requires { AreOfSeats kernel.old.locks events.items }
+    ensures runs { IfOk result (λ outcomes. Runs (K.of_key kernel.old.keys) events.items
+        outcomes.items kernel.old kernel.new) }
+    ensures headline { IfOk result (λ _. AnswersRightly (K.of_key kernel.old.keys) events.items
+        kernel.old kernel.new) }
+    ensures told { IfOk result (λ outcomes. (seat : ℕ) →
+        IsToldItsPart seat events.items outcomes.items kernel.old kernel.new) }
+    ensures err { IfErr result (λ _. kernel.new ≡ kernel.old) }
+{
+    events_lead_on::<K>();
+    a_kernel_led_answers_as_plain_lists::<K>();
+    let mut outcomes = Vec::with_capacity(alloc, events.len())?;
+    for event in events {
+        outcomes.push(play(kernel, event)).unwrap();
+    }
+    Ok(outcomes)
+}
+
+/// Plays one event, and tells what came of it.
+fn play<D: PageDevice + Drop, K: PseudoKey + Copy>(
+    kernel: &mut Kernel<D, K>,
+    event: Event,
+) -> Outcome
+    requires { IsOfSeat kernel.old.locks event }
+    ensures { Happens (K.of_key kernel.old.keys) event result kernel.old kernel.new }
+{
+    match event {
+        Event::Begin(seat, call) => match kernel.begin(seat, call) {
+            Ok(()) => Outcome::Begun,
+            Err((call, fault)) => Outcome::Refused(call, fault),
+        },
+        Event::Step(seat) => Outcome::Stepped(kernel.step(seat)),
+        Event::Drive(seat) => Outcome::Driven(kernel.drive(seat)),
+        Event::Stop => {
+            kernel.stop();
+            Outcome::Stopped
+        }
+    }
+}
