@@ -1,9 +1,11 @@
 //! Files that are checked, and what is told of them.
 
-use crate::file_tests::{FIRST, changed, new_device, spoilt};
+use crate::file_tests::{changed, spoilt};
+use crate::run_tests::{FIRST, new_device};
 use crate::trial::{Screen, buffered, printed};
-use msgq_cli::{Ending, Report, new_file, new_on, read_script, report_file, report_on, run_on};
+use msgq_cli::{Ending, Report, new_file, new_on, read_script, report_file, report_on};
 use page_device::{FaultyDevice, MemDevice, PageDevice};
+use script_runs::run_on;
 use std::fs;
 use std::fs::{File, OpenOptions};
 use std::process::Abort;

@@ -1,13 +1,13 @@
 //! Scripts run on files that are not as they should be, and on files of the system.
 
-use crate::trial::{buffered, printed, unbuffered};
+use crate::run_tests::{FIRST, new_device, prints};
+use crate::trial::{buffered, printed};
 use bucket_page::Malformed;
-use directory::LEAST_PAGES;
 use file_walk::StructureFault;
 use msgq_cli::file_check::CheckFault;
-use msgq_cli::one_caller::OpenFault;
-use msgq_cli::{Ending, Failure, Stage, new_file, new_on, read_script, run_file, run_on};
-use page_device::{FaultyDevice, MemDevice, PAGE_BYTES, PageDevice, seal, unseal};
+use msgq_cli::{Ending, new_file};
+use page_device::{MemDevice, PAGE_BYTES, PageDevice, seal, unseal};
+use script_runs::run_file;
 use std::alloc::Global;
 use std::fs;
 use std::fs::File;
@@ -15,47 +15,9 @@ use std::process::Abort;
 use std::rt::Files;
 use std::test::Fail;
 
-/// A new file in memory, as small as there are.
-pub fn new_device(alloc: Global) -> MemDevice {
-    let mut output = unbuffered(alloc, Vec::new(alloc));
-    new_on(MemDevice::new(alloc), LEAST_PAGES, &mut output).0
-}
-
-/// A script whose lines are answered.
-pub const FIRST: &str = "1 get 7 create\n1 snd 1 5 61\n";
-
-/// Runs a script, which has to print this and to end so, and gives the device back.
-fn prints<R: Abort + AllocGlobal, D: PageDevice + Drop>(
-    rt: &R,
-    device: D,
-    text: &str,
-    wanted: &str,
-    ending: Ending,
-) -> Result<D, Fail> {
-    let alloc = rt.alloc();
-    let script = read_script(alloc, text.as_bytes())?;
-    let mut output = buffered(alloc)?;
-    let (device, ended) = run_on(alloc, device, &script, &mut output);
-    let told = String::from_utf8(printed(output))?;
-    assert_eq!(rt; told.as_str(), wanted);
-    assert_eq!(rt; ended, ending);
-    Ok(device)
-}
-
-/// How a run ends whose file is not closed well.
-const UNCLOSED: Ending = Ending::Failed(Failure {
-    stage: Stage::Closing,
-    fault: 20,
-});
-
-/// How a run ends with whose file this is wrong.
-fn wrong(fault: CheckFault) -> Ending {
-    Ending::Unopened(OpenFault::Wrong(fault))
-}
-
-/// Or this with its structure.
+/// How a run ends with whose file's structure this is wrong.
 fn broken(fault: StructureFault) -> Ending {
-    wrong(CheckFault::Structure(fault))
+    Ending::Unopened(CheckFault::Structure(fault))
 }
 
 /// Changes a byte of a page's payload, and seals the page again.
@@ -120,88 +82,16 @@ fn a_page_that_was_changed_is_told(rt: HostRuntime) -> Result<(), Fail> {
     for (place, byte, wanted, ending) in [
         (0, 9, "fault 40\n", formless),
         // The Counter counts a queue.
-        (38, 1, "fault 73\n", wrong(CheckFault::WrongCounter)),
+        (
+            38,
+            1,
+            "fault 73\n",
+            Ending::Unopened(CheckFault::WrongCounter),
+        ),
     ] {
         let mut device = new_device(alloc);
         changed(&mut device, 257, place, byte)?;
         prints(&rt, device, FIRST, wanted, ending)?;
-    }
-    Ok(())
-}
-
-/// Page, place and byte: of a new file of 260 pages another page becomes the bucket of the odd
-/// pseudokeys. That of the Counter is even.
-const SPLIT: [(u32, usize, u8); 13] = [
-    (0, 2, 1),
-    (0, 19, 3),
-    (0, 23, 0),
-    (0, 27, 2),
-    (1, 22, 1),
-    (1, 23, 2),
-    (257, 1, 1),
-    (257, 10, 1),
-    (257, 11, 2),
-    (258, 0, 3),
-    (258, 1, 1),
-    (258, 6, 0),
-    (258, 7, 1),
-];
-
-#[test]
-fn a_file_of_two_buckets_is_not_opened(rt: HostRuntime) -> Result<(), Fail> {
-    let mut output = unbuffered(rt.alloc(), Vec::new(rt.alloc()));
-    let mut device = new_on(MemDevice::new(rt.alloc()), 260, &mut output).0;
-    for (page, place, byte) in SPLIT {
-        changed(&mut device, page, place, byte)?;
-    }
-    let ending = Ending::Unopened(OpenFault::ManyBuckets);
-    prints(&rt, device, FIRST, "fault 62\n", ending)?;
-    Ok(())
-}
-
-/// The check reads the 258 pages, and then the root page: transfer 259 to test its records and
-/// gather a system, 260 to compare with it. Where one of these two fails, the slow walk reads again
-/// what it needs. Then 261 tests that the file has one bucket, 262 and 263 open it, and the write
-/// 264 and the sync 265 close it.
-#[test]
-fn each_transfer_fails_in_turn(rt: HostRuntime) -> Result<(), Fail> {
-    let answers = "1 id 1\n2 sent 1\n";
-    let and_fault = "1 id 1\n2 sent 1\nfault 20\n";
-    let opening = broken(StructureFault::Device);
-    for (nth, wanted, ending) in [
-        (1, "fault 20\n", opening),
-        (258, "fault 20\n", opening),
-        (259, answers, Ending::Done),
-        (260, answers, Ending::Done),
-        (261, "fault 20\n", opening),
-        (263, "fault 20\n", opening),
-        (264, and_fault, UNCLOSED),
-        (265, and_fault, UNCLOSED),
-        (266, answers, Ending::Done),
-    ] {
-        let device = FaultyDevice::new(new_device(rt.alloc()), nth);
-        prints(&rt, device, FIRST, wanted, ending)?;
-    }
-    Ok(())
-}
-
-/// Three messages of 1,024 bytes fill the smallest file. What is received or removed leaves its
-/// room, also when the file is opened again.
-#[test]
-fn what_is_gone_leaves_its_room(rt: HostRuntime) -> Result<(), Fail> {
-    let alloc = rt.alloc();
-    let long = "61".repeat(alloc, 1024)?;
-    let mut device = new_device(alloc);
-    for id in 1..=5 {
-        let send = format!(in alloc; "1 snd {id} 5 {long}\n")?;
-        let text = format!(in alloc;
-            "1 get 9 create\n{send}{send}{send}{send}1 rcv {id} 1024 0\n{send}1 rm {id}\n1 stat {id}\n"
-        )?;
-        let wanted = format!(in alloc;
-            "1 id {id}\n2 sent 1\n3 sent 2\n4 sent 3\n5 fault 50\n6 received 1 1 5 {long}\n\
-            7 sent 4\n8 done\n9 refused EIDRM\n"
-        )?;
-        device = prints(&rt, device, text.as_str(), wanted.as_str(), Ending::Faulty)?;
     }
     Ok(())
 }

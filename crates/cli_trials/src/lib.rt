@@ -1,5 +1,5 @@
-//! Tests of the public calls of `msgq_cli`, which are proved here alone and not with
-//! that crate once more.
+//! Tests of the public calls of `msgq_cli` and `script_runs`, which are proved here alone and not with
+//! those crates once more.
 
 #![tactic(auto)]
 
@@ -9,6 +9,8 @@ mod check_tests;
 mod command_line_tests;
 #[cfg(test)]
 mod file_tests;
+#[cfg(test)]
+mod run_tests;
 #[cfg(test)]
 mod script_tests;
 #[cfg(test)]

@@ -1,7 +1,8 @@
 //! Readers and writers that fail, and what is said of wrong scripts.
 
 use crate::trial::{Refusing, buffered, printed, unbuffered};
-use msgq_cli::{Ending, Failure, Stage, print_made, serve, serve_text};
+use msgq_cli::{Ending, Failure, Stage, print_made};
+use script_runs::{serve, serve_text};
 use std::io;
 use std::io::{ErrorKind, Read};
 use std::process::Abort;

@@ -2,6 +2,7 @@
 use Rattle.std.specs.Prelude.{ℕ, ◌≡◌, Bool, true, false, List, Option, Some, None, Result, Ok, Err, ⊤}
 use Rattle.std.specs.List.{list_any}
 use Rattle.page_device.specs.Device.{HasRisen}
+use Rattle.buffer_pool.specs.Pool.{KeepsSeals, PoolState, payloads_of}
 use Rattle.interleaving_core.specs.Words.{Entry}
 use Rattle.interleaving_core.specs.Active.{ActiveView}
 use Rattle.interleaving_core.specs.Kernel.{KernelState}
@@ -41,6 +42,11 @@ abbrev pub OnDevice : {D K : Type 0} → (D → Type 0) → Result (Closed D) (N
 OnDevice P (Ok closed) = P closed.device
 OnDevice P (Err (Busy kernel)) = ⊤
 OnDevice P (Err (Fault closed fault)) = P closed.device
+
+-- the device has the images of a pool, all of them written there
+pub record IsFlushedTo (pool : PoolState) (content : List (List ℕ)) : Type 0 where
+  pub images : payloads_of content ≡ pool.images
+  pub seals : KeepsSeals pool.stored content
 
 -- what the device of a kernel that ended with this fault, or with none, has when it comes back
 pub record IsReleased {K : Type 0} (s : KernelState K) (fault : Option CloseFault) (content : List (List ℕ))

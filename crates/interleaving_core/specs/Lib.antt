@@ -8,4 +8,5 @@ pub mod Owing
 pub mod Driving
 pub mod Beginning
 pub mod Closing
+pub use Rattle.file_check.specs as file_check
 pub use Rattle.xsi_calls.specs as xsi_calls

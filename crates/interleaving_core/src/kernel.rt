@@ -121,7 +121,8 @@ impl<D: PageDevice + Drop, K: PseudoKey + Copy> Kernel<D, K> {
             MayRefuse (K.of_key keys) (D.content device) refusal.1) }
         ensures err { IfErr result (λ refusal. (D.content refusal.0 ≡ D.content device)
             × (D.is_honest refusal.0 ≡ D.is_honest device)) }
-        ensures cause { IfErr result (λ refusal. refusal.1 ≡ device_failed →
+        ensures cause { IfOk result (λ k. D.fault_count device ≤ k.pool.faults)
+            × IfErr result (λ refusal. refusal.1 ≡ device_failed →
             HasRisen (D.fault_count device) (D.fault_count refusal.0)) }
     {
         let seats = callers.len();
@@ -321,6 +322,15 @@ impl<D: PageDevice + Drop, K: PseudoKey + Copy> Kernel<D, K> {
             Ok(()) => Ok(Closed { device, journal }),
             Err(_) => Err(NotClosed::Fault(Closed { device, journal }, CloseFault::Device)),
         }
+    }
+
+    /// The device, as it is. What was changed since the kernel was opened may be lost.
+    pub fn into_device(self) -> D
+        ensures content { D.content result ≡ self.pool.stored }
+        ensures honest { D.is_honest result ≡ self.pool.honest }
+        ensures faults { D.fault_count result ≡ self.pool.faults }
+    {
+        self.pool.into_device()
     }
 
     /// The entries that the journal has, and those that are due.

@@ -13,6 +13,7 @@ mod step;
 mod waiting;
 
 pub use fault::{BUSY, BeginFault, CloseFault, OpenFault, SESSION_FULL, StepFault};
+pub use file_check;
 pub use kernel::{Closed, Kernel, MAX_DECIDED, MOST_STEPS, NotClosed};
 pub use opening::FRAMES_BESIDE;
 pub use step::Step;

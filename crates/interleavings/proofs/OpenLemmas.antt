@@ -10,7 +10,7 @@ use Rattle.concurrent_calls.proofs.of_lone_calls.of_opened_files.OpenLemmas.{ope
 use Rattle.queue_model.proofs.JournalLemmas.{LeadsAlong-push, after-LeadsAlong}
 use Rattle.queue_model.specs.Laws.{KeepsOrder}
 use Rattle.queue_model.specs.declared.entry.Entry.TheVariants.{Stopped}
-use Rattle.interleavings.specs.Words.{ActiveView, Call, Caller, Entry, HasCall, HasFittingCall, IsFileAtRest, IsSeat, IsStopped, KernelState, LeadsAlong, PoolState, RecordKey, State, call_at, caller_at, with_call}
+use Rattle.interleavings.specs.Words.{ActiveView, Call, Caller, Entry, HasCall, HasFittingCall, IsFileAtRest, IsSeat, IsStopped, KernelState, LeadsAlong, PoolState, RecordKey, State, after, call_at, caller_at, with_call}
 use Rattle.interleavings.specs.Leading.{IsLedFrom, calls_of}
 use Rattle.interleavings.specs.Laws.{AnswersAsPlainLists, BeginsLed, ClosesLed, OpensLed, RefusesLed, StopsLed}
 use Rattle.interleavings.proofs.LeadLemmas.{machine, others_same}

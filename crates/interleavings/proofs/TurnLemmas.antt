@@ -113,8 +113,8 @@ module _ (steps : StepTogether) (ends : EndTogether) (begins : BeginTogether) {K
         module _ (over : IsOver come.machine) where
           gone : call_at new.seats seat ≡ None →
               AreTogether hash leading.after (calls_of new.seats) new.pool new.locks
-          gone left = ends hash seat leading.after come.machine (calls_of with_come) (calls_of new.seats) new.pool new.locks
-              leading.together there_come over (ap machine left) others_come
+          gone left = ends hash seat leading.after come.machine (calls_of with_come) (calls_of new.seats) new.pool
+              new.locks leading.together there_come over (ap machine left) others_come
 
           -- and begins anew
           module _ (again : ActiveView) (left : call_at new.seats seat ≡ Some again)

@@ -4,3 +4,4 @@ pub mod Leading
 pub mod Headline
 pub mod Doing
 pub mod Laws
+pub use Rattle.interleaving_core.specs as interleaving_core

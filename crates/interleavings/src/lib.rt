@@ -8,6 +8,7 @@ mod laws;
 mod running;
 
 pub use event::{Event, Outcome};
+pub use interleaving_core;
 pub use laws::{
     a_kernel_led_answers_as_plain_lists, a_kernel_led_closes_on_its_file, a_kernel_opens_led,
     a_step_does_what_its_seat_is_told, calls_begin_led, drives_lead_on, events_lead_on,

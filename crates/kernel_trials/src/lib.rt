@@ -10,6 +10,8 @@ mod cases;
 #[cfg(test)]
 mod closing;
 #[cfg(test)]
+mod drawn;
+#[cfg(test)]
 mod finding;
 #[cfg(test)]
 mod long_queues;

@@ -141,7 +141,7 @@ fn does<K: PseudoKey + Copy>(
 
 /// Whether a call begins at a seat. Where there is no memory it comes back as it was, and is made
 /// again.
-fn begins<K: PseudoKey + Copy>(
+pub fn begins<K: PseudoKey + Copy>(
     alloc: Global,
     kernel: &mut Kernel<MemDevice, K>,
     seat: u8,
@@ -171,7 +171,7 @@ pub fn begin<K: PseudoKey + Copy>(
 }
 
 /// One step of a seat; of none where there is no such seat.
-fn step<K: PseudoKey + Copy>(kernel: &mut Kernel<MemDevice, K>, seat: u8) -> Step {
+pub fn step<K: PseudoKey + Copy>(kernel: &mut Kernel<MemDevice, K>, seat: u8) -> Step {
     if seat == 0 || seat > kernel.seats() {
         return Step::Idle;
     }

@@ -12,6 +12,7 @@ use Rattle.interleaving_core.proofs.RunLemmas.{seat_stays}
 use Rattle.lone_kernel.specs.Words.{ActiveView, Answer, Call, Caller, FileFault, HaveFewSteps, IsDriven, IsLeft, IsSeat, IsSpent, KernelState, MOST_CALL_STEPS, MakesCall, Progress, RecordKey, State, Step, call_at, call_left, stays_waiting, store_of, told_of, told_when_over}
 use Rattle.lone_kernel.specs.Lone.{ServesOver}
 use Rattle.lone_kernel.specs.Laws.{AnswersLoneCalls, DrivesByTheRules, StandsDriven}
+use Rattle.lone_kernel.proofs.CauseLemmas.{cause_of_failure, risen_since}
 use Rattle.lone_kernel.proofs.RestingLemmas.{begins_on_a_kernel}
 use Rattle.lone_kernel.proofs.StepLemmas.{answers_by_the_rules}
 
@@ -73,22 +74,28 @@ module _ (begins : BeginsAtRest) (few_steps : HaveFewSteps) {K : Type 0} (hash :
     pub served : ServesOver hash seat caller call s now
     pub seated : IsSeat now.locks seat
     pub nearer : steps_left seat now + moves ≤ steps_left seat old
+    -- the count of faults has not fallen
+    pub later : old.pool.faults ≤ now.pool.faults
 
   served_on : (moves : ℕ) (now : KernelState K) → Moves hash seat moves old now → IsServedOn moves now
   served_on zero now same = subst (IsServedOn zero) (sym same) (record {
     served = serves;
     seated = is;
     nearer = omega arith;
+    later = omega arith;
   })
   served_on (suc n) now moved =
       let so_far = served_on n moved.before moved.stands in
       let fewer = move_nears hash seat caller call s moved.before so_far.served moved.kind now moved.step in
       let nearer = so_far.nearer in
+      let first = so_far.later in
+      let last = moved.step.turn.run.rest.later in
       record {
         served = answers_by_the_rules begins few_steps K hash seat caller call s (steps.Moved moved.kind) moved.before
             now so_far.seated so_far.served moved.step.turn moved.step.makes;
         seated = seat_stays seat _ moved.before now moved.step.turn.run so_far.seated;
         nearer = omega (arith, fewer, nearer);
+        later = omega (arith, first, last);
       }
 
   module _ (did : Step) (new : KernelState K) (driven : IsDriven hash seat did old new) where
@@ -113,6 +120,8 @@ module _ (begins : BeginsAtRest) (few_steps : HaveFewSteps) {K : Type 0} (hash :
       rests = last.rests;
       few = few_moves;
       unspent = unspent;
+      cause = λ fails. risen_since so_far.later (cause_of_failure hash seat caller call s did driven.before new
+          so_far.served (last.step.makes so_far.served.active so_far.served.there so_far.served.sound) fails);
     }
     stands_by (inr spent) = absurd (unspent spent)
 

@@ -1,3 +1,5 @@
+pub mod WaitLemmas
 pub mod RestingLemmas
 pub mod StepLemmas
+pub mod CauseLemmas
 pub mod DriveLemmas

@@ -1,6 +1,7 @@
 -- A kernel opens at rest, and a call begins on it.
 use Rattle.std.proofs.Common.{ℕ, refl, ◌≡◌, ◌≤◌, sym, ap, ◌∙◌, subst, Option, Some, length, arith, Bool, true, false, [], ◌∷◌, ◌++◌}
 use Rattle.queue_model.specs.declared.entry.Entry.TheVariants.{Stopped}
+use Rattle.lone_calls.proofs.of_opened_files.CloseLemmas.{closes_at_rest}
 use Rattle.lone_calls.proofs.of_opened_files.OpenLemmas.{opens_at_rest}
 use Rattle.lone_calls.specs.Laws.{BeginsAtRest, StopsAtRest}
 use Rattle.interleaving_core.proofs.BeginLemmas.{idle_at}
@@ -8,28 +9,43 @@ use Rattle.interleaving_core.proofs.KernelLemmas.{as_many}
 use Rattle.interleaving_core.proofs.PlaceLemmas.{Seats, at_other, at_same}
 use Rattle.lone_kernel.specs.Words.{Call, Caller, HasCall, HasFittingCall, HasFittingCaller, HaveFewSteps, IsFileAtRest, IsSeat, IsStopped, IsWhole, KernelState, PoolState, RecordKey, State, Table, call_at, store_of, with_call}
 use Rattle.lone_kernel.specs.Lone.{RestsOver, ServesOver}
-use Rattle.lone_kernel.specs.Laws.{BeginsOnAKernel, OpensAKernel, RefusesAtRest, StopsAKernel}
+use Rattle.lone_kernel.specs.Laws.{BeginsOnAKernel, ClosesAKernel, OpensAKernel, RefusesAtRest, StopsAKernel}
+use Rattle.lone_kernel.proofs.WaitLemmas.{awake_apart, awake_goes, undecided_yet}
 
 -- ---- it is opened
 
-at_rest_too : (hash : RecordKey → ℕ) (s : State) → {pool pool' : PoolState} → {locks locks' : Table} → pool' ≡ pool →
-    locks' ≡ locks → IsFileAtRest hash s pool locks → IsFileAtRest hash s pool' locks'
+pub at_rest_too : (hash : RecordKey → ℕ) (s : State) → {pool pool' : PoolState} → {locks locks' : Table} →
+    pool' ≡ pool → locks' ≡ locks → IsFileAtRest hash s pool locks → IsFileAtRest hash s pool' locks'
 at_rest_too hash s {pool} {pool'} {locks} {locks'} same_pool same_locks rest =
     subst (λ (p : PoolState). IsFileAtRest hash s p locks') (sym same_pool)
     (subst (λ (t : Table). IsFileAtRest hash s pool t) (sym same_locks) rest)
 
 pub opens_a_kernel : (K : Type 0) → OpensAKernel K
-opens_a_kernel K hash keys content honest callers frames k opened true_to_it has some few =
-    let rest = opens_at_rest hash content has.0 frames (length callers) k.pool.faults honest k.pool.synced has.1
-    true_to_it some few in (
-      has.0,
-      record {
-        file = at_rest_too hash has.0 opened.pool opened.locks rest.rest;
-        idle = λ seat. ap (λ (x : Seats). call_at x seat) opened.seats ∙ idle_at (length callers) seat;
-        sound = opened.failed;
-        mark = rest.running ∙ sym opened.stopped;
-      },
-    )
+opens_a_kernel K hash keys content honest callers frames k opened true_to_it s file some few =
+    let rest = opens_at_rest hash content s frames (length callers) k.pool.faults honest k.pool.synced file
+    true_to_it some few in
+    record {
+      file = at_rest_too hash s opened.pool opened.locks rest.rest;
+      idle = λ seat. ap (λ (x : Seats). call_at x seat) opened.seats ∙ idle_at (length callers) seat;
+      sound = opened.failed;
+      mark = rest.running ∙ sym opened.stopped;
+    }
+
+-- ---- it is closed
+
+pub closes_a_kernel : (K : Type 0) → ClosesAKernel K
+closes_a_kernel K hash s content k rests flushed =
+    closes_at_rest hash s k.pool (record k.pool { stored = content }) k.locks rests.file (record {
+      written = flushed.images;
+      keeps = record {
+        images = λ _. refl;
+        pinned = λ page _. refl;
+        as_many = refl;
+        frames = refl;
+        honest = refl;
+        seals = λ _ _. flushed.seals;
+      };
+    })
 
 -- ---- a call begins
 
@@ -52,7 +68,9 @@ module _ (begins : BeginsAtRest) (few : HaveFewSteps) {K : Type 0} (hash : Recor
     served = begins hash seat has.caller call s has.active.machine old.pool old.locks rests.file is caller_fits
         call_fits has.begun.begins;
     few = few has.active.machine (store_of old.pool.images) has.begun.begins.new;
-    waits = λ some. let none = has.begun.awake in absurd cc;
+    waits = λ stays. absurd (awake_goes has.active.wait has.active.machine.call old.journal has.begun.awake stays);
+    asleep = λ since some. absurd (awake_apart has.active.wait since has.begun.awake some);
+    decided = λ some. absurd (undecided_yet has.active.machine has.begun.begins.new some);
     others = λ other apart. at_other old.seats seat other (Some has.active) apart ∙ rests.idle other;
     sound = rests.sound;
     mark = rests.mark;

@@ -1,10 +1,10 @@
 -- Laws of calls that are made one at a time on a kernel. Each is the contract of a function of laws.rt.
-use Rattle.std.specs.Prelude.{ℕ, ◌≡◌, ◌≤◌, Bool, true, false, IsTrue, List, Some, None, length}
+use Rattle.std.specs.Prelude.{ℕ, ◌≡◌, ◌≤◌, Bool, true, false, IsTrue, List, Some, length}
 use Rattle.page_locks.specs.declared.lock_table.TheConstants.{MAX_SEATS}
 use Rattle.interleaving_core.specs.declared.fault.StepFault.TheVariants as faults
 use Rattle.interleaving_core.specs.declared.step.Step.TheVariants as steps
-use Rattle.lone_kernel.specs.Words.{ActiveView, Answer, BeginFault, Call, Caller, FoundNoRoom, HasCall, HasFittingCall, HasFittingCaller, HasSystem, IsDriven, IsMove, IsOpened, IsRefused, IsSeat, IsSpent, IsStopped, IsTurn, IsWhole, KernelState, MOST_CALL_STEPS, RecordKey, State, Step, TakesTurn, call_at, caller_at, outcome}
-use Rattle.lone_kernel.specs.Lone.{RestsOver, ServesOver}
+use Rattle.lone_kernel.specs.Words.{ActiveView, Answer, BeginFault, Call, Caller, FoundNoRoom, HasCall, HasFittingCall, HasFittingCaller, HasRisen, IsDriven, IsFileOf, IsFlushedTo, IsMove, IsOpened, IsRefused, IsSeat, IsSpent, IsStopped, IsTurn, IsWhole, KernelState, MOST_CALL_STEPS, RecordKey, State, Step, TakesTurn, call_at, caller_at, is_failure, outcome, restarted}
+use Rattle.lone_kernel.specs.Lone.{RestsOver, ServesOver, WaitsOver}
 
 -- ---- it is opened
 
@@ -12,7 +12,7 @@ use Rattle.lone_kernel.specs.Lone.{RestsOver, ServesOver}
 abbrev pub OpensAKernel : Type 0 → Type 0
 OpensAKernel K = (hash : RecordKey → ℕ) (keys : K) (content : List (List ℕ)) (honest : Bool) (callers : List Caller)
     (frames : ℕ) (k : KernelState K) → IsOpened keys content honest callers frames k → IsTrue honest →
-    HasSystem hash content → 1 ≤ length callers → length callers ≤ MAX_SEATS → (s : State) × RestsOver hash s k
+    (s : State) → IsFileOf hash content s → 1 ≤ length callers → length callers ≤ MAX_SEATS → RestsOver hash s k
 
 -- ---- a call begins
 
@@ -43,8 +43,7 @@ StandsBehind hash seat caller call s (steps.Moved kind) k = ServesOver hash seat
 -- nobody stands in its way
 StandsBehind hash seat caller call s (steps.Blocked other) k = ⊥
 -- the rules have no answer, and it begins anew or waits on
-StandsBehind hash seat caller call s steps.Waiting k =
-    (outcome caller call s ≡ None) × ServesOver hash seat caller call s k
+StandsBehind hash seat caller call s steps.Waiting k = WaitsOver hash seat caller call s k
 StandsBehind hash seat caller call s (steps.Answered answer) k = IsAnswered hash caller call s answer k
 StandsBehind hash seat caller call s steps.Idle k = ⊥
 -- the file failed it, and no call goes on
@@ -72,6 +71,8 @@ pub record StandsDriven {K : Type 0} (hash : RecordKey → ℕ) (seat : ℕ) (ca
   -- it moves no more often than a call has steps, and so is never given up
   pub few : driven.moves ≤ MOST_CALL_STEPS
   pub unspent : IsSpent driven.moves did driven.before new → ⊥
+  -- the file fails it only where a transfer of the device failed
+  pub cause : is_failure did ≡ true → HasRisen old.pool.faults new.pool.faults
 
 -- by what Kernel::drive promises
 abbrev pub DrivesByTheRules : Type 0 → Type 0
@@ -93,3 +94,16 @@ AnswersLoneCalls K = (hash : RecordKey → ℕ) (seat : ℕ) (caller : Caller) (
 abbrev pub StopsAKernel : Type 0 → Type 0
 StopsAKernel K = (hash : RecordKey → ℕ) (s : State) (old new : KernelState K) → RestsOver hash s old →
     IsStopped old new → RestsOver hash (record s { stopped = true }) new
+
+-- and where a call waits on its seat: the stop wakes it
+abbrev pub StopsAWaitingCall : Type 0 → Type 0
+StopsAWaitingCall K = (hash : RecordKey → ℕ) (seat : ℕ) (caller : Caller) (call : Call) (s : State)
+    (old new : KernelState K) → WaitsOver hash seat caller call s old → IsStopped old new →
+    ServesOver hash seat caller call (record s { stopped = true }) new
+
+-- ---- it is closed
+
+-- by what Kernel::close promises of an honest device; the stop mark stands in no record
+abbrev pub ClosesAKernel : Type 0 → Type 0
+ClosesAKernel K = (hash : RecordKey → ℕ) (s : State) (content : List (List ℕ)) (k : KernelState K) →
+    RestsOver hash s k → IsFlushedTo k.pool content → IsFileOf hash content (restarted s)

@@ -1,10 +1,14 @@
 -- Words of the crates below, under one name.
+pub use Rattle.step_rules.specs.queue_records.bucket_page.directory.page_device.Device.{HasRisen}
+pub use Rattle.lone_calls.specs.opened_files.Laws.{restarted}
 pub use Rattle.lone_calls.specs.opened_files.Resting.{IsFileAtRest}
+pub use Rattle.interleaving_core.specs.file_check.Whole.{IsFileOf}
 pub use Rattle.lone_calls.specs.Serving.{FoundNoRoom, IsServed}
 pub use Rattle.lone_calls.specs.Words.{Answer, Begins, Call, CallView, Caller, Conclusion, FileFault, HasFittingCall, HasFittingCaller, IsOver, IsSeat, MakesCall, PoolState, Progress, RecordKey, State, Table, call_left, conclusion_of, outcome, store_of}
 pub use Rattle.interleaving_core.specs.Words.{caller_at}
 pub use Rattle.interleaving_core.specs.Active.{ActiveView, IsMarked, is_waiting}
-pub use Rattle.interleaving_core.specs.Beginning.{HasCall, HasSystem, IsOpened, IsRefused, IsStopped}
+pub use Rattle.interleaving_core.specs.Beginning.{HasCall, IsOpened, IsRefused, IsStopped}
+pub use Rattle.interleaving_core.specs.Closing.{IsFlushedTo}
 pub use Rattle.interleaving_core.specs.Driving.{IsDriven, IsSpent}
 pub use Rattle.interleaving_core.specs.Kernel.{IsWhole, KernelState, call_at, with_call}
 pub use Rattle.interleaving_core.specs.Owing.{IsMove, IsTurn, is_failure}

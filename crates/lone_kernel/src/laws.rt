@@ -1,7 +1,7 @@
 //! Laws of calls that are made one at a time on a kernel. The functions do nothing; their contracts
 //! are the laws.
 
-ghost use Rattle.lone_kernel.specs.Laws.{AnswersByTheRules, AnswersLoneCalls, BeginsOnAKernel, DrivesByTheRules, OpensAKernel, RefusesAtRest, StopsAKernel};
+ghost use Rattle.lone_kernel.specs.Laws.{AnswersByTheRules, AnswersLoneCalls, BeginsOnAKernel, ClosesAKernel, DrivesByTheRules, OpensAKernel, RefusesAtRest, StopsAKernel, StopsAWaitingCall};
 
 use interleaving_core::xsi_calls::calls_have_few_steps;
 use lone_calls::{a_call_begins_at_rest, a_file_at_rest_is_stopped};
@@ -57,3 +57,16 @@ pub fn a_kernel_at_rest_is_stopped<K>()
 {
     a_file_at_rest_is_stopped();
 }
+
+/// A call that waits on a kernel that is stopped is served over the stopped system.
+pub fn a_call_that_waits_is_stopped<K>()
+    ensures { StopsAWaitingCall K }
+{
+    a_call_begins_at_rest();
+    a_file_at_rest_is_stopped();
+}
+
+/// A kernel at rest that is closed leaves the file of its system on the device.
+pub fn a_kernel_at_rest_closes_on_its_file<K>()
+    ensures { ClosesAKernel K }
+{}

@@ -4,10 +4,9 @@
 #![tactic(auto)]
 
 use clap::error::ErrorKind;
-use msgq_cli::{
-    Output, Task, new_file, print_fault, read_command_line, report_file, run_file, serve,
-};
-use replays::{Sources, replay_file};
+use script_runs::msgq_cli::{Output, Task, new_file, print_fault, read_command_line, report_file};
+use script_runs::replays::{Sources, replay_file};
+use script_runs::{run_file, serve};
 use std::io;
 use std::io::BufWriter;
 use std::process::ExitCode;

@@ -1,11 +1,15 @@
-//! Calls served one at a time over a file in memory.
+//! Calls of one seat on a kernel, over a file in memory of which all pages are in frames.
 
 use bucket_page::ShaKey;
-use one_caller::{CallFault, CloseFault, OneCaller, OpenFault, Served};
+use interleaving_core::{Kernel, Step};
 use page_device::MemDevice;
-use queue_model::{Body, Call, Caller, GetArguments, ReceiveArguments, SendArguments};
+use queue_model::{
+    Body, Call, Caller, GetArguments, NoMemory, ReceiveArguments, SendArguments, SetArguments,
+};
 use record_file::format;
-use std::alloc::{AllocError, Global};
+use std::alloc::Global;
+use std::time::Instant;
+use step_rules::Kind;
 
 /// Who calls.
 const CALLER: Caller = Caller {
@@ -15,69 +19,186 @@ const CALLER: Caller = Caller {
 };
 
 /// Pages of the file.
-const PAGES: u32 = 258;
+const PAGES: u32 = 352;
 
-/// Sends a message of these bytes and receives it, so many times, on a new file; tells
-/// how many were received.
-pub fn sends_and_receives(alloc: Global, bytes: &[u8], rounds: u32) -> anyhow::Result<u32> {
-    let get = Call::Get(GetArguments {
-        key: Some(7),
-        create: true,
-        excl: false,
-        mode: 0o666,
-        moment: 1,
-    });
-    let send = sending(alloc, bytes)?;
-    let receive = Call::Receive(ReceiveArguments {
-        id: 1,
-        size: 1024,
-        mtype: 0,
-        nowait: true,
-        noerror: false,
-        moment: 3,
-    });
-    let mut device = MemDevice::new(alloc);
-    format(&mut device, PAGES)?;
-    let mut caller = opened(alloc, device)?;
-    let mut received = 0u32;
-    if is_answered(&caller.call(alloc, CALLER, &get)) {
+/// So many Receives are timed together.
+const BATCH: u32 = 16;
+
+/// More steps than any call here makes.
+const MOST_STEPS: u32 = 10_000;
+
+/// A queue: how many messages stand on it, of the types from 1 on by turns, and how many bytes each
+/// message has.
+#[derive(Clone, Copy, Debug)]
+pub struct Plan {
+    pub standing: u32,
+    pub types: u32,
+    pub bytes: usize,
+}
+
+/// A queue on a kernel.
+#[derive(Drop)]
+pub struct Called {
+    alloc: Global,
+    kernel: Kernel<MemDevice, ShaKey>,
+    bytes: Vec<u8>,
+}
+
+impl Called {
+    /// A new file with the queue of a plan.
+    pub fn new(alloc: Global, plan: &Plan) -> anyhow::Result<Called> {
+        let mut device = MemDevice::new(alloc);
+        format(&mut device, PAGES)?;
+        let kernel = match Kernel::open(alloc, device, ShaKey, &[CALLER], PAGES as usize) {
+            Ok(kernel) => kernel,
+            Err((_, fault)) => return Err(fault.into()),
+        };
+        let mut bytes = Vec::new(alloc);
+        bytes.resize(plan.bytes, 7)?;
+        let mut called = Called {
+            alloc,
+            kernel,
+            bytes,
+        };
+        called.is_answered(GET);
+        called.is_answered(SET);
+        for place in 0..plan.standing {
+            let place = place.checked_rem(plan.types).unwrap_or(0);
+            called.sends(i64::from(place).saturating_add(1))?;
+        }
+        Ok(called)
+    }
+
+    /// Sends a message of type 1 and receives one of a type, so many times; tells how many were
+    /// received.
+    pub fn sends_and_receives(&mut self, mtype: i64, rounds: u32) -> Result<u32, NoMemory> {
+        let mut received = 0u32;
         for _ in 0..rounds {
-            let sent = is_answered(&caller.call(alloc, CALLER, &send));
-            if sent && is_answered(&caller.call(alloc, CALLER, &receive)) {
+            if self.sends(1)? && self.is_answered(receive(mtype)) {
                 received = received.wrapping_add(1);
             }
         }
+        Ok(received)
     }
-    closed(caller)?;
-    Ok(received)
+
+    /// The nanoseconds of so many Receives of a type, and how many were answered. Behind some of
+    /// them as many messages of type 1 are sent, which are not timed.
+    pub fn times_of_receives(
+        &mut self,
+        rt: &HostRuntime,
+        mtype: i64,
+        rounds: u32,
+    ) -> anyhow::Result<(u128, u32)> {
+        let mut spent: u128 = 0;
+        let mut received = 0u32;
+        for _ in 0..rounds / BATCH {
+            let start = Instant::now(rt)?;
+            for _ in 0..BATCH {
+                if self.is_answered(receive(mtype)) {
+                    received = received.wrapping_add(1);
+                }
+            }
+            spent = spent.saturating_add(start.elapsed(rt)?.as_nanos());
+            for _ in 0..BATCH {
+                self.sends(1)?;
+            }
+        }
+        Ok((spent, received))
+    }
+
+    /// How many steps of each kind a Send of type 1 makes, and then a Receive of a type.
+    pub fn steps(&mut self, mtype: i64) -> anyhow::Result<[Vec<(Kind, u32)>; 2]> {
+        let send = self.send(1)?;
+        let sent = self.steps_of(send)?;
+        Ok([sent, self.steps_of(receive(mtype))?])
+    }
+
+    /// Whether a Send is answered.
+    fn sends(&mut self, mtype: i64) -> Result<bool, NoMemory> {
+        let send = self.send(mtype)?;
+        Ok(self.is_answered(send))
+    }
+
+    fn send(&self, mtype: i64) -> Result<Call, NoMemory> {
+        let bytes = Vec::from_slice(self.alloc, self.bytes.as_slice())?;
+        Ok(Call::Send(SendArguments {
+            id: 1,
+            mtype,
+            body: Body::new(bytes),
+            nowait: true,
+            moment: 2,
+        }))
+    }
+
+    /// Whether a call is answered.
+    fn is_answered(&mut self, call: Call) -> bool {
+        if self.kernel.seats() == 0 || self.kernel.begin(1, call).is_err() {
+            return false;
+        }
+        matches!(self.kernel.drive(1), Step::Answered(_))
+    }
+
+    /// How many steps of each kind a call makes, in the order in which they come first.
+    fn steps_of(&mut self, call: Call) -> anyhow::Result<Vec<(Kind, u32)>> {
+        let mut counts = Vec::new(self.alloc);
+        if self.kernel.seats() == 0 || self.kernel.begin(1, call).is_err() {
+            return Ok(counts);
+        }
+        for _ in 0..MOST_STEPS {
+            match self.step() {
+                Step::Moved(kind) => count(&mut counts, kind)?,
+                _ => break,
+            }
+        }
+        Ok(counts)
+    }
+
+    fn step(&mut self) -> Step {
+        if self.kernel.seats() == 0 {
+            return Step::Idle;
+        }
+        self.kernel.step(1)
+    }
 }
 
-/// A Send of type 5.
-fn sending(alloc: Global, bytes: &[u8]) -> Result<Call, AllocError> {
-    let body = Body::new(Vec::from_slice(alloc, bytes)?);
-    Ok(Call::Send(SendArguments {
+/// The queue is made.
+const GET: Call = Call::Get(GetArguments {
+    key: Some(7),
+    create: true,
+    excl: false,
+    mode: 0o666,
+    moment: 1,
+});
+
+/// It may have as many bytes as any queue.
+const SET: Call = Call::Set(SetArguments {
+    id: 1,
+    qbytes: 65_536,
+    uid: None,
+    gid: None,
+    mode: None,
+    moment: 1,
+});
+
+fn receive(mtype: i64) -> Call {
+    Call::Receive(ReceiveArguments {
         id: 1,
-        mtype: 5,
-        body,
+        size: 1024,
+        mtype,
         nowait: true,
-        moment: 2,
-    }))
+        noerror: false,
+        moment: 3,
+    })
 }
 
-fn opened(alloc: Global, device: MemDevice) -> Result<OneCaller<MemDevice>, OpenFault> {
-    match OneCaller::open(alloc, device, ShaKey, 2) {
-        Ok(caller) => Ok(caller),
-        Err((_, fault)) => Err(fault),
+/// One step more of a kind.
+fn count(counts: &mut Vec<(Kind, u32)>, kind: Kind) -> Result<(), NoMemory> {
+    for (made, many) in counts.iter_mut() {
+        if *made == kind {
+            *many = many.wrapping_add(1);
+            return Ok(());
+        }
     }
-}
-
-fn closed(caller: OneCaller<MemDevice>) -> Result<(), CloseFault> {
-    match caller.close() {
-        Ok(_) => Ok(()),
-        Err((_, fault)) => Err(fault),
-    }
-}
-
-fn is_answered(served: &Result<Served, CallFault>) -> bool {
-    matches!(served, Ok(Served::Answer(_)))
+    counts.push((kind, 1))?;
+    Ok(())
 }

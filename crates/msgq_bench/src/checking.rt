@@ -4,7 +4,7 @@ use crate::contents::Contents;
 use crate::filling::{Plan, file_of};
 use crate::sealing::digests;
 use bucket_page::ShaKey;
-use one_caller::file_check::{Checked, check};
+use file_check::{Checked, check};
 use page_device::MAX_PAGES;
 use std::alloc::Global;
 use std::time::Instant;

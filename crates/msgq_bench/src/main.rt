@@ -14,6 +14,7 @@ mod pinning;
 mod sealing;
 mod stepping;
 
+use calling::{Called, Plan};
 use machine_trials::Operation;
 use page_device::MAX_PAGES;
 use std::time::Instant;
@@ -21,8 +22,8 @@ use std::time::Instant;
 /// How often a workload runs when it is timed.
 const ROUNDS: u32 = 20_000;
 
-/// How many messages are sent and received.
-const MESSAGES: u32 = 100_000;
+/// How many messages are sent and received: a kernel takes 65,536 calls.
+const MESSAGES: u32 = 30_000;
 
 /// How often a page that has a frame is pinned.
 const PINS: u32 = 2_000_000;
@@ -108,8 +109,10 @@ fn once_locked(rt: &HostRuntime) -> anyhow::Result<()> {
 
 /// Runs calls and decisions once, small.
 fn once_called(rt: &HostRuntime) -> anyhow::Result<()> {
-    let received = calling::sends_and_receives(rt.alloc(), &[7; 1024], 3)?;
+    let mut called = Called::new(rt.alloc(), &empty(64))?;
+    let received = called.sends_and_receives(0, 3)?;
     println!(rt; "received: {received}")?;
+    println!(rt; "steps of calls: {:?}", called.steps(0)?)?;
     let standing = deciding::sends(rt.alloc(), 16, 16, 1)?;
     let new = deciding::sends(rt.alloc(), 16, 17, 1)?;
     let taken = deciding::receives(rt.alloc(), 16, 1)?;
@@ -146,28 +149,40 @@ fn once_checked(rt: &HostRuntime) -> anyhow::Result<()> {
     Ok(())
 }
 
-/// Times sends and receives.
+/// An empty queue, for messages of so many bytes.
+const fn empty(bytes: usize) -> Plan {
+    Plan {
+        standing: 0,
+        types: 1,
+        bytes,
+    }
+}
+
+/// Times calls on a kernel.
 fn calls(rt: &HostRuntime) -> anyhow::Result<()> {
+    by_turns(rt, 64)?;
+    by_turns(rt, 1024)?;
+    let plan = Plan {
+        standing: 512,
+        types: 16,
+        bytes: 64,
+    };
+    let mut called = Called::new(rt.alloc(), &plan)?;
+    let sum = called.times_of_receives(rt, -8, MESSAGES)?;
+    let name = "a receive of type -8, with 512 messages of 64 bytes and 16 types standing";
+    tell(rt, name, sum)
+}
+
+/// Times sends and receives by turns, of so many bytes, and counts their steps.
+fn by_turns(rt: &HostRuntime, bytes: usize) -> anyhow::Result<()> {
+    let mut called = Called::new(rt.alloc(), &empty(bytes))?;
     let start = Instant::now(rt)?;
-    let received = calling::sends_and_receives(rt.alloc(), &[7; 64], MESSAGES)?;
-    println!(rt; "{received} messages sent and received")?;
-    report(
-        rt,
-        "a send or a receive of 64 bytes",
-        0,
-        start,
-        MESSAGES.saturating_mul(2),
-    )?;
-    let start = Instant::now(rt)?;
-    let received = calling::sends_and_receives(rt.alloc(), &[7; 1024], MESSAGES)?;
-    println!(rt; "{received} messages sent and received")?;
-    report(
-        rt,
-        "a send or a receive of 1,024 bytes",
-        0,
-        start,
-        MESSAGES.saturating_mul(2),
-    )
+    let received = called.sends_and_receives(0, MESSAGES)?;
+    println!(rt; "{received} messages of {bytes} bytes sent and received by turns")?;
+    let name = "a send or a receive";
+    report(rt, name, 0, start, MESSAGES.saturating_mul(2))?;
+    println!(rt; "steps of a send and of a receive: {:?}", called.steps(0)?)?;
+    Ok(())
 }
 
 /// Times decisions over a queue of so many types.

@@ -1,12 +1,12 @@
 -- What is printed where a file is checked. docs/SCRIPTS.md, "Runs".
 use Rattle.std.specs.Prelude.{◌≡◌, ◌⊎◌, ℕ, List, Result, Ok, Err}
 use Rattle.queue_model.specs.State.{State}
-use Rattle.one_caller.specs.file_check.Fault.{number_of}
-use Rattle.one_caller.specs.file_check.declared.fault.CheckFault.{CheckFault}
+use Rattle.file_check.specs.Fault.{number_of}
+use Rattle.file_check.specs.declared.fault.CheckFault.{CheckFault}
 use Rattle.msgq_cli.specs.Answers.{fault_text}
 use Rattle.msgq_cli.specs.Outputs.{OutputState, Prints}
 use Rattle.msgq_cli.specs.Reports.{report_text}
-use Rattle.msgq_cli.specs.Serves.{IsFaultAlone}
+use Rattle.msgq_cli.specs.Refusals.{IsFaultAlone}
 use Rattle.msgq_cli.specs.declared.ending.Ending.{Ending}
 use Rattle.msgq_cli.specs.declared.ending.Ending.TheVariants.{Done}
 use Rattle.msgq_cli.specs.declared.reports.Report.{Report}

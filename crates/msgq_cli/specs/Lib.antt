@@ -5,10 +5,11 @@ pub mod Lines
 pub mod Options
 pub mod Outputs
 pub mod Progress
+pub mod Refusals
 pub mod Reports
 pub mod Runs
 pub mod Scripts
-pub mod Serves
-pub mod Serving
 pub mod Tasks
 pub mod Texts
+pub use Rattle.file_check.specs as file_check
+pub use Rattle.record_file.specs as record_file

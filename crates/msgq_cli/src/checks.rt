@@ -3,8 +3,8 @@
 
 ghost use Rattle.std.specs.Prelude.{◌≡◌, IsTrue, IfOk, IfErr};
 ghost use Rattle.bucket_page.specs.Pseudokeys.{sha_key};
-ghost use Rattle.one_caller.specs.file_check.Records.{HasCheckCause};
-ghost use Rattle.one_caller.specs.file_check.Whole.{IsFileOf, IsToldOf};
+ghost use Rattle.file_check.specs.Records.{HasCheckCause};
+ghost use Rattle.file_check.specs.Whole.{IsFileOf, IsToldOf};
 ghost use Rattle.msgq_cli.specs.Checks.{IsReportOrFault, found_text};
 ghost use Rattle.msgq_cli.specs.Outputs.{Prints};
 
@@ -13,11 +13,11 @@ use crate::ending::{Ending, Failure, Stage};
 use crate::files::complain_unopened;
 use crate::output::Output;
 use crate::progress::Shown;
+use crate::refusals::fail;
 use crate::reply::print_fault;
 use crate::reports::Report;
-use crate::serving::fail;
 use bucket_page::ShaKey;
-use one_caller::file_check::{CheckFault, Checked, check};
+use file_check::{CheckFault, Checked, check};
 use page_device::{FileDevice, PageDevice};
 use queue_model::System;
 use std::alloc::Global;

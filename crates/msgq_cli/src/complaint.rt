@@ -42,7 +42,7 @@ pub(crate) fn why(failure: Failure) -> &'static str {
         faults::DEVICE => "it is no file, or the system failed to read or write it",
         faults::PAST_END => "it is cut: it has fewer pages than its header says, or a part of one",
         faults::NO_MEMORY => "there is no memory",
-        faults::FAILED => "the page of its records was changed, or holds what no queues have",
+        faults::FAILED => "a line failed before, so nothing was written",
         _ => "it has another form",
     }
 }

@@ -4,7 +4,7 @@ ghost use Rattle.std.specs.Prelude.{◌≡◌, if◌then◌else◌};
 ghost use Rattle.msgq_cli.specs.Runs.{is_fault, status_of};
 
 use crate::reply::Reply;
-use one_caller::OpenFault;
+use file_check::CheckFault;
 
 /// How a run ends.
 #[derive(Clone, Copy, Debug, PartialEq, Eq)]
@@ -15,8 +15,9 @@ pub enum Ending {
     Faulty,
     /// A fault that no line met was printed.
     Failed(Failure),
-    /// The file was not opened, and the number of this fault was printed.
-    Unopened(OpenFault),
+    /// This is the first thing that is wrong with the file. It was not opened, and the number of the
+    /// fault was printed.
+    Unopened(CheckFault),
     /// The script's line of this number is wrong, and nothing was run.
     WrongLine(u64),
     /// The schedule's word of this number is wrong, and nothing was run.

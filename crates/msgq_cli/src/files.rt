@@ -1,19 +1,18 @@
-//! Files made, and run on: the subcommands of the program.
+//! Files made, and scripts read from files.
 
 ghost use Rattle.std.specs.Prelude.{◌≡◌, ◌≤◌, [], IsTrue};
 ghost use Rattle.page_device.specs.declared.page.TheConstants.{MAX_PAGES};
 ghost use Rattle.directory.specs.declared.layout.TheConstants.{LEAST_PAGES};
-ghost use Rattle.msgq_cli.specs.Serves.{IsMadeOrFault, Makes, RunsFile};
+ghost use Rattle.msgq_cli.specs.Refusals.{IsMadeOrFault, Makes};
 
 use crate::complaint::{complain, complain_of};
 use crate::ending::{Ending, Stage};
 use crate::output::Output;
+use crate::refusals::{fail, read_text};
 use crate::reply::print_made;
-use crate::script::read_script;
-use crate::serving::{fail, read_text, refuse, run_on, unread};
 use directory::LEAST_PAGES;
-use one_caller::record_file::format;
 use page_device::{FileDevice, MAX_PAGES, PageDevice, SystemFile};
+use record_file::format;
 use std::fs::{OpenFile, OpenOptions};
 use std::io::{Read, Seek, Write};
 use std::rt::Files;
@@ -21,6 +20,9 @@ use std::{fs, io};
 
 /// A script of this name is that of standard input.
 pub const STANDARD_INPUT: &str = "-";
+
+/// A file that is run on has as many frames as pages, up to this number.
+pub const MOST_FRAMES: usize = 16_384;
 
 /// `new FILE PAGES`: makes a file, where nothing may be yet, and prints `made PAGES`.
 ///
@@ -81,53 +83,6 @@ pub fn new_on<D: PageDevice, W: Write + Drop>(
         Err(fault) => fail(Stage::Making, fault.number(), output),
     };
     (device, ending)
-}
-
-/// `run FILE SCRIPT`: runs the script of a file, or of standard input, on a file of message queues.
-///
-/// The script is read first: fault 20 or 60 alone where it can't be read, and nothing is run where
-/// it is wrong. Then the file is opened: `fault N` alone where it is not. A fault when it is closed
-/// is one more line.
-pub fn run_file<R, F, W, E>(
-    rt: &R,
-    file: &str,
-    script: &str,
-    output: &mut Output<W>,
-    errors: &mut E,
-) -> Ending
-where
-    R: Files<File = F> + AllocGlobal + Input,
-    F: Read + Write + Seek + OpenFile + Drop,
-    W: Write + Drop,
-    E: Write,
-    ensures { RunsFile output.old output.new result }
-{
-    let text = match read_file(rt, script) {
-        Ok(text) => text,
-        Err(error) => return unread(script, &error, output, errors),
-    };
-    let script = match read_script(rt.alloc(), text.as_slice()) {
-        Ok(script) => script,
-        Err(error) => return refuse(rt.alloc(), error, text.as_slice(), output, errors),
-    };
-    match FileDevice::open(rt, file) {
-        Ok(device) => {
-            let ending = run_on(rt.alloc(), device, &script, output).1;
-            complain_of(file, ending, errors);
-            ending
-        }
-        Err(fault) => {
-            let ending = fail(Stage::Opening, fault.number(), output);
-            complain_unopened(
-                rt,
-                OpenOptions::new().read(true).write(true),
-                file,
-                ending,
-                errors,
-            );
-            ending
-        }
-    }
 }
 
 /// All bytes of a file, or of standard input.

@@ -9,8 +9,6 @@ mod bucket;
 #[cfg(test)]
 mod buckets;
 #[cfg(test)]
-mod calls;
-#[cfg(test)]
 mod devices;
 #[cfg(test)]
 mod directories;

@@ -1,5 +1,5 @@
 -- Events one after the other.
-use Rattle.std.proofs.Common.{◌≡◌, refl, sym, ap, ◌∙◌, subst, ℕ, suc, ◌+◌, ◌<◌, List, [], ◌∷◌, ◌++◌, get_or, length, take, arith}
+use Rattle.std.proofs.Common.{◌≡◌, refl, sym, subst, ℕ, suc, ◌+◌, ◌<◌, List, [], ◌∷◌, ◌++◌, get_or, length, take, arith}
 use Rattle.std.proofs.lemmas.List.{take_more}
 use Rattle.schedules.specs.declared.event.Event.{Event}
 use Rattle.replays.specs.Events.{Plays, PlaysAll, ReplayState, Times}

@@ -3,3 +3,10 @@ pub mod EventLemmas
 pub mod RoundLemmas
 pub mod PrintLemmas
 pub mod OpeningLemmas
+pub mod PlayLemmas
+pub mod LeadLemmas
+pub mod EntryLemmas
+pub mod TellLemmas
+pub mod BeginLemmas
+pub mod SoundLemmas
+pub mod ClosingLemmas

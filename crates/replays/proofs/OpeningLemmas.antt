@@ -1,14 +1,26 @@
--- The seats of a script.
-use Rattle.std.proofs.Common.{◌≡◌, refl, ℕ, zero, suc, ◌≤◌, List, [], ◌∷◌, ◌++◌, length, length-append, arith}
+-- The seats of a script, and why no kernel is opened for them.
+use Rattle.std.proofs.Common.{◌≡◌, ◌≢◌, ◌↔◌, refl, ap, ◌∙◌, subst, Bool, IsTrue, ℕ, zero, suc, ◌≤◌, ◌<◌, List, [], ◌∷◌, length, length-append, Result, Ok, Err, IfErr, IsErrAnd, arith}
 use Rattle.std.proofs.lemmas.Int.{clamps}
 use Rattle.std.specs.Prelude.{max}
 use Rattle.std.specs.List.{All, fold}
 use Rattle.std.proofs.lemmas.List.Elements.{All-head, All-tail}
+use Rattle.std.proofs.lemmas.List.{length-replicate}
+use Rattle.std.proofs.lemmas.Option.{get_or_from_slice_get, slice_get_within}
+use Rattle.bucket_page.specs.Pseudokeys.{sha_key}
+use Rattle.bucket_page.specs.declared.pseudokey.ShaKey.{ShaKey}
+use Rattle.queue_model.specs.declared.caller.Caller.{Caller}
+use Rattle.type_chains.specs.Fits.{HasFittingCaller}
+use Rattle.interleavings.specs.interleaving_core.Beginning.{HasSystem, IsOpened}
+use Rattle.interleavings.specs.interleaving_core.Kernel.{KernelState}
+use Rattle.interleavings.specs.interleaving_core.declared.fault.OpenFault.{OpenFault}
+use Rattle.interleavings.specs.interleaving_core.declared.fault.OpenFault.TheVariants.{TooFewFrames}
+use Rattle.interleavings.specs.Laws.{AreFittingCallers, IsLedFromFile, OpensLed}
 use Rattle.msgq_cli.specs.Scripts.{Parts, IsSound, caller_of, greatest_seat}
 use Rattle.msgq_cli.specs.declared.line.Line.{Line}
 use Rattle.msgq_cli.specs.declared.line.SeatIds.{SeatIds}
 use Rattle.script_words.specs.Numbers.{IsSeat}
-use Rattle.replays.specs.Replays.{callers_of}
+use Rattle.page_locks.specs.declared.lock_table.TheConstants.{MAX_SEATS}
+use Rattle.replays.specs.Replays.{IsOpenedForSeats, callers_of}
 
 pub length-callers_of : (ids : List SeatIds) (n : ℕ) → length (callers_of ids n) ≡ n
 length-callers_of ids zero = refl
@@ -31,3 +43,45 @@ within (l ∷ ls) from some few all =
 pub greatest_within : (script : Parts) → IsSound script →
     (1 ≤ greatest_seat script.lines) × (greatest_seat script.lines ≤ 64)
 greatest_within script sound = within script.lines 1 (omega arith) (omega arith) sound.seats
+
+-- what is so of all callers is so of each seat's
+pub each_seat_fits : (callers : List Caller) → All HasFittingCaller callers → AreFittingCallers callers
+each_seat_fits callers all zero caller sits = absurd cc
+each_seat_fits callers all (suc place) caller sits =
+    subst HasFittingCaller (get_or_from_slice_get callers place caller caller sits)
+    (all place caller (slice_get_within callers place caller sits))
+
+-- with frames enough no refusal is for their lack
+pub never_too_few : {T D : Type 0} (r : Result T (D × OpenFault)) (frames least : ℕ) → least ≤ frames →
+    (IsErrAnd r (λ refusal. refusal.1 ≡ TooFewFrames) ↔ (frames < least)) →
+    IfErr r (λ refusal. refusal.1 ≢ TooFewFrames)
+never_too_few (Ok made) frames least enough few = tt
+never_too_few (Err refusal) frames least enough few =
+    λ same. let short = few.0 same in absurd (omega (arith, enough, short))
+
+-- ---- a kernel that is opened for the seats
+
+pub opened_for : (script : Parts) (content : List (List ℕ)) (honest : Bool) (keys : ShaKey) (frames seats : ℕ)
+    (callers : List Caller) → seats ≡ greatest_seat script.lines → callers ≡ callers_of script.ids seats →
+    AreFittingCallers callers → (k : KernelState ShaKey) → IsOpened keys content honest callers frames k →
+    IsOpenedForSeats script content honest k
+opened_for script content honest keys frames seats callers many are fitting k opened =
+    let same = are ∙ ap (callers_of script.ids) many in
+    record {
+      frames = frames;
+      with_keys = keys;
+      opened = subst (λ (cs : List Caller). IsOpened keys content honest cs frames k) same opened;
+      many = ap length opened.locks ∙ length-replicate (length callers) [] ∙ ap length same
+          ∙ length-callers_of script.ids (greatest_seat script.lines);
+      fitting = subst AreFittingCallers same fitting;
+    }
+
+-- of an honest device it is led from the system of the file
+pub opened_led : OpensLed ShaKey → (script : Parts) (content : List (List ℕ)) (honest : Bool) (seats : ℕ)
+    (k : KernelState ShaKey) → seats ≡ greatest_seat script.lines → 1 ≤ seats → seats ≤ MAX_SEATS →
+    IsOpenedForSeats script content honest k → IsTrue honest → HasSystem sha_key content →
+    IsLedFromFile sha_key content k
+opened_led opens script content honest seats k many some few opened true_to_it has =
+    let long = length-callers_of script.ids (greatest_seat script.lines) in
+    opens sha_key opened.with_keys content honest (callers_of script.ids (greatest_seat script.lines)) opened.frames k
+    opened.opened true_to_it has (omega (arith, many, some, long)) (omega (arith, many, few, long)) opened.fitting

@@ -1,5 +1,5 @@
 -- Where each seat is: its lines are begun in the order of the script, and replied before the next is begun.
-use Rattle.std.proofs.Common.{◌≡◌, ◌≢◌, ◌⊎◌, refl, sym, ap, ◌∙◌, subst, ℕ, zero, suc, ◌+◌, ◌-◌, ◌≤◌, ◌<◌, ◌==◌, nat_le, Bool, true, false, IsSome, List, [], ◌∷◌, ◌++◌, Option, Some, None, inl, inr, length, drop, replicate, slice_set, slice_index_or, slice_get, length-set, length-append, get_or, get_or-set_same, get_or-set_other, arith}
+use Rattle.std.proofs.Common.{◌≡◌, ◌≢◌, ◌⊎◌, refl, sym, ap, ◌∙◌, subst, ℕ, zero, suc, ◌+◌, ◌-◌, ◌≤◌, ◌<◌, ◌==◌, nat_le, Bool, true, false, IsSome, List, [], ◌∷◌, Option, Some, None, inl, inr, length, drop, replicate, slice_set, slice_index_or, slice_get, length-set, length-append, get_or, get_or-set_same, get_or-set_other, arith}
 use Rattle.std.specs.List.{position}
 use Rattle.std.specs.Option.{option_map}
 use Rattle.std.proofs.lemmas.Bool.{eqb-false, eqb-true, leb-false, leb-true}
@@ -172,6 +172,7 @@ IsSound-begun s seat line sound idle next = record {
           let of = is_line s.lines seat line first.within first.its in
           subst (λ (n : ℕ). IsLineOf s.lines seat n × (n < line + 1) × (reply_at s.replies n ≡ None)) same
           (of, omega arith, old.ahead line of first.behind);
+      last = λ j other e of before. let same : line ≡ j = cc in omega (arith, same, before);
     }
 
     by : (other : ℕ) → 1 ≤ other → other ≤ length s.places → (b : Bool) → (other == seat) ≡ b →
@@ -224,6 +225,7 @@ IsSound-replied s seat line reply sound under = record {
       ahead = λ j of past. kept j (λ e. let low = mine.1 in omega (arith, e, low, past)) ∙ old.ahead j of past;
       behind = λ j of before idle. by_line j of before (j == line) refl;
       under_way = λ j e. absurd (not_none j e);
+      last = λ j other e of before. absurd (not_none j e);
     }
       where
         by_line : (j : ℕ) → IsLineOf s.lines seat j → j < old.from → (b : Bool) → (j == line) ≡ b →
@@ -244,6 +246,7 @@ IsSound-replied s seat line reply sound under = record {
       ahead = λ j of past. kept j (apart j of) ∙ order.ahead j of past;
       behind = λ j of before idle. subst IsSome (sym (kept j (apart j of))) (order.behind j of before idle);
       under_way = λ j e. let (of, before, none) = order.under_way j e in (of, before, kept j (apart j of) ∙ none);
+      last = order.last;
     }
       where
         apart : (j : ℕ) → IsLineOf s.lines other j → j ≢ line
@@ -315,6 +318,7 @@ IsSound-start lines seats = record {
           get_or-replicate (length lines) j None None (its_line lines seat j of).0;
       behind = λ j of before idle. absurd (omega (arith, before));
       under_way = λ j e. absurd (not_none j e);
+      last = λ j other e of before. absurd (not_none j e);
     }
 
 -- ---- lines that are there

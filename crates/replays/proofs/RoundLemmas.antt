@@ -1,5 +1,5 @@
 -- Events of seats and stops, one after the other.
-use Rattle.std.proofs.Common.{refl, subst, sym, ℕ, zero, suc, ◌≡◌}
+use Rattle.std.proofs.Common.{refl, subst, sym, ℕ, zero, suc}
 use Rattle.replays.specs.Events.{ReplayState, Times}
 use Rattle.replays.specs.Rounds.{Comes, GoesOn}
 

@@ -1,20 +1,22 @@
 -- What events do: a line is begun, a step is made, the system is stopped. docs/SCRIPTS.md, "Schedules".
-use Rattle.std.specs.Prelude.{ℕ, zero, suc, ◌≡◌, ◌≢◌, ◌≤◌, ◌⊎◌, Bool, false, List, [], ◌∷◌, Option, Some, None, length, slice_get}
+use Rattle.std.specs.Prelude.{ℕ, zero, suc, ◌≡◌, ◌≢◌, ◌≤◌, ◌⊎◌, false, List, [], ◌∷◌, Option, Some, None, slice_get, ⊤}
 use Rattle.faults.specs.declared.TheConstants.{NO_MEMORY}
 use Rattle.queue_model.specs.declared.call.Call.{Call}
+use Rattle.type_chains.specs.Fits.{HasFittingCall}
 use Rattle.step_rules.specs.declared.kind.Kind.{Kind}
 use Rattle.bucket_page.specs.Pseudokeys.{sha_key}
 use Rattle.bucket_page.specs.declared.pseudokey.ShaKey.{ShaKey}
-use Rattle.interleaving_core.specs.Active.{ActiveView}
-use Rattle.interleaving_core.specs.Beginning.{HasCall, IsRefused, IsStopped}
-use Rattle.interleaving_core.specs.Driving.{IsDriven}
-use Rattle.interleaving_core.specs.Fault.{begin_number_of, step_number_of}
-use Rattle.interleaving_core.specs.Kernel.{KernelState, call_at}
-use Rattle.interleaving_core.specs.Owing.{IsRun, IsTurn, answer_told}
-use Rattle.interleaving_core.specs.Turn.{TakesTurn}
-use Rattle.interleaving_core.specs.declared.fault.BeginFault.{BeginFault}
-use Rattle.interleaving_core.specs.declared.step.Step.{Step}
-use Rattle.interleaving_core.specs.declared.step.Step.TheVariants as steps
+use Rattle.interleavings.specs.interleaving_core.Active.{ActiveView}
+use Rattle.interleavings.specs.interleaving_core.Beginning.{HasCall, IsRefused, IsStopped}
+use Rattle.interleavings.specs.interleaving_core.Driving.{IsDriven}
+use Rattle.interleavings.specs.interleaving_core.Fault.{begin_number_of, step_number_of}
+use Rattle.interleavings.specs.interleaving_core.Kernel.{KernelState, call_at}
+use Rattle.interleavings.specs.interleaving_core.Owing.{IsRun, IsTurn, answer_told}
+use Rattle.interleavings.specs.interleaving_core.Turn.{TakesTurn}
+use Rattle.interleavings.specs.interleaving_core.Words.{IsSeat}
+use Rattle.interleavings.specs.interleaving_core.declared.fault.BeginFault.{BeginFault}
+use Rattle.interleavings.specs.interleaving_core.declared.step.Step.{Step}
+use Rattle.interleavings.specs.interleaving_core.declared.step.Step.TheVariants as steps
 use Rattle.msgq_cli.specs.declared.command.Command.{Command}
 use Rattle.msgq_cli.specs.declared.command.Command.TheVariants as commands
 use Rattle.msgq_cli.specs.declared.line.Line.{Line}
@@ -46,6 +48,11 @@ told seat place (Some reply) s = replied seat place reply s
 
 -- ---- a line is begun
 
+-- the numbers of a command's call fit the fields of records
+abbrev pub HasFittingCommand : Command → Type 0
+HasFittingCommand commands.Stop = ⊤
+HasFittingCommand (commands.Call call) = HasFittingCall call
+
 -- a call does not begin: there is no memory for it, or the kernel refuses it
 abbrev pub RefusesBy : {K : Type 0} → ℕ → Call → ℕ → KernelState K → KernelState K → Type 0
 RefusesBy seat call fault old new =
@@ -70,8 +77,10 @@ deed_at_once (Some reply) = deeds.Replied
 
 -- the line of a seat at a place is begun, and replied where its command is over at once
 pub record BeginsLine (seat place : ℕ) (did : Deed) (old new : ReplayState) : Type 0 where
+  pub seat_is : IsSeat old.kernel.locks seat
   pub line : Line
   pub stands : slice_get old.script.lines place ≡ Some line
+  pub fitting : HasFittingCommand line.command
   pub reply : Option Reply
   pub kernel : BeginsCommand seat line.command reply old.kernel new.kernel
   pub script : new.script ≡ told seat place reply (begun seat place old.script)
@@ -106,6 +115,7 @@ reply_by (steps.Fault fault) = Some (Failed (step_number_of fault))
 
 -- one step of the call under way, which is a step of its machine, or none while the call waits
 pub record StepsLine (seat place : ℕ) (did : Deed) (old new : ReplayState) : Type 0 where
+  pub seat_is : IsSeat old.kernel.locks seat
   pub step : Step
   pub turn : IsTurn seat step old.kernel new.kernel
   pub makes : (a : ActiveView) → call_at old.kernel.seats seat ≡ Some a → old.kernel.failed ≡ false →
@@ -140,6 +150,7 @@ IsReadied seat (Some place) old new = new ≡ old
 
 -- steps of the call under way for as long as it moves, as a drive of the kernel makes them
 pub record DrivesLine (seat place : ℕ) (old new : ReplayState) : Type 0 where
+  pub seat_is : IsSeat old.kernel.locks seat
   pub step : Step
   pub run : IsRun seat (answer_told step) old.kernel new.kernel
   pub driven : IsDriven sha_key seat step old.kernel new.kernel

@@ -1,6 +1,6 @@
 -- Where each seat is in a script, and what the lines were replied. docs/SCRIPTS.md, "Schedules".
-use Rattle.std.specs.Prelude.{ℕ, zero, suc, ◌≡◌, ◌≢◌, ◌<◌, ◌≤◌, ◌+◌, ◌==◌, ◌&&◌, not, Bool, true, IsSome, List, [], ◌∷◌, ◌++◌, length, drop, replicate, Option, Some, None, is_some, slice_get, slice_index_or, slice_set}
-use Rattle.std.specs.List.{list_all, position}
+use Rattle.std.specs.Prelude.{ℕ, zero, suc, ◌≡◌, ◌≢◌, ◌<◌, ◌≤◌, ◌+◌, ◌==◌, ◌&&◌, not, Bool, IsSome, List, [], ◌∷◌, ◌++◌, length, drop, replicate, Option, Some, None, is_some, slice_get, slice_index_or, slice_set}
+use Rattle.std.specs.List.{position}
 use Rattle.std.specs.Option.{option_map}
 use Rattle.msgq_cli.specs.declared.line.Line.{Line}
 use Rattle.msgq_cli.specs.declared.reply.Reply.{Reply}
@@ -85,6 +85,8 @@ pub record IsInOrder (lines : List Line) (replies : List (Option Reply)) (seat :
       IsSome (reply_at replies line)
   pub under_way : (line : ℕ) → at.under_way ≡ Some line →
       IsLineOf lines seat line × (line < from) × (reply_at replies line ≡ None)
+  -- which was begun last
+  pub last : (line other : ℕ) → at.under_way ≡ Some line → IsLineOf lines seat other → other < from → other ≤ line
 
 pub record IsSound (s : ProgressState) : Type 0 where
   pub as_many : length s.replies ≡ length s.lines

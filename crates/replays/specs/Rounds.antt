@@ -1,5 +1,5 @@
 -- Rounds behind a schedule: an event a seat, in order of seats. docs/SCRIPTS.md, "Schedules".
-use Rattle.std.specs.Prelude.{ℕ, ◌≡◌, ◌⊎◌, ◌≤◌}
+use Rattle.std.specs.Prelude.{ℕ, ◌⊎◌}
 use Rattle.replays.specs.Events.{IsEvent, ReplayState, Stops, Times}
 use Rattle.replays.specs.declared.deed.Deed.{Deed}
 

@@ -3,7 +3,7 @@
 ghost use Rattle.std.specs.Prelude.{◌≡◌};
 ghost use Rattle.replays.specs.Events.{deed_by, reply_by};
 
-use interleaving_core::Step;
+use interleavings::interleaving_core::Step;
 use msgq_cli::Reply;
 use step_rules::Kind;
 

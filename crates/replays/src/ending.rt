@@ -1,46 +1,75 @@
 //! How a replay ends: its replies are printed, and its kernel is closed.
 
-ghost use Rattle.std.specs.Prelude.{◌≡◌};
-ghost use Rattle.replays.specs.Replays.{ClosesWith, EndsWith, IsReplayed};
+ghost use Rattle.std.specs.Prelude.{◌≡◌, None};
+ghost use Rattle.std.specs.Option.{option_map};
+ghost use Rattle.replays.specs.Replays.{EndsWith, IsClosedWell, IsReplayed, MayEndWith};
 
 use crate::printing::print_replies;
 use crate::replay::Replay;
 use crate::rounds::finish;
 use bucket_page::ShaKey;
-use interleaving_core::{BUSY, Kernel, NotClosed};
+use interleavings::interleaving_core::{BUSY, Kernel, NotClosed};
+use interleavings::{
+    a_kernel_led_answers_as_plain_lists, a_kernel_led_closes_on_its_file, events_lead_on,
+};
 use msgq_cli::{Ending, Output, Stage, fail};
 use page_device::PageDevice;
 use schedules::Event;
 use std::io::Write;
 
-/// Plays the words of a schedule, and then rounds until no line is left, prints the replies that there
-/// are in the order of the script, and closes the kernel. Where a line is left that no seat can finish
-/// the kernel is let go, and fault 63 is printed behind the replies.
+/// What a replay leaves.
+#[derive(Drop)]
+pub struct Replayed<D> {
+    /// The device of its kernel; none where that was let go.
+    pub device: Option<D>,
+    /// How it ended.
+    pub ending: Ending,
+}
+
+/// Plays the words of a schedule, and then rounds until no line is left, prints the replies that
+/// there are in the order of the script, and closes the kernel. Where a line is left that no seat
+/// can finish the kernel is let go, and fault 63 is printed behind the replies.
+///
+/// Whatever the schedule: where the kernel was led from a lawful system, as one is that was opened
+/// over an honest device, the answers are those of plain lists asked one call at a time, and seat
+/// by seat the lines are replied its part of them. Where no fault is told behind the replies, an
+/// honest device has the file of the system that the lists come to.
 pub fn run<D: PageDevice + Drop, W: Write + Drop>(
     replay: Replay<D>,
     events: &[Event],
     output: &mut Output<W>,
-) -> Ending
-    ensures { IsReplayed events.now replay.entry output.old output.new result }
+) -> Replayed<D>
+    ensures { IsReplayed events.now replay.entry output.old output.new
+        (option_map D.content result.device) result.ending }
 {
+    events_lead_on::<ShaKey>();
+    a_kernel_led_answers_as_plain_lists::<ShaKey>();
+    a_kernel_led_closes_on_its_file::<ShaKey>();
     let mut replay = replay;
     replay.play_all(events);
     let is_over = finish(&mut replay);
+    replay.is_sound();
     let (kernel, script) = replay.into_parts();
     script.keeps_order();
     let so_far = print_replies(script.lines(), script.replies(), output);
-    let fault = if is_over { close(kernel) } else { Some(BUSY) };
-    end(fault, so_far, output)
+    let (device, fault) = close(kernel, is_over);
+    let ending = end(fault, so_far, output);
+    Replayed { device, ending }
 }
 
-/// Closes a kernel, and tells why it was not closed well, if it was not.
-fn close<D: PageDevice + Drop>(kernel: Kernel<D, ShaKey>) -> Option<u8>
-    ensures { ClosesWith kernel result }
+/// Closes a kernel, or lets it go where a line is left, and tells why it was not closed well, if it
+/// was not.
+fn close<D: PageDevice + Drop>(kernel: Kernel<D, ShaKey>, is_over: bool) -> (Option<D>, Option<u8>)
+    ensures closes { MayEndWith is_over kernel result.1 }
+    ensures well { result.1 ≡ None → IsClosedWell kernel (option_map D.content result.0) }
 {
+    if !is_over {
+        return (None, Some(BUSY));
+    }
     match kernel.close() {
-        Ok(_) => None,
-        Err(NotClosed::Busy(_)) => Some(BUSY),
-        Err(NotClosed::Fault(_, fault)) => Some(fault.number()),
+        Ok(closed) => (Some(closed.device), None),
+        Err(NotClosed::Busy(_)) => (None, Some(BUSY)),
+        Err(NotClosed::Fault(closed, fault)) => (Some(closed.device), Some(fault.number())),
     }
 }
 

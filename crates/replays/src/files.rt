@@ -1,13 +1,13 @@
 //! Scripts replayed on files: the subcommand of the program.
 
 ghost use Rattle.std.specs.Prelude.{◌≡◌};
-ghost use Rattle.interleaving_core.specs.Fault.{open_number_of};
-ghost use Rattle.msgq_cli.specs.Serves.{IsFaultAlone};
+ghost use Rattle.interleavings.specs.interleaving_core.Fault.{open_number_of};
+ghost use Rattle.msgq_cli.specs.Refusals.{IsFaultAlone};
 ghost use Rattle.replays.specs.Replays.{IsScheduleRefused, ReplaysFile};
 
 use crate::ending::run;
 use crate::opening::open;
-use interleaving_core::{BUSY, OpenFault};
+use interleavings::interleaving_core::{BUSY, OpenFault};
 use msgq_cli::{
     Ending, Failure, Output, Stage, complain, complain_of, complain_unopened, fail, read_file,
     read_script, refuse, unread,
@@ -69,7 +69,7 @@ where
     match FileDevice::open(rt, sources.file) {
         Ok(device) => match open(rt.alloc(), device, &script) {
             Ok(replay) => {
-                let ending = run(replay, events.as_slice(), output);
+                let ending = run(replay, events.as_slice(), output).ending;
                 complain_of_replay(sources.file, ending, errors);
                 ending
             }

@@ -13,8 +13,8 @@ mod replay;
 mod rounds;
 
 pub use deed::Deed;
-pub use ending::run;
+pub use ending::{Replayed, run};
 pub use files::{Sources, replay_file};
-pub use opening::open;
+pub use opening::{open, open_kernel};
 pub use progress::{Place, Progress};
 pub use replay::{MOST_STEPS, Replay};

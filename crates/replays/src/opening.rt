@@ -1,27 +1,33 @@
 //! A kernel is opened for the seats of a script.
 
-ghost use Rattle.std.specs.Prelude.{◌≡◌, ◌≤◌, IfErr, IfOk, IsTrue, length};
+ghost use Rattle.std.specs.Prelude.{◌≡◌, ◌≢◌, ◌≤◌, IfErr, IfOk, IsTrue, length};
 ghost use Rattle.bucket_page.specs.Pseudokeys.{sha_key};
-ghost use Rattle.interleaving_core.specs.Beginning.{MayRefuse};
+ghost use Rattle.interleavings.specs.interleaving_core.Beginning.{HasSystem, MayRefuse};
+ghost use Rattle.interleavings.specs.interleaving_core.Fault.{device_failed};
+ghost use Rattle.interleavings.specs.Laws.{AreFittingCallers};
 ghost use Rattle.msgq_cli.specs.Scripts.{greatest_seat};
+ghost use Rattle.page_device.specs.Device.{HasRisen};
 ghost use Rattle.page_locks.specs.declared.lock_table.TheConstants.{MAX_SEATS};
-ghost use Rattle.replays.specs.Replays.{IsOpenedFor, callers_of};
+ghost use Rattle.replays.specs.Replays.{IsOpenedFor, IsOpenedForSeats, callers_of};
 
 use crate::progress::Progress;
 use crate::replay::Replay;
 use bucket_page::ShaKey;
-use interleaving_core::{FRAMES_BESIDE, Kernel, OpenFault};
+use interleavings::a_kernel_opens_led;
+use interleavings::interleaving_core::{FRAMES_BESIDE, Kernel, OpenFault};
 use msgq_cli::{MOST_FRAMES, Script};
 use page_device::PageDevice;
 use queue_model::{Caller, NoMemory};
 use std::alloc::Global;
+use type_chains::a_callers_numbers_fit;
 
 /// The frames that are needed for each seat.
 const FRAMES_A_SEAT: usize = 4;
 
 /// Opens the file of a device for the seats of a script, of which no line was begun. All memory for
 /// the seats and for the replies is taken here. The file is checked first, and refused by the first
-/// thing that is wrong with it.
+/// thing that is wrong with it. The kernel that is opened of an honest device is led from the
+/// system whose file it has.
 pub fn open<'a, D: PageDevice + Drop>(
     alloc: Global,
     device: D,
@@ -31,19 +37,51 @@ pub fn open<'a, D: PageDevice + Drop>(
     ensures refused { IsTrue (D.is_honest device) →
         IfErr result (MayRefuse sha_key (D.content device)) }
 {
+    a_kernel_opens_led::<ShaKey>();
     let seats = seats_of(script);
-    let Ok(callers) = callers(alloc, script, seats) else {
-        return Err(OpenFault::NoMemory);
-    };
     let Ok(progress) = Progress::new(alloc, script.lines(), seats) else {
         return Err(OpenFault::NoMemory);
     };
-    let least = FRAMES_A_SEAT * usize::from(seats) + FRAMES_BESIDE;
-    let frames = (device.pages() as usize).clamp(least, MOST_FRAMES);
-    match Kernel::open(alloc, device, ShaKey, callers.as_slice(), frames) {
+    match open_kernel(alloc, device, script) {
         Ok(kernel) => Ok(Replay::new(kernel, progress)),
         Err((_, fault)) => Err(fault),
     }
+}
+
+/// Opens a kernel on the file of a device for the seats of a script, from seat 1 to the greatest,
+/// with as many frames as the file has pages, within what the seats need and `MOST_FRAMES`. The
+/// file is checked first, and refused by the first thing that is wrong with it. Each refusal gives
+/// the device back, and nothing was written.
+///
+/// # Errors
+///
+/// `NoMemory` where there is none for the seats or the frames, else what is wrong with the file;
+/// never `TooFewFrames`.
+pub fn open_kernel<D: PageDevice + Drop>(
+    alloc: Global,
+    device: D,
+    script: &Script,
+) -> Result<Kernel<D, ShaKey>, (D, OpenFault)>
+    ensures ok { IfOk result
+        (IsOpenedForSeats script.now (D.content device) (D.is_honest device)) }
+    ensures file { IsTrue (D.is_honest device) →
+        IfOk result (λ _. HasSystem sha_key (D.content device)) }
+    ensures refused { IsTrue (D.is_honest device) → IfErr result (λ refusal.
+        MayRefuse sha_key (D.content device) refusal.1) }
+    ensures enough { IfErr result (λ refusal. refusal.1 ≢ OpenFault.TooFewFrames) }
+    ensures err { IfErr result (λ refusal. (D.content refusal.0 ≡ D.content device)
+        × (D.is_honest refusal.0 ≡ D.is_honest device)) }
+    ensures cause { IfOk result (λ k. D.fault_count device ≤ k.pool.faults)
+        × IfErr result (λ refusal. refusal.1 ≡ device_failed →
+        HasRisen (D.fault_count device) (D.fault_count refusal.0)) }
+{
+    let seats = seats_of(script);
+    let Ok(callers) = callers(alloc, script, seats) else {
+        return Err((device, OpenFault::NoMemory));
+    };
+    let least = FRAMES_A_SEAT * usize::from(seats) + FRAMES_BESIDE;
+    let frames = (device.pages() as usize).clamp(least, MOST_FRAMES);
+    Kernel::open(alloc, device, ShaKey, callers.as_slice(), frames)
 }
 
 /// How many seats a script has.
@@ -60,10 +98,13 @@ fn seats_of(script: &Script) -> u8
 fn callers(alloc: Global, script: &Script, seats: u8) -> Result<Vec<Caller>, NoMemory>
     ensures many { IfOk result (λ made. length made.items ≡ seats) }
     ensures ok { IfOk result (λ made. made.items ≡ callers_of script.now.ids seats) }
+    ensures fitting { IfOk result (λ made. AreFittingCallers made.items) }
 {
     let mut made = Vec::with_capacity(alloc, usize::from(seats))?;
     for place in 0..seats {
-        made.push(script.caller(place + 1))?;
+        let caller = script.caller(place + 1);
+        a_callers_numbers_fit(&caller);
+        made.push(caller)?;
     }
     Ok(made)
 }

@@ -4,13 +4,14 @@ ghost use Rattle.std.specs.Prelude.{◌≡◌, ◌↔◌, IsTrue, length};
 ghost use Rattle.std.specs.List.{list_all};
 ghost use Rattle.replays.specs.Events.{Drives, HasEvent, IsEvent, IsOtherMove, IsReadied, Plays, PlaysAll, Reaches, Stops};
 ghost use Rattle.replays.specs.Events.{StepsUntil, Times, line_under_way};
+ghost use Rattle.replays.specs.Journal.{IsSoundReplay};
 ghost use Rattle.replays.specs.Places.{is_idle_for_good};
 
 use crate::deed::Deed;
 use crate::line_events::{begin_next, drive_line, step_line};
 use crate::progress::Progress;
 use bucket_page::ShaKey;
-use interleaving_core::Kernel;
+use interleavings::interleaving_core::Kernel;
 use page_device::PageDevice;
 use schedules::Event;
 use std::marker::Model;
@@ -27,20 +28,20 @@ pub struct Replay<'a, D: PageDevice> {
 }
 
 impl<'a, D: PageDevice> Model for Replay<'a, D> {
-    ghost use Rattle.std.specs.Prelude.{◌≡◌, length};
     ghost use Rattle.replays.specs.Events.{ReplayState};
+    ghost use Rattle.replays.specs.Journal.{IsSoundReplay};
 
     ghost Value = { ReplayState };
 
     ghost view = { λ r. record { kernel = r.kernel; script = r.script } };
 
-    ghost invariant = { λ r. length r.script.places ≡ length r.kernel.locks };
+    ghost invariant = { λ r. IsSoundReplay (record { kernel = r.kernel; script = r.script }) };
 }
 
 impl<'a, D: PageDevice + Drop> Replay<'a, D> {
-    /// A script on a kernel that has as many seats.
+    /// A script on a kernel that has as many seats, and has decided what its lines were replied.
     pub(crate) fn new(kernel: Kernel<D, ShaKey>, script: Progress<'a>) -> Replay<'a, D>
-        requires { length script.places ≡ length kernel.locks }
+        requires { IsSoundReplay (record { kernel = kernel; script = script }) }
         ensures kernel { result.kernel ≡ kernel }
         ensures script { result.script ≡ script.entry }
     {
@@ -54,6 +55,14 @@ impl<'a, D: PageDevice + Drop> Replay<'a, D> {
     {
         let Replay { kernel, script } = self;
         (kernel, script)
+    }
+
+    /// What the lines of a seat were answered is always its part of the journal, but for an entry
+    /// that it is still owed.
+    pub fn is_sound(&self)
+        ensures { IsSoundReplay self.now }
+    {
+        let _ = &self.script;
     }
 
     /// Whether no seat has a line that is under way or left.
@@ -75,8 +84,8 @@ impl<'a, D: PageDevice + Drop> Replay<'a, D> {
         self.script.lines().len()
     }
 
-    /// One event of a seat: where it is idle its next line is begun, else one step is made. A number
-    /// that is no seat's does nothing.
+    /// One event of a seat: where it is idle its next line is begun, else one step is made. A
+    /// number that is no seat's does nothing.
     pub fn event(&mut self, seat: u8) -> Deed
         ensures { IsEvent seat result self.old self.new }
     {

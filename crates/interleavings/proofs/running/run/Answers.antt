@@ -22,7 +22,8 @@ returns-clause-told g c =
 pub returns-clause-headline : goal.returns-clause-headline
 returns-clause-headline g c =
     let runs = (all_played g.K.PseudoKey.of_key c.args.events.items c.loop-event.yielded _ _
-    c.loop-event.outcomes.items _ c.args.kernel.now c.loop-event.kernel c.loop-event.invariant.2 c.in-None.ensures.steps.0) in
+    c.loop-event.outcomes.items _ c.args.kernel.now c.loop-event.kernel c.loop-event.invariant.2
+    c.in-None.ensures.steps.0) in
     record {
       led = λ base led fits. c.events_lead_on.ensures (g.K.PseudoKey.of_key c.args.kernel.now.keys) base
           c.args.events.items c.loop-event.outcomes.items c.args.kernel.now c.loop-event.kernel c.requires fits led

@@ -1,4 +1,4 @@
-use Rattle.std.proofs.Common.{arith, rules}
+use Rattle.std.proofs.Common.{rules}
 use Rattle.replays.proofs.PlaceLemmas.{IsSound-replied, under_is_seat, under_within, with_at}
 use Rattle.replays.proofs.progress.Progress.reply.Goals as goal
 

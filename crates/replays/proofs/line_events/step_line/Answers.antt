@@ -1,0 +1,19 @@
+use Rattle.std.proofs.Common.{◌∙◌, ap, subst, ℕ, ◌≤◌, Option}
+use Rattle.msgq_cli.specs.declared.reply.Reply.{Reply}
+use Rattle.replays.specs.Events.{told}
+use Rattle.replays.proofs.PlaceLemmas.{under_is_seat}
+use Rattle.replays.proofs.line_events.step_line.Goals as goal
+
+-- the step is one of a seat, and its line is told what the seat was
+pub returns : goal.returns
+returns g c =
+    let is = under_is_seat c.args.script.now.places c.args.seat c.args.place c.requires.under_way in
+    record {
+      seat_is = (is.0, subst (λ (n : ℕ). c.args.seat ≤ n) c.requires.seats is.1);
+      step = c.step-step.result;
+      turn = c.step-step.ensures.turn;
+      makes = c.step-step.ensures.makes;
+      script = c.tell.ensures
+          ∙ ap (λ (r : Option Reply). told c.args.seat c.args.place r c.args.script.now) c.reply_by.ensures;
+      did_is = c.deed_by-deed.ensures;
+    }

@@ -1,0 +1,25 @@
+use Rattle.std.proofs.Common.{◌≡◌, take}
+use Rattle.bucket_page.specs.Pseudokeys.{sha_key}
+use Rattle.bucket_page.specs.declared.pseudokey.ShaKey.{ShaKey}
+use Rattle.lone_kernel.specs.Lone.{RestsOver}
+use Rattle.lone_kernel.specs.Words.{KernelState, State}
+use Rattle.msgq_cli.specs.Outputs.{OutputState}
+use Rattle.msgq_cli.specs.Scripts.{Parts}
+use Rattle.msgq_cli.specs.declared.ending.Ending.{Ending}
+use Rattle.script_runs.specs.Runs.{IsPrinted, IsRun, StandsOn}
+use Rattle.script_runs.proofs.runs.run.Given as goal
+
+-- a script was run from what a kernel held, and its replies printed
+pub record IsRunning (old now : KernelState ShaKey) (script : Parts) (before after : OutputState) (ending : Ending)
+    : Type 0 where
+  pub served : (s : State) → RestsOver sha_key s old →
+      IsRun script s (StandsOn old.pool.faults now) before after ending
+  pub lines : IsPrinted script before after ending
+  pub callers : now.callers ≡ old.callers
+  pub honest : now.pool.honest ≡ old.pool.honest
+
+-- the script up to the next line was
+abbrev pub invariant-loop-line : goal.invariant-loop-line
+invariant-loop-line g l =
+    IsRunning l.initial.kernel l.kernel (record { ids = l.script.ids; lines = take l.line-index l.line-items })
+    l.initial.output l.output l.ending
