@@ -3,7 +3,7 @@ use Rattle.std.proofs.Common.{ℕ, zero, suc, ◌≡◌, ◌+◌, ◌*◌, ◌<�
 use Rattle.file_walk.proofs.Names.{BUCKET, Bucket, Contains, DIRECTORY, DIRECTORY_PAGES, FIRST_DIRECTORY_PAGE, GREATEST_DEPTH, HasLayout, IsChain, IsPlaced, IsSoundFile, IsSoundOn, LEAST_PAGES, Malformed, PAGE_ENTRIES, PageKind, Quiet, ROOT_PAGE, RecordKey, TOMBSTONE, append-nil, bucket_at, chain_is, entries_area, entries_at, entries_of, flat_map, flat_map-cons, four_at, get_or-drop, get_or-replicate, get_or-take, get_or_append_left, has_bucket, is_bucket, length-append, length-drop, length-replicate, length-take-le, nat_tests, numbers_of, partition_tiles, payload_of, quiet_exact, range_at, sound_by, times, zero-mul}
 use Rattle.bucket_page.specs.declared.page.PageKind.TheVariants as kinds
 use Rattle.bucket_page.specs.Reading as reading
-use Rattle.file_walk.specs.Files.{page_on, said_by, said_on, entries_on, pages_on, header_on, file_of}
+use Rattle.file_walk.specs.Files.{page_on, said_by, said_on, entries_on, pages_on, file_of}
 use Rattle.file_walk.specs.Files as files
 use Rattle.file_walk.specs.Laws.{IsQuietFile}
 use Rattle.file_walk.specs.Order.{AreRight, IsRightPage, is_directory, may_stand, after_reading}

@@ -36,9 +36,17 @@ impl<'a> Model for Progress<'a> {
 
     ghost Value = { ProgressState };
 
-    ghost view = { λ p. record { lines = p.lines.now; places = p.places.items; replies = p.replies.items } };
+    ghost view = { λ p. record {
+      lines = p.lines.now;
+      places = p.places.items;
+      replies = p.replies.items;
+    } };
 
-    ghost invariant = { λ p. IsSound (record { lines = p.lines.now; places = p.places.items; replies = p.replies.items }) };
+    ghost invariant = { λ p. IsSound (record {
+      lines = p.lines.now;
+      places = p.places.items;
+      replies = p.replies.items;
+    }) };
 }
 
 impl<'a> Progress<'a> {

@@ -14,5 +14,6 @@ returns-in_ok-is_given-in-Some-Given c =
     let e = c.tell_given.ensures in
     hears_given c.args.call.now c.args.inquiry.now c.tell_given.new.inquiry c.args.room.now c.args.room.now
     c.args.found c.tell_given.result e.caller e.fewer e.follows refl c.in-Some-Given.id
-    c.in_ok-is_given-in-Some-Given.field-0 (sym c.wants.ensures ∙ c.in-Some-Given.is ∙ ap Some c.in-Some-Given.field-0-is) refl
+    c.in_ok-is_given-in-Some-Given.field-0
+    (sym c.wants.ensures ∙ c.in-Some-Given.is ∙ ap Some c.in-Some-Given.field-0-is) refl
     (λ counter is. sym c.in_ok-is_given-in-Some-Given.was ∙ c.is_given.ensures counter is) e.told

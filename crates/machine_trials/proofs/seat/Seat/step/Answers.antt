@@ -1,5 +1,4 @@
 -- A seat that has ended gives the lock of its record back, and no more is said of its row.
-use Rattle.page_locks.specs.Table.{row_of}
 use Rattle.machine_trials.specs.Seats.{guarded, machine_locks}
 use Rattle.machine_trials.proofs.SeatLemmas.{Follows-gone}
 use Rattle.machine_trials.proofs.seat.Seat.step.Goals as goal

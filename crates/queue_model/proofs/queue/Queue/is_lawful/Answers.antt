@@ -1,8 +1,5 @@
 -- Messages, bytes and limits are all that makes a queue lawful.
-use Rattle.std.proofs.Common.{◌≤◌, refl, arith}
-use Rattle.limits.specs.declared.TheConstants.{END_OF_SERIALS, MAX_MESSAGES, MAX_QBYTES}
-use Rattle.queue_model.specs.Selection.{total_bytes}
-use Rattle.std.specs.Prelude.{length}
+use Rattle.std.proofs.Common.{refl, arith}
 use Rattle.queue_model.proofs.PartsLemmas.{few_bytes}
 use Rattle.queue_model.proofs.queue.Queue.is_lawful.Goals as goal
 
