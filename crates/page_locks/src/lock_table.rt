@@ -1,6 +1,6 @@
 //! The table: who holds what.
 
-ghost use Rattle.std.specs.Prelude.{◌≡◌, ◌<◌, ◌≤◌, ◌↔◌, [], length, replicate, None, IsSome, IsTrue, IfOk};
+ghost use Rattle.std.specs.Prelude.{◌≡◌, ◌<◌, ◌≤◌, ◌-◌, ◌↔◌, [], length, replicate, slice_get, None, IsSome, IsTrue, IfOk};
 ghost use Rattle.page_locks.specs.Grants.{OnGranted, IfBlocked, IsBlocked};
 ghost use Rattle.page_locks.specs.Table.{row_of, held, with_lock, without_lock, with_kind};
 ghost use Rattle.page_locks.specs.Table.{IsSeat, Opposes, IsOpposed, IsLawful, IsPairwiseCompatible};
@@ -69,6 +69,14 @@ impl LockTable {
         ensures { IsTrue result ↔ (MAX_LOCKS ≤ length (row_of self.now seat)) }
     {
         self.row(seat).len() >= MAX_LOCKS
+    }
+
+    /// The lock that the seat was granted last, of those that it holds.
+    pub fn last(&self, seat: u8) -> Option<Lock>
+        requires seat { IsSeat self.now seat }
+        ensures { result ≡ slice_get (row_of self.now seat) (length (row_of self.now seat) - 1) }
+    {
+        self.row(seat).last()
     }
 
     /// The kind in which the seat holds the name.

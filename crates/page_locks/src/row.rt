@@ -1,6 +1,6 @@
 //! The locks of one seat.
 
-ghost use Rattle.std.specs.Prelude.{◌≡◌, ◌<◌, [], ◌∷◌, ◌++◌, length};
+ghost use Rattle.std.specs.Prelude.{◌≡◌, ◌<◌, ◌-◌, [], ◌∷◌, ◌++◌, length, slice_get};
 ghost use Rattle.std.specs.List.{position};
 ghost use Rattle.page_locks.specs.Locks.{kind_of, is_on, without, converted, HasNoNameTwice};
 
@@ -41,6 +41,13 @@ impl Row {
         ensures { result ≡ length self.now }
     {
         self.locks.len()
+    }
+
+    /// The lock that was granted last, of those that there are.
+    pub fn last(&self) -> Option<Lock>
+        ensures { result ≡ slice_get self.now (length self.now - 1) }
+    {
+        self.locks.as_slice().last().copied()
     }
 
     /// The kind in which the name is held.
