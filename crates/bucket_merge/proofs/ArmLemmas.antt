@@ -145,6 +145,7 @@ module _ (seat : ℕ) (pool : PoolState) (locks : Table) (v : MergeView) where
                     (subst (λ (xs : List Lock). AllAnchored xs (facts_at (GrantAlone j) v.approach)) (sym row')
                     (ap may_write (directory_held before bare Exclusive), tt));
                 does = c;
+                led = tt;
               };
             };
         answer = λ hash change keyed sees fine before_ up. absurd cc;

@@ -6,6 +6,7 @@ pub mod CompareLemmas
 pub mod ApproachLemmas
 pub mod CallerLemmas
 pub mod EntryLemmas
+pub mod FactLemmas
 pub mod FreeLemmas
 pub mod JoinLemmas
 pub mod LockArms

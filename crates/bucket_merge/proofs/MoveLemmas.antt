@@ -3,11 +3,14 @@ use Rattle.std.proofs.Common.{◌≡◌, refl, sym, ap, ◌∙◌, subst, ℕ, �
 use Rattle.bucket_merge.proofs.Names.{AllAnchored, AllKnown, AllKnown-relocked, Contains, DoesTied, FileFault, IsDevicesFault, IsDone, IsHeld-some, IsOpposed, IsReached, IsReady, IsSeat, IsTrue, KeepsContents, KeepsOthers, KeepsOthers-same, Kind, MAX_LOCKS, MayBeGranted, OnlyReads, OnlyWrites, Releases, Remove, StandsInWay, busy, held, is_of_its_kind, kind_keeps, kind_keeps_contents, kind_of, lock_of, row_of-same, true≢false, turn_keeps, with_lock, with_row-own, without, without_lock}
 use Rattle.step_rules.specs.declared.kind.Kind.TheVariants as kinds
 use Rattle.stale_search.proofs.StepLemmas.{granted as granted_lock, read as read_page}
-use Rattle.bucket_merge.specs.Words.{RecordKey, Lock, LockKind, LockName, Directory, Page, Table, row_of, with_row, PoolState, store_of, Store, Change, Moved, Blocked, Fault, Ended, World, Ask, ForLock, ApproachView, HasNoFileLock, Sees, world, MergePlace}
+use Rattle.bucket_merge.specs.Words.{RecordKey, Lock, LockKind, LockName, Directory, Page, Table, row_of, with_row, PoolState, store_of, Store, Change, Progress, Moved, Blocked, Fault, Ended, World, Ask, ForLock, ApproachView, HasNoFileLock, Sees, world, MergePlace}
 use Rattle.bucket_merge.specs.Places.{MergeView, locks_at, is_done, is_given_up}
 use Rattle.bucket_merge.specs.Facts.{facts_at, ask_at, left_at, merge_turn}
 use Rattle.bucket_merge.specs.Steps.{KeepsAim, MakesStep, TurnsAwayAt}
+use Rattle.bucket_merge.proofs.FactLemmas.{merge_knows_no_way}
 use Rattle.bucket_merge.proofs.RowLemmas.{held_last, without_last}
+use Rattle.step_rules.proofs.SearchLemmas.{no_way}
+use Rattle.step_rules.specs.Searching.{WalksTo}
 
 pub not_both : {b : Bool} → b ≡ false → b ≡ true → ⊥
 not_both {b} off on = true≢false (sym on ∙ off)
@@ -48,6 +51,11 @@ module _ (seat : ℕ) (key : RecordKey) (a : ApproachView) (pool : PoolState) (l
   abbrev pub IfSeen : MergePlace → ((RecordKey → ℕ) → Change → Type 0) → Type 0
   IfSeen place P = (hash : RecordKey → ℕ) (change : Change) → Sees hash seat (facts_at place a) pool locks change →
       P hash change
+
+  -- it is on no search
+  merge_walks : (ask : Option Ask) (did : Progress FileFault) (old new : World) (place : MergePlace) →
+      WalksTo seat ask did old new (facts_at place a)
+  merge_walks ask did old new place = no_way seat ask did old new (facts_at place a) (merge_knows_no_way place a)
 
   moved_aim : (place place' : MergePlace) (kind : Kind) → is_done place ≡ false →
       KeepsAim {F = FileFault} (Moved kind) (view_at place) (view_at place')
@@ -94,6 +102,7 @@ module _ (seat : ℕ) (key : RecordKey) (a : ApproachView) (pool : PoolState) (l
         others = KeepsOthers-same hash seat (was change) (was change) sees.sound refl;
         known = sees.known;
         does = (subst (λ (o : Option Ask). StandsInWay o seat other (was change)) (sym asked) (stands change), refl);
+        led = merge_walks (ask_at place a) (Blocked other) (was change) (was change) place;
       };
     };
     answer = λ hash change keyed sees fine before_ up. absurd (not_both before_ up);
@@ -124,7 +133,8 @@ module _ (seat : ℕ) (key : RecordKey) (a : ApproachView) (pool : PoolState) (l
           step = rw (asked, facts)
               (granted_lock hash seat (facts_at place a) pool locks change sees (Some (Remove key)) locks'
               (Page page) kind
-              seated room fresh nobody (λ n same. subst (IsReached (was change)) (let e : page ≡ n = cc in e)
+              (merge_walks (Some (ForLock (Page page) kind)) (Moved kinds.Grant) (was change)
+              (world pool.images locks' change) place) seated room fresh nobody (λ n same. subst (IsReached (was change)) (let e : page ≡ n = cc in e)
               (reached hash change sees)) (may hash change sees) is);
         };
         answer = λ hash change keyed sees fine before_ up. absurd (not_both on up);
@@ -150,7 +160,8 @@ module _ (seat : ℕ) (key : RecordKey) (a : ApproachView) (pool : PoolState) (l
     step = λ hash change before keyed bare row sees fine. record {
       contents = read_holds pool' (reads.images sees.honest);
       step = read_page hash seat (facts_at place a) pool locks change sees None kind (merge_turn (view_at place))
-          (facts_at place' a) pool' reads (known hash change sees) (does before bare row hash change);
+          (facts_at place' a) pool' reads (known hash change sees) (does before bare row hash change)
+          (merge_walks (ask_at place a) (Moved kind) (was change) (was change) place');
     };
     answer = λ hash change keyed sees fine. subst (λ (images : List (List ℕ)).
         TurnsAwayAt hash seat (view_at place) (view_at place') (world images locks change))
@@ -215,6 +226,7 @@ module _ (seat : ℕ) (key : RecordKey) (a : ApproachView) (pool : PoolState) (l
                 (turn_keeps kind hash (merge_turn (view_at place)) seat (was change) new sees.sound w.does);
             known = subst (λ (x : World). AllKnown seat x (facts_at place' a)) (sym is) w.known;
             does = subst (DoesTied hash (merge_turn (view_at place)) kind seat (was change)) (sym is) w.does;
+            led = merge_walks (ask_at place a) (Moved kind) (was change) (world pool'.images locks w.after) place';
           };
         };
     answer = λ hash change keyed sees fine before_ up. absurd (not_both on up);
@@ -265,6 +277,8 @@ module _ (seat : ℕ) (key : RecordKey) (a : ApproachView) (pool : PoolState) (l
                     (AllKnown-relocked seat (was change) locks' (facts_at place' a) (known hash change sees)
                     (subst (λ (xs : List Lock). AllAnchored xs (facts_at place' a)) (sym row') (anchored before bare)));
                 does = rw same r;
+                led = merge_walks (ask_at place a) (Moved kinds.Release) (was change)
+                    (world pool'.images locks' change) place';
               };
             };
         answer = λ hash change keyed sees fine before_ given. absurd (not_both before_ (up given));
@@ -292,6 +306,7 @@ module _ (seat : ℕ) (key : RecordKey) (a : ApproachView) (pool : PoolState) (l
         others = KeepsOthers-same hash seat (was change) (was change) sees.sound refl;
         known = sees.known;
         does = refl;
+        led = merge_walks (ask_at place a) Ended (was change) (was change) place;
       };
     };
     answer = λ hash change keyed sees fine before_ up. absurd (not_both before_ up);

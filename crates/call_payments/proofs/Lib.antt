@@ -7,3 +7,4 @@ pub mod PayLemmas
 pub mod BeginLemmas
 pub mod DecidedLemmas
 pub mod OwnLemmas
+pub mod AimLemmas

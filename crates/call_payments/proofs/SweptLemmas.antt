@@ -233,6 +233,7 @@ module _ (hash : RecordKey → ℕ) (seat : ℕ) (names : List Lock) (p : Plan) 
           others = stepped.others;
           known = tt;
           does = stepped.does;
+          led = tt;
         };
         after = now.after;
         still = now.still;

@@ -4,6 +4,8 @@ use Rattle.std.proofs.lemmas.Bool.{true≢false}
 use Rattle.file_pages.specs.declared.fault.FileFault.{FileFault}
 use Rattle.file_pages.specs.declared.fault.FileFault.TheVariants.{Failed}
 use Rattle.step_rules.specs.Known.{AllKnown}
+use Rattle.step_rules.specs.Searching.{WalksTo}
+use Rattle.step_rules.specs.Turns.{Ask}
 use Rattle.record_access.specs.AccessSteps.{Faces as FacesAccess, MakesAccess, Rests as RestsAccess}
 use Rattle.record_access.specs.Accesses.{IsOfKind}
 use Rattle.xsi_inquiry.specs.Telling.{most_asked}
@@ -99,6 +101,15 @@ module _ (hash : RecordKey → ℕ) (seat : ℕ) (call : Call) (i : AnyInquiry) 
         by (inl is) = subst (λ (x : Option Question). AllKnown seat w (facts_of x)) (sym is.1) tt
         by (inr is) = subst (λ (x : Option Question). AllKnown seat w (facts_of x)) (sym is.1)
             (subst (λ (a : AccessView). AllKnown seat w (access_facts a)) (sym access) known)
+
+    walks_facts : (ask : Option Ask) (w w' : World) → WalksTo seat ask did w w' (access_facts a') →
+        WalksTo seat ask did w w' (facts_of o)
+    walks_facts ask w w' led = by closes
+      where
+        by : Closes q' o → WalksTo seat ask did w w' (facts_of o)
+        by (inl is) = subst (λ (x : Option Question). WalksTo seat ask did w w' (facts_of x)) (sym is.1) tt
+        by (inr is) = subst (λ (x : Option Question). WalksTo seat ask did w w' (facts_of x)) (sym is.1)
+            (subst (λ (a : AccessView). WalksTo seat ask did w w' (access_facts a)) (sym access) led)
 
     -- ---- where it did not move
 
@@ -217,6 +228,7 @@ module _ (hash : RecordKey → ℕ) (seat : ℕ) (call : Call) (i : AnyInquiry) 
           others = stepped.others;
           known = knows_facts _ stepped.known;
           does = stepped.does;
+          led = walks_facts (access_turn q.access (store_of pool.images)).ask _ _ stepped.led;
         }
 
         right_question : IsRightQuestion hash call new q'

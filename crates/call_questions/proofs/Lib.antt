@@ -12,4 +12,5 @@ pub mod GoingLemmas
 pub mod ListenLemmas
 pub mod OpenLemmas
 pub mod Names
+pub mod AimLemmas
 pub use Rattle.step_rules.proofs as of_step_rules

@@ -49,6 +49,7 @@ module _ (hash : RecordKey → ℕ) (seat : ℕ) (call : Call) (i : AnyInquiry) 
           f.sees.sound refl;
       known = tt;
       does = refl;
+      led = tt;
     };
     means = λ s change f fine. record { right = f.right; knows = f.knows; reads = refl };
   }

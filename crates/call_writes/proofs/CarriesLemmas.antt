@@ -5,6 +5,7 @@ use Rattle.std.proofs.lemmas.Bool.{true≢false}
 use Rattle.std.proofs.lemmas.Option.{slice_get_within}
 use Rattle.record_access.proofs.of_step_rules.LockStepLemmas.{KeepsOthers-same}
 use Rattle.record_access.specs.step_rules.Known.{AllKnown}
+use Rattle.record_access.specs.step_rules.Searching.{WalksTo}
 use Rattle.call_writes.proofs.BeginLemmas.{begun_room}
 use Rattle.call_writes.proofs.BegunLemmas.{doing_start, owned_start, row_start, sees_start}
 use Rattle.call_writes.proofs.CarryLemmas.{IsMade, all_made, neither}
@@ -19,7 +20,7 @@ use Rattle.call_writes.specs.Carrying.{IsCarrying, IsDoing, IsGoingOn, IsUnderWa
 use Rattle.call_writes.specs.CarrySteps.{AsTheyWere, Carries, Leaves, TrialLacksRoom}
 use Rattle.call_writes.specs.Dues.{CanGoOn, IsBehind, next_deed, owes}
 use Rattle.call_writes.specs.MakeSteps.{PaysDue}
-use Rattle.call_writes.specs.Views.{is_full, is_full_at, set_out, turn_under, writes_facts, writes_locks, writes_turn}
+use Rattle.call_writes.specs.Views.{IsOver, facts_under, is_full, is_full_at, set_out, turn_under, writes_facts, writes_locks, writes_turn}
 
 -- ---- deeds and dues
 
@@ -81,8 +82,9 @@ module _ (hash : RecordKey → ℕ) (seat : ℕ) (p : Plan) (did : Progress File
 
   -- ---- nothing is left to do
 
-  at_rest : Carries {F = FileFault} hash seat names p Ended old old records pool pool locks locks change
-  at_rest = record {
+  at_rest : IsOver p old →
+      Carries {F = FileFault} hash seat names p Ended old old records pool pool locks locks change
+  at_rest over = record {
     step = record {
       after = change;
       file = c.sees.file;
@@ -90,6 +92,9 @@ module _ (hash : RecordKey → ℕ) (seat : ℕ) (p : Plan) (did : Progress File
           c.sees.sound refl;
       known = c.sees.known;
       does = refl;
+      led = subst (λ (o : Option AccessView). WalksTo {F = FileFault} seat
+          (writes_turn hash p old (store_of pool.images)).ask Ended (world pool.images locks change)
+          (world pool.images locks change) (facts_under o)) (sym over.rests) tt;
     };
     after = records;
     leaves = AsTheyWere refl;
@@ -99,9 +104,9 @@ module _ (hash : RecordKey → ℕ) (seat : ℕ) (p : Plan) (did : Progress File
     full = λ before full. absurd (true≢false (sym full ∙ before));
   }
 
-  idles : did ≡ Ended → new ≡ old → pool' ≡ pool → locks' ≡ locks →
+  idles : IsOver p old → did ≡ Ended → new ≡ old → pool' ≡ pool → locks' ≡ locks →
       Carries hash seat names p did old new records pool pool' locks locks' change
-  idles same kept pools tables =
+  idles over same kept pools tables =
       subst (λ (x : Progress FileFault). Carries hash seat names p x old new records pool pool' locks locks' change)
       (sym same)
       (subst (λ (w : CallWrites). Carries {F = FileFault} hash seat names p Ended old w records pool pool' locks
@@ -109,7 +114,7 @@ module _ (hash : RecordKey → ℕ) (seat : ℕ) (p : Plan) (did : Progress File
       (subst (λ (x : PoolState). Carries {F = FileFault} hash seat names p Ended old old records pool x locks locks'
       change) (sym pools)
       (subst (λ (t : Table). Carries {F = FileFault} hash seat names p Ended old old records pool pool locks t
-      change) (sym tables) at_rest)))
+      change) (sym tables) (at_rest over))))
 
   -- ---- the access makes its step
 
@@ -124,6 +129,8 @@ module _ (hash : RecordKey → ℕ) (seat : ℕ) (p : Plan) (did : Progress File
 
     -- a call of which this is known is behind the step
     carries_to : (w : CallWrites) → AllKnown seat (world pool'.images locks' m.step.after) (writes_facts w) →
+        WalksTo seat (access_turn s.a (store_of pool.images)).ask s.made (world pool.images locks change)
+        (world pool'.images locks' m.step.after) (writes_facts w) →
         access_locks s.a' names ≡ writes_locks w names → Leaves p old.due w.due records m.after →
         CanGoOn p w.due m.after →
         ((key : RecordKey) → overlaid (owes p w.due) m.after key ≡ overlaid (owes p old.due) records key) →
@@ -131,7 +138,7 @@ module _ (hash : RecordKey → ℕ) (seat : ℕ) (p : Plan) (did : Progress File
         (is_full old ≡ false → is_full w ≡ true →
         TrialLacksRoom hash p old.due (world pool'.images locks' change)) →
         Carries hash seat names p s.made old w records pool pool' locks locks' change
-    carries_to w known locks_are leaves can owed under going full = record {
+    carries_to w known led locks_are leaves can owed under going full = record {
       step = subst (λ (turn : Turn). Step hash seat turn s.made (writes_facts w) pool pool' locks locks' change)
           (start_turn s.a s.starts (store_of pool.images)) (record {
             after = m.step.after;
@@ -139,6 +146,7 @@ module _ (hash : RecordKey → ℕ) (seat : ℕ) (p : Plan) (did : Progress File
             others = m.step.others;
             known = known;
             does = m.step.does;
+            led = led;
           });
       after = m.after;
       leaves = leaves;
@@ -209,14 +217,14 @@ module _ (hash : RecordKey → ℕ) (seat : ℕ) (p : Plan) (did : Progress File
     goes_on : (HasEnded s.a'.operation → is_fault s.made ≡ true) →
         Carries hash seat names p s.made old (record { due = s.due'; access = Some s.a' }) records pool pool' locks
         locks' change
-    goes_on going = carries_to (record { due = s.due'; access = Some s.a' }) m.step.known refl m.left.leaves m.left.can
-        m.left.owed (d, m.doing) (λ ended. true≢false (sym (going ended) ∙ fine)) (lacks_by s.due' refl)
+    goes_on going = carries_to (record { due = s.due'; access = Some s.a' }) m.step.known m.step.led refl m.left.leaves
+        m.left.can m.left.owed (d, m.doing) (λ ended. true≢false (sym (going ended) ∙ fine)) (lacks_by s.due' refl)
 
     lets_go : s.a'.written ≡ true → access_locks s.a' names ≡ names →
         Carries hash seat names p s.made old (record { due = s.due'; access = None }) records pool pool' locks locks'
         change
     lets_go written locks_are =
-        carries_to (record { due = s.due'; access = None }) tt locks_are m.left.leaves m.left.can m.left.owed tt tt
+        carries_to (record { due = s.due'; access = None }) tt tt locks_are m.left.leaves m.left.can m.left.owed tt tt
         (λ before full. never s.due' refl before full)
       where
         never : (due : Due) → s.due' ≡ due → is_full old ≡ false → is_full_at due None ≡ true →
@@ -234,7 +242,7 @@ module _ (hash : RecordKey → ℕ) (seat : ℕ) (p : Plan) (did : Progress File
         let next : next_deed p (Trying standing) ≡ Some d =
         subst (λ (x : Due). next_deed p x ≡ Some d) was (doing.next (was_unwritten full).1) in
         let (r, is, few) = a_trial p standing d next in
-        carries_to (record { due = Full standing; access = None }) tt locks_are
+        carries_to (record { due = Full standing; access = None }) tt tt locks_are
         (AsTheyWere (m.still (was_unwritten full).0))
         (full_can p standing m.after few (subst (λ (x : Due). CanGoOn p x m.after) due m.left.can))
         (λ key. ap (λ (x : Due). overlaid (owes p x) m.after key) (sym due) ∙ m.left.owed key) tt tt
@@ -267,7 +275,7 @@ module _ (hash : RecordKey → ℕ) (seat : ℕ) (p : Plan) (did : Progress File
   at_idle : is_fault did ≡ false → new ≡ old → pool' ≡ pool → locks' ≡ locks → IsIdle p did old →
       Carries hash seat names p did old new records pool pool' locks locks' change
   at_idle fine kept pools tables (Refused fault refused same) = absurd (true≢false (sym (ap is_fault same) ∙ fine))
-  at_idle fine kept pools tables (Over over same) = idles same kept pools tables
+  at_idle fine kept pools tables (Over over same) = idles over same kept pools tables
   at_idle fine kept pools tables (Stuck a was ended fault) = absurd (true≢false (sym (ap is_fault fault) ∙ fine))
 
   pub carries : is_fault did ≡ false → IsSorted hash seat p did old new pool pool' locks locks' →

@@ -12,3 +12,4 @@ pub mod NextLemmas
 pub mod SortLemmas
 pub mod StartLemmas
 pub mod StepLemmas
+pub mod AimLemmas

@@ -1,7 +1,10 @@
 -- A step of a call beside others leaves them together: over the same system, or over that after its answer.
 use Rattle.std.proofs.Common.{ℕ, ◌≡◌, ◌≢◌, ◌⊎◌, inl, inr, refl, sym, ap, ◌∙◌, subst, Bool, true, false, List, Option, Some, None, IsSome}
 use Rattle.std.proofs.lemmas.Bool.{cases_eq, true≢false}
+use Rattle.lone_calls.proofs.PlaceLemmas.{sees_at}
 use Rattle.lone_calls.proofs.StopLemmas.{keeps_stopped}
+use Rattle.lone_calls.proofs.of_xsi_calls.AimLemmas.{call_aimed}
+use Rattle.step_rules.specs.Walking.{IsOwnStep}
 use Rattle.owed_records.proofs.OverlayLemmas.{overlaid_rest}
 use Rattle.queue_records.specs.declared.record.Record.TheVariants as records_are
 use Rattle.seat_laws.proofs.AlikeLemmas.{others_lead_alike}
@@ -11,14 +14,14 @@ use Rattle.step_rules.specs.declared.kind.Kind.TheVariants.{Decide}
 use Rattle.type_chains.specs.Entries.{counter_of}
 use Rattle.lone_calls.specs.xsi_calls.CallSteps.{StepsCall}
 use Rattle.lone_calls.specs.xsi_calls.Concluding.{IsRightConclusion}
-use Rattle.lone_calls.specs.xsi_calls.Machine.{conclusion_at}
+use Rattle.lone_calls.specs.xsi_calls.Machine.{call_facts, call_turn, conclusion_at}
 use Rattle.lone_calls.specs.xsi_calls.Words.{AreAlike, Moved, QuestionsView, guard_of, has_no_room, is_write, kind_of}
 use Rattle.lone_calls.specs.xsi_calls.declared.conclusion.Conclusion.TheVariants as conclusions
 use Rattle.lone_calls.specs.xsi_calls.declared.stage.Stage.TheVariants.{Undecided}
 use Rattle.seat_laws.specs.Words.{names_in}
-use Rattle.concurrent_calls.specs.Words.{Answer, Call, CallView, Caller, ComesBy, Conclusion, FileFault, HasFittingCall, HasFittingCaller, IsFiled, IsKeptApart, IsSeat, IsUncounted, MakesCall, PoolState, Progress, RecordKey, Records, State, Table, answer_of, call_owes, conclusion_of, counter_key, is_fault, outcome, overlaid, owes_at, record_of}
+use Rattle.concurrent_calls.specs.Words.{Answer, Call, CallView, Caller, Change, ComesBy, Conclusion, FileFault, HasFittingCall, HasFittingCaller, IsFiled, IsKeptApart, IsSeat, IsUncounted, MakesCall, PoolState, Progress, RecordKey, Records, State, Table, answer_of, call_owes, conclusion_of, counter_key, is_fault, outcome, overlaid, owes_at, record_of, store_of, world}
 use Rattle.concurrent_calls.specs.Together.{AreTogether, IsStillToCount, Seats, owes_of}
-use Rattle.concurrent_calls.specs.Laws.{AreTheOthers, LeadTogether, LeadsBy, StepTogether}
+use Rattle.concurrent_calls.specs.Laws.{AreTheOthers, AreTogetherIn, LeadTogether, LeadsBy, StepTogether}
 use Rattle.concurrent_calls.proofs.CountLemmas.{HasCounter, IsCountedBy, counted, exclusive_or_not, has_counter, one_more, same_next}
 use Rattle.concurrent_calls.proofs.DecideLemmas.{Concludes, Leads, concluded}
 use Rattle.concurrent_calls.proofs.PlaceLemmas.{names_of}
@@ -141,7 +144,7 @@ module _ (hash : RecordKey → ℕ) (seat : ℕ) (s : State) (stopped : Bool) (d
         by true owes = owing owes
         by false none = free none
 
-    together_still : AreTogether hash s seats' pool' locks'
+    together_still : AreTogetherIn hash s seats' pool' locks' step.step.after
     together_still = steps.together hash seat s stopped did old new seats seats' pool pool' locks locks' t seated there
         mark made fine now others s leads_still (has_counter counted_still) (λ un. refl)
         (λ call q apart alike. itself call q s t.filed) counted_still
@@ -285,14 +288,36 @@ module _ (hash : RecordKey → ℕ) (seat : ℕ) (s : State) (stopped : Bool) (d
         none_is_some : {x : Conclusion} → ◌≡◌ {A = Option Conclusion} None (Some x) → ⊥
         none_is_some clash = cc
 
-    together_then : AreTogether hash u seats' pool' locks'
+    together_then : AreTogetherIn hash u seats' pool' locks' step.step.after
     together_then = steps.together hash seat s stopped did old new seats seats' pool pool' locks locks' t seated there
         mark made fine now others u leads counted_before decided_now (good c comes.comes) counted_then
 
   -- ---- either
 
   abbrev Leading : Type 0
-  Leading = LeadTogether hash s seats' old new pool' locks'
+  Leading = LeadTogether hash seat did s seats' old new (world pool.images locks t.change) pool' locks'
+
+  -- it is a step of the rules
+  own_step : IsOwnStep hash seat (call_turn hash old (store_of pool.images)) did (call_facts old) (call_facts new)
+      (world pool.images locks t.change) (world pool'.images locks' step.step.after)
+  own_step = record {
+    sound = t.sound;
+    sound_behind = step.step.others.sound;
+    aimed = call_aimed hash old (store_of pool.images);
+    known = (sees_at hash seat old.call s old.undecided t.records pool locks t.change old.stage
+        (steps.at hash seat s stopped did old new seats seats' pool pool' locks locks' t seated there mark made fine now
+        others).calls).known;
+    known_behind = step.step.known;
+    does = step.step.does;
+    led = step.step.led;
+  }
+
+  own_step_in : (u : State) (b : AreTogetherIn hash u seats' pool' locks' step.step.after) →
+      IsOwnStep {F = FileFault} hash seat (call_turn hash old (store_of pool.images)) did (call_facts old)
+      (call_facts new) (world pool.images locks t.change) (world pool'.images locks' b.together.change)
+  own_step_in u b = subst (λ (c : Change). IsOwnStep {F = FileFault} hash seat
+      (call_turn hash old (store_of pool.images)) did (call_facts old) (call_facts new)
+      (world pool.images locks t.change) (world pool'.images locks' c)) (sym b.phase) own_step
 
   abbrev room : List ℕ
   room = new.undecided.questions.room.bytes
@@ -303,7 +328,8 @@ module _ (hash : RecordKey → ℕ) (seat : ℕ) (s : State) (stopped : Bool) (d
     leads = subst (λ (x : Option Conclusion). LeadsBy x (conclusion_of new) old.caller old.call room s s) (sym before)
         (subst (λ (x : Option Conclusion). LeadsBy o x old.caller old.call room s s) (sym behind) (by o));
     mark = refl;
-    together = together_still (behind ∙ sym before);
+    together = (together_still (behind ∙ sym before)).together;
+    stepped = own_step_in s (together_still (behind ∙ sym before));
   }
     where
       by : (x : Option Conclusion) → LeadsBy x x old.caller old.call room s s
@@ -320,7 +346,8 @@ module _ (hash : RecordKey → ℕ) (seat : ℕ) (s : State) (stopped : Bool) (d
         (subst (λ (x : Call). ComesBy (Some c) new.caller x room s (u before c behind)) made.aim.call
         (comes before c behind).comes)));
     mark = mark_kept new.caller new.call room s (u before c behind) c (comes before c behind).comes;
-    together = together_then before c behind;
+    together = (together_then before c behind).together;
+    stepped = own_step_in (u before c behind) (together_then before c behind);
   }
 
   pub leading : Leading

@@ -23,14 +23,15 @@ use Rattle.lone_calls.specs.xsi_calls.declared.stage.Stage.TheVariants.{Undecide
 use Rattle.queue_records.specs.declared.record.Record.TheVariants as records_are
 use Rattle.concurrent_calls.specs.Words.{Call, CallView, Change, HasFittingCall, HasFittingCaller, IsCalling, IsFileAtRest, IsFiled, IsOver, Lock, PoolState, RecordKey, Records, Stage, StandsAt, State, Table, UndecidedCall, call_owes, counter_key, overlaid, owes_at, record_of, row_of, store_of, world}
 use Rattle.concurrent_calls.specs.Together.{AreTogether, IsApartAt, IsStillToCount, IsUnderWay, IsWell, Seats, locks_of, owes_of}
-use Rattle.concurrent_calls.specs.Laws.{AreIdle, AreTheOthers, BeginTogether, EndTogether, LeaveAtRest, RestTogether, StopTogether}
+use Rattle.concurrent_calls.specs.Laws.{AreIdle, AreTheOthers, AreTogetherIn, BeginTogether, EndTogether, LeaveAtRest, RestTogether, StopTogether}
 use Rattle.concurrent_calls.proofs.CountLemmas.{one_more, same_next}
 use Rattle.concurrent_calls.proofs.SeatLemmas.{owe_apart, well}
 
 -- ---- at rest
 
-pub rest_together : RestTogether
-rest_together hash s seats pool locks rest idle = record {
+rests_so : (hash : RecordKey → ℕ) (s : State) (seats : Seats) (pool : PoolState) (locks : Table) →
+    IsFileAtRest hash s pool locks → AreIdle seats → AreTogether hash s seats pool locks
+rests_so hash s seats pool locks rest idle = record {
   honest = rest.honest;
   file = rest.file;
   change = Quiet;
@@ -46,6 +47,11 @@ rest_together hash s seats pool locks rest idle = record {
   counts = refl;
   next = inl refl;
 }
+
+pub rest_together : RestTogether
+unfolding rests_so
+rest_together hash s seats pool locks rest idle =
+    record { together = rests_so hash s seats pool locks rest idle; phase = refl }
 
 module _ (hash : RecordKey → ℕ) (s : State) (seats : Seats) (pool : PoolState) (locks : Table)
     (t : AreTogether hash s seats pool locks) (idle : AreIdle seats) where
@@ -89,8 +95,8 @@ module _ (hash : RecordKey → ℕ) (seat : ℕ) (s : State) (seats seats' : Sea
     (behind : (key : RecordKey) → owes_at (owes_of (seats' seat)) key ≡ false)
     (is : IsWell hash seat s (seats' seat) t.records pool locks t.change)
     (uncounting : (c : IsStillToCount t.counter.next_id s seats) → c.seat ≢ seat) where
-  pub exchanged : AreTogether hash s seats' pool locks
-  exchanged = record {
+  changed : AreTogether hash s seats' pool locks
+  changed = record {
     honest = t.honest;
     file = t.file;
     change = t.change;
@@ -159,6 +165,10 @@ module _ (hash : RecordKey → ℕ) (seat : ℕ) (s : State) (seats seats' : Sea
         | inr apart ↦ subst (λ (o : Option CallView). overlaid (owes_of o) t.records key ≡ record_of s key)
             (sym (others i apart)) (there i key apart none)
       ]
+
+  pub exchanged : AreTogetherIn hash s seats' pool locks t.change
+  unfolding changed
+  exchanged = record { together = changed; phase = refl }
 
 -- ---- a call begins
 
@@ -254,8 +264,9 @@ stopped_well hash seat s b (Some m) records pool locks change filed is = record 
   apart = is.apart;
 }
 
-pub stop_together : StopTogether
-stop_together hash s b seats pool locks t = record {
+stops_so : (hash : RecordKey → ℕ) (s : State) (b : Bool) (seats : Seats) (pool : PoolState) (locks : Table) →
+    AreTogether hash s seats pool locks → AreTogether hash (record s { stopped = b }) seats pool locks
+stops_so hash s b seats pool locks t = record {
   honest = t.honest;
   file = t.file;
   change = t.change;
@@ -280,3 +291,7 @@ stop_together hash s b seats pool locks t = record {
     })
   ];
 }
+
+pub stop_together : StopTogether
+unfolding stops_so
+stop_together hash s b seats pool locks t = record { together = stops_so hash s b seats pool locks t; phase = refl }

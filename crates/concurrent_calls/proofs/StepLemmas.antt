@@ -26,7 +26,7 @@ use Rattle.lone_calls.specs.xsi_calls.declared.stage.Stage.TheVariants.{Undecide
 use Rattle.seat_laws.specs.Words.{names_in}
 use Rattle.concurrent_calls.specs.Words.{Call, CallView, Change, FileFault, HasFittingCall, HasFittingCaller, IsFiled, IsKeptApart, IsSeat, Lock, MakesCall, PoolState, Progress, RecordKey, Records, Stage, StandsAt, State, Table, UndecidedCall, call_locks, call_owes, counter_key, is_fault, overlaid, owes_at, record_of, row_of, store_of, world}
 use Rattle.concurrent_calls.specs.Together.{AreTogether, IsApartAt, IsUnderWay, IsWell, Seats, locks_of, owes_of}
-use Rattle.concurrent_calls.specs.Laws.{AreTheOthers}
+use Rattle.concurrent_calls.specs.Laws.{AreTheOthers, AreTogetherIn}
 use Rattle.concurrent_calls.proofs.CountLemmas.{HasCounter, IsCountedBy}
 use Rattle.concurrent_calls.proofs.DecideLemmas.{Leads}
 use Rattle.concurrent_calls.proofs.PlaceLemmas.{held_by, names_of}
@@ -310,8 +310,8 @@ module _ (hash : RecordKey → ℕ) (seat : ℕ) (s : State) (stopped : Bool) (d
             (sym (others i apart)) (wells i apart (seats i) (t.rows i) (t.calls i))
       ]
 
-      pub together : IsCountedBy after u seats' → AreTogether hash u seats' pool' locks'
-      together counted = record {
+      gathered : IsCountedBy after u seats' → AreTogether hash u seats' pool' locks'
+      gathered counted = record {
         honest = honest;
         file = step.step.file;
         change = change';
@@ -326,3 +326,7 @@ module _ (hash : RecordKey → ℕ) (seat : ℕ) (s : State) (stopped : Bool) (d
         counts = counted.counts;
         next = counted.next;
       }
+
+      pub together : IsCountedBy after u seats' → AreTogetherIn hash u seats' pool' locks' change'
+      unfolding gathered
+      together counted = record { together = gathered counted; phase = refl }

@@ -48,4 +48,5 @@ module _ (locks : Table) (seat : ℕ) (rest : List Lock) (last : Lock) (names : 
         others = kind_keeps Release hash seat old new sees.sound r;
         known = tt;
         does = r;
+        led = tt;
       }

@@ -7,7 +7,8 @@ use Rattle.page_locks.specs.Locks.{is_against}
 use Rattle.page_locks.specs.Table.{Opposes, held}
 use Rattle.page_locks.specs.declared.lock.LockKind.{LockKind}
 use Rattle.page_locks.specs.declared.lock.LockName.{LockName}
-use Rattle.step_rules.specs.Turns.{Ask, ForLock, HopFrom, StandsInWay, ToExclusive, TurnsAt}
+use Rattle.page_locks.specs.declared.lock.LockName.TheVariants.{Page}
+use Rattle.step_rules.specs.Turns.{Ask, ForLock, ForEntry, ForPage, ForAnswer, HopFrom, StandsInWay, ToExclusive, TurnsAt}
 use Rattle.xsi_calls.specs.CallSteps.{StepsCall}
 use Rattle.xsi_calls.specs.Machine.{call_facts, call_turn}
 use Rattle.xsi_calls.specs.Words.{Lock, Sees, World, kind_of, world}
@@ -107,6 +108,9 @@ module _ (seat : ℕ) (w : World) (alone : (other : ℕ) → other ≢ seat → 
   unblocked : (ask : Option Ask) (other : ℕ) → StandsInWay ask seat other w → ⊥
   unblocked None other stands = stands
   unblocked (Some (ForLock name kind)) other stands = unopposed name kind other stands
+  unblocked (Some (ForEntry depth k)) other stands = stands
+  unblocked (Some (ForPage page k kind)) other stands = unopposed (Page page) kind other stands
+  unblocked (Some (ForAnswer page k)) other stands = stands
   unblocked (Some (HopFrom page k)) other stands = unopposed _ stands.kind other stands.opposes
   unblocked (Some ToExclusive) other stands = unopposed _ _ other stands
 

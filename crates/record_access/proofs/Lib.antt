@@ -3,6 +3,7 @@ pub mod RecordLemmas
 pub mod SuitLemmas
 pub mod StandLemmas
 pub mod AimLemmas
+pub mod AskLemmas
 pub mod AllowLemmas
 pub mod EndLemmas
 pub mod StepLemmas

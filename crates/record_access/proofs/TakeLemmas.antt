@@ -12,6 +12,7 @@ use Rattle.record_operation.specs.declared.operation.RecordOperation.TheVariants
 use Rattle.file_pages.specs.Files.{IsFilePool}
 use Rattle.record_operation.specs.step_rules.Does.{KeepsOthers}
 use Rattle.record_operation.specs.step_rules.Known.{AllKnown}
+use Rattle.record_operation.specs.step_rules.Searching.{WalksTo}
 use Rattle.record_operation.specs.step_rules.Turns.{TurnsAt}
 use Rattle.record_access.proofs.Names.{FileFault, MakesOperation}
 use Rattle.record_access.proofs.AimLemmas.{behind, none_told, same_parts, serves_on, told_none}
@@ -99,6 +100,8 @@ step_on hash seat turn did facts pool pool' pool'' locks locks' change same file
   known = subst (λ (images : List (List ℕ)). AllKnown seat (world images locks' s.after) facts) (sym same) s.known;
   does = subst (λ (images : List (List ℕ)). TurnsAt hash turn did seat (world pool.images locks change)
       (world images locks' s.after)) (sym same) s.does;
+  led = subst (λ (images : List (List ℕ)). WalksTo seat turn.ask did (world pool.images locks change)
+      (world images locks' s.after) facts) (sym same) s.led;
 }
 
 module _ {X : Type 0} (hash : RecordKey → ℕ) (seat : ℕ) (did : Progress FileFault) (a : AccessView)

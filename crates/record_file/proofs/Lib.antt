@@ -10,4 +10,5 @@ pub mod RemovedLemmas
 pub mod RoomLemmas
 pub mod CallerLemmas
 pub mod PartLemmas
+pub mod AimLemmas
 pub use Rattle.bucket_merge.proofs as of_bucket_merge

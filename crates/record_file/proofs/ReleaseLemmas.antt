@@ -61,4 +61,5 @@ module _ (hash : RecordKey → ℕ) (seat : ℕ) (facts : List Known) (pool : Po
         others = kind_keeps Release hash seat old new sees.sound r;
         known = tt;
         does = r;
+        led = tt;
       }

@@ -12,6 +12,7 @@ use Rattle.hash_file.specs.Chain.{IsBucketOf}
 use Rattle.bucket_merge.specs.stale_search.declared.place.SearchPlace.TheVariants.{Found}
 use Rattle.step_rules.specs.Turns.{LacksRoom}
 use Rattle.step_rules.specs.Does.{KeepsOthers}
+use Rattle.step_rules.specs.Searching.{WalksTo}
 use Rattle.step_rules.specs.Turns.{TurnsAt}
 use Rattle.record_file.specs.Words.{RecordKey, pair, record_bytes, Table, Lock, Selective, Change, OnlyReads, IsDevicesFault, Progress, World, Known, AllKnown, row_of, store_of, records_at, SearchView, Turn, Sees, Step, world, HasNoFileLock, on_page}
 use Rattle.record_file.specs.Writers.{seen_at}
@@ -54,6 +55,7 @@ behind {hash} {seat} {turn} {did} {facts} {locks} {locks'} {change} s t reads st
       others = subst (KeepsOthers hash seat old) (sym same) step.others;
       known = subst (λ (w : World). AllKnown seat w facts) (sym same) step.known;
       does = subst (TurnsAt hash turn did seat old) (sym same) step.does;
+      led = subst (λ (w : World). WalksTo seat turn.ask did old w facts) (sym same) step.led;
     }
 
 module _ (hash : RecordKey → ℕ) (seat : ℕ) (pool : PoolState) (locks : Table) (change : Change) (v : SearchView)

@@ -6,6 +6,7 @@ use Rattle.bucket_merge.specs.stale_search.declared.place.SearchPlace.{SearchPla
 use Rattle.bucket_merge.specs.stale_search.declared.place.SearchPlace.TheVariants.{GrantDirectory, ReadDepth, ReadEntry, GrantPage, ReleaseDirectory, Look as AtLook, Hop, Found}
 use Rattle.bucket_merge.specs.file_pages.declared.fault.FileFault.{FileFault}
 use Rattle.page_locks.specs.Writers.{may_write}
+use Rattle.step_rules.specs.Searching.{WalksTo}
 use Rattle.bucket_merge.specs.stale_search.Searches.{AnswersFor, IsLed, KeepsAim, LeadsFrom, facts_at, locks_at}
 use Rattle.bucket_merge.specs.stale_search.Rows.{on_page}
 use Rattle.bucket_merge.proofs.of_stale_search.RowLemmas.{page_on}
@@ -56,23 +57,22 @@ module _ (hash : RecordKey → ℕ) (seat : ℕ) (key : RecordKey) (k : ℕ) (ke
   StepTo did facts = Step hash seat turn did facts pool pool' locks locks' change
 
   -- a Look changes nothing, so what was so is known
-  learned : (facts : List Known) → AllKnown seat old facts → StepTo (Moved Look) [] → StepTo (Moved Look) facts
-  learned facts all step = record {
+  learned : (m : ℕ) (found : Option ℕ) → AllKnown seat old (seen_at (Found m found) key k) →
+      StepTo (Moved Look) (LeadsTo m k ∷ []) → StepTo (Moved Look) (seen_at (Found m found) key k)
+  learned m found all step = record {
     after = step.after;
     file = step.file;
     others = step.others;
-    known = subst (λ (w : World). AllKnown seat w facts) (sym step.does.reads.is) all;
+    known = subst (λ (w : World). AllKnown seat w (seen_at (Found m found) key k)) (sym step.does.reads.is) all;
     does = step.does;
+    led = led found;
   }
-
-  unlearned : (did : Progress FileFault) (facts : List Known) → StepTo did facts → StepTo did []
-  unlearned did facts step = record {
-    after = step.after;
-    file = step.file;
-    others = step.others;
-    known = tt;
-    does = step.does;
-  }
+    where
+      -- it stands where it stood
+      led : (found : Option ℕ) → WalksTo {F = FileFault} seat turn.ask (Moved Look) old
+          (world pool'.images locks' step.after) (seen_at (Found m found) key k)
+      led None = step.led
+      led (Some bytes) = step.led
 
   module _ (did : Progress FileFault) (sound : IsSoundWorld hash old) (before : List Lock)
       (bare : HasNoFileLock before) where
@@ -125,9 +125,9 @@ module _ (hash : RecordKey → ℕ) (seat : ℕ) (key : RecordKey) (k : ℕ) (ke
         by (AtLook n) (Hop m) none row known answers step = step
         by (AtLook n) (Found m found) none row known answers step =
             let looked = answers.1.looked in
-            let bare_step = subst (λ (d : Progress FileFault). StepTo d []) looked (unlearned did _ step) in
+            let bare_step = subst (λ (d : Progress FileFault). StepTo d (LeadsTo m k ∷ [])) looked step in
             subst (λ (d : Progress FileFault). StepTo d (seen_at (Found m found) key k)) (sym looked)
-            (learned _ (seen n m found row known answers) bare_step)
+            (learned m found (seen n m found row known answers) bare_step)
 
 -- the search of a machine that is to write goes on
 module _ (hash : RecordKey → ℕ) (seat : ℕ) (pool : PoolState) (locks : Table) (change : Change) (v : SearchView)

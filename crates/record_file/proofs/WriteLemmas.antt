@@ -72,4 +72,5 @@ module _ (hash : RecordKey → ℕ) (seat : ℕ) (facts : List Known) (pool : Po
           others = kind_keeps WriteRecord hash seat old new sees.sound does;
           known = tt;
           does = record { writes = does; write_is = refl };
+          led = tt;
         }

@@ -1,7 +1,7 @@
 -- What a find holds, knows and asks for at each place: a search that locks its pages Read, and the Release of the page.
 use Rattle.std.specs.Prelude.{ℕ, ◌≡◌, ◌↔◌, ◌+◌, Bool, true, List, [], if◌then◌else◌, Option, None, IsSome}
-use Rattle.bucket_merge.specs.stale_search.Searches.{KeepsAim}
-use Rattle.record_file.specs.Words.{Lock, Read, Store, PoolState, Progress, Ended, Stays, Known, Turn, SearchView, search_locks, search_facts, search_turn, found_at, steps_left}
+use Rattle.bucket_merge.specs.stale_search.Searches.{KeepsAim, ask_at}
+use Rattle.record_file.specs.Words.{Lock, Read, Store, PoolState, Progress, Ended, Stays, Known, Ask, Turn, SearchView, search_locks, search_facts, found_at, steps_left}
 
 pub record FindView : Type 0 where
   pub search : SearchView
@@ -20,8 +20,11 @@ find_locks f before = if f.ended then before else search_locks f.search before
 abbrev pub find_facts : FindView → List Known
 find_facts f = if f.ended then [] else search_facts f.search
 
+abbrev pub find_ask : FindView → Option Ask
+find_ask f = if f.ended then None else ask_at f.search.place f.search.kind f.search.pseudokey
+
 abbrev pub find_turn : FindView → Turn
-find_turn f = search_turn f.search None
+find_turn f = record { ask = find_ask f; write = None }
 
 -- of the key's value, where a page answered
 abbrev pub found_of : FindView → Option (ℕ × Option ℕ)

@@ -1,10 +1,10 @@
 -- What the first try of an Insert holds, knows and asks for at each place: a search, the WriteRecord where the record
 -- fits its bucket, and the Release of the page.
-use Rattle.std.specs.Prelude.{ℕ, ◌≡◌, ◌↔◌, ◌+◌, ◌&&◌, nat_le, Bool, List, [], Option, Some, ⊤}
+use Rattle.std.specs.Prelude.{ℕ, ◌≡◌, ◌↔◌, ◌+◌, ◌&&◌, nat_le, Bool, List, [], Option, Some, None, ⊤}
 use Rattle.bucket_page.specs.declared.layout.TheConstants.{RECORD_HEAD_BYTES, ROOM_BYTES}
 use Rattle.step_rules.specs.Turns.{LacksRoom}
 use Rattle.bucket_merge.specs.stale_search.Searches.{ask_at}
-use Rattle.record_file.specs.Words.{RecordKey, pair, Put, Lock, Selective, Store, Progress, Ended, Stays, World, Known, Turn, SearchView, search_locks, found_at, steps_left, on_page}
+use Rattle.record_file.specs.Words.{RecordKey, pair, Put, Lock, Selective, Store, Progress, Ended, Stays, World, Known, Ask, Turn, SearchView, search_locks, found_at, steps_left, on_page}
 use Rattle.record_file.specs.Writers.{seen_at}
 use Rattle.record_file.specs.declared.first_try.FirstTryStage.{FirstTryStage}
 use Rattle.record_file.specs.declared.first_try.FirstTryStage.TheVariants.{Searching, Written, Ended as HasEnded}
@@ -37,10 +37,15 @@ facts_in (HasEnded tried) search = []
 abbrev pub first_try_facts : FirstTryView → List Known
 first_try_facts t = facts_in t.stage t.search
 
+-- it asks for something while it searches
+abbrev pub ask_in : FirstTryStage → SearchView → Option Ask
+ask_in Searching search = ask_at search.place search.kind search.pseudokey
+ask_in stage search = None
+
 -- this value is to be put
 abbrev pub first_try_turn : FirstTryView → List ℕ → Turn
 first_try_turn t value = record {
-  ask = ask_at t.search.place t.search.kind t.search.pseudokey;
+  ask = ask_in t.stage t.search;
   write = Some (Put (pair t.search.key value));
 }
 

@@ -5,7 +5,7 @@ use Rattle.bucket_page.specs.declared.layout.TheConstants.{RECORD_HEAD_BYTES}
 use Rattle.step_rules.specs.declared.kind.TheConstants.{MERGED_BYTES}
 use Rattle.step_rules.specs.Rooms.{TurnsAway}
 use Rattle.bucket_merge.specs.stale_search.Searches.{ask_at}
-use Rattle.record_file.specs.Words.{RecordKey, Remove, Lock, Selective, Store, Progress, Ended, Stays, World, Known, Turn, SearchView, search_locks, found_at, steps_left, on_page}
+use Rattle.record_file.specs.Words.{RecordKey, Remove, Lock, Selective, Store, Progress, Ended, Stays, World, Known, Ask, Turn, SearchView, search_locks, found_at, steps_left, on_page}
 use Rattle.record_file.specs.Writers.{LeavesSearch, seen_at}
 use Rattle.record_file.specs.declared.removal.RemovalStage.{RemovalStage}
 use Rattle.record_file.specs.declared.removal.RemovalStage.TheVariants.{Searching, Written, Ended as HasEnded}
@@ -36,9 +36,14 @@ facts_in (HasEnded due) search = []
 abbrev pub removal_facts : RemovalView → List Known
 removal_facts r = facts_in r.stage r.search
 
+-- it asks for something while it searches
+abbrev pub ask_in : RemovalStage → SearchView → Option Ask
+ask_in Searching search = ask_at search.place search.kind search.pseudokey
+ask_in stage search = None
+
 abbrev pub removal_turn : RemovalView → Turn
 removal_turn r = record {
-  ask = ask_at r.search.place r.search.kind r.search.pseudokey;
+  ask = ask_in r.stage r.search;
   write = Some (Remove r.search.key);
 }
 

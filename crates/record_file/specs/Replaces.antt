@@ -1,9 +1,9 @@
 -- What a replace holds, knows and asks for at each place: a search, the WriteRecord where the key is there, and the
 -- Release of the page.
-use Rattle.std.specs.Prelude.{ℕ, ◌≡◌, ◌≤◌, ◌↔◌, ◌+◌, Bool, true, false, not, IsTrue, List, [], ◌++◌, Option, Some, IsSome, length, drop, unwrap_or}
+use Rattle.std.specs.Prelude.{ℕ, ◌≡◌, ◌≤◌, ◌↔◌, ◌+◌, Bool, true, false, not, IsTrue, List, [], ◌++◌, Option, Some, None, IsSome, length, drop, unwrap_or}
 use Rattle.bucket_merge.specs.stale_search.Rows.{on_page}
 use Rattle.bucket_merge.specs.stale_search.Searches.{ask_at}
-use Rattle.record_file.specs.Words.{RecordKey, pair, Replace, contents, Lock, Selective, Store, PoolState, OnlyWrites, Progress, Moved, Ended, WriteRecord, is_fault, Stays, Known, Turn, SearchView, search_locks, found_at, steps_left}
+use Rattle.record_file.specs.Words.{RecordKey, pair, Replace, contents, Lock, Selective, Store, PoolState, OnlyWrites, Progress, Moved, Ended, WriteRecord, is_fault, Stays, Known, Ask, Turn, SearchView, search_locks, found_at, steps_left}
 use Rattle.record_file.specs.Writers.{LeavesSearch, seen_at}
 use Rattle.record_file.specs.declared.replace.ReplaceStage.{ReplaceStage}
 use Rattle.record_file.specs.declared.replace.ReplaceStage.TheVariants.{Searching, Written, Ended as HasEnded}
@@ -38,10 +38,15 @@ replace_facts r = facts_in r.stage r.search
 abbrev pub with_front : List ℕ → List ℕ → List ℕ
 with_front front value = front ++ drop (length front) value
 
+-- it asks for something while it searches
+abbrev pub ask_in : ReplaceStage → SearchView → Option Ask
+ask_in Searching search = ask_at search.place search.kind search.pseudokey
+ask_in stage search = None
+
 -- what the file holds at the key gets another front
 abbrev pub replace_turn : ReplaceView → List ℕ → Store → Turn
 replace_turn r front s = record {
-  ask = ask_at r.search.place r.search.kind r.search.pseudokey;
+  ask = ask_in r.stage r.search;
   write = Some (Replace (pair r.search.key (with_front front (unwrap_or (contents s r.search.key) []))));
 }
 

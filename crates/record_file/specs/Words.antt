@@ -21,7 +21,7 @@ pub use Rattle.step_rules.specs.World.{World, IsHeld, guard_of}
 pub use Rattle.step_rules.specs.Sound.{IsSoundWorld}
 pub use Rattle.step_rules.specs.Known.{Known, LeadsTo, OnPage, IsKnown, AllKnown}
 pub use Rattle.step_rules.specs.Pages.{Covering, Having, Lacking}
-pub use Rattle.step_rules.specs.Turns.{Turn, is_fault}
+pub use Rattle.step_rules.specs.Turns.{Ask, Turn, is_fault}
 pub use Rattle.step_rules.specs.Answering.{IsAnswerOf}
 pub use Rattle.bucket_merge.specs.stale_search.Rows.{EndsRow, HasNoFileLock, in_directory, on_page}
 pub use Rattle.bucket_merge.specs.stale_search.Steps.{world, Nears, Sees, Stays, Step, WritesOrSpares}

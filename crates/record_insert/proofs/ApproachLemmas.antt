@@ -119,6 +119,7 @@ module _ (hash : RecordKey → ℕ) (seat : ℕ) (key : RecordKey) (k bytes : �
             ),
           );
           does = s.does;
+          led = tt;
         };
     answer = λ change keyed sees fine. tt;
   }

@@ -131,6 +131,7 @@ module _ (hash : RecordKey → ℕ) (seat : ℕ) (key : RecordKey) (k bytes : �
                 },
                 same,
               );
+              led = tt;
             };
         answer = λ change keyed sees fine. tt;
       }
@@ -242,6 +243,7 @@ module _ (hash : RecordKey → ℕ) (seat : ℕ) (key : RecordKey) (k bytes : �
                       (kind_keeps kinds.Hop hash seat (old change) new sees.sound h.hops);
                   known = subst (λ (w : World). AllKnown seat w (near_facts depth m k)) (sym same) known;
                   does = subst (λ (w : World). HopsJust n k seat (old change) w) (sym same) h;
+                  led = tt;
                 };
             answer = λ change keyed sees fine. tt;
           }

@@ -10,6 +10,7 @@ pub mod OrderLemmas
 pub mod SplitLemmas
 pub mod ReleaseLemmas
 pub mod InsertLemmas
+pub mod FactLemmas
 pub mod FewLemmas
 pub use Rattle.record_file.proofs as of_record_file
 pub use Rattle.step_rules.proofs as of_step_rules

@@ -9,16 +9,19 @@ use Rattle.step_rules.specs.declared.kind.Kind.{Kind}
 use Rattle.step_rules.specs.declared.kind.Kind.TheVariants as kinds
 use Rattle.step_rules.specs.Known.{AllAnchored}
 use Rattle.step_rules.specs.LockSteps.{Releases}
-use Rattle.step_rules.specs.Turns.{DoesTied}
+use Rattle.step_rules.specs.Searching.{WalksTo}
+use Rattle.step_rules.specs.Turns.{Ask, DoesTied}
 use Rattle.step_rules.proofs.KindLemmas.{kind_keeps}
 use Rattle.step_rules.proofs.LockLemmas.{IsHeld-some}
 use Rattle.step_rules.proofs.LockStepLemmas.{KeepsOthers-same, none_busy}
 use Rattle.step_rules.proofs.MachineLemmas.{AllKnown-relocked}
+use Rattle.step_rules.proofs.SearchLemmas.{no_way}
 use Rattle.split_merge.proofs.of_stale_search.StepLemmas.{read as read_page}
 use Rattle.record_file.proofs.of_bucket_merge.MoveLemmas.{nothing_written, read_only}
 use Rattle.record_file.proofs.of_bucket_merge.RowLemmas.{held_last, without_last}
 use Rattle.record_insert.specs.Words.{RecordKey, pair, PoolState, IsDevicesFault, Table, IsSeat, Lock, LockKind, Selective, Exclusive, LockName, Directory, Page, Change, Quiet, kind_of, lock_of, row_of, held, with_row, without, without_lock, store_of, IsReady, OnlyReads, OnlyWrites, Progress, Moved, Fault, Ended, World, AllKnown, HasNoFileLock, world, Sees, Tried, SecondPlace, HasEnded}
-use Rattle.record_insert.specs.SecondTries.{SecondTryView, locks_at, facts_at, left_at, said_at, tried_at, second_turn}
+use Rattle.record_insert.specs.SecondTries.{SecondTryView, ask_at, locks_at, facts_at, left_at, said_at, tried_at, second_turn}
+use Rattle.record_insert.proofs.FactLemmas.{second_knows_no_way}
 use Rattle.record_insert.specs.SecondSteps.{KeepsSecondTry, MakesStep, SaysAt}
 
 -- what has ended has an end
@@ -41,6 +44,12 @@ module _ (hash : RecordKey → ℕ) (seat : ℕ) (key : RecordKey) (k bytes : �
   abbrev pub Makes : Progress FileFault → (place place' : SecondPlace) → PoolState → Table → Type 0
   Makes did place place' pool' locks' =
       MakesStep hash seat value did (view_at place) (view_at place') pool pool' locks locks'
+
+  -- it is on no search
+  second_walks : (ask : Option Ask) (did : Progress FileFault) (old new : World) (place : SecondPlace) →
+      WalksTo seat ask did old new (facts_at place key k)
+  second_walks ask did old new place =
+      no_way seat ask did old new (facts_at place key k) (second_knows_no_way place key k)
 
   pub moved_aim : (place place' : SecondPlace) (kind : Kind) → tried_at place ≡ None →
       KeepsSecondTry {F = FileFault} (Moved kind) (view_at place) (view_at place')
@@ -80,7 +89,8 @@ module _ (hash : RecordKey → ℕ) (seat : ℕ) (key : RecordKey) (k bytes : �
     step = λ change before bare owns row keyed sees fine.
         read_page hash seat (facts_at place key k) pool locks change sees None kind
         (second_turn (view_at place) value) (facts_at place' key k) pool' reads (known change keyed sees)
-        (does before bare row change keyed sees);
+        (does before bare row change keyed sees)
+        (second_walks (ask_at place k) (Moved kind) (was change) (was change) place');
     answer = λ change keyed sees fine. subst (λ (images : List (List ℕ)). SaysAt {F = FileFault} hash seat (Moved kind)
         (pair key value) (said_at place) (said_at place') (was change) (world images locks change))
         (sym (reads.images sees.honest)) (says change keyed sees);
@@ -156,6 +166,7 @@ module _ (hash : RecordKey → ℕ) (seat : ℕ) (key : RecordKey) (k bytes : �
                   (subst (λ (xs : List Lock). AllAnchored xs (facts_at place' key k)) (sym row')
                   (anchored before bare));
               does = r;
+              led = second_walks (ask_at place k) (Moved kinds.Release) (was change) new place';
             };
         answer = λ change keyed sees fine. subst (λ (x : Option Tried). SaysAt {F = FileFault} hash seat
             (Moved kinds.Release) (pair key value) x (said_at place') (was change) (world pool.images locks' change))
@@ -187,6 +198,7 @@ module _ (hash : RecordKey → ℕ) (seat : ℕ) (key : RecordKey) (k bytes : �
       others = KeepsOthers-same hash seat (was change) (was change) sees.sound refl;
       known = sees.known;
       does = refl;
+      led = tt;
     };
     answer = λ change keyed sees fine. refl;
   }

@@ -120,6 +120,7 @@ module _ (hash : RecordKey → ℕ) (seat : ℕ) (key : RecordKey) (k bytes : �
           others = s.others;
           known = (known.0, tt);
           does = s.does;
+          led = tt;
         };
     answer = λ change keyed sees fine. full_means hash (pair key value) v.place v'.place
         (world pool'.images locks' change) for.going is (means change (pair key value) (asked keyed) sees fine);
@@ -191,6 +192,7 @@ module _ (hash : RecordKey → ℕ) (seat : ℕ) (key : RecordKey) (k bytes : �
           others = s.others;
           known = subst (λ (x : ℕ). AllKnown seat w (near_facts v'.depth n x)) kept_wanted near;
           does = s.does;
+          led = tt;
         };
     answer = λ change keyed sees fine. tt;
   }

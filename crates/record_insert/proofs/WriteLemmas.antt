@@ -39,6 +39,7 @@ module _ (hash : RecordKey → ℕ) (seat : ℕ) (key : RecordKey) (k bytes : �
             tt,
           );
           does = s.does;
+          led = tt;
         };
     answer = λ change keyed sees fine. refl;
   }

@@ -1,9 +1,8 @@
 -- What an insert holds, knows and asks for: its first try, and then the second one. docs/STEPS.md, "Insert, Replace,
 -- Delete".
 use Rattle.std.specs.Prelude.{ℕ, ◌≡◌, ◌+◌, Bool, true, false, List, Option, Some, None, IsSome, ⊤}
-use Rattle.split_merge.specs.stale_search.Searches.{ask_at as search_ask_at}
 use Rattle.record_file.specs.FirstTries.{FirstTryView, first_try_facts, first_try_left, first_try_locks}
-use Rattle.record_file.specs.FirstTries.{tried_at as found_in}
+use Rattle.record_file.specs.FirstTries.{ask_in as first_try_ask, tried_at as found_in}
 use Rattle.record_file.specs.declared.first_try.FirstTryStage.{FirstTryStage}
 use Rattle.record_file.specs.declared.first_try.FirstTryStage.TheVariants.{Searching, Written, Ended as FirstEnded}
 use Rattle.record_insert.specs.Words.{RecordKey, pair, Put, Lock, Store, Known, Ask, Turn, Tried}
@@ -64,7 +63,7 @@ abbrev pub insert_facts : InsertView → List Known
 insert_facts i = facts_in i.stage
 
 abbrev pub ask_in : InsertStage → Option Ask
-ask_in (First t said) = search_ask_at t.search.place t.search.kind t.search.pseudokey
+ask_in (First t said) = first_try_ask t.stage t.search
 ask_in (Second t) = second_ask_at t.place t.pseudokey
 
 -- this value is to be put, at the key and no other

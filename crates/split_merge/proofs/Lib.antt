@@ -5,6 +5,7 @@ pub mod FreeLemmas
 pub mod RowLemmas
 pub mod StepLemmas
 pub mod TurnLemmas
+pub mod FactLemmas
 pub mod FaultLemmas
 pub mod CallerLemmas
 pub use Rattle.stale_search.proofs as of_stale_search

@@ -1,12 +1,14 @@
 -- A step of a split as its turn, once its writes are those of the file.
-use Rattle.std.proofs.Common.{◌≡◌, refl, sym, ap, subst, ◌∙◌, ℕ, ◌+◌, true, List, Some, inl}
+use Rattle.std.proofs.Common.{◌≡◌, refl, sym, ap, subst, ◌∙◌, ℕ, ◌+◌, true, List, None, Some, inl}
 use Rattle.split_merge.proofs.Names.{AllKnown, DoesTied, FileFault, HasNoFileLock, HasNoRoom, IsHeld-some, IsSeat, KeepsOthers, Kind, OnlyWrites, Releases, Sees, Step, Store, Table, copy_directory, gone_on, held, kind_keeps, kind_of, layout_is, may_write, none_busy, raise_depth, retarget, row_of, set_counts, split_counts, store_of, turn_keeps, without_lock, world, write_new, write_old}
 use Rattle.step_rules.specs.declared.kind.Kind.TheVariants as kinds_of_step
 use Rattle.split_merge.specs.Words.{RecordKey, GREATEST_DEPTH, Pair, PoolState, World, Change, Range, upper_half_of, page_of, Lock, Selective, Directory, Page, Moved, SplitPlace, TakePage, CopyDirectory, RaiseDepth, WriteNew, WriteOld, Retarget, SetCounts, Done, Full}
 use Rattle.split_merge.specs.Order.{IsPlaced, after_take, after_copy, after_retarget}
 use Rattle.split_merge.specs.Taking.{TakesFirst}
 use Rattle.split_merge.specs.Splits.{SplitView, IsSplit, IsWanted, facts_at, split_facts, split_turn, in_directory, on_bucket}
+use Rattle.split_merge.proofs.FactLemmas.{split_knows_no_way}
 use Rattle.split_merge.proofs.RowLemmas.{directory_in, bucket_on}
+use Rattle.step_rules.proofs.SearchLemmas.{no_way}
 use Rattle.split_merge.proofs.StepLemmas.{Leads, lacks, takes, copies, raises, fills, links, names, counts}
 
 module _ (hash : RecordKey → ℕ) (seat : ℕ) (v : SplitView) (inv : IsSplit v) (p : Pair)
@@ -44,6 +46,8 @@ module _ (hash : RecordKey → ℕ) (seat : ℕ) (v : SplitView) (inv : IsSplit 
         known = subst (λ (w : World). AllKnown seat w (split_facts (record v' { place = after }))) (sym same)
             leads.known;
         does = subst (DoesTied hash (split_turn p) kind seat old) (sym same) leads.does;
+        led = no_way {F = FileFault} seat None (Moved kind) old (world pool'.images locks d)
+            (split_facts (record v' { place = after })) (split_knows_no_way after (record v' { place = after }));
       })
 
   pub took : (new : ℕ) (next : SplitPlace) → Knows TakePage → TakesFirst new pool.images pool'.images →
@@ -129,6 +133,7 @@ module _ (hash : RecordKey → ℕ) (seat : ℕ) (v : SplitView) (inv : IsSplit 
           known = subst (λ (w : World). AllKnown seat w (facts_at Full v)) (sym there)
               ((leader, sees.known.0.1), ((leader, sees.known.1.0.1), tt));
           does = subst (λ (w : World). Releases seat old w) (sym there) r;
+          led = tt;
         }
 
     -- the record has no room

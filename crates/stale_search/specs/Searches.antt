@@ -3,7 +3,7 @@ use Rattle.std.specs.Prelude.{ℕ, ◌≡◌, ◌↔◌, ◌≤◌, ◌+◌, ◌
 use Rattle.std.specs.Prelude.{List, [], ◌∷◌, length, Option, Some, None, IsSome, IsTrue, ⊤}
 use Rattle.std.specs.Option.{option_map}
 use Rattle.step_rules.specs.Words.{Lock, LockKind, Read, Exclusive, Directory, Page, Store, Change, Answers, entry_at, next_at, range_at}
-use Rattle.stale_search.specs.Words.{RecordKey, PoolState, Table, store_of, Progress, Moved, Ended, World, Known, Deep, LeadsTo, Ask, ForLock, HopFrom, Turn, SearchPlace, GrantDirectory, ReadDepth, ReadEntry, GrantPage, ReleaseDirectory, Look, Hop, Found}
+use Rattle.stale_search.specs.Words.{RecordKey, PoolState, Table, store_of, Progress, Moved, Ended, World, Known, Deep, LeadsTo, Ask, ForLock, ForEntry, ForPage, ForAnswer, HopFrom, Turn, SearchPlace, GrantDirectory, ReadDepth, ReadEntry, GrantPage, ReleaseDirectory, Look, Hop, Found}
 use Rattle.file_pages.specs.directory.declared.layout.TheConstants.{GREATEST_DEPTH}
 use Rattle.file_pages.specs.hash_file.Store.{has_bucket}
 use Rattle.file_pages.specs.hash_file.Changes.{RecordWrite}
@@ -83,8 +83,12 @@ search_facts s = facts_at s.place s.pseudokey
 
 abbrev pub ask_at : SearchPlace → LockKind → ℕ → Option Ask
 ask_at GrantDirectory kind k = Some (ForLock Directory Read)
-ask_at (GrantPage n) kind k = Some (ForLock (Page n) kind)
+ask_at (ReadEntry depth) kind k = Some (ForEntry depth k)
+ask_at (GrantPage n) kind k = Some (ForPage n k kind)
+ask_at (ReleaseDirectory n) kind k = Some (ForAnswer n k)
+ask_at (Look n) kind k = Some (ForAnswer n k)
 ask_at (Hop n) kind k = Some (HopFrom n k)
+ask_at (Found n found) kind k = Some (ForAnswer n k)
 ask_at place kind k = None
 
 -- in an operation that is to write this record, or none

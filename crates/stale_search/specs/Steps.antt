@@ -7,6 +7,7 @@ use Rattle.step_rules.specs.Words.{Lock, Change}
 use Rattle.stale_search.specs.Words.{PoolState, RecordKey, Table, row_of, with_row, IsFilePool, store_of, Progress, Moved, Fault, World, IsSoundWorld, Known, AllKnown, Turn}
 use Rattle.step_rules.specs.Does.{KeepsOthers}
 use Rattle.file_pages.specs.hash_file.Changes.{RecordWrite}
+use Rattle.step_rules.specs.Searching.{WalksTo}
 use Rattle.step_rules.specs.Turns.{TurnsAt, is_fault}
 use Rattle.stale_search.specs.Rows.{HasNoFileLock}
 
@@ -22,7 +23,7 @@ pub record Sees (hash : RecordKey → ℕ) (seat : ℕ) (facts : List Known) (po
   pub known : AllKnown seat (world pool.images locks change) facts
 
 -- what the step leaves: the file is one again, the world is sound, the others keep what they know, the seat knows
--- what its new place says, and just what the turn is about was done
+-- what its new place says, just what the turn is about was done, and a search has gone on its way
 pub record Step {F : Type 0} (hash : RecordKey → ℕ) (seat : ℕ) (turn : Turn) (did : Progress F) (facts : List Known)
     (pool pool' : PoolState) (locks locks' : Table) (change : Change) : Type 0 where
   pub after : Change
@@ -30,6 +31,7 @@ pub record Step {F : Type 0} (hash : RecordKey → ℕ) (seat : ℕ) (turn : Tur
   pub others : KeepsOthers hash seat (world pool.images locks change) (world pool'.images locks' after)
   pub known : AllKnown seat (world pool'.images locks' after) facts
   pub does : TurnsAt hash turn did seat (world pool.images locks change) (world pool'.images locks' after)
+  pub led : WalksTo seat turn.ask did (world pool.images locks change) (world pool'.images locks' after) facts
 
 -- a move leaves fewer steps than there were before, and a fault is the device's
 abbrev pub Nears : Progress FileFault → (left left' : ℕ) → PoolState → PoolState → Type 0

@@ -12,6 +12,6 @@ pub use Rattle.step_rules.specs.declared.progress.Progress.TheVariants.{Moved, B
 pub use Rattle.step_rules.specs.World.{World, IsHeld, IsReached}
 pub use Rattle.step_rules.specs.Sound.{IsSoundWorld}
 pub use Rattle.step_rules.specs.Known.{Known, Deep, LeadsTo, OnPage, Live, Built, Told, IsKnown, AllKnown}
-pub use Rattle.step_rules.specs.Turns.{Ask, ForLock, HopFrom, Turn}
+pub use Rattle.step_rules.specs.Turns.{Ask, ForLock, ForEntry, ForPage, ForAnswer, HopFrom, Turn}
 pub use Rattle.stale_search.specs.declared.place.SearchPlace.{SearchPlace}
 pub use Rattle.stale_search.specs.declared.place.SearchPlace.TheVariants.{GrantDirectory, ReadDepth, ReadEntry, GrantPage, ReleaseDirectory, Look, Hop, Found}

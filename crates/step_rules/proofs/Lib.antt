@@ -11,6 +11,7 @@ pub mod MergeStepLemmas
 pub mod OwnLemmas
 pub mod KindLemmas
 pub mod TurnLemmas
+pub mod SearchLemmas
 pub mod ScheduleLemmas
 pub mod RestLemmas
 pub mod MachineLemmas
@@ -19,6 +20,7 @@ pub mod BuddyLemmas
 pub mod WayLemmas
 pub mod BoundLemmas
 pub mod WalkLemmas
+pub mod WalkingLemmas
 pub mod AnswerLemmas
 pub mod RoomLemmas
 pub mod FallLemmas

@@ -9,25 +9,34 @@ use Rattle.step_rules.specs.LockSteps.{Grants, Hops, Converts}
 use Rattle.step_rules.specs.PageSteps.{WritesRecord}
 use Rattle.step_rules.specs.Does.{Does}
 use Rattle.step_rules.specs.Laws.{TurnKeeps}
-use Rattle.step_rules.specs.Turns.{Ask, ForLock, HopFrom, ToExclusive, Turn, GrantsAsked, HopsAsked, ConvertsAsked, WritesAsked, DoesTied}
+use Rattle.step_rules.specs.Turns.{Ask, ForLock, ForEntry, ForPage, ForAnswer, HopFrom, ToExclusive, Turn, GrantsAsked, HopsAsked, ConvertsAsked, WritesAsked, DoesTied}
 use Rattle.step_rules.proofs.KindLemmas.{kind_keeps}
 
 module _ (hash : RecordKey → ℕ) (seat : ℕ) (old new : World) where
   grants : (ask : Option Ask) → GrantsAsked ask seat old new → Grants seat old new
   grants None d = absurd d
   grants (Some (ForLock name kind)) d = d.grants
+  grants (Some (ForEntry depth k)) d = absurd d
+  grants (Some (ForPage page k kind)) d = d.grants
+  grants (Some (ForAnswer page k)) d = absurd d
   grants (Some (HopFrom page k)) d = absurd d
   grants (Some ToExclusive) d = absurd d
 
   hops : (ask : Option Ask) → HopsAsked ask seat old new → Hops seat old new
   hops None d = absurd d
   hops (Some (ForLock name kind)) d = absurd d
+  hops (Some (ForEntry depth k)) d = absurd d
+  hops (Some (ForPage page k kind)) d = absurd d
+  hops (Some (ForAnswer page k)) d = absurd d
   hops (Some (HopFrom page k)) d = d.hops
   hops (Some ToExclusive) d = absurd d
 
   converts : (ask : Option Ask) → ConvertsAsked ask seat old new → Converts seat old new
   converts None d = absurd d
   converts (Some (ForLock name kind)) d = absurd d
+  converts (Some (ForEntry depth k)) d = absurd d
+  converts (Some (ForPage page k kind)) d = absurd d
+  converts (Some (ForAnswer page k)) d = absurd d
   converts (Some (HopFrom page k)) d = absurd d
   converts (Some ToExclusive) d = d
 

@@ -34,7 +34,7 @@ quiet_is (Drained left right) is = absurd cc
 quiet_is (Freed right) is = absurd cc
 
 -- a walk at a stage that is told by an equation
-at_stage : (seat k : ℕ) (walk : SearchWalk) (w : World) (stage : WalkStage) → walk.stage ≡ stage
+pub at_stage : (seat k : ℕ) (walk : SearchWalk) (w : World) (stage : WalkStage) → walk.stage ≡ stage
     → IsOnItsWay seat k walk w →
     IsNearAt seat k w walk stage
 at_stage seat k walk w stage is on = subst (IsNearAt seat k w walk) is on.near
@@ -208,7 +208,7 @@ few_at seat k walk w Entered near = omega (arith, near.1)
 few_at seat k walk w (HasRead depth) near = omega (arith, near.1)
 few_at seat k walk w (IsAt page) near = omega (arith, near.1)
 
-late_by_one : (calm : Bool) → late calm ≤ 1
+pub late_by_one : (calm : Bool) → late calm ≤ 1
 late_by_one true = omega arith
 late_by_one false = omega arith
 

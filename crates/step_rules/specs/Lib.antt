@@ -10,11 +10,13 @@ pub mod LockSteps
 pub mod PageSteps
 pub mod Does
 pub mod Turns
+pub mod Searching
 pub mod OnePage
 pub mod Laws
 pub mod Learns
 pub mod Ways
 pub mod Walks
+pub mod Walking
 pub mod Answering
 pub mod Rooms
 pub mod Falls

@@ -29,11 +29,16 @@ use Rattle.step_rules.specs.Does.{Does}
 -- what a seat asks for
 pub data Ask : Type 0 where
   ForLock : LockName → LockKind → Ask
+  -- a search: by this depth, the entry of the pseudokey; the page that it is to lock; an answer of the page on which it
+  -- stands; the page behind it
+  ForEntry : (depth pseudokey : ℕ) → Ask
+  ForPage : (page pseudokey : ℕ) → LockKind → Ask
+  ForAnswer : (page pseudokey : ℕ) → Ask
   HopFrom : (page pseudokey : ℕ) → Ask
   ToExclusive : Ask
 
 pub record Turn : Type 0 where
-  -- what it may be blocked at
+  -- what it reads for, or may be blocked at
   pub ask : Option Ask
   -- the record that its operation is to put, replace or remove
   pub write : Option RecordWrite
@@ -76,6 +81,7 @@ pub record GrantsJust (name : LockName) (kind : LockKind) (seat : ℕ) (old new 
 
 abbrev pub GrantsAsked : Option Ask → ℕ → World → World → Type 0
 GrantsAsked (Some (ForLock name kind)) seat old new = GrantsJust name kind seat old new
+GrantsAsked (Some (ForPage page pseudokey kind)) seat old new = GrantsJust (Page page) kind seat old new
 GrantsAsked ask seat old new = ⊥
 
 -- from this page, for this pseudokey
@@ -163,6 +169,9 @@ pub record IsKeptFrom (page pseudokey : ℕ) (seat other : ℕ) (old : World) : 
 abbrev pub StandsInWay : Option Ask → ℕ → ℕ → World → Type 0
 StandsInWay None seat other old = ⊥
 StandsInWay (Some (ForLock name kind)) seat other old = Opposes old.locks seat name kind other
+StandsInWay (Some (ForEntry depth pseudokey)) seat other old = ⊥
+StandsInWay (Some (ForPage page pseudokey kind)) seat other old = Opposes old.locks seat (Page page) kind other
+StandsInWay (Some (ForAnswer page pseudokey)) seat other old = ⊥
 StandsInWay (Some (HopFrom page pseudokey)) seat other old = IsKeptFrom page pseudokey seat other old
 StandsInWay (Some ToExclusive) seat other old = Opposes old.locks seat Directory Exclusive other
 

@@ -4,6 +4,7 @@ ghost use Rattle.step_rules.specs.declared.kind.Kind.{Kind};
 ghost use Rattle.step_rules.specs.Falls.{CopiesOn, RetargetsOn, SearchesFall, SplitDeepens, StepFalls};
 ghost use Rattle.step_rules.specs.OnePage.{KindChangesLittle};
 ghost use Rattle.step_rules.specs.Rooms.{NoPageIsFree, NoRoomIsSeen, NoRoomIsStuck, TurnedAwayIsStuck};
+ghost use Rattle.step_rules.specs.Walking.{OwnStepsWalk, OthersStepsWalk};
 ghost use Rattle.step_rules.specs.Walks.{SearchesGoOn, SearchHopsLittle};
 ghost use Rattle.step_rules.specs.Ways.{KindLengthens, SchedulesLengthen, DepthIsExact, KindParts, EntryIsNear, HopIsNearer};
 ghost use Rattle.step_rules.specs.Laws.{OthersKnow, KindKeeps, TurnKeeps, TurnIsOfItsKind, KindKeepsContents, WriteChangesOneRecord, SchedulesKeepSound, SchedulesKeepKnowledge, RestIsSound, RestIsQuiet};
@@ -55,6 +56,14 @@ pub fn a_search_hops_once_more_at_most()
     ensures parts { (kind : Kind) → KindParts kind }
     ensures entry { EntryIsNear }
     ensures hop { HopIsNearer }
+{}
+
+/// How far a search has come is told by what its seat knows: by each step of its own it begins, or
+/// goes on, or counts a hop to another page; and a step of another seat adds to its walk what its
+/// kind may add. So who counts the hops of a seat need not see into its calls.
+pub fn a_search_is_told_by_what_its_seat_knows<F>()
+    ensures own { OwnStepsWalk F }
+    ensures others { OthersStepsWalk }
 {}
 
 /// Each own step of a search lowers the most that it has left. Each step that goes on with a split

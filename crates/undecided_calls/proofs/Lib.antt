@@ -9,4 +9,5 @@ pub mod TryLemmas
 pub mod StepLemmas
 pub mod DecideLemmas
 pub mod LawLemmas
+pub mod AimLemmas
 pub use Rattle.call_questions.proofs as of_call_questions

@@ -9,10 +9,10 @@ use Rattle.call_writes.specs.declared.deed.Deed.TheVariants as deeds
 use Rattle.call_writes.specs.declared.writes.CallWrites.{CallWrites}
 use Rattle.undecided_calls.specs.declared.trials.Trials.{Trials}
 use Rattle.undecided_calls.specs.declared.undecided.UndecidedCall.{UndecidedCall}
-use Rattle.undecided_calls.proofs.Names.{Carries, Faces, FileFault, FollowsRow, KeepsPlan, KeepsQuestions, Learns, few_of, times_most, writes_none}
+use Rattle.undecided_calls.proofs.Names.{Carries, Faces, Question, WalksTo, facts_of, FileFault, FollowsRow, KeepsPlan, KeepsQuestions, Learns, few_of, times_most, writes_none}
 use Rattle.undecided_calls.specs.Words.{AreNames, Call, Change, Decision, Ended, Fault, IsCarrying, IsReady, Lock, MOST_STEPS, NearsOrSpares, OnlyWrites, Plan, PoolState, Progress, QuestionsView, Record, RecordKey, Records, State, Step, Store, Table, is_done, is_fault, nothing, questions_facts, questions_left, questions_locks, questions_turn, row_of, store_of, with_row, world, writes_left_in, writes_locks, writes_turn}
 use Rattle.call_questions.specs.Words.{Moved, Blocked}
-use Rattle.undecided_calls.specs.Undecided.{TRIAL_STEPS, its_plan, undecided_facts, untried}
+use Rattle.undecided_calls.specs.Undecided.{TRIAL_STEPS, its_plan, undecided_facts, undecided_turn, untried}
 use Rattle.undecided_calls.specs.Knowing.{IsAsking, IsDecision, IsTrying}
 use Rattle.undecided_calls.specs.UndecidedSteps.{GoesOn, MakesUndecided}
 use Rattle.undecided_calls.proofs.ReadyLemmas.{begins_trying, no_question}
@@ -119,6 +119,9 @@ module _ (hash : RecordKey → ℕ) (seat : ℕ) (call : Call) (q : QuestionsVie
             a.faces.sees.sound refl;
         known = a.faces.sees.known;
         does = refl;
+        led = subst (λ (o : Option Question). WalksTo {F = FileFault} seat
+            (undecided_turn hash call asking (store_of pool.images)).ask Ended (world pool.images locks change)
+            (world pool.images locks change) (facts_of o)) (sym (no_question call q done)) tt;
       };
       after = records;
       still = λ unwritten. refl;

@@ -3,6 +3,7 @@ use Rattle.std.proofs.Common.{◌≡◌, refl, sym, ap, ◌∙◌, subst, ℕ, B
 use Rattle.std.proofs.lemmas.Bool.{true≢false}
 use Rattle.kernel_laws.specs.call_decisions.declared.settled.Settled.TheVariants as settlements
 use Rattle.step_rules.specs.Known.{AllKnown}
+use Rattle.step_rules.specs.Searching.{WalksTo}
 use Rattle.step_rules.specs.Sound.{IsSoundWorld}
 use Rattle.file_pages.specs.declared.fault.FileFault.TheVariants.{Failed}
 use Rattle.undecided_calls.proofs.ReadyLemmas.{no_question}
@@ -16,7 +17,7 @@ use Rattle.xsi_calls.specs.Words.{Agrees, AreNames, Call, Caller, CallWrites, Ca
 use Rattle.call_payments.specs.Payments.{begun_behind}
 use Rattle.step_rules.specs.declared.kind.Kind.TheVariants.{Decide}
 use Rattle.xsi_calls.specs.Concluding.{IsRightConclusion, conclusion_by}
-use Rattle.xsi_calls.specs.Machine.{CallView, IsCalmAt, is_undecided}
+use Rattle.xsi_calls.specs.Machine.{CallView, IsCalmAt, call_turn, is_undecided}
 use Rattle.xsi_calls.specs.CallSteps.{MakesCall, StepsCall, is_end}
 
 -- ---- nothing but its names is held
@@ -186,6 +187,10 @@ module _ (hash : RecordKey → ℕ) (seat : ℕ) (stopped : Bool) (caller : Call
           known = subst (AllKnown seat (world pool'.images locks' on.step.after))
               (sym (begun_knows hash settled trials)) tt;
           does = on.step.does;
+          led = subst (WalksTo {F = FileFault} seat
+              (call_turn hash (asking caller call u) (store_of pool.images)).ask (Moved Decide)
+              (world pool.images locks change) (world pool'.images locks' on.step.after))
+              (sym (begun_knows hash settled trials)) tt;
         };
         after = records;
         still = λ unwritten. refl;

@@ -11,4 +11,5 @@ pub mod ReleaseLemmas
 pub mod PayLemmas
 pub mod RowLemmas
 pub mod LawLemmas
+pub mod AimLemmas
 pub use Rattle.call_payments.proofs as of_call_payments

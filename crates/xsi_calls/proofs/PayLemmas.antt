@@ -2,6 +2,7 @@
 use Rattle.std.proofs.Common.{◌≡◌, refl, sym, ap, ◌∙◌, subst, ℕ, ◌+◌, Bool, true, false, not, List, [], Option, None, length, arith}
 use Rattle.std.proofs.lemmas.Bool.{true≢false}
 use Rattle.step_rules.specs.Does.{KeepsOthers}
+use Rattle.step_rules.specs.Searching.{WalksTo}
 use Rattle.step_rules.specs.Turns.{TurnsAt, no_ask}
 use Rattle.xsi_calls.proofs.Names.{AccessView, Deed, FileFault, FollowsRow, facts_under, locks_under, next_deed, set_out, turn_under, nears_with, owes_nothing_at_end, row_of-same, with_row-twice}
 use Rattle.call_payments.specs.declared.payment.Stage.TheVariants as stages
@@ -12,7 +13,7 @@ use Rattle.undecided_calls.proofs.PlanLemmas.{plans_have_one_counter}
 use Rattle.xsi_calls.proofs.CounterLemmas.{paid_counter}
 use Rattle.xsi_calls.proofs.GoLemmas.{at_end, not_end, with_stage}
 use Rattle.xsi_calls.specs.Words.{AreNames, Blocked, Call, Caller, Change, Ended, Fault, IsPaid, IsPaying, IsSeat, KeepsPayment, Known, Lock, Moved, NearsOrSpares, OnlyWrites, PaymentStage, Pays, Plan, PoolState, Progress, QuestionsView, RecordKey, Records, Sees, State, Store, Table, Turn, UndecidedCall, World, is_fault, its_plan, TrialLacksRoom, trials_of, payment_facts, payment_left, payment_locks, payment_turn, row_of, store_of, with_row, world}
-use Rattle.xsi_calls.specs.Machine.{CallView, call_left, call_locks}
+use Rattle.xsi_calls.specs.Machine.{CallView, call_facts, call_left, call_locks}
 use Rattle.xsi_calls.specs.Calling.{IsReleasing}
 use Rattle.xsi_calls.specs.CallSteps.{MakesCall, MakesRelease, StepsCall, is_end}
 
@@ -163,6 +164,11 @@ module _ (hash : RecordKey → ℕ) (seat : ℕ) (caller : Caller) (call : Call)
                     (sym (paid_turn hash p v (store_of pool.images) all_paid))
                     (subst (λ (w : World). TurnsAt hash no_ask did2 seat w (world pool'.images locks2 r.step.after))
                     same r.step.does);
+                led = subst (λ (t : Turn). WalksTo seat t.ask did2 (world pool.images locks change)
+                    (world pool'.images locks2 r.step.after) (call_facts m))
+                    (sym (paid_turn hash p v (store_of pool.images) all_paid))
+                    (subst (λ (w : World). WalksTo seat None did2 w (world pool'.images locks2 r.step.after)
+                    (call_facts m)) same r.step.led);
               };
               after = r.after;
               still = r.still;

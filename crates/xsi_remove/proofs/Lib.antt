@@ -6,3 +6,4 @@ pub mod FreshLemmas
 pub mod SweepLemmas
 pub mod LawLemmas
 pub mod Names
+pub mod AimLemmas

@@ -14,6 +14,7 @@ use Rattle.xsi_remove.specs.declared.work.Deed.TheVariants.{Reading, DeletingMes
 use Rattle.xsi_remove.specs.declared.work.Work.{Work}
 use Rattle.page_locks.specs.Table.{with_row}
 use Rattle.step_rules.specs.Known.{AllKnown}
+use Rattle.step_rules.specs.Searching.{WalksTo}
 use Rattle.xsi_remove.specs.Deeds.{behind, message_of, next_of, purpose_of}
 use Rattle.xsi_remove.specs.Sweeps.{Faces, IsSweeping, deeds_left, records_left, sweep_left, TURN_STEPS}
 use Rattle.xsi_remove.specs.SweepSteps.{MakesSweep, Rests, SweepsAway}
@@ -213,6 +214,8 @@ module _ (hash : RecordKey → ℕ) (seat : ℕ) (did : Progress FileFault) (w w
               others = step.others;
               known = subst (AllKnown seat (world pool'.images locks' step.after)) (sym fresh.facts) tt;
               does = step.does;
+              led = subst (WalksTo seat (access_turn w.access (store_of pool.images)).ask did
+                  (world pool.images locks change) (world pool'.images locks' step.after)) (sym fresh.facts) tt;
             };
         sweeps = λ held id count q s change f fine.
             let led = what_follows held id count q s change f in

@@ -15,7 +15,7 @@ try_grant-requires-clause-fresh c =
 pub returns-in-Granted-clause-step : goal.returns-in-Granted-clause-step
 returns-in-Granted-clause-step c = λ hash pool change write sees.
     granted_to hash c.args.seat [] pool c.args.locks.now change sees write [] c.try_grant.new.self c.args.lock.name
-    c.args.lock.kind (λ new g named kinded. tt) c.requires.seat
+    c.args.lock.kind tt (λ new g named kinded. tt) c.requires.seat
     (let size = ap length c.requires.row in let few = c.requires.next.few in
     let more = length_push c.args.self.now c.args.lock in omega (arith, size, few, more))
     (ap (λ row. kind_of row c.args.lock.name) c.requires.row

@@ -94,7 +94,7 @@ returns-in-Ok-put_record-clause-step g c = λ hash change before bare owns row k
     (write_record page (Put (pair v.key c.args.value.now))) c.in-Ok.ensures.reads sees'.honest ok in
     let used = ap (λ (x : BucketSight). x.used) (c.in-Ok.ensures.ok sees'.honest).says in
     let room = room_is c.in-Ok.sight.used (length c.args.value.now) (sym c.has_room.ensures ∙ c.if-has_room.true) in
-    rw (← c.self.view_is)
+    rw (← c.self.view_is, c.in-Searching.is)
     (put hash c.args.seat c.args.pool.now c.put_record.new.pool c.args.locks.now change v page before bare keyed' owns'
     here (writes_behind true c.args.pool.now c.read_bucket.new.pool c.put_record.new.pool
     c.in-Ok.ensures.reads c.in-Ok-put_record.ensures.writes) found c.args.value.now

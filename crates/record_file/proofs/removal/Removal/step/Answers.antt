@@ -96,7 +96,7 @@ returns-in-Ok-remove_record-clause-step g c = λ hash change before bare owns ro
     let ok = rw (← c.self.invariant.key_is) at c.in-Ok-remove_record.ensures.ok in
     let is = behind_read c.args.pool.now c.read_bucket.new.pool c.remove_record.new.pool
     (write_record page (Remove v.key)) c.in-Ok.ensures.reads sees'.honest ok in
-    rw (← c.self.view_is)
+    rw (← c.self.view_is, c.in-Searching.is)
     (removed hash c.args.seat c.args.pool.now c.remove_record.new.pool c.args.locks.now change v page before bare keyed'
     owns' here (writes_behind true c.args.pool.now c.read_bucket.new.pool c.remove_record.new.pool
     c.in-Ok.ensures.reads c.in-Ok-remove_record.ensures.writes) bytes found is)

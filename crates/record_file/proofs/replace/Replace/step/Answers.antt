@@ -77,7 +77,7 @@ returns-in-Ok-clause-step g c = λ hash change before bare owns row keyed short 
     let here = page_row_selective v page (Some bytes) at c.self.invariant.kind _ before row' in
     let found = sees_found v page (Some bytes) at hash c.args.seat c.args.pool.now c.args.locks.now change sees' in
     let is = rw (← c.self.invariant.key_is) at (c.in-Ok.ensures.ok sees'.honest) in
-    rw (← c.self.view_is)
+    rw (← c.self.view_is, c.in-Searching.is)
     (replaced hash c.args.seat c.args.pool.now c.replace_front.new.pool c.args.locks.now change v page before bare
     keyed'
     owns' here c.in-Ok.ensures.writes bytes found c.args.front.now short' is)

@@ -30,7 +30,7 @@ returns-in-Granted-clause-step g c = λ hash change write before bare row sees _
     let row' = rw (← c.self.view_is, c.in-GrantDirectory.is) at c.requires.row in
     rw (← c.self.view_is, c.in-GrantDirectory.is)
     (granted_to hash c.args.seat [] c.args.pool.now c.args.locks.now change sees' write
-    (Built (InPhase Quiet) ∷ []) c.try_grant.new.self Directory Selective
+    (Built (InPhase Quiet) ∷ []) c.try_grant.new.self Directory Selective tt
     (λ new g named kinded. (
       directory_is_quiet hash c.args.seat
           (world c.args.pool.now.images c.args.locks.now change) new g sees'.sound named (rw kinded refl),
@@ -53,7 +53,7 @@ returns-in-Ok-clause-step g c = λ hash change write before bare row sees _.
     (read hash c.args.seat _ c.args.pool.now c.args.locks.now change sees' write kinds.ReadDepth
     (record { ask = None; write = write }) (Built (InPhase Quiet) ∷ Built (HasDepth c.in-Ok.depth) ∷ [])
     c.read_depth.new.pool c.in-Ok.ensures.reads
-    (sees'.known.0, ((owned, sym (c.in-Ok.ensures.ok sees'.honest)), tt)) (record { had = here; is = refl }))
+    (sees'.known.0, ((owned, sym (c.in-Ok.ensures.ok sees'.honest)), tt)) (record { had = here; is = refl }) tt)
 
 -- by the depth that was read, the entry is the bucket
 pub returns-in-Ok-read_entry-clause-step : goal.returns-in-Ok-read_entry-clause-step
@@ -70,7 +70,7 @@ returns-in-Ok-read_entry-clause-step g c = λ hash change write before bare row 
     (Built (InPhase Quiet) ∷ Built (HasDepth c.in-ReadEntry.depth)
     ∷ Built (BucketOf c.self.inside.pseudokey c.in-Ok-read_entry.page) ∷ [])
     c.read_entry.new.pool c.in-Ok-read_entry.ensures.reads
-    (sees'.known.0, (sees'.known.1.0, ((rw (is, at) bucket), tt))) (record { had = here; is = refl }))
+    (sees'.known.0, (sees'.known.1.0, ((rw (is, at) bucket), tt))) (record { had = here; is = refl }) tt)
 
 pub returns-in-Granted-try_grant-clause-step : goal.returns-in-Granted-try_grant-clause-step
 returns-in-Granted-try_grant-clause-step g c = λ hash change write before bare row sees _.
@@ -79,7 +79,7 @@ returns-in-Granted-try_grant-clause-step g c = λ hash change write before bare 
     let here = IsHeld-writer c.args.locks.now c.args.seat Directory sees'.known.0.0 in
     rw (← c.self.view_is, c.in-GrantPage.is)
     (granted hash c.args.seat _ c.args.pool.now c.args.locks.now change sees' write
-    c.try_grant-in-GrantPage.new.self (Page c.in-GrantPage.page) Selective c.requires.seat
+    c.try_grant-in-GrantPage.new.self (Page c.in-GrantPage.page) Selective tt c.requires.seat
     (let room = row'.room in let size = ap length row'.is in let more = length_push row'.before
     (lock_of Directory Selective) in omega (arith, room, size, more))
     (ap (λ (locks : List Lock). kind_of locks (Page c.in-GrantPage.page)) row'.is

@@ -1,8 +1,8 @@
-use Rattle.std.proofs.Common.{◌≡◌, refl, ap, ◌∙◌, subst, ℕ, ◌%◌, ◌^◌, ◌≤◌, List, [], ◌∷◌, length, arith, None}
+use Rattle.std.proofs.Common.{◌≡◌, refl, ap, ◌∙◌, subst, ℕ, ◌%◌, ◌^◌, ◌≤◌, List, [], ◌∷◌, length, arith, None, Some}
 use Rattle.step_rules.proofs.OwnLemmas.{low_bits_below}
 use Rattle.std.proofs.lemmas.List.{length_push}
 use Rattle.step_rules.specs.Words.{Lock, Directory, Page, Read, Store, entry_at, distance}
-use Rattle.stale_search.specs.Words.{kind_of, lock_of, without, Table, row_of, with_row, IsReached, Deep, LeadsTo, store_of}
+use Rattle.stale_search.specs.Words.{kind_of, lock_of, without, Table, row_of, with_row, IsReached, Deep, LeadsTo, ForEntry, store_of}
 use Rattle.page_locks.proofs.TableLemmas.{row_of-same}
 use Rattle.step_rules.specs.declared.kind.Kind.TheVariants as kinds
 use Rattle.step_rules.proofs.LockLemmas.{IsHeld-some}
@@ -12,9 +12,10 @@ use Rattle.stale_search.specs.Steps.{world}
 use Rattle.stale_search.specs.Rows.{on_page}
 use Rattle.stale_search.proofs.RowLemmas.{directory_in, both_held, page_not_in, released}
 use Rattle.stale_search.proofs.LeftLemmas.{twice_below}
+use Rattle.step_rules.specs.Searching.{ByEntry}
 use Rattle.step_rules.specs.Ways.{hops_between}
 use Rattle.step_rules.proofs.BoundLemmas.{depth_is_exact, entry_is_near}
-use Rattle.stale_search.proofs.StepLemmas.{granted, read, gave_back}
+use Rattle.stale_search.proofs.StepLemmas.{granted, granted_page, kept_from, read, gave_back, stays_there}
 use Rattle.stale_search.proofs.search.Search.step.Goals as goal
 
 pub read_entry-requires-clause-within : goal.read_entry-requires-clause-within
@@ -34,7 +35,7 @@ returns-in-Granted-clause-step g c = λ hash change write before bare row sees _
     let row' = rw (← c.self.view_is, c.in-GrantDirectory.is) at c.requires.row in
     rw (← c.self.view_is, c.in-GrantDirectory.is)
     (granted hash c.args.seat [] c.args.pool.now c.args.locks.now change sees' write c.try_grant.new.self Directory
-    _ c.requires.seat
+    _ tt c.requires.seat
     (let room = row'.room in let size = ap length row'.is in omega (arith, room, size))
     (ap (λ (locks : List Lock). kind_of locks Directory) row'.is ∙ row'.bare.directory)
     c.in-Granted.ensures.busy.1 (λ page same. absurd cc)
@@ -52,7 +53,12 @@ returns-in-Ok-clause-step g c = λ hash change write before bare row sees _.
     rw (← c.self.view_is, c.in-ReadDepth.is)
     (read hash c.args.seat [] c.args.pool.now c.args.locks.now change sees' write kinds.ReadDepth
     (record { ask = None; write = write }) (Deep c.in-Ok.depth ∷ [])
-    c.read_depth.new.pool c.in-Ok.ensures.reads ((here, omega (arith, deep)), tt) (record { had = here; is = refl }))
+    c.read_depth.new.pool c.in-Ok.ensures.reads ((here, omega (arith, deep)), tt) (record { had = here; is = refl })
+    (record {
+      moved = refl;
+      shared = ap (λ (locks : List Lock). kind_of locks Directory) row' ∙ directory_in before bare Read;
+      is = deep;
+    }))
 
 pub returns-in-Ok-read_entry-clause-step : goal.returns-in-Ok-read_entry-clause-step
 returns-in-Ok-read_entry-clause-step g c = λ hash change write before bare row sees _.
@@ -66,8 +72,14 @@ returns-in-Ok-read_entry-clause-step g c = λ hash change write before bare row 
     let at = c.index.ensures in
     rw (← c.self.view_is, c.in-ReadEntry.is)
     (read hash c.args.seat _ c.args.pool.now c.args.locks.now change sees' write kinds.ReadEntry
-    (record { ask = None; write = write }) (LeadsTo c.in-Ok-read_entry.page c.self.inside.pseudokey ∷ [])
-    c.read_entry.new.pool c.in-Ok-read_entry.ensures.reads ((rw (is, at) led), tt) (record { had = here; is = refl }))
+    (record { ask = Some (ForEntry c.in-ReadEntry.depth c.self.inside.pseudokey); write = write })
+    (LeadsTo c.in-Ok-read_entry.page c.self.inside.pseudokey ∷ [])
+    c.read_entry.new.pool c.in-Ok-read_entry.ensures.reads ((rw (is, at) led), tt) (record { had = here; is = refl })
+    (record {
+      still = refl;
+      behind = λ e. absurd cc;
+      by = ByEntry c.in-ReadEntry.depth refl (is ∙ ap (entry_at (store_of c.args.pool.now.images)) at);
+    }))
 
 pub returns-in-Granted-try_grant-clause-step : goal.returns-in-Granted-try_grant-clause-step
 returns-in-Granted-try_grant-clause-step g c = λ hash change write before bare row sees _.
@@ -76,8 +88,8 @@ returns-in-Granted-try_grant-clause-step g c = λ hash change write before bare 
     let here = IsHeld-some c.args.locks.now c.args.seat Directory _
     (ap (λ (locks : List Lock). kind_of locks Directory) row'.is ∙ directory_in row'.before row'.bare Read) in
     rw (← c.self.view_is, c.in-GrantPage.is)
-    (granted hash c.args.seat _ c.args.pool.now c.args.locks.now change sees' write
-    c.try_grant-in-GrantPage.new.self (Page c.in-GrantPage.page) _ c.requires.seat
+    (granted_page hash c.args.seat _ c.args.pool.now c.args.locks.now change sees' write
+    c.in-GrantPage.page c.self.inside.pseudokey _ c.try_grant-in-GrantPage.new.self sees'.known c.requires.seat
     (let room = row'.room in let size = ap length row'.is in let more = length_push row'.before
     (lock_of Directory Read) in omega (arith, room, size, more))
     (ap (λ (locks : List Lock). kind_of locks (Page c.in-GrantPage.page)) row'.is ∙ page_not_in row'.before
@@ -89,6 +101,21 @@ returns-in-Granted-try_grant-clause-step g c = λ hash change write before bare 
     (world c.args.pool.now.images c.args.locks.now change)
     here c.self.invariant.shared)
     c.in-Granted-try_grant.ensures.ok)
+
+pub returns-in-Blocked-try_grant-clause-step : goal.returns-in-Blocked-try_grant-clause-step
+returns-in-Blocked-try_grant-clause-step g c = λ hash change write before bare row sees _.
+    let sees' = rw (← c.self.view_is, c.in-GrantPage.is) at sees in
+    rw (← c.self.view_is, c.in-GrantPage.is, c.in-Blocked-try_grant.ensures.same)
+    (kept_from hash c.args.seat _ c.args.pool.now c.args.locks.now change sees' write c.in-GrantPage.page
+    c.self.inside.pseudokey c.self.inside.kind c.in-Blocked-try_grant.other sees'.known
+    c.in-Blocked-try_grant.ensures.blocked)
+
+pub returns-in-Found-clause-step : goal.returns-in-Found-clause-step
+returns-in-Found-clause-step g c = λ hash change write before bare row sees _.
+    let sees' = rw (← c.self.view_is, c.in-Found.is) at sees in
+    rw (← c.self.view_is, c.in-Found.is)
+    (stays_there hash c.args.seat _ c.args.pool.now c.args.locks.now change sees' write c.in-Found.field-0
+    c.self.inside.pseudokey sees'.known)
 
 pub returns-in-ReleaseDirectory-clause-row : goal.returns-in-ReleaseDirectory-clause-row
 returns-in-ReleaseDirectory-clause-row g c = λ before bare row.
