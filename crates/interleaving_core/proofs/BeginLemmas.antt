@@ -6,6 +6,8 @@ use Rattle.std.proofs.lemmas.List.{length-replicate}
 use Rattle.std.proofs.lemmas.List.Sums.{sum_by-cons}
 use Rattle.std.proofs.lemmas.Option.{slice_get-get_or}
 use Rattle.page_locks.proofs.ChangeLemmas.{with_row-own}
+use Rattle.search_counts.specs.Counting.{CountsState, begun_count, opened_counts}
+use Rattle.search_counts.specs.declared.under_way.UnderWay.TheVariants.{Nothing}
 use Rattle.interleaving_core.specs.Words.{Call, Caller, Entry, IsReady, IsSeat, Table, caller_at, with_row}
 use Rattle.xsi_calls.proofs.RowLemmas.{new_holds_nothing}
 use Rattle.interleaving_core.specs.Active.{ActiveView, HasBegun, drafted}
@@ -66,6 +68,7 @@ module _ {K : Type 0} (seat : ℕ) (caller : Caller) (call : Call) (a : ActiveVi
         let then = due_then in
         let one = few_due (Some a) in
         omega (arith, then, one, more);
+    counted = whole.counted ∙ sym (length-with_call old.seats seat (Some a));
   }
 
   pub whole_begun : IsWhole new
@@ -109,8 +112,9 @@ none_due (suc n) =
     sum_by-cons due_at None (replicate n None) ∙ ap (λ (x : ℕ). due_at None + x) (none_due n)
 
 pub opened_whole : {K : Type 0} (n : ℕ) (k : KernelState K) → IsReady k.pool → k.locks ≡ replicate n [] →
-    k.seats ≡ replicate n None → length k.callers ≡ n → k.journal ≡ [] → k.stopped ≡ false → 1 ≤ k.room → IsWhole k
-opened_whole n k ready locks seats callers journal stopped room = record {
+    k.seats ≡ replicate n None → length k.callers ≡ n → k.journal ≡ [] → k.stopped ≡ false → 1 ≤ k.room →
+    k.searches ≡ opened_counts n → IsWhole k
+opened_whole n k ready locks seats callers journal stopped room searches = record {
   ready = ready;
   rows = locks ∙ sym (ap (map locks_of) seats ∙ idle_rows n);
   callers = callers ∙ sym (ap length seats ∙ length-replicate n None);
@@ -118,6 +122,8 @@ opened_whole n k ready locks seats callers journal stopped room = record {
       (sym (ap (λ (x : Seats). call_at x seat) seats ∙ idle_at n seat)) tt;
   room = let one = entries in omega (arith, one, room);
   few = let one = entries in omega (arith, one);
+  counted = ap (λ (s : CountsState). length s.counts) searches ∙ length-replicate n (begun_count Nothing)
+      ∙ sym (ap length seats ∙ length-replicate n None);
 }
   where
     entries : entries_of k ≡ 1

@@ -3,12 +3,16 @@ use Rattle.std.proofs.Common.{◌≡◌, refl, sym, ap, ◌∙◌, subst, ℕ, �
 use Rattle.std.specs.Prelude.{sum_by}
 use Rattle.std.proofs.lemmas.Bool.{cases_eq}
 use Rattle.std.proofs.lemmas.List.{get_or_read, length-map}
+use Rattle.page_locks.proofs.ChangeLemmas.{IsSeat-with_row}
+use Rattle.search_counts.specs.Counting.{CountsState, IsCountedSeat}
 use Rattle.interleaving_core.specs.Words.{Caller, Entry, IsSeat, PoolState, RecordKey, Table, caller_at, row_of, with_row}
 use Rattle.interleaving_core.specs.Active.{ActiveView}
 use Rattle.interleaving_core.specs.Kernel.{IsCallOf, IsWhole, KernelState, call_at, due_at, due_for_stop, entries_of, locks_of, with_call}
 use Rattle.interleaving_core.specs.Owing.{IsRun, IsTurn, answer_told, call_of, is_failure, told, untold}
+use Rattle.interleaving_core.specs.Searches.{Counts, CountsFrom, ends_on}
 use Rattle.interleaving_core.specs.Turn.{TakesTurn, Turns}
 use Rattle.interleaving_core.specs.declared.step.Step.{Step}
+use Rattle.interleaving_core.specs.declared.step.Step.TheVariants as steps
 use Rattle.interleaving_core.proofs.TurnLemmas.{Does, turn_does}
 use Rattle.interleaving_core.proofs.PlaceLemmas.{Seats, at_other, at_place, at_same, due_with, length-with_call, row_at, rows_with, with_own, with_place}
 
@@ -33,12 +37,21 @@ module _ {K : Type 0} (s : KernelState K) (whole : IsWhole s) where
   pub seat_there : (seat : ℕ) → IsSeat s.locks seat → seat ≤ length s.seats
   seat_there seat is = let many = as_many in let last = is.1 in omega (arith, last, many)
 
+  -- its searches are counted
+  pub is_counted : (seat : ℕ) → IsSeat s.locks seat → IsCountedSeat s.searches.counts seat
+  is_counted seat is =
+      let many = as_many in
+      let last = is.1 in
+      let counted = whole.counted in
+      (is.0, omega (arith, last, many, counted))
+
 -- ---- a seat without a call changes nothing
 
 same_state : {K : Type 0} (old new : KernelState K) → new.keys ≡ old.keys → new.pool ≡ old.pool →
     new.locks ≡ old.locks → new.callers ≡ old.callers → new.seats ≡ old.seats → new.journal ≡ old.journal →
-    new.room ≡ old.room → new.stopped ≡ old.stopped → new.failed ≡ old.failed → new ≡ old
-same_state {K} old new keys pool locks callers seats journal room stopped failed =
+    new.room ≡ old.room → new.stopped ≡ old.stopped → new.failed ≡ old.failed → new.searches ≡ old.searches →
+    new ≡ old
+same_state {K} old new keys pool locks callers seats journal room stopped failed searches =
     ap (λ (x : K). record new { keys = x }) keys
     ∙ ap (λ (x : PoolState). record new { keys = old.keys; pool = x }) pool
     ∙ ap (λ (x : Table). record new { keys = old.keys; pool = old.pool; locks = x }) locks
@@ -49,6 +62,7 @@ same_state {K} old new keys pool locks callers seats journal room stopped failed
       room = new.room;
       stopped = new.stopped;
       failed = new.failed;
+      searches = new.searches;
     }) callers
     ∙ ap (λ (x : Seats). record old {
       seats = x;
@@ -56,27 +70,66 @@ same_state {K} old new keys pool locks callers seats journal room stopped failed
       room = new.room;
       stopped = new.stopped;
       failed = new.failed;
+      searches = new.searches;
     }) seats
     ∙ ap (λ (x : List Entry). record old {
       journal = x;
       room = new.room;
       stopped = new.stopped;
       failed = new.failed;
+      searches = new.searches;
     }) journal
-    ∙ ap (λ (x : ℕ). record old { room = x; stopped = new.stopped; failed = new.failed }) room
-    ∙ ap (λ (x : Bool). record old { stopped = x; failed = new.failed }) stopped
-    ∙ ap (λ (x : Bool). record old { failed = x }) failed
+    ∙ ap (λ (x : ℕ). record old {
+      room = x;
+      stopped = new.stopped;
+      failed = new.failed;
+      searches = new.searches;
+    }) room
+    ∙ ap (λ (x : Bool). record old { stopped = x; failed = new.failed; searches = new.searches }) stopped
+    ∙ ap (λ (x : Bool). record old { failed = x; searches = new.searches }) failed
+    ∙ ap (λ (x : CountsState). record old { searches = x }) searches
 
 spares_by : {K : Type 0} (hash : RecordKey → ℕ) (seat : ℕ) (did : Step) (at left : Option ActiveView)
     (old new : KernelState K) → call_at old.seats seat ≡ at → at ≡ None →
     Turns hash seat old.stopped did at left old.pool new.pool old.locks new.locks old.journal new.journal →
     new.seats ≡ with_call old.seats seat left → new.keys ≡ old.keys → new.callers ≡ old.callers →
-    new.stopped ≡ old.stopped → new.room ≡ old.room → old.failed ≡ false → new.failed ≡ is_failure did → new ≡ old
-spares_by hash seat did None left old new is none t seats keys callers stopped room sound failed =
+    new.stopped ≡ old.stopped → new.room ≡ old.room → old.failed ≡ false → new.failed ≡ is_failure did →
+    Counts seat did old new → new ≡ old
+spares_by hash seat did None left old new is none t seats keys callers stopped room sound failed counts =
     same_state old new keys t.same_pool t.same_locks callers
     (seats ∙ ap (with_call old.seats seat) (t.left_is ∙ sym is) ∙ with_own old.seats seat) t.same_journal room stopped
-    (failed ∙ ap is_failure t.told_is ∙ sym sound)
-spares_by hash seat did (Some a) left old new is none t seats keys callers stopped room sound failed = absurd cc
+    (failed ∙ ap is_failure t.told_is ∙ sym sound) (subst (λ (d : Step). Counts seat d old new) t.told_is counts)
+spares_by hash seat did (Some a) left old new is none t seats keys callers stopped room sound failed counts =
+    absurd cc
+
+-- ---- what is counted
+
+-- as many searches as seats
+same_many : {K : Type 0} (seat : ℕ) (did : Step) (old new : KernelState K) → Counts seat did old new →
+    length new.searches.counts ≡ length old.searches.counts
+same_many seat (steps.Moved kind) old new counts = counts.as_many
+same_many seat (steps.Blocked other) old new counts = ap (λ (s : CountsState). length s.counts) counts
+same_many seat steps.Waiting old new counts = ap (λ (s : CountsState). length s.counts) counts
+same_many seat (steps.Answered answer) old new counts = ap (λ (s : CountsState). length s.counts) counts
+same_many seat steps.Idle old new counts = ap (λ (s : CountsState). length s.counts) counts
+same_many seat (steps.Fault fault) old new counts = ap (λ (s : CountsState). length s.counts) counts
+
+-- from the page on which its row ended
+pub counts_by : {K : Type 0} (seat : ℕ) (did : Step) (old new : KernelState K) (before : ℕ) →
+    before ≡ ends_on (row_of old.locks seat) →
+    CountsFrom seat did before new.locks old.searches new.searches → Counts seat did old new
+counts_by seat did old new before is counts =
+    by did (subst (λ (n : ℕ). CountsFrom seat did n new.locks old.searches new.searches) is counts)
+  where
+    by : (d : Step) →
+        CountsFrom seat d (ends_on (row_of old.locks seat)) new.locks old.searches new.searches →
+        Counts seat d old new
+    by (steps.Moved kind) counts = counts
+    by (steps.Blocked other) counts = counts
+    by steps.Waiting counts = counts
+    by (steps.Answered answer) counts = counts
+    by steps.Idle counts = counts
+    by (steps.Fault fault) counts = counts
 
 -- ---- a step leaves it whole
 
@@ -84,83 +137,87 @@ module _ {K : Type 0} (seat : ℕ) (did : Step) (left : Option ActiveView) (old 
     (whole : IsWhole old) (is : IsSeat old.locks seat)
     (does : Does seat did (call_at old.seats seat) left old.pool new.pool old.locks new.locks old.journal new.journal)
     (seats : new.seats ≡ with_call old.seats seat left) (keys : new.keys ≡ old.keys)
-    (callers : new.callers ≡ old.callers) (stopped : new.stopped ≡ old.stopped) where
-  many : length old.locks ≡ length old.seats
-  many = as_many old whole
+    (callers : new.callers ≡ old.callers) (stopped : new.stopped ≡ old.stopped) (counts : Counts seat did old new)
+  where
+    many : length old.locks ≡ length old.seats
+    many = as_many old whole
 
-  within : seat ≤ length old.seats
-  within = omega (arith, is.1, many)
+    within : seat ≤ length old.seats
+    within = omega (arith, is.1, many)
 
-  pub same_here : call_at new.seats seat ≡ left
-  same_here = ap (λ (x : Seats). call_at x seat) seats ∙ at_same old.seats seat left is.0 within
+    pub same_here : call_at new.seats seat ≡ left
+    same_here = ap (λ (x : Seats). call_at x seat) seats ∙ at_same old.seats seat left is.0 within
 
-  pub row : new.locks ≡ with_row old.locks seat (locks_of left)
-  row = does.row (its_row old whole seat)
+    pub row : new.locks ≡ with_row old.locks seat (locks_of left)
+    row = does.row (its_row old whole seat)
 
-  no_more : entries_of new ≤ entries_of old
-  no_more =
-      let sums = ap (sum_by due_at) seats in
-      let all = due_with old.seats seat left is.0 within in
-      let grown = ap length does.grows ∙ length-append old.journal does.added in
-      let stops = ap due_for_stop stopped in
-      let due = does.due in
-      omega (arith, sums, all, grown, stops, due)
+    no_more : entries_of new ≤ entries_of old
+    no_more =
+        let sums = ap (sum_by due_at) seats in
+        let all = due_with old.seats seat left is.0 within in
+        let grown = ap length does.grows ∙ length-append old.journal does.added in
+        let stops = ap due_for_stop stopped in
+        let due = does.due in
+        omega (arith, sums, all, grown, stops, due)
 
-  calls : (other : ℕ) → IsCallOf (caller_at new.callers other) (call_at new.seats other)
-  calls other = subst (λ (cs : List Caller). IsCallOf (caller_at cs other) (call_at new.seats other)) (sym callers)
-      (elim (cases_eq other seat) [
-        | inl e ↦ subst (λ (n : ℕ). IsCallOf (caller_at old.callers n) (call_at new.seats n)) (sym e)
-            (subst (IsCallOf (caller_at old.callers seat)) (sym same_here)
-            (does.caller (caller_at old.callers seat) (whole.calls seat)))
-        | inr ne ↦ subst (IsCallOf (caller_at old.callers other))
-            (sym (ap (λ (x : Seats). call_at x other) seats ∙ at_other old.seats seat other left ne))
-            (whole.calls other)
-      ])
+    calls : (other : ℕ) → IsCallOf (caller_at new.callers other) (call_at new.seats other)
+    calls other = subst (λ (cs : List Caller). IsCallOf (caller_at cs other) (call_at new.seats other)) (sym callers)
+        (elim (cases_eq other seat) [
+          | inl e ↦ subst (λ (n : ℕ). IsCallOf (caller_at old.callers n) (call_at new.seats n)) (sym e)
+              (subst (IsCallOf (caller_at old.callers seat)) (sym same_here)
+              (does.caller (caller_at old.callers seat) (whole.calls seat)))
+          | inr ne ↦ subst (IsCallOf (caller_at old.callers other))
+              (sym (ap (λ (x : Seats). call_at x other) seats ∙ at_other old.seats seat other left ne))
+              (whole.calls other)
+        ])
 
-  pub whole_behind : old.room ≤ new.room → IsWhole new
-  whole_behind more = record {
-    ready = does.ready whole.ready;
-    rows = row ∙ ap (λ (t : Table). with_row t seat (locks_of left)) whole.rows ∙ rows_with old.seats seat left
-        ∙ sym (ap (map locks_of) seats);
-    callers = ap length callers ∙ whole.callers
-        ∙ sym (ap length seats ∙ length-with_call old.seats seat left);
-    calls = calls;
-    room = let few = no_more in let had = whole.room in omega (arith, few, had, more);
-    few = let fewer = no_more in let had = whole.few in omega (arith, fewer, had);
-  }
+    pub whole_behind : old.room ≤ new.room → IsWhole new
+    whole_behind more = record {
+      ready = does.ready whole.ready;
+      rows = row ∙ ap (λ (t : Table). with_row t seat (locks_of left)) whole.rows ∙ rows_with old.seats seat left
+          ∙ sym (ap (map locks_of) seats);
+      callers = ap length callers ∙ whole.callers
+          ∙ sym (ap length seats ∙ length-with_call old.seats seat left);
+      calls = calls;
+      room = let few = no_more in let had = whole.room in omega (arith, few, had, more);
+      few = let fewer = no_more in let had = whole.few in omega (arith, fewer, had);
+      counted = same_many seat did old new counts ∙ whole.counted
+          ∙ sym (ap length seats ∙ length-with_call old.seats seat left);
+    }
 
-  pub run : IsRun seat (answer_told did) old new
-  run = record {
-    seats = seats ∙ sym (ap (with_call old.seats seat) same_here);
-    locks = row ∙ sym (ap (λ (x : Option ActiveView). with_row old.locks seat (locks_of x)) same_here);
-    call = subst (λ (x : Option ActiveView). IsSome (call_of x) → call_of x ≡ call_of (call_at old.seats seat))
-        (sym same_here) does.call;
-    added = does.added;
-    journal = does.grows;
-    owed = does.owed
-        ∙ sym (ap (λ (x : Option ActiveView). told seat (call_at old.seats seat) (answer_told did) ++ untold seat x)
-        same_here);
-    rest = record {
-      keys = keys;
-      callers = callers;
-      stopped = stopped;
-      honest = does.honest;
-      later = does.later;
-    };
-  }
+    pub run : IsRun seat (answer_told did) old new
+    run = record {
+      seats = seats ∙ sym (ap (with_call old.seats seat) same_here);
+      locks = row ∙ sym (ap (λ (x : Option ActiveView). with_row old.locks seat (locks_of x)) same_here);
+      call = subst (λ (x : Option ActiveView). IsSome (call_of x) → call_of x ≡ call_of (call_at old.seats seat))
+          (sym same_here) does.call;
+      added = does.added;
+      journal = does.grows;
+      owed = does.owed
+          ∙ sym (ap (λ (x : Option ActiveView). told seat (call_at old.seats seat) (answer_told did) ++ untold seat x)
+          same_here);
+      rest = record {
+        keys = keys;
+        callers = callers;
+        stopped = stopped;
+        honest = does.honest;
+        later = does.later;
+      };
+    }
 
-  pub turn_behind : (call_at old.seats seat ≡ None → new ≡ old) → old.failed ≡ false → new.failed ≡ is_failure did →
-      IsTurn seat did old new
-  turn_behind spares sound failed = record {
-    run = run;
-    idle = does.idle;
-    spares = spares;
-    decides = λ other. does.grows ∙ ap (λ (es : List Entry). old.journal ++ es) (does.decides other)
-        ∙ append-nil old.journal;
-    failed = failed ∙ sym (ap (λ (b : Bool). b || is_failure did) sound);
-    fails = λ broken. absurd cc;
-    still = λ broken. absurd cc;
-  }
+    pub turn_behind : (call_at old.seats seat ≡ None → new ≡ old) → old.failed ≡ false → new.failed ≡ is_failure did →
+        IsTurn seat did old new
+    turn_behind spares sound failed = record {
+      run = run;
+      idle = does.idle;
+      spares = spares;
+      decides = λ other. does.grows ∙ ap (λ (es : List Entry). old.journal ++ es) (does.decides other)
+          ∙ append-nil old.journal;
+      failed = failed ∙ sym (ap (λ (b : Bool). b || is_failure did) sound);
+      fails = λ broken. absurd cc;
+      still = λ broken. absurd cc;
+      counts = counts;
+    }
 
 -- ---- a step of the machine of its call
 
@@ -184,12 +241,13 @@ pub makes_step : {K : Type 0} (of : K → RecordKey → ℕ) (seat : ℕ) (did :
     Turns (of old.keys) seat old.stopped did slot left old.pool new.pool old.locks new.locks old.journal new.journal →
     new.seats ≡ slice_set old.seats (seat - 1) left → new.keys ≡ old.keys → new.callers ≡ old.callers →
     new.stopped ≡ old.stopped → old.room ≤ new.room → (slot ≡ None → new.room ≡ old.room) → old.failed ≡ false →
-    new.failed ≡ is_failure did → MakesStep of seat did now new
+    new.failed ≡ is_failure did → Counts seat did old new → MakesStep of seat did now new
 makes_step of seat did slot left old new now view whole seated at turns seats keys callers stopped room spare sound
-    failed =
+    failed counts =
     subst (λ (k : KernelState _). MakesStep of seat did k new) view record {
-      whole = whole_behind seat did left old new whole is does seats_are keys callers stopped room;
-      turn = turn_behind seat did left old new whole is does seats_are keys callers stopped spares sound failed;
+      whole = whole_behind seat did left old new whole is does seats_are keys callers stopped counts room;
+      turn = turn_behind seat did left old new whole is does seats_are keys callers stopped counts spares sound
+          failed;
       makes = λ a at_a fine. subst (λ (x : Option ActiveView). Turns (of old.keys) seat old.stopped did (Some a) x
           old.pool new.pool old.locks new.locks old.journal new.journal) (sym left_is)
           (subst (λ (x : Option ActiveView). Turns (of old.keys) seat old.stopped did x left old.pool new.pool
@@ -218,8 +276,29 @@ makes_step of seat did slot left old new now view whole seated at turns seats ke
 
     spares : call_at old.seats seat ≡ None → new ≡ old
     spares none = spares_by (of old.keys) seat did (call_at old.seats seat) left old new refl none here seats_are keys
-        callers stopped (spare (slot_is ∙ none)) sound failed
+        callers stopped (spare (slot_is ∙ none)) sound failed counts
 
     does : Does seat did (call_at old.seats seat) left old.pool new.pool old.locks new.locks old.journal new.journal
     does = turn_does (of old.keys) seat old.stopped did (call_at old.seats seat) left old.pool new.pool old.locks
         new.locks old.journal new.journal here
+
+-- ---- the seat behind a step
+
+-- the row of a seat is that of the call in its place
+pub row_there : {K : Type 0} (seat : ℕ) (slot : Option ActiveView) (old : KernelState K) → IsWhole old →
+    IsSeat old.locks seat → slot ≡ slice_index_or old.seats (seat - 1) slot → row_of old.locks seat ≡ locks_of slot
+row_there seat slot old whole is at =
+    its_row old whole seat
+    ∙ sym (ap locks_of (slot_here old.seats seat slot is.0 (seat_there old whole seat is) at))
+
+-- it stays one
+pub seat_behind : {K : Type 0} (hash : RecordKey → ℕ) (seat : ℕ) (did : Step) (slot left : Option ActiveView)
+    (old : KernelState K) (pool : PoolState) (locks : Table) (journal : List Entry) → IsWhole old →
+    IsSeat old.locks seat → slot ≡ slice_index_or old.seats (seat - 1) slot →
+    Turns hash seat old.stopped did slot left old.pool pool old.locks locks old.journal journal → IsSeat locks seat
+seat_behind hash seat did slot left old pool locks journal whole is at turns =
+    subst (λ (t : Table). IsSeat t seat) (sym (does.row (row_there seat slot old whole is at)))
+    (IsSeat-with_row old.locks seat seat (locks_of left) is)
+  where
+    does : Does seat did slot left old.pool pool old.locks locks old.journal journal
+    does = turn_does hash seat old.stopped did slot left old.pool pool old.locks locks old.journal journal turns

@@ -6,6 +6,7 @@ use Rattle.interleaving_core.specs.Words.{Answer, Call, Entry, IsSeat, Table, ro
 use Rattle.interleaving_core.specs.Active.{ActiveView}
 use Rattle.interleaving_core.specs.Kernel.{IsWhole, KernelState, call_at, locks_of, with_call}
 use Rattle.interleaving_core.specs.Owing.{IsMove, IsRun, IsTurn, answer_told, call_of, entry_of, is_failure, told, told_of_failure, untold}
+use Rattle.interleaving_core.specs.Searches.{Counts}
 use Rattle.interleaving_core.specs.declared.step.Step.{Step}
 use Rattle.interleaving_core.specs.declared.step.Step.TheVariants as steps
 use Rattle.interleaving_core.proofs.PlaceLemmas.{Seats, at_other, with_own, with_twice}
@@ -40,8 +41,13 @@ fails_put seat did s whole broken is = record {
   failed = broken ∙ sym (ap (λ (b : Bool). b || is_failure did) broken);
   fails = λ b. is;
   still = λ b. refl;
+  counts = subst (λ (d : Step). Counts seat d s s) (sym is) (stays (call_at s.seats seat));
 }
   where
+    stays : (at : Option ActiveView) → Counts seat (told_of_failure at) s s
+    stays None = refl
+    stays (Some a) = refl
+
     none : (at : Option ActiveView) → answer_told (told_of_failure at) ≡ None
     none None = refl
     none (Some a) = refl

@@ -4,6 +4,7 @@ use Rattle.buffer_pool.specs.Pool.{opened}
 use Rattle.file_check.specs.Whole.{IsFileOf, IsToldOf}
 use Rattle.queue_model.specs.State.{State}
 use Rattle.queue_model.specs.declared.entry.Entry.TheVariants.{Stopped}
+use Rattle.search_counts.specs.Counting.{opened_counts}
 use Rattle.interleaving_core.specs.Words.{Call, Caller, RecordKey, caller_at}
 use Rattle.interleaving_core.specs.Active.{ActiveView, HasBegun}
 use Rattle.interleaving_core.specs.Kernel.{KernelState, call_at, entries_of, with_call}
@@ -15,7 +16,7 @@ use Rattle.interleaving_core.specs.declared.kernel.TheConstants.{MAX_DECIDED}
 
 -- ---- a kernel is opened
 
--- over the pages of a device: its seats have no call, nothing is locked, and nothing was decided
+-- over the pages of a device: its seats have no call, nothing is locked, and nothing was decided or counted
 pub record IsOpened {K : Type 0} (with_keys : K) (content : List (List ℕ)) (honest : Bool) (sitting : List Caller)
     (frames : ℕ) (k : KernelState K) : Type 0 where
   pub keys : k.keys ≡ with_keys
@@ -26,6 +27,7 @@ pub record IsOpened {K : Type 0} (with_keys : K) (content : List (List ℕ)) (ho
   pub journal : k.journal ≡ []
   pub stopped : k.stopped ≡ false
   pub failed : k.failed ≡ false
+  pub searches : k.searches ≡ opened_counts (length sitting)
 
 -- the pages are the file of a system
 abbrev pub HasSystem : (RecordKey → ℕ) → List (List ℕ) → Type 0

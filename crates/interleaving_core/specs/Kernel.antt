@@ -2,6 +2,7 @@
 -- docs/QUEUES.md, "Journals".
 use Rattle.std.specs.Prelude.{ℕ, zero, suc, ◌≡◌, ◌+◌, ◌≤◌, Bool, true, false, List, [], map, Option, Some, None, length, slice_index_or, slice_set, sum_by, ⊤}
 use Rattle.interleaving_core.specs.Words.{Caller, Entry, IsReady, Lock, PoolState, Table, call_locks, caller_at}
+use Rattle.search_counts.specs.Counting.{CountsState}
 use Rattle.interleaving_core.specs.Active.{ActiveView, drafted}
 use Rattle.interleaving_core.specs.declared.kernel.TheConstants.{MAX_DECIDED}
 
@@ -19,6 +20,8 @@ pub record KernelState (K : Type 0) : Type 0 where
   -- whether calls that would wait are refused, and whether a step has failed
   pub stopped : Bool
   pub failed : Bool
+  -- the hops of each seat's last search, and what other seats did meanwhile
+  pub searches : CountsState
 
 -- the call of a seat; seats count from 1
 abbrev pub call_at : List (Option ActiveView) → ℕ → Option ActiveView
@@ -69,3 +72,5 @@ pub record IsWhole {K : Type 0} (s : KernelState K) : Type 0 where
   -- memory was taken for each entry that is due, and a session has so many at most, and a stop
   pub room : entries_of s ≤ s.room
   pub few : entries_of s ≤ MAX_DECIDED + 1
+  -- the searches of each seat are counted
+  pub counted : length s.searches.counts ≡ length s.seats

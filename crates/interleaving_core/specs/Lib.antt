@@ -4,9 +4,11 @@ pub mod Fault
 pub mod Waiting
 pub mod Turn
 pub mod Kernel
+pub mod Searches
 pub mod Owing
 pub mod Driving
 pub mod Beginning
 pub mod Closing
 pub use Rattle.file_check.specs as file_check
+pub use Rattle.search_counts.specs as search_counts
 pub use Rattle.xsi_calls.specs as xsi_calls

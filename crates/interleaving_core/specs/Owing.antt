@@ -6,6 +6,7 @@ use Rattle.step_rules.specs.declared.kind.Kind.TheVariants.{Decide}
 use Rattle.interleaving_core.specs.Words.{Answer, Call, Entry, answer_of_call, with_row}
 use Rattle.interleaving_core.specs.Active.{ActiveView}
 use Rattle.interleaving_core.specs.Kernel.{KernelState, call_at, locks_of, with_call}
+use Rattle.interleaving_core.specs.Searches.{Counts}
 use Rattle.interleaving_core.specs.declared.fault.StepFault.TheVariants as faults
 use Rattle.interleaving_core.specs.declared.step.Step.{Step}
 use Rattle.interleaving_core.specs.declared.step.Step.TheVariants as steps
@@ -101,3 +102,5 @@ pub record IsTurn {K : Type 0} (seat : ℕ) (did : Step) (old new : KernelState 
   pub failed : new.failed ≡ (old.failed || is_failure did)
   pub fails : old.failed ≡ true → did ≡ told_of_failure (call_at old.seats seat)
   pub still : old.failed ≡ true → new ≡ old
+  -- each step that moves is counted, and no other
+  pub counts : Counts seat did old new

@@ -3,6 +3,7 @@
 ghost use Rattle.std.specs.Prelude.{◌≡◌, ◌↔◌, ◌+◌, ◌*◌, ◌^◌, ◌≤◌, ◌<◌, Some, false, true, IsTrue, IsErrAnd, IfErr, IfOk, length, sum_by};
 ghost use Rattle.std.specs.List.{list_any};
 ghost use Rattle.page_device.specs.Device.{HasRisen};
+ghost use Rattle.search_counts.specs.Counting.{count_at};
 ghost use Rattle.interleaving_core.specs.Active.{ActiveView};
 ghost use Rattle.interleaving_core.specs.Beginning.{HasCall, HasSystem, IsOpened, IsRefused, IsStopped, MayRefuse};
 ghost use Rattle.interleaving_core.specs.Closing.{IfBusy, IsBusy, IsFlushedTo, IsReleased, OnDevice, fault_in, has_one, is_busy, journal_in};
@@ -18,6 +19,7 @@ use crate::advance::advance;
 use crate::fault::{BeginFault, CloseFault, OpenFault, StepFault};
 use crate::opening::{copied, idle_seats, least_frames};
 use crate::places::{due, has_call, told_of_failure};
+use crate::searches::{last_page, note};
 use crate::step::Step;
 use bucket_page::PseudoKey;
 use buffer_pool::{Pool, PoolFault};
@@ -26,6 +28,7 @@ use file_pages::FileFault;
 use page_device::PageDevice;
 use page_locks::{LockTable, MAX_SEATS};
 use queue_model::{Call, Caller, Entry};
+use search_counts::{SearchCount, SearchCounts};
 use std::alloc::Global;
 use std::marker::Model;
 
@@ -47,6 +50,7 @@ pub struct Kernel<D: PageDevice, K: PseudoKey> {
     journal: Vec<Entry>,
     stopped: bool,
     failed: bool,
+    searches: SearchCounts,
 }
 
 impl<D: PageDevice, K: PseudoKey> Model for Kernel<D, K> {
@@ -65,6 +69,7 @@ impl<D: PageDevice, K: PseudoKey> Model for Kernel<D, K> {
       room = vec_capacity k.journal;
       stopped = k.stopped;
       failed = k.failed;
+      searches = k.searches;
     } };
 
     ghost invariant = { λ k. IsWhole (record {
@@ -77,6 +82,7 @@ impl<D: PageDevice, K: PseudoKey> Model for Kernel<D, K> {
       room = vec_capacity k.journal;
       stopped = k.stopped;
       failed = k.failed;
+      searches = k.searches;
     }) };
 }
 
@@ -140,6 +146,9 @@ impl<D: PageDevice + Drop, K: PseudoKey + Copy> Kernel<D, K> {
         let Ok(callers) = copied(alloc, callers) else {
             return Err((device, OpenFault::NoMemory));
         };
+        let Ok(searches) = SearchCounts::new(alloc, seats) else {
+            return Err((device, OpenFault::NoMemory));
+        };
         let Ok(seats) = idle_seats(alloc, seats) else {
             return Err((device, OpenFault::NoMemory));
         };
@@ -157,6 +166,7 @@ impl<D: PageDevice + Drop, K: PseudoKey + Copy> Kernel<D, K> {
                 journal,
                 stopped: false,
                 failed: false,
+                searches,
             }),
             Err((device, PoolFault::TooFewFrames)) => Err((device, OpenFault::TooFewFrames)),
             Err((device, _)) => Err((device, OpenFault::NoMemory)),
@@ -190,6 +200,35 @@ impl<D: PageDevice + Drop, K: PseudoKey + Copy> Kernel<D, K> {
         ensures { result ≡ self.now.failed }
     {
         self.failed
+    }
+
+    /// How often the last search of a seat went on from one page to another, since it read the
+    /// directory's depth. It stays until the seat's next search, is 0 before its first, and counts
+    /// no more from `u32::MAX` on.
+    pub fn hops(&self, seat: u8) -> u32
+        requires { IsSeat self.now.locks seat }
+        ensures { result ≡ (count_at self.now.searches.counts seat).hops }
+    {
+        self.count(seat).hops
+    }
+
+    /// How many WriteOlds and Tombstones other seats have made, the steps that may make a search
+    /// longer by a hop, since the last search of a seat read the directory's depth. They are counted
+    /// until the seat's next search, also behind the end of this one, and from `u32::MAX` on no more.
+    pub fn changes(&self, seat: u8) -> u32
+        requires { IsSeat self.now.locks seat }
+        ensures { result ≡ (count_at self.now.searches.counts seat).changes }
+    {
+        self.count(seat).changes
+    }
+
+    /// Whether no split and no merge was under way since the last search of a seat read the
+    /// directory's depth, also behind the end of that search, until the seat's next one.
+    pub fn was_calm(&self, seat: u8) -> bool
+        requires { IsSeat self.now.locks seat }
+        ensures { result ≡ (count_at self.now.searches.counts seat).calm }
+    {
+        self.count(seat).calm
     }
 
     /// A kernel is always whole, whatever the device gives.
@@ -243,6 +282,7 @@ impl<D: PageDevice + Drop, K: PseudoKey + Copy> Kernel<D, K> {
         if self.failed {
             return told_of_failure(&self.seats[place]);
         }
+        let before = last_page(&self.locks, seat);
         let step = advance(
             &mut self.seats[place],
             &mut self.pool,
@@ -253,6 +293,7 @@ impl<D: PageDevice + Drop, K: PseudoKey + Copy> Kernel<D, K> {
             seat,
         );
         self.failed = is_failure(&step);
+        note(&mut self.searches, &self.locks, seat, &step, before);
         step
     }
 
@@ -311,6 +352,7 @@ impl<D: PageDevice + Drop, K: PseudoKey + Copy> Kernel<D, K> {
             journal,
             stopped: _,
             failed,
+            searches: _,
         } = self;
         if failed {
             let device = pool.into_device();
@@ -331,6 +373,14 @@ impl<D: PageDevice + Drop, K: PseudoKey + Copy> Kernel<D, K> {
         ensures faults { D.fault_count result ≡ self.pool.faults }
     {
         self.pool.into_device()
+    }
+
+    /// What is counted of the last search of a seat.
+    fn count(&self, seat: u8) -> SearchCount
+        requires { IsSeat self.now.locks seat }
+        ensures { result ≡ count_at self.now.searches.counts seat }
+    {
+        self.searches.of(seat)
     }
 
     /// The entries that the journal has, and those that are due.

@@ -9,6 +9,7 @@ mod fault;
 mod kernel;
 mod opening;
 mod places;
+mod searches;
 mod step;
 mod waiting;
 
@@ -16,5 +17,6 @@ pub use fault::{BUSY, BeginFault, CloseFault, OpenFault, SESSION_FULL, StepFault
 pub use file_check;
 pub use kernel::{Closed, Kernel, MAX_DECIDED, MOST_STEPS, NotClosed};
 pub use opening::FRAMES_BESIDE;
+pub use search_counts;
 pub use step::Step;
 pub use xsi_calls;

@@ -25,7 +25,7 @@ module _ {K : Type 0} (hash : RecordKey → ℕ) (base : State) (seat : ℕ) (a 
   Does told = DoesAsTold hash base seat a told old new
 
   together : AreTogether hash led.now (calls_of old.seats) old.pool old.locks
-  together = led.together sound
+  together = (led.together sound).calls
 
   at : IsUnderWay hash seat led.now a.machine together.records old.pool old.locks together.change
   at = well hash seat led.now (calls_of old.seats seat) together.records old.pool old.locks together.change a.machine

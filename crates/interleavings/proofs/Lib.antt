@@ -2,6 +2,8 @@ pub mod PartLemmas
 pub mod EventLemmas
 pub mod RunLemmas
 pub mod LeadLemmas
+pub mod CountLemmas
+pub mod CountedLemmas
 pub mod OpenLemmas
 pub mod TurnLemmas
 pub mod ScheduleLemmas

@@ -2,7 +2,13 @@
 use Rattle.std.proofs.Common.{ℕ, ◌≡◌, ◌≤◌, inl, inr, refl, sym, ap, ◌∙◌, subst, Bool, true, false, List, [], ◌∷◌, ◌++◌, Option, Some, None, length}
 use Rattle.std.proofs.lemmas.Bool.{cases_eq}
 use Rattle.std.proofs.lemmas.List.{length-replicate}
-use Rattle.concurrent_calls.specs.Laws.{BeginTogether, LeaveAtRest, RestTogether, StopTogether}
+use Rattle.concurrent_calls.specs.Laws.{AreTheOthers, BeginTogether, LeaveAtRest, RestTogether, StopTogether}
+use Rattle.interleaving_core.specs.search_counts.Counting.{CountsState, count_at}
+use Rattle.interleaving_core.specs.xsi_calls.Words.{world}
+use Rattle.step_rules.specs.Words.{Quiet}
+use Rattle.interleavings.specs.Counting.{facts_of}
+use Rattle.interleavings.proofs.CountedLemmas.{counted_at_first, counted_in, counted_of, fresh_facts, opened_count}
+use Rattle.interleavings.proofs.CountLemmas.{hops_few}
 use Rattle.interleaving_core.proofs.BeginLemmas.{idle_at}
 use Rattle.interleaving_core.proofs.PlaceLemmas.{at_other, at_same, length-with_call}
 use Rattle.concurrent_calls.proofs.of_lone_calls.of_opened_files.CloseLemmas.{closes_at_rest}
@@ -12,7 +18,7 @@ use Rattle.queue_model.specs.Laws.{KeepsOrder}
 use Rattle.queue_model.specs.declared.entry.Entry.TheVariants.{Stopped}
 use Rattle.interleavings.specs.Words.{ActiveView, Call, Caller, Entry, HasCall, HasFittingCall, IsFileAtRest, IsSeat, IsStopped, KernelState, LeadsAlong, PoolState, RecordKey, State, after, call_at, caller_at, with_call}
 use Rattle.interleavings.specs.Leading.{IsLedFrom, calls_of}
-use Rattle.interleavings.specs.Laws.{AnswersAsPlainLists, BeginsLed, ClosesLed, OpensLed, RefusesLed, StopsLed}
+use Rattle.interleavings.specs.Laws.{AnswersAsPlainLists, BeginsLed, ClosesLed, OpensLed, RefusesLed, SearchesHopFew, StopsLed}
 use Rattle.interleavings.proofs.LeadLemmas.{machine, others_same}
 
 -- ---- it is opened
@@ -34,14 +40,23 @@ opens_led rests K hash keys content honest callers frames k opened true_to_it ha
             ∙ ap (λ (x : List (Option ActiveView)). call_at x seat) (sym opened.seats) ∙ there));
         callers = λ seat caller sits. fitting seat caller (sym (ap (λ (cs : List Caller). caller_at cs seat)
             opened.callers) ∙ sits);
-        together = λ sound. rests hash has.0 (calls_of k.seats) k.pool k.locks
+        together = λ sound. counted_in hash has.0 k Quiet
+            (rests hash has.0 (calls_of k.seats) k.pool k.locks
             (subst (λ (p : PoolState). IsFileAtRest hash has.0 p k.locks) (sym opened.pool)
-            (subst (IsFileAtRest hash has.0 _) (sym opened.locks) rest.rest))
-            (λ seat. ap machine (ap (λ (x : List (Option ActiveView)). call_at x seat) opened.seats
-            ∙ idle_at (length callers) seat));
+            (subst (IsFileAtRest hash has.0 _) (sym opened.locks) rest.rest)) idle)
+            (ap (λ (c : CountsState). c.under_way) opened.searches)
+            (λ seat some within. counted_at_first seat (count_at k.searches.counts seat)
+            (world k.pool.images k.locks Quiet) (calls_of k.seats seat) (idle seat)
+            (ap (λ (c : CountsState). count_at c.counts seat) opened.searches
+            ∙ opened_count (length callers) seat some
+            (subst (λ (n : ℕ). seat ≤ n) (ap length opened.seats ∙ length-replicate (length callers) None) within)));
       };
     }
   where
+    idle : (seat : ℕ) → calls_of k.seats seat ≡ None
+    idle seat = ap machine (ap (λ (x : List (Option ActiveView)). call_at x seat) opened.seats
+        ∙ idle_at (length callers) seat)
+
     none_some : (a : ActiveView) → ◌≡◌ {A = Option ActiveView} None (Some a) → ⊥
     none_some a clash = cc
 
@@ -66,6 +81,24 @@ module _ (begins : BeginTogether) {K : Type 0} (hash : RecordKey → ℕ) (base 
     | inr apart ↦ led.sits i a (sym (at_other old.seats seat i (Some has.active) apart) ∙ there)
   ]
 
+  abbrev with_begun : List (Option ActiveView)
+  with_begun = with_call old.seats seat (Some has.active)
+
+  there_begun : call_at with_begun seat ≡ Some has.active
+  there_begun = at_same old.seats seat (Some has.active) is.0 within_begun
+
+  others_begun : AreTheOthers seat (calls_of old.seats) (calls_of with_begun)
+  others_begun = others_same old.seats with_begun seat (Some has.active) refl
+
+  -- a call that has just begun knows nothing
+  same_facts : (i : ℕ) → facts_of (calls_of with_begun i) ≡ facts_of (calls_of old.seats i)
+  same_facts i = elim (cases_eq i seat) [
+    | inl same ↦ ap (λ (n : ℕ). facts_of (calls_of with_begun n)) same ∙ ap facts_of (ap machine there_begun)
+        ∙ fresh_facts has.active.machine has.begun.begins.new
+        ∙ sym (ap (λ (n : ℕ). facts_of (calls_of old.seats n)) same ∙ ap facts_of (ap machine has.may.free))
+    | inr apart ↦ ap facts_of (others_begun i apart)
+  ]
+
   begun_led : IsLedFrom hash base (record old { seats = with_call old.seats seat (Some has.active); room = new.room })
   begun_led = record {
     now = led.now;
@@ -75,11 +108,17 @@ module _ (begins : BeginTogether) {K : Type 0} (hash : RecordKey → ℕ) (base 
     rows = led.rows ∙ sym (length-with_call old.seats seat (Some has.active));
     seated = led.seated ∙ sym (length-with_call old.seats seat (Some has.active));
     sits = sits_begun;
-    together = λ sound. begins hash seat has.caller call led.now has.active.machine (calls_of old.seats)
-        (calls_of (with_call old.seats seat (Some has.active))) old.pool old.locks (led.together sound)
-        (ap machine has.may.free) (led.callers seat has.caller has.sits) fits has.begun.begins
-        (ap machine (at_same old.seats seat (Some has.active) is.0 within_begun))
-        (others_same old.seats (with_call old.seats seat (Some has.active)) seat (Some has.active) refl);
+    together = λ sound.
+        let was = led.together sound in
+        counted_in hash led.now (record old { seats = with_begun; room = new.room }) was.calls.change
+        (begins hash seat has.caller call led.now has.active.machine (calls_of old.seats) (calls_of with_begun)
+        old.pool old.locks was.calls (ap machine has.may.free) (led.callers seat has.caller has.sits) fits
+        has.begun.begins (ap machine there_begun) others_begun)
+        was.phase
+        (λ i some near. counted_of i (count_at old.searches.counts i)
+        (world old.pool.images old.locks was.calls.change) (facts_of (calls_of old.seats i))
+        (facts_of (calls_of with_begun i)) (same_facts i)
+        (was.counted i some (subst (λ (n : ℕ). i ≤ n) (length-with_call old.seats seat (Some has.active)) near)));
   }
 
 pub begins_led : BeginTogether → (K : Type 0) → BeginsLed K
@@ -96,7 +135,9 @@ refuses_led K hash base seat call refusal old new led refused =
       rows = led.rows;
       seated = led.seated;
       sits = led.sits;
-      together = led.together;
+      together = λ sound.
+          let was = led.together sound in
+          record { calls = was.calls; phase = was.phase; counted = was.counted };
     } in
     subst (IsLedFrom hash base) (sym refused.same) still
 
@@ -115,7 +156,11 @@ module _ (stops : StopTogether) {K : Type 0} (hash : RecordKey → ℕ) (base : 
     rows = led.rows;
     seated = led.seated;
     sits = led.sits;
-    together = λ sound. stops hash led.now true (calls_of old.seats) old.pool old.locks (led.together sound);
+    together = λ sound.
+        let was = led.together sound in
+        counted_in hash (record led.now { stopped = true })
+        (record old { journal = old.journal ++ Stopped ∷ []; stopped = true; room = new.room }) was.calls.change
+        (stops hash led.now true (calls_of old.seats) old.pool old.locks was.calls) was.phase was.counted;
   }
 
   pub stopped_by : (b : Bool) → old.stopped ≡ b → IsLedFrom hash base new
@@ -133,8 +178,17 @@ as_plain_lists rests order K hash base k lawful led = record {
   fifo = order k.callers k.journal base led.now lawful led.leads;
   file = λ idle sound. subst (λ (s : State). IsFileAtRest hash s k.pool k.locks)
       (sym (after-LeadsAlong k.callers k.journal base led.now led.leads))
-      (rests hash led.now (calls_of k.seats) k.pool k.locks (led.together sound) (λ seat. ap machine (idle seat)));
+      (rests hash led.now (calls_of k.seats) k.pool k.locks (led.together sound).calls
+      (λ seat. ap machine (idle seat)));
 }
+
+-- ---- what it counts
+
+pub counts_few : (K : Type 0) → SearchesHopFew K
+counts_few K hash base k seat led sound some within =
+    let counted = (led.together sound).counted seat some (subst (λ (n : ℕ). seat ≤ n) led.rows within) in
+    hops_few seat (facts_of (calls_of k.seats seat)) (count_at k.searches.counts seat)
+    (world k.pool.images k.locks (led.together sound).calls.change) counted
 
 -- ---- it is closed
 
@@ -143,7 +197,8 @@ closes_led rests K hash base content k led idle sound flushed =
     closes_at_rest hash (after k.callers k.journal base) k.pool (record k.pool { stored = content }) k.locks
     (subst (λ (s : State). IsFileAtRest hash s k.pool k.locks)
     (sym (after-LeadsAlong k.callers k.journal base led.now led.leads))
-    (rests hash led.now (calls_of k.seats) k.pool k.locks (led.together sound) (λ seat. ap machine (idle seat))))
+    (rests hash led.now (calls_of k.seats) k.pool k.locks (led.together sound).calls
+    (λ seat. ap machine (idle seat))))
     (record {
       written = flushed.images;
       keeps = record {

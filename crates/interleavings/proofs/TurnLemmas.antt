@@ -1,13 +1,22 @@
 -- A kernel that is led from a system stays so behind a step of a seat.
-use Rattle.std.proofs.Common.{ℕ, ◌≡◌, ◌≤◌, inl, inr, refl, sym, ap, ◌∙◌, subst, Bool, true, false, ◌||◌, List, Option, Some, None, IsSome, length}
+use Rattle.std.proofs.Common.{ℕ, ◌≡◌, ◌≤◌, ◌⊎◌, inl, inr, refl, sym, ap, ◌∙◌, subst, Bool, true, false, ◌||◌, List, [], Option, Some, None, IsSome, length}
 use Rattle.std.proofs.Math.Path.{fun_ext}
 use Rattle.std.proofs.lemmas.Bool.{cases_eq, true≢false}
-use Rattle.concurrent_calls.specs.Laws.{AreTheOthers, BeginTogether, EndTogether, LeadTogether, StepTogether}
+use Rattle.concurrent_calls.specs.Laws.{AreTheOthers, AreTogetherIn, BeginTogether, EndTogether, LeadTogether, StepTogether}
 use Rattle.concurrent_calls.specs.Together.{AreTogether, IsUnderWay}
 use Rattle.concurrent_calls.proofs.SeatLemmas.{well}
 use Rattle.interleaving_core.proofs.PlaceLemmas.{at_other, at_same, length-with_call}
 use Rattle.interleaving_core.specs.Active.{is_waiting}
 use Rattle.interleaving_core.specs.Owing.{is_failure}
+use Rattle.interleaving_core.specs.Searches.{Counts}
+use Rattle.interleaving_core.specs.search_counts.Counting.{CountsState, count_at}
+use Rattle.interleaving_core.specs.xsi_calls.Machine.{call_facts, call_turn}
+use Rattle.interleaving_core.specs.xsi_calls.Words.{Change, world}
+use Rattle.step_rules.specs.World.{World}
+use Rattle.step_rules.proofs.WalkingLemmas.{others_steps_walk, own_steps_walk}
+use Rattle.interleavings.specs.Counting.{AreCounted, IsCounted, facts_of, under_way_in}
+use Rattle.interleavings.proofs.CountedLemmas.{counted_idle, counted_in, counted_of, counts_by, fresh_facts}
+use Rattle.interleavings.proofs.CountLemmas.{CountsBy, counted_beside, counted_own, phase_behind}
 use Rattle.interleaving_core.specs.Turn.{IsLeft, IsLeftWhenOver, MakesTurn, told_of}
 use Rattle.page_locks.proofs.ChangeLemmas.{length-with_row}
 use Rattle.interleaving_core.specs.xsi_calls.declared.conclusion.Conclusion.{Conclusion}
@@ -19,7 +28,7 @@ use Rattle.interleavings.specs.Laws.{StepsLed}
 use Rattle.interleavings.proofs.LeadLemmas.{keeps_answer, leads_on, machine, others_same, still_leads}
 use Rattle.interleaving_core.specs.Turn.{StaysWaiting, TakesTurn}
 use Rattle.interleaving_core.specs.Waiting.{stays_waiting}
-use Rattle.interleavings.specs.Words.{CallView, Table}
+use Rattle.interleavings.specs.Words.{CallView, Table, store_of}
 
 -- ---- a step
 
@@ -28,8 +37,11 @@ module _ (steps : StepTogether) (ends : EndTogether) (begins : BeginTogether) {K
     (led : IsLedFrom hash base old) (step : IsStep hash seat did old new) (a : ActiveView)
     (there : call_at old.seats seat ≡ Some a) (sound : old.failed ≡ false)
   where
-    before : AreTogether hash led.now (calls_of old.seats) old.pool old.locks
-    before = led.together sound
+    abbrev was : AreCounted hash led.now old
+    was = led.together sound
+
+    abbrev before : AreTogether hash led.now (calls_of old.seats) old.pool old.locks
+    before = was.calls
 
     under_way : IsUnderWay hash seat led.now a.machine before.records old.pool old.locks before.change
     under_way = well hash seat led.now (calls_of old.seats seat) before.records old.pool old.locks before.change
@@ -92,7 +104,8 @@ module _ (steps : StepTogether) (ends : EndTogether) (begins : BeginTogether) {K
       -- ---- to a system
 
       module _ (fine : is_fault turn.did ≡ false) where
-        leading : LeadTogether hash led.now (calls_of with_come) a.machine come.machine new.pool new.locks
+        leading : LeadTogether hash seat turn.did led.now (calls_of with_come) a.machine come.machine
+            (world old.pool.images old.locks before.change) new.pool new.locks
         leading = steps hash seat led.now old.stopped turn.did a.machine come.machine (calls_of old.seats)
             (calls_of with_come) old.pool new.pool old.locks new.locks before is (ap machine there) led.mark turn.makes
             fine there_come (others_same old.seats with_come seat (Some come) refl)
@@ -103,16 +116,73 @@ module _ (steps : StepTogether) (ends : EndTogether) (begins : BeginTogether) {K
             (leads_on old.callers old.journal base led.now led.leads seat a.machine come.machine turn.did turn.makes.aim
             a.draft turn.kept sits leading.after leading.leads))
 
+        abbrev phase : Change
+        phase = leading.together.change
+
+        abbrev behind : World
+        behind = world new.pool.images new.locks phase
+
+        abbrev Leads : Type 0
+        Leads = AreTogetherIn hash leading.after (calls_of new.seats) new.pool new.locks phase
+
+        -- ---- what it counts
+
+        counts : CountsBy seat turn.did old.locks new.locks old.searches new.searches
+        counts = counts_by seat old new turn.did come.machine fine
+            (subst (λ (x : Step). Counts seat x old new) turn.told_is step.turn.counts)
+
+        known_before : facts_of (calls_of old.seats seat) ≡ call_facts a.machine
+        known_before = ap facts_of (ap machine there)
+
+        own_before : IsCounted seat (call_facts a.machine) (count_at old.searches.counts seat)
+            (world old.pool.images old.locks before.change)
+        own_before = counted_of seat (count_at old.searches.counts seat)
+            (world old.pool.images old.locks before.change) (facts_of (calls_of old.seats seat))
+            (call_facts a.machine) (sym known_before) (was.counted seat is.0 within)
+
+        own_behind : IsCounted seat (call_facts come.machine) (count_at new.searches.counts seat) behind
+        own_behind = counted_own hash seat (call_turn hash a.machine (store_of old.pool.images)) turn.did
+            (call_facts a.machine) (call_facts come.machine) (world old.pool.images old.locks before.change) behind
+            leading.stepped fine old.searches new.searches counts was.phase own_steps_walk own_before
+
+        phase_is : new.searches.under_way ≡ under_way_in phase
+        phase_is = phase_behind hash seat (call_turn hash a.machine (store_of old.pool.images)) turn.did
+            (call_facts a.machine) (call_facts come.machine) (world old.pool.images old.locks before.change) behind
+            leading.stepped fine old.searches new.searches counts was.phase
+
+        -- the seat then knows what its call does, or nothing
+        all_counted : (facts_of (calls_of new.seats seat) ≡ call_facts come.machine)
+            ⊎ (facts_of (calls_of new.seats seat) ≡ []) → (i : ℕ) → 1 ≤ i → i ≤ length new.seats →
+            IsCounted i (facts_of (calls_of new.seats i)) (count_at new.searches.counts i) behind
+        all_counted knows i some near = elim (cases_eq i seat) [
+          | inl same ↦ subst (λ (n : ℕ). IsCounted n (facts_of (calls_of new.seats n))
+              (count_at new.searches.counts n) behind) (sym same) (elim knows [
+                | inl all ↦ counted_of seat (count_at new.searches.counts seat) behind (call_facts come.machine)
+                    (facts_of (calls_of new.seats seat)) all own_behind
+                | inr nothing ↦ counted_of seat (count_at new.searches.counts seat) behind []
+                    (facts_of (calls_of new.seats seat)) nothing (counted_idle seat
+                    (count_at new.searches.counts seat) behind (call_facts come.machine) own_behind)
+              ])
+          | inr apart ↦ counted_of i (count_at new.searches.counts i) behind (facts_of (calls_of old.seats i))
+              (facts_of (calls_of new.seats i)) (ap facts_of (ap machine
+              (ap (λ (x : List (Option ActiveView)). call_at x i) step.turn.run.seats
+              ∙ at_other old.seats seat i (call_at new.seats seat) apart)))
+              (counted_beside hash seat (call_turn hash a.machine (store_of old.pool.images)) turn.did
+              (call_facts a.machine) (call_facts come.machine) (world old.pool.images old.locks before.change) behind
+              leading.stepped fine old.searches new.searches counts was.phase others_steps_walk i apart
+              (facts_of (calls_of old.seats i))
+              (was.counted i some (subst (λ (n : ℕ). i ≤ n) (sym same_places) near)))
+        ]
+
         -- the call goes on
-        goes_on : call_at new.seats seat ≡ Some come →
-            AreTogether hash leading.after (calls_of new.seats) new.pool new.locks
-        goes_on left = subst (λ (x : List (Option ActiveView)). AreTogether hash leading.after (calls_of x) new.pool
-            new.locks) (sym (step.turn.run.seats ∙ ap (with_call old.seats seat) left)) leading.together
+        goes_on : call_at new.seats seat ≡ Some come → Leads
+        goes_on left = subst (λ (x : List (Option ActiveView)). AreTogetherIn hash leading.after (calls_of x) new.pool
+            new.locks phase) (sym (step.turn.run.seats ∙ ap (with_call old.seats seat) left))
+            (record { together = leading.together; phase = refl })
 
         -- it is over
         module _ (over : IsOver come.machine) where
-          gone : call_at new.seats seat ≡ None →
-              AreTogether hash leading.after (calls_of new.seats) new.pool new.locks
+          gone : call_at new.seats seat ≡ None → Leads
           gone left = ends hash seat leading.after come.machine (calls_of with_come) (calls_of new.seats) new.pool
               new.locks leading.together there_come over (ap machine left) others_come
 
@@ -122,29 +192,36 @@ module _ (steps : StepTogether) (ends : EndTogether) (begins : BeginTogether) {K
             abbrev without : List (Option ActiveView)
             without = with_call old.seats seat None
 
-            ended : AreTogether hash leading.after (calls_of without) new.pool new.locks
+            ended : AreTogetherIn hash leading.after (calls_of without) new.pool new.locks phase
             ended = ends hash seat leading.after come.machine (calls_of with_come) (calls_of without) new.pool new.locks
                 leading.together there_come over (ap machine (at_same old.seats seat None is.0 within))
                 (λ other apart. ap machine (at_other old.seats seat other None apart
                 ∙ sym (at_other old.seats seat other (Some come) apart)))
 
-            begins_anew : AreTogether hash leading.after (calls_of new.seats) new.pool new.locks
-            begins_anew = begins hash seat come.machine.caller come.machine.call leading.after again.machine
-                (calls_of without) (calls_of new.seats) new.pool new.locks ended
+            anew : AreTogetherIn hash leading.after (calls_of new.seats) new.pool new.locks ended.together.change
+            anew = begins hash seat come.machine.caller come.machine.call leading.after again.machine
+                (calls_of without) (calls_of new.seats) new.pool new.locks ended.together
                 (ap machine (at_same old.seats seat None is.0 within))
                 (subst HasFittingCaller (sym turn.makes.aim.caller) under_way.caller_fits)
                 (subst HasFittingCall (sym turn.makes.aim.call) under_way.call_fits) begun (ap machine left)
                 (λ other apart. others_come other apart ∙ ap machine (at_other old.seats seat other (Some come) apart
                 ∙ sym (at_other old.seats seat other None apart)))
 
+            begins_anew : Leads
+            begins_anew = record { together = anew.together; phase = anew.phase ∙ ended.phase }
+
           when_over : (waits : Bool) → IsLeftWhenOver waits come (call_at new.seats seat) →
-              AreTogether hash leading.after (calls_of new.seats) new.pool new.locks
-          when_over true (again, left, begun) = begins_anew again left begun.begins
-          when_over false left = gone left
+              Leads × (facts_of (calls_of new.seats seat) ≡ [])
+          when_over true (again, left, begun) = (
+            begins_anew again left begun.begins,
+            ap facts_of (ap machine left) ∙ fresh_facts again.machine begun.begins.new,
+          )
+          when_over false left = (gone left, ap facts_of (ap machine left))
 
         led_by : ((x : ActiveView) → call_at new.seats seat ≡ Some x → x.machine.caller ≡ a.machine.caller) →
-            AreTogether hash leading.after (calls_of new.seats) new.pool new.locks → IsLedFrom hash base new
-        led_by left together = record {
+            Leads → ((facts_of (calls_of new.seats seat) ≡ call_facts come.machine)
+            ⊎ (facts_of (calls_of new.seats seat) ≡ [])) → IsLedFrom hash base new
+        led_by left together knows = record {
           now = leading.after;
           leads = along;
           mark = leading.mark ∙ mark;
@@ -152,7 +229,7 @@ module _ (steps : StepTogether) (ends : EndTogether) (begins : BeginTogether) {K
           rows = rows;
           seated = ap length callers ∙ led.seated ∙ same_places;
           sits = sits_now left;
-          together = λ fine. together;
+          together = λ fine. counted_in hash leading.after new phase together phase_is (all_counted knows);
         }
 
       -- ---- the file fails it
@@ -217,12 +294,16 @@ module _ (steps : StepTogether) (ends : EndTogether) (begins : BeginTogether) {K
               IsLedFrom hash base new
           by (progress.Moved kind) p left =
               led_by (ap is_fault p) (same_caller left) (goes_on (ap is_fault p) left)
+              (inl (ap facts_of (ap machine left)))
           by (progress.Blocked other) p left =
               led_by (ap is_fault p) (same_caller left) (goes_on (ap is_fault p) left)
+              (inl (ap facts_of (ap machine left)))
           by (progress.Fault fault) p left = led_still fault p (same_caller left) (failed
               ∙ ap is_failure (turn.told_is ∙ ap (λ (x : Progress FileFault). told_of x come.machine) p))
-          by progress.Ended p left = led_by (ap is_fault p) (over_caller (is_waiting (conclusion_of come.machine)) left)
-              (when_over (ap is_fault p) (turn.makes.aim.over p) (is_waiting (conclusion_of come.machine)) left)
+          by progress.Ended p left =
+              let over = when_over (ap is_fault p) (turn.makes.aim.over p) (is_waiting (conclusion_of come.machine))
+              left in
+              led_by (ap is_fault p) (over_caller (is_waiting (conclusion_of come.machine)) left) over.0 (inr over.1)
 
     -- ---- it waits on
 
@@ -243,6 +324,23 @@ module _ (steps : StepTogether) (ends : EndTogether) (begins : BeginTogether) {K
             ∙ at_other old.seats seat i (call_at new.seats seat) apart)
       ]
 
+      same_counts : new.searches ≡ old.searches
+      same_counts = subst (λ (x : Step). Counts seat x old new) waits.told_is step.turn.counts
+
+      still_counted : (i : ℕ) → IsCounted i (facts_of (calls_of old.seats i)) (count_at old.searches.counts i)
+          (world old.pool.images old.locks before.change) →
+          IsCounted i (facts_of (calls_of new.seats i)) (count_at new.searches.counts i)
+          (world new.pool.images new.locks before.change)
+      still_counted i counted =
+          subst (λ (o : Option CallView). IsCounted i (facts_of o) (count_at new.searches.counts i)
+          (world new.pool.images new.locks before.change)) (sym (same_calls i))
+          (subst (λ (c : CountsState). IsCounted i (facts_of (calls_of old.seats i)) (count_at c.counts i)
+          (world new.pool.images new.locks before.change)) (sym same_counts)
+          (subst (λ (p : PoolState). IsCounted i (facts_of (calls_of old.seats i)) (count_at old.searches.counts i)
+          (world p.images new.locks before.change)) (sym waits.same_pool)
+          (subst (λ (t : Table). IsCounted i (facts_of (calls_of old.seats i)) (count_at old.searches.counts i)
+          (world old.pool.images t before.change)) (sym waits.same_locks) counted)))
+
       pub waits_on : IsLedFrom hash base new
       waits_on = record {
         now = led.now;
@@ -253,11 +351,15 @@ module _ (steps : StepTogether) (ends : EndTogether) (begins : BeginTogether) {K
         rows = rows;
         seated = ap length callers ∙ led.seated ∙ same_places;
         sits = sits_now same_caller_waits;
-        together = λ fine. subst (λ (p : PoolState). AreTogether hash led.now (calls_of new.seats) p new.locks)
+        together = λ fine. counted_in hash led.now new before.change
+            (subst (λ (p : PoolState). AreTogetherIn hash led.now (calls_of new.seats) p new.locks before.change)
             (sym waits.same_pool)
-            (subst (λ (t : Table). AreTogether hash led.now (calls_of new.seats) old.pool t) (sym waits.same_locks)
-            (subst (λ (f : ℕ → Option CallView). AreTogether hash led.now f old.pool old.locks)
-            (sym (fun_ext same_calls)) before));
+            (subst (λ (t : Table). AreTogetherIn hash led.now (calls_of new.seats) old.pool t before.change)
+            (sym waits.same_locks)
+            (subst (λ (f : ℕ → Option CallView). AreTogetherIn hash led.now f old.pool old.locks before.change)
+            (sym (fun_ext same_calls)) (record { together = before; phase = refl }))))
+            (ap (λ (c : CountsState). c.under_way) same_counts ∙ was.phase)
+            (λ i some near. still_counted i (was.counted i some (subst (λ (n : ℕ). i ≤ n) (sym same_places) near)));
       }
 
 pub steps_led : StepTogether → EndTogether → BeginTogether → (K : Type 0) → StepsLed K

@@ -2,6 +2,8 @@
 use Rattle.std.specs.Prelude.{ℕ, ◌≡◌, ◌≤◌, Bool, IsTrue, List, None, Some, length, false}
 use Rattle.interleavings.specs.Words.{ActiveView, BeginFault, Call, Caller, HasCall, HasFittingCall, HasFittingCaller, HasSystem, IsDriven, IsFileOf, IsFlushedTo, IsLawful, IsOpened, IsRefused, IsSeat, IsStep, IsStopped, KernelState, MAX_SEATS, RecordKey, State, Step, after, call_at, caller_at, restarted}
 use Rattle.interleavings.specs.Doing.{DoesAsTold}
+use Rattle.interleaving_core.specs.search_counts.Counting.{count_at}
+use Rattle.interleavings.specs.Counting.{HopsFew}
 use Rattle.interleavings.specs.Leading.{IsLedFrom}
 use Rattle.interleavings.specs.Headline.{AreFitting, IsAsPlainLists}
 use Rattle.interleavings.specs.Runs.{AreOfSeats, Runs}
@@ -68,6 +70,12 @@ EventsLead K = (hash : RecordKey → ℕ) (base : State) (es : List Event) (os :
 abbrev pub AnswersAsPlainLists : Type 0 → Type 0
 AnswersAsPlainLists K = (hash : RecordKey → ℕ) (base : State) (k : KernelState K) → IsLawful base →
     IsLedFrom hash base k → IsAsPlainLists hash base k
+
+-- what a kernel counts of a seat's last search, until a step has failed: at most one hop more than others may have
+-- added, and none where no structure change was under way since it read the depth
+abbrev pub SearchesHopFew : Type 0 → Type 0
+SearchesHopFew K = (hash : RecordKey → ℕ) (base : State) (k : KernelState K) (seat : ℕ) → IsLedFrom hash base k →
+    k.failed ≡ false → 1 ≤ seat → seat ≤ length k.locks → HopsFew (count_at k.searches.counts seat)
 
 -- by what Kernel::close promises of an honest device: the file is that of the system after the journal, which is not
 -- stopped for who opens it next

@@ -1,11 +1,8 @@
 -- A kernel beside the plain lists of its journal. docs/STEPS.md, "Calls"; docs/QUEUES.md, "Journals".
-use Rattle.std.specs.Prelude.{ℕ, ◌≡◌, false, List, Option, Some, length, option_map}
-use Rattle.concurrent_calls.specs.Together.{AreTogether}
-use Rattle.interleavings.specs.Words.{ActiveView, CallView, Caller, HasFittingCaller, KernelState, LeadsAlong, RecordKey, State, call_at, caller_at}
-
--- the call of each seat that has one under way
-abbrev pub calls_of : List (Option ActiveView) → ℕ → Option CallView
-calls_of seats seat = option_map (λ (a : ActiveView). a.machine) (call_at seats seat)
+use Rattle.std.specs.Prelude.{ℕ, ◌≡◌, false, Some, length}
+pub use Rattle.interleavings.specs.Counting.{calls_of}
+use Rattle.interleavings.specs.Counting.{AreCounted}
+use Rattle.interleavings.specs.Words.{ActiveView, Caller, HasFittingCaller, KernelState, LeadsAlong, RecordKey, State, call_at, caller_at}
 
 -- it has come from this system by what its journal says, whatever its seats are at
 pub record IsLedFrom {K : Type 0} (hash : RecordKey → ℕ) (base : State) (k : KernelState K) : Type 0 where
@@ -20,5 +17,5 @@ pub record IsLedFrom {K : Type 0} (hash : RecordKey → ℕ) (base : State) (k :
   pub seated : length k.callers ≡ length k.seats
   pub sits : (seat : ℕ) (a : ActiveView) → call_at k.seats seat ≡ Some a →
       caller_at k.callers seat ≡ Some a.machine.caller
-  -- that is the system to which its calls have come, until a step fails
-  pub together : k.failed ≡ false → AreTogether hash now (calls_of k.seats) k.pool k.locks
+  -- that is the system to which its calls have come, and what it counts is of their searches, until a step fails
+  pub together : k.failed ≡ false → AreCounted hash now k

@@ -1,5 +1,6 @@
 pub mod Words
 pub mod Runs
+pub mod Counting
 pub mod Leading
 pub mod Headline
 pub mod Doing

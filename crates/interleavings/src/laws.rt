@@ -1,7 +1,7 @@
 //! Laws of kernels that are led from a system. The functions do nothing; their contracts are the
 //! laws.
 
-ghost use Rattle.interleavings.specs.Laws.{AnswersAsPlainLists, BeginsLed, ClosesLed, DrivesLed, EventsLead, OpensLed, RefusesLed, StepsDoAsTold, StepsLed, StopsLed};
+ghost use Rattle.interleavings.specs.Laws.{AnswersAsPlainLists, BeginsLed, ClosesLed, DrivesLed, EventsLead, OpensLed, RefusesLed, SearchesHopFew, StepsDoAsTold, StepsLed, StopsLed};
 
 use concurrent_calls::{
     calls_begin_together, calls_end_together, calls_leave_the_file_at_rest, calls_rest_together,
@@ -90,3 +90,10 @@ pub fn a_kernel_led_closes_on_its_file<K>()
 {
     calls_leave_the_file_at_rest();
 }
+
+/// What it counts of a seat's last search is a hop at most more than the WriteOlds and Tombstones of
+/// others meanwhile, and no hop where no split and no merge was under way, until a step has failed
+/// (Ellis 1983).
+pub fn a_search_hops_few_times<K>()
+    ensures { SearchesHopFew K }
+{}

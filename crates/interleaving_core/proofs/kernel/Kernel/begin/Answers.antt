@@ -23,6 +23,7 @@ invariant_of-self-in-Ok-begin g c =
       room = vec_capacity c.self.inside.journal;
       stopped = c.self.inside.stopped;
       failed = c.self.inside.failed;
+      searches = c.self.inside.searches;
     } in
     let new : KernelState g.row.K.Denot = record {
       keys = c.self.inside.keys;
@@ -34,6 +35,7 @@ invariant_of-self-in-Ok-begin g c =
       room = vec_capacity c.reserve.new.self;
       stopped = c.self.inside.stopped;
       failed = c.self.inside.failed;
+      searches = c.self.inside.searches;
     } in
     let made : new ≡ record old {
       seats = with_call old.seats c.args.seat (Some c.in-Ok-begin.active);
@@ -68,6 +70,7 @@ returns-in-Ok-begin-clause-ok g c =
       room = vec_capacity c.self.inside.journal;
       stopped = c.self.inside.stopped;
       failed = c.self.inside.failed;
+      searches = c.self.inside.searches;
     } in
     let new : KernelState g.row.K.Denot = record {
       keys = c.self.inside.keys;
@@ -79,6 +82,7 @@ returns-in-Ok-begin-clause-ok g c =
       room = vec_capacity c.reserve.new.self;
       stopped = c.self.inside.stopped;
       failed = c.self.inside.failed;
+      searches = c.self.inside.searches;
     } in
     let made : new ≡ record old {
       seats = with_call old.seats c.args.seat (Some c.in-Ok-begin.active);

@@ -18,6 +18,7 @@ returns g c =
       room = vec_capacity c.self.inside.journal;
       stopped = c.self.inside.stopped;
       failed = c.self.inside.failed;
+      searches = c.self.inside.searches;
     } in
     let is : IsSeat old.locks c.args.seat =
     subst (λ (k : KernelState g.row.K.Denot). IsSeat k.locks c.args.seat) (sym c.self.view_is) c.requires in

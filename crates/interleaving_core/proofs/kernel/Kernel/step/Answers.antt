@@ -1,9 +1,9 @@
 -- A step of the seat's call, or none behind a failure.
 use Rattle.std.proofs.Common.{◌∙◌, refl, sym, ap, subst, vec_capacity}
-use Rattle.interleaving_core.specs.Kernel.{KernelState, locks_of}
+use Rattle.interleaving_core.specs.Kernel.{KernelState}
 use Rattle.interleaving_core.specs.Owing.{IsTurn, told_of_failure}
 use Rattle.interleaving_core.specs.Words.{IsSeat}
-use Rattle.interleaving_core.proofs.KernelLemmas.{its_row, makes_step, seat_there, slot_here}
+use Rattle.interleaving_core.proofs.KernelLemmas.{counts_by, is_counted, makes_step, row_there, seat_behind, seat_there, slot_here}
 use Rattle.interleaving_core.proofs.RunLemmas.{fails_put}
 use Rattle.interleaving_core.proofs.kernel.Kernel.step.Goals as goal
 
@@ -19,6 +19,7 @@ returns-then-self-clause-turn g c =
       room = vec_capacity c.self.inside.journal;
       stopped = c.self.inside.stopped;
       failed = c.self.inside.failed;
+      searches = c.self.inside.searches;
     } in
     let is : IsSeat old.locks c.args.seat =
     subst (λ (k : KernelState g.row.K.Denot). IsSeat k.locks c.args.seat) (sym c.self.view_is) c.requires in
@@ -39,30 +40,69 @@ advance-step-requires-clause-row g c =
       room = vec_capacity c.self.inside.journal;
       stopped = c.self.inside.stopped;
       failed = c.self.inside.failed;
+      searches = c.self.inside.searches;
     } in
     let is : IsSeat old.locks c.args.seat =
     subst (λ (k : KernelState g.row.K.Denot). IsSeat k.locks c.args.seat) (sym c.self.view_is) c.requires in
-    its_row old c.self.invariant c.args.seat
-    ∙ sym (ap locks_of (slot_here old.seats c.args.seat c.index_mut.result.now is.0
-    (seat_there old c.self.invariant c.args.seat is) c.index_mut.ensures.value))
+    row_there c.args.seat c.index_mut.result.now old c.self.invariant is c.index_mut.ensures.value
+
+pub note-requires-clause-seat : goal.note-requires-clause-seat
+note-requires-clause-seat g c =
+    let old : KernelState g.row.K.Denot = record {
+      keys = c.self.inside.keys;
+      pool = c.self.inside.pool;
+      locks = c.self.inside.locks;
+      callers = c.self.inside.callers.items;
+      seats = c.self.inside.seats.items;
+      journal = c.self.inside.journal.items;
+      room = vec_capacity c.self.inside.journal;
+      stopped = c.self.inside.stopped;
+      failed = c.self.inside.failed;
+      searches = c.self.inside.searches;
+    } in
+    let is : IsSeat old.locks c.args.seat =
+    subst (λ (k : KernelState g.row.K.Denot). IsSeat k.locks c.args.seat) (sym c.self.view_is) c.requires in
+    seat_behind (g.K.PseudoKey.of_key old.keys) c.args.seat c.advance-step.result c.index_mut.result.now
+    c.advance-step.new.slot old _ _ _ c.self.invariant is c.index_mut.ensures.value c.advance-step.ensures.turns
+
+pub note-requires-clause-counted : goal.note-requires-clause-counted
+note-requires-clause-counted g c =
+    let old : KernelState g.row.K.Denot = record {
+      keys = c.self.inside.keys;
+      pool = c.self.inside.pool;
+      locks = c.self.inside.locks;
+      callers = c.self.inside.callers.items;
+      seats = c.self.inside.seats.items;
+      journal = c.self.inside.journal.items;
+      room = vec_capacity c.self.inside.journal;
+      stopped = c.self.inside.stopped;
+      failed = c.self.inside.failed;
+      searches = c.self.inside.searches;
+    } in
+    let is : IsSeat old.locks c.args.seat =
+    subst (λ (k : KernelState g.row.K.Denot). IsSeat k.locks c.args.seat) (sym c.self.view_is) c.requires in
+    is_counted old c.self.invariant c.args.seat is
 
 pub invariant_of-self : goal.invariant_of-self
 invariant_of-self g c =
     (makes_step g.K.PseudoKey.of_key c.args.seat c.advance-step.result c.index_mut.result.now c.advance-step.new.slot _
     _ c.args.self.now c.self.view_is c.self.invariant c.requires c.index_mut.ensures.value c.advance-step.ensures.turns
     refl refl refl refl c.advance-step.ensures.capacity c.advance-step.ensures.spare c.if-self.false
-    c.is_failure-self-inside.ensures).whole
+    c.is_failure-self-inside.ensures (counts_by c.args.seat c.advance-step.result _ _ c.last_page-before.result
+    c.last_page-before.ensures c.note.ensures)).whole
 
 pub returns-clause-turn : goal.returns-clause-turn
 returns-clause-turn g c =
     (makes_step g.K.PseudoKey.of_key c.args.seat c.advance-step.result c.index_mut.result.now c.advance-step.new.slot _
     _ c.args.self.now c.self.view_is c.self.invariant c.requires c.index_mut.ensures.value c.advance-step.ensures.turns
     refl refl refl refl c.advance-step.ensures.capacity c.advance-step.ensures.spare c.if-self.false
-    c.is_failure-self-inside.ensures).turn
+    c.is_failure-self-inside.ensures (counts_by c.args.seat c.advance-step.result _ _ c.last_page-before.result
+    c.last_page-before.ensures c.note.ensures)).turn
 
 pub returns-clause-makes : goal.returns-clause-makes
 returns-clause-makes g c =
     (makes_step g.K.PseudoKey.of_key c.args.seat c.advance-step.result c.index_mut.result.now c.advance-step.new.slot _
     _ c.args.self.now c.self.view_is c.self.invariant c.requires c.index_mut.ensures.value c.advance-step.ensures.turns
     refl refl refl refl c.advance-step.ensures.capacity c.advance-step.ensures.spare c.if-self.false
-    c.is_failure-self-inside.ensures).makes
+    c.is_failure-self-inside.ensures (counts_by c.args.seat c.advance-step.result _ _ c.last_page-before.result
+    c.last_page-before.ensures c.note.ensures)).makes

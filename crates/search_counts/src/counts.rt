@@ -1,0 +1,91 @@
+//! What is counted of all seats.
+
+ghost use Rattle.std.specs.Prelude.{◌≡◌, false, map, IfOk};
+ghost use Rattle.search_counts.specs.Counting.{count_at, count_beside, opened_counts, touches_others};
+ghost use Rattle.search_counts.specs.Counting.{IsCountedSeat, Notes};
+
+use crate::count::SearchCount;
+use crate::under_way::UnderWay;
+use faults::NoMemory;
+use std::alloc::Global;
+use std::marker::Model;
+use step_rules::Kind;
+
+/// The counts of all seats, and the structure change that is under way. Seats count from 1.
+#[derive(Debug, Drop)]
+pub struct SearchCounts {
+    counts: Vec<SearchCount>,
+    under_way: UnderWay,
+}
+
+impl Model for SearchCounts {
+    ghost use Rattle.search_counts.specs.Counting.{CountsState, AreSoundCounts};
+
+    ghost Value = { CountsState };
+
+    ghost view = { λ s. record { counts = s.counts.items; under_way = s.under_way } };
+
+    ghost invariant = { λ s. AreSoundCounts (record {
+      counts = s.counts.items;
+      under_way = s.under_way;
+    }) };
+}
+
+impl SearchCounts {
+    /// For this many seats, none of which has searched. Nothing is under way.
+    pub fn new(alloc: Global, seats: usize) -> Result<SearchCounts, NoMemory>
+        ensures { IfOk result (λ counts. counts ≡ opened_counts seats) }
+    {
+        let mut counts = Vec::with_capacity(alloc, seats)?;
+        for _ in 0..seats {
+            counts.push(SearchCount::begun(UnderWay::Nothing))?;
+        }
+        Ok(SearchCounts {
+            counts,
+            under_way: UnderWay::Nothing,
+        })
+    }
+
+    /// What is counted of a seat.
+    pub fn of(&self, seat: u8) -> SearchCount
+        requires { IsCountedSeat self.now.counts seat }
+        ensures { result ≡ count_at self.now.counts seat }
+    {
+        self.counts[seat as usize - 1]
+    }
+
+    /// A seat has made a step of this kind, by which a search of its own begins, or goes on to
+    /// another page, or neither. The counts of other seats are looked at for four kinds alone.
+    pub fn note(&mut self, seat: u8, kind: Kind, begins: bool, goes_on: bool)
+        requires { IsCountedSeat self.old.counts seat }
+        ensures { Notes seat kind begins goes_on self.old self.new }
+    {
+        let place = seat as usize - 1;
+        let under_way = self.under_way.after(kind);
+        let own = self.counts[place].own(begins, goes_on, under_way);
+        count_others(self.counts.as_mut_slice(), kind, under_way);
+        self.counts[place] = own;
+        self.under_way = under_way;
+    }
+}
+
+/// A step of this kind, behind which this is under way, is counted for all seats.
+fn count_others(counts: &mut [SearchCount], kind: Kind, under_way: UnderWay)
+    requires { touches_others kind ≡ false →
+        map (count_beside kind under_way) counts.old ≡ counts.old }
+    ensures { counts.new ≡ map (count_beside kind under_way) counts.old }
+{
+    if !touches_others(kind) {
+        return;
+    }
+    for count in counts.iter_mut() {
+        *count = count.beside(kind, under_way);
+    }
+}
+
+/// Whether a step of this kind may change what is counted of other seats.
+fn touches_others(kind: Kind) -> bool
+    ensures { result ≡ touches_others kind }
+{
+    kind.may_lengthen() || matches!(kind, Kind::TakePage | Kind::WriteLeft)
+}
