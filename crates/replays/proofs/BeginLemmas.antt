@@ -14,13 +14,14 @@ use Rattle.msgq_cli.specs.declared.line.Line.{Line}
 use Rattle.msgq_cli.specs.declared.reply.Reply.{Reply}
 use Rattle.msgq_cli.specs.declared.reply.Reply.TheVariants.{Answered, Failed, Stopped}
 use Rattle.replays.specs.Events.{BeginsCommand, BeginsLine, ReplayState, line_under_way, next_line, told}
-use Rattle.replays.specs.Journal.{HasCallOfLine, IsSoundReplay, IsToldItsPart, answer_in, call_in, call_on, entries_at, entry_at}
+use Rattle.replays.specs.Journal.{HasCallOfLine, IsFreeWhereIdle, IsSoundReplay, IsToldItsPart, answer_in, call_in, call_on, entries_at, entry_at}
 use Rattle.replays.specs.Places.{IsSound, ProgressState, begun, line_from, place_of, with_place}
 use Rattle.replays.specs.declared.deed.Deed.{Deed}
 use Rattle.replays.specs.declared.progress.Place.{Place}
 use Rattle.replays.proofs.EntryLemmas.{told_adds}
+use Rattle.replays.proofs.FreeLemmas.{begun_failed, idle_before, none_left}
 use Rattle.replays.proofs.PlaceLemmas.{IsSound-begun, IsSound-replied, length-with_place, next_is_seat, other_place, same_place, under_is_seat}
-use Rattle.replays.proofs.TellLemmas.{Tells, begin_tells, call_before, call_behind}
+use Rattle.replays.proofs.TellLemmas.{Tells, begin_tells, call_before, call_behind, kept_behind}
 
 -- ---- a line is told
 
@@ -162,6 +163,47 @@ module _ (seat place : ℕ) (did : Deed) (s t : ReplayState) (sound : IsSoundRep
       by true e = on_line (here (eqb-true seat other e) b.reply refl)
       by false e = on_line (away (eqb-false seat other e))
 
+  free_begun : (other : ℕ) → IsFreeWhereIdle other t
+  free_begun other sound_now idle_now = by (other == seat) refl
+    where
+      before : s.kernel.failed ≡ false
+      before = sym (begun_failed seat b.line.command b.reply s.kernel t.kernel b.kernel) ∙ sound_now
+
+      now : (place_of (told seat place b.reply its_begun).places other).under_way ≡ None
+      now = sym (ap (λ (x : ProgressState). (place_of x.places other).under_way) b.script) ∙ idle_now
+
+      -- a seat that would have no call has none
+      none_by : call_behind (seat == other) b.line.command b.reply (call_before other s.kernel) ≡ None →
+          call_at t.kernel.seats other ≡ None
+      none_by = none_left other [] _ s.kernel t.kernel
+          (begin_tells other seat b.line.command b.reply s.kernel t.kernel b.kernel)
+
+      some_none : ◌≡◌ {A = Option ℕ} (Some place) None → ⊥
+      some_none clash = cc
+
+      -- at its seat the line is replied
+      here : other ≡ seat → (r : Option Reply) → b.reply ≡ r → call_at t.kernel.seats other ≡ None
+      here same None is = absurd (some_none
+          (sym under_begun ∙ ap (λ (n : ℕ). (place_of its_begun.places n).under_way) (sym same)
+          ∙ subst (λ (r : Option Reply). (place_of (told seat place r its_begun).places other).under_way ≡ None) is
+          now))
+      here same (Some reply) is = none_by
+          (ap (λ (r : Option Reply). call_behind (seat == other) b.line.command r (call_before other s.kernel)) is
+          ∙ sym (kept_behind (seat == other) b.line.command reply (call_before other s.kernel))
+          ∙ ap call_of (sound.free other before (subst (λ (n : ℕ). line_under_way n s ≡ None) (sym same) idle)))
+
+      away : other ≢ seat → call_at t.kernel.seats other ≡ None
+      away not = none_by
+          (ap (λ (x : Bool). call_behind x b.line.command b.reply (call_before other s.kernel))
+          (ne_eqb seat other (λ e. not (sym e)))
+          ∙ ap call_of (sound.free other before
+          (sym (ap (λ (q : Place). q.under_way) (other_place s.script.places seat other place_begun not))
+          ∙ idle_before its_begun seat place b.reply other not now)))
+
+      by : (x : Bool) → (other == seat) ≡ x → call_at t.kernel.seats other ≡ None
+      by true e = here (eqb-true other seat e) b.reply refl
+      by false e = away (eqb-false other seat e)
+
   -- it is replied no answer
   no_answer : (command : Command) (reply : Option Reply) → BeginsCommand seat command reply s.kernel t.kernel →
       answer_in reply ≡ None
@@ -183,6 +225,7 @@ module _ (seat place : ℕ) (did : Deed) (s t : ReplayState) (sound : IsSoundRep
         ∙ length-with_place s.script.places seat place_begun ∙ sound.seats ∙ sym locks;
     order = subst IsSound (sym b.script) (sound_told its_begun seat place b.reply sound_begun under_begun);
     calls = calls_begun;
+    free = free_begun;
     told = λ other. told_on other s t []
         (begin_tells other seat b.line.command b.reply s.kernel t.kernel b.kernel).entries_are
         (ap (λ (x : ProgressState). part_of other (entries_at x.lines x.replies)) b.script

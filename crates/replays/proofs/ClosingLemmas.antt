@@ -23,7 +23,7 @@ use Rattle.replays.specs.Events.{PlaysAll, ReplayState}
 use Rattle.replays.specs.Journal.{IsSoundReplay, entries_at}
 use Rattle.replays.specs.PlainLists.{AnswersAsPlainLists, HaveFileOf, IsLeftWell}
 use Rattle.replays.specs.Replays.{AreFlushed, IsClosedWell, IsOpenedFor, IsReplayed, ReplaysOn}
-use Rattle.replays.specs.Rounds.{Comes}
+use Rattle.replays.specs.Rounds.{MakesRounds}
 use Rattle.replays.proofs.LeadLemmas.{replay_keeps, replay_leads}
 
 -- ---- a kernel that is closed
@@ -61,7 +61,7 @@ closed_well k left busy failed flushed = record {
 -- ---- what is left of a replay
 
 module _ (leads : EventsLead ShaKey) (words : List Event) (first played last : ReplayState)
-    (plays : PlaysAll words first played) (goes : Comes played last) (sound : IsSoundReplay last) where
+    (plays : PlaysAll words first played) (goes : MakesRounds played last) (sound : IsSoundReplay last) where
   pub answers_plain : AnswersLed ShaKey → AnswersAsPlainLists first last
   answers_plain plain = record {
     keeps = replay_keeps words first played last plays goes;

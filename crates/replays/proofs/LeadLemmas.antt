@@ -24,9 +24,9 @@ use Rattle.msgq_cli.specs.declared.reply.Reply.TheVariants.{Answered, Failed, St
 use Rattle.schedules.specs.declared.event.Event.{Event as Word}
 use Rattle.replays.specs.Events.{Acts, BeginsCommand, BeginsNext, DrivesLine, HasFittingCommand, IsEvent, PlaysAll, RefusesBy, ReplayState, Stops, line_under_way, next_line}
 use Rattle.replays.specs.PlainLists.{KeepsCallers}
-use Rattle.replays.specs.Rounds.{Comes}
+use Rattle.replays.specs.Rounds.{MakesRounds}
 use Rattle.replays.specs.declared.deed.Deed.{Deed}
-use Rattle.replays.proofs.PlayLemmas.{comes, plays_all}
+use Rattle.replays.proofs.PlayLemmas.{plays_all, rounds}
 
 -- ---- what happens
 
@@ -166,7 +166,7 @@ led_on lead base old new (inr it) led =
 
 module _ (P : KernelState ShaKey → Type 0) (one : (old new : KernelState ShaKey) → MayHappen old new → P old → P new)
     (words : List Word) (first played last : ReplayState) (plays : PlaysAll words first played)
-    (goes : Comes played last) where
+    (goes : MakesRounds played last) where
   event_one : (seat : ℕ) (did : Deed) (s t : ReplayState) → IsEvent seat did s t → P s.kernel → P t.kernel
   event_one seat did s t is = one s.kernel t.kernel (event_may seat did s t is)
 
@@ -178,17 +178,17 @@ module _ (P : KernelState ShaKey → Type 0) (one : (old new : KernelState ShaKe
 
   throughout : P first.kernel → P last.kernel
   throughout kept =
-      comes (λ (s : ReplayState). P s.kernel) event_one drive_one stop_one played last goes
+      rounds (λ (s : ReplayState). P s.kernel) event_one drive_one stop_one played last goes
       (plays_all (λ (s : ReplayState). P s.kernel) event_one drive_one stop_one words first played plays kept)
 
 pub replay_keeps : (words : List Word) (first played last : ReplayState) → PlaysAll words first played →
-    Comes played last → KeepsCallers first.kernel last.kernel
+    MakesRounds played last → KeepsCallers first.kernel last.kernel
 replay_keeps words first played last plays goes =
     throughout (KeepsCallers first.kernel) (keeps_on first.kernel) words first played last plays goes
     (record { callers = refl; honest = refl })
 
 pub replay_leads : EventsLead ShaKey → (base : State) (words : List Word) (first played last : ReplayState) →
-    PlaysAll words first played → Comes played last → IsLedFrom sha_key base first.kernel →
+    PlaysAll words first played → MakesRounds played last → IsLedFrom sha_key base first.kernel →
     IsLedFrom sha_key base last.kernel
 replay_leads lead base words first played last plays goes led =
     throughout (IsLedFrom sha_key base) (led_on lead base) words first played last plays goes led

@@ -1,10 +1,10 @@
 -- What each event, each drive and each stop keeps, the words of a schedule keep, and so do the rounds behind them.
-use Rattle.std.proofs.Common.{◌≡◌, inl, inr, refl, sym, subst, ℕ, zero, suc, List, [], ◌∷◌, Option, Some, None}
+use Rattle.std.proofs.Common.{◌≡◌, ◌⊎◌, inl, inr, refl, sym, subst, ℕ, zero, suc, ◌+◌, Bool, true, false, List, [], ◌∷◌, Option, Some, None}
 use Rattle.schedules.specs.declared.event.Event.{Event}
 use Rattle.schedules.specs.declared.event.Event.TheVariants as events
 use Rattle.step_rules.specs.declared.kind.Kind.{Kind}
 use Rattle.replays.specs.Events.{Acts, DrivesLine, DrivesOn, HasEvent, IsEvent, IsReadied, IsStepped, MovesOther, Plays, PlaysAll, ReplayState, StepsUntil, Stops, Times, line_under_way}
-use Rattle.replays.specs.Rounds.{Comes, GoesOn}
+use Rattle.replays.specs.Rounds.{ComesToRest, GetsStuck, InTurn, IsRound, MakesRounds, MovesOn, MovesToEnd, most_rounds}
 use Rattle.replays.specs.declared.deed.Deed.{Deed}
 
 module _ (P : ReplayState → Type 0)
@@ -58,9 +58,29 @@ module _ (P : ReplayState → Type 0)
   plays_all [] s t same kept = subst P (sym same) kept
   plays_all (word ∷ words) s t (next, first, rest) kept = plays_all words next t rest (plays word s next first kept)
 
-  goes_on : (s t : ReplayState) → GoesOn s t → P s → P t
-  goes_on s t (inl (seat, did, is)) kept = event seat did s t is kept
-  goes_on s t (inr stops) kept = stop s t stops kept
+  in_turn : (seat : ℕ) (dids : List Deed) (s t : ReplayState) → InTurn seat dids s t → P s → P t
+  in_turn seat [] s t same kept = subst P (sym same) kept
+  in_turn seat (did ∷ dids) s t (next, is, more) kept =
+      in_turn (seat + 1) dids next t more (event seat did s next is kept)
 
-  pub comes : (s t : ReplayState) → Comes s t → P s → P t
-  comes s t (n, times) kept = along GoesOn goes_on n s t times kept
+  round : (moves : Bool) (s t : ReplayState) → IsRound moves s t → P s → P t
+  round moves s t is kept = in_turn 1 is.turns.deeds s t is.turns.in_turn kept
+
+  moves_on : (rounds : ℕ) (s t : ReplayState) → MovesOn rounds s t → P s → P t
+  moves_on rounds s t moves kept = along (IsRound true) (round true) rounds s t moves kept
+
+  to_end : (most : ℕ) (s t : ReplayState) → MovesToEnd most s t → P s → P t
+  to_end most s t is kept = moves_on is.rounds s t is.moves kept
+
+  to_rest : (rounds : ℕ) (s t : ReplayState) → ComesToRest rounds s t → P s → P t
+  to_rest rounds s t is kept = round false is.before t is.rests (moves_on is.moving s is.before is.moves kept)
+
+  behind_stop : (most : ℕ) (s t : ReplayState) → MovesToEnd most s t ⊎ GetsStuck most s t → P s → P t
+  behind_stop most s t (inl ends) kept = to_end most s t ends kept
+  behind_stop most s t (inr stuck) kept = to_rest stuck.rounds s t stuck.comes kept
+
+  pub rounds : (s t : ReplayState) → MakesRounds s t → P s → P t
+  rounds s t (inl ends) kept = to_end (most_rounds s) s t ends kept
+  rounds s t (inr is) kept =
+      behind_stop is.more is.stopped t is.goes_on
+      (stop is.rest is.stopped is.stops (to_rest is.rounds s is.rest is.comes kept))

@@ -8,6 +8,7 @@ use Rattle.queue_model.specs.Journal.{part_of}
 use Rattle.queue_model.specs.declared.call.Call.{Call}
 use Rattle.queue_model.specs.declared.entry.Entry.{Entry}
 use Rattle.interleavings.specs.interleaving_core.Active.{ActiveView}
+use Rattle.interleavings.specs.interleaving_core.Driving.{IsStep}
 use Rattle.interleavings.specs.interleaving_core.Kernel.{KernelState, call_at}
 use Rattle.interleavings.specs.interleaving_core.Owing.{answer_told, call_of, entry_of, untold}
 use Rattle.interleavings.specs.interleaving_core.declared.step.Step.{Step}
@@ -23,6 +24,7 @@ use Rattle.replays.specs.Places.{IsSound, ProgressState, place_of, start}
 use Rattle.replays.specs.declared.deed.Deed.{Deed}
 use Rattle.replays.proofs.BeginLemmas.{line_begun_sound, lines_told, seats_told, sound_told, told_on, under_told}
 use Rattle.replays.proofs.EntryLemmas.{its_line_stands, none_replied, told_adds}
+use Rattle.replays.proofs.FreeLemmas.{drive_frees, free_told, none_left, sound_before, sound_before_drive, step_frees, stopped_failed}
 use Rattle.replays.proofs.LeadLemmas.{acts_may, drive_may, next_may, seats_kept, stop_may}
 use Rattle.replays.proofs.PlaceLemmas.{IsSound-start, its_line, length-places_at}
 use Rattle.replays.proofs.TellLemmas.{Tells, call_before, happens_tells, if_same, tells_as}
@@ -47,7 +49,9 @@ module _ (seat place : ℕ) (step : Step) (s t : ReplayState) (sound : IsSoundRe
     (under : line_under_way seat s ≡ Some place) (script : t.script ≡ told seat place (reply_by step) s.script)
     (locks : length t.kernel.locks ≡ length s.kernel.locks)
     (idle : call_at s.kernel.seats seat ≡ None → answer_told step ≡ None)
-    (tells : RunTells seat step s.kernel t.kernel) where
+    (tells : RunTells seat step s.kernel t.kernel)
+    (before : t.kernel.failed ≡ false → s.kernel.failed ≡ false)
+    (frees : t.kernel.failed ≡ false → IsSome (reply_by step) → call_at t.kernel.seats seat ≡ None) where
   abbrev the_line : Line
   the_line = (its_line_stands s.script sound.order seat place under).0
 
@@ -98,6 +102,8 @@ module _ (seat place : ℕ) (step : Step) (s t : ReplayState) (sound : IsSoundRe
         ∙ sound.seats ∙ sym locks;
     order = subst IsSound (sym script) (sound_told s.script seat place (reply_by step) sound.order under);
     calls = calls_on;
+    free = λ other. free_told seat place step s t under script before frees
+        (λ x none. none_left x _ _ s.kernel t.kernel (tells x) (ap call_of none)) other (sound.free other);
     told = λ other. told_on other s t
         (if seat == other then entry_of other (call_before other s.kernel) (answer_told step) else [])
         (tells other).entries_are
@@ -122,6 +128,9 @@ stop_sound s t sound stops =
           (sym (ap (λ (x : ProgressState). (place_of x.places other).under_way) stops.script) ∙ at)
           (subst IsSome had some)
           ∙ ap (λ (x : ProgressState). call_on (slice_get x.lines p)) (sym stops.script);
+      free = λ other now idle. none_left other _ _ s.kernel t.kernel (tells other) (ap call_of (sound.free other
+          (sym (stopped_failed s.kernel t.kernel stops.kernel) ∙ now)
+          (sym (ap (λ (x : ProgressState). (place_of x.places other).under_way) stops.script) ∙ idle)));
       told = λ other. told_on other s t [] (tells other).entries_are
           (ap (λ (x : ProgressState). part_of other (entries_at x.lines x.replies)) stops.script
           ∙ sym (append-nil (part_of other (entries_at s.script.lines s.script.replies)))) (sound.told other);
@@ -138,8 +147,12 @@ module _ (seat place : ℕ) (s t : ReplayState) (sound : IsSoundReplay s)
       (λ none. ap answer_told (steps.turn.idle.1 none))
       (λ other. tells_as other _ _ _ (call_before other s.kernel) s.kernel t.kernel refl
       (if_same (seat == other) (call_before other s.kernel))
-      (happens_tells other (events.Step seat) (outcomes.Stepped steps.step) s.kernel t.kernel
-      (record { turn = steps.turn; makes = steps.makes })))
+      (happens_tells other (events.Step seat) (outcomes.Stepped steps.step) s.kernel t.kernel made))
+      (λ now. sound_before seat steps.step s.kernel t.kernel made now)
+      (λ now replied. step_frees seat steps.step s.kernel t.kernel made now replied)
+    where
+      made : IsStep sha_key seat steps.step s.kernel t.kernel
+      made = record { turn = steps.turn; makes = steps.makes }
 
   pub drive_sound : DrivesLine seat place s t → IsSoundReplay t
   drive_sound drives =
@@ -150,6 +163,8 @@ module _ (seat place : ℕ) (s t : ReplayState) (sound : IsSoundReplay s)
       (if_same (seat == other) (call_before other s.kernel))
       (happens_tells other (events.Drive seat) (outcomes.Driven drives.step) s.kernel t.kernel
       (record { run = drives.run; driven = drives.driven })))
+      (λ now. sound_before_drive seat drives.step s.kernel t.kernel drives.driven now)
+      (λ now replied. drive_frees seat drives.step s.kernel t.kernel drives.driven now replied)
 
 pub next_sound : (seat : ℕ) (did : Deed) (s t : ReplayState) → IsSoundReplay s → line_under_way seat s ≡ None →
     BeginsNext seat (next_line seat s) did s t → IsSoundReplay t
@@ -178,6 +193,7 @@ start_sound k lines seats many locks idle journal = record {
   calls = λ seat place under some.
       let never : IsSome (call_of None) = subst (λ (at : Option ActiveView). IsSome (call_of at)) (none_at seat) some in
       absurd cc;
+  free = λ seat now under. none_at seat;
   told = λ seat. ap (part_of seat) journal
       ∙ sym (ap (λ (es : List Entry). es ++ untold seat (call_at k.seats seat)) (no_entries seat)
       ∙ ap (untold seat) (none_at seat));

@@ -71,7 +71,7 @@ none_told : (b : Bool) (other : ℕ) (call : Option Call) →
 none_told true other call = entry_of_none other call
 none_told false other call = refl
 
-kept_behind : (b : Bool) (command : Command) (reply : Reply) (call : Option Call) →
+pub kept_behind : (b : Bool) (command : Command) (reply : Reply) (call : Option Call) →
     call ≡ call_behind b command (Some reply) call
 kept_behind true command reply call = refl
 kept_behind false command reply call = refl

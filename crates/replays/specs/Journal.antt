@@ -1,5 +1,5 @@
 -- What lines were answered, beside the journal of their kernel. docs/QUEUES.md, "Journals".
-use Rattle.std.specs.Prelude.{ℕ, ◌≡◌, IsSome, List, [], ◌∷◌, ◌++◌, Option, Some, None, length, slice_get}
+use Rattle.std.specs.Prelude.{ℕ, ◌≡◌, IsSome, false, List, [], ◌∷◌, ◌++◌, Option, Some, None, length, slice_get}
 use Rattle.queue_model.specs.Journal.{part_of}
 use Rattle.queue_model.specs.declared.answer.Answer.{Answer}
 use Rattle.queue_model.specs.declared.call.Call.{Call}
@@ -57,9 +57,14 @@ HasCallOfLine seat s = (place : ℕ) → line_under_way seat s ≡ Some place �
     IsSome (call_of (call_at s.kernel.seats seat)) →
     call_of (call_at s.kernel.seats seat) ≡ call_on (slice_get s.script.lines place)
 
+-- an idle seat has no call, as long as no step has failed
+abbrev pub IsFreeWhereIdle : ℕ → ReplayState → Type 0
+IsFreeWhereIdle seat s = s.kernel.failed ≡ false → line_under_way seat s ≡ None → call_at s.kernel.seats seat ≡ None
+
 pub record IsSoundReplay (s : ReplayState) : Type 0 where
   -- each seat of the kernel has a place in the script
   pub seats : length s.script.places ≡ length s.kernel.locks
   pub order : IsSound s.script
   pub calls : (seat : ℕ) → HasCallOfLine seat s
+  pub free : (seat : ℕ) → IsFreeWhereIdle seat s
   pub told : (seat : ℕ) → IsToldItsPart seat s

@@ -1,7 +1,7 @@
 -- A script that is replayed by a schedule: how its kernel is opened, what is printed, how it ends. docs/SCRIPTS.md,
 -- "Runs" and "Schedules".
 use Rattle.std.specs.Prelude.{ℕ, zero, suc, ◌≡◌, ◌↔◌, ◌⊎◌, Bool, true, false, List, [], ◌∷◌, ◌++◌, IsTrue, Option, Some, None, if◌then◌else◌, length}
-use Rattle.std.specs.List.{list_all, list_any}
+use Rattle.std.specs.List.{list_any}
 use Rattle.faults.specs.declared.TheConstants.{DEVICE, FAILED, NO_MEMORY}
 use Rattle.queue_model.specs.declared.caller.Caller.{Caller}
 use Rattle.bucket_page.specs.Pseudokeys.{sha_key}
@@ -26,9 +26,9 @@ use Rattle.schedules.specs.declared.event.Event.{Event}
 use Rattle.schedules.specs.declared.schedule.ScheduleError.{ScheduleError}
 use Rattle.schedules.specs.declared.schedule.ScheduleError.TheVariants as errors
 use Rattle.replays.specs.Events.{PlaysAll, ReplayState}
-use Rattle.replays.specs.Places.{is_idle_for_good, start}
+use Rattle.replays.specs.Places.{start}
 use Rattle.replays.specs.PlainLists.{AnswersAsPlainLists, IsLeftWell}
-use Rattle.replays.specs.Rounds.{Comes}
+use Rattle.replays.specs.Rounds.{MakesRounds, is_over}
 
 -- ---- the beginning
 
@@ -117,13 +117,14 @@ pub record IsReplayed (events : List Event) (first : ReplayState) (old new : Out
   pub played : ReplayState
   pub plays : PlaysAll events first played
   pub last : ReplayState
-  pub comes : Comes played last
+  pub rounds : MakesRounds played last
   pub answers : AnswersAsPlainLists first last
   pub told : OutputState
   pub so_far : Ending
   pub tells : TellsReplies last old told so_far
   pub fault : Option ℕ
-  pub closes : MayEndWith (list_all is_idle_for_good last.script.places) last.kernel fault
+  pub closes : MayEndWith (is_over last) last.kernel fault
+  pub stuck : (fault ≡ Some BUSY) ↔ (is_over last ≡ false)
   pub well : fault ≡ None → IsLeftWell first last left
   pub ends : EndsWith fault told so_far new ending
 

@@ -27,8 +27,10 @@ pub struct Replayed<D> {
 }
 
 /// Plays the words of a schedule, and then rounds until no line is left, prints the replies that
-/// there are in the order of the script, and closes the kernel. Where a line is left that no seat
-/// can finish the kernel is let go, and fault 63 is printed behind the replies.
+/// there are in the order of the script, and closes the kernel. A round is one event of each seat
+/// in turn. Behind the first that moves nobody the system is stopped; where one behind that moves
+/// nobody a line is left that no seat can finish: the kernel is let go, and fault 63 is printed
+/// behind the replies.
 ///
 /// Whatever the schedule: where the kernel was led from a lawful system, as one is that was opened
 /// over an honest device, the answers are those of plain lists asked one call at a time, and seat

@@ -80,7 +80,9 @@ impl<'a, D: PageDevice + Drop> Replay<'a, D> {
     }
 
     /// How many lines with commands the script has.
-    pub(crate) fn lines(&self) -> usize {
+    pub(crate) fn lines(&self) -> usize
+        ensures { result ≡ length self.now.script.lines }
+    {
         self.script.lines().len()
     }
 

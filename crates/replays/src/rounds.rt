@@ -1,10 +1,7 @@
-//! Rounds behind a schedule: a step a seat, in order of seats, until all lines are replied.
+//! Rounds behind a schedule: an event a seat, in order of seats, until all lines are replied.
 
-ghost use Rattle.std.specs.Prelude.{◌≡◌, ℕ};
-ghost use Rattle.std.specs.List.{list_all};
-ghost use Rattle.replays.specs.Places.{is_idle_for_good};
-ghost use Rattle.replays.specs.Events.{IsEvent};
-ghost use Rattle.replays.specs.Rounds.{Comes};
+ghost use Rattle.std.specs.Prelude.{◌≡◌, false};
+ghost use Rattle.replays.specs.Rounds.{IsRound, MakesRounds, has_moved, is_over};
 
 use crate::deed::Deed;
 use crate::replay::{MOST_STEPS, Replay};
@@ -16,10 +13,10 @@ use page_device::PageDevice;
 /// where a round behind that moves none, a line stays that nobody can finish. There are at most as
 /// many rounds as calls could have steps, which no run reaches.
 pub(crate) fn finish<D: PageDevice + Drop>(replay: &mut Replay<D>) -> bool
-    ensures comes { Comes replay.old replay.new }
-    ensures end { result ≡ list_all is_idle_for_good replay.new.script.places }
+    ensures rounds { MakesRounds replay.old replay.new }
+    ensures over { result ≡ is_over replay.new }
 {
-    let most = (replay.lines() as u64).saturating_mul(u64::from(MOST_STEPS));
+    let most = (replay.lines() as u128) * u128::from(MOST_STEPS);
     let mut stopped = false;
     for _ in 0..most {
         if replay.is_at_end() {
@@ -29,7 +26,7 @@ pub(crate) fn finish<D: PageDevice + Drop>(replay: &mut Replay<D>) -> bool
             continue;
         }
         if stopped {
-            return replay.is_at_end();
+            return false;
         }
         replay.stop();
         stopped = true;
@@ -39,23 +36,21 @@ pub(crate) fn finish<D: PageDevice + Drop>(replay: &mut Replay<D>) -> bool
 
 /// An event of each seat. Tells whether one has moved.
 fn round<D: PageDevice + Drop>(replay: &mut Replay<D>) -> bool
-    ensures { Comes replay.old replay.new }
+    requires { is_over replay.old ≡ false }
+    ensures { IsRound result replay.old replay.new }
 {
-    let mut moved = false;
+    let mut moves = false;
     for place in 0..replay.seats() {
-        let has_moved = turn(replay, place);
-        if has_moved {
-            moved = true;
-        }
+        moves |= has_moved(replay.event(place + 1));
     }
-    moved
+    moves
 }
 
-/// An event of a seat. Tells whether it has moved.
-fn turn<D: PageDevice + Drop>(replay: &mut Replay<D>, place: u8) -> bool
-    ensures { (seat : ℕ) × (did : Deed) × IsEvent seat did replay.old replay.new }
+/// Whether an event has moved its seat.
+fn has_moved(did: Deed) -> bool
+    ensures { result ≡ has_moved did }
 {
-    match replay.event(place.saturating_add(1)) {
+    match did {
         Deed::Nothing | Deed::Blocked | Deed::Waits => false,
         Deed::Begun | Deed::Moved(_) | Deed::Replied => true,
     }

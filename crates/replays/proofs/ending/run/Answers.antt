@@ -7,7 +7,9 @@ use Rattle.msgq_cli.specs.declared.line.Line.{Line}
 use Rattle.msgq_cli.specs.declared.reply.Reply.{Reply}
 use Rattle.replays.specs.Places.{ProgressState}
 use Rattle.replays.specs.Replays.{IsClosedWell, MayEndWith, ending_by, replies_text}
+use Rattle.replays.specs.Rounds.{is_over}
 use Rattle.replays.proofs.ClosingLemmas.{answers_plain, left_well}
+use Rattle.replays.proofs.FreeLemmas.{busy_if_left}
 use Rattle.replays.proofs.ending.run.Goals as goal
 
 -- whatever the words, and however many rounds came behind them
@@ -16,7 +18,7 @@ returns g c =
     let last = c.finish-is_over.new.replay in
     let words = c.args.events.now in
     let plays = c.play_all.ensures in
-    let comes = c.finish-is_over.ensures.comes in
+    let rounds = c.finish-is_over.ensures.rounds in
     let kernel : c.into_parts-kernel.result.0 ≡ last.kernel = c.into_parts-kernel.ensures.kernel in
     let script : c.into_parts-kernel.result.1 ≡ last.script = c.into_parts-kernel.ensures.script in
     let lines : c.lines.result.now ≡ last.script.lines =
@@ -27,12 +29,16 @@ returns g c =
     let told = c.print_replies-so_far.new.output in
     let fault = c.close-device.result.1 in
     let left = option_map g.D.PageDevice.content c.close-device.result.0 in
+    let closes : MayEndWith (is_over last) last.kernel fault =
+    subst (λ (over : Bool). MayEndWith over last.kernel fault) c.finish-is_over.ensures.over
+    (subst (λ (k : KernelState ShaKey). MayEndWith c.finish-is_over.result k fault) kernel
+    c.close-device.ensures.closes) in
     record {
       played = c.play_all.new.self;
       plays = plays;
       last = last;
-      comes = comes;
-      answers = answers_plain c.events_lead_on.ensures words c.args.replay c.play_all.new.self last plays comes
+      rounds = rounds;
+      answers = answers_plain c.events_lead_on.ensures words c.args.replay c.play_all.new.self last plays rounds
           c.is_sound.ensures c.a_kernel_led_answers_as_plain_lists.ensures;
       told = told;
       so_far = c.print_replies-so_far.result;
@@ -43,10 +49,9 @@ returns g c =
         ends = c.print_replies-so_far.ensures.ends ∙ ap ending_by replies;
       };
       fault = fault;
-      closes = subst (λ (over : Bool). MayEndWith over last.kernel fault) c.finish-is_over.ensures.end
-          (subst (λ (k : KernelState ShaKey). MayEndWith c.finish-is_over.result k fault) kernel
-          c.close-device.ensures.closes);
-      well = λ none. left_well c.events_lead_on.ensures words c.args.replay c.play_all.new.self last plays comes
+      closes = closes;
+      stuck = busy_if_left last fault c.is_sound.ensures closes;
+      well = λ none. left_well c.events_lead_on.ensures words c.args.replay c.play_all.new.self last plays rounds
           c.is_sound.ensures c.a_kernel_led_closes_on_its_file.ensures left
           (subst (λ (k : KernelState ShaKey). IsClosedWell k left) kernel (c.close-device.ensures.well none));
       ends = c.end-ending.ensures;

@@ -1,6 +1,6 @@
--- It came so far by events and stops.
-use Rattle.replays.specs.Rounds.{Comes}
+-- So many rounds were made, and the system was stopped behind one of them, or not yet.
+use Rattle.replays.proofs.RoundLemmas.{SoFar}
 use Rattle.replays.proofs.rounds.finish.Given as goal
 
 abbrev pub invariant-loop : goal.invariant-loop
-invariant-loop g l = Comes l.fn.replay l.replay
+invariant-loop g l = SoFar l.stopped l.counter l.fn.replay l.replay

@@ -1,0 +1,242 @@
+-- As long as no step has failed a seat has a call only while a line of it is under way. So where no line is left the
+-- kernel is not busy.
+use Rattle.std.proofs.Common.{◌≡◌, ◌≢◌, ◌↔◌, ◌||◌, ◌&&◌, inl, inr, refl, sym, ap, ◌∙◌, subst, ℕ, zero, suc, ◌==◌, Bool, true, false, not, IsSome, List, [], ◌∷◌, Option, Some, None}
+use Rattle.std.specs.List.{list_all, list_any}
+use Rattle.std.specs.Option.{is_some}
+use Rattle.std.proofs.lemmas.Bool.{eqb-false, eqb-true}
+use Rattle.bucket_page.specs.Pseudokeys.{sha_key}
+use Rattle.bucket_page.specs.declared.pseudokey.ShaKey.{ShaKey}
+use Rattle.queue_model.specs.declared.call.Call.{Call}
+use Rattle.queue_model.specs.declared.entry.Entry.{Entry}
+use Rattle.step_rules.specs.declared.progress.Progress.TheVariants as progress
+use Rattle.interleavings.specs.Words.{FileFault, Progress, answer_of_call, conclusion_of}
+use Rattle.interleavings.specs.interleaving_core.Active.{ActiveView, is_waiting}
+use Rattle.interleavings.specs.interleaving_core.Beginning.{IsStopped}
+use Rattle.interleavings.specs.interleaving_core.Closing.{IsBusy, has_one}
+use Rattle.interleavings.specs.interleaving_core.Driving.{IsDriven, IsStep, Moves}
+use Rattle.interleavings.specs.interleaving_core.Kernel.{KernelState, call_at}
+use Rattle.interleavings.specs.interleaving_core.Owing.{call_of, is_failure}
+use Rattle.interleavings.specs.interleaving_core.Turn.{IsLeft, IsLeftWhenOver, TakesTurn, told_of, told_when_over}
+use Rattle.interleavings.specs.interleaving_core.Waiting.{stays_waiting}
+use Rattle.interleavings.specs.interleaving_core.declared.fault.StepFault.TheVariants as faults
+use Rattle.interleavings.specs.interleaving_core.declared.fault.TheConstants.{BUSY}
+use Rattle.interleavings.specs.interleaving_core.declared.step.Step.{Step}
+use Rattle.interleavings.specs.interleaving_core.declared.step.Step.TheVariants as steps
+use Rattle.msgq_cli.specs.declared.command.Command.{Command}
+use Rattle.msgq_cli.specs.declared.command.Command.TheVariants as commands
+use Rattle.msgq_cli.specs.declared.reply.Reply.{Reply}
+use Rattle.msgq_cli.specs.declared.reply.Reply.TheVariants.{Answered, Failed, Stopped}
+use Rattle.replays.specs.Events.{BeginsCommand, ReplayState, line_under_way, reply_by, told}
+use Rattle.replays.specs.Journal.{IsFreeWhereIdle, IsSoundReplay}
+use Rattle.replays.specs.Places.{ProgressState, is_idle_for_good, place_of}
+use Rattle.replays.specs.Replays.{MayEndWith}
+use Rattle.replays.specs.Rounds.{is_over}
+use Rattle.replays.specs.declared.progress.Place.{Place}
+use Rattle.replays.proofs.PlaceLemmas.{other_place}
+use Rattle.replays.proofs.TellLemmas.{Tells}
+
+no_some : {X : Type 0} (x : X) → ◌≡◌ {A = Option X} (Some x) None → ⊥
+no_some x clash = cc
+
+-- ---- a call that is let go
+
+-- a seat that would have no other call has none
+pub none_left : (other : ℕ) (es : List Entry) (call : Option Call) (old new : KernelState ShaKey) →
+    Tells other es call old new → call ≡ None → call_at new.seats other ≡ None
+none_left other es call old new tells none = by (call_at new.seats other) refl
+  where
+    by : (at : Option ActiveView) → call_at new.seats other ≡ at → at ≡ None
+    by None is = refl
+    by (Some a) is =
+        let some = subst (λ (x : Option ActiveView). IsSome (call_of x)) (sym is) refl in
+        absurd (no_some a.machine.call (sym (ap call_of is) ∙ tells.call_is some ∙ none))
+
+-- its end is told, and it does not wait
+ended_frees : (waits : Bool) (come : ActiveView) (step : Step) (left : Option ActiveView) →
+    step ≡ told_when_over waits (answer_of_call come.machine) → IsLeftWhenOver waits come left →
+    IsSome (reply_by step) → left ≡ None
+ended_frees true come step left told is replied =
+    let never : IsSome (reply_by steps.Waiting) = subst (λ (x : Step). IsSome (reply_by x)) told replied in absurd cc
+ended_frees false come step left told is replied = is
+
+made_frees : (did : Progress FileFault) (come : ActiveView) (step : Step) (left : Option ActiveView) →
+    step ≡ told_of did come.machine → IsLeft did come left → IsSome (reply_by step) → is_failure step ≡ false →
+    left ≡ None
+made_frees (progress.Moved kind) come step left told is replied sound =
+    let never : IsSome (reply_by (steps.Moved kind)) = subst (λ (x : Step). IsSome (reply_by x)) told replied in
+    absurd cc
+made_frees (progress.Blocked other) come step left told is replied sound =
+    let never : IsSome (reply_by (steps.Blocked other)) = subst (λ (x : Step). IsSome (reply_by x)) told replied in
+    absurd cc
+made_frees (progress.Fault fault) come step left told is replied sound =
+    let never : is_failure (steps.Fault (faults.File fault)) ≡ false =
+    subst (λ (x : Step). is_failure x ≡ false) told sound in
+    absurd cc
+made_frees progress.Ended come step left told is replied sound =
+    ended_frees (is_waiting (conclusion_of come.machine)) come step left told is replied
+
+neither : (x y : Bool) → (x || y) ≡ false → (x ≡ false) × (y ≡ false)
+neither true y is = absurd cc
+neither false y is = (refl, is)
+
+-- no step has failed before one that does not fail
+module _ (seat : ℕ) (step : Step) (old new : KernelState ShaKey) (is : IsStep sha_key seat step old new)
+    (sound : new.failed ≡ false) where
+  both_sound : (old.failed ≡ false) × (is_failure step ≡ false)
+  both_sound = neither old.failed (is_failure step) (sym is.turn.failed ∙ sound)
+
+  pub sound_before : old.failed ≡ false
+  sound_before = both_sound.0
+
+  -- and a call whose line it replies is gone
+  pub step_frees : IsSome (reply_by step) → call_at new.seats seat ≡ None
+  step_frees replied = by (call_at old.seats seat) refl
+    where
+      goes : (a : ActiveView) → TakesTurn sha_key seat old.stopped step a (call_at new.seats seat) old.pool new.pool
+          old.locks new.locks old.journal new.journal → (b : Bool) →
+          stays_waiting a.wait a.machine.call old.journal ≡ b → call_at new.seats seat ≡ None
+      goes a turn true stays =
+          let never : IsSome (reply_by steps.Waiting) =
+          subst (λ (x : Step). IsSome (reply_by x)) (turn.waits stays).told_is replied in
+          absurd cc
+      goes a turn false woken =
+          let makes = turn.goes woken in
+          made_frees makes.did makes.come step (call_at new.seats seat) makes.told_is makes.left_is replied both_sound.1
+
+      by : (at : Option ActiveView) → call_at old.seats seat ≡ at → call_at new.seats seat ≡ None
+      by None none = ap (λ (k : KernelState ShaKey). call_at k.seats seat) (is.turn.spares none) ∙ none
+      by (Some a) has = goes a (is.makes a has both_sound.0) (stays_waiting a.wait a.machine.call old.journal) refl
+
+-- the same of a drive
+moves_sound : (seat moves : ℕ) (old now : KernelState ShaKey) → Moves sha_key seat moves old now →
+    now.failed ≡ false → old.failed ≡ false
+moves_sound seat zero old now same sound = ap (λ (k : KernelState ShaKey). k.failed) (sym same) ∙ sound
+moves_sound seat (suc n) old now moved sound =
+    moves_sound seat n old moved.before moved.stands
+    (sound_before seat (steps.Moved moved.kind) moved.before now moved.step sound)
+
+module _ (seat : ℕ) (step : Step) (old new : KernelState ShaKey) (driven : IsDriven sha_key seat step old new)
+    (sound : new.failed ≡ false) where
+  spent_fails : new ≡ record driven.before { failed = true } → ⊥
+  spent_fails marked =
+      let never : true ≡ false = sym (ap (λ (k : KernelState ShaKey). k.failed) marked) ∙ sound in absurd cc
+
+  pub sound_before_drive : old.failed ≡ false
+  sound_before_drive = elim driven.ends [
+    | inl rests ↦ moves_sound seat driven.moves old driven.before driven.moved
+        (sound_before seat step driven.before new rests.step sound)
+    | inr spent ↦ absurd (spent_fails spent.marked)
+  ]
+
+  pub drive_frees : IsSome (reply_by step) → call_at new.seats seat ≡ None
+  drive_frees replied = elim driven.ends [
+    | inl rests ↦ step_frees seat step driven.before new rests.step sound replied
+    | inr spent ↦ absurd (spent_fails spent.marked)
+  ]
+
+-- ---- whether a step has failed
+
+stop_failed : (old new : KernelState ShaKey) → IsStopped old new → (b : Bool) → old.stopped ≡ b →
+    new.failed ≡ old.failed
+stop_failed old new stops true is = let same = stops.again is in ap (λ (k : KernelState ShaKey). k.failed) same
+stop_failed old new stops false is = let marked = stops.first is in ap (λ (k : KernelState ShaKey). k.failed) marked
+
+pub stopped_failed : (old new : KernelState ShaKey) → IsStopped old new → new.failed ≡ old.failed
+stopped_failed old new stops = stop_failed old new stops old.stopped refl
+
+-- a begin does not fail
+pub begun_failed : (seat : ℕ) (command : Command) (reply : Option Reply) (old new : KernelState ShaKey) →
+    BeginsCommand seat command reply old new → new.failed ≡ old.failed
+begun_failed seat commands.Stop reply old new (is, stops) = stopped_failed old new stops
+begun_failed seat (commands.Call call) None old new has = ap (λ (k : KernelState ShaKey). k.failed) has.is
+begun_failed seat (commands.Call call) (Some (Answered answer)) old new never = absurd never
+begun_failed seat (commands.Call call) (Some Stopped) old new never = absurd never
+begun_failed seat (commands.Call call) (Some (Failed fault)) old new (inl (none, same)) =
+    ap (λ (k : KernelState ShaKey). k.failed) same
+begun_failed seat (commands.Call call) (Some (Failed fault)) old new (inr ((back, cause), refuses, is)) =
+    ap (λ (k : KernelState ShaKey). k.failed) refuses.same
+
+-- ---- a line that is told something
+
+-- another seat was idle before
+pub idle_before : (s : ProgressState) (seat place : ℕ) (reply : Option Reply) (other : ℕ) → other ≢ seat →
+    (place_of (told seat place reply s).places other).under_way ≡ None → (place_of s.places other).under_way ≡ None
+idle_before s seat place None other not idle = idle
+idle_before s seat place (Some reply) other not idle =
+    sym (ap (λ (p : Place). p.under_way)
+    (other_place s.places seat other (record (place_of s.places seat) { under_way = None }) not)) ∙ idle
+
+module _ (seat place : ℕ) (step : Step) (s t : ReplayState) (under : line_under_way seat s ≡ Some place)
+    (script : t.script ≡ told seat place (reply_by step) s.script)
+    (before : t.kernel.failed ≡ false → s.kernel.failed ≡ false)
+    (frees : t.kernel.failed ≡ false → IsSome (reply_by step) → call_at t.kernel.seats seat ≡ None)
+    (stays : (other : ℕ) → call_at s.kernel.seats other ≡ None → call_at t.kernel.seats other ≡ None) where
+  pub free_told : (other : ℕ) → IsFreeWhereIdle other s → IsFreeWhereIdle other t
+  free_told other free sound idle = by (other == seat) refl
+    where
+      now : (place_of (told seat place (reply_by step) s.script).places other).under_way ≡ None
+      now = sym (ap (λ (x : ProgressState). (place_of x.places other).under_way) script) ∙ idle
+
+      -- its line is replied
+      own : other ≡ seat → (r : Option Reply) → reply_by step ≡ r →
+          (place_of (told seat place r s.script).places seat).under_way ≡ None → call_at t.kernel.seats seat ≡ None
+      own same None is none = absurd (no_some place (sym under ∙ none))
+      own same (Some reply) is none = frees sound (subst IsSome (sym is) refl)
+
+      by : (b : Bool) → (other == seat) ≡ b → call_at t.kernel.seats other ≡ None
+      by true e =
+          let same = eqb-true other seat e in
+          ap (call_at t.kernel.seats) same
+          ∙ own same (reply_by step) refl (subst
+          (λ (n : ℕ). (place_of (told seat place (reply_by step) s.script).places n).under_way ≡ None) same now)
+      by false e =
+          stays other (free (before sound)
+          (idle_before s.script seat place (reply_by step) other (eqb-false other seat e) now))
+
+-- ---- where no line is left
+
+both_true : (x y : Bool) → (x && y) ≡ true → (x ≡ true) × (y ≡ true)
+both_true true y is = (refl, is)
+both_true false y is = absurd cc
+
+none_under_way : (next under_way : Option ℕ) → (not (is_some next) && not (is_some under_way)) ≡ true →
+    under_way ≡ None
+none_under_way next None is = refl
+none_under_way next (Some place) is =
+    let both = both_true (not (is_some next)) false is in let never : false ≡ true = both.1 in absurd cc
+
+all_idle : (places : List Place) → list_all is_idle_for_good places ≡ true → (seat : ℕ) →
+    (place_of places seat).under_way ≡ None
+all_idle places over zero = refl
+all_idle [] over (suc n) = refl
+all_idle (p ∷ ps) over (suc zero) =
+    none_under_way p.next p.under_way (both_true (is_idle_for_good p) (list_all is_idle_for_good ps) over).0
+all_idle (p ∷ ps) over (suc (suc n)) =
+    all_idle ps (both_true (is_idle_for_good p) (list_all is_idle_for_good ps) over).1 (suc n)
+
+no_one : (seats : List (Option ActiveView)) → ((seat : ℕ) → call_at seats seat ≡ None) → list_any has_one seats ≡ false
+no_one [] none = refl
+no_one (None ∷ xs) none = no_one xs (λ seat. behind seat)
+  where
+    behind : (seat : ℕ) → call_at xs seat ≡ None
+    behind zero = refl
+    behind (suc n) = none (suc (suc n))
+no_one (Some a ∷ xs) none = absurd (no_some a (none (suc zero)))
+
+not_busy : (s : ReplayState) → IsSoundReplay s → is_over s ≡ true → IsBusy s.kernel → ⊥
+not_busy s sound over busy =
+    let idle = no_one s.kernel.seats (λ seat. sound.free seat busy.sound (all_idle s.script.places over seat)) in
+    let never : true ≡ false = sym busy.call ∙ idle in
+    absurd cc
+
+-- so `BUSY` is told just where a line is left
+pub busy_if_left : (s : ReplayState) (fault : Option ℕ) → IsSoundReplay s → MayEndWith (is_over s) s.kernel fault →
+    (fault ≡ Some BUSY) ↔ (is_over s ≡ false)
+busy_if_left s fault sound = by (is_over s) refl
+  where
+    by : (b : Bool) → is_over s ≡ b → MayEndWith b s.kernel fault → (fault ≡ Some BUSY) ↔ (b ≡ false)
+    by false is closes = ((λ told. refl), (λ left. closes))
+    by true is closes = (
+      (λ told. absurd (not_busy s sound is (closes.busy.0 told))),
+      (λ never. absurd cc),
+    )
