@@ -1,5 +1,5 @@
 -- What a kernel counts is of the searches of its seats, behind each step.
-use Rattle.std.proofs.Common.{ℕ, suc, ◌≡◌, ◌≢◌, ◌≤◌, ◌+◌, ◌⊎◌, inl, inr, refl, sym, ap, ◌∙◌, subst, min, Bool, true, false, not, ◌&&◌, ◌==◌, List, [], Option, Some, None, IsSome, arith, eq-eqb}
+use Rattle.std.proofs.Common.{ℕ, suc, ◌≡◌, ◌≢◌, ◌≤◌, ◌+◌, inl, inr, refl, sym, ap, ◌∙◌, subst, min, Bool, true, false, not, ◌&&◌, ◌==◌, List, Option, Some, None, IsSome, arith, eq-eqb}
 use Rattle.std.proofs.lemmas.Bool.{and_parts, true≢false}
 use Rattle.std.proofs.lemmas.Int.{clamps}
 use Rattle.page_locks.specs.Table.{Table, held, row_of}
@@ -12,16 +12,15 @@ use Rattle.step_rules.specs.declared.progress.Progress.{Progress}
 use Rattle.step_rules.specs.declared.progress.Progress.TheVariants as progress
 use Rattle.step_rules.specs.Does.{Does}
 use Rattle.step_rules.specs.Known.{Known}
-use Rattle.step_rules.specs.Sound.{IsSoundWorld}
 use Rattle.step_rules.specs.Turns.{Turn, TurnsAt, is_fault}
 use Rattle.step_rules.specs.Walking.{IsAsAdded, IsOwnStep, IsWalkBy, WalksBehind, Begins, HopsOn, GoesOn, OwnStepsWalk, OthersStepsWalk, first_walk}
-use Rattle.step_rules.specs.Walks.{HasHoppedLittle, HasRead, SearchWalk, is_quiet, walk_beside}
+use Rattle.step_rules.specs.Walks.{HasHoppedLittle, SearchWalk, is_quiet, walk_beside}
 use Rattle.step_rules.specs.Ways.{hops_added}
 use Rattle.step_rules.specs.Words.{Change, Quiet, Taken, Filled, Linked, Absorbed, Buried, Drained, Freed}
-use Rattle.step_rules.specs.World.{World, IsHeld}
+use Rattle.step_rules.specs.World.{World}
 use Rattle.step_rules.proofs.TurnLemmas.{is_of_its_kind}
 use Rattle.interleaving_core.specs.Searches.{begins_search, ends_on, goes_on, is_shared, is_unheld}
-use Rattle.interleaving_core.specs.search_counts.Counting.{CountsState, MOST_COUNTED, Notes, begun_count, change_after, count_at, count_beside, is_nothing, own_count}
+use Rattle.interleaving_core.specs.search_counts.Counting.{CountsState, MOST_COUNTED, Notes, begun_count, change_after, count_at, is_nothing, own_count}
 use Rattle.interleaving_core.specs.search_counts.declared.count.SearchCount.{SearchCount}
 use Rattle.interleaving_core.specs.search_counts.declared.under_way.UnderWay.{UnderWay}
 use Rattle.interleavings.specs.Counting.{HopsFew, IsCounted, under_way_in}

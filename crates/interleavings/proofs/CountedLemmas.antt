@@ -1,5 +1,5 @@
 -- What a kernel counts, beside the calls of its seats.
-use Rattle.std.proofs.Common.{ℕ, zero, suc, ◌≡◌, ◌≤◌, ◌<◌, refl, sym, ap, ◌∙◌, subst, min, Bool, true, false, List, [], ◌∷◌, Option, Some, None, length, replicate, arith}
+use Rattle.std.proofs.Common.{ℕ, zero, suc, ◌≡◌, ◌≤◌, refl, sym, ap, ◌∙◌, subst, Bool, true, false, List, [], Option, Some, None, length, replicate, arith}
 use Rattle.std.proofs.lemmas.Bool.{true≢false}
 use Rattle.std.proofs.lemmas.Int.{clamps}
 use Rattle.std.proofs.lemmas.List.{get_or-replicate}
@@ -8,7 +8,7 @@ use Rattle.step_rules.specs.Known.{Known}
 use Rattle.step_rules.specs.Walking.{first_walk}
 use Rattle.step_rules.specs.Words.{Change, Quiet}
 use Rattle.step_rules.specs.World.{World}
-use Rattle.interleaving_core.specs.search_counts.Counting.{MOST_COUNTED, begun_count, count_at, no_count, opened_counts}
+use Rattle.interleaving_core.specs.search_counts.Counting.{begun_count, count_at, no_count, opened_counts}
 use Rattle.interleaving_core.specs.search_counts.declared.count.SearchCount.{SearchCount}
 use Rattle.interleaving_core.specs.search_counts.declared.under_way.UnderWay.TheVariants.{Nothing}
 use Rattle.interleaving_core.specs.xsi_calls.Machine.{IsNew, call_facts, facts_at}

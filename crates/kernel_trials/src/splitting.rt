@@ -5,14 +5,14 @@ use crate::asks::Asks::{Get, Receive, Send, SendLong};
 use crate::cases::Left::{Bytes, Header};
 use crate::cases::{Case, run_all};
 use crate::rows::Row;
-use crate::rows::Row::{Begins, Calls, Counts, Drives, Reaches, Steps};
+use crate::rows::Row::{Begins, Calls, Counts, Drives, Reaches, Searched, Steps};
 use crate::rows::Want::{Blocked, Id, Moved, Received, Sent};
 use bucket_page::NumberKey;
 use std::test::Fail;
 use step_rules::Kind;
 
 /// Two queues in the one bucket, which has no room for a fourth long message.
-const FULL_BUCKET: [Row; 8] = [
+const FULL_BUCKET: [Row; 9] = [
     Calls(1, Get(7), Id(1)),
     Calls(1, Get(9), Id(2)),
     Calls(1, Send(2, 2, "a"), Sent(1)),
@@ -21,6 +21,7 @@ const FULL_BUCKET: [Row; 8] = [
     Calls(1, SendLong(1, 1024), Sent(1)),
     Calls(1, SendLong(1, 1024), Sent(2)),
     Calls(1, SendLong(1, 1024), Sent(3)),
+    Searched(1, 0, 0, true),
 ];
 
 /// The fourth message is sent.
@@ -50,27 +51,29 @@ const SPLIT_AGAIN: [Row; 3] = [
 ];
 
 /// A Get beside the split. Behind WriteNew the old bucket has all its records.
-const BEHIND_WRITE_NEW: [Row; 5] = [
+const BEHIND_WRITE_NEW: [Row; 6] = [
     Begins(1, SendLong(1, 1024)),
     Reaches(1, Kind::WriteNew),
     Begins(2, Get(7)),
     Counts(2, Kind::Hop, 0, Id(1)),
+    Searched(2, 0, 0, false),
     Drives(1, Sent(4)),
 ];
 
 /// Behind WriteOld the entry still names it, and the record stands behind it.
-const BEHIND_WRITE_OLD: [Row; 5] = [
+const BEHIND_WRITE_OLD: [Row; 6] = [
     Begins(1, SendLong(1, 1024)),
     Reaches(1, Kind::WriteOld),
     Begins(2, Get(7)),
     Counts(2, Kind::Hop, 1, Id(1)),
+    Searched(2, 1, 0, false),
     Drives(1, Sent(4)),
 ];
 
 /// A Get that is granted its key, the directory and page 258, and a Receive that merges: it waits
 /// until the Get has let go of the directory, and then of the page. In the end there are a Counter
 /// of 23 bytes, two Keys of 19, two Queues of 114, two Types of 47, and Messages of 52 and 1,075.
-const BESIDE_A_MERGE: [Row; 14] = [
+const BESIDE_A_MERGE: [Row; 15] = [
     Begins(2, Get(7)),
     Reaches(2, Kind::Grant),
     Reaches(2, Kind::Grant),
@@ -84,6 +87,7 @@ const BESIDE_A_MERGE: [Row; 14] = [
     Steps(1, Moved(Kind::Convert)),
     Steps(1, Blocked(2)),
     Counts(2, Kind::Hop, 1, Id(1)),
+    Searched(2, 1, 1, false),
     Drives(1, Received(3)),
 ];
 
