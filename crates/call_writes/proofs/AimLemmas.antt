@@ -6,7 +6,7 @@ use Rattle.record_access.specs.step_rules.Searching.{IsAimed}
 use Rattle.record_access.specs.step_rules.Turns.{Ask}
 use Rattle.call_writes.specs.declared.writes.CallWrites.{CallWrites}
 use Rattle.call_writes.specs.Dues.{next_deed, purpose_of}
-use Rattle.call_writes.specs.Views.{begun_deed, facts_under, set_out, turn_under, writes_facts, writes_turn}
+use Rattle.call_writes.specs.Views.{facts_under, set_out, turn_under, writes_facts, writes_turn}
 use Rattle.call_writes.specs.Words.{AccessView, Deed, Plan, RecordKey, Store}
 
 -- an access that begins asks for nothing of a search yet

@@ -2,7 +2,7 @@
 use Rattle.std.specs.Prelude.{ℕ, ◌≡◌, ◌↔◌, ◌≤◌, ◌+◌, ◌-◌, ◌%◌, ◌^◌, ◌==◌, ◌&&◌, ◌⊎◌, Bool, false, min, if◌then◌else◌}
 use Rattle.std.specs.Prelude.{List, [], ◌∷◌, length, Option, Some, None, IsSome, IsTrue, ⊤}
 use Rattle.std.specs.Option.{option_map}
-use Rattle.step_rules.specs.Words.{Lock, LockKind, Read, Exclusive, Directory, Page, Store, Change, Answers, entry_at, next_at, range_at}
+use Rattle.step_rules.specs.Words.{Lock, LockKind, Read, Exclusive, Directory, Store, Change, Answers, entry_at, next_at, range_at}
 use Rattle.stale_search.specs.Words.{RecordKey, PoolState, Table, store_of, Progress, Moved, Ended, World, Known, Deep, LeadsTo, Ask, ForLock, ForEntry, ForPage, ForAnswer, HopFrom, Turn, SearchPlace, GrantDirectory, ReadDepth, ReadEntry, GrantPage, ReleaseDirectory, Look, Hop, Found}
 use Rattle.file_pages.specs.directory.declared.layout.TheConstants.{GREATEST_DEPTH}
 use Rattle.file_pages.specs.hash_file.Store.{has_bucket}

@@ -1,6 +1,5 @@
 -- A search that is told by what its seat knows goes on.
-use Rattle.std.proofs.Common.{◌≡◌, ◌≢◌, ◌≤◌, ◌+◌, ◌%◌, ◌^◌, ◌⊎◌, List, [], ◌∷◌, ◌++◌, Bool, true, false, Option, Some, None, IsSome, ℕ, suc, refl, sym, ap, ◌∙◌, subst, inl, inr, arith}
-use Rattle.std.proofs.lemmas.Bool.{true≢false}
+use Rattle.std.proofs.Common.{◌≡◌, ◌≢◌, ◌+◌, ◌%◌, ◌^◌, ◌⊎◌, List, [], ◌∷◌, ◌++◌, Option, Some, None, ℕ, suc, refl, sym, ap, ◌∙◌, subst, inl, inr, arith}
 use Rattle.bucket_page.specs.declared.record_key.RecordKey.{RecordKey}
 use Rattle.page_locks.specs.Table.{Table, held, row_of, with_lock, without_lock}
 use Rattle.page_locks.proofs.ChangeLemmas.{IsSeat-with_row}
@@ -11,13 +10,11 @@ use Rattle.step_rules.specs.declared.kind.Kind.TheVariants as kinds
 use Rattle.step_rules.specs.declared.progress.Progress.{Progress}
 use Rattle.step_rules.specs.declared.progress.Progress.TheVariants.{Moved, Blocked, Fault, Ended}
 use Rattle.step_rules.specs.World.{World, with_locks, IsHeld}
-use Rattle.step_rules.specs.Sound.{IsSoundWorld}
-use Rattle.step_rules.specs.Known.{Known, Deep, LeadsTo, OnPage, Live, Built, Told, HasAnchor, IsKnown, AllKnown}
+use Rattle.step_rules.specs.Known.{Known, Deep, LeadsTo, OnPage, Live, Built, Told, IsKnown, AllKnown}
 use Rattle.step_rules.specs.LockSteps.{MovesOn}
-use Rattle.step_rules.specs.Does.{Does}
-use Rattle.step_rules.specs.Turns.{Ask, ForLock, ForEntry, ForPage, ForAnswer, HopFrom, ToExclusive, HopsAsked, HopsJust, Turn, TurnsAt}
-use Rattle.step_rules.specs.Walks.{HasRead, IsAt, WalkStage, SearchWalk, HasHoppedLittle, IsOnItsWay, late, walk_beside, WalksGoOn}
-use Rattle.step_rules.specs.Searching.{IsAimed, IsOfStructure, KnowsFirst, TakesDepth, WalksTo, WalksToPage, StepsTo, ByEntry, WasBefore, Stays, HopsBack}
+use Rattle.step_rules.specs.Turns.{Ask, ForLock, ForEntry, ForPage, ForAnswer, HopFrom, ToExclusive, HopsAsked, Turn, TurnsAt}
+use Rattle.step_rules.specs.Walks.{IsAt, SearchWalk, HasHoppedLittle, IsOnItsWay, late, walk_beside, WalksGoOn}
+use Rattle.step_rules.specs.Searching.{IsAimed, IsOfStructure, KnowsFirst, TakesDepth, WalksTo, StepsTo, ByEntry, WasBefore, Stays, HopsBack}
 use Rattle.step_rules.specs.Searching.{HopsOn as StepsOn}
 use Rattle.step_rules.specs.Walking.{IsAsAdded, IsOwnStep, IsWalkBy, WalksBehind, Begins, HopsOn, GoesOn, OwnStepsWalk, OthersStepsWalk, first_walk}
 use Rattle.step_rules.specs.Ways.{hops_between}
@@ -134,7 +131,8 @@ module _ {F : Type 0} (hash : RecordKey → ℕ) (seat : ℕ) (turn : Turn) (did
     was_there is = let at = walk_to page k is in (at.0, relocked walk at.0 at.1)
 
     hopped : (before : ℕ) → KnowsFirst (LeadsTo before k) facts → (Answers old.store before k → ⊥) →
-        page ≡ next_at old.store before → IsOnItsWay seat k (record walk { stage = IsAt page; hops = suc walk.hops }) new
+        page ≡ next_at old.store before →
+        IsOnItsWay seat k (record walk { stage = IsAt page; hops = suc walk.hops }) new
     hopped before is other next =
         let at = walk_to before k is in
         let was = at_stage seat k walk old (IsAt before) at.0 at.1 in
@@ -202,7 +200,8 @@ module _ {F : Type 0} (hash : RecordKey → ℕ) (seat : ℕ) (turn : Turn) (did
           (aside walk)
       | inr moves ↦ elim (aimed_by (HopFrom page k) asked) [
         | inr structure ↦ GoesOn (λ e. inr (hop_keeps_directory seat h.hops.page h.hops.kind old new moves.1
-            (structure_held seat old facts structure step.known))) (λ e any. aside any) walk refl same_added (aside walk)
+            (structure_held seat old facts structure step.known))) (λ e any. aside any) walk refl same_added
+            (aside walk)
         | inl at ↦
             let was = walk_to page k at in
             let near = at_stage seat k walk old (IsAt page) was.0 was.1 in

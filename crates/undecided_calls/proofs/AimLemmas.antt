@@ -1,5 +1,5 @@
 -- What a call that has not decided asks for while it searches is what its seat knows.
-use Rattle.std.proofs.Common.{ℕ, ◌≡◌, Bool, true, false, Option, Some, None, if◌then◌else◌, refl}
+use Rattle.std.proofs.Common.{ℕ, Bool, true, false, Option, Some, None, if◌then◌else◌}
 use Rattle.call_questions.proofs.AimLemmas.{questions_aimed}
 use Rattle.call_writes.specs.stale_search.step_rules.Searching.{IsAimed}
 use Rattle.call_writes.proofs.AimLemmas.{sets_out_aimed, writes_aimed}
