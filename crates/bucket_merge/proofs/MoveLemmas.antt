@@ -134,8 +134,9 @@ module _ (seat : ℕ) (key : RecordKey) (a : ApproachView) (pool : PoolState) (l
               (granted_lock hash seat (facts_at place a) pool locks change sees (Some (Remove key)) locks'
               (Page page) kind
               (merge_walks (Some (ForLock (Page page) kind)) (Moved kinds.Grant) (was change)
-              (world pool.images locks' change) place) seated room fresh nobody (λ n same. subst (IsReached (was change)) (let e : page ≡ n = cc in e)
-              (reached hash change sees)) (may hash change sees) is);
+              (world pool.images locks' change) place) seated room fresh nobody
+              (λ n same. subst (IsReached (was change)) (let e : page ≡ n = cc in e) (reached hash change sees))
+              (may hash change sees) is);
         };
         answer = λ hash change keyed sees fine before_ up. absurd (not_both on up);
       }
