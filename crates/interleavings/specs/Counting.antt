@@ -34,15 +34,18 @@ under_way_in (Buried left right whole) = Merge
 under_way_in (Drained left right) = Merge
 under_way_in (Freed right) = Merge
 
--- what is counted of a seat's last search: no more hops than it made, and no fewer steps of others than may have
--- added one, as far as is counted
+-- what is counted of a seat's last search, beside the walk that it made
 pub record IsCounted (seat : ℕ) (facts : List Known) (count : SearchCount) (w : World) : Type 0 where
+  -- it has hopped once more at most than others may have added, and is where its seat knows
   pub walk : SearchWalk
   pub little : HasHoppedLittle walk
   pub by : IsWalkBy seat facts walk w
+  -- no more hops are counted than it made, nor than are counted at most
   pub hops : count.hops ≤ walk.hops
   pub most : count.hops ≤ MOST_COUNTED
+  -- as many steps of others at least as may have added a hop, as far as is counted
   pub changes : min walk.added MOST_COUNTED ≤ count.changes
+  -- it counts as calm only where no change was under way
   pub calm : count.calm ≡ true → walk.calm ≡ true
 
 -- the calls of a kernel beside one another, each seat's search as it is counted

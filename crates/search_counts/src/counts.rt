@@ -32,7 +32,8 @@ impl Model for SearchCounts {
 }
 
 impl SearchCounts {
-    /// For this many seats, none of which has searched. Nothing is under way.
+    /// For this many seats, none of which has searched. Nothing is under way. `NoMemory` where there
+    /// is none for a count a seat.
     pub fn new(alloc: Global, seats: usize) -> Result<SearchCounts, NoMemory>
         ensures { IfOk result (λ counts. counts ≡ opened_counts seats) }
     {
