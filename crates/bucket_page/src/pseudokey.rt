@@ -22,6 +22,17 @@ pub trait PseudoKey {
     ghost small: { (keys : Self) (key : RecordKey) → of_key keys key < 2 ^ 32 };
 }
 
+/// A way that is lent makes the pseudokeys that it makes.
+impl<K: PseudoKey> PseudoKey for &K {
+    ghost of_key = { λ keys. K.of_key keys.now };
+
+    ghost small = { λ keys. K.small keys.now };
+
+    fn of(&self, key: &RecordKey) -> u32 {
+        (**self).of(key)
+    }
+}
+
 /// The first four bytes, the highest first, of the SHA-256 of the key's bytes.
 #[derive(Clone, Copy, Debug)]
 pub struct ShaKey;

@@ -37,7 +37,7 @@ module _ (P : RecordKey → Type 0) where
       by true same more rest = subst P (sym (same_keys key (key_written w) same)) (All-head IsOwn w ws own)
       by false other more rest = rest more
 
-  undoing_own : (rs : List Record) → All IsOwnTrial rs → All IsOwn (undoing rs)
+  pub undoing_own : (rs : List Record) → All IsOwnTrial rs → All IsOwn (undoing rs)
   undoing_own [] own = All-nil IsOwn
   undoing_own (r ∷ rs) own = All-push IsOwn (undoing rs) (Delete (key_of r))
       (undoing_own rs (All-tail IsOwnTrial r rs own)) (All-head IsOwnTrial r rs own)

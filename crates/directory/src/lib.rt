@@ -22,5 +22,5 @@ pub use page::{DirectoryView, directory_of, read_entries, write_directory};
 pub use page_device;
 pub use page_device::faults;
 pub use positions;
-pub use read::{HeaderFault, header_of, read_header};
+pub use read::{HeaderFault, depth_of, header_of, read_header};
 pub use write::write_header;

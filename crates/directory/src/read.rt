@@ -58,6 +58,13 @@ pub fn header_of(payload: &Payload) -> Header
     header_in(payload)
 }
 
+/// The depth alone of a payload that is known to spell a header.
+pub fn depth_of(payload: &Payload) -> u8
+    ensures { result ≡ (header_at payload.now).depth }
+{
+    payload[2]
+}
+
 fn header_in(bytes: &[u8]) -> Header
     requires { length bytes.now ≡ PAYLOAD_BYTES }
     ensures { result ≡ header_at bytes.now }

@@ -48,8 +48,8 @@ fn depth_of(page: &FilePage) -> Result<u8, FileFault>
     ensures err { IsErr result → IsHeaderPage page.now → ⊥ }
     ensures fault { IfErr result (λ fault. fault ≡ FileFault.Failed) }
 {
-    match page.header() {
-        Some(header) => Ok(header.depth),
+    match page.depth() {
+        Some(depth) => Ok(depth),
         None => Err(FileFault::Failed),
     }
 }

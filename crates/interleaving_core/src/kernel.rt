@@ -104,7 +104,7 @@ pub enum NotClosed<D: PageDevice, K: PseudoKey> {
     Fault(Closed<D>, CloseFault),
 }
 
-impl<D: PageDevice + Drop, K: PseudoKey + Copy> Kernel<D, K> {
+impl<D: PageDevice + Drop, K: PseudoKey + Drop> Kernel<D, K> {
     /// Checks the file on a device and opens it for these callers, one a seat, with so many frames
     /// for its pages. The system is not stopped. A file with which anything is wrong is refused by
     /// the first thing that is. Each refusal gives the device back.
@@ -135,7 +135,7 @@ impl<D: PageDevice + Drop, K: PseudoKey + Copy> Kernel<D, K> {
         if frames < least_frames(seats) {
             return Err((device, OpenFault::TooFewFrames));
         }
-        let Checked { device, found } = check(alloc, device, keys);
+        let Checked { device, found } = check(alloc, device, &keys);
         match found {
             Ok(_) => {}
             Err(fault) => return Err((device, OpenFault::Wrong(fault))),

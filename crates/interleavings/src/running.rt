@@ -21,7 +21,7 @@ use std::alloc::Global;
 /// Whatever the order of the events: where the kernel was led from a lawful system, as one is that
 /// was opened over an honest device, its answers are those of plain lists asked one call at a time;
 /// and once no seat has a call the file holds just what the lists do.
-pub fn run<D: PageDevice + Drop, K: PseudoKey + Copy>(
+pub fn run<D: PageDevice + Drop, K: PseudoKey + Drop>(
     alloc: Global,
     kernel: &mut Kernel<D, K>,
     events: Vec<Event>,
@@ -45,7 +45,7 @@ pub fn run<D: PageDevice + Drop, K: PseudoKey + Copy>(
 }
 
 /// Plays one event, and tells what came of it.
-fn play<D: PageDevice + Drop, K: PseudoKey + Copy>(
+fn play<D: PageDevice + Drop, K: PseudoKey + Drop>(
     kernel: &mut Kernel<D, K>,
     event: Event,
 ) -> Outcome

@@ -2,6 +2,7 @@
 
 use bucket_page::ShaKey;
 use interleaving_core::{Kernel, Step};
+use kept_keys::KeptKeys;
 use page_device::MemDevice;
 use queue_model::{
     Body, Call, Caller, GetArguments, NoMemory, ReceiveArguments, SendArguments, SetArguments,
@@ -40,7 +41,7 @@ pub struct Plan {
 #[derive(Drop)]
 pub struct Called {
     alloc: Global,
-    kernel: Kernel<MemDevice, ShaKey>,
+    kernel: Kernel<MemDevice, KeptKeys<ShaKey>>,
     bytes: Vec<u8>,
 }
 
@@ -49,7 +50,8 @@ impl Called {
     pub fn new(alloc: Global, plan: &Plan) -> anyhow::Result<Called> {
         let mut device = MemDevice::new(alloc);
         format(&mut device, PAGES)?;
-        let kernel = match Kernel::open(alloc, device, ShaKey, &[CALLER], PAGES as usize) {
+        let keys = KeptKeys::new(ShaKey);
+        let kernel = match Kernel::open(alloc, device, keys, &[CALLER], PAGES as usize) {
             Ok(kernel) => kernel,
             Err((_, fault)) => return Err(fault.into()),
         };

@@ -10,7 +10,7 @@ ghost use Rattle.bucket_page.specs.directory.Reading.{header_at};
 ghost use Rattle.page_forms.specs.Forms.{IsFreePage, IsHeaderPage, IsTombstonePage, IsWell, blank_page};
 
 use bucket_page::directory::{
-    DIRECTORY, DirectoryView, HEADER, Header, directory_of, header_of, read_header,
+    DIRECTORY, DirectoryView, HEADER, Header, depth_of, directory_of, header_of, read_header,
 };
 use bucket_page::page_device::{PAYLOAD_BYTES, Payload};
 use bucket_page::{BUCKET, BucketView, FREE, TOMBSTONE, bucket_of, link_of, read_page, write_free};
@@ -90,6 +90,18 @@ impl FilePage {
             return None;
         }
         Some(header_of(&self.payload))
+    }
+
+    /// The depth of the directory where it is a header. Its other fields are not read.
+    pub fn depth(&self) -> Option<u8>
+        ensures some { IfSome result
+            (λ depth. IsHeaderPage self.now × (depth ≡ (header_at self.now).depth)) }
+        ensures none { IfNone result (IsHeaderPage self.now → ⊥) }
+    {
+        if self.payload[0] != HEADER {
+            return None;
+        }
+        Some(depth_of(&self.payload))
     }
 
     /// What it says where it is a bucket.

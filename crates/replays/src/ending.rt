@@ -4,10 +4,10 @@ ghost use Rattle.std.specs.Prelude.{◌≡◌, None};
 ghost use Rattle.std.specs.Option.{option_map};
 ghost use Rattle.replays.specs.Replays.{EndsWith, IsClosedWell, IsReplayed, MayEndWith};
 
+use crate::opening::FileKeys;
 use crate::printing::print_replies;
 use crate::replay::Replay;
 use crate::rounds::finish;
-use bucket_page::ShaKey;
 use interleavings::interleaving_core::{BUSY, Kernel, NotClosed};
 use interleavings::{
     a_kernel_led_answers_as_plain_lists, a_kernel_led_closes_on_its_file, events_lead_on,
@@ -44,9 +44,9 @@ pub fn run<D: PageDevice + Drop, W: Write + Drop>(
     ensures { IsReplayed events.now replay.entry output.old output.new
         (option_map D.content result.device) result.ending }
 {
-    events_lead_on::<ShaKey>();
-    a_kernel_led_answers_as_plain_lists::<ShaKey>();
-    a_kernel_led_closes_on_its_file::<ShaKey>();
+    events_lead_on::<FileKeys>();
+    a_kernel_led_answers_as_plain_lists::<FileKeys>();
+    a_kernel_led_closes_on_its_file::<FileKeys>();
     let mut replay = replay;
     replay.play_all(events);
     let is_over = finish(&mut replay);
@@ -61,7 +61,10 @@ pub fn run<D: PageDevice + Drop, W: Write + Drop>(
 
 /// Closes a kernel, or lets it go where a line is left, and tells why it was not closed well, if it
 /// was not.
-fn close<D: PageDevice + Drop>(kernel: Kernel<D, ShaKey>, is_over: bool) -> (Option<D>, Option<u8>)
+fn close<D: PageDevice + Drop>(
+    kernel: Kernel<D, FileKeys>,
+    is_over: bool,
+) -> (Option<D>, Option<u8>)
     ensures closes { MayEndWith is_over kernel result.1 }
     ensures well { result.1 ≡ None → IsClosedWell kernel (option_map D.content result.0) }
 {

@@ -15,6 +15,6 @@ mod rounds;
 pub use deed::Deed;
 pub use ending::{Replayed, run};
 pub use files::{Sources, replay_file};
-pub use opening::{open, open_kernel};
+pub use opening::{FileKeys, open, open_kernel};
 pub use progress::{Place, Progress};
 pub use replay::{MOST_STEPS, Replay};

@@ -6,8 +6,8 @@ ghost use Rattle.replays.specs.Events.{BeginsCall, BeginsCommand, BeginsNext, Dr
 ghost use Rattle.replays.specs.Places.{place_of};
 
 use crate::deed::{Deed, deed_by, reply_by};
+use crate::opening::FileKeys;
 use crate::progress::Progress;
-use bucket_page::ShaKey;
 use interleavings::interleaving_core::Kernel;
 use msgq_cli::{Command, Reply};
 use page_device::PageDevice;
@@ -17,7 +17,7 @@ use type_chains::a_calls_numbers_fit;
 /// The next line of a seat is begun, if one is left. It is replied at once where it is a `stop`, or
 /// where its call is refused.
 pub(crate) fn begin_next<D: PageDevice + Drop>(
-    kernel: &mut Kernel<D, ShaKey>,
+    kernel: &mut Kernel<D, FileKeys>,
     script: &mut Progress,
     seat: u8,
 ) -> Deed
@@ -40,7 +40,7 @@ pub(crate) fn begin_next<D: PageDevice + Drop>(
 
 /// One step of the call that is under way at a seat.
 pub(crate) fn step_line<D: PageDevice + Drop>(
-    kernel: &mut Kernel<D, ShaKey>,
+    kernel: &mut Kernel<D, FileKeys>,
     script: &mut Progress,
     seat: u8,
     place: usize,
@@ -59,7 +59,7 @@ pub(crate) fn step_line<D: PageDevice + Drop>(
 
 /// Steps of the call that is under way at a seat for as long as it moves.
 pub(crate) fn drive_line<D: PageDevice + Drop>(
-    kernel: &mut Kernel<D, ShaKey>,
+    kernel: &mut Kernel<D, FileKeys>,
     script: &mut Progress,
     seat: u8,
     place: usize,
@@ -86,7 +86,7 @@ fn tell(script: &mut Progress, seat: u8, place: usize, reply: Option<Reply>)
 
 /// A command of a seat is begun. It is replied at once, or its call is under way.
 fn begin_command<D: PageDevice + Drop>(
-    kernel: &mut Kernel<D, ShaKey>,
+    kernel: &mut Kernel<D, FileKeys>,
     seat: u8,
     command: &Command,
 ) -> Option<Reply>
@@ -108,7 +108,7 @@ fn begin_command<D: PageDevice + Drop>(
 
 /// A call of a seat is begun, or replied the number of what is in the way.
 fn begin_call<D: PageDevice + Drop>(
-    kernel: &mut Kernel<D, ShaKey>,
+    kernel: &mut Kernel<D, FileKeys>,
     seat: u8,
     call: &Call,
 ) -> Option<Reply>

@@ -15,11 +15,16 @@ use crate::replay::Replay;
 use bucket_page::ShaKey;
 use interleavings::a_kernel_opens_led;
 use interleavings::interleaving_core::{FRAMES_BESIDE, Kernel, OpenFault};
+use kept_keys::KeptKeys;
 use msgq_cli::{MOST_FRAMES, Script};
 use page_device::PageDevice;
 use queue_model::{Caller, NoMemory};
 use std::alloc::Global;
 use type_chains::a_callers_numbers_fit;
+
+/// How the keys of a file are spread over its buckets: by digests, which are kept for their next
+/// use.
+pub type FileKeys = KeptKeys<ShaKey>;
 
 /// The frames that are needed for each seat.
 const FRAMES_A_SEAT: usize = 4;
@@ -37,7 +42,7 @@ pub fn open<'a, D: PageDevice + Drop>(
     ensures refused { IsTrue (D.is_honest device) →
         IfErr result (MayRefuse sha_key (D.content device)) }
 {
-    a_kernel_opens_led::<ShaKey>();
+    a_kernel_opens_led::<FileKeys>();
     let seats = seats_of(script);
     let Ok(progress) = Progress::new(alloc, script.lines(), seats) else {
         return Err(OpenFault::NoMemory);
@@ -61,7 +66,7 @@ pub fn open_kernel<D: PageDevice + Drop>(
     alloc: Global,
     device: D,
     script: &Script,
-) -> Result<Kernel<D, ShaKey>, (D, OpenFault)>
+) -> Result<Kernel<D, FileKeys>, (D, OpenFault)>
     ensures ok { IfOk result
         (IsOpenedForSeats script.now (D.content device) (D.is_honest device)) }
     ensures file { IsTrue (D.is_honest device) →
@@ -81,7 +86,8 @@ pub fn open_kernel<D: PageDevice + Drop>(
     };
     let least = FRAMES_A_SEAT * usize::from(seats) + FRAMES_BESIDE;
     let frames = (device.pages() as usize).clamp(least, MOST_FRAMES);
-    Kernel::open(alloc, device, ShaKey, callers.as_slice(), frames)
+    let keys = KeptKeys::new(ShaKey);
+    Kernel::open(alloc, device, keys, callers.as_slice(), frames)
 }
 
 /// How many seats a script has.

@@ -9,8 +9,8 @@ ghost use Rattle.replays.specs.Places.{is_idle_for_good};
 
 use crate::deed::Deed;
 use crate::line_events::{begin_next, drive_line, step_line};
+use crate::opening::FileKeys;
 use crate::progress::Progress;
-use bucket_page::ShaKey;
 use interleavings::interleaving_core::Kernel;
 use page_device::PageDevice;
 use schedules::Event;
@@ -23,7 +23,7 @@ pub const MOST_STEPS: u32 = 4_000_000;
 /// A script whose lines are made by its seats beside one another, on a kernel.
 #[derive(Drop)]
 pub struct Replay<'a, D: PageDevice> {
-    kernel: Kernel<D, ShaKey>,
+    kernel: Kernel<D, FileKeys>,
     script: Progress<'a>,
 }
 
@@ -40,7 +40,7 @@ impl<'a, D: PageDevice> Model for Replay<'a, D> {
 
 impl<'a, D: PageDevice + Drop> Replay<'a, D> {
     /// A script on a kernel that has as many seats, and has decided what its lines were replied.
-    pub(crate) fn new(kernel: Kernel<D, ShaKey>, script: Progress<'a>) -> Replay<'a, D>
+    pub(crate) fn new(kernel: Kernel<D, FileKeys>, script: Progress<'a>) -> Replay<'a, D>
         requires { IsSoundReplay (record { kernel = kernel; script = script }) }
         ensures kernel { result.kernel ≡ kernel }
         ensures script { result.script ≡ script.entry }
@@ -49,7 +49,7 @@ impl<'a, D: PageDevice + Drop> Replay<'a, D> {
     }
 
     /// The kernel and the script.
-    pub(crate) fn into_parts(self) -> (Kernel<D, ShaKey>, Progress<'a>)
+    pub(crate) fn into_parts(self) -> (Kernel<D, FileKeys>, Progress<'a>)
         ensures kernel { result.0 ≡ self.entry.kernel }
         ensures script { result.1 ≡ self.entry.script }
     {

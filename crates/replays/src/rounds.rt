@@ -10,8 +10,8 @@ use page_device::PageDevice;
 /// Makes rounds until no line is left, and tells whether none is.
 ///
 /// Where a round moves no seat the system is stopped, once, so that calls that wait are answered;
-/// where a round behind that moves none, a line stays that nobody can finish. There are at most as
-/// many rounds as calls could have steps, which no run reaches.
+/// where a round behind that moves none, a line stays that nobody can finish. There are at most
+/// 4,000,000 rounds a line.
 pub(crate) fn finish<D: PageDevice + Drop>(replay: &mut Replay<D>) -> bool
     ensures rounds { MakesRounds replay.old replay.new }
     ensures over { result ≡ is_over replay.new }

@@ -7,7 +7,6 @@ ghost use Rattle.lone_kernel.specs.Words.{Call, Caller, IsSeat, State, caller_at
 ghost use Rattle.script_runs.specs.Runs.{AreSeated, IsAnswered, IsLeft, IsPrinted, IsReplied, IsRun, StandsOn};
 ghost use Rattle.script_runs.specs.Telling.{is_waiting, reply_to};
 
-use bucket_page::ShaKey;
 use lone_kernel::interleaving_core::{Kernel, Step};
 use lone_kernel::{
     a_call_begins_on_a_kernel_at_rest, a_call_that_waits_is_stopped, a_kernel_at_rest_is_stopped,
@@ -16,6 +15,7 @@ use lone_kernel::{
 use msgq_cli::{Command, Ending, Output, Reply, Script};
 use page_device::PageDevice;
 use queue_model::Call;
+use replays::FileKeys;
 use std::io::Write;
 use type_chains::{a_callers_numbers_fit, a_calls_numbers_fit};
 
@@ -29,7 +29,7 @@ use type_chains::{a_callers_numbers_fit, a_calls_numbers_fit};
 /// same.
 pub fn run<D: PageDevice + Drop, W: Write + Drop>(
     script: &Script,
-    kernel: &mut Kernel<D, ShaKey>,
+    kernel: &mut Kernel<D, FileKeys>,
     output: &mut Output<W>,
 ) -> Ending
     requires { AreSeated script.now kernel.old.callers }
@@ -51,7 +51,11 @@ pub fn run<D: PageDevice + Drop, W: Write + Drop>(
 }
 
 /// What a command of a seat is replied.
-fn reply<D: PageDevice + Drop>(kernel: &mut Kernel<D, ShaKey>, seat: u8, command: &Command) -> Reply
+fn reply<D: PageDevice + Drop>(
+    kernel: &mut Kernel<D, FileKeys>,
+    seat: u8,
+    command: &Command,
+) -> Reply
     requires { IsSeat kernel.old.locks seat }
     ensures replied { (c : Caller) (was : ℕ) (s : Option State) →
         caller_at kernel.old.callers seat ≡ Some c → StandsOn was kernel.old s →
@@ -62,7 +66,7 @@ fn reply<D: PageDevice + Drop>(kernel: &mut Kernel<D, ShaKey>, seat: u8, command
     match command {
         Command::Call(call) => call_at(kernel, seat, call),
         Command::Stop => {
-            a_kernel_at_rest_is_stopped::<ShaKey>();
+            a_kernel_at_rest_is_stopped::<FileKeys>();
             kernel.stop();
             Reply::Stopped
         }
@@ -70,7 +74,7 @@ fn reply<D: PageDevice + Drop>(kernel: &mut Kernel<D, ShaKey>, seat: u8, command
 }
 
 /// What a call of a seat is replied.
-fn call_at<D: PageDevice + Drop>(kernel: &mut Kernel<D, ShaKey>, seat: u8, call: &Call) -> Reply
+fn call_at<D: PageDevice + Drop>(kernel: &mut Kernel<D, FileKeys>, seat: u8, call: &Call) -> Reply
     requires { IsSeat kernel.old.locks seat }
     ensures replied { (c : Caller) (was : ℕ) (s : Option State) →
         caller_at kernel.old.callers seat ≡ Some c → StandsOn was kernel.old s →
@@ -86,7 +90,7 @@ fn call_at<D: PageDevice + Drop>(kernel: &mut Kernel<D, ShaKey>, seat: u8, call:
 
 /// A call of a seat begins, or is replied why it does not.
 fn begin<D: PageDevice + Drop>(
-    kernel: &mut Kernel<D, ShaKey>,
+    kernel: &mut Kernel<D, FileKeys>,
     seat: u8,
     call: &Call,
 ) -> Option<Reply>
@@ -102,8 +106,8 @@ fn begin<D: PageDevice + Drop>(
     ensures pool { kernel.new.pool ≡ kernel.old.pool }
     ensures seats { kernel.new.locks ≡ kernel.old.locks }
 {
-    a_call_begins_on_a_kernel_at_rest::<ShaKey>();
-    a_refusal_leaves_a_kernel_at_rest::<ShaKey>();
+    a_call_begins_on_a_kernel_at_rest::<FileKeys>();
+    a_refusal_leaves_a_kernel_at_rest::<FileKeys>();
     kernel.is_whole();
     a_callers_numbers_fit(&kernel.caller(seat));
     a_calls_numbers_fit(call);
@@ -118,7 +122,7 @@ fn begin<D: PageDevice + Drop>(
 
 /// Drives a seat whose call has begun. Where the call waits the system is stopped, and the seat is
 /// driven on.
-fn conclude<D: PageDevice + Drop>(kernel: &mut Kernel<D, ShaKey>, seat: u8) -> Step
+fn conclude<D: PageDevice + Drop>(kernel: &mut Kernel<D, FileKeys>, seat: u8) -> Step
     requires { IsSeat kernel.old.locks seat }
     ensures concluded { (c : Caller) (call : Call) (was : ℕ) (s : State) →
         ServesOver sha_key seat c call s kernel.old → was ≤ kernel.old.pool.faults →
@@ -126,8 +130,8 @@ fn conclude<D: PageDevice + Drop>(kernel: &mut Kernel<D, ShaKey>, seat: u8) -> S
     ensures callers { kernel.new.callers ≡ kernel.old.callers }
     ensures honest { kernel.new.pool.honest ≡ kernel.old.pool.honest }
 {
-    a_lone_drive_answers_by_the_rules::<ShaKey>();
-    a_call_that_waits_is_stopped::<ShaKey>();
+    a_lone_drive_answers_by_the_rules::<FileKeys>();
+    a_call_that_waits_is_stopped::<FileKeys>();
     let told = kernel.drive(seat);
     if !is_waiting(&told) {
         return told;

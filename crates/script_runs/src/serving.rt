@@ -10,7 +10,6 @@ ghost use Rattle.script_runs.specs.Runs.{AreSeated};
 ghost use Rattle.script_runs.specs.Serves.{IsKept, IsRunAndKept, PrintsRun, RunsInput, RunsOn, RunsText};
 
 use crate::runs::run;
-use bucket_page::ShaKey;
 use lone_kernel::interleaving_core::{Kernel, NotClosed, OpenFault};
 use lone_kernel::{a_kernel_at_rest_closes_on_its_file, a_kernel_opens_at_rest};
 use msgq_cli::record_file::format;
@@ -20,7 +19,7 @@ use msgq_cli::{
 };
 use one_bucket_file::a_new_file_has_no_queues;
 use page_device::{MemDevice, PageDevice};
-use replays::open_kernel;
+use replays::{FileKeys, open_kernel};
 use std::alloc::Global;
 use std::io::{Read, Write};
 
@@ -97,7 +96,7 @@ pub fn run_on<D: PageDevice + Drop, W: Write + Drop>(
         output.old output.new result.1 }
     ensures lines { PrintsRun script.now output.old output.new result.1 }
 {
-    a_kernel_opens_at_rest::<ShaKey>();
+    a_kernel_opens_at_rest::<FileKeys>();
     script.keeps_seats();
     match open_kernel(alloc, device, script) {
         Ok(kernel) => run_open(kernel, script, output),
@@ -107,7 +106,7 @@ pub fn run_on<D: PageDevice + Drop, W: Write + Drop>(
 
 /// Runs a script on a kernel that was opened for it, and closes its file.
 fn run_open<D: PageDevice + Drop, W: Write + Drop>(
-    kernel: Kernel<D, ShaKey>,
+    kernel: Kernel<D, FileKeys>,
     script: &Script,
     output: &mut Output<W>,
 ) -> (D, Ending)
@@ -118,7 +117,7 @@ fn run_open<D: PageDevice + Drop, W: Write + Drop>(
         was (D.fault_count result.0) output.old output.new result.1 }
     ensures lines { PrintsRun script.now output.old output.new result.1 }
 {
-    a_kernel_at_rest_closes_on_its_file::<ShaKey>();
+    a_kernel_at_rest_closes_on_its_file::<FileKeys>();
     let mut kernel = kernel;
     let ending = run(script, &mut kernel, output);
     if kernel.has_failed() {

@@ -11,7 +11,7 @@ use Rattle.step_rules.specs.Kinds.{may_lengthen}
 use Rattle.step_rules.specs.Ways.{hops_added}
 use Rattle.step_rules.specs.declared.kind.Kind.{Kind}
 use Rattle.step_rules.specs.declared.kind.Kind.TheVariants as kinds
-use Rattle.search_counts.specs.Counting.{AreSoundCounts, CountsState, IsCountedSeat, MOST_COUNTED, Notes, begins_change, begun_count, change_after, count_at, count_beside, is_nothing, no_count, opened_counts, own_count, touches_others}
+use Rattle.search_counts.specs.Counting.{AreSoundCounts, CountsState, IsCountedSeat, MOST_COUNTED, Notes, begins_change, begun_count, change_after, changes_counts, count_at, count_beside, ends_change, is_nothing, no_count, opened_counts, own_count, touches_others}
 use Rattle.search_counts.specs.declared.count.SearchCount.{SearchCount}
 use Rattle.search_counts.specs.declared.under_way.UnderWay.{UnderWay}
 use Rattle.search_counts.specs.declared.under_way.UnderWay.TheVariants.{Nothing, Split, Merge}
@@ -239,6 +239,74 @@ module _ (seat : ℕ) (kind : Kind) (begins goes_on : Bool) (old : CountsState) 
       AreSoundCounts (record { counts = slice_set counts (seat - 1) own; under_way = u })
   counts_sound counts own u is_now are_beside is_own =
       subst AreSoundCounts (is_noted counts own u is_now are_beside is_own) noted_sound
+
+-- ---- a step that changes no count
+
+-- no change begins or ends by it
+none_changes : (kind : Kind) (u : UnderWay) → begins_change kind ≡ false → ends_change kind ≡ false →
+    u ≡ change_after kind u
+none_changes kinds.Grant u begins ends = refl
+none_changes kinds.Release u begins ends = refl
+none_changes kinds.ReadDepth u begins ends = refl
+none_changes kinds.ReadEntry u begins ends = refl
+none_changes kinds.Look u begins ends = refl
+none_changes kinds.Hop u begins ends = refl
+none_changes kinds.WriteRecord u begins ends = refl
+none_changes kinds.Decide u begins ends = refl
+none_changes kinds.TakePage u begins ends = absurd cc
+none_changes kinds.CopyDirectory u begins ends = refl
+none_changes kinds.RaiseDepth u begins ends = refl
+none_changes kinds.WriteNew u begins ends = refl
+none_changes kinds.WriteOld u begins ends = refl
+none_changes kinds.Retarget u begins ends = refl
+none_changes kinds.SetCounts u begins ends = absurd cc
+none_changes kinds.WriteLeft u begins ends = absurd cc
+none_changes kinds.Tombstone u begins ends = refl
+none_changes kinds.Convert u begins ends = refl
+none_changes kinds.WriteFree u begins ends = refl
+none_changes kinds.LinkFree u begins ends = absurd cc
+none_changes kinds.LowerDepth u begins ends = refl
+
+-- the count of a seat is calm only while nothing is under way
+seat_stirred : (s : CountsState) → AreSoundCounts s → (seat : ℕ) → IsCountedSeat s.counts seat →
+    is_nothing s.under_way ≡ false → (count_at s.counts seat).calm ≡ false
+seat_stirred s sound zero is some = refl
+seat_stirred s sound (suc place) is some = sound.stirred some place no_count is.1
+
+module _ (seat : ℕ) (kind : Kind) (s : CountsState) (sound : AreSoundCounts s) (is : IsCountedSeat s.counts seat)
+    (quiet : (touches_others kind || ends_change kind) ≡ false) where
+  touches_none : touches_others kind ≡ false
+  touches_none = first_fails (touches_others kind) (ends_change kind) quiet
+
+  stays_under_way : s.under_way ≡ change_after kind s.under_way
+  stays_under_way = none_changes kind s.under_way
+      (second_fails (may_lengthen kind) (begins_change kind) touches_none)
+      (second_fails (touches_others kind) (ends_change kind) quiet)
+
+  own_stays : count_at s.counts seat ≡ own_count false false s.under_way (count_at s.counts seat)
+  own_stays = let c : SearchCount = count_at s.counts seat in
+      sym (same_count c c.changes (c.calm && is_nothing s.under_way) refl
+      (calm_by c.calm (is_nothing s.under_way) (seat_stirred s sound seat is)))
+
+  other_stays : (other : ℕ) → count_at s.counts other ≡ count_beside kind s.under_way (count_at s.counts other)
+  other_stays other =
+      ap (λ (xs : List SearchCount). count_at xs other) (sym (none_touched kind s sound touches_none))
+      ∙ count_beside_at kind (change_after kind s.under_way) s.counts other
+      ∙ ap (λ (u : UnderWay). count_beside kind u (count_at s.counts other)) (sym stays_under_way)
+
+  seat_noted : Notes seat kind false false s s
+  seat_noted = record {
+    under_way = stays_under_way;
+    as_many = refl;
+    own = own_stays;
+    others = λ other apart. other_stays other;
+  }
+
+pub none_noted : (seat : ℕ) (kind : Kind) (begins goes_on : Bool) (s : CountsState) → AreSoundCounts s →
+    IsCountedSeat s.counts seat → changes_counts kind begins goes_on ≡ false → Notes seat kind begins goes_on s s
+none_noted seat kind true goes_on s sound is quiet = absurd cc
+none_noted seat kind false true s sound is quiet = absurd cc
+none_noted seat kind false false s sound is quiet = seat_noted seat kind s sound is quiet
 
 -- ---- no seat has searched
 

@@ -60,6 +60,16 @@ begins_change kind = false
 abbrev pub touches_others : Kind → Bool
 touches_others kind = may_lengthen kind || begins_change kind
 
+-- the kinds with which a split or a merge ends
+abbrev pub ends_change : Kind → Bool
+ends_change kinds.SetCounts = true
+ends_change kinds.LinkFree = true
+ends_change kind = false
+
+-- whether any count may come to differ
+abbrev pub changes_counts : Kind → (begins goes_on : Bool) → Bool
+changes_counts kind begins goes_on = begins || (goes_on || (touches_others kind || ends_change kind))
+
 -- ---- all seats
 
 pub record CountsState : Type 0 where

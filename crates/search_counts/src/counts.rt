@@ -1,7 +1,7 @@
 //! What is counted of all seats.
 
 ghost use Rattle.std.specs.Prelude.{◌≡◌, false, map, IfOk};
-ghost use Rattle.search_counts.specs.Counting.{count_at, count_beside, opened_counts, touches_others};
+ghost use Rattle.search_counts.specs.Counting.{changes_counts, count_at, count_beside, opened_counts, touches_others};
 ghost use Rattle.search_counts.specs.Counting.{IsCountedSeat, Notes};
 
 use crate::count::SearchCount;
@@ -56,8 +56,28 @@ impl SearchCounts {
     }
 
     /// A seat has made a step of this kind, by which a search of its own begins, or goes on to
-    /// another page, or neither. The counts of other seats are looked at for four kinds alone.
+    /// another page, or neither. Most steps do neither, and leave all counts as they are.
     pub fn note(&mut self, seat: u8, kind: Kind, begins: bool, goes_on: bool)
+        requires { IsCountedSeat self.old.counts seat }
+        ensures { Notes seat kind begins goes_on self.old self.new }
+    {
+        if self.is_counted(seat, kind, begins, goes_on) {
+            self.count(seat, kind, begins, goes_on);
+        }
+    }
+
+    /// Whether a step may change a count.
+    fn is_counted(&self, seat: u8, kind: Kind, begins: bool, goes_on: bool) -> bool
+        requires { IsCountedSeat self.now.counts seat }
+        ensures { result ≡ false → Notes seat kind begins goes_on self.now self.now }
+    {
+        // What is always true of the counts is known of one that is read.
+        let _ = &self.under_way;
+        changes_counts(kind, begins, goes_on)
+    }
+
+    /// A step is counted. The counts of other seats are looked at for four kinds alone.
+    fn count(&mut self, seat: u8, kind: Kind, begins: bool, goes_on: bool)
         requires { IsCountedSeat self.old.counts seat }
         ensures { Notes seat kind begins goes_on self.old self.new }
     {
@@ -82,6 +102,14 @@ fn count_others(counts: &mut [SearchCount], kind: Kind, under_way: UnderWay)
     for count in counts.iter_mut() {
         *count = count.beside(kind, under_way);
     }
+}
+
+/// Whether what is counted may change by a step of this kind, by which a search begins, or goes on
+/// to another page, or neither.
+fn changes_counts(kind: Kind, begins: bool, goes_on: bool) -> bool
+    ensures { result ≡ changes_counts kind begins goes_on }
+{
+    begins || goes_on || touches_others(kind) || matches!(kind, Kind::SetCounts | Kind::LinkFree)
 }
 
 /// Whether a step of this kind may change what is counted of other seats.

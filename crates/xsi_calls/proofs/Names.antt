@@ -13,7 +13,7 @@ pub use Rattle.page_locks.proofs.TableLemmas.{row_of-same}
 pub use Rattle.queue_model.specs.declared.answer.Answer.{Answer}
 pub use Rattle.step_rules.proofs.LockStepLemmas.{KeepsOthers-same}
 pub use Rattle.undecided_calls.proofs.Names.{Deed, GivesBack, MakesNameStep, Question, Writing, changes_by, decided_at, facts_under, is_full_at, locks_behind, locks_under, next_deed, set_out, turn_under, writes_none}
-pub use Rattle.undecided_calls.specs.Below.{is_same, key_of, undoing}
+pub use Rattle.undecided_calls.specs.Below.{key_of, undoing}
 pub use Rattle.undecided_calls.specs.Deciding.{IsDecidedIn, IsSettled, IsShortOfRoom, MayWrite}
 pub use Rattle.undecided_calls.specs.Knowing.{IsAsking, IsTrying, IsUndecidedIn}
 pub use Rattle.undecided_calls.specs.Undecided.{CanDecideIn, IsCalmIn, locks_in, owes_in, trials_in, untried}
@@ -22,6 +22,3 @@ pub use Rattle.undecided_calls.specs.declared.trials.Trials.{Trials}
 pub use Rattle.xsi_inquiry.specs.Deciding.{answer_of}
 pub use Rattle.xsi_inquiry.specs.Writing.{CanAllBe, HasRange}
 pub use Rattle.xsi_inquiry.specs.declared.write.Write.{Write}
-pub use Rattle.xsi_inquiry.specs.declared.write.Write.TheVariants.{Delete}
-pub use Rattle.xsi_inquiry.proofs.LeadLemmas.{same_keys}
-pub use Rattle.xsi_inquiry.specs.Writing.{key_written}

@@ -262,10 +262,13 @@ module _ (hash : RecordKey → ℕ) (seat : ℕ) (caller : Caller) (call : Call)
       row_paid hash seat caller call u conclusion ordered v v' did pool pool' locks locks' row_here by_plan.writes
       by_plan.aim by_plan.row by_plan.progress by_plan.step (at_end did is) seated
 
-  pub released_from : is_end did ≡ true → IsSeat locks seat → (did2 : Progress FileFault) (m : CallView)
-      (locks2 : Table) → MakesRelease seat did2 (with_stage caller call u (Releasing conclusion)) m locks' locks2 →
+  pub released_from : is_end did ≡ true → IsSeat locks seat → (ended : Stage) → ended ≡ Releasing conclusion →
+      (did2 : Progress FileFault) (m : CallView) (locks2 : Table) →
+      MakesRelease seat did2 (with_stage caller call u ended) m locks' locks2 →
       (stopped : Bool) → MakesCall hash seat stopped did2 now m pool pool' locks locks2
-  released_from is seated did2 m locks2 released stopped =
+  released_from is seated ended is_paid did2 m locks2 released stopped =
       subst (λ (old : CallView). MakesCall hash seat stopped did2 old m pool pool' locks locks2) sees_now
       (then_released hash seat caller call u conclusion ordered v v' did pool pool' locks locks' row_here by_plan.writes
-      by_plan.aim by_plan.row by_plan.progress by_plan.step (at_end did is) seated did2 m locks2 released stopped)
+      by_plan.aim by_plan.row by_plan.progress by_plan.step (at_end did is) seated did2 m locks2
+      (subst (λ (x : Stage). MakesRelease seat did2 (with_stage caller call u x) m locks' locks2) is_paid released)
+      stopped)

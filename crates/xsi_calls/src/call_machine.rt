@@ -255,7 +255,7 @@ impl CallMachine {
         if !is_end(did) {
             return did;
         }
-        self.stage = Stage::Releasing(conclusion);
+        end_paying(&mut self.stage, conclusion);
         self.release(locks, seat)
     }
 
@@ -289,6 +289,15 @@ fn decide<K: PseudoKey>(
     let payment = Payment::begin(settled, trials, keys);
     *stage = Stage::Paying(payment, Conclusion::of(settled));
     Ok(())
+}
+
+/// Nothing is owed any more. It stands apart, since each step would make room for the stage that it
+/// alone sets.
+#[inline(never)]
+fn end_paying(stage: &mut Stage, conclusion: Conclusion)
+    ensures { stage.new ≡ Stage.Releasing conclusion }
+{
+    *stage = Stage::Releasing(conclusion);
 }
 
 /// Whether it has ended.

@@ -31,5 +31,5 @@ returns g c =
       row = e.row;
       progress = e.progress;
       step = e.step;
-    }) (sym c.is_end.ensures ∙ c.if-not-is_end.false) c.requires.seat c.release.result c.release.new.self
-    c.release.new.locks c.release.ensures
+    }) (sym c.is_end.ensures ∙ c.if-not-is_end.false) c.requires.seat c.end_paying.new.stage c.end_paying.ensures
+    c.release.result c.release.new.self c.release.new.locks c.release.ensures

@@ -3,7 +3,7 @@ use Rattle.std.proofs.Common.{sym, subst, slice_set, ◌-◌}
 use Rattle.std.specs.Vec.{with_items}
 use Rattle.search_counts.specs.Counting.{CountsState, IsCountedSeat, Notes}
 use Rattle.search_counts.proofs.CountLemmas.{counts_notes, counts_sound, none_touched, written_over}
-use Rattle.search_counts.proofs.counts.SearchCounts.note.Goals as goal
+use Rattle.search_counts.proofs.counts.SearchCounts.count.Goals as goal
 
 pub count_others-requires : goal.count_others-requires
 count_others-requires c quiet =
