@@ -33,6 +33,11 @@ const FRAMES_A_SEAT: usize = 4;
 /// the seats and for the replies is taken here. The file is checked first, and refused by the first
 /// thing that is wrong with it. The kernel that is opened of an honest device is led from the
 /// system whose file it has.
+///
+/// # Errors
+///
+/// `NoMemory` where there is none for the seats, the replies or the frames, else what is wrong with
+/// the file; never `TooFewFrames`.
 pub fn open<'a, D: PageDevice + Drop>(
     alloc: Global,
     device: D,
@@ -41,6 +46,7 @@ pub fn open<'a, D: PageDevice + Drop>(
     ensures ok { IfOk result (IsOpenedFor script.now (D.content device) (D.is_honest device)) }
     ensures refused { IsTrue (D.is_honest device) →
         IfErr result (MayRefuse sha_key (D.content device)) }
+    ensures enough { IfErr result (λ fault. fault ≢ OpenFault.TooFewFrames) }
 {
     a_kernel_opens_led::<FileKeys>();
     let seats = seats_of(script);
