@@ -45,8 +45,8 @@ module _ (hash : RecordKey → ℕ) (seat : ℕ) (names : List Lock) (p : Plan) 
   pays_at due is can = record { carries = carries_at due can; decided = is }
 
   pub undoes : (standing : ℕ) → trials.due ≡ Full standing →
-      IsPaying hash seat names p (stages.Writing (decided trials)) records pool locks change
-      × (owes_now p (stages.Writing (decided trials)) ≡ owed.Writes (owed.undoing (take standing p.trials)))
+      IsPaying hash seat names p (stages.Writing (decided trials.due)) records pool locks change
+      × (owes_now p (stages.Writing (decided trials.due)) ≡ owed.Writes (owed.undoing (take standing p.trials)))
   undoes standing due =
       let is : decided_at trials.due ≡ Undoing standing = ap decided_at due in (
         subst (λ (x : Due). IsPaying hash seat names p (stages.Writing (at_rest x)) records pool locks change) (sym is)
@@ -67,7 +67,7 @@ module _ (hash : RecordKey → ℕ) (seat : ℕ) (names : List Lock) (held : Lis
   -- the writes are due from the first one on
   pub will_write : (last : Records) → CanGoOn p (Writing 0) records → OwesUnder held (owed.Writes (writes_of p)) →
       AreAlike held (overlaid (owed.Writes (writes_of p)) records) last →
-      WillPay hash seat names held p (stages.Writing (decided trials)) records last pool locks change
+      WillPay hash seat names held p (stages.Writing (decided trials.due)) records last pool locks change
   will_write last can own leads =
       let is : decided_at trials.due ≡ Writing 0 = ap decided_at t.due in
       subst (λ (x : Due). WillPay hash seat names held p (stages.Writing (at_rest x)) records last pool locks change)
@@ -79,13 +79,13 @@ module _ (hash : RecordKey → ℕ) (seat : ℕ) (names : List Lock) (held : Lis
 
   pub answer_pays : (c : Caller) (call : Call) (answer : Answer)
       (is : IsAnswer c call held p.trials answer (owed.Writes (writes_of p)) s) →
-      WillPay hash seat names held p (stages.Writing (decided trials)) records (record_of is.after) pool locks change
+      WillPay hash seat names held p (stages.Writing (decided trials.due)) records (record_of is.after) pool locks change
   answer_pays c call answer is = will_write (record_of is.after)
       (record { owed = is.owes.can records t.alike; in_range = is.owes.in_range; may = tt }) is.owes.own
       (is.owes.leads records t.alike)
 
   pub waiting_pays : (c : Caller) (call : Call) → HasToWait c call s p →
-      WillPay hash seat names held p (stages.Writing (decided trials)) records records pool locks change
+      WillPay hash seat names held p (stages.Writing (decided trials.due)) records records pool locks change
   waiting_pays c call is = will_write records (record {
     owed = subst (λ (ws : List Write). CanAllBe ws records) (sym none) tt;
     in_range = subst (λ (ws : List Write). All HasRange ws) (sym none) (All-nil HasRange);

@@ -64,7 +64,7 @@ module _ (hash : RecordKey → ℕ) (seat : ℕ) (names : List Lock) (held : Lis
   }
 
   by_first : (first : Option ℕ) → IsSweeping hash sweep.id 0 is.begins.queue s (begun_at hash sweep.id first) file →
-      WillPay hash seat names held p (begun_behind (begun_at hash sweep.id first) trials) records
+      WillPay hash seat names held p (begun_behind (begun_at hash sweep.id first) trials.due) records
       (record_of is.answer.after) pool locks change
   by_first None sweeping =
       will_write hash seat names held p trials records s pool locks change t (record_of is.answer.after)
@@ -110,7 +110,7 @@ module _ (hash : RecordKey → ℕ) (seat : ℕ) (names : List Lock) (held : Lis
           (under_swept (message_of (begun_turn sweep.id first))
           (swept_key Reading (begun_turn sweep.id first) sweep.id refl))
 
-  pub sweep_pays : WillPay hash seat names held p (begun_behind (begun_at hash sweep.id sweep.first) trials) records
+  pub sweep_pays : WillPay hash seat names held p (begun_behind (begun_at hash sweep.id sweep.first) trials.due) records
       (record_of is.answer.after) pool locks change
   sweep_pays = by_first sweep.first begins
 
@@ -141,17 +141,17 @@ few_writes : (p : Plan) (due : Due) (records : Records) → IsSmall p → CanGoO
 few_writes p due records small can =
     times_most (deeds_left p due) MAX_WRITES MOST_STEPS (few_deeds p due records small can)
 
-module _ (hash : RecordKey → ℕ) (seat : ℕ) (names : List Lock) (p : Plan) (trials : CallWrites) (records : Records)
+module _ (hash : RecordKey → ℕ) (seat : ℕ) (names : List Lock) (p : Plan) (due : Due) (records : Records)
     (pool : PoolState) (locks : Table) (change : Change) (s : Store) where
-  few_decided : IsPaying hash seat names p (stages.Writing (decided trials)) records pool locks change →
-      payment_left p (stages.Writing (decided trials)) s ≤ MOST_PAYMENT_STEPS
+  few_decided : IsPaying hash seat names p (stages.Writing (decided due)) records pool locks change →
+      payment_left p (stages.Writing (decided due)) s ≤ MOST_PAYMENT_STEPS
   few_decided y =
-      let few = few_writes p (decided_at trials.due) records y.carries.small y.carries.can in
+      let few = few_writes p (decided_at due) records y.carries.small y.carries.can in
       omega (arith, few)
 
   few_behind : (sweep : Sweep) (first : Option ℕ) →
-      IsPaying hash seat names p (begun_behind (begun_at hash sweep.id first) trials) records pool locks change →
-      payment_left p (begun_behind (begun_at hash sweep.id first) trials) s ≤ MOST_PAYMENT_STEPS
+      IsPaying hash seat names p (begun_behind (begun_at hash sweep.id first) due) records pool locks change →
+      payment_left p (begun_behind (begun_at hash sweep.id first) due) s ≤ MOST_PAYMENT_STEPS
   few_behind sweep None y = few_decided y
   few_behind sweep (Some first) y =
       let swept = has_few_steps hash (record { id = sweep.id; first = Some first }) s in
@@ -160,11 +160,11 @@ module _ (hash : RecordKey → ℕ) (seat : ℕ) (names : List Lock) (p : Plan) 
       omega (arith, swept, few)
 
   few_by : (found : Option Sweep) →
-      IsPaying hash seat names p (begun_by hash found trials) records pool locks change →
-      payment_left p (begun_by hash found trials) s ≤ MOST_PAYMENT_STEPS
+      IsPaying hash seat names p (begun_by hash found due) records pool locks change →
+      payment_left p (begun_by hash found due) s ≤ MOST_PAYMENT_STEPS
   few_by None y = few_decided y
   few_by (Some sweep) y = few_behind sweep sweep.first y
 
 pub has_few : HasFewSteps
-has_few hash seat names p settled trials records pool locks change s y =
-    few_by hash seat names p trials records pool locks change s (sweep_of settled) y
+has_few hash seat names p settled due records pool locks change s y =
+    few_by hash seat names p due records pool locks change s (sweep_of settled) y

@@ -4,7 +4,7 @@ use Rattle.std.specs.List.{Contains}
 use Rattle.call_decisions.specs.declared.settled.Settled.TheVariants as settlements
 use Rattle.owed_records.specs.Owing as owed
 use Rattle.call_payments.specs.declared.payment.Stage.{Stage}
-use Rattle.call_payments.specs.Words.{RecordKey, PoolState, Table, Lock, Change, Store, Exclusive, LockName, kind_of, Owns, Call, Caller, State, record_of, IsFiled, Plan, Records, inserted, OwesUnder, overlaid, Settled, AreAlike, Means, Trying, Full, CallWrites, IsCarrying}
+use Rattle.call_payments.specs.Words.{RecordKey, PoolState, Table, Lock, Change, Store, Exclusive, LockName, kind_of, Owns, Call, Caller, State, record_of, IsFiled, Plan, Records, inserted, OwesUnder, overlaid, Settled, AreAlike, Means, Due, Trying, Full, CallWrites, IsCarrying}
 use Rattle.call_payments.specs.Payments.{IsPaid, begun_payment, owes_now, payment_left}
 use Rattle.call_payments.specs.Paying.{IsPaying}
 
@@ -48,7 +48,7 @@ PaysWhatIsDecided = (hash : RecordKey → ℕ) (seat : ℕ) (names : List Lock) 
     HasTried hash seat names held p trials records s pool locks change → IsFiled s →
     (c : Caller) (call : Call) (bytes : List ℕ) (settled : Settled) → HoldsWhereSwept names held settled →
     (is : Means c call held bytes s p settled) →
-    WillPay hash seat names held p (begun_payment hash (Some settled) trials) records
+    WillPay hash seat names held p (begun_payment hash (Some settled) trials.due) records
     (last_of c call held bytes s p settled is records) pool locks change
 
 -- where a trial had no room it owes the deletion of those that stand, the last first
@@ -57,8 +57,8 @@ UndoesItsTrials = (hash : RecordKey → ℕ) (seat : ℕ) (names : List Lock) (p
     (records : Records) (pool : PoolState) (locks : Table) (change : Change) (standing : ℕ) →
     IsCarrying hash seat names p trials records pool locks change → trials.access ≡ None →
     trials.due ≡ Full standing →
-    IsPaying hash seat names p (begun_payment hash None trials) records pool locks change
-    × (owes_now p (begun_payment hash None trials) ≡ owed.Writes (owed.undoing (take standing p.trials)))
+    IsPaying hash seat names p (begun_payment hash None trials.due) records pool locks change
+    × (owes_now p (begun_payment hash None trials.due) ≡ owed.Writes (owed.undoing (take standing p.trials)))
 
 -- ---- while it lasts
 
@@ -86,6 +86,6 @@ MOST_PAYMENT_STEPS = 1610979
 
 abbrev pub HasFewSteps : Type 0
 HasFewSteps = (hash : RecordKey → ℕ) (seat : ℕ) (names : List Lock) (p : Plan) (settled : Option Settled)
-    (trials : CallWrites) (records : Records) (pool : PoolState) (locks : Table) (change : Change) (s : Store) →
-    IsPaying hash seat names p (begun_payment hash settled trials) records pool locks change →
-    payment_left p (begun_payment hash settled trials) s ≤ MOST_PAYMENT_STEPS
+    (due : Due) (records : Records) (pool : PoolState) (locks : Table) (change : Change) (s : Store) →
+    IsPaying hash seat names p (begun_payment hash settled due) records pool locks change →
+    payment_left p (begun_payment hash settled due) s ≤ MOST_PAYMENT_STEPS

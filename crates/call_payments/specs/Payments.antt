@@ -6,7 +6,7 @@ use Rattle.call_decisions.specs.declared.settled.Settled.TheVariants as settleme
 use Rattle.call_writes.specs.Views.{IsOver}
 use Rattle.call_payments.specs.declared.payment.Stage.{Stage}
 use Rattle.call_payments.specs.declared.payment.Stage.TheVariants as stages
-use Rattle.call_payments.specs.Words.{RecordKey, Lock, Store, Known, Turn, Plan, writes_of, Owes, Sweep, Settled, Writing, CallWrites, owes, decided_at, writes_facts, writes_left_in, writes_locks, writes_turn, Work, begun_sweep, sweep_facts, sweep_left, sweep_locks, sweep_turn}
+use Rattle.call_payments.specs.Words.{RecordKey, Lock, Store, Known, Turn, Plan, writes_of, Owes, Sweep, Settled, Due, Writing, CallWrites, owes, decided_at, writes_facts, writes_left_in, writes_locks, writes_turn, Work, begun_sweep, sweep_facts, sweep_left, sweep_locks, sweep_turn}
 
 -- ---- its beginning
 
@@ -14,9 +14,9 @@ use Rattle.call_payments.specs.Words.{RecordKey, Lock, Store, Known, Turn, Plan,
 abbrev pub unwritten : CallWrites
 unwritten = record { due = Writing 0; access = None }
 
--- what the call inserted on trial, once it has decided
-abbrev pub decided : CallWrites → CallWrites
-decided trials = record { due = decided_at trials.due; access = None }
+-- once it has decided, of trials of which this was due
+abbrev pub decided : Due → CallWrites
+decided due = record { due = decided_at due; access = None }
 
 abbrev pub sweep_of : Option Settled → Option Sweep
 sweep_of None = None
@@ -25,17 +25,17 @@ sweep_of (Some (settlements.Sweeps sweep)) = Some sweep
 sweep_of (Some settlements.Waits) = None
 
 -- behind this sweep, which is over at once where the queue has no message
-abbrev pub begun_behind : Option Work → CallWrites → Stage
-begun_behind None trials = stages.Writing (decided trials)
-begun_behind (Some w) trials = stages.Sweeping (Some w)
+abbrev pub begun_behind : Option Work → Due → Stage
+begun_behind None due = stages.Writing (decided due)
+begun_behind (Some w) due = stages.Sweeping (Some w)
 
-abbrev pub begun_by : (RecordKey → ℕ) → Option Sweep → CallWrites → Stage
-begun_by hash None trials = stages.Writing (decided trials)
-begun_by hash (Some sweep) trials = begun_behind (begun_sweep hash sweep) trials
+abbrev pub begun_by : (RecordKey → ℕ) → Option Sweep → Due → Stage
+begun_by hash None due = stages.Writing (decided due)
+begun_by hash (Some sweep) due = begun_behind (begun_sweep hash sweep) due
 
--- that of a call which has come to this; to nothing where a trial had no room
-abbrev pub begun_payment : (RecordKey → ℕ) → Option Settled → CallWrites → Stage
-begun_payment hash settled trials = begun_by hash (sweep_of settled) trials
+-- that of a call which has come to this, to nothing where a trial had no room; of its trials, which rest, this is due
+abbrev pub begun_payment : (RecordKey → ℕ) → Option Settled → Due → Stage
+begun_payment hash settled due = begun_by hash (sweep_of settled) due
 
 -- ---- what is owed
 

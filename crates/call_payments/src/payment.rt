@@ -9,7 +9,7 @@ ghost use Rattle.call_payments.specs.PaySteps.{KeepsPayment, Pays, StepsPart};
 use bucket_page::PseudoKey;
 use buffer_pool::Pool;
 use call_decisions::Settled;
-use call_writes::{CallWrites, PlanOf};
+use call_writes::{CallWrites, Due, PlanOf};
 use file_pages::FileFault;
 use page_device::PageDevice;
 use page_locks::LockTable;
@@ -44,24 +44,38 @@ impl Model for Payment {
 }
 
 impl Payment {
-    /// That of a call which has come to this; none where one of its trials had no room. Its trials
-    /// rest.
-    pub fn begin<K: PseudoKey>(settled: Option<Settled>, trials: CallWrites, keys: &K) -> Payment
-        requires rests { trials.access ≡ None }
-        ensures { result ≡ begun_payment (K.of_key keys.now) settled trials }
+    /// The place of a payment. None has begun.
+    pub fn new() -> Payment
+        ensures { result ≡ Stage.Writing unwritten }
+    {
+        Payment {
+            stage: Stage::Writing(unwritten()),
+        }
+    }
+
+    /// Begins, in the place of the last one: that of a call which has come to this; to none where one
+    /// of its trials had no room. Of its trials, which rest, this is due.
+    pub fn begin<K: PseudoKey>(&mut self, settled: Option<Settled>, due: Due, keys: &K)
+        ensures { self.new ≡ begun_payment (K.of_key keys.now) settled due }
     {
         let Some(sweep) = sweep_of(settled) else {
-            return Payment {
-                stage: Stage::Writing(decided(trials)),
-            };
+            self.begin_writes(due);
+            return;
         };
         if sweep.first.is_none() {
-            return Payment {
-                stage: Stage::Writing(decided(trials)),
-            };
+            self.begin_writes(due);
+            return;
         }
-        Payment {
-            stage: Stage::Sweeping(SweepTurns::begin(sweep, keys)),
+        self.stage = Stage::Sweeping(SweepTurns::begin(sweep, keys));
+    }
+
+    /// Begins with the writes, in the place of the last ones if there were any.
+    fn begin_writes(&mut self, due: Due)
+        ensures { self.new ≡ Stage.Writing (decided due) }
+    {
+        match &mut self.stage {
+            Stage::Writing(writes) => decide_at(writes, due),
+            Stage::Sweeping(_) => self.stage = Stage::Writing(decided(due)),
         }
     }
 
@@ -143,13 +157,20 @@ fn sweep_of(settled: Option<Settled>) -> Option<Sweep>
     }
 }
 
-/// Trials of a call that has decided.
-fn decided(trials: CallWrites) -> CallWrites
-    requires { trials.access ≡ None }
-    ensures { result ≡ decided trials }
+/// Takes the place of trials of which this was due when their call decided.
+fn decide_at(writes: &mut CallWrites, due: Due)
+    ensures { writes.new ≡ decided due }
 {
-    let mut writes = trials;
+    writes.begin_at(due);
     writes.decide();
+}
+
+/// What is due of trials of which this was due when their call decided.
+fn decided(due: Due) -> CallWrites
+    ensures { result ≡ decided due }
+{
+    let mut writes = CallWrites::new();
+    decide_at(&mut writes, due);
     writes
 }
 
@@ -157,7 +178,7 @@ fn decided(trials: CallWrites) -> CallWrites
 fn unwritten() -> CallWrites
     ensures { result ≡ unwritten }
 {
-    decided(CallWrites::new())
+    decided(Due::Trying(0))
 }
 
 /// Whether the step moved.

@@ -91,6 +91,22 @@ impl Questions {
         self.finds = 0;
     }
 
+    /// Become those of another call, in the place of one that is over. The bytes that it is answered
+    /// have this room.
+    pub fn renew(&mut self, by: Caller, call: &Call, room: Room)
+        ensures caller { caller_of self.new.inquiry ≡ by }
+        ensures few { left_of call.now self.new.inquiry ≤ most_asked call.now }
+        ensures finds { self.new.finds ≡ 0 }
+        ensures bare { IsBare self.new }
+        ensures room { self.new.room ≡ room }
+        ensures knows { (s : State) → HasRoom call.now room → KnowsNear call.now self.new s }
+    {
+        self.room = room;
+        self.names = HeldNames::new();
+        self.is_asking = false;
+        self.begin_again(by, call);
+    }
+
     /// The inquiry, which is asked to decide once all is asked.
     pub fn inquiry(&self) -> &AnyInquiry
         ensures { result.now ≡ self.now.inquiry }
@@ -112,11 +128,12 @@ impl Questions {
         &self.room
     }
 
-    /// The room, for the answer.
-    pub fn into_room(self) -> Room
-        ensures { result ≡ self.room }
+    /// The room moves out, for the answer. What stays has room for no byte.
+    pub fn take_room(&mut self) -> Room
+        ensures room { result ≡ self.old.room }
+        ensures others { self.new ≡ record self.old { room = self.new.room } }
     {
-        self.room
+        self.room.take()
     }
 
     /// Its names stand in order, each once and at most three, none of them the directory or a page.

@@ -36,6 +36,22 @@ impl CallWrites {
         }
     }
 
+    /// Is at rest, with this due, in the place of one that is at rest.
+    pub fn begin_at(&mut self, due: Due)
+        ensures due { self.new.due ≡ due }
+        ensures rests { self.new.access ≡ None }
+    {
+        self.due = due;
+        self.access.close();
+    }
+
+    /// What is due.
+    pub fn due(&self) -> Due
+        ensures { result ≡ self.now.due }
+    {
+        self.due
+    }
+
     /// Whether a trial has found no room, so that those before it are to go again.
     pub fn is_full(&self) -> bool
         ensures { result ≡ is_full self.now }

@@ -17,7 +17,7 @@ use Rattle.lone_calls.specs.xsi_calls.Concluding.{IsRightConclusion}
 use Rattle.lone_calls.specs.xsi_calls.Machine.{call_facts, call_turn, conclusion_at}
 use Rattle.lone_calls.specs.xsi_calls.Words.{AreAlike, Moved, QuestionsView, guard_of, has_no_room, is_write, kind_of}
 use Rattle.lone_calls.specs.xsi_calls.declared.conclusion.Conclusion.TheVariants as conclusions
-use Rattle.lone_calls.specs.xsi_calls.declared.stage.Stage.TheVariants.{Undecided}
+use Rattle.lone_calls.specs.xsi_calls.Stages.{Undecided}
 use Rattle.seat_laws.specs.Words.{names_in}
 use Rattle.concurrent_calls.specs.Words.{Answer, Call, CallView, Caller, Change, ComesBy, Conclusion, FileFault, HasFittingCall, HasFittingCaller, IsFiled, IsKeptApart, IsSeat, IsUncounted, MakesCall, PoolState, Progress, RecordKey, Records, State, Table, answer_of, call_owes, conclusion_of, counter_key, is_fault, outcome, overlaid, owes_at, record_of, store_of, world}
 use Rattle.concurrent_calls.specs.Together.{AreTogether, IsStillToCount, Seats, owes_of}

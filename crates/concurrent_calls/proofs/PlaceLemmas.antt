@@ -12,7 +12,7 @@ use Rattle.lone_calls.specs.xsi_calls.undecided_calls.Undecided.{owes_in}
 use Rattle.lone_calls.specs.xsi_calls.Calling.{IsCallingAt}
 use Rattle.lone_calls.specs.xsi_calls.Machine.{owes_at as owes_of_call}
 use Rattle.lone_calls.specs.xsi_calls.Words.{Exclusive, Plan, QuestionsView, Trials, guard_of, its_plan, kind_of}
-use Rattle.lone_calls.specs.xsi_calls.declared.stage.Stage.TheVariants.{Undecided, Paying, Releasing}
+use Rattle.lone_calls.specs.xsi_calls.Stages.{Undecided, Paying, Releasing}
 use Rattle.concurrent_calls.specs.Words.{Call, CallView, Change, IsCalling, Lock, PoolState, RecordKey, Records, Stage, State, Table, UndecidedCall, call_locks, call_owes, owes_at, row_of}
 
 abbrev pub names_of : CallView → List Lock

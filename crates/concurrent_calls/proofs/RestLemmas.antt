@@ -19,7 +19,7 @@ use Rattle.lone_calls.specs.xsi_calls.Calling.{IsCallingAt}
 use Rattle.lone_calls.specs.xsi_calls.Laws.{BeginRight}
 use Rattle.lone_calls.specs.xsi_calls.Machine.{IsNew, owes_at as owes_of_call}
 use Rattle.lone_calls.specs.xsi_calls.Words.{Trials, guard_of, kind_of}
-use Rattle.lone_calls.specs.xsi_calls.declared.stage.Stage.TheVariants.{Undecided, Paying, Releasing}
+use Rattle.lone_calls.specs.xsi_calls.Stages.{Undecided, Paying, Releasing}
 use Rattle.queue_records.specs.declared.record.Record.TheVariants as records_are
 use Rattle.concurrent_calls.specs.Words.{Call, CallView, Change, HasFittingCall, HasFittingCaller, IsCalling, IsFileAtRest, IsFiled, IsOver, Lock, PoolState, RecordKey, Records, Stage, StandsAt, State, Table, UndecidedCall, call_owes, counter_key, overlaid, owes_at, record_of, row_of, store_of, world}
 use Rattle.concurrent_calls.specs.Together.{AreTogether, IsApartAt, IsStillToCount, IsUnderWay, IsWell, Seats, locks_of, owes_of}

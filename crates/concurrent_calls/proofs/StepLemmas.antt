@@ -22,7 +22,7 @@ use Rattle.lone_calls.specs.xsi_calls.CallSteps.{GoesOnAt, StepsCall}
 use Rattle.lone_calls.specs.xsi_calls.Calling.{IsCallingAt}
 use Rattle.lone_calls.specs.xsi_calls.Machine.{call_facts, facts_at, locks_at, owes_at as owes_of_call}
 use Rattle.lone_calls.specs.xsi_calls.Words.{AreAlike, Exclusive, IsBehind, LockName, QuestionsView, Sees, Trials, guard_of, its_plan, kind_of}
-use Rattle.lone_calls.specs.xsi_calls.declared.stage.Stage.TheVariants.{Undecided, Paying, Releasing}
+use Rattle.lone_calls.specs.xsi_calls.Stages.{Undecided, Paying, Releasing}
 use Rattle.seat_laws.specs.Words.{names_in}
 use Rattle.concurrent_calls.specs.Words.{Call, CallView, Change, FileFault, HasFittingCall, HasFittingCaller, IsFiled, IsKeptApart, IsSeat, Lock, MakesCall, PoolState, Progress, RecordKey, Records, Stage, StandsAt, State, Table, UndecidedCall, call_locks, call_owes, counter_key, is_fault, overlaid, owes_at, record_of, row_of, store_of, world}
 use Rattle.concurrent_calls.specs.Together.{AreTogether, IsApartAt, IsUnderWay, IsWell, Seats, locks_of, owes_of}

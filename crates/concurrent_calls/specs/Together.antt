@@ -1,7 +1,7 @@
 -- Calls of several seats beside one another, over one file and one system. docs/STEPS.md, "Calls", "Locks".
 use Rattle.std.specs.Prelude.{ℕ, ◌≡◌, ◌≢◌, ◌⊎◌, true, false, List, [], Option, Some, None, IsSome, IsTrue, ⊤}
 use Rattle.queue_records.specs.declared.record.Record.TheVariants as records_are
-use Rattle.lone_calls.specs.xsi_calls.declared.stage.Stage.TheVariants.{Undecided, Paying, Releasing}
+use Rattle.lone_calls.specs.xsi_calls.Stages.{Undecided, Paying, Releasing}
 use Rattle.concurrent_calls.specs.Words.{Call, CallView, Change, Counter, HasFittingCall, HasFittingCaller, IsCalling, IsFilePool, IsFiled, IsKeptApart, IsSoundWorld, IsUncounted, Lock, Owes, PoolState, RecordKey, Records, Stage, StandsAt, State, Table, UndecidedCall, Writes, call_locks, call_owes, conclusion_of, counter_key, overlaid, owes_at, record_of, row_of, store_of, world}
 
 -- the call of each seat that has one under way

@@ -6,4 +6,4 @@ pub use Rattle.owed_records.specs.Owing.{Owes, Writes, owes_at}
 pub use Rattle.seat_laws.specs.AlikeLaws.{IsUncounted}
 pub use Rattle.seat_laws.specs.Apart.{IsKeptApart}
 pub use Rattle.seat_laws.specs.Words.{Counter, IsSoundWorld, Lock, UndecidedCall, counter_key}
-pub use Rattle.lone_calls.specs.xsi_calls.declared.stage.Stage.{Stage}
+pub use Rattle.lone_calls.specs.xsi_calls.Stages.{Stage}

@@ -1,5 +1,5 @@
 -- A kernel that is opened is whole, and one at whose seat a call begins.
-use Rattle.std.proofs.Common.{◌≡◌, refl, sym, ap, ◌∙◌, subst, ℕ, zero, suc, ◌+◌, ◌-◌, ◌≤◌, ◌<◌, false, inl, inr, List, [], ◌∷◌, Some, None, length, map, replicate, slice_index_or, arith}
+use Rattle.std.proofs.Common.{◌≡◌, refl, sym, ap, ◌∙◌, subst, ℕ, zero, suc, ◌+◌, ◌-◌, ◌≤◌, ◌<◌, false, inl, inr, List, [], ◌∷◌, Option, Some, None, length, map, replicate, slice_index_or, slice_set, arith}
 use Rattle.std.specs.Prelude.{sum_by}
 use Rattle.std.proofs.lemmas.Bool.{cases_eq}
 use Rattle.std.proofs.lemmas.List.{length-replicate}
@@ -10,11 +10,12 @@ use Rattle.search_counts.specs.Counting.{CountsState, begun_count, opened_counts
 use Rattle.search_counts.specs.declared.under_way.UnderWay.TheVariants.{Nothing}
 use Rattle.interleaving_core.specs.Words.{Call, Caller, Entry, IsReady, IsSeat, Table, caller_at, with_row}
 use Rattle.xsi_calls.proofs.RowLemmas.{new_holds_nothing}
-use Rattle.interleaving_core.specs.Active.{ActiveView, HasBegun, drafted}
+use Rattle.interleaving_core.specs.Active.{ActiveView, HasBegun, HasBegunAt, drafted}
 use Rattle.interleaving_core.specs.Beginning.{HasCall, MayBegin}
+use Rattle.interleaving_core.specs.Closing.{has_one}
 use Rattle.interleaving_core.specs.Kernel.{IsCallOf, IsWhole, KernelState, call_at, due_at, due_for_stop, entries_of, locks_of, with_call}
 use Rattle.interleaving_core.specs.declared.kernel.TheConstants.{MAX_DECIDED}
-use Rattle.interleaving_core.proofs.PlaceLemmas.{Seats, all_due, at_other, at_same, due_with, few_due, length-with_call, less, rows_with, stop_due}
+use Rattle.interleaving_core.proofs.PlaceLemmas.{Seats, all_due, at_other, at_same, due_with, few_due, length-with_call, less, rows_with, stop_due, with_own, with_place}
 use Rattle.interleaving_core.proofs.KernelLemmas.{as_many, its_row}
 
 -- ---- a call begins
@@ -85,6 +86,21 @@ has_call seat caller call a old new may sits begun made = record {
   begun = begun;
   is = made;
 }
+
+pub begun_at : (caller : Caller) (call : Call) (at : Option ActiveView) → HasBegunAt caller call at →
+    (a : ActiveView) × (at ≡ Some a) × HasBegun caller call a
+begun_at caller call None begun = absurd begun
+begun_at caller call (Some a) begun = (a, refl, begun)
+
+pub no_call : (at : Option ActiveView) → has_one at ≡ false → at ≡ None
+no_call None is = refl
+no_call (Some a) is = absurd cc
+
+-- a seat that has none is left as it was
+pub same_seats : (seats : Seats) (seat : ℕ) (left : Option ActiveView) → 1 ≤ seat → call_at seats seat ≡ None →
+    left ≡ None → slice_set seats (seat - 1) left ≡ seats
+same_seats seats seat left some free none =
+    with_place seats seat left some ∙ ap (with_call seats seat) (none ∙ sym free) ∙ with_own seats seat
 
 -- it is put in its place
 pub made_of : {K : Type 0} (old : KernelState K) (seats seats' : Seats) (journal : List Entry) (room : ℕ) →

@@ -10,7 +10,7 @@ use Rattle.xsi_calls.specs.CallSteps.{KeepsCall}
 use Rattle.xsi_calls.specs.Machine.{IsNew, answer_by, conclusion_at}
 use Rattle.xsi_calls.specs.declared.conclusion.Conclusion.{Conclusion}
 use Rattle.xsi_calls.specs.declared.conclusion.Conclusion.TheVariants as conclusions
-use Rattle.xsi_calls.specs.declared.stage.Stage.{Stage}
+use Rattle.xsi_calls.specs.Stages.{Stage}
 use Rattle.interleaving_core.specs.Words.{Answer, Call, CallView, Caller, Entry, IsOver, IsReady, PoolState, Progress, RecordKey, Roomful, Table, answer_of_call, call_locks, conclusion_of, row_of, with_row}
 use Rattle.interleaving_core.specs.Active.{ActiveView, BeginsAgain, IsDrafted, draft_by, drafted, entries_by, is_waiting}
 use Rattle.interleaving_core.specs.Kernel.{IsCallOf, due_at, locks_of}

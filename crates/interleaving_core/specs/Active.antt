@@ -41,6 +41,11 @@ pub record HasBegun (caller : Caller) (call : Call) (a : ActiveView) : Type 0 wh
   pub draft : IsSome a.draft
   pub awake : a.wait ≡ None
 
+-- a seat at which it has begun
+abbrev pub HasBegunAt : Caller → Call → Option ActiveView → Type 0
+HasBegunAt caller call None = ⊥
+HasBegunAt caller call (Some a) = HasBegun caller call a
+
 -- the same call begins anew, once something has woken it that was decided behind its Decide
 pub record BeginsAgain (old new : ActiveView) : Type 0 where
   pub begins : Begins old.machine.caller old.machine.call new.machine

@@ -15,7 +15,7 @@ use buffer_pool::Pool;
 use file_pages::FileFault;
 use page_device::PageDevice;
 use page_locks::LockTable;
-use queue_model::{Call, Caller, Entry};
+use queue_model::{Call, Caller, Entry, NoMemory};
 use std::alloc::Global;
 use std::marker::Model;
 use step_rules::Progress;
@@ -28,6 +28,19 @@ use xsi_inquiry::Room;
 pub(crate) struct Draft {
     pub(crate) call: Call,
     pub(crate) room: Room,
+}
+
+impl Draft {
+    /// That of a call of which the answer has this room.
+    fn of(call: &Call, room: &Room) -> Result<Draft, NoMemory>
+        ensures call { IfOk result (λ d. d.call ≡ call.now) }
+        ensures room { IfOk result (λ d. d.room.most ≡ room.now.most) }
+    {
+        Ok(Draft {
+            call: call.try_copy()?,
+            room: room.try_twin()?,
+        })
+    }
 }
 
 /// A call under way at a seat. What is kept for its entry joins the journal at its Decide.
@@ -61,24 +74,36 @@ impl Active {
         ensures ok { IfOk result (HasBegun caller call) }
         ensures err { IfErr result (λ back. back ≡ call) }
     {
-        let copy = match call.try_copy() {
-            Ok(copy) => copy,
-            Err(_) => return Err(call),
+        let Ok(room) = Room::new(alloc, &call) else {
+            return Err(call);
         };
-        let machine = match CallMachine::new(alloc, caller, call) {
-            Ok(machine) => machine,
-            Err((call, _)) => return Err(call),
-        };
-        let room = match machine.try_twin() {
-            Ok(room) => room,
-            Err(_) => return Err(copy),
+        let Ok(draft) = Draft::of(&call, &room) else {
+            return Err(call);
         };
         Ok(Active {
-            machine,
-            draft: Some(Draft { call: copy, room }),
+            machine: CallMachine::new(caller, call, room),
+            draft: Some(draft),
             decided: 0,
             wait: None,
         })
+    }
+
+    /// Another call of a caller begins in the place of one that is over, as `begin` says.
+    pub(crate) fn renew(&mut self, alloc: Global, caller: Caller, call: Call) -> Result<(), Call>
+        ensures ok { IfOk result (λ _. HasBegun caller call self.new) }
+        ensures err { IfErr result (λ back. back ≡ call) }
+    {
+        let Ok(room) = Room::new(alloc, &call) else {
+            return Err(call);
+        };
+        let Ok(draft) = Draft::of(&call, &room) else {
+            return Err(call);
+        };
+        self.machine.renew(caller, call, room);
+        self.draft = Some(draft);
+        self.decided = 0;
+        self.wait = None;
+        Ok(())
     }
 
     /// One step of the call. Where it comes to an answer, its entry joins the journal.
@@ -106,7 +131,7 @@ impl Active {
         ensures kept { IsDrafted self.old.machine self.old.draft }
         ensures marked { IsMarked (length journal.old.items) self.old self.new }
     {
-        self.decided = decided_by(self.machine.conclusion(), journal.len(), self.decided);
+        self.decided = decided_by(&self.machine, journal.len(), self.decided);
         self.wait = None;
         let did = self.machine.step(pool, locks, keys, stopped, seat);
         note(&self.machine, &mut self.draft, journal, seat);
@@ -159,11 +184,12 @@ impl Active {
         self.wait = Some(self.decided);
     }
 
-    /// What its seat is told of a call that is over, and does not wait.
-    pub(crate) fn end(self) -> Step
-        ensures { result ≡ told_at_end (answer_of_call self.machine) }
+    /// What its seat is told of a call that is over, and does not wait. What stays is only there for
+    /// the next call to begin in its place.
+    pub(crate) fn end(&mut self) -> Step
+        ensures { result ≡ told_at_end (answer_of_call self.old.machine) }
     {
-        match self.machine.into_answer() {
+        match self.machine.take_answer() {
             Some(answer) => Step::Answered(answer),
             None => Step::Fault(StepFault::NoRoom),
         }
@@ -171,12 +197,13 @@ impl Active {
 }
 
 /// How long the journal was at the Decide of a call; before that, how long it is.
-fn decided_by(conclusion: Option<Conclusion>, many: usize, decided: usize) -> usize
-    ensures { result ≡ decided_by conclusion many decided }
+fn decided_by(machine: &CallMachine, many: usize, decided: usize) -> usize
+    ensures { result ≡ decided_by (conclusion_of machine.now) many decided }
 {
-    match conclusion {
-        None => many,
-        Some(_) => decided,
+    if machine.has_concluded() {
+        decided
+    } else {
+        many
     }
 }
 
@@ -189,9 +216,9 @@ fn note(machine: &CallMachine, draft: &mut Option<Draft>, journal: &mut Vec<Entr
     ensures draft { draft.new ≡ draft_by (answer_of_call machine.now) draft.old }
     ensures capacity { vec_capacity journal.old ≤ vec_capacity journal.new }
 {
-    let Some(Conclusion::Answers(_)) = machine.conclusion() else {
+    if !machine.is_answered() {
         return;
-    };
+    }
     let Some(kept) = draft.take() else {
         return;
     };

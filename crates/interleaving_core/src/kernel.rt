@@ -14,12 +14,11 @@ ghost use Rattle.interleaving_core.specs.Owing.{IsMove, IsRun, IsTurn, answer_to
 ghost use Rattle.interleaving_core.specs.Turn.{TakesTurn};
 ghost use Rattle.interleaving_core.specs.Words.{IsSeat, caller_at};
 
-use crate::active::Active;
-use crate::advance::advance;
 use crate::fault::{BeginFault, CloseFault, OpenFault, StepFault};
 use crate::opening::{copied, idle_seats, least_frames};
 use crate::places::{due, has_call, told_of_failure};
 use crate::searches::{last_page, note};
+use crate::seat::Seat;
 use crate::step::Step;
 use bucket_page::PseudoKey;
 use buffer_pool::{Pool, PoolFault};
@@ -46,7 +45,7 @@ pub struct Kernel<D: PageDevice, K: PseudoKey> {
     locks: LockTable,
     keys: K,
     callers: Vec<Caller>,
-    seats: Vec<Option<Active>>,
+    seats: Vec<Seat>,
     journal: Vec<Entry>,
     stopped: bool,
     failed: bool,
@@ -249,7 +248,7 @@ impl<D: PageDevice + Drop, K: PseudoKey + Drop> Kernel<D, K> {
             return Err((call, BeginFault::Failed));
         }
         let place = seat as usize - 1;
-        if self.seats[place].is_some() {
+        if self.seats[place].has_call() {
             return Err((call, BeginFault::Busy));
         }
         if self.entries() > MAX_DECIDED {
@@ -259,13 +258,11 @@ impl<D: PageDevice + Drop, K: PseudoKey + Drop> Kernel<D, K> {
             return Err((call, BeginFault::NoMemory));
         };
         let alloc: Global = *self.journal.allocator();
-        match Active::begin(alloc, self.callers[place], call) {
-            Ok(active) => {
-                self.seats[place] = Some(active);
-                Ok(())
-            }
-            Err(call) => Err((call, BeginFault::NoMemory)),
+        let caller = self.callers[place];
+        if let Err(call) = self.seats[place].begin(alloc, caller, call) {
+            return Err((call, BeginFault::NoMemory));
         }
+        Ok(())
     }
 
     /// One step of the call at a seat. It takes no memory.
@@ -283,8 +280,7 @@ impl<D: PageDevice + Drop, K: PseudoKey + Drop> Kernel<D, K> {
             return told_of_failure(&self.seats[place]);
         }
         let before = last_page(&self.locks, seat);
-        let step = advance(
-            &mut self.seats[place],
+        let step = self.seats[place].advance(
             &mut self.pool,
             &mut self.locks,
             &self.keys,

@@ -4,12 +4,12 @@
 #![tactic(auto)]
 
 mod active;
-mod advance;
 mod fault;
 mod kernel;
 mod opening;
 mod places;
 mod searches;
+mod seat;
 mod step;
 mod waiting;
 

@@ -2,7 +2,7 @@
 
 ghost use Rattle.std.specs.Prelude.{◌≡◌, ◌+◌, ◌*◌, ◌≤◌, IfOk, None, length, replicate};
 
-use crate::active::Active;
+use crate::seat::Seat;
 use queue_model::{Caller, NoMemory};
 use std::alloc::Global;
 
@@ -21,12 +21,12 @@ pub(crate) fn least_frames(seats: usize) -> usize
 }
 
 /// So many seats without a call.
-pub(crate) fn idle_seats(alloc: Global, seats: usize) -> Result<Vec<Option<Active>>, NoMemory>
+pub(crate) fn idle_seats(alloc: Global, seats: usize) -> Result<Vec<Seat>, NoMemory>
     ensures { IfOk result (λ all. all.items ≡ replicate seats None) }
 {
     let mut all = Vec::with_capacity(alloc, seats)?;
     for _ in 0..seats {
-        all.push(None)?;
+        all.push(Seat::new())?;
     }
     Ok(all)
 }

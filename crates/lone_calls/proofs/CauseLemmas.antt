@@ -6,7 +6,7 @@ use Rattle.xsi_calls.specs.Concluding.{IsRightConclusion}
 use Rattle.xsi_calls.specs.Machine.{IsNew, conclusion_at}
 use Rattle.xsi_calls.specs.Words.{Lock, Owes, Trials}
 use Rattle.xsi_calls.specs.declared.conclusion.Conclusion.TheVariants as conclusions
-use Rattle.xsi_calls.specs.declared.stage.Stage.{Stage}
+use Rattle.xsi_calls.specs.Stages.{Stage}
 use Rattle.lone_calls.specs.Words.{Call, CallView, Caller, Conclusion, FileFault, PoolState, Progress, RecordKey, Records, State, Table, call_owes, conclusion_of, has_no_room}
 use Rattle.lone_calls.specs.Serving.{FoundNoRoom, IsLoneCall, IsServed, lacks_by, lacks_room}
 

@@ -12,7 +12,7 @@ use Rattle.step_rules.specs.Turns.{Ask, ForLock, ForEntry, ForPage, ForAnswer, H
 use Rattle.xsi_calls.specs.CallSteps.{StepsCall}
 use Rattle.xsi_calls.specs.Machine.{call_facts, call_turn}
 use Rattle.xsi_calls.specs.Words.{Lock, Sees, World, kind_of, world}
-use Rattle.xsi_calls.specs.declared.stage.Stage.TheVariants.{Undecided}
+use Rattle.xsi_calls.specs.Stages.{Undecided}
 use Rattle.xsi_calls.specs.Machine.{conclusion_at}
 use Rattle.lone_calls.specs.Words.{Call, CallView, Caller, Conclusion, FileFault, IsFiled, IsSeat, MakesCall, PoolState, Progress, RecordKey, State, StandsAt, Table, call_locks, call_owes, conclusion_of, is_fault, record_of, row_of, store_of}
 use Rattle.lone_calls.specs.Serving.{ComesBy, IsLoneCall, IsServed}

@@ -7,8 +7,7 @@ use Rattle.xsi_calls.specs.Calling.{IsCallingAt}
 use Rattle.xsi_calls.specs.CallSteps.{GoesOnAt}
 use Rattle.xsi_calls.specs.Machine.{facts_at, locks_at, owes_at}
 use Rattle.xsi_calls.specs.Words.{IsPaying, Lock, Owes, PaymentStage, Plan, QuestionsView, Sees, IsBehind, Trials, UndecidedCall, guard_of, kind_of, payment_facts}
-use Rattle.xsi_calls.specs.declared.stage.Stage.{Stage}
-use Rattle.xsi_calls.specs.declared.stage.Stage.TheVariants.{Undecided, Paying, Releasing}
+use Rattle.xsi_calls.specs.Stages.{Stage, Undecided, Paying, Releasing}
 use Rattle.lone_calls.specs.Words.{Call, Change, IsFiled, PoolState, RecordKey, Records, StandsAt, State, Table, overlaid, record_of, row_of, store_of}
 
 -- once nothing is owed the records of this system will stand

@@ -15,8 +15,7 @@ use Rattle.xsi_calls.specs.Laws.{BeginRight}
 use Rattle.xsi_calls.specs.Machine.{IsNew, IsOverAt, answer_by, conclusion_at, facts_at, locks_at, owes_at}
 use Rattle.xsi_calls.specs.Words.{Lock, Sees, Trials, UndecidedCall, guard_of, its_plan, kind_of, world}
 use Rattle.xsi_calls.specs.declared.conclusion.Conclusion.TheVariants as conclusions
-use Rattle.xsi_calls.specs.declared.stage.Stage.{Stage}
-use Rattle.xsi_calls.specs.declared.stage.Stage.TheVariants.{Undecided, Paying, Releasing}
+use Rattle.xsi_calls.specs.Stages.{Stage, Undecided, Paying, Releasing}
 use Rattle.lone_calls.specs.Words.{Answer, Call, CallView, Caller, Change, Conclusion, IsOver, PoolState, RecordKey, Records, StandsAt, State, Table, answer_of, call_locks, call_owes, conclusion_of, has_no_room, outcome, overlaid, record_of, row_of, store_of}
 use Rattle.lone_calls.specs.Serving.{ComesBy, IsLoneCall, IsServed, lacks_by}
 use Rattle.lone_calls.specs.Laws.{BeginsAtRest, EndsAtRest, LeavesAtRest, StopsAtRest, TellsItsSystem}

@@ -15,8 +15,7 @@ use Rattle.xsi_calls.specs.Below.{Sweeping, Writing}
 use Rattle.xsi_calls.specs.CallSteps.{GoesOnAt, StepsCall}
 use Rattle.xsi_calls.specs.Machine.{IsReading, call_turn}
 use Rattle.xsi_calls.specs.Words.{Ended, Exclusive, Fault, IsBehind, IsPaying, Lock, Moved, PaymentStage, Plan, QuestionsView, Trials, Turn, UndecidedCall, World, guard_of, is_write, its_plan, kind_of, world}
-use Rattle.xsi_calls.specs.declared.stage.Stage.{Stage}
-use Rattle.xsi_calls.specs.declared.stage.Stage.TheVariants.{Undecided, Paying, Releasing}
+use Rattle.xsi_calls.specs.Stages.{Stage, Undecided, Paying, Releasing}
 use Rattle.lone_calls.specs.Words.{Blocked, Call, CallView, Change, FileFault, PoolState, Progress, RecordKey, Records, StandsAt, State, Table, call_locks, is_fault, row_of, store_of}
 use Rattle.lone_calls.proofs.PlaceLemmas.{names_aside}
 

@@ -1,5 +1,5 @@
 -- A search that is told by what its seat knows goes on.
-use Rattle.std.proofs.Common.{◌≡◌, ◌≢◌, ◌+◌, ◌%◌, ◌^◌, ◌⊎◌, List, [], ◌∷◌, ◌++◌, Option, Some, None, ℕ, suc, refl, sym, ap, ◌∙◌, subst, inl, inr, arith}
+use Rattle.std.proofs.Common.{◌≡◌, ◌≢◌, ◌%◌, ◌^◌, ◌⊎◌, List, [], ◌∷◌, ◌++◌, Option, Some, None, ℕ, suc, refl, sym, ap, ◌∙◌, subst, inl, inr, arith}
 use Rattle.bucket_page.specs.declared.record_key.RecordKey.{RecordKey}
 use Rattle.page_locks.specs.Table.{Table, held, row_of, with_lock, without_lock}
 use Rattle.page_locks.proofs.ChangeLemmas.{IsSeat-with_row}

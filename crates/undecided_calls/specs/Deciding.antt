@@ -5,8 +5,9 @@ use Rattle.call_writes.specs.declared.writes.CallWrites.{CallWrites}
 use Rattle.call_decisions.specs.declared.settled.Settled.TheVariants.{Sweeps}
 use Rattle.undecided_calls.specs.declared.decided.Decided.{Decided}
 use Rattle.undecided_calls.specs.declared.trials.Trials.{Trials}
+use Rattle.undecided_calls.specs.declared.undecided.UndecidedCall.{UndecidedCall}
 use Rattle.undecided_calls.specs.Words.{AreAlike, Call, Change, Exclusive, Full, IsCarrying, LockName, Means, PoolState, QuestionsView, Record, RecordKey, Records, Settled, State, Sweep, Table, Trying, caller_of, guard_of, inserted, is_full, key_of, kind_of, locked_of, names_in, next_deed, nothing, record_of, settled_by}
-use Rattle.undecided_calls.specs.Undecided.{its_plan}
+use Rattle.undecided_calls.specs.Undecided.{its_plan, trials_of}
 
 -- it is to write: each name under which it does is held Exclusive, all that it inserts on trial is under one of these,
 -- and under them, too, stand the records of s with all trials inserted
@@ -52,8 +53,8 @@ IsDecidedIn hash seat call s q (Some settled) trials records pool locks change =
 abbrev pub settled_in : (stopped : Bool) → Trials → Option Settled
 settled_in stopped t = if is_full t.writes then None else Some (settled_by stopped t.decision)
 
--- what a call with these questions has decided
-abbrev pub IsDecided : (RecordKey → ℕ) → ℕ → Call → State → QuestionsView → Decided → Records → PoolState → Table →
+-- what a call with these questions and trials has decided
+abbrev pub IsDecided : (RecordKey → ℕ) → ℕ → Call → State → UndecidedCall → Decided → Records → PoolState → Table →
     Change → Type 0
-IsDecided hash seat call s q d records pool locks change =
-    IsDecidedIn hash seat call s q d.settled d.trials records pool locks change
+IsDecided hash seat call s u d records pool locks change =
+    IsDecidedIn hash seat call s u.questions d.settled (trials_of u) records pool locks change

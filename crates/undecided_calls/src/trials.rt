@@ -18,9 +18,9 @@ pub(crate) struct Trials {
 
 impl Trials {
     /// What the call comes to by them, and the stop mark.
-    pub(crate) fn settle(self, stopped: bool) -> Decided
-        ensures settled { result.settled ≡ settled_in stopped self }
-        ensures trials { result.trials ≡ self.writes }
+    pub(crate) fn settle(&self, stopped: bool) -> Decided
+        ensures settled { result.settled ≡ settled_in stopped self.now }
+        ensures due { result.due ≡ self.now.writes.due }
     {
         let settled = if self.writes.is_full() {
             None
@@ -29,7 +29,7 @@ impl Trials {
         };
         Decided {
             settled,
-            trials: self.writes,
+            due: self.writes.due(),
         }
     }
 }

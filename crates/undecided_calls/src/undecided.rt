@@ -18,7 +18,7 @@ use buffer_pool::Pool;
 use call_decisions::{Settled, decide};
 use call_questions::Questions;
 use call_questions::step_rules::Progress;
-use call_writes::{CallWrites, PlanOf};
+use call_writes::{CallWrites, Due, PlanOf};
 use file_pages::FileFault;
 use page_device::PageDevice;
 use page_locks::LockTable;
@@ -61,6 +61,19 @@ impl UndecidedCall {
         self.trials = None;
     }
 
+    /// Becomes another call, in the place of one that is over. The bytes that it is answered have
+    /// this room.
+    pub fn renew(&mut self, by: Caller, call: &Call, room: Room)
+        ensures caller { caller_of self.new.questions.inquiry ≡ by }
+        ensures fresh { IsFresh call.now self.new }
+        ensures room { self.new.questions.room ≡ room }
+        ensures knows { (s : State) → HasRoom call.now room →
+            KnowsNear call.now self.new.questions s }
+    {
+        self.questions.renew(by, call, room);
+        self.trials = None;
+    }
+
     /// What it has asked, and the names that it holds.
     pub fn questions(&self) -> &Questions
         ensures { result.now ≡ self.now.questions }
@@ -75,11 +88,14 @@ impl UndecidedCall {
         PlanOf::new(call, self.questions.inquiry())
     }
 
-    /// The room, for the answer.
-    pub fn into_room(self) -> Room
-        ensures { result ≡ self.questions.room }
+    /// The room moves out, for the answer. What stays has room for no byte.
+    pub fn take_room(&mut self) -> Room
+        ensures room { result ≡ self.old.questions.room }
+        ensures others { self.new ≡ record self.old {
+          questions = record self.old.questions { room = self.new.questions.room };
+        } }
     {
-        self.questions.into_room()
+        self.questions.take_room()
     }
 
     /// One step behind the call's last write: the name that was taken last is given back.
@@ -144,23 +160,25 @@ impl UndecidedCall {
         // whatever the device gives
         ensures questions { self.new.questions ≡ self.old.questions }
         ensures untried { self.new.trials ≡ None }
-        ensures trials { IfOk result (λ decided. decided.trials ≡ trials_of self.old) }
+        ensures due { IfOk result (λ decided. decided.due ≡ (trials_of self.old).due) }
         // on an honest device, in a sound world
         ensures decided { (hash : RecordKey → ℕ) (seat : ℕ) (s : State) (records : Records)
             (pool : PoolState) (locks : Table) (change : Change) →
             IsUndecided hash seat call.now s self.old records pool locks change →
             s.stopped ≡ stopped → Gives result (λ decided.
-            IsDecided hash seat call.now s self.old.questions decided records pool locks change) }
+            IsDecided hash seat call.now s self.old decided records pool locks change) }
     {
         self.questions.keep_order();
-        let Some(trials) = self.trials.take() else {
+        let Some(trials) = &self.trials else {
             let decision = decide(call, self.questions.inquiry())?;
             return Ok(Decided {
                 settled: Some(Settled::of(decision, stopped)),
-                trials: CallWrites::new(),
+                due: Due::Trying(0),
             });
         };
-        Ok(trials.settle(stopped))
+        let decided = trials.settle(stopped);
+        self.trials = None;
+        Ok(decided)
     }
 
     /// One step of the questions.

@@ -4,8 +4,7 @@ use Rattle.call_payments.proofs.AimLemmas.{payment_aimed}
 use Rattle.undecided_calls.proofs.AimLemmas.{undecided_aimed}
 use Rattle.step_rules.specs.Searching.{IsAimed}
 use Rattle.xsi_calls.specs.Machine.{CallView, call_facts, call_turn, facts_at, turn_at}
-use Rattle.xsi_calls.specs.declared.stage.Stage.{Stage}
-use Rattle.xsi_calls.specs.declared.stage.Stage.TheVariants.{Undecided, Paying, Releasing}
+use Rattle.xsi_calls.specs.Stages.{Stage, Undecided, Paying, Releasing}
 use Rattle.xsi_calls.specs.Words.{RecordKey, Store, its_plan}
 
 pub call_aimed : (hash : RecordKey → ℕ) (m : CallView) (s : Store) → IsAimed (call_turn hash m s).ask (call_facts m)

@@ -16,9 +16,9 @@ use Rattle.xsi_calls.specs.Concluding.{IsRightConclusion, conclusion_by}
 pub record Concluded (hash : RecordKey → ℕ) (seat : ℕ) (call : Call) (s : State) (q : QuestionsView) (full : Bool)
     (before : Owes) (settled : Option Settled) (trials : CallWrites) (records : Records) (pool : PoolState)
     (locks : Table) (change : Change) : Type 0 where
-  pub pays : IsPaying hash seat q.names (its_plan call q) (begun_payment hash settled trials) records pool locks change
+  pub pays : IsPaying hash seat q.names (its_plan call q) (begun_payment hash settled trials.due) records pool locks change
   pub right : IsRightConclusion (caller_of q.inquiry) call s q.room.bytes q.names full before
-      (owes_now (its_plan call q) (begun_payment hash settled trials)) records (conclusion_by settled)
+      (owes_now (its_plan call q) (begun_payment hash settled trials.due)) records (conclusion_by settled)
 
 module _ (hash : RecordKey → ℕ) (seat : ℕ) (call : Call) (s : State) (q : QuestionsView) (full : Bool) (before : Owes)
     (trials : CallWrites) (records : Records) (pool : PoolState) (locks : Table) (change : Change)
@@ -47,7 +47,7 @@ module _ (hash : RecordKey → ℕ) (seat : ℕ) (call : Call) (s : State) (q : 
     -- what is paid, under names that are held Exclusive
     will : (held : List LockName) → Exclusively held → Tried held → (settled : Settled) →
         HoldsWhereSwept q.names held settled → (means : Means c call held q.room.bytes s p settled) →
-        WillPay hash seat q.names held p (begun_payment hash (Some settled) trials) records
+        WillPay hash seat q.names held p (begun_payment hash (Some settled) trials.due) records
         (last_of c call held q.room.bytes s p settled means records) pool locks change
     will held exclusive tried settled holds means =
         pays_what_is_decided hash seat q.names held p trials records s pool locks change tried filed c call q.room.bytes

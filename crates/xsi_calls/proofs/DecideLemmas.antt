@@ -7,12 +7,11 @@ use Rattle.step_rules.specs.Searching.{WalksTo}
 use Rattle.step_rules.specs.Sound.{IsSoundWorld}
 use Rattle.file_pages.specs.declared.fault.FileFault.TheVariants.{Failed}
 use Rattle.undecided_calls.proofs.ReadyLemmas.{no_question}
-use Rattle.xsi_calls.proofs.Names.{Question, begun_at, locks_behind, locks_under, names_in, questions_facts, AccessView, FileFault, IsDecidedIn, IsFiled, IsTrying, IsUndecidedIn, Trials, MOST_PAYMENT_STEPS, has_few, is_full, locks_in, owes, owes_in, trials_in, CanDecideIn, IsCalmIn}
+use Rattle.xsi_calls.proofs.Names.{Due, Question, begun_at, locks_behind, locks_under, names_in, questions_facts, AccessView, FileFault, IsDecidedIn, IsFiled, IsTrying, IsUndecidedIn, Trials, MOST_PAYMENT_STEPS, has_few, is_full, locks_in, owes, owes_in, trials_in, CanDecideIn, IsCalmIn}
 use Rattle.xsi_calls.proofs.ConcludeLemmas.{Concluded, settles, short}
 use Rattle.xsi_calls.proofs.GoLemmas.{asking, at_end, at_undecided, with_stage}
 use Rattle.xsi_calls.specs.declared.conclusion.Conclusion.{Conclusion}
-use Rattle.xsi_calls.specs.declared.stage.Stage.{Stage}
-use Rattle.xsi_calls.specs.declared.stage.Stage.TheVariants.{Undecided, Paying}
+use Rattle.xsi_calls.specs.Stages.{Stage, Undecided, Paying}
 use Rattle.xsi_calls.specs.Words.{Agrees, AreNames, Call, Caller, CallWrites, CanDecide, Change, Ended, Fault, GoesOn, IsBehind, IsCalm, IsUndecided, KeepsUndecided, Lock, Moved, OnlyWrites, PaymentStage, Plan, PoolState, Progress, QuestionsView, RecordKey, Records, Settled, State, Store, Table, UndecidedCall, World, begun_payment, caller_of, has_no_room, is_fault, its_plan, owes_now, payment_facts, payment_left, payment_locks, row_of, store_of, trials_of, undecided_locks, undecided_owes, with_row, world}
 use Rattle.call_payments.specs.Payments.{begun_behind}
 use Rattle.step_rules.specs.declared.kind.Kind.TheVariants.{Decide}
@@ -28,27 +27,27 @@ names_alone call q None can =
 names_alone call q (Some t) can = ap (λ (a : Option AccessView). locks_under a q.names) can.rests
 
 -- nor by a payment that begins
-begun_alone : (hash : RecordKey → ℕ) (settled : Option Settled) (trials : CallWrites) (names : List Lock) →
-    payment_locks (begun_payment hash settled trials) names ≡ names
-begun_alone hash None trials names = refl
-begun_alone hash (Some (settlements.Answers verdict)) trials names = refl
-begun_alone hash (Some (settlements.Sweeps sweep)) trials names = by sweep.first
+begun_alone : (hash : RecordKey → ℕ) (settled : Option Settled) (due : Due) (names : List Lock) →
+    payment_locks (begun_payment hash settled due) names ≡ names
+begun_alone hash None due names = refl
+begun_alone hash (Some (settlements.Answers verdict)) due names = refl
+begun_alone hash (Some (settlements.Sweeps sweep)) due names = by sweep.first
   where
-    by : (first : Option ℕ) → payment_locks (begun_behind (begun_at hash sweep.id first) trials) names ≡ names
+    by : (first : Option ℕ) → payment_locks (begun_behind (begun_at hash sweep.id first) due) names ≡ names
     by None = refl
     by (Some first) = refl
-begun_alone hash (Some settlements.Waits) trials names = refl
+begun_alone hash (Some settlements.Waits) due names = refl
 
-begun_knows : (hash : RecordKey → ℕ) (settled : Option Settled) (trials : CallWrites) →
-    payment_facts (begun_payment hash settled trials) ≡ []
-begun_knows hash None trials = refl
-begun_knows hash (Some (settlements.Answers verdict)) trials = refl
-begun_knows hash (Some (settlements.Sweeps sweep)) trials = by sweep.first
+begun_knows : (hash : RecordKey → ℕ) (settled : Option Settled) (due : Due) →
+    payment_facts (begun_payment hash settled due) ≡ []
+begun_knows hash None due = refl
+begun_knows hash (Some (settlements.Answers verdict)) due = refl
+begun_knows hash (Some (settlements.Sweeps sweep)) due = by sweep.first
   where
-    by : (first : Option ℕ) → payment_facts (begun_behind (begun_at hash sweep.id first) trials) ≡ []
+    by : (first : Option ℕ) → payment_facts (begun_behind (begun_at hash sweep.id first) due) ≡ []
     by None = refl
     by (Some first) = refl
-begun_knows hash (Some settlements.Waits) trials = refl
+begun_knows hash (Some settlements.Waits) due = refl
 
 -- its trials rest
 pub trials_rest : (call : Call) (q : QuestionsView) (o : Option Trials) → CanDecideIn call q o →
@@ -144,7 +143,7 @@ module _ (hash : RecordKey → ℕ) (seat : ℕ) (stopped : Bool) (caller : Call
       IsUndecided hash seat call s u records pool' locks' change → s.stopped ≡ stopped →
       IsDecidedIn hash seat call s q settled trials records pool' locks' change) where
     abbrev payment : PaymentStage
-    payment = begun_payment hash settled trials
+    payment = begun_payment hash settled trials.due
 
     abbrev pub concluded : CallView
     concluded = record {
@@ -185,12 +184,12 @@ module _ (hash : RecordKey → ℕ) (seat : ℕ) (stopped : Bool) (caller : Call
           file = on.step.file;
           others = on.step.others;
           known = subst (AllKnown seat (world pool'.images locks' on.step.after))
-              (sym (begun_knows hash settled trials)) tt;
+              (sym (begun_knows hash settled trials.due)) tt;
           does = on.step.does;
           led = subst (WalksTo {F = FileFault} seat
               (call_turn hash (asking caller call u) (store_of pool.images)).ask (Moved Decide)
               (world pool.images locks change) (world pool'.images locks' on.step.after))
-              (sym (begun_knows hash settled trials)) tt;
+              (sym (begun_knows hash settled trials.due)) tt;
         };
         after = records;
         still = λ unwritten. refl;
@@ -210,7 +209,7 @@ module _ (hash : RecordKey → ℕ) (seat : ℕ) (stopped : Bool) (caller : Call
           some_same same = cc
 
       few_left : payment_left p payment (store_of pool'.images) ≤ MOST_PAYMENT_STEPS
-      few_left = has_few hash seat q.names p settled trials records pool' locks' on.step.after
+      few_left = has_few hash seat q.names p settled trials.due records pool' locks' on.step.after
           (store_of pool'.images) comes.pays
 
     pub decides : MakesCall hash seat stopped (Moved Decide) (asking caller call u) concluded pool pool' locks locks'
@@ -226,7 +225,7 @@ module _ (hash : RecordKey → ℕ) (seat : ℕ) (stopped : Bool) (caller : Call
         ended = (λ e. absurd cc, λ over. absurd over);
         over = λ e. absurd cc;
       };
-      row = alone ∙ ap (with_row locks seat) (sym (begun_alone hash settled trials q.names));
+      row = alone ∙ ap (with_row locks seat) (sym (begun_alone hash settled trials.due q.names));
       progress = λ s records change is mark.
           let few = few_left s records change is mark in
           let names = ordered.few in
@@ -277,7 +276,7 @@ pub decides_from : (hash : RecordKey → ℕ) (seat : ℕ) (stopped : Bool) (cal
     ((s : State) (records : Records) (change : Change) → IsUndecided hash seat call s u' records pool' locks' change →
     s.stopped ≡ stopped → IsDecidedIn hash seat call s u'.questions settled trials records pool' locks' change) →
     (u2 : UndecidedCall) → u2.questions ≡ u'.questions → u2.trials ≡ None →
-    (payment : PaymentStage) → payment ≡ begun_payment hash settled trials →
+    (payment : PaymentStage) → payment ≡ begun_payment hash settled trials.due →
     (conclusion : Conclusion) → conclusion ≡ conclusion_by settled →
     MakesCall hash seat stopped (Moved Decide) place (with_stage caller call u2 (Paying payment conclusion)) pool pool'
     locks locks'
@@ -292,7 +291,7 @@ decides_from hash seat stopped caller call u u' stage place view undecided calm 
     (subst (λ (v : PaymentStage). MakesCall hash seat stopped (Moved Decide) (asking caller call u)
     (with_stage caller call bare (Paying v conclusion)) pool pool' locks locks') (sym pays)
     (subst (λ (c : Conclusion). MakesCall hash seat stopped (Moved Decide) (asking caller call u)
-    (with_stage caller call bare (Paying (begun_payment hash settled trials) c)) pool pool' locks locks') (sym comes)
+    (with_stage caller call bare (Paying (begun_payment hash settled trials.due) c)) pool pool' locks locks') (sym comes)
     (decides hash seat stopped caller call u (aim.ended.0 e) calm_here pool pool' locks locks'
     (subst (λ (d : Progress FileFault). OnlyWrites (not (is_fault d)) pool pool') e writes)
     (subst (λ (x : UndecidedCall). locks' ≡ with_row locks seat (undecided_locks x)) rests row) by

@@ -5,10 +5,9 @@ use Rattle.step_rules.specs.declared.kind.Kind.TheVariants.{Decide}
 use Rattle.xsi_calls.proofs.Names.{FileFault, Trials}
 use Rattle.xsi_calls.proofs.DecideLemmas.{decides_from, fails, still_undecided}
 use Rattle.xsi_calls.proofs.GoLemmas.{asking, at_end, at_undecided, with_stage}
-use Rattle.xsi_calls.specs.declared.stage.Stage.{Stage}
-use Rattle.xsi_calls.specs.declared.stage.Stage.TheVariants.{Undecided}
-use Rattle.xsi_calls.specs.Words.{AreNames, Call, Caller, Change, Ended, Fault, GoesOn, IsUndecided, KeepsUndecided, Moved, OnlyWrites, PoolState, Progress, QuestionsView, RecordKey, Records, State, Table, UndecidedCall, begun_payment, caller_of, is_fault, trials_of, undecided_locks, with_row}
-use Rattle.xsi_calls.specs.Concluding.{conclusion_by}
+use Rattle.xsi_calls.specs.Stages.{Stage, Paying, Undecided}
+use Rattle.xsi_calls.specs.Words.{AreNames, Call, Caller, Change, Ended, Fault, GoesOn, IsUndecided, KeepsUndecided, Moved, OnlyWrites, PaymentStage, PoolState, Progress, QuestionsView, RecordKey, Records, State, Table, UndecidedCall, caller_of, is_fault, trials_of, undecided_locks, with_row}
+use Rattle.xsi_calls.specs.declared.conclusion.Conclusion.{Conclusion}
 use Rattle.xsi_calls.specs.Machine.{CallView, IsCalmAt, is_undecided}
 use Rattle.xsi_calls.specs.CallSteps.{ComesTo, HasNoSystem, MakesCall, is_end}
 
@@ -21,15 +20,15 @@ module _ (hash : RecordKey → ℕ) (seat : ℕ) (stopped : Bool) (caller : Call
     (step : (s : State) (records : Records) (change : Change) →
     IsUndecided hash seat call s u records pool locks change → is_fault did ≡ false →
     GoesOn hash seat call s did u u' records pool pool' locks locks' change) where
-  pub decides_by : (u2 : UndecidedCall) (stage2 : Stage) → ComesTo hash call stopped u' u2 stage2 →
-      MakesCall hash seat stopped (Moved Decide) place (with_stage caller call u2 stage2) pool pool' locks locks'
-  decides_by u2 stage2 comes =
-      subst (λ (x : Stage). MakesCall hash seat stopped (Moved Decide) place (with_stage caller call u2 x) pool pool'
-      locks locks') (sym comes.pays)
-      (decides_from hash seat stopped caller call u u' stage place view undecided calm by ordered did is pool pool'
+  pub decides_by : (u2 : UndecidedCall) (payment : PaymentStage) (conclusion : Conclusion) →
+      ComesTo hash call stopped conclusion u' u2 payment →
+      MakesCall hash seat stopped (Moved Decide) place (with_stage caller call u2 (Paying payment conclusion)) pool
+      pool' locks locks'
+  decides_by u2 payment conclusion comes =
+      decides_from hash seat stopped caller call u u' stage place view undecided calm by ordered did is pool pool'
       locks locks' writes aim row step comes.settled (trials_of u') refl
       (λ s records change un mark. comes.decided seat s records pool' locks' change un mark) u2 comes.questions
-      comes.untried (begun_payment hash comes.settled (trials_of u')) refl (conclusion_by comes.settled) refl)
+      comes.untried payment comes.pays conclusion comes.comes
 
   e : did ≡ Ended
   e = at_end did is
@@ -55,15 +54,15 @@ module _ (hash : RecordKey → ℕ) (seat : ℕ) (stopped : Bool) (caller : Call
         (still_undecided hash seat call s u u refl records pool pool' locks locks' change only_writes.honest on un)
 
   -- it was told what no system has
-  pub fails_from : (u2 : UndecidedCall) (stage2 : Stage) → HasNoSystem hash call stopped u' u2 stage stage2 →
+  pub fails_from : (u2 : UndecidedCall) (stage2 : Stage) → stage2 ≡ Undecided → HasNoSystem hash call stopped u' u2 →
       MakesCall hash seat stopped (Fault Failed) place (with_stage caller call u2 stage2) pool pool' locks locks'
-  fails_from u2 stage2 none_has =
+  fails_from u2 stage2 stays none_has =
       subst (λ (m : CallView). MakesCall hash seat stopped (Fault Failed) m (with_stage caller call u2 stage2) pool
       pool' locks locks') view
       (subst (λ (x : Stage). MakesCall hash seat stopped (Fault Failed) (with_stage caller call u x)
       (with_stage caller call u2 stage2) pool pool' locks locks') (sym there)
       (subst (λ (x : Stage). MakesCall hash seat stopped (Fault Failed) (asking caller call u)
-      (with_stage caller call u2 x) pool pool' locks locks') (sym (none_has.stays ∙ there))
+      (with_stage caller call u2 x) pool pool' locks locks') (sym stays)
       (subst (λ (x : UndecidedCall). MakesCall hash seat stopped (Fault Failed) (asking caller call u)
       (asking caller call x) pool pool' locks locks') (sym u2_is)
       (fails hash seat stopped caller call u (aim.ended.0 e) (subst (IsCalmAt u) there calm) pool pool' locks locks'

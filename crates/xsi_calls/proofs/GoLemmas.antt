@@ -3,8 +3,7 @@ use Rattle.std.proofs.Common.{◌≡◌, refl, sym, ap, ◌∙◌, subst, ℕ, B
 use Rattle.std.proofs.lemmas.Bool.{true≢false}
 use Rattle.undecided_calls.proofs.CounterLemmas.{undecided_none}
 use Rattle.xsi_calls.proofs.Names.{FileFault, nears_with}
-use Rattle.xsi_calls.specs.declared.stage.Stage.{Stage}
-use Rattle.xsi_calls.specs.declared.stage.Stage.TheVariants.{Undecided, Paying, Releasing}
+use Rattle.xsi_calls.specs.Stages.{Stage, Undecided, Paying, Releasing}
 use Rattle.xsi_calls.specs.Words.{Blocked, Call, Caller, Change, Ended, Fault, GoesOn, IsUndecided, Moved, NearsOrSpares, OnlyWrites, PoolState, Progress, RecordKey, Records, State, Table, Trials, UndecidedCall, is_fault, store_of, undecided_left, undecided_locks, with_row}
 use Rattle.xsi_calls.specs.Machine.{CallView, IsReading, STEPS_FROM_DECIDE, is_undecided}
 use Rattle.xsi_calls.specs.CallSteps.{MakesCall, is_end}

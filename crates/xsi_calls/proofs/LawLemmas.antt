@@ -1,7 +1,7 @@
 -- A call that has just begun.
 use Rattle.std.proofs.Common.{sym, subst, ◌≤◌, arith}
 use Rattle.undecided_calls.specs.Laws.{BeginFewSearches as UndecidedBeginFew, BeginRight as UndecidedBeginRight, HaveFewSteps as UndecidedHaveFew}
-use Rattle.xsi_calls.specs.declared.stage.Stage.{Stage}
+use Rattle.xsi_calls.specs.Stages.{Stage}
 use Rattle.xsi_calls.specs.Machine.{left_at}
 use Rattle.xsi_calls.specs.Calling.{IsCallingAt}
 use Rattle.xsi_calls.specs.Laws.{BeginFewSearches, BeginRight, HaveFewSteps, MOST_CALL_STEPS}

@@ -7,8 +7,7 @@ use Rattle.step_rules.specs.Turns.{TurnsAt, no_ask}
 use Rattle.xsi_calls.proofs.Names.{AccessView, Deed, FileFault, FollowsRow, facts_under, locks_under, next_deed, set_out, turn_under, nears_with, owes_nothing_at_end, row_of-same, with_row-twice}
 use Rattle.call_payments.specs.declared.payment.Stage.TheVariants as stages
 use Rattle.xsi_calls.specs.declared.conclusion.Conclusion.{Conclusion}
-use Rattle.xsi_calls.specs.declared.stage.Stage.{Stage}
-use Rattle.xsi_calls.specs.declared.stage.Stage.TheVariants.{Paying, Releasing}
+use Rattle.xsi_calls.specs.Stages.{Stage, Paying, Releasing}
 use Rattle.undecided_calls.proofs.PlanLemmas.{plans_have_one_counter}
 use Rattle.xsi_calls.proofs.CounterLemmas.{paid_counter}
 use Rattle.xsi_calls.proofs.GoLemmas.{at_end, not_end, with_stage}

@@ -4,8 +4,7 @@ use Rattle.std.proofs.lemmas.Bool.{true≢false}
 use Rattle.xsi_calls.proofs.Names.{FileFault, GivesBack, MakesNameStep, row_of-same, writes_none}
 use Rattle.step_rules.specs.declared.kind.Kind.{Kind}
 use Rattle.xsi_calls.specs.declared.conclusion.Conclusion.{Conclusion}
-use Rattle.xsi_calls.specs.declared.stage.Stage.{Stage}
-use Rattle.xsi_calls.specs.declared.stage.Stage.TheVariants.{Undecided, Paying, Releasing}
+use Rattle.xsi_calls.specs.Stages.{Stage, Undecided, Paying, Releasing}
 use Rattle.xsi_calls.specs.Words.{Blocked, Call, Caller, Change, Ended, Fault, IsSeat, Lock, Moved, NearsOrSpares, PoolState, Progress, RecordKey, Records, State, Table, UndecidedCall, is_fault, is_write, row_of, with_row}
 use Rattle.xsi_calls.specs.Machine.{CallView, call_locks, is_paying, is_undecided, locks_at}
 use Rattle.xsi_calls.specs.Calling.{IsReleasing}

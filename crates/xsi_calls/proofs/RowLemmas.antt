@@ -2,8 +2,7 @@
 use Rattle.std.proofs.Common.{◌≡◌, ap, ◌∙◌, [], Option}
 use Rattle.xsi_calls.proofs.Names.{Question, locks_behind, locks_in}
 use Rattle.xsi_calls.proofs.PayLemmas.{paid_locks}
-use Rattle.xsi_calls.specs.declared.stage.Stage.{Stage}
-use Rattle.xsi_calls.specs.declared.stage.Stage.TheVariants.{Undecided, Paying, Releasing}
+use Rattle.xsi_calls.specs.Stages.{Stage, Undecided, Paying, Releasing}
 use Rattle.xsi_calls.specs.Machine.{CallView, IsNew, IsOver, IsOverAt, call_locks, locks_at}
 use Rattle.xsi_calls.specs.Words.{Call, UndecidedCall, its_plan}
 

@@ -3,11 +3,10 @@ use Rattle.std.specs.Prelude.{ℕ, ◌≡◌, ◌↔◌, true, false, not, Bool,
 use Rattle.file_pages.specs.declared.fault.FileFault.{FileFault}
 use Rattle.step_rules.specs.declared.kind.Kind.TheVariants.{Decide}
 use Rattle.xsi_calls.specs.declared.conclusion.Conclusion.{Conclusion}
-use Rattle.xsi_calls.specs.declared.stage.Stage.{Stage}
-use Rattle.xsi_calls.specs.declared.stage.Stage.TheVariants.{Undecided, Paying, Releasing}
+use Rattle.xsi_calls.specs.Stages.{Stage, Undecided, Paying, Releasing}
 use Rattle.undecided_calls.specs.Deciding.{IsDecidedIn}
 use Rattle.xsi_calls.specs.Below.{counter_key, owes_at}
-use Rattle.xsi_calls.specs.Words.{Blocked, Call, Change, Ended, Exclusive, Fault, IsBehind, IsPaying, IsReady, IsUndecided, Moved, NearsOrSpares, OnlyWrites, PoolState, Progress, RecordKey, Records, Settled, State, Step, Table, TrialLacksRoom, UndecidedCall, begun_payment, guard_of, has_no_room, is_fault, is_write, its_plan, kind_of, overlaid, store_of, trials_of, with_row, world}
+use Rattle.xsi_calls.specs.Words.{Blocked, Call, Change, Ended, Exclusive, Fault, IsBehind, IsPaying, IsReady, IsUndecided, Moved, NearsOrSpares, OnlyWrites, PaymentStage, PoolState, Progress, RecordKey, Records, Settled, State, Step, Table, TrialLacksRoom, UndecidedCall, begun_payment, guard_of, has_no_room, is_fault, is_write, its_plan, kind_of, overlaid, store_of, trials_of, with_row, world}
 use Rattle.xsi_calls.specs.Concluding.{IsRightConclusion, conclusion_by}
 use Rattle.xsi_calls.specs.Machine.{CallView, IsOver, IsReading, call_facts, call_left, call_locks, call_owes, call_turn, conclusion_of}
 use Rattle.xsi_calls.specs.Calling.{IsCalling, IsReleasing}
@@ -71,9 +70,9 @@ pub record StepsCall {F : Type 0} (hash : RecordKey → ℕ) (seat : ℕ) (s : S
 
 -- ---- the Decide, behind the last step of what a call asks and tries
 
--- over each system of which it knows what it was told it comes to this as it may, and it pays from then on
-pub record ComesTo (hash : RecordKey → ℕ) (call : Call) (stopped : Bool) (old new : UndecidedCall) (stage : Stage)
-    : Type 0 where
+-- over each system of which it knows what it was told it comes to this as it may, and so much is to be paid
+pub record ComesTo (hash : RecordKey → ℕ) (call : Call) (stopped : Bool) (conclusion : Conclusion)
+    (old new : UndecidedCall) (payment : PaymentStage) : Type 0 where
   pub settled : Option Settled
   pub decided : (seat : ℕ) (s : State) (records : Records) (pool : PoolState) (locks : Table) (change : Change) →
       IsUndecided hash seat call s old records pool locks change → s.stopped ≡ stopped →
@@ -81,21 +80,20 @@ pub record ComesTo (hash : RecordKey → ℕ) (call : Call) (stopped : Bool) (ol
   pub questions : new.questions ≡ old.questions
   -- its trials are taken out
   pub untried : new.trials ≡ None
-  pub pays : stage ≡ Paying (begun_payment hash settled (trials_of old)) (conclusion_by settled)
+  pub comes : conclusion ≡ conclusion_by settled
+  pub pays : payment ≡ begun_payment hash settled (trials_of old).due
 
 -- it was told what no system has
-pub record HasNoSystem (hash : RecordKey → ℕ) (call : Call) (stopped : Bool) (old new : UndecidedCall)
-    (before stage : Stage) : Type 0 where
+pub record HasNoSystem (hash : RecordKey → ℕ) (call : Call) (stopped : Bool) (old new : UndecidedCall) : Type 0 where
   pub never : (seat : ℕ) (s : State) (records : Records) (pool : PoolState) (locks : Table) (change : Change) →
       IsUndecided hash seat call s old records pool locks change → s.stopped ≡ stopped → ⊥
   pub questions : new.questions ≡ old.questions
   pub untried : new.trials ≡ None
-  pub stays : stage ≡ before
 
-abbrev pub Decides : {X E : Type 0} → (RecordKey → ℕ) → Call → Bool → Result X E → (old new : UndecidedCall) →
-    (before stage : Stage) → Type 0
-Decides hash call stopped (Ok x) old new before stage = ComesTo hash call stopped old new stage
-Decides hash call stopped (Err e) old new before stage = HasNoSystem hash call stopped old new before stage
+abbrev pub Decides : {E : Type 0} → (RecordKey → ℕ) → Call → Bool → Result Conclusion E →
+    (old new : UndecidedCall) → PaymentStage → Type 0
+Decides hash call stopped (Ok conclusion) old new payment = ComesTo hash call stopped conclusion old new payment
+Decides hash call stopped (Err e) old new payment = HasNoSystem hash call stopped old new
 
 abbrev pub is_end : {F : Type 0} → Progress F → Bool
 is_end (Moved kind) = false

@@ -1,8 +1,7 @@
 -- What is so of a call at each of its places, over a system and the records that stand under its names.
 -- docs/STEPS.md, "Calls".
 use Rattle.std.specs.Prelude.{ℕ, ◌≡◌, List, []}
-use Rattle.xsi_calls.specs.declared.stage.Stage.{Stage}
-use Rattle.xsi_calls.specs.declared.stage.Stage.TheVariants.{Undecided, Paying, Releasing}
+use Rattle.xsi_calls.specs.Stages.{Stage, Undecided, Paying, Releasing}
 use Rattle.xsi_calls.specs.Words.{Sees, Call, Change, IsPaying, IsUndecided, Lock, PoolState, RecordKey, Records, State, Table, UndecidedCall, its_plan, row_of}
 use Rattle.xsi_calls.specs.Machine.{CallView}
 

@@ -1,6 +1,6 @@
 -- Laws of calls. Each is the contract of a function of laws.rt.
 use Rattle.std.specs.Prelude.{ℕ, ◌≡◌, ◌≤◌, []}
-use Rattle.xsi_calls.specs.declared.stage.Stage.TheVariants.{Undecided}
+use Rattle.xsi_calls.specs.Stages.{Undecided}
 use Rattle.xsi_calls.specs.Words.{Agrees, Sees, Change, PoolState, RecordKey, Records, State, Store, Table, most_asked, row_of, store_of}
 use Rattle.xsi_calls.specs.Machine.{CallView, IsNew, call_left}
 use Rattle.xsi_calls.specs.Calling.{IsCalling}

@@ -1,5 +1,6 @@
 pub mod Words
 pub mod Below
+pub mod Stages
 pub mod Concluding
 pub mod Machine
 pub mod Calling

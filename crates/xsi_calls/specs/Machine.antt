@@ -5,8 +5,7 @@ use Rattle.step_rules.specs.Turns.{no_ask}
 use Rattle.call_payments.specs.Laws.{MOST_PAYMENT_STEPS}
 use Rattle.xsi_calls.specs.declared.conclusion.Conclusion.{Conclusion}
 use Rattle.xsi_calls.specs.Concluding.{answer_in}
-use Rattle.xsi_calls.specs.declared.stage.Stage.{Stage}
-use Rattle.xsi_calls.specs.declared.stage.Stage.TheVariants.{Undecided, Paying, Releasing}
+use Rattle.xsi_calls.specs.Stages.{Stage, Undecided, Paying, Releasing}
 use Rattle.xsi_calls.specs.Words.{MAX_NAMES, Writes, Call, Caller, HasRoom, IsCalm, IsFresh, IsPaid, KnowsNear, Known, Lock, Owes, RecordKey, State, Store, Trials, Turn, UndecidedCall, caller_of, its_plan, owes_now, payment_facts, payment_left, payment_locks, payment_turn, undecided_facts, undecided_left, undecided_locks, undecided_owes, undecided_turn}
 
 -- a call, with what it has asked and the names that it holds, and where it stands

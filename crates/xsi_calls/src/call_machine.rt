@@ -1,22 +1,22 @@
 //! The machine.
 
-ghost use Rattle.std.specs.Prelude.{◌≡◌, Bool, IfOk, IfErr, Some, true, false, not};
+ghost use Rattle.std.specs.Prelude.{◌≡◌, Bool, IsSome, None, Some, true, false, not};
+ghost use Rattle.std.specs.Option.{is_some};
 ghost use Rattle.xsi_calls.specs.declared.conclusion.Conclusion.TheVariants.{Waits};
-ghost use Rattle.xsi_calls.specs.Words.{CanDecide, Change, IsReady, IsSeat, NearsOrSpares, OnlyWrites, Records, State, is_fault, row_of, store_of, with_row};
+ghost use Rattle.xsi_calls.specs.Words.{CanDecide, Change, IsReady, HasRoom, IsSeat, NearsOrSpares, OnlyWrites, Records, State, is_fault, row_of, store_of, with_row};
 ghost use Rattle.xsi_calls.specs.Machine.{Begins, IsOver, answer_of_call, call_left, call_locks, conclusion_of, is_paying, is_undecided};
 ghost use Rattle.xsi_calls.specs.Calling.{IsCalling};
 ghost use Rattle.xsi_calls.specs.CallSteps.{Decides, KeepsCall, MakesCall, MakesRelease, StepsCall, is_end};
 
 use crate::conclusion::Conclusion;
-use crate::stage::Stage;
+use crate::phase::Phase;
 use bucket_page::PseudoKey;
 use buffer_pool::Pool;
 use call_payments::Payment;
 use file_pages::FileFault;
 use page_device::PageDevice;
 use page_locks::LockTable;
-use queue_model::{Answer, Call, Caller, NoMemory};
-use std::alloc::Global;
+use queue_model::{Answer, Call, Caller};
 use std::marker::Model;
 use step_rules::{Kind, Progress};
 use undecided_calls::{Decided, UndecidedCall};
@@ -29,11 +29,14 @@ pub struct CallMachine {
     caller: Caller,
     call: Call,
     undecided: UndecidedCall,
-    stage: Stage,
+    phase: Phase,
+    payment: Payment,
+    conclusion: Conclusion,
 }
 
 impl Model for CallMachine {
     ghost use Rattle.xsi_calls.specs.Machine.{CallView, IsOneCall};
+    ghost use Rattle.xsi_calls.specs.Stages.{stage_at};
 
     ghost Value = { CallView };
 
@@ -41,35 +44,47 @@ impl Model for CallMachine {
       caller = m.caller;
       call = m.call;
       undecided = m.undecided;
-      stage = m.stage;
+      stage = stage_at m.phase m.payment m.conclusion;
     } };
 
     ghost invariant = { λ m. IsOneCall (record {
       caller = m.caller;
       call = m.call;
       undecided = m.undecided;
-      stage = m.stage;
+      stage = stage_at m.phase m.payment m.conclusion;
     }) };
 }
 
 impl CallMachine {
-    /// A call that begins. All memory that it can need is taken here: the room for its answer.
-    /// Where there is none the call comes back whole.
-    pub fn new(alloc: Global, caller: Caller, call: Call) -> Result<CallMachine, (Call, NoMemory)>
-        ensures ok { IfOk result (λ m. Begins caller call m) }
-        ensures err { IfErr result (λ back. back.0 ≡ call) }
+    /// A call that begins. The bytes that it is answered have this room, which is all the memory that
+    /// it can need.
+    pub fn new(caller: Caller, call: Call, room: Room) -> CallMachine
+        requires { HasRoom call room }
+        ensures begins { Begins caller call result }
+        ensures room { result.undecided.questions.room ≡ room }
     {
-        let room = match Room::new(alloc, &call) {
-            Ok(room) => room,
-            Err(none) => return Err((call, none)),
-        };
         let undecided = UndecidedCall::begin(caller, &call, room);
-        Ok(CallMachine {
+        CallMachine {
             caller,
             call,
             undecided,
-            stage: Stage::Undecided,
-        })
+            phase: Phase::Undecided,
+            payment: Payment::new(),
+            conclusion: Conclusion::Waits,
+        }
+    }
+
+    /// Becomes another call, in the place of one that is over. The bytes that it is answered have
+    /// this room.
+    pub fn renew(&mut self, caller: Caller, call: Call, room: Room)
+        requires { HasRoom call room }
+        ensures begins { Begins caller call self.new }
+        ensures room { self.new.undecided.questions.room ≡ room }
+    {
+        self.undecided.renew(caller, &call, room);
+        self.caller = caller;
+        self.call = call;
+        self.phase = Phase::Undecided;
     }
 
     /// A call that has waited, and has ended so, begins anew over the same room.
@@ -80,7 +95,7 @@ impl CallMachine {
         ensures room { self.new.undecided.questions.room ≡ self.old.undecided.questions.room }
     {
         self.undecided.begin_again(self.caller, &self.call);
-        self.stage = Stage::Undecided;
+        self.phase = Phase::Undecided;
     }
 
     /// The call.
@@ -101,10 +116,24 @@ impl CallMachine {
     pub fn conclusion(&self) -> Option<Conclusion>
         ensures { result ≡ conclusion_of self.now }
     {
-        match &self.stage {
-            Stage::Undecided => None,
-            Stage::Paying(_, conclusion) | Stage::Releasing(conclusion) => Some(*conclusion),
+        match self.phase {
+            Phase::Undecided => None,
+            Phase::Paying | Phase::Releasing => Some(self.conclusion),
         }
+    }
+
+    /// Whether it has come to something.
+    pub fn has_concluded(&self) -> bool
+        ensures { result ≡ is_some (conclusion_of self.now) }
+    {
+        !self.is_undecided()
+    }
+
+    /// Whether it has come to an answer.
+    pub fn is_answered(&self) -> bool
+        ensures { result ≡ is_some (answer_of_call self.now) }
+    {
+        self.has_concluded() && matches!(self.conclusion, Conclusion::Answers(_))
     }
 
     /// The searches that it has begun before its Decide since it last began: of a Receive at most
@@ -115,21 +144,18 @@ impl CallMachine {
         self.undecided.questions().finds()
     }
 
-    /// The answer, into which its room moves; none where it has come to none.
-    pub fn into_answer(self) -> Option<Answer>
-        ensures { result ≡ answer_of_call self }
+    /// The answer, into which its room and its call's memory go; none where it has come to none.
+    /// What stays is only there for the next call to begin in its place.
+    pub fn take_answer(&mut self) -> Option<Answer>
+        ensures answer { result ≡ answer_of_call self.old }
+        ensures kept { result ≡ None → self.new ≡ self.old }
+        ensures stays { IsSome result → IsSome (answer_of_call self.new) }
     {
-        match self.conclusion() {
-            Some(conclusion) => conclusion.answer_in(self.undecided.into_room()),
-            None => None,
-        }
-    }
-
-    /// Room for another copy of its answer.
-    pub fn try_twin(&self) -> Result<Room, NoMemory>
-        ensures { IfOk result (λ twin. twin.most ≡ self.now.undecided.questions.room.most) }
-    {
-        self.undecided.questions().room().try_twin()
+        let Some(Conclusion::Answers(verdict)) = self.conclusion() else {
+            return None;
+        };
+        self.call = Call::Remove { id: 0 };
+        Some(verdict.answer_in(self.undecided.take_room()))
     }
 
     /// The answer, with a copy of its bytes in other room for as many; none where it has come to
@@ -187,14 +213,14 @@ impl CallMachine {
     fn is_undecided(&self) -> bool
         ensures { result ≡ is_undecided self.now.stage }
     {
-        matches!(self.stage, Stage::Undecided)
+        matches!(self.phase, Phase::Undecided)
     }
 
     /// Whether it pays.
     fn is_paying(&self) -> bool
         ensures { result ≡ is_paying self.now.stage }
     {
-        matches!(self.stage, Stage::Paying(_, _))
+        matches!(self.phase, Phase::Paying)
     }
 
     /// One step of what it asks and tries, or its Decide.
@@ -218,16 +244,18 @@ impl CallMachine {
             return did;
         }
         self.undecided.questions().keep_order();
-        match decide(
+        let Ok(conclusion) = decide(
             &mut self.undecided,
-            &mut self.stage,
+            &mut self.payment,
             &self.call,
             keys,
             stopped,
-        ) {
-            Ok(()) => Progress::Moved(Kind::Decide),
-            Err(_) => Progress::Fault(FileFault::Failed),
-        }
+        ) else {
+            return Progress::Fault(FileFault::Failed);
+        };
+        self.conclusion = conclusion;
+        self.phase = Phase::Paying;
+        Progress::Moved(Kind::Decide)
     }
 
     /// One step of what it owes; behind the last one it gives its names back.
@@ -247,15 +275,11 @@ impl CallMachine {
     {
         self.undecided.questions().keep_order();
         let plan = self.undecided.plan(&self.call);
-        let Stage::Paying(payment, conclusion) = &mut self.stage else {
-            return Progress::Ended;
-        };
-        let conclusion = *conclusion;
-        let did = payment.step(&plan, pool, locks, keys, seat);
+        let did = self.payment.step(&plan, pool, locks, keys, seat);
         if !is_end(did) {
             return did;
         }
-        end_paying(&mut self.stage, conclusion);
+        self.phase = Phase::Releasing;
         self.release(locks, seat)
     }
 
@@ -276,28 +300,18 @@ impl CallMachine {
 #[inline(never)]
 fn decide<K: PseudoKey>(
     undecided: &mut UndecidedCall,
-    stage: &mut Stage,
+    payment: &mut Payment,
     call: &Call,
     keys: &K,
     stopped: bool,
-) -> Result<(), NotASystem>
+) -> Result<Conclusion, NotASystem>
     requires { CanDecide call.now undecided.old }
     ensures { Decides (K.of_key keys.now) call.now stopped result undecided.old undecided.new
-        stage.old stage.new }
+        payment.new }
 {
-    let Decided { settled, trials } = undecided.decide(call, stopped)?;
-    let payment = Payment::begin(settled, trials, keys);
-    *stage = Stage::Paying(payment, Conclusion::of(settled));
-    Ok(())
-}
-
-/// Nothing is owed any more. It stands apart, since each step would make room for the stage that it
-/// alone sets.
-#[inline(never)]
-fn end_paying(stage: &mut Stage, conclusion: Conclusion)
-    ensures { stage.new ≡ Stage.Releasing conclusion }
-{
-    *stage = Stage::Releasing(conclusion);
+    let Decided { settled, due } = undecided.decide(call, stopped)?;
+    payment.begin(settled, due, keys);
+    Ok(Conclusion::of(settled))
 }
 
 /// Whether it has ended.

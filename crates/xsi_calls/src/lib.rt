@@ -6,7 +6,7 @@
 mod call_machine;
 mod conclusion;
 mod laws;
-mod stage;
+mod phase;
 
 pub use call_machine::CallMachine;
 pub use call_payments;

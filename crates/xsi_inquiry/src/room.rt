@@ -73,6 +73,18 @@ impl Room {
         other
     }
 
+    /// The room moves out, with its bytes. What stays has room for none.
+    pub fn take(&mut self) -> Room
+        ensures { result ≡ self.old }
+    {
+        let alloc: Global = *self.bytes.allocator();
+        let nothing = Room {
+            bytes: Vec::new(alloc),
+            most: 0,
+        };
+        std::mem::replace(self, nothing)
+    }
+
     /// The bytes, as the body of a message.
     pub fn into_body(self) -> Body
         ensures { result ≡ self.bytes }

@@ -63,7 +63,7 @@ note-requires-clause-seat g c =
     let is : IsSeat old.locks c.args.seat =
     subst (λ (k : KernelState g.row.K.Denot). IsSeat k.locks c.args.seat) (sym c.self.view_is) c.requires in
     seat_behind (g.K.PseudoKey.of_key old.keys) c.args.seat c.advance-step.result c.index_mut.result.now
-    c.advance-step.new.slot old _ _ _ c.self.invariant is c.index_mut.ensures.value c.advance-step.ensures.turns
+    c.advance-step.new.self old _ _ _ c.self.invariant is c.index_mut.ensures.value c.advance-step.ensures.turns
 
 pub note-requires-clause-counted : goal.note-requires-clause-counted
 note-requires-clause-counted g c =
@@ -85,7 +85,7 @@ note-requires-clause-counted g c =
 
 pub invariant_of-self : goal.invariant_of-self
 invariant_of-self g c =
-    (makes_step g.K.PseudoKey.of_key c.args.seat c.advance-step.result c.index_mut.result.now c.advance-step.new.slot _
+    (makes_step g.K.PseudoKey.of_key c.args.seat c.advance-step.result c.index_mut.result.now c.advance-step.new.self _
     _ c.args.self.now c.self.view_is c.self.invariant c.requires c.index_mut.ensures.value c.advance-step.ensures.turns
     refl refl refl refl c.advance-step.ensures.capacity c.advance-step.ensures.spare c.if-self.false
     c.is_failure-self-inside.ensures (counts_by c.args.seat c.advance-step.result _ _ c.last_page-before.result
@@ -93,7 +93,7 @@ invariant_of-self g c =
 
 pub returns-clause-turn : goal.returns-clause-turn
 returns-clause-turn g c =
-    (makes_step g.K.PseudoKey.of_key c.args.seat c.advance-step.result c.index_mut.result.now c.advance-step.new.slot _
+    (makes_step g.K.PseudoKey.of_key c.args.seat c.advance-step.result c.index_mut.result.now c.advance-step.new.self _
     _ c.args.self.now c.self.view_is c.self.invariant c.requires c.index_mut.ensures.value c.advance-step.ensures.turns
     refl refl refl refl c.advance-step.ensures.capacity c.advance-step.ensures.spare c.if-self.false
     c.is_failure-self-inside.ensures (counts_by c.args.seat c.advance-step.result _ _ c.last_page-before.result
@@ -101,7 +101,7 @@ returns-clause-turn g c =
 
 pub returns-clause-makes : goal.returns-clause-makes
 returns-clause-makes g c =
-    (makes_step g.K.PseudoKey.of_key c.args.seat c.advance-step.result c.index_mut.result.now c.advance-step.new.slot _
+    (makes_step g.K.PseudoKey.of_key c.args.seat c.advance-step.result c.index_mut.result.now c.advance-step.new.self _
     _ c.args.self.now c.self.view_is c.self.invariant c.requires c.index_mut.ensures.value c.advance-step.ensures.turns
     refl refl refl refl c.advance-step.ensures.capacity c.advance-step.ensures.spare c.if-self.false
     c.is_failure-self-inside.ensures (counts_by c.args.seat c.advance-step.result _ _ c.last_page-before.result

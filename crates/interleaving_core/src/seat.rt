@@ -1,0 +1,158 @@
+//! A seat, and a step of it over the parts of a kernel.
+
+ghost use Rattle.std.specs.Prelude.{◌≡◌, ◌+◌, ◌≤◌, IfErr, IfOk, IfSome, None, Some, length, vec_capacity};
+ghost use Rattle.interleaving_core.specs.Active.{ActiveView, HasBegunAt};
+ghost use Rattle.interleaving_core.specs.Closing.{has_one};
+ghost use Rattle.interleaving_core.specs.Kernel.{due_at, locks_of};
+ghost use Rattle.interleaving_core.specs.Turn.{Finishes, Turns};
+ghost use Rattle.interleaving_core.specs.Words.{IsOver, IsReady, IsSeat, row_of};
+
+use crate::active::Active;
+use crate::fault::StepFault;
+use crate::step::Step;
+use bucket_page::PseudoKey;
+use buffer_pool::Pool;
+use page_device::PageDevice;
+use page_locks::LockTable;
+use queue_model::{Call, Caller, Entry};
+use std::alloc::Global;
+use std::marker::Model;
+use step_rules::Progress;
+
+/// A seat, with its call if it has one under way. A call that is over stays where it was, so that the
+/// next one begins in its place: a call is large, and is not moved.
+#[derive(Drop)]
+pub(crate) struct Seat {
+    last: Option<Active>,
+    is_busy: bool,
+}
+
+impl Model for Seat {
+    ghost use Rattle.std.specs.Prelude.{Option, None, if◌then◌else◌};
+    ghost use Rattle.interleaving_core.specs.Active.{ActiveView};
+
+    ghost Value = { Option ActiveView };
+
+    ghost view = { λ s. if s.is_busy then s.last else None };
+}
+
+impl Seat {
+    /// A seat that has no call.
+    pub(crate) fn new() -> Seat
+        ensures { result ≡ None }
+    {
+        Seat {
+            last: None,
+            is_busy: false,
+        }
+    }
+
+    /// Whether it has a call.
+    pub(crate) fn has_call(&self) -> bool
+        ensures { result ≡ has_one self.now }
+    {
+        self.is_busy && self.last.is_some()
+    }
+
+    /// The entries that are due for its call.
+    pub(crate) fn due(&self) -> usize
+        ensures due { result ≡ due_at self.now }
+        ensures few { result ≤ 1 }
+    {
+        if !self.is_busy {
+            return 0;
+        }
+        match &self.last {
+            Some(active) => active.due(),
+            None => 0,
+        }
+    }
+
+    /// A call of a caller begins. All memory that it and its entry can need is taken here. Where
+    /// there is none the call comes back whole.
+    pub(crate) fn begin(&mut self, alloc: Global, caller: Caller, call: Call) -> Result<(), Call>
+        requires free { self.old ≡ None }
+        ensures ok { IfOk result (λ _. HasBegunAt caller call self.new) }
+        ensures err { IfErr result (λ back. back ≡ call) }
+        ensures same { IfErr result (λ _. self.new ≡ None) }
+    {
+        let Some(active) = &mut self.last else {
+            return self.begin_first(alloc, caller, call);
+        };
+        active.renew(alloc, caller, call)?;
+        self.is_busy = true;
+        Ok(())
+    }
+
+    /// The first call of the seat begins. It stands apart, since each that begins would make room for
+    /// a whole call.
+    #[inline(never)]
+    fn begin_first(&mut self, alloc: Global, caller: Caller, call: Call) -> Result<(), Call>
+        requires free { self.old ≡ None }
+        ensures ok { IfOk result (λ _. HasBegunAt caller call self.new) }
+        ensures err { IfErr result (λ back. back ≡ call) }
+        ensures same { IfErr result (λ _. self.new ≡ None) }
+    {
+        self.last = Some(Active::begin(alloc, caller, call)?);
+        self.is_busy = true;
+        Ok(())
+    }
+
+    /// A step of its call, if it has one: none while that waits, and nothing has woken it. A call
+    /// that is over leaves the seat, but one that will wait. It stands in whoever steps the seat,
+    /// since what it tells would else be moved through memory at each step.
+    #[inline(always)]
+    pub(crate) fn advance<D: PageDevice, K: PseudoKey>(
+        &mut self,
+        pool: &mut Pool<D>,
+        locks: &mut LockTable,
+        keys: &K,
+        journal: &mut Vec<Entry>,
+        stopped: bool,
+        seat: u8,
+    ) -> Step
+        requires seat { IsSeat locks.old seat }
+        requires ready { IsReady pool.old }
+        requires row { row_of locks.old seat ≡ locks_of self.old }
+        requires room { due_at self.old + length journal.old.items ≤ vec_capacity journal.old }
+        ensures turns { Turns (K.of_key keys.now) seat stopped result self.old self.new
+            pool.old pool.new locks.old locks.new journal.old.items journal.new.items }
+        ensures capacity { vec_capacity journal.old ≤ vec_capacity journal.new }
+        ensures spare { self.old ≡ None → vec_capacity journal.new ≡ vec_capacity journal.old }
+    {
+        if !self.is_busy {
+            return Step::Idle;
+        }
+        let Some(active) = &mut self.last else {
+            return Step::Idle;
+        };
+        if active.stays_waiting(journal.as_slice()) {
+            return Step::Waiting;
+        }
+        match active.step(pool, locks, keys, journal, stopped, seat) {
+            Progress::Moved(kind) => Step::Moved(kind),
+            Progress::Blocked(other) => Step::Blocked(other),
+            Progress::Fault(fault) => Step::Fault(StepFault::File(fault)),
+            Progress::Ended => self.finish(),
+        }
+    }
+
+    /// What it is told whose call is over. That leaves the seat, but one that will wait.
+    fn finish(&mut self) -> Step
+        requires { IfSome self.old (λ a. IsOver a.machine) }
+        ensures { (a : ActiveView) → self.old ≡ Some a → Finishes result a self.new }
+    {
+        if !self.is_busy {
+            return Step::Idle;
+        }
+        let Some(active) = &mut self.last else {
+            return Step::Idle;
+        };
+        if active.waits() {
+            active.begin_again();
+            return Step::Waiting;
+        }
+        self.is_busy = false;
+        active.end()
+    }
+}
