@@ -1,5 +1,5 @@
 -- An access that is under way goes on.
-use Rattle.std.proofs.Common.{◌≡◌, refl, ℕ, true, false, Option, Some, None}
+use Rattle.std.proofs.Common.{◌≡◌, refl, ℕ, true, Option, Some, None}
 use Rattle.std.specs.Option.{is_some}
 use Rattle.call_writes.specs.declared.writes.CallWrites.{CallWrites}
 use Rattle.call_writes.specs.Words.{AccessView, Plan, RecordKey}
@@ -11,7 +11,3 @@ goes_on hash p w some = by w.access refl some
     by : (o : Option AccessView) → w.access ≡ o → is_some o ≡ true → IsSetOut hash p w w
     by None is there = absurd cc
     by (Some a) is there = GoesOn a is refl
-
-pub rests : (o : Option AccessView) → is_some o ≡ false → o ≡ None
-rests None none = refl
-rests (Some a) none = absurd cc

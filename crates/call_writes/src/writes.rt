@@ -139,12 +139,23 @@ impl CallWrites {
     }
 
     /// Begins the next access where none is under way. Whether one is then.
+    #[inline(always)]
     fn set_out<K: PseudoKey>(&mut self, plan: &PlanOf<'_>, keys: &K) -> Result<bool, FileFault>
         ensures { SetsOut (K.of_key keys.now) plan.now result self.old self.new }
     {
         if self.access.is_under_way() {
             return Ok(true);
         }
+        self.begin_next(plan, keys)
+    }
+
+    /// Begins the next access, if a deed is left. It stands apart, since each step would make room for
+    /// that deed.
+    #[inline(never)]
+    fn begin_next<K: PseudoKey>(&mut self, plan: &PlanOf<'_>, keys: &K) -> Result<bool, FileFault>
+        requires none { self.old.access ≡ None }
+        ensures { SetsOut (K.of_key keys.now) plan.now result self.old self.new }
+    {
         let Some(deed) = plan.deed(self.due) else {
             return Ok(false);
         };
@@ -188,6 +199,7 @@ impl CallWrites {
     }
 
     /// Lets an access go that has given its locks back.
+    #[inline(always)]
     fn settle(&mut self, did: Progress<FileFault>) -> Progress<FileFault>
         ensures { Settles did result self.old self.new }
     {

@@ -1,6 +1,6 @@
 //! A call under way at a seat, and what is kept for its entry in the journal.
 
-ghost use Rattle.std.specs.Prelude.{◌≡◌, ◌+◌, ◌≤◌, ◌++◌, IfErr, IfOk, IfSome, Some, length, false, true, vec_capacity};
+ghost use Rattle.std.specs.Prelude.{◌≡◌, ◌+◌, ◌≤◌, ◌++◌, IfErr, IfOk, IfSome, IsSome, Some, length, false, true, vec_capacity};
 ghost use Rattle.xsi_calls.specs.CallSteps.{MakesCall};
 ghost use Rattle.xsi_calls.specs.Machine.{IsOver, answer_of_call, call_locks, conclusion_of};
 ghost use Rattle.interleaving_core.specs.Active.{BeginsAgain, HasBegun, HasRoomAs, IsDrafted, IsMarked, decided_by, draft_by, drafted, entries_by, is_waiting, told_at_end};
@@ -208,6 +208,7 @@ fn decided_by(machine: &CallMachine, many: usize, decided: usize) -> usize
 }
 
 /// The entry of a call that has come to an answer joins the journal, where it has not yet.
+#[inline(always)]
 fn note(machine: &CallMachine, draft: &mut Option<Draft>, journal: &mut Vec<Entry>, seat: u8)
     requires fits { IfSome draft.old (λ d. HasRoomAs d.room machine.now) }
     requires room { drafted draft.old + length journal.old.items ≤ vec_capacity journal.old }
@@ -219,6 +220,24 @@ fn note(machine: &CallMachine, draft: &mut Option<Draft>, journal: &mut Vec<Entr
     if !machine.is_answered() {
         return;
     }
+    if draft.is_none() {
+        return;
+    }
+    join(machine, draft, journal, seat);
+}
+
+/// The entry of a call that has come to an answer joins the journal. It stands apart, since each step
+/// would make room for an entry.
+#[inline(never)]
+fn join(machine: &CallMachine, draft: &mut Option<Draft>, journal: &mut Vec<Entry>, seat: u8)
+    requires answered { IsSome (answer_of_call machine.now) }
+    requires fits { IfSome draft.old (λ d. HasRoomAs d.room machine.now) }
+    requires room { drafted draft.old + length journal.old.items ≤ vec_capacity journal.old }
+    ensures journal { journal.new.items ≡ journal.old.items ++
+        entries_by seat (answer_of_call machine.now) draft.old }
+    ensures draft { draft.new ≡ draft_by (answer_of_call machine.now) draft.old }
+    ensures capacity { vec_capacity journal.old ≤ vec_capacity journal.new }
+{
     let Some(kept) = draft.take() else {
         return;
     };

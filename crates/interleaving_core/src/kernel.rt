@@ -290,6 +290,10 @@ impl<D: PageDevice + Drop, K: PseudoKey + Drop> Kernel<D, K> {
         );
         self.failed = is_failure(&step);
         note(&mut self.searches, &self.locks, seat, &step, before);
+        // A move is told anew: what was told would be copied behind stores of another width.
+        if let Step::Moved(kind) = step {
+            return Step::Moved(kind);
+        }
         step
     }
 

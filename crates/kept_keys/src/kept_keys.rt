@@ -10,7 +10,7 @@ use std::cell::Cell;
 use std::marker::Model;
 
 /// How many pseudokeys are kept.
-pub const SLOTS: usize = 64;
+pub const SLOTS: usize = 1_024;
 
 /// Makes the pseudokeys of another way, and keeps them: each in the slot of its key, where it
 /// takes the place of an older one.
@@ -56,11 +56,12 @@ impl<K: Alike> PseudoKey for KeptKeys<K> {
     }
 }
 
-/// The slot of a key. Keys of different kinds have different slots, and so have the keys of
-/// messages that stand near one another.
+/// The slot of a key. So many messages that were sent one after the other have different slots, and
+/// those of other kinds begin elsewhere.
 fn slot_of(key: &RecordKey) -> usize
     ensures { result < SLOTS }
 {
-    let place = (u64::from(key.queue) ^ key.number) % 8;
-    usize::from(key.kind % 8) * 8 + place as usize
+    let place = (u64::from(key.queue) ^ key.number) % SLOTS as u64;
+    let begins = usize::from(key.kind % 8) * (SLOTS / 8);
+    (begins + place as usize) % SLOTS
 }

@@ -227,7 +227,9 @@ impl Access {
         self.operation.has_ended()
     }
 
-    /// One step.
+    /// One step. It stands in whoever steps the access, which would else wait for what it tells to
+    /// pass through memory.
+    #[inline(always)]
     pub fn step<D: PageDevice, K: PseudoKey>(
         &mut self,
         pool: &mut Pool<D>,
@@ -263,6 +265,7 @@ impl Access {
     }
 
     /// One step of its operation; where a page answers by it, that page is read.
+    #[inline(always)]
     fn make<D: PageDevice, K: PseudoKey>(
         &mut self,
         pool: &mut Pool<D>,

@@ -89,7 +89,9 @@ impl Delete {
         }
     }
 
-    /// One step.
+    /// One step. It stands apart, since each step of an access would make room for the pages of a
+    /// merge.
+    #[inline(never)]
     pub fn step<D: PageDevice>(
         &mut self,
         pool: &mut Pool<D>,

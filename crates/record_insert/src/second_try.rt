@@ -93,7 +93,9 @@ impl SecondTry {
         }
     }
 
-    /// One step. The value that is to be put is lent to it.
+    /// One step. The value that is to be put is lent to it. It stands apart, since each step of an
+    /// insert would make room for the pages of a split.
+    #[inline(never)]
     pub fn step<D: PageDevice, K: PseudoKey>(
         &mut self,
         pool: &mut Pool<D>,

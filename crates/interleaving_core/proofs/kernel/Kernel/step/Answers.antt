@@ -3,7 +3,7 @@ use Rattle.std.proofs.Common.{◌∙◌, refl, sym, ap, subst, vec_capacity}
 use Rattle.interleaving_core.specs.Kernel.{KernelState}
 use Rattle.interleaving_core.specs.Owing.{IsTurn, told_of_failure}
 use Rattle.interleaving_core.specs.Words.{IsSeat}
-use Rattle.interleaving_core.proofs.KernelLemmas.{counts_by, is_counted, makes_step, row_there, seat_behind, seat_there, slot_here}
+use Rattle.interleaving_core.proofs.KernelLemmas.{counts_by, is_counted, makes_step, row_there, seat_behind, seat_there, slot_here, told_anew}
 use Rattle.interleaving_core.proofs.RunLemmas.{fails_put}
 use Rattle.interleaving_core.proofs.kernel.Kernel.step.Goals as goal
 
@@ -91,6 +91,14 @@ invariant_of-self g c =
     c.is_failure-self-inside.ensures (counts_by c.args.seat c.advance-step.result _ _ c.last_page-before.result
     c.last_page-before.ensures c.note.ensures)).whole
 
+pub invariant_of-self-2 : goal.invariant_of-self-2
+invariant_of-self-2 g c =
+    (makes_step g.K.PseudoKey.of_key c.args.seat c.advance-step.result c.index_mut.result.now c.advance-step.new.self _
+    _ c.args.self.now c.self.view_is c.self.invariant c.requires c.index_mut.ensures.value c.advance-step.ensures.turns
+    refl refl refl refl c.advance-step.ensures.capacity c.advance-step.ensures.spare c.if-self.false
+    c.is_failure-self-inside.ensures (counts_by c.args.seat c.advance-step.result _ _ c.last_page-before.result
+    c.last_page-before.ensures c.note.ensures)).whole
+
 pub returns-clause-turn : goal.returns-clause-turn
 returns-clause-turn g c =
     (makes_step g.K.PseudoKey.of_key c.args.seat c.advance-step.result c.index_mut.result.now c.advance-step.new.self _
@@ -106,3 +114,21 @@ returns-clause-makes g c =
     refl refl refl refl c.advance-step.ensures.capacity c.advance-step.ensures.spare c.if-self.false
     c.is_failure-self-inside.ensures (counts_by c.args.seat c.advance-step.result _ _ c.last_page-before.result
     c.last_page-before.ensures c.note.ensures)).makes
+
+pub returns-in-Moved-clause-turn : goal.returns-in-Moved-clause-turn
+returns-in-Moved-clause-turn g c =
+    (told_anew g.K.PseudoKey.of_key c.args.seat c.advance-step.result _ c.args.self.now _ c.in-Moved.is
+    (makes_step g.K.PseudoKey.of_key c.args.seat c.advance-step.result c.index_mut.result.now c.advance-step.new.self _
+    _ c.args.self.now c.self.view_is c.self.invariant c.requires c.index_mut.ensures.value c.advance-step.ensures.turns
+    refl refl refl refl c.advance-step.ensures.capacity c.advance-step.ensures.spare c.if-self.false
+    c.is_failure-self-inside.ensures (counts_by c.args.seat c.advance-step.result _ _ c.last_page-before.result
+    c.last_page-before.ensures c.note.ensures))).turn
+
+pub returns-in-Moved-clause-makes : goal.returns-in-Moved-clause-makes
+returns-in-Moved-clause-makes g c =
+    (told_anew g.K.PseudoKey.of_key c.args.seat c.advance-step.result _ c.args.self.now _ c.in-Moved.is
+    (makes_step g.K.PseudoKey.of_key c.args.seat c.advance-step.result c.index_mut.result.now c.advance-step.new.self _
+    _ c.args.self.now c.self.view_is c.self.invariant c.requires c.index_mut.ensures.value c.advance-step.ensures.turns
+    refl refl refl refl c.advance-step.ensures.capacity c.advance-step.ensures.spare c.if-self.false
+    c.is_failure-self-inside.ensures (counts_by c.args.seat c.advance-step.result _ _ c.last_page-before.result
+    c.last_page-before.ensures c.note.ensures))).makes
