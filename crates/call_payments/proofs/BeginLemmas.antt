@@ -79,7 +79,8 @@ module _ (hash : RecordKey → ℕ) (seat : ℕ) (names : List Lock) (held : Lis
 
   pub answer_pays : (c : Caller) (call : Call) (answer : Answer)
       (is : IsAnswer c call held p.trials answer (owed.Writes (writes_of p)) s) →
-      WillPay hash seat names held p (stages.Writing (decided trials.due)) records (record_of is.after) pool locks change
+      WillPay hash seat names held p (stages.Writing (decided trials.due)) records (record_of is.after) pool locks
+      change
   answer_pays c call answer is = will_write (record_of is.after)
       (record { owed = is.owes.can records t.alike; in_range = is.owes.in_range; may = tt }) is.owes.own
       (is.owes.leads records t.alike)

@@ -16,7 +16,8 @@ use Rattle.xsi_calls.specs.Concluding.{IsRightConclusion, conclusion_by}
 pub record Concluded (hash : RecordKey → ℕ) (seat : ℕ) (call : Call) (s : State) (q : QuestionsView) (full : Bool)
     (before : Owes) (settled : Option Settled) (trials : CallWrites) (records : Records) (pool : PoolState)
     (locks : Table) (change : Change) : Type 0 where
-  pub pays : IsPaying hash seat q.names (its_plan call q) (begun_payment hash settled trials.due) records pool locks change
+  pub pays : IsPaying hash seat q.names (its_plan call q) (begun_payment hash settled trials.due) records pool locks
+      change
   pub right : IsRightConclusion (caller_of q.inquiry) call s q.room.bytes q.names full before
       (owes_now (its_plan call q) (begun_payment hash settled trials.due)) records (conclusion_by settled)
 

@@ -291,7 +291,8 @@ decides_from hash seat stopped caller call u u' stage place view undecided calm 
     (subst (λ (v : PaymentStage). MakesCall hash seat stopped (Moved Decide) (asking caller call u)
     (with_stage caller call bare (Paying v conclusion)) pool pool' locks locks') (sym pays)
     (subst (λ (c : Conclusion). MakesCall hash seat stopped (Moved Decide) (asking caller call u)
-    (with_stage caller call bare (Paying (begun_payment hash settled trials.due) c)) pool pool' locks locks') (sym comes)
+    (with_stage caller call bare (Paying (begun_payment hash settled trials.due) c)) pool pool' locks locks')
+    (sym comes)
     (decides hash seat stopped caller call u (aim.ended.0 e) calm_here pool pool' locks locks'
     (subst (λ (d : Progress FileFault). OnlyWrites (not (is_fault d)) pool pool') e writes)
     (subst (λ (x : UndecidedCall). locks' ≡ with_row locks seat (undecided_locks x)) rests row) by

@@ -8,8 +8,8 @@ use Rattle.xsi_calls.specs.Stages.{Paying, Undecided, stage_at}
 use Rattle.xsi_calls.specs.Words.{PaymentStage}
 
 -- before its Decide, whatever the place of its payment holds
-pub undecided_still : (phase : Phase) (v v' : PaymentStage) (c : Conclusion) → is_undecided (stage_at phase v c) ≡ true →
-    stage_at phase v' c ≡ Undecided
+pub undecided_still : (phase : Phase) (v v' : PaymentStage) (c : Conclusion) →
+    is_undecided (stage_at phase v c) ≡ true → stage_at phase v' c ≡ Undecided
 undecided_still phases.Undecided v v' c is = refl
 undecided_still phases.Paying v v' c is = absurd cc
 undecided_still phases.Releasing v v' c is = absurd cc
