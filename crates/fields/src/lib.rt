@@ -42,17 +42,6 @@ pub fn set_bytes(bytes: &mut [u8], at: usize, new: &[u8])
     bytes[at..at + new.len()].copy_from_slice(new);
 }
 
-/// Writes a number into the two bytes from `at` on.
-#[tactic(auto, unfolding(crate::specs::Numbers::two))]
-pub fn set_two(bytes: &mut [u8], at: usize, number: u16)
-    requires { at + 2 ≤ length bytes.old }
-    ensures { bytes.new ≡ overwritten bytes.old at (two number) }
-{
-    let mut new = [0; 2];
-    BigEndian::write_u16(&mut new, number);
-    set_bytes(bytes, at, &new);
-}
-
 /// Writes a number into the four bytes from `at` on.
 #[tactic(auto, unfolding(crate::specs::Numbers::four))]
 pub fn set_four(bytes: &mut [u8], at: usize, number: u32)

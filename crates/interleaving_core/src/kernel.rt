@@ -221,15 +221,6 @@ impl<D: PageDevice + Drop, K: PseudoKey + Drop> Kernel<D, K> {
         self.count(seat).changes
     }
 
-    /// Whether no split and no merge was under way since the last search of a seat read the
-    /// directory's depth, also behind the end of that search, until the seat's next one.
-    pub fn was_calm(&self, seat: u8) -> bool
-        requires { IsSeat self.now.locks seat }
-        ensures { result ≡ (count_at self.now.searches.counts seat).calm }
-    {
-        self.count(seat).calm
-    }
-
     /// A kernel is always whole, whatever the device gives.
     pub fn is_whole(&self)
         ensures { IsWhole self.now }

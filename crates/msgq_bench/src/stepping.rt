@@ -7,7 +7,7 @@ ghost use Rattle.file_pages.specs.Files.{IsReady};
 use bucket_page::RecordKey;
 use buffer_pool::{Pool, PoolFault};
 use directory::ROOT_PAGE;
-use file_pages::{FileFault, Sight, look, put_record, read_entry, replace_record};
+use file_pages::{FileFault, Sight, look, put_record, read_entry, replace_front};
 use page_device::MemDevice;
 use record_file::format;
 use std::alloc::Global;
@@ -74,7 +74,7 @@ pub fn writes(pool: &mut Pool<MemDevice>, rounds: u32) -> Result<(), FileFault>
     ensures { IsReady pool.new }
 {
     for round in 0..rounds {
-        replace_record(
+        replace_front(
             pool,
             ROOT_PAGE,
             &key(round % RECORDS),

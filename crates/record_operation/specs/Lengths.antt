@@ -9,8 +9,3 @@ use Rattle.record_operation.specs.Operations.{operation_facts, operation_left}
 -- try of an insert
 abbrev pub MOST_STEPS : ℕ
 MOST_STEPS = 2 * (MAX_PAGES - ROOT_PAGE) + (10 + SECOND_STEPS)
-
-abbrev pub HasFewSteps : Type 0
-HasFewSteps = (hash : RecordKey → ℕ) (seat : ℕ) (o : RecordOperation) (pool : PoolState) (locks : Table)
-    (change : Change) → Sees hash seat (operation_facts o) pool locks change →
-    operation_left o (store_of pool.images) ≤ MOST_STEPS

@@ -1,7 +1,7 @@
 -- The Decide of a call, behind the last step of what it asks and tries.
 use Rattle.std.proofs.Common.{◌≡◌, refl, sym, ap, ◌∙◌, subst, ℕ, Bool, true, false, not, List, [], Option, Some, None, IsTrue, ◌≤◌, arith}
 use Rattle.std.proofs.lemmas.Bool.{true≢false}
-use Rattle.kernel_laws.specs.call_decisions.declared.settled.Settled.TheVariants as settlements
+use Rattle.call_decisions.specs.declared.settled.Settled.TheVariants as settlements
 use Rattle.step_rules.specs.Known.{AllKnown}
 use Rattle.step_rules.specs.Searching.{WalksTo}
 use Rattle.step_rules.specs.Sound.{IsSoundWorld}

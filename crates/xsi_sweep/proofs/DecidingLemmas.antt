@@ -47,14 +47,3 @@ decides_removal c id r s filed known =
       };
       ordered = record { trials = tt; writes = ascend id r.key r.counter };
     }
-
--- where nothing more is asked, it writes under the names of the key that was known
-pub locked_within : (c : Caller) (id : ℕ) (stage : Stage) (key : Option ℕ) (s : State) → asked id stage ≡ None →
-    IsKeyed id key s → KnowsAt c id stage s → (name : LockName) → Contains (locked_at id stage) name →
-    Contains (names_of id key) name
-locked_within c id (Seeking sought) key s none keyed knows name (k, within, at) = absurd (omega (arith, within))
-locked_within c id (Refused errno) key s none keyed knows name (k, within, at) = absurd (omega (arith, within))
-locked_within c id (Keyed other) key s none keyed knows name has = absurd cc
-locked_within c id (Counting other queue) key s none keyed knows name has = absurd cc
-locked_within c id (Removing r) key s none keyed knows name has =
-    subst (λ (k : Option ℕ). Contains (names_of id k) name) (knows.key ∙ keyed.keeps knows.queue knows.alive) has

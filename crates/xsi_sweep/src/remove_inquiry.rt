@@ -61,18 +61,6 @@ impl RemoveInquiry {
             (Some(_), _) => name_behind(id, place - 1),
         }
     }
-
-    /// Where it decides, all names under which it writes are those of the key that it
-    /// knew between its phases.
-    pub fn keeps_to_its_names(&self)
-        ensures { (id : ℕ) (key : Option ℕ) (room : Roomful) (s : State) →
-            ⟦<RemoveInquiry as Inquiry>⟧.wanted id self.now ≡ None → IsKeyed id key s →
-            ⟦<RemoveInquiry as Inquiry>⟧.Knows id self.now room s → (name : LockName) →
-            Contains (⟦<RemoveInquiry as Inquiry>⟧.locked id self.now) name →
-            Contains (names_of id key) name }
-    {
-        let _ = self;
-    }
 }
 
 impl Inquiry for RemoveInquiry {
