@@ -1,10 +1,12 @@
 -- A file of which another payload of a root bucket comes to stand on the root page keeps its structure.
 use Rattle.std.proofs.Common.{ℕ, suc, ◌+◌, ◌≡◌, ◌<◌, ◌≤◌, ◌&&◌, nat_le, nat_lt, ◌==◌, Bool, List, [], ◌∷◌, ◌++◌, length, Ok, refl, sym, ap, subst, ◌∙◌, inl, inr, if◌then◌else◌, slice_index_or, arith}
 use Rattle.directory.specs.Reading as header
+use Rattle.directory.specs.declared.layout.TheConstants.{GREATEST_DEPTH}
+use Rattle.file_walk.specs.Order.{depth_of}
 use Rattle.directory.specs.Spelling.{header_bytes}
 use Rattle.bucket_page.specs.declared.page.PageKind.TheVariants as kinds
 use Rattle.bucket_page.specs.Spelling.{Spells}
-use Rattle.file_walk.specs.Files.{entries_of, entries_on, file_layout, file_of, header_on, pages_on, payload_on, said_by, said_on}
+use Rattle.file_walk.specs.Files.{entries_of, entries_in, entries_on, file_layout, file_of, header_on, pages_in, pages_on, payload_on, said_by, said_on}
 use Rattle.one_bucket_file.proofs.Names.{Covers, DIRECTORY_PAGES, FIRST_DIRECTORY_PAGE, HasHeader, HasRightSpares, Header, IsFreePage, IsHeader, IsPartition, IsRightChain, IsRightDirectory, IsRightPage, IsRightStructure, LEAST_PAGES, Links, PageKind, Pair, ROOT_PAGE, Range, Store, after_reading, bucket_of, cases_eq, cases_lt, entry_at, fault_of, flat_map, flat_map-cons, fun_ext, how_many, is_bucket, may_stand, next_at, number_on, page_at, page_in, pages_at, pages_length, range_at, range_of, root_bucket}
 use Rattle.one_bucket_file.proofs.PageLemmas.{directory_length, directory_of, directory_page, is_right, may_behind, page_low, page_past, said_is, stands_at}
 use Rattle.one_bucket_file.specs.Files.{ChangesRootPage, IsRoot}
@@ -116,7 +118,7 @@ module _ (old new : List (List ℕ)) (ns : List ℕ) (qs rs : List Pair) (struct
   long_too = omega (arith, long, as_long)
 
   entries_same : entries_on new ≡ entries_on old
-  unfolding entries_on
+  unfolding entries_in
   entries_same =
       let as_many = directory_length new long_too ∙ sym (directory_length old long) in
       made_same (λ page. entries_of (said_by page)) (directory_of new) (directory_of old) as_many (λ i within.
@@ -180,6 +182,8 @@ module _ (old new : List (List ℕ)) (ns : List ℕ) (qs rs : List Pair) (struct
           formed = ap (λ p. after_reading (fault_of p) (may_stand n (said_on new n))) (payload_same n inside other)
               ∙ ap (λ p. after_reading (fault_of (payload_on old n)) (may_stand n p)) (said_on_same n inside other)
               ∙ (structure.pages.pages n behind inside).formed;
+          shallow = subst (λ (p : PageKind). depth_of p ≤ GREATEST_DEPTH) (sym (said_on_same n inside other))
+              (structure.pages.pages n behind inside).shallow;
           spelled = subst (Spells (said_on new n)) (sym (payload_same n inside other))
               (subst (λ (p : PageKind). Spells p (payload_on old n)) (sym (said_on_same n inside other))
               (structure.pages.pages n behind inside).spelled);
