@@ -12,10 +12,11 @@ use Rattle.bucket_page.specs.declared.page.Malformed.{Malformed}
 use Rattle.bucket_page.specs.declared.page.PageKind.{PageKind}
 use Rattle.bucket_page.specs.declared.page.PageKind.TheVariants as kinds
 use Rattle.bucket_page.specs.Reading.{reading}
-use Rattle.file_walk.specs.Files.{said_by, pages_on}
+use Rattle.file_walk.specs.Files.{said_by, pages_in, pages_on}
 use Rattle.file_walk.specs.Readings.{IsPayloadOf}
-use Rattle.file_walk.proofs.PageLemmas.{said, is_malformed}
-use Rattle.file_walk.proofs.PagesLemmas.{pages_at, pages_length}
+use Rattle.file_walk.proofs.PageLemmas.{said}
+use Rattle.file_walk.proofs.Today.{is_malformed, right_formed}
+use Rattle.file_walk.proofs.Today.{pages_at, pages_length}
 use Rattle.file_check.specs.Words.{ROOT_PAGE, RecordKey, Bucket, Pair, Store, IsRightStructure, file_of, payload_on, has_bucket, bucket_at, bucket_of, is_bucket, CheckFault}
 use Rattle.file_check.specs.Fault.{IsOfMachineToo}
 use Rattle.file_check.specs.Records.{IsLivePage, IsFirstIn, IsWrongIn, AreRightIn, AreRightRecords, IsFirstWrongRecord}
@@ -45,7 +46,7 @@ module _ (content : List (List ℕ)) (n : ℕ) (payload : List ℕ) (live : IsLi
   no_refusal : (reason : Malformed) → Err reason ≡ reading payload → ⊥
   no_refusal reason e =
       let wrong = is_malformed content n payload read_so reason e in
-      let clash = sym live.right.formed ∙ wrong.2 in
+      let clash = sym (right_formed content n live.right) ∙ wrong.2 in
       absurd cc
 
   pub read_live : reading payload ≡ Ok (kinds.Bucket (bucket_at (file_of content) n))
@@ -70,7 +71,7 @@ is_read fault b e = absurd cc
 -- ---- the pages of a chain are buckets
 
 low_bucket : (content : List (List ℕ)) (n : ℕ) → n < ROOT_PAGE → has_bucket (file_of content) n ≡ false
-unfolding pages_on
+unfolding pages_in
 low_bucket content n small =
     let d : PageKind = kinds.Directory [] in
     let some : n < length (replicate ROOT_PAGE d) =

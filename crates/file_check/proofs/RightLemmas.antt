@@ -15,9 +15,10 @@ use Rattle.fields.specs.Numbers.{four_at}
 use Rattle.file_walk.specs.Files.{said_by, pages_on}
 use Rattle.file_walk.specs.Laws.{IsQuietFile}
 use Rattle.file_walk.specs.Order.{after_reading}
-use Rattle.file_walk.proofs.PagesLemmas.{pages_at}
-use Rattle.file_walk.proofs.SoundLemmas.{structure_sound}
-use Rattle.file_walk.proofs.FaultLemmas.{one_chain, right_has_no_fault as structure_has_no_fault}
+use Rattle.file_walk.proofs.Today.{pages_at}
+use Rattle.file_walk.proofs.Today.{structure_sound}
+use Rattle.file_walk.proofs.FaultLemmas.{one_chain}
+use Rattle.file_walk.proofs.Today.{right_has_no_fault as structure_has_no_fault}
 use Rattle.hash_file.specs.Chain.{IsPlaced}
 use Rattle.file_check.specs.declared.fault.CheckFault.TheVariants as faults
 use Rattle.file_check.specs.Words.{RecordKey, Bucket, Pair, Store, IsRightStructure, file_of, payload_on, said_on, bucket_at, bucket_of, is_bucket, CheckFault}

@@ -3,7 +3,7 @@ use Rattle.std.proofs.Common.{ℕ, ◌≡◌, ◌<◌, ◌≤◌, ◌⊎◌, ◌
 use Rattle.std.proofs.lemmas.Nat.{mod_below, pow_pos}
 use Rattle.std.proofs.lemmas.List.{get_or-take}
 use Rattle.file_walk.specs.Structure.{IsRightStructure}
-use Rattle.file_walk.proofs.SoundLemmas.{structure_sound}
+use Rattle.file_walk.proofs.Today.{structure_sound}
 use Rattle.hash_file.specs.Chain.{IsBucketOn, IsChain, pairs_on}
 use Rattle.hash_file.specs.Store.{range_at}
 use Rattle.hash_file.proofs.Lookups.{look_at}

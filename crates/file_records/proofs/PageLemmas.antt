@@ -13,10 +13,10 @@ use Rattle.bucket_page.specs.Keys.{is_same}
 use Rattle.bucket_page.specs.Reading.{answer, fault_of, page_in}
 use Rattle.bucket_page.specs.Records.{pair}
 use Rattle.bucket_page.proofs.KeyLaws.{same_is}
-use Rattle.file_walk.specs.Files.{pages_on, said_by, said_on}
+use Rattle.file_walk.specs.Files.{pages_in, pages_on, said_by, said_on}
 use Rattle.file_walk.specs.Order.{IsRightPage, after_reading}
 use Rattle.file_walk.specs.Structure.{IsRightStructure}
-use Rattle.file_walk.proofs.PagesLemmas.{pages_at, pages_length}
+use Rattle.file_walk.proofs.Today.{pages_at, pages_length}
 use Rattle.hash_file.specs.Store.{bucket_of, has_bucket, is_bucket}
 use Rattle.directory.specs.declared.layout.TheConstants.{ROOT_PAGE}
 use Rattle.file_records.specs.Words.{RecordKey, Pair, bucket_at, file_of, lookup, payload_on, reading}
@@ -24,7 +24,7 @@ use Rattle.file_records.specs.Words.{RecordKey, Pair, bucket_at, file_of, lookup
 -- ---- a page of the chain
 
 low_bucket : (content : List (List ℕ)) (n : ℕ) → n < ROOT_PAGE → has_bucket (file_of content) n ≡ false
-unfolding pages_on
+unfolding pages_in
 low_bucket content n small =
     let d : PageKind = kinds.Directory [] in
     let some : n < length (replicate ROOT_PAGE d) =

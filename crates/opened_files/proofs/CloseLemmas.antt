@@ -47,9 +47,9 @@ use Rattle.file_walk.specs.Files.{file_of, header_on, page_on, payload_on}
 use Rattle.file_walk.specs.Laws.{IsQuietFile}
 use Rattle.file_walk.specs.Order.{HasHeader, IsRightPage, is_directory}
 use Rattle.file_walk.specs.Structure.{IsRightStructure}
-use Rattle.file_walk.proofs.PageLemmas.{may_below}
-use Rattle.file_walk.proofs.PagesLemmas.{pages_at, pages_length}
-use Rattle.file_walk.proofs.SoundLemmas.{structure_sound}
+use Rattle.file_walk.proofs.Today.{may_below}
+use Rattle.file_walk.proofs.Today.{pages_at, pages_length}
+use Rattle.file_walk.proofs.Today.{structure_sound}
 use Rattle.record_walk.specs.Held.{Holds}
 use Rattle.record_walk.specs.Systems.{HasSystem}
 use Rattle.record_walk.specs.Words.{key_of_queue}
