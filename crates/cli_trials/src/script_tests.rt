@@ -70,11 +70,11 @@ ids 1 x 0
 fn is_wrong(rt: &impl Abort, alloc: Global, bytes: &[u8], line: u64) -> Result<(), ScriptError> {
     match read_script(alloc, bytes) {
         Err(ScriptError::NoMemory) => Err(ScriptError::NoMemory),
-        other => {
-            let named = other.err() == Some(ScriptError::WrongLine { line });
-            assert!(rt; named, "line {line}");
+        Err(ScriptError::WrongLine { line: named, .. }) => {
+            assert_eq!(rt; named, line);
             Ok(())
         }
+        Ok(_) => panic!(rt; "line {line}"),
     }
 }
 

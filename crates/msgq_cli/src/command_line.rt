@@ -49,6 +49,9 @@ pub enum Task<'a> {
     },
 }
 
+/// The version of the program, which its manual page and the changelog have too.
+const VERSION: &str = "0.2.0";
+
 /// Names of arguments.
 const FILE: &str = "FILE";
 
@@ -195,7 +198,7 @@ fn command<'a>(alloc: Global) -> Result<Command<'a>, AllocError> {
     )?;
     let stat = report_command(alloc, "stat", "Shows the queues of a file", STAT_PRINTS)?;
     Command::new(alloc, "msgq")
-        .version("0.1.0")
+        .version(VERSION)
         .about("Message queues (XSI, POSIX.1-2017) kept in one file")
         .after_help(ENDING)
         .disable_help_subcommand(true)
