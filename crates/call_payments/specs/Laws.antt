@@ -83,9 +83,3 @@ OwesNothingAtEnd = (hash : RecordKey → ℕ) (seat : ℕ) (names : List Lock) (
 -- those of a sweep, and those of a plan
 abbrev pub MOST_PAYMENT_STEPS : ℕ
 MOST_PAYMENT_STEPS = 1610979
-
-abbrev pub HasFewSteps : Type 0
-HasFewSteps = (hash : RecordKey → ℕ) (seat : ℕ) (names : List Lock) (p : Plan) (settled : Option Settled)
-    (due : Due) (records : Records) (pool : PoolState) (locks : Table) (change : Change) (s : Store) →
-    IsPaying hash seat names p (begun_payment hash settled due) records pool locks change →
-    payment_left p (begun_payment hash settled due) s ≤ MOST_PAYMENT_STEPS

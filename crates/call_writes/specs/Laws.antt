@@ -1,10 +1,9 @@
--- What is due and owed where a plan is begun, decided and over, and how many steps it has.
-use Rattle.std.specs.Prelude.{ℕ, ◌≡◌, ◌≤◌, ◌*◌, ◌+◌, take, Some, None}
-use Rattle.xsi_inquiry.specs.declared.write.TheConstants.{MAX_WRITES}
+-- What is due and owed where a plan is begun, decided and over.
+use Rattle.std.specs.Prelude.{ℕ, ◌≡◌, ◌+◌, take, Some, None}
 use Rattle.xsi_inquiry.specs.Writing.{Leads, inserted}
-use Rattle.call_writes.specs.Words.{RecordKey, IsSmall, Plan, Records, Store, overlaid, MOST_STEPS, Deed, Due, Trying, Full, writes_of, Writes, Writing, undoing}
+use Rattle.call_writes.specs.Words.{RecordKey, Plan, Records, overlaid, Deed, Due, Trying, Full, writes_of, Writes, Writing, undoing}
 use Rattle.call_writes.specs.Dues.{CanGoOn, after_deed, owes, next_deed}
-use Rattle.call_writes.specs.Views.{decided_at, writes_left_in}
+use Rattle.call_writes.specs.Views.{decided_at}
 
 -- once nothing is left to do behind the decision, nothing is owed
 abbrev pub OwesNothingAtEnd : Type 0
@@ -17,11 +16,6 @@ abbrev pub OwesItsWrites : Type 0
 OwesItsWrites = (p : Plan) (records : Records) (key : RecordKey) →
     (overlaid (owes p (Trying 0)) records key ≡ records key)
     × (owes p (Writing 0) ≡ Writes (writes_of p))
-
--- at rest the steps left are few, whatever is due
-abbrev pub HasFewSteps : Type 0
-HasFewSteps = (p : Plan) (due : Due) (records : Records) (s : Store) → IsSmall p → CanGoOn p due records →
-    writes_left_in p (record { due = due; access = None }) s ≤ MAX_WRITES * MOST_STEPS
 
 -- ---- the decision
 

@@ -11,8 +11,6 @@ mod writes;
 
 pub use deed::Deed;
 pub use due::Due;
-pub use laws::{
-    a_plan_has_few_steps, trials_stand_in_order, what_is_decided_is_owed, what_is_due_is_owed,
-};
+pub use laws::{trials_stand_in_order, what_is_decided_is_owed, what_is_due_is_owed};
 pub use plan::PlanOf;
 pub use writes::CallWrites;

@@ -190,10 +190,7 @@ fn drive<K: PseudoKey + Copy>(kernel: &mut Kernel<MemDevice, K>, seat: u8) -> St
 }
 
 /// What is counted of the last search of a seat; none where there is no such seat.
-fn searched<K: PseudoKey + Copy>(
-    kernel: &Kernel<MemDevice, K>,
-    seat: u8,
-) -> Option<(u32, u32)> {
+fn searched<K: PseudoKey + Copy>(kernel: &Kernel<MemDevice, K>, seat: u8) -> Option<(u32, u32)> {
     if seat == 0 || seat > kernel.seats() {
         return None;
     }

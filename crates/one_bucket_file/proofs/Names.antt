@@ -4,8 +4,8 @@ pub use Rattle.bucket_page.specs.Records.{Pair, ascend, lookup}
 pub use Rattle.bucket_page.specs.declared.page.PageKind.{PageKind}
 pub use Rattle.bucket_page.specs.declared.record_key.RecordKey.{RecordKey}
 pub use Rattle.directory.specs.declared.header.Header.{Header}
-pub use Rattle.directory.specs.declared.layout.TheConstants.{DIRECTORY_PAGES, FIRST_DIRECTORY_PAGE, GREATEST_DEPTH, LEAST_PAGES, LOCAL_DEPTHS, ROOT_PAGE}
-pub use Rattle.file_walk.proofs.Today.{pages_at, pages_length}
+pub use Rattle.directory.specs.declared.layout.TheConstants.{GREATEST_DEPTH, LEAST_PAGES, LOCAL_DEPTHS, ROOT_PAGE}
+pub use Rattle.file_walk.proofs.Today.{pages_length}
 pub use Rattle.file_walk.proofs.Today.{structure_sound}
 pub use Rattle.file_walk.specs.Laws.{IsQuietFile}
 pub use Rattle.file_walk.specs.Structure.{IsRightStructure}

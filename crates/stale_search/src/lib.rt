@@ -14,8 +14,6 @@ mod search;
 pub use approach::Approach;
 pub use file_pages;
 pub use file_pages::buffer_pool;
-pub use laws::{
-    a_search_counts_few_hops, machines_keep_what_their_callers_know,
-};
+pub use laws::{a_search_counts_few_hops, machines_keep_what_their_callers_know};
 pub use place::{ApproachPlace, SearchPlace};
 pub use search::Search;
