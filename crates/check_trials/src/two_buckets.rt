@@ -4,7 +4,7 @@ ghost use Rattle.std.specs.Prelude.{◌≡◌};
 
 use bucket_page::{NumberKey, write_bucket, write_free};
 use directory::{Header, LOCAL_DEPTHS, PAGE_ENTRIES, write_directory, write_header};
-use file_check::{CheckFault, check_records};
+use file_check::{CheckFault, Checked, check};
 use file_walk::{StructureFault, check_structure};
 use page_device::{MemDevice, PAYLOAD_BYTES, Page, PageDevice, Payload, seal};
 use std::alloc::Global;
@@ -94,16 +94,17 @@ fn number(alloc: Global, device: &mut MemDevice) -> u8 {
     }
 }
 
-/// So with the records too.
-fn records_number(alloc: Global, device: &mut MemDevice) -> u8 {
-    match check_records(alloc, device, &NumberKey) {
-        Ok(_) => 0,
+/// So of a whole check: 73 where each record by itself is right, since they are no system's.
+fn whole_number(alloc: Global, device: MemDevice) -> u8 {
+    let Checked { device, found } = check(alloc, device, NumberKey);
+    let found = match found {
         Err(CheckFault::Structure(StructureFault::NoMemory)) => {
-            match check_records(alloc, device, &NumberKey) {
-                Ok(_) => 0,
-                Err(fault) => fault.number(),
-            }
+            check(alloc, device, NumberKey).found
         }
+        found => found,
+    };
+    match found {
+        Ok(_) => 0,
         Err(fault) => fault.number(),
     }
 }
@@ -222,7 +223,7 @@ fn key_record(page: u32, kind: u8, number: u8, id: u8) -> [Edit; 6] {
 fn each_record_has_its_place_and_its_form(rt: HostRuntime) -> Result<(), Fail> {
     let rows = [
         // the Key of key 7 and queue 1 on page 258, where odd numbers stand; on page 257
-        (258, key_record(258, 2, 7, 1), 0),
+        (258, key_record(258, 2, 7, 1), 73),
         (257, key_record(257, 2, 7, 1), 74),
         // of no kind, at its place and elsewhere; of no queue
         (257, key_record(257, 6, 0, 1), 43),
@@ -232,7 +233,7 @@ fn each_record_has_its_place_and_its_form(rt: HostRuntime) -> Result<(), Fail> {
     for (page, edits, want) in &rows {
         let mut changed = device(&rt, rt.alloc(), PAGES)?;
         changed.write(*page, &page_with(&rt, *page, edits))?;
-        let told = records_number(rt.alloc(), &mut changed);
+        let told = whole_number(rt.alloc(), changed);
         assert_eq!(rt; told, *want, "{edits:?}");
     }
     Ok(())

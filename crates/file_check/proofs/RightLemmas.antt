@@ -1,5 +1,5 @@
 -- A right structure whose records are all right is a sound file; and nothing is wrong with it.
-use Rattle.std.proofs.Common.{ℕ, ◌≡◌, ◌==◌, Bool, true, false, List, [], ◌∷◌, Option, Some, None, if◌then◌else◌, ◌⊎◌, inl, inr, refl, sym, ap, subst, ◌∙◌}
+use Rattle.std.proofs.Common.{ℕ, ◌≡◌, ◌==◌, Bool, true, false, List, [], ◌∷◌, Option, Some, None, if◌then◌else◌, refl, sym, ap, subst, ◌∙◌}
 use Rattle.std.specs.List.{All, Contains}
 use Rattle.std.specs.Prelude.{slice_index, slice_index_or}
 use Rattle.directory.specs.declared.layout.TheConstants.{DIRECTORY}
@@ -23,8 +23,7 @@ use Rattle.hash_file.specs.Chain.{IsPlaced}
 use Rattle.file_check.specs.declared.fault.CheckFault.TheVariants as faults
 use Rattle.file_check.specs.Words.{RecordKey, Bucket, Pair, Store, IsRightStructure, file_of, payload_on, said_on, bucket_at, bucket_of, is_bucket, CheckFault}
 use Rattle.file_check.specs.Records.{IsLivePage, IsRightRecord, IsFirstIn, IsWrongIn, AreRightIn, AreRightRecords, IsFirstWrongRecord}
-use Rattle.file_check.specs.Fault.{IsOfMachineToo}
-use Rattle.file_check.specs.Right.{IsRightFile, IsFirstFault, IsFirstWrongThing, IsWrongAmongRecords}
+use Rattle.file_check.specs.Right.{IsRightFile, IsFirstWrongThing, IsWrongAmongRecords}
 use Rattle.file_check.proofs.RecordLemmas.{live_page}
 
 -- ---- the keys of a page ascend, as its spelling says
@@ -140,14 +139,3 @@ right_has_no_fault hash content ns (faults.BadRecord page kind queue number) rig
     right_not_wrong hash (file_of content) ns (faults.BadRecord page kind queue number) right.records
     (on_chain hash content ns (faults.BadRecord page kind queue number) right.structure h)
 right_has_no_fault hash content ns fault right h = absurd h
-
--- what is answered of the records, once the structure is right
-pub records_fault : (hash : RecordKey → ℕ) (content : List (List ℕ)) (ns : List ℕ) (fault : CheckFault) →
-    IsRightStructure content ns → IsOfMachineToo fault ⊎ IsFirstWrongRecord hash (file_of content) ns fault →
-    IsFirstFault hash content fault
-records_fault hash content ns fault r (inl machine) = inl machine
-records_fault hash content ns (faults.Misplaced page kind queue number) r (inr w) =
-    inr (record { chain = ns; structure = r; wrong = w })
-records_fault hash content ns (faults.BadRecord page kind queue number) r (inr w) =
-    inr (record { chain = ns; structure = r; wrong = w })
-records_fault hash content ns fault r (inr w) = absurd w.wrong

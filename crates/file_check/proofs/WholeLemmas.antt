@@ -13,7 +13,7 @@ use Rattle.file_records.specs.Files.{HasRecords, Source, source}
 use Rattle.file_check.specs.Fault.{IsOfMachineToo, of_walk}
 use Rattle.file_check.specs.Gathered.{AreJustOf}
 use Rattle.file_check.specs.Ids.{HasChain}
-use Rattle.file_check.specs.Right.{IsFirstFault, IsRightFile, IsRightFileOf}
+use Rattle.file_check.specs.Right.{IsRightFile, IsRightFileOf}
 use Rattle.file_check.specs.Records.{AreRightIn}
 use Rattle.file_check.specs.Strays.{AreNeeded, IsFirstStray}
 use Rattle.file_check.specs.Whole.{IsFileOf, IsToldOf, IsWrongBeside, IsWrongTogether, IsWrongWith}
@@ -45,12 +45,6 @@ module _ (x : Source) (content : List (List ℕ)) (honest : Bool) (count : ℕ) 
 
   pub is_honest_back : IsTrue honest → IsTrue x.honest
   is_honest_back h = subst (λ (y : Source). IsTrue y.honest) (sym is) h
-
--- what the first tests tell
-pub first_told : (hash : RecordKey → ℕ) (content : List (List ℕ)) (fault : CheckFault) →
-    IsFirstFault hash content fault → IsToldOf hash content fault
-first_told hash content fault (inl machine) = inl machine
-first_told hash content fault (inr w) = inr (inl w)
 
 -- what the tests of the structure tell
 pub structure_told : (hash : RecordKey → ℕ) (content : List (List ℕ)) (fault : StructureFault) →

@@ -1,10 +1,9 @@
 -- A file whose structure is right and each of whose records is right by itself; and the first thing that is wrong.
-use Rattle.std.specs.Prelude.{ℕ, List, ◌⊎◌}
+use Rattle.std.specs.Prelude.{ℕ, List}
 use Rattle.file_walk.specs.Laws.{IsQuietFile}
 use Rattle.file_walk.specs.Structure as walk
 use Rattle.file_check.specs.declared.fault.CheckFault.TheVariants as faults
 use Rattle.file_check.specs.Words.{CheckFault, IsRightStructure, IsStructureOf, RecordKey, Store, file_of}
-use Rattle.file_check.specs.Fault.{IsOfMachineToo}
 use Rattle.file_check.specs.Records.{AreRightRecords, IsFirstWrongRecord}
 
 -- these pages are its chain
@@ -31,10 +30,6 @@ IsFirstWrongThing hash content (faults.Misplaced page kind queue number) =
 IsFirstWrongThing hash content (faults.BadRecord page kind queue number) =
     IsWrongAmongRecords hash content (faults.BadRecord page kind queue number)
 IsFirstWrongThing hash content fault = ⊥
-
--- what is answered: it is that, unless the machine lacked something
-abbrev pub IsFirstFault : (RecordKey → ℕ) → List (List ℕ) → CheckFault → Type 0
-IsFirstFault hash content fault = IsOfMachineToo fault ⊎ IsFirstWrongThing hash content fault
 
 -- ---- laws
 
