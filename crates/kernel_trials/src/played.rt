@@ -115,7 +115,9 @@ fn rows_are_played_as_events(rt: HostRuntime) -> Result<(), Fail> {
         for (outcome, want) in outcomes.iter().zip(&wants) {
             assert!(rt; is_come_to(outcome, *want), "{outcome:?}");
         }
-        assert!(rt; is_that_of_lists(rt.alloc(), &close(&rt, kernel).journal));
+        let journal = close(&rt, kernel).journal;
+        assert_eq!(rt; journal.len(), 3);
+        assert!(rt; is_that_of_lists(rt.alloc(), &journal));
     }
     Ok(())
 }

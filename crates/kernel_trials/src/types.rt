@@ -1,5 +1,5 @@
-//! The types of a queue as they lie in the file, by docs/FORMAT.md: each record is the length of its
-//! value, its kind, queue and type, and then the first and the last serial and the types next to it.
+//! The types of a queue as they lie in the file, by docs/FORMAT.md. Of each record: the length of
+//! its value, its kind, queue and type, the first and last serial, and the types next to it.
 
 use crate::asks::Asks::Receive;
 use crate::cases::Left::{Entries, Holds, Lacks};
