@@ -5,6 +5,6 @@
 #[cfg(test)]
 mod systems;
 #[cfg(test)]
-mod tests;
+mod two_buckets;
 #[cfg(test)]
 mod two_queues;

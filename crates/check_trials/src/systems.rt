@@ -1,6 +1,6 @@
 //! The file of two queues, with each change of it alone, sealed again.
 
-use crate::tests::{Edit, NONE, PAGES, payload_of};
+use crate::two_buckets::{PAGES, payload_of, two_buckets};
 use crate::two_queues::{Buckets, adds, puts, takes, two_queues};
 use bucket_page::{Malformed, NumberKey, RecordKey, write_tombstone};
 use file_check::{CheckFault, Checked, check};
@@ -11,6 +11,13 @@ use queue_records::{Record, TypeEntry};
 use std::alloc::Global;
 use std::process::Abort;
 use std::test::Fail;
+
+/// A byte that is changed: its page, its place in the payload, and what it becomes.
+#[derive(Clone, Copy, Debug)]
+struct Edit(u32, usize, u8);
+
+/// No change.
+const NONE: Edit = Edit(PAGES, 0, 0);
 
 /// Writes a page of the file, changed and sealed.
 fn writes(
@@ -37,7 +44,7 @@ fn writes(
 
 /// A device with the file.
 fn device(rt: &impl Abort, alloc: Global, buckets: &Buckets) -> Result<MemDevice, Fail> {
-    let mut device = crate::tests::device(rt, alloc, PAGES)?;
+    let mut device = two_buckets(alloc)?;
     writes(rt, &mut device, buckets, 257, &[])?;
     writes(rt, &mut device, buckets, 258, &[])?;
     Ok(device)
@@ -99,47 +106,48 @@ fn tells(rt: &impl Abort, alloc: Global, rows: &[([Edit; 2], u8)]) -> Result<(),
     Ok(())
 }
 
-#[test]
-fn a_changed_chain_of_a_system_has_its_number(rt: HostRuntime) -> Result<(), Fail> {
-    let rows = [
-        // nothing; entry 2 is 9999, which nothing reads
-        ([NONE, NONE], 0),
-        ([Edit(1, 26, 0x27), Edit(1, 27, 0x0f)], 0),
-        // the next of 258 is 257, 5, 259, 288; its pattern is 0
-        ([Edit(258, 10, 1), Edit(258, 11, 1)], 70),
-        ([Edit(258, 11, 5), NONE], 70),
-        ([Edit(258, 10, 1), Edit(258, 11, 3)], 70),
-        ([Edit(258, 10, 1), Edit(258, 11, 0x20)], 70),
-        ([Edit(258, 7, 0), NONE], 70),
-    ];
-    tells(&rt, rt.alloc(), &rows)
-}
+const HEADERS: [([Edit; 2], u8); 5] = [
+    // the version, the magic, the depth, the number of pages
+    ([Edit(0, 1, 1), NONE], 42),
+    ([Edit(0, 4, b'm'), NONE], 41),
+    ([Edit(0, 2, 18), NONE], 41),
+    ([Edit(0, 15, 31), NONE], 41),
+    ([Edit(0, 15, 33), NONE], 22),
+];
+
+const CHAINS: [([Edit; 2], u8); 11] = [
+    // nothing; entry 2 is 9999, which nothing reads
+    ([NONE, NONE], 0),
+    ([Edit(1, 26, 0x27), Edit(1, 27, 0x0f)], 0),
+    // the next of 258 is 257, 5, 259, 288; its pattern is 0
+    ([Edit(258, 10, 1), Edit(258, 11, 1)], 70),
+    ([Edit(258, 11, 5), NONE], 70),
+    ([Edit(258, 10, 1), Edit(258, 11, 3)], 70),
+    ([Edit(258, 10, 1), Edit(258, 11, 0x20)], 70),
+    ([Edit(258, 7, 0), NONE], 70),
+    // the first free page is 0; the link of 287 is 259, 288; page 287 is a tombstone
+    ([Edit(0, 18, 0), Edit(0, 19, 0)], 71),
+    ([Edit(287, 6, 1), Edit(287, 7, 3)], 71),
+    ([Edit(287, 6, 1), Edit(287, 7, 0x20)], 71),
+    ([Edit(287, 0, 4), NONE], 71),
+];
+
+const ENTRIES: [([Edit; 2], u8); 6] = [
+    // entry 1 is 257; the depth is 0, 2; there are 3 buckets of depth 1
+    ([Edit(1, 23, 1), NONE], 72),
+    ([Edit(0, 2, 0), NONE], 72),
+    ([Edit(0, 2, 2), NONE], 72),
+    ([Edit(0, 27, 3), NONE], 72),
+    // the qnum of queue 1 is 3; behind its message 4 stands its message 1
+    ([Edit(257, 70, 3), NONE], 73),
+    ([Edit(257, 1431, 1), NONE], 73),
+];
 
 #[test]
-fn a_changed_free_list_of_a_system_has_its_number(rt: HostRuntime) -> Result<(), Fail> {
-    let rows = [
-        // the first free page is 0; the link of 287 is 259, 288; page 287 is a tombstone
-        ([Edit(0, 18, 0), Edit(0, 19, 0)], 71),
-        ([Edit(287, 6, 1), Edit(287, 7, 3)], 71),
-        ([Edit(287, 6, 1), Edit(287, 7, 0x20)], 71),
-        ([Edit(287, 0, 4), NONE], 71),
-    ];
-    tells(&rt, rt.alloc(), &rows)
-}
-
-#[test]
-fn a_changed_entry_or_record_of_a_system_has_its_number(rt: HostRuntime) -> Result<(), Fail> {
-    let rows = [
-        // entry 1 is 257; the depth is 0, 2; there are 3 buckets of depth 1
-        ([Edit(1, 23, 1), NONE], 72),
-        ([Edit(0, 2, 0), NONE], 72),
-        ([Edit(0, 2, 2), NONE], 72),
-        ([Edit(0, 27, 3), NONE], 72),
-        // the qnum of queue 1 is 3; behind its message 4 stands its message 1
-        ([Edit(257, 70, 3), NONE], 73),
-        ([Edit(257, 1431, 1), NONE], 73),
-    ];
-    tells(&rt, rt.alloc(), &rows)
+fn a_changed_page_has_its_number(rt: HostRuntime) -> Result<(), Fail> {
+    tells(&rt, rt.alloc(), &HEADERS)?;
+    tells(&rt, rt.alloc(), &CHAINS)?;
+    tells(&rt, rt.alloc(), &ENTRIES)
 }
 
 #[test]
@@ -151,8 +159,9 @@ fn a_malformed_page_of_a_system_has_its_reason(rt: HostRuntime) -> Result<(), Fa
         ([Edit(258, 30, 9), Edit(258, 49, 7)], 258, Malformed::Order),
         ([Edit(258, 4063, 1), NONE], 258, Malformed::Padding),
         ([Edit(258, 0, 6), NONE], 258, Malformed::Kind),
-        // page 2 is a free page
+        // page 2 is a free page, and free page 287 one of the directory
         ([Edit(2, 0, 5), NONE], 2, Malformed::Kind),
+        ([Edit(287, 0, 2), NONE], 287, Malformed::Kind),
     ];
     let buckets = two_queues(&rt);
     let mut file = device(&rt, rt.alloc(), &buckets)?;
@@ -212,14 +221,17 @@ fn a_record_too_many_or_too_few_has_its_number(rt: HostRuntime) -> Result<(), Fa
     adds(&rt, &mut typed, &Record::Type(stray));
     assert_eq!(rt; told(&rt, rt.alloc(), &typed)?, 74);
 
-    let mut unknown = whole;
-    let sixth = RecordKey {
-        kind: 6,
-        queue: 0,
-        number: 0,
-    };
-    puts(&rt, &mut unknown.even, &sixth, &[0, 0, 0, 1]);
-    assert_eq!(rt; told(&rt, rt.alloc(), &unknown)?, 43);
+    // a Key of no queue; a kind that is none, at its place and elsewhere
+    for (kind, number, id, want) in [(2, 12, 0, 43), (6, 0, 1, 43), (6, 7, 1, 74)] {
+        let mut more = whole;
+        let key = RecordKey {
+            kind,
+            queue: 0,
+            number,
+        };
+        puts(&rt, &mut more.even, &key, &[0, 0, 0, id]);
+        assert_eq!(rt; told(&rt, rt.alloc(), &more)?, want, "{kind} {number}");
+    }
 
     let mut uncounted = whole;
     let counter = RecordKey {
@@ -233,18 +245,33 @@ fn a_record_too_many_or_too_few_has_its_number(rt: HostRuntime) -> Result<(), Fa
 }
 
 #[test]
-fn a_file_of_a_system_is_one_page_longer_or_unsealed(rt: HostRuntime) -> Result<(), Fail> {
+fn a_cut_file_a_long_one_and_a_changed_page_are_refused(rt: HostRuntime) -> Result<(), Fail> {
+    let mut cut = MemDevice::new(rt.alloc());
+    for page in 0..PAGES {
+        let Checked { device, found } = finds(rt.alloc(), cut);
+        assert_eq!(rt; number(&rt, &found), 22, "{page} pages");
+        cut = device;
+        cut.extend(&seal(page, &payload_of(page)))?;
+    }
     let buckets = two_queues(&rt);
+    let mut file = device(&rt, rt.alloc(), &buckets)?;
+    let mut changed = seal(258, &buckets.odd);
+    changed[2000] ^= 1;
+    for (page, bytes) in [
+        (258, changed),
+        (256, seal(257, &payload_of(256))),
+        (1, seal(0, &payload_of(1))),
+        (0, seal(1, &payload_of(0))),
+    ] {
+        file.write(page, &bytes)?;
+        let Checked { device, found } = finds(rt.alloc(), file);
+        file = device;
+        let want = CheckFault::Structure(StructureFault::BadDigest { page });
+        assert!(rt; found.err() == Some(want), "page {page}");
+    }
     let mut long = device(&rt, rt.alloc(), &buckets)?;
     long.extend(&seal(PAGES, &payload_of(PAGES)))?;
     let Checked { device: _, found } = finds(rt.alloc(), long);
     assert_eq!(rt; number(&rt, &found), 41);
-
-    let mut unsealed = device(&rt, rt.alloc(), &buckets)?;
-    let mut page = seal(258, &buckets.odd);
-    page[2000] ^= 1;
-    unsealed.write(258, &page)?;
-    let Checked { device: _, found } = finds(rt.alloc(), unsealed);
-    assert_eq!(rt; number(&rt, &found), 21);
     Ok(())
 }

@@ -4,7 +4,7 @@ ghost use Rattle.std.specs.Prelude.{◌≡◌};
 ghost use Rattle.bucket_page.specs.Changes.{IsBucketPage};
 ghost use Rattle.bucket_page.specs.Reading.{bucket_in};
 
-use crate::tests::payload_of;
+use crate::two_buckets::payload_of;
 use bucket_page::{BucketView, PageKind, RecordKey, put, read_page, remove};
 use page_device::Payload;
 use queue_records::{Body, Counter, KeyEntry, MessageEntry, QueueEntry, Record, TypeEntry, Value};

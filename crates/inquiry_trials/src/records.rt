@@ -8,7 +8,7 @@ use std::test::Fail;
 use xsi_inquiry::{Inquiry, Room};
 use xsi_receive::ReceiveInquiry;
 
-/// Queue 1 of key 7 behind four sends: serials 1 to 4 of types 5, 2, 3 and 2, of three bytes each.
+/// Queue 1 of key 7 after four sends: serials 1 to 4 of types 5, 2, 3 and 2, of three bytes each.
 pub const HELD: QueueEntry = QueueEntry {
     id: 1,
     key: Some(7),

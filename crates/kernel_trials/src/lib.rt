@@ -14,11 +14,11 @@ mod drawn;
 #[cfg(test)]
 mod finding;
 #[cfg(test)]
-mod long_queues;
-#[cfg(test)]
 mod no_room;
 #[cfg(test)]
 mod plain;
+#[cfg(test)]
+mod played;
 #[cfg(test)]
 mod racing;
 #[cfg(test)]
@@ -27,5 +27,7 @@ mod rows;
 mod scripts;
 #[cfg(test)]
 mod splitting;
+#[cfg(test)]
+mod types;
 #[cfg(test)]
 mod waiting;

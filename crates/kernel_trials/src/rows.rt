@@ -60,8 +60,6 @@ pub enum Row {
     Drives(u8, Want),
     /// A call begins, and its steps come to this.
     Calls(u8, Asks, Want),
-    /// A call is made so many times, and answered each time.
-    Repeats(u8, Asks, u32),
     /// So many steps of seat 1, behind each of which it blocks seat 2.
     Blocks(u32),
     /// All seats make steps by turns, until the first ones have each been answered this.
@@ -132,7 +130,6 @@ fn does<K: PseudoKey + Copy>(
         Row::Calls(seat, asks, want) => {
             begins(alloc, kernel, seat, asks)? && is_wanted(&drive(kernel, seat), want)
         }
-        Row::Repeats(seat, asks, many) => repeats(alloc, kernel, seat, asks, many)?,
         Row::Blocks(many) => blocks(kernel, many),
         Row::Turns(wants) => take_turns(kernel, wants),
         Row::Stops => {
@@ -220,22 +217,6 @@ fn count<K: PseudoKey + Copy>(
     None
 }
 
-/// Whether a call is answered each of so many times.
-fn repeats<K: PseudoKey + Copy>(
-    alloc: Global,
-    kernel: &mut Kernel<MemDevice, K>,
-    seat: u8,
-    asks: Asks,
-    many: u32,
-) -> Result<bool, Fail> {
-    for _ in 0..many {
-        if !begins(alloc, kernel, seat, asks)? || !is_answered(&drive(kernel, seat)) {
-            return Ok(false);
-        }
-    }
-    Ok(true)
-}
-
 /// Whether seat 1 moves so many times, and blocks seat 2 each time.
 fn blocks<K: PseudoKey + Copy>(kernel: &mut Kernel<MemDevice, K>, many: u32) -> bool {
     for _ in 0..many {
@@ -271,7 +252,7 @@ fn is_answered(told: &Step) -> bool {
 }
 
 /// Whether a step comes to what is wanted.
-fn is_wanted(told: &Step, want: Want) -> bool {
+pub fn is_wanted(told: &Step, want: Want) -> bool {
     match (told, want) {
         (Step::Moved(kind), Want::Moved(wanted)) => *kind == wanted,
         (Step::Blocked(other), Want::Blocked(wanted)) => *other == wanted,

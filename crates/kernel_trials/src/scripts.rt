@@ -41,7 +41,7 @@ const ONE_MESSAGE: [Row; 4] = [
     Calls(1, Stat(1), Info(USED)),
 ];
 
-const FOUR_SENT: [Row; 5] = [
+pub const FOUR_SENT: [Row; 5] = [
     Calls(1, Get(7), Id(1)),
     Calls(1, Send(1, 5, "a"), Sent(1)),
     Calls(1, Send(1, 2, "b"), Sent(2)),

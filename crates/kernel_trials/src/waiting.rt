@@ -12,7 +12,7 @@ use std::test::Fail;
 use step_rules::Kind;
 
 /// A Receive waits for a message of an empty queue.
-const WAITS: [Row; 5] = [
+pub const WAITS: [Row; 5] = [
     Steps(1, Idle),
     Calls(1, Get(7), Id(1)),
     Begins(1, Receive(1, 0)),
@@ -20,15 +20,15 @@ const WAITS: [Row; 5] = [
     Drives(1, Waiting),
 ];
 
-const SENT: [Row; 3] = [
+pub const SENT: [Row; 3] = [
     Calls(2, Send(1, 1, "a"), Sent(1)),
     Drives(1, Received(1)),
     Steps(1, Idle),
 ];
 
-const REMOVED: [Row; 2] = [Calls(2, Remove(1), Done), Drives(1, Refused(Errno::EIDRM))];
+pub const REMOVED: [Row; 2] = [Calls(2, Remove(1), Done), Drives(1, Refused(Errno::EIDRM))];
 
-const STOPPED: [Row; 3] = [Stops, Stops, Drives(1, Refused(Errno::EINTR))];
+pub const STOPPED: [Row; 3] = [Stops, Stops, Drives(1, Refused(Errno::EINTR))];
 
 /// A Receive and a Send wait. Once the system is stopped both are refused, and so is a new call
 /// that would wait. One that need not wait is answered as ever.
@@ -89,22 +89,7 @@ const WOKEN_EARLY: [Row; 7] = [
     Drives(1, Waiting),
 ];
 
-const CASES: [Case; 7] = [
-    Case {
-        pages: 258,
-        rows: &[&WAITS, &SENT],
-        left: &[Entries(3)],
-    },
-    Case {
-        pages: 258,
-        rows: &[&WAITS, &REMOVED],
-        left: &[Entries(3)],
-    },
-    Case {
-        pages: 258,
-        rows: &[&WAITS, &STOPPED],
-        left: &[Entries(3)],
-    },
+const CASES: [Case; 4] = [
     Case {
         pages: 258,
         rows: &[&BOTH],
