@@ -20,7 +20,7 @@ use Rattle.call_payments.proofs.RecordLemmas.{none_swept, stands_none, without_a
 use Rattle.call_payments.specs.declared.payment.Stage.TheVariants as stages
 use Rattle.call_payments.specs.Words.{RecordKey, PoolState, Table, Lock, Change, Store, store_of, StandsAt, Exclusive, LockName, kind_of, guard_of, Call, Caller, State, record_of, IsFiled, Sweep, IsSmall, Plan, Records, inserted, writes_of, without_swept, AreAlike, Writing, Due, CallWrites, CanGoOn, decided_at, owes, overlaid, Settled}
 use Rattle.call_payments.specs.Laws.{HasTried, MOST_PAYMENT_STEPS, OwesNothingAtEnd, PaysWhatIsDecided, WillPay}
-use Rattle.call_payments.specs.Payments.{begun_behind, begun_by, decided, payment_left, sweep_of}
+use Rattle.call_payments.specs.Payments.{begun_behind, begun_by, begun_payment, decided, payment_left, sweep_of}
 use Rattle.call_payments.specs.Paying.{IsPaying}
 
 or_true : (a b : Bool) → b ≡ true → (a || b) ≡ true
