@@ -1,5 +1,5 @@
 -- A kernel that is opened is whole, and one at whose seat a call begins.
-use Rattle.std.proofs.Common.{◌≡◌, refl, sym, ap, ◌∙◌, subst, ℕ, zero, suc, ◌+◌, ◌-◌, ◌≤◌, ◌<◌, false, inl, inr, List, [], ◌∷◌, Option, Some, None, length, map, replicate, slice_index_or, slice_set, arith}
+use Rattle.std.proofs.Common.{◌≡◌, refl, sym, ap, ◌∙◌, subst, ℕ, zero, suc, ◌+◌, ◌-◌, ◌≤◌, ◌<◌, false, true, inl, inr, List, [], ◌∷◌, ◌++◌, Option, Some, None, length, length-append, map, replicate, slice_index_or, slice_set, arith}
 use Rattle.std.specs.Prelude.{sum_by}
 use Rattle.std.proofs.lemmas.Bool.{cases_eq}
 use Rattle.std.proofs.lemmas.List.{length-replicate}
@@ -17,6 +17,11 @@ use Rattle.interleaving_core.specs.Kernel.{IsCallOf, IsWhole, KernelState, call_
 use Rattle.interleaving_core.specs.declared.kernel.TheConstants.{MAX_DECIDED}
 use Rattle.interleaving_core.proofs.PlaceLemmas.{Seats, all_due, at_other, at_same, due_with, few_due, length-with_call, less, rows_with, stop_due, with_own, with_place}
 use Rattle.interleaving_core.proofs.KernelLemmas.{as_many, its_row}
+use Rattle.interleaving_core.proofs.PastLemmas.{begun_keeps, kept_beside}
+use Rattle.interleaving_core.proofs.TurnLemmas.{new_unanswered}
+use Rattle.interleaving_core.specs.Past.{KeepsJournal}
+use Rattle.queue_model.specs.declared.entry.Entry.TheVariants.{Stopped}
+use Rattle.std.specs.Option.{is_some}
 
 -- ---- a call begins
 
@@ -30,7 +35,7 @@ caller_there callers (suc place) some within c is =
 
 module _ {K : Type 0} (seat : ℕ) (caller : Caller) (call : Call) (a : ActiveView) (old new : KernelState K)
     (whole : IsWhole old) (is : IsSeat old.locks seat) (free : call_at old.seats seat ≡ None)
-    (sits : caller_at old.callers seat ≡ Some caller) (begun : HasBegun caller call a)
+    (sits : caller_at old.callers seat ≡ Some caller) (begun : HasBegun caller call (length old.journal) a)
     (made : new ≡ record old { seats = with_call old.seats seat (Some a); room = new.room })
     (memory : length old.journal + (length old.seats + 1) ≤ new.room) (more : entries_of old ≤ MAX_DECIDED) where
   within_seats : seat ≤ length old.seats
@@ -69,6 +74,14 @@ module _ {K : Type 0} (seat : ℕ) (caller : Caller) (call : Call) (a : ActiveVi
         let then = due_then in
         let one = few_due (Some a) in
         omega (arith, then, one, more);
+    past = λ other. elim (cases_eq other seat) [
+      | inl e ↦ subst (λ (n : ℕ). KeepsJournal n old.journal (call_at changed.seats n)) (sym e)
+          (subst (KeepsJournal seat old.journal) (sym (at_same old.seats seat (Some a) is.0 within_seats))
+          (begun_keeps seat caller call old.journal a begun (new_unanswered a.machine begun.begins.new)))
+      | inr ne ↦ subst (KeepsJournal other old.journal) (sym (at_other old.seats seat other (Some a) ne))
+          (whole.past other)
+    ];
+    blamed = whole.blamed;
     counted = whole.counted ∙ sym (length-with_call old.seats seat (Some a));
   }
 
@@ -76,7 +89,7 @@ module _ {K : Type 0} (seat : ℕ) (caller : Caller) (call : Call) (a : ActiveVi
   whole_begun = subst IsWhole (sym made) begins_whole
 
 pub has_call : {K : Type 0} (seat : ℕ) (caller : Caller) (call : Call) (a : ActiveView) (old new : KernelState K) →
-    MayBegin seat old → caller_at old.callers seat ≡ Some caller → HasBegun caller call a →
+    MayBegin seat old → caller_at old.callers seat ≡ Some caller → HasBegun caller call (length old.journal) a →
     new ≡ record old { seats = with_call old.seats seat (Some a); room = new.room } → HasCall seat call old new
 has_call seat caller call a old new may sits begun made = record {
   may = may;
@@ -87,10 +100,10 @@ has_call seat caller call a old new may sits begun made = record {
   is = made;
 }
 
-pub begun_at : (caller : Caller) (call : Call) (at : Option ActiveView) → HasBegunAt caller call at →
-    (a : ActiveView) × (at ≡ Some a) × HasBegun caller call a
-begun_at caller call None begun = absurd begun
-begun_at caller call (Some a) begun = (a, refl, begun)
+pub begun_at : (caller : Caller) (call : Call) (many : ℕ) (at : Option ActiveView) →
+    HasBegunAt caller call many at → (a : ActiveView) × (at ≡ Some a) × HasBegun caller call many a
+begun_at caller call many None begun = absurd begun
+begun_at caller call many (Some a) begun = (a, refl, begun)
 
 pub no_call : (at : Option ActiveView) → has_one at ≡ false → at ≡ None
 no_call None is = refl
@@ -109,6 +122,32 @@ pub made_of : {K : Type 0} (old : KernelState K) (seats seats' : Seats) (journal
 made_of old seats seats' journal room same_seats same_journal =
     ap (λ (x : Seats). record old { seats = x; journal = journal; room = room }) same_seats
     ∙ ap (λ (es : List Entry). record old { seats = seats'; journal = es; room = room }) same_journal
+
+-- ---- the system is stopped
+
+pub stopped_whole : {K : Type 0} (old new : KernelState K) → IsWhole old → old.stopped ≡ false →
+    new ≡ record old { journal = old.journal ++ Stopped ∷ []; stopped = true; room = new.room } →
+    old.room ≤ new.room → IsWhole new
+stopped_whole {K} old new whole running is more = subst IsWhole (sym is) (record {
+  ready = whole.ready;
+  rows = whole.rows;
+  callers = whole.callers;
+  calls = whole.calls;
+  room = let had = whole.room in omega (arith, had, same, more);
+  few = let had = whole.few in omega (arith, had, same);
+  past = λ seat. kept_beside seat old.journal (Stopped ∷ []) (call_at old.seats seat) refl (whole.past seat);
+  blamed = whole.blamed;
+  counted = whole.counted;
+})
+  where
+    changed : KernelState K
+    changed = record old { journal = old.journal ++ Stopped ∷ []; stopped = true; room = new.room }
+
+    same : entries_of changed ≡ entries_of old
+    same =
+        let long = length-append old.journal (Stopped ∷ []) in
+        let due = ap due_for_stop running in
+        omega (arith, long, due)
 
 -- ---- a kernel is opened
 
@@ -129,8 +168,8 @@ none_due (suc n) =
 
 pub opened_whole : {K : Type 0} (n : ℕ) (k : KernelState K) → IsReady k.pool → k.locks ≡ replicate n [] →
     k.seats ≡ replicate n None → length k.callers ≡ n → k.journal ≡ [] → k.stopped ≡ false → 1 ≤ k.room →
-    k.searches ≡ opened_counts n → IsWhole k
-opened_whole n k ready locks seats callers journal stopped room searches = record {
+    k.failed ≡ is_some k.failure → k.searches ≡ opened_counts n → IsWhole k
+opened_whole n k ready locks seats callers journal stopped room blamed searches = record {
   ready = ready;
   rows = locks ∙ sym (ap (map locks_of) seats ∙ idle_rows n);
   callers = callers ∙ sym (ap length seats ∙ length-replicate n None);
@@ -138,6 +177,9 @@ opened_whole n k ready locks seats callers journal stopped room searches = recor
       (sym (ap (λ (x : Seats). call_at x seat) seats ∙ idle_at n seat)) tt;
   room = let one = entries in omega (arith, one, room);
   few = let one = entries in omega (arith, one);
+  past = λ seat. subst (KeepsJournal seat k.journal)
+      (sym (ap (λ (x : Seats). call_at x seat) seats ∙ idle_at n seat)) tt;
+  blamed = blamed;
   counted = ap (λ (s : CountsState). length s.counts) searches ∙ length-replicate n (begun_count Nothing)
       ∙ sym (ap length seats ∙ length-replicate n None);
 }

@@ -27,6 +27,7 @@ pub record IsOpened {K : Type 0} (with_keys : K) (content : List (List ℕ)) (ho
   pub journal : k.journal ≡ []
   pub stopped : k.stopped ≡ false
   pub failed : k.failed ≡ false
+  pub failure : k.failure ≡ None
   pub searches : k.searches ≡ opened_counts (length sitting)
 
 -- the pages are the file of a system
@@ -57,7 +58,7 @@ pub record HasCall {K : Type 0} (seat : ℕ) (call : Call) (old new : KernelStat
   pub caller : Caller
   pub sits : caller_at old.callers seat ≡ Some caller
   pub active : ActiveView
-  pub begun : HasBegun caller call active
+  pub begun : HasBegun caller call (length old.journal) active
   pub is : new ≡ record old { seats = with_call old.seats seat (Some active); room = new.room }
 
 -- why it does not begin; it is refused by the first of these that is so

@@ -1,9 +1,10 @@
 -- And behind drives, and events of many seats.
-use Rattle.std.proofs.Common.{ℕ, zero, suc, inl, inr, sym, subst, true, List, [], ◌∷◌}
+use Rattle.std.proofs.Common.{ℕ, zero, suc, inl, inr, sym, subst, true, List, [], ◌∷◌, Option}
 use Rattle.std.proofs.lemmas.Bool.{true≢false}
 use Rattle.std.proofs.lemmas.List.Elements.{All-head, All-tail, All-weaker}
 use Rattle.concurrent_calls.specs.Laws.{BeginTogether, EndTogether, StepTogether}
 use Rattle.interleaving_core.proofs.RunLemmas.{seat_stays}
+use Rattle.interleaving_core.specs.declared.fault.Failure.{Failure}
 use Rattle.interleavings.specs.Words.{IsSeat, IsDriven, KernelState, Moves, RecordKey, State, Step}
 use Rattle.interleavings.specs.Leading.{IsLedFrom}
 use Rattle.interleavings.specs.Headline.{AreFitting, IsFitting}
@@ -15,7 +16,7 @@ use Rattle.interleavings.specs.declared.event.Outcome.{Outcome}
 use Rattle.interleavings.specs.declared.event.Outcome.TheVariants as outcomes
 use Rattle.interleavings.proofs.EventLemmas.{event_keeps}
 use Rattle.interleavings.proofs.RunLemmas.{still_of_seat}
-use Rattle.interleavings.proofs.TurnLemmas.{steps_led}
+use Rattle.interleavings.proofs.StepLemmas.{steps_led}
 
 -- ---- a drive
 
@@ -38,12 +39,13 @@ module _ (step_on : (K : Type 0) → StepsLed K) {K : Type 0} (hash : RecordKey 
       let (before, seated) = moves_led driven.moves driven.before driven.moved in
       elim driven.ends [
         | inl ends ↦ step_on K hash base seat did driven.before new seated before ends.step
-        | inr spent ↦ subst (IsLedFrom hash base) (sym spent.marked) (broken driven.before before)
+        | inr spent ↦ subst (IsLedFrom hash base) (sym spent.marked) (broken driven.before _ before)
       ]
     where
       -- where a step has failed the journal still leads
-      broken : (k : KernelState K) → IsLedFrom hash base k → IsLedFrom hash base (record k { failed = true })
-      broken k on = record {
+      broken : (k : KernelState K) (failure : Option Failure) → IsLedFrom hash base k →
+          IsLedFrom hash base (record k { failed = true; failure = failure })
+      broken k failure on = record {
         now = on.now;
         leads = on.leads;
         mark = on.mark;

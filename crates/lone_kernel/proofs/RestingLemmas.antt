@@ -10,7 +10,7 @@ use Rattle.interleaving_core.proofs.PlaceLemmas.{Seats, at_other, at_same}
 use Rattle.lone_kernel.specs.Words.{Call, Caller, HasCall, HasFittingCall, HasFittingCaller, HaveFewSteps, IsFileAtRest, IsSeat, IsStopped, IsWhole, KernelState, PoolState, RecordKey, State, Table, call_at, store_of, with_call}
 use Rattle.lone_kernel.specs.Lone.{RestsOver, ServesOver}
 use Rattle.lone_kernel.specs.Laws.{BeginsOnAKernel, ClosesAKernel, OpensAKernel, RefusesAtRest, StopsAKernel}
-use Rattle.lone_kernel.proofs.WaitLemmas.{awake_apart, awake_goes, undecided_yet}
+use Rattle.lone_kernel.proofs.WaitLemmas.{awake_apart, awake_goes, undecided_no_wait, undecided_yet}
 
 -- ---- it is opened
 
@@ -70,6 +70,7 @@ module _ (begins : BeginsAtRest) (few : HaveFewSteps) {K : Type 0} (hash : Recor
     few = few has.active.machine (store_of old.pool.images) has.begun.begins.new;
     waits = λ stays. absurd (awake_goes has.active.wait has.active.machine.call old.journal has.begun.awake stays);
     asleep = λ since some. absurd (awake_apart has.active.wait since has.begun.awake some);
+    quiet = λ waits. absurd (undecided_no_wait has.active.machine has.begun.begins.new waits);
     decided = λ some. absurd (undecided_yet has.active.machine has.begun.begins.new some);
     others = λ other apart. at_other old.seats seat other (Some has.active) apart ∙ rests.idle other;
     sound = rests.sound;

@@ -70,7 +70,7 @@ pub record StandsDriven {K : Type 0} (hash : RecordKey → ℕ) (seat : ℕ) (ca
   pub rests : IsMove did → ⊥
   -- it moves no more often than a call has steps, and so is never given up
   pub few : driven.moves ≤ MOST_CALL_STEPS
-  pub unspent : IsSpent driven.moves did driven.before new → ⊥
+  pub unspent : IsSpent seat driven.moves did driven.before new → ⊥
   -- the file fails it only where a transfer of the device failed
   pub cause : is_failure did ≡ true → HasRisen old.pool.faults new.pool.faults
 

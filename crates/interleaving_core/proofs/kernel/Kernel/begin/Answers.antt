@@ -2,6 +2,7 @@
 use Rattle.std.proofs.Common.{◌≡◌, ◌∙◌, sym, ap, subst, ℕ, ◌+◌, ◌-◌, ◌≤◌, Some, length, slice_set, vec_capacity, arith}
 use Rattle.std.proofs.lemmas.Bool.Decides.{nat_tests}
 use Rattle.std.proofs.lemmas.Grind.{common_steps}
+use Rattle.std.specs.Option.{is_some}
 use Rattle.interleaving_core.specs.Beginning.{HasCall, IsRefused, MayBegin}
 use Rattle.interleaving_core.specs.Kernel.{KernelState, entries_of, with_call}
 use Rattle.interleaving_core.specs.Words.{IsSeat}
@@ -23,7 +24,8 @@ returns-in-Err-clause-err g c =
       journal = c.self.inside.journal.items;
       room = vec_capacity c.self.inside.journal;
       stopped = c.self.inside.stopped;
-      failed = c.self.inside.failed;
+      failed = is_some c.self.inside.failure;
+      failure = c.self.inside.failure;
       searches = c.self.inside.searches;
     } in
     let new : KernelState g.row.K.Denot = record {
@@ -35,7 +37,8 @@ returns-in-Err-clause-err g c =
       journal = c.reserve.new.self.items;
       room = vec_capacity c.reserve.new.self;
       stopped = c.self.inside.stopped;
-      failed = c.self.inside.failed;
+      failed = is_some c.self.inside.failure;
+      failure = c.self.inside.failure;
       searches = c.self.inside.searches;
     } in
     let is : IsSeat old.locks c.args.seat =
@@ -67,7 +70,8 @@ invariant_of-self-2 g c =
       journal = c.self.inside.journal.items;
       room = vec_capacity c.self.inside.journal;
       stopped = c.self.inside.stopped;
-      failed = c.self.inside.failed;
+      failed = is_some c.self.inside.failure;
+      failure = c.self.inside.failure;
       searches = c.self.inside.searches;
     } in
     let new : KernelState g.row.K.Denot = record {
@@ -79,7 +83,8 @@ invariant_of-self-2 g c =
       journal = c.reserve.new.self.items;
       room = vec_capacity c.reserve.new.self;
       stopped = c.self.inside.stopped;
-      failed = c.self.inside.failed;
+      failed = is_some c.self.inside.failure;
+      failure = c.self.inside.failure;
       searches = c.self.inside.searches;
     } in
     let is : IsSeat old.locks c.args.seat =
@@ -90,7 +95,7 @@ invariant_of-self-2 g c =
     let few : c.entries.result ≤ MAX_DECIDED = grind (arith, nat_tests) in
     let caller = c.index-caller.result.now in
     let (active, is_there, begun) =
-    begun_at caller c.args.call c.begin.new.self c.in_default-begin.ensures.ok in
+    begun_at caller c.args.call c.len-many.result c.begin.new.self c.in_default-begin.ensures.ok in
     let made : new ≡ record old {
       seats = with_call old.seats c.args.seat (Some active);
       room = new.room;
@@ -117,7 +122,8 @@ returns-clause-ok g c =
       journal = c.self.inside.journal.items;
       room = vec_capacity c.self.inside.journal;
       stopped = c.self.inside.stopped;
-      failed = c.self.inside.failed;
+      failed = is_some c.self.inside.failure;
+      failure = c.self.inside.failure;
       searches = c.self.inside.searches;
     } in
     let new : KernelState g.row.K.Denot = record {
@@ -129,7 +135,8 @@ returns-clause-ok g c =
       journal = c.reserve.new.self.items;
       room = vec_capacity c.reserve.new.self;
       stopped = c.self.inside.stopped;
-      failed = c.self.inside.failed;
+      failed = is_some c.self.inside.failure;
+      failure = c.self.inside.failure;
       searches = c.self.inside.searches;
     } in
     let is : IsSeat old.locks c.args.seat =
@@ -142,7 +149,7 @@ returns-clause-ok g c =
     c.entries.ensures ∙ ap (λ (k : KernelState g.row.K.Denot). entries_of k) (sym c.self.view_is) in
     let caller = c.index-caller.result.now in
     let (active, is_there, begun) =
-    begun_at caller c.args.call c.begin.new.self c.in_default-begin.ensures.ok in
+    begun_at caller c.args.call c.len-many.result c.begin.new.self c.in_default-begin.ensures.ok in
     let made : new ≡ record old {
       seats = with_call old.seats c.args.seat (Some active);
       room = new.room;
