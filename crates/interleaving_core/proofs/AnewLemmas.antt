@@ -204,7 +204,7 @@ module _ (hash : RecordKey → ℕ) (seat : ℕ) (stopped : Bool) (did : Step) (
     | inr anew ↦ anew_does anew
   ]
 
--- ---- that it is told to wait
+  -- ---- that it is told to wait
 
   -- its call is there, and has looked at the whole journal
   abbrev HasLookedAtAll : Type 0

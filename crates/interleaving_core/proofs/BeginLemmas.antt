@@ -4,16 +4,17 @@ use Rattle.std.specs.Prelude.{sum_by}
 use Rattle.std.proofs.lemmas.Bool.{cases_eq}
 use Rattle.std.proofs.lemmas.List.{length-replicate}
 use Rattle.std.proofs.lemmas.List.Sums.{sum_by-cons}
-use Rattle.std.proofs.lemmas.Option.{slice_get-get_or}
+use Rattle.std.specs.List.{All}
+use Rattle.std.proofs.lemmas.Option.{get_or_from_slice_get, slice_get-get_or, slice_get_within}
 use Rattle.page_locks.proofs.ChangeLemmas.{with_row-own}
 use Rattle.search_counts.specs.Counting.{CountsState, begun_count, opened_counts}
 use Rattle.search_counts.specs.declared.under_way.UnderWay.TheVariants.{Nothing}
-use Rattle.interleaving_core.specs.Words.{Call, Caller, Entry, IsReady, IsSeat, Table, caller_at, with_row}
+use Rattle.interleaving_core.specs.Words.{Call, Caller, Entry, HasFittingCall, HasFittingCaller, IsReady, IsSeat, Table, caller_at, with_row}
 use Rattle.xsi_calls.proofs.RowLemmas.{new_holds_nothing}
 use Rattle.interleaving_core.specs.Active.{ActiveView, HasBegun, HasBegunAt, drafted}
 use Rattle.interleaving_core.specs.Beginning.{HasCall, MayBegin}
 use Rattle.interleaving_core.specs.Closing.{has_one}
-use Rattle.interleaving_core.specs.Kernel.{IsCallOf, IsWhole, KernelState, call_at, due_at, due_for_stop, entries_of, locks_of, with_call}
+use Rattle.interleaving_core.specs.Kernel.{AreFittingCallers, IsCallOf, IsWhole, KernelState, call_at, due_at, due_for_stop, entries_of, locks_of, with_call}
 use Rattle.interleaving_core.specs.declared.kernel.TheConstants.{MAX_DECIDED}
 use Rattle.interleaving_core.proofs.PlaceLemmas.{Seats, all_due, at_other, at_same, due_with, few_due, length-with_call, less, rows_with, stop_due, with_own, with_place}
 use Rattle.interleaving_core.proofs.KernelLemmas.{as_many, its_row}
@@ -58,6 +59,7 @@ module _ {K : Type 0} (seat : ℕ) (caller : Caller) (call : Call) (a : ActiveVi
         ∙ sym (new_holds_nothing a.machine begun.begins.new))
         ∙ ap (λ (t : Table). with_row t seat (locks_of (Some a))) whole.rows ∙ rows_with old.seats seat (Some a);
     callers = whole.callers ∙ sym (length-with_call old.seats seat (Some a));
+    fitting = whole.fitting;
     calls = λ other. elim (cases_eq other seat) [
       | inl e ↦ subst (λ (n : ℕ). IsCallOf (caller_at old.callers n) (call_at changed.seats n)) (sym e)
           (subst (IsCallOf (caller_at old.callers seat)) (sym (at_same old.seats seat (Some a) is.0 within_seats))
@@ -89,12 +91,14 @@ module _ {K : Type 0} (seat : ℕ) (caller : Caller) (call : Call) (a : ActiveVi
   whole_begun = subst IsWhole (sym made) begins_whole
 
 pub has_call : {K : Type 0} (seat : ℕ) (caller : Caller) (call : Call) (a : ActiveView) (old new : KernelState K) →
-    MayBegin seat old → caller_at old.callers seat ≡ Some caller → HasBegun caller call (length old.journal) a →
+    MayBegin seat old → caller_at old.callers seat ≡ Some caller → HasFittingCall call →
+    HasBegun caller call (length old.journal) a →
     new ≡ record old { seats = with_call old.seats seat (Some a); room = new.room } → HasCall seat call old new
-has_call seat caller call a old new may sits begun made = record {
+has_call seat caller call a old new may sits fits begun made = record {
   may = may;
   caller = caller;
   sits = sits;
+  fits = fits;
   active = a;
   begun = begun;
   is = made;
@@ -132,6 +136,7 @@ stopped_whole {K} old new whole running is more = subst IsWhole (sym is) (record
   ready = whole.ready;
   rows = whole.rows;
   callers = whole.callers;
+  fitting = whole.fitting;
   calls = whole.calls;
   room = let had = whole.room in omega (arith, had, same, more);
   few = let had = whole.few in omega (arith, had, same);
@@ -151,6 +156,13 @@ stopped_whole {K} old new whole running is more = subst IsWhole (sym is) (record
 
 -- ---- a kernel is opened
 
+-- what is so of all callers is so of each seat's
+pub each_seat_fits : (callers : List Caller) → All HasFittingCaller callers → AreFittingCallers callers
+each_seat_fits callers all zero caller sits = absurd cc
+each_seat_fits callers all (suc place) caller sits =
+    subst HasFittingCaller (get_or_from_slice_get callers place caller caller sits)
+    (all place caller (slice_get_within callers place caller sits))
+
 idle_rows : (n : ℕ) → map locks_of (replicate n None) ≡ replicate n []
 idle_rows zero = refl
 idle_rows (suc n) = ap (λ (rows : Table). [] ∷ rows) (idle_rows n)
@@ -167,12 +179,13 @@ none_due (suc n) =
     sum_by-cons due_at None (replicate n None) ∙ ap (λ (x : ℕ). due_at None + x) (none_due n)
 
 pub opened_whole : {K : Type 0} (n : ℕ) (k : KernelState K) → IsReady k.pool → k.locks ≡ replicate n [] →
-    k.seats ≡ replicate n None → length k.callers ≡ n → k.journal ≡ [] → k.stopped ≡ false → 1 ≤ k.room →
+    k.seats ≡ replicate n None → length k.callers ≡ n → AreFittingCallers k.callers → k.journal ≡ [] → k.stopped ≡ false → 1 ≤ k.room →
     k.failed ≡ is_some k.failure → k.searches ≡ opened_counts n → IsWhole k
-opened_whole n k ready locks seats callers journal stopped room blamed searches = record {
+opened_whole n k ready locks seats callers fitting journal stopped room blamed searches = record {
   ready = ready;
   rows = locks ∙ sym (ap (map locks_of) seats ∙ idle_rows n);
   callers = callers ∙ sym (ap length seats ∙ length-replicate n None);
+  fitting = fitting;
   calls = λ seat. subst (IsCallOf (caller_at k.callers seat))
       (sym (ap (λ (x : Seats). call_at x seat) seats ∙ idle_at n seat)) tt;
   room = let one = entries in omega (arith, one, room);

@@ -7,7 +7,7 @@ use Rattle.page_locks.proofs.ChangeLemmas.{IsSeat-with_row}
 use Rattle.search_counts.specs.Counting.{CountsState, IsCountedSeat}
 use Rattle.interleaving_core.specs.Words.{Caller, Entry, IsSeat, PoolState, RecordKey, Table, caller_at, row_of, with_row}
 use Rattle.interleaving_core.specs.Active.{ActiveView}
-use Rattle.interleaving_core.specs.Kernel.{IsCallOf, IsWhole, KernelState, call_at, due_at, due_for_stop, entries_of, locks_of, with_call}
+use Rattle.interleaving_core.specs.Kernel.{AreFittingCallers, IsCallOf, IsWhole, KernelState, call_at, due_at, due_for_stop, entries_of, locks_of, with_call}
 use Rattle.interleaving_core.specs.Owing.{IsRun, IsTurn, answer_told, failure_by, is_failure, told}
 use Rattle.interleaving_core.specs.Past.{IsOfJournal, KeepsJournal, call_of, untold}
 use Rattle.interleaving_core.specs.declared.fault.Failure.{Failure}
@@ -232,6 +232,7 @@ module _ {K : Type 0} (seat : ℕ) (did : Step) (left : Option ActiveView) (old 
           ∙ sym (ap (map locks_of) seats);
       callers = ap length callers ∙ whole.callers
           ∙ sym (ap length seats ∙ length-with_call old.seats seat left);
+      fitting = subst AreFittingCallers (sym callers) whole.fitting;
       calls = calls;
       room = let few = no_more in let had = whole.room in omega (arith, few, had, more);
       few = let fewer = no_more in let had = whole.few in omega (arith, fewer, had);

@@ -71,10 +71,13 @@ due_with seats (suc place) left some within = sum_by-set due_at seats place left
 pub seat_of_call : (seats : Seats) (seat : ℕ) (a : ActiveView) → call_at seats seat ≡ Some a →
     (1 ≤ seat) × (seat ≤ length seats)
 seat_of_call seats zero a there = absurd cc
-seat_of_call seats (suc place) a there = (omega arith, elim (cases_lt place (length seats)) [
-  | inl within ↦ omega (arith, within)
-  | inr past ↦ absurd (none_some (sym (get_or_past seats place None past) ∙ there))
-])
+seat_of_call seats (suc place) a there = (
+  omega arith,
+  elim (cases_lt place (length seats)) [
+    | inl within ↦ omega (arith, within)
+    | inr past ↦ absurd (none_some (sym (get_or_past seats place None past) ∙ there))
+  ],
+)
   where
     none_some : ◌≡◌ {A = Option ActiveView} None (Some a) → ⊥
     none_some clash = cc

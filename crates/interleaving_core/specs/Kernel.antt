@@ -2,7 +2,7 @@
 -- docs/QUEUES.md, "Journals".
 use Rattle.std.specs.Prelude.{ℕ, zero, suc, ◌≡◌, ◌+◌, ◌≤◌, Bool, true, false, List, [], map, Option, Some, None, length, slice_index_or, slice_set, sum_by, ⊤}
 use Rattle.std.specs.Option.{is_some}
-use Rattle.interleaving_core.specs.Words.{Caller, Entry, IsReady, Lock, PoolState, Table, call_locks, caller_at}
+use Rattle.interleaving_core.specs.Words.{Caller, Entry, HasFittingCaller, IsReady, Lock, PoolState, Table, call_locks, caller_at}
 use Rattle.search_counts.specs.Counting.{CountsState}
 use Rattle.interleaving_core.specs.Active.{ActiveView, drafted}
 use Rattle.interleaving_core.specs.Past.{KeepsJournal}
@@ -65,6 +65,10 @@ abbrev pub IsCallOf : Option Caller → Option ActiveView → Type 0
 IsCallOf caller None = ⊤
 IsCallOf caller (Some a) = caller ≡ Some a.machine.caller
 
+-- the numbers of each seat's caller fit the fields of records
+abbrev pub AreFittingCallers : List Caller → Type 0
+AreFittingCallers callers = (seat : ℕ) (caller : Caller) → caller_at callers seat ≡ Some caller → HasFittingCaller caller
+
 -- whatever the device gives
 pub record IsWhole {K : Type 0} (s : KernelState K) : Type 0 where
   -- no page is pinned, and there are frames enough for a step
@@ -72,6 +76,7 @@ pub record IsWhole {K : Type 0} (s : KernelState K) : Type 0 where
   -- each seat has a row of locks, which are those of its call
   pub rows : s.locks ≡ map locks_of s.seats
   pub callers : length s.callers ≡ length s.seats
+  pub fitting : AreFittingCallers s.callers
   pub calls : (seat : ℕ) → IsCallOf (caller_at s.callers seat) (call_at s.seats seat)
   -- memory was taken for each entry that is due, and a session has so many at most, and a stop
   pub room : entries_of s ≤ s.room

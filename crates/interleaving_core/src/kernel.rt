@@ -31,6 +31,7 @@ use queue_model::{Call, Caller, Entry};
 use search_counts::{SearchCount, SearchCounts};
 use std::alloc::Global;
 use std::marker::Model;
+use type_chains::a_calls_numbers_fit;
 
 /// The calls that one session decides at most.
 pub const MAX_DECIDED: usize = 65_536;
@@ -245,6 +246,7 @@ impl<D: PageDevice + Drop, K: PseudoKey + Drop> Kernel<D, K> {
         let alloc: Global = *self.journal.allocator();
         let caller = self.callers[place];
         let many = self.journal.len();
+        a_calls_numbers_fit(&call);
         if let Err(call) = self.seats[place].begin(alloc, caller, call, many) {
             return Err((call, BeginFault::NoMemory));
         }

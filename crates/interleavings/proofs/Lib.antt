@@ -9,3 +9,4 @@ pub mod StepLemmas
 pub mod ScheduleLemmas
 pub mod DoingLemmas
 pub mod ToldLemmas
+pub use Rattle.interleaving_core.proofs as of_interleaving_core

@@ -136,10 +136,10 @@ drives_by_the_rules begins few_steps K hash seat caller call s did old new is se
     stands_driven begins few_steps hash seat caller call s old is serves did new driven
 
 pub answers_lone_calls : BeginsAtRest → HaveFewSteps → (K : Type 0) → AnswersLoneCalls K
-answers_lone_calls begins few_steps K hash seat caller call s did old begun new whole rests is sits caller_fits
-    call_fits has driven =
+answers_lone_calls begins few_steps K hash seat caller call s did old begun new whole rests is sits has
+    driven =
     stands_driven begins few_steps hash seat caller call s begun
     (subst (λ (k : KernelState K). IsSeat k.locks seat) (sym has.is) is)
-    (begins_on_a_kernel begins few_steps K hash seat caller call s old begun whole rests is sits caller_fits call_fits
+    (begins_on_a_kernel begins few_steps K hash seat caller call s old begun whole rests is sits
     has)
     did new driven

@@ -2,14 +2,13 @@
 -- "Runs" and "Schedules".
 use Rattle.std.specs.Prelude.{ℕ, zero, suc, ◌≡◌, ◌↔◌, ◌⊎◌, Bool, true, false, List, [], ◌∷◌, ◌++◌, IsTrue, Option, Some, None, if◌then◌else◌, length}
 use Rattle.std.specs.List.{list_any}
-use Rattle.faults.specs.declared.TheConstants.{DEVICE, FAILED, NO_MEMORY}
+use Rattle.faults.specs.declared.TheConstants.{BUSY, DEVICE, FAILED, NO_MEMORY}
 use Rattle.queue_model.specs.declared.caller.Caller.{Caller}
 use Rattle.bucket_page.specs.Pseudokeys.{sha_key}
 use Rattle.bucket_page.specs.declared.pseudokey.ShaKey.{ShaKey}
 use Rattle.interleavings.specs.interleaving_core.Beginning.{IsOpened}
 use Rattle.interleavings.specs.interleaving_core.Closing.{IsBusy, IsFlushedTo}
 use Rattle.interleavings.specs.interleaving_core.Kernel.{KernelState, call_at}
-use Rattle.interleavings.specs.interleaving_core.declared.fault.TheConstants.{BUSY}
 use Rattle.interleavings.specs.Laws.{AreFittingCallers, IsLedFromFile}
 use Rattle.interleavings.specs.Words.{PoolState}
 use Rattle.msgq_cli.specs.Answers.{reply_text}

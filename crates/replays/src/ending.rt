@@ -8,7 +8,7 @@ use crate::opening::FileKeys;
 use crate::printing::print_replies;
 use crate::replay::Replay;
 use crate::rounds::finish;
-use interleavings::interleaving_core::{BUSY, Kernel, NotClosed};
+use interleavings::interleaving_core::{Kernel, NotClosed};
 use interleavings::{
     a_kernel_led_answers_as_plain_lists, a_kernel_led_closes_on_its_file, events_lead_on,
 };
@@ -69,11 +69,11 @@ fn close<D: PageDevice + Drop>(
     ensures well { result.1 ≡ None → IsClosedWell kernel (option_map D.content result.0) }
 {
     if !is_over {
-        return (None, Some(BUSY));
+        return (None, Some(faults::BUSY));
     }
     match kernel.close() {
         Ok(closed) => (Some(closed.device), None),
-        Err(NotClosed::Busy(_)) => (None, Some(BUSY)),
+        Err(NotClosed::Busy(_)) => (None, Some(faults::BUSY)),
         Err(NotClosed::Fault(closed, fault)) => (Some(closed.device), Some(fault.number())),
     }
 }

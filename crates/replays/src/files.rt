@@ -7,7 +7,8 @@ ghost use Rattle.replays.specs.Replays.{IsScheduleRefused, ReplaysFile};
 
 use crate::ending::run;
 use crate::opening::open;
-use interleavings::interleaving_core::{BUSY, OpenFault};
+use faults::BUSY;
+use interleavings::interleaving_core::OpenFault;
 use msgq_cli::{
     Ending, Failure, Output, Stage, complain, complain_of, complain_unopened, fail, read_file,
     read_script, refuse, unread,

@@ -1,13 +1,12 @@
 -- What the lines of a script are replied, one after the other. docs/SCRIPTS.md, "Runs".
 use Rattle.std.specs.Prelude.{◌≡◌, ◌⊎◌, ℕ, ◌≤◌, true, List, [], ◌∷◌, Option, None, Some, length}
-use Rattle.faults.specs.declared.TheConstants.{FAILED, NO_MEMORY, NO_ROOM}
+use Rattle.faults.specs.declared.TheConstants.{FAILED, NO_MEMORY, NO_ROOM, SESSION_FULL}
 use Rattle.page_device.specs.Device.{HasRisen}
 use Rattle.bucket_page.specs.Pseudokeys.{sha_key}
 use Rattle.lone_kernel.specs.Lone.{RestsOver}
 use Rattle.lone_kernel.specs.Words.{Call, Caller, FileFault, FoundNoRoom, KernelState, State, outcome}
 use Rattle.lone_kernel.specs.interleaving_core.Fault.{step_number_of}
 use Rattle.lone_kernel.specs.interleaving_core.declared.fault.StepFault.TheVariants as steps
-use Rattle.lone_kernel.specs.interleaving_core.declared.fault.TheConstants.{SESSION_FULL}
 use Rattle.msgq_cli.specs.Outputs.{OutputState, Prints}
 use Rattle.msgq_cli.specs.Runs.{ending_of, printed}
 use Rattle.msgq_cli.specs.Scripts.{Parts, caller_of, greatest_seat}

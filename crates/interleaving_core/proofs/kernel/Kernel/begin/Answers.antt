@@ -165,4 +165,4 @@ returns-clause-ok g c =
       few = λ full. omega (arith, full, few, same);
     } in
     subst (λ (k : KernelState g.row.K.Denot). HasCall c.args.seat c.args.call k new) c.self.view_is
-    (has_call c.args.seat caller c.args.call active old new may sits begun made)
+    (has_call c.args.seat caller c.args.call active old new may sits c.a_calls_numbers_fit.ensures begun made)
