@@ -42,11 +42,11 @@ pub fn prints<R: Abort + AllocGlobal, D: PageDevice + Drop>(
     let alloc = rt.alloc();
     let script = read_script(alloc, text.as_bytes())?;
     let mut output = buffered(alloc)?;
-    let (device, ended) = run_on(alloc, device, &script, &mut output);
+    let ran = run_on(alloc, device, &script, &mut output);
     let told = String::from_utf8(printed(output))?;
     assert_eq!(rt; told.as_str(), wanted);
-    assert_eq!(rt; ended, ending);
-    Ok(device)
+    assert_eq!(rt; ran.ending, ending);
+    Ok(ran.device)
 }
 
 /// How a run ends whose file is not closed well.

@@ -9,7 +9,7 @@ use Rattle.bucket_page.specs.declared.pseudokey.ShaKey.{ShaKey}
 use Rattle.interleavings.specs.interleaving_core.Beginning.{IsOpened}
 use Rattle.interleavings.specs.interleaving_core.Closing.{IsBusy, IsFlushedTo}
 use Rattle.interleavings.specs.interleaving_core.Kernel.{KernelState, call_at}
-use Rattle.interleavings.specs.Laws.{AreFittingCallers, IsLedFromFile}
+use Rattle.interleavings.specs.Laws.{IsLedFromFile}
 use Rattle.interleavings.specs.Words.{PoolState}
 use Rattle.msgq_cli.specs.Answers.{reply_text}
 use Rattle.msgq_cli.specs.Outputs.{OutputState, Prints}
@@ -42,9 +42,8 @@ pub record IsOpenedForSeats (script : Parts) (content : List (List ℕ)) (honest
   pub frames : ℕ
   pub with_keys : ShaKey
   pub opened : IsOpened with_keys content honest (callers_of script.ids (greatest_seat script.lines)) frames k
-  -- there are as many seats as the script has, and the numbers of their callers fit the fields of records
+  -- there are as many seats as the script has
   pub many : length k.locks ≡ greatest_seat script.lines
-  pub fitting : AreFittingCallers (callers_of script.ids (greatest_seat script.lines))
 
 -- and no line was begun
 pub record IsOpenedFor (script : Parts) (content : List (List ℕ)) (honest : Bool) (s : ReplayState) : Type 0 where
