@@ -70,7 +70,7 @@ module _ (hash : RecordKey → ℕ) (seat : ℕ) (stopped : Bool) (a again : Act
 
   waits_there : is_waiting (conclusion_of t.come.machine) ≡ true
   waits_there = by (is_waiting (conclusion_of t.come.machine)) refl
-      (sym t.told_is ∙ ap (λ (p : Progress FileFault). told_of p t.come.machine) has_ended)
+      (t.told_is ∙ ap (λ (p : Progress FileFault). told_of p t.come.machine) has_ended)
     where
       end_apart : (x : Option Answer) → steps.Waiting ≡ told_at_end x → ⊥
       end_apart None is = cc

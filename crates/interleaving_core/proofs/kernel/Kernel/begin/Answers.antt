@@ -3,6 +3,7 @@ use Rattle.std.proofs.Common.{◌≡◌, ◌∙◌, sym, ap, subst, ℕ, ◌+◌
 use Rattle.std.proofs.lemmas.Bool.Decides.{nat_tests}
 use Rattle.std.proofs.lemmas.Grind.{common_steps}
 use Rattle.std.specs.Option.{is_some}
+use Rattle.interleaving_core.specs.Active.{HasBegunAt}
 use Rattle.interleaving_core.specs.Beginning.{HasCall, IsRefused, MayBegin}
 use Rattle.interleaving_core.specs.Kernel.{KernelState, entries_of, with_call}
 use Rattle.interleaving_core.specs.Words.{IsSeat}
@@ -55,7 +56,7 @@ returns-in-Err-clause-err g c =
     subst (λ (k : KernelState g.row.K.Denot). IsRefused c.args.seat c.args.call (c.in-Err.call, NoMemory) k new)
     c.self.view_is record {
       back = c.in-Err.ensures.err;
-      cause = (c.if-self.false, free, λ full. omega (arith, full, few, same));
+      cause = (sym c.is_some.ensures ∙ c.if-is_some.false, free, λ full. omega (arith, full, few, same));
       same = made;
     }
 
@@ -94,8 +95,11 @@ invariant_of-self-2 g c =
     let free = sym (slot_here old.seats c.args.seat c.index.result.now is.0 there c.index.ensures) ∙ none in
     let few : c.entries.result ≤ MAX_DECIDED = grind (arith, nat_tests) in
     let caller = c.index-caller.result.now in
+    let many : c.len-many.result ≡ length old.journal = grind (arith, common_steps) in
     let (active, is_there, begun) =
-    begun_at caller c.args.call c.len-many.result c.begin.new.self c.in_default-begin.ensures.ok in
+    begun_at caller c.args.call (length old.journal) c.begin.new.self
+    (subst (λ (n : ℕ). HasBegunAt caller c.args.call n c.begin.new.self) many
+    c.in_default-begin.ensures.ok) in
     let made : new ≡ record old {
       seats = with_call old.seats c.args.seat (Some active);
       room = new.room;
@@ -148,8 +152,11 @@ returns-clause-ok g c =
     let same : c.entries.result ≡ entries_of old =
     c.entries.ensures ∙ ap (λ (k : KernelState g.row.K.Denot). entries_of k) (sym c.self.view_is) in
     let caller = c.index-caller.result.now in
+    let many : c.len-many.result ≡ length old.journal = grind (arith, common_steps) in
     let (active, is_there, begun) =
-    begun_at caller c.args.call c.len-many.result c.begin.new.self c.in_default-begin.ensures.ok in
+    begun_at caller c.args.call (length old.journal) c.begin.new.self
+    (subst (λ (n : ℕ). HasBegunAt caller c.args.call n c.begin.new.self) many
+    c.in_default-begin.ensures.ok) in
     let made : new ≡ record old {
       seats = with_call old.seats c.args.seat (Some active);
       room = new.room;
@@ -160,7 +167,7 @@ returns-clause-ok g c =
     let sits = caller_there old.callers c.args.seat is.0 (omega (arith, there, as_many)) caller
     c.index-caller.ensures in
     let may : MayBegin c.args.seat old = record {
-      sound = c.if-self.false;
+      sound = sym c.is_some.ensures ∙ c.if-is_some.false;
       free = free;
       few = λ full. omega (arith, full, few, same);
     } in

@@ -8,8 +8,8 @@ use Rattle.interleaving_core.proofs.KernelLemmas.{counts_by, is_counted, makes_s
 use Rattle.interleaving_core.proofs.RunLemmas.{fails_put}
 use Rattle.interleaving_core.proofs.kernel.Kernel.step.Goals as goal
 
-pub returns-then-self-clause-turn : goal.returns-then-self-clause-turn
-returns-then-self-clause-turn g c =
+pub returns-then-is_some-clause-turn : goal.returns-then-is_some-clause-turn
+returns-then-is_some-clause-turn g c =
     let old : KernelState g.row.K.Denot = record {
       keys = c.self.inside.keys;
       pool = c.self.inside.pool;
@@ -26,7 +26,7 @@ returns-then-self-clause-turn g c =
     let is : IsSeat old.locks c.args.seat =
     subst (λ (k : KernelState g.row.K.Denot). IsSeat k.locks c.args.seat) (sym c.self.view_is) c.requires in
     subst (λ (k : KernelState g.row.K.Denot). IsTurn c.args.seat c.told_of_failure.result k k) c.self.view_is
-    (fails_put c.args.seat c.told_of_failure.result old c.self.invariant c.if-is_some.true
+    (fails_put c.args.seat c.told_of_failure.result old c.self.invariant (sym c.is_some.ensures ∙ c.if-is_some.true)
     (c.told_of_failure.ensures ∙ ap told_of_failure (slot_here old.seats c.args.seat c.index.result.now is.0
     (seat_there old c.self.invariant c.args.seat is) c.index.ensures)))
 
@@ -92,7 +92,7 @@ pub invariant_of-self : goal.invariant_of-self
 invariant_of-self g c =
     (makes_step g.K.PseudoKey.of_key c.args.seat c.advance-step.result c.index_mut.result.now c.advance-step.new.self _
     _ c.args.self.now c.self.view_is c.self.invariant c.requires c.index_mut.ensures.value c.advance-step.ensures.turns
-    refl refl refl refl c.advance-step.ensures.capacity c.advance-step.ensures.spare c.if-is_some.false
+    refl refl refl refl c.advance-step.ensures.capacity c.advance-step.ensures.spare (sym c.is_some.ensures ∙ c.if-is_some.false)
     refl c.failure_of-self-inside.ensures (counts_by c.args.seat c.advance-step.result _ _ c.last_page-before.result
     c.last_page-before.ensures c.note.ensures)).whole
 
@@ -100,7 +100,7 @@ pub invariant_of-self-2 : goal.invariant_of-self-2
 invariant_of-self-2 g c =
     (makes_step g.K.PseudoKey.of_key c.args.seat c.advance-step.result c.index_mut.result.now c.advance-step.new.self _
     _ c.args.self.now c.self.view_is c.self.invariant c.requires c.index_mut.ensures.value c.advance-step.ensures.turns
-    refl refl refl refl c.advance-step.ensures.capacity c.advance-step.ensures.spare c.if-is_some.false
+    refl refl refl refl c.advance-step.ensures.capacity c.advance-step.ensures.spare (sym c.is_some.ensures ∙ c.if-is_some.false)
     refl c.failure_of-self-inside.ensures (counts_by c.args.seat c.advance-step.result _ _ c.last_page-before.result
     c.last_page-before.ensures c.note.ensures)).whole
 
@@ -108,7 +108,7 @@ pub returns-clause-turn : goal.returns-clause-turn
 returns-clause-turn g c =
     (makes_step g.K.PseudoKey.of_key c.args.seat c.advance-step.result c.index_mut.result.now c.advance-step.new.self _
     _ c.args.self.now c.self.view_is c.self.invariant c.requires c.index_mut.ensures.value c.advance-step.ensures.turns
-    refl refl refl refl c.advance-step.ensures.capacity c.advance-step.ensures.spare c.if-is_some.false
+    refl refl refl refl c.advance-step.ensures.capacity c.advance-step.ensures.spare (sym c.is_some.ensures ∙ c.if-is_some.false)
     refl c.failure_of-self-inside.ensures (counts_by c.args.seat c.advance-step.result _ _ c.last_page-before.result
     c.last_page-before.ensures c.note.ensures)).turn
 
@@ -116,7 +116,7 @@ pub returns-clause-makes : goal.returns-clause-makes
 returns-clause-makes g c =
     (makes_step g.K.PseudoKey.of_key c.args.seat c.advance-step.result c.index_mut.result.now c.advance-step.new.self _
     _ c.args.self.now c.self.view_is c.self.invariant c.requires c.index_mut.ensures.value c.advance-step.ensures.turns
-    refl refl refl refl c.advance-step.ensures.capacity c.advance-step.ensures.spare c.if-is_some.false
+    refl refl refl refl c.advance-step.ensures.capacity c.advance-step.ensures.spare (sym c.is_some.ensures ∙ c.if-is_some.false)
     refl c.failure_of-self-inside.ensures (counts_by c.args.seat c.advance-step.result _ _ c.last_page-before.result
     c.last_page-before.ensures c.note.ensures)).makes
 
@@ -125,7 +125,7 @@ returns-in-Moved-clause-turn g c =
     (told_anew g.K.PseudoKey.of_key c.args.seat c.advance-step.result _ c.args.self.now _ c.in-Moved.is
     (makes_step g.K.PseudoKey.of_key c.args.seat c.advance-step.result c.index_mut.result.now c.advance-step.new.self _
     _ c.args.self.now c.self.view_is c.self.invariant c.requires c.index_mut.ensures.value c.advance-step.ensures.turns
-    refl refl refl refl c.advance-step.ensures.capacity c.advance-step.ensures.spare c.if-is_some.false
+    refl refl refl refl c.advance-step.ensures.capacity c.advance-step.ensures.spare (sym c.is_some.ensures ∙ c.if-is_some.false)
     refl c.failure_of-self-inside.ensures (counts_by c.args.seat c.advance-step.result _ _ c.last_page-before.result
     c.last_page-before.ensures c.note.ensures))).turn
 
@@ -134,6 +134,6 @@ returns-in-Moved-clause-makes g c =
     (told_anew g.K.PseudoKey.of_key c.args.seat c.advance-step.result _ c.args.self.now _ c.in-Moved.is
     (makes_step g.K.PseudoKey.of_key c.args.seat c.advance-step.result c.index_mut.result.now c.advance-step.new.self _
     _ c.args.self.now c.self.view_is c.self.invariant c.requires c.index_mut.ensures.value c.advance-step.ensures.turns
-    refl refl refl refl c.advance-step.ensures.capacity c.advance-step.ensures.spare c.if-is_some.false
+    refl refl refl refl c.advance-step.ensures.capacity c.advance-step.ensures.spare (sym c.is_some.ensures ∙ c.if-is_some.false)
     refl c.failure_of-self-inside.ensures (counts_by c.args.seat c.advance-step.result _ _ c.last_page-before.result
     c.last_page-before.ensures c.note.ensures))).makes
