@@ -42,11 +42,11 @@ pub fn prints<R: Abort + AllocGlobal, D: PageDevice + Drop>(
     let alloc = rt.alloc();
     let script = read_script(alloc, text.as_bytes())?;
     let mut output = buffered(alloc)?;
-    let (device, ended) = run_on(alloc, device, &script, &mut output);
+    let ran = run_on(alloc, device, &script, &mut output);
     let told = String::from_utf8(printed(output))?;
     assert_eq!(rt; told.as_str(), wanted);
-    assert_eq!(rt; ended, ending);
-    Ok(device)
+    assert_eq!(rt; ran.ending, ending);
+    Ok(ran.device)
 }
 
 /// How a run ends whose file is not closed well.
@@ -65,7 +65,7 @@ fn unclosed(fault: u8) -> Ending {
 fn each_transfer_fails_in_turn(rt: HostRuntime) -> Result<(), Fail> {
     let answers = "1 id 1\n2 sent 1\n";
     let and_fault = "1 id 1\n2 sent 1\nfault 20\n";
-    let in_a_line = "1 fault 20\n2 fault 62\nfault 62\n";
+    let in_a_line = "1 fault 62\n2 fault 62\nfault 62\n";
     let opening = Ending::Unopened(CheckFault::Structure(StructureFault::Device));
     for (nth, wanted, ending) in [
         (1, "fault 20\n", opening),
@@ -99,7 +99,7 @@ fn long_script(alloc: Global, last: &str) -> Result<String, Fail> {
 fn a_transfer_that_fails_in_a_line_leaves_the_file(rt: HostRuntime) -> Result<(), Fail> {
     let alloc = rt.alloc();
     let text = long_script(alloc, "1 stat 1")?;
-    let wanted = "1 id 1\n2 sent 1\n3 sent 2\n4 sent 3\n5 fault 20\n6 fault 62\nfault 62\n";
+    let wanted = "1 id 1\n2 sent 1\n3 sent 2\n4 sent 3\n5 fault 62\n6 fault 62\nfault 62\n";
     let device = FaultyDevice::new(device_of(alloc, 260), 266);
     let device = prints(&rt, device, text.as_str(), wanted, unclosed(62))?;
     prints(&rt, device, "1 get 7\n", "1 refused ENOENT\n", Ending::Done)?;

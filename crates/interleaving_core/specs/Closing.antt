@@ -8,9 +8,9 @@ use Rattle.interleaving_core.specs.Active.{ActiveView}
 use Rattle.interleaving_core.specs.Kernel.{KernelState}
 use Rattle.interleaving_core.specs.declared.fault.CloseFault.{CloseFault}
 use Rattle.interleaving_core.specs.declared.fault.CloseFault.TheVariants as closes
-use Rattle.interleaving_core.specs.declared.kernel.Closed.{Closed}
-use Rattle.interleaving_core.specs.declared.kernel.NotClosed.{NotClosed}
-use Rattle.interleaving_core.specs.declared.kernel.NotClosed.TheVariants.{Busy, Fault}
+use Rattle.interleaving_core.specs.declared.closing.Closed.{Closed}
+use Rattle.interleaving_core.specs.declared.closing.NotClosed.{NotClosed}
+use Rattle.interleaving_core.specs.declared.closing.NotClosed.TheVariants.{Busy, Fault}
 
 abbrev pub has_one : Option ActiveView → Bool
 has_one None = false

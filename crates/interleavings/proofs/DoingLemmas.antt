@@ -4,8 +4,7 @@ use Rattle.concurrent_calls.specs.Together.{AreTogether, IsUnderWay}
 use Rattle.concurrent_calls.specs.lone_calls.Words.{call_left}
 use Rattle.concurrent_calls.proofs.SeatLemmas.{well}
 use Rattle.interleaving_core.specs.Active.{is_waiting}
-use Rattle.interleaving_core.specs.Turn.{IsLeft, MakesTurn, StaysWaiting, TakesTurn, told_of, told_when_over}
-use Rattle.interleaving_core.specs.Waiting.{stays_waiting}
+use Rattle.interleaving_core.specs.Turn.{IsLeft, MakesTurn, StaysWaiting, told_of, told_when_over}
 use Rattle.interleaving_core.specs.xsi_calls.CallSteps.{StepsCall}
 use Rattle.interleaving_core.specs.xsi_calls.Words.{NearsOrSpares, World, world}
 use Rattle.interleaving_core.specs.xsi_calls.declared.conclusion.Conclusion.TheVariants as conclusions
@@ -13,16 +12,15 @@ use Rattle.queue_model.proofs.JournalLemmas.{after-LeadsAlong}
 use Rattle.step_rules.specs.Turns.{TurnsAt}
 use Rattle.step_rules.specs.declared.progress.Progress.TheVariants as progress
 use Rattle.interleavings.specs.Words.{ActiveView, Answer, Call, Caller, FileFault, KernelState, PoolState, Progress, RecordKey, State, Step, after, answer_of_call, call_at, conclusion_of, is_fault, outcome, store_of}
-use Rattle.interleavings.specs.Doing.{DoesAsTold, LeavesAll, turn_of}
+use Rattle.interleavings.specs.Doing.{DoesBy, LeavesAll, turn_of}
 use Rattle.interleavings.specs.Leading.{IsLedFrom, calls_of}
-use Rattle.interleavings.specs.Laws.{StepsDoAsTold}
 use Rattle.interleavings.proofs.LeadLemmas.{machine}
 
 module _ {K : Type 0} (hash : RecordKey → ℕ) (base : State) (seat : ℕ) (a : ActiveView) (did : Step)
     (old new : KernelState K) (led : IsLedFrom hash base old) (there : call_at old.seats seat ≡ Some a)
     (sound : old.failed ≡ false) where
   abbrev Does : Step → Type 0
-  Does told = DoesAsTold hash base seat a told old new
+  Does told = DoesBy hash base seat a told old new
 
   together : AreTogether hash led.now (calls_of old.seats) old.pool old.locks
   together = (led.together sound).calls
@@ -37,7 +35,7 @@ module _ {K : Type 0} (hash : RecordKey → ℕ) (base : State) (seat : ℕ) (a 
   over false (Some answer) leaves = leaves
   over false None leaves = leaves
 
-  waiting : StaysWaiting did a (call_at new.seats seat) old.pool new.pool old.locks new.locks old.journal new.journal →
+  pub waiting : StaysWaiting did a (call_at new.seats seat) old.pool new.pool old.locks new.locks old.journal new.journal →
       Does did
   waiting stays = subst Does (sym stays.told_is) (record {
     file = ap (λ (p : PoolState). store_of p.images) stays.same_pool;
@@ -103,17 +101,5 @@ module _ {K : Type 0} (hash : RecordKey → ℕ) (base : State) (seat : ℕ) (a 
     told progress.Ended p left = over (is_waiting (conclusion_of come.machine)) (answer_of_call come.machine)
         (leaves (ap is_fault p) (does (ap is_fault p) progress.Ended p))
 
-    made : Does did
+    pub made : Does did
     made = subst Does (sym turn.told_is) (told turn.did refl turn.left_is)
-
-  pub as_told : TakesTurn hash seat old.stopped did a (call_at new.seats seat) old.pool new.pool old.locks new.locks
-      old.journal new.journal → Does did
-  as_told takes = by (stays_waiting a.wait a.machine.call old.journal) refl
-    where
-      by : (b : Bool) → stays_waiting a.wait a.machine.call old.journal ≡ b → Does did
-      by true stays = waiting (takes.waits stays)
-      by false woken = made (takes.goes woken)
-
-pub steps_do_as_told : (K : Type 0) → StepsDoAsTold K
-steps_do_as_told K hash base seat a did old new led there sound step =
-    as_told hash base seat a did old new led there sound (step.makes a there sound)

@@ -1,4 +1,3 @@
-pub mod PartLemmas
 pub mod EventLemmas
 pub mod RunLemmas
 pub mod LeadLemmas
@@ -6,5 +5,8 @@ pub mod CountLemmas
 pub mod CountedLemmas
 pub mod OpenLemmas
 pub mod TurnLemmas
+pub mod StepLemmas
 pub mod ScheduleLemmas
 pub mod DoingLemmas
+pub mod ToldLemmas
+pub use Rattle.interleaving_core.proofs as of_interleaving_core

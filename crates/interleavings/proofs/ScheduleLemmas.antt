@@ -1,12 +1,12 @@
 -- And behind drives, and events of many seats.
-use Rattle.std.proofs.Common.{ℕ, zero, suc, inl, inr, sym, subst, true, List, [], ◌∷◌}
+use Rattle.std.proofs.Common.{ℕ, zero, suc, inl, inr, sym, subst, true, List, [], ◌∷◌, Option}
 use Rattle.std.proofs.lemmas.Bool.{true≢false}
 use Rattle.std.proofs.lemmas.List.Elements.{All-head, All-tail, All-weaker}
 use Rattle.concurrent_calls.specs.Laws.{BeginTogether, EndTogether, StepTogether}
 use Rattle.interleaving_core.proofs.RunLemmas.{seat_stays}
+use Rattle.interleaving_core.specs.declared.fault.Failure.{Failure}
 use Rattle.interleavings.specs.Words.{IsSeat, IsDriven, KernelState, Moves, RecordKey, State, Step}
 use Rattle.interleavings.specs.Leading.{IsLedFrom}
-use Rattle.interleavings.specs.Headline.{AreFitting, IsFitting}
 use Rattle.interleavings.specs.Laws.{BeginsLed, DrivesLed, EventsLead, RefusesLed, StepsLed, StopsLed}
 use Rattle.interleavings.specs.Runs.{AreOfSeats, Happens, IsOfSeat, Runs}
 use Rattle.interleavings.specs.declared.event.Event.{Event}
@@ -15,7 +15,7 @@ use Rattle.interleavings.specs.declared.event.Outcome.{Outcome}
 use Rattle.interleavings.specs.declared.event.Outcome.TheVariants as outcomes
 use Rattle.interleavings.proofs.EventLemmas.{event_keeps}
 use Rattle.interleavings.proofs.RunLemmas.{still_of_seat}
-use Rattle.interleavings.proofs.TurnLemmas.{steps_led}
+use Rattle.interleavings.proofs.StepLemmas.{steps_led}
 
 -- ---- a drive
 
@@ -38,12 +38,13 @@ module _ (step_on : (K : Type 0) → StepsLed K) {K : Type 0} (hash : RecordKey 
       let (before, seated) = moves_led driven.moves driven.before driven.moved in
       elim driven.ends [
         | inl ends ↦ step_on K hash base seat did driven.before new seated before ends.step
-        | inr spent ↦ subst (IsLedFrom hash base) (sym spent.marked) (broken driven.before before)
+        | inr spent ↦ subst (IsLedFrom hash base) (sym spent.marked) (broken driven.before _ before)
       ]
     where
       -- where a step has failed the journal still leads
-      broken : (k : KernelState K) → IsLedFrom hash base k → IsLedFrom hash base (record k { failed = true })
-      broken k on = record {
+      broken : (k : KernelState K) (failure : Option Failure) → IsLedFrom hash base k →
+          IsLedFrom hash base (record k { failed = true; failure = failure })
+      broken k failure on = record {
         now = on.now;
         leads = on.leads;
         mark = on.mark;
@@ -62,46 +63,45 @@ drives_led steps ends begins K hash base seat did old new is led driven =
 
 module _ {K : Type 0} (begins : BeginsLed K) (refuses : RefusesLed K) (steps : StepsLed K) (drives : DrivesLed K)
     (stops : StopsLed K) (hash : RecordKey → ℕ) (base : State) where
-  event_leads : (e : Event) (o : Outcome) (old new : KernelState K) → IsOfSeat old.locks e → IsFitting e →
+  event_leads : (e : Event) (o : Outcome) (old new : KernelState K) → IsOfSeat old.locks e →
       IsLedFrom hash base old → Happens hash e o old new → IsLedFrom hash base new
-  event_leads (events.Begin seat call) outcomes.Begun old new is fits led has =
-      begins hash base seat call old new is fits led has
-  event_leads (events.Begin seat call) (outcomes.Refused back fault) old new is fits led refused =
+  event_leads (events.Begin seat call) outcomes.Begun old new is led has =
+      begins hash base seat call old new is led has
+  event_leads (events.Begin seat call) (outcomes.Refused back fault) old new is led refused =
       refuses hash base seat call (back, fault) old new led refused
-  event_leads (events.Begin seat call) (outcomes.Stepped did) old new is fits led x = absurd x
-  event_leads (events.Begin seat call) (outcomes.Driven did) old new is fits led x = absurd x
-  event_leads (events.Begin seat call) outcomes.Stopped old new is fits led x = absurd x
-  event_leads (events.Step seat) outcomes.Begun old new is fits led x = absurd x
-  event_leads (events.Step seat) (outcomes.Refused back fault) old new is fits led x = absurd x
-  event_leads (events.Step seat) (outcomes.Stepped did) old new is fits led step =
+  event_leads (events.Begin seat call) (outcomes.Stepped did) old new is led x = absurd x
+  event_leads (events.Begin seat call) (outcomes.Driven did) old new is led x = absurd x
+  event_leads (events.Begin seat call) outcomes.Stopped old new is led x = absurd x
+  event_leads (events.Step seat) outcomes.Begun old new is led x = absurd x
+  event_leads (events.Step seat) (outcomes.Refused back fault) old new is led x = absurd x
+  event_leads (events.Step seat) (outcomes.Stepped did) old new is led step =
       steps hash base seat did old new is led step
-  event_leads (events.Step seat) (outcomes.Driven did) old new is fits led x = absurd x
-  event_leads (events.Step seat) outcomes.Stopped old new is fits led x = absurd x
-  event_leads (events.Drive seat) outcomes.Begun old new is fits led x = absurd x
-  event_leads (events.Drive seat) (outcomes.Refused back fault) old new is fits led x = absurd x
-  event_leads (events.Drive seat) (outcomes.Stepped did) old new is fits led x = absurd x
-  event_leads (events.Drive seat) (outcomes.Driven did) old new is fits led driven =
+  event_leads (events.Step seat) (outcomes.Driven did) old new is led x = absurd x
+  event_leads (events.Step seat) outcomes.Stopped old new is led x = absurd x
+  event_leads (events.Drive seat) outcomes.Begun old new is led x = absurd x
+  event_leads (events.Drive seat) (outcomes.Refused back fault) old new is led x = absurd x
+  event_leads (events.Drive seat) (outcomes.Stepped did) old new is led x = absurd x
+  event_leads (events.Drive seat) (outcomes.Driven did) old new is led driven =
       drives hash base seat did old new is led driven.driven
-  event_leads (events.Drive seat) outcomes.Stopped old new is fits led x = absurd x
-  event_leads events.Stop outcomes.Begun old new is fits led x = absurd x
-  event_leads events.Stop (outcomes.Refused back fault) old new is fits led x = absurd x
-  event_leads events.Stop (outcomes.Stepped did) old new is fits led x = absurd x
-  event_leads events.Stop (outcomes.Driven did) old new is fits led x = absurd x
-  event_leads events.Stop outcomes.Stopped old new is fits led stop = stops hash base old new led stop
+  event_leads (events.Drive seat) outcomes.Stopped old new is led x = absurd x
+  event_leads events.Stop outcomes.Begun old new is led x = absurd x
+  event_leads events.Stop (outcomes.Refused back fault) old new is led x = absurd x
+  event_leads events.Stop (outcomes.Stepped did) old new is led x = absurd x
+  event_leads events.Stop (outcomes.Driven did) old new is led x = absurd x
+  event_leads events.Stop outcomes.Stopped old new is led stop = stops hash base old new led stop
 
   pub events_lead : (es : List Event) (os : List Outcome) (old new : KernelState K) → AreOfSeats old.locks es →
-      AreFitting es → IsLedFrom hash base old → Runs hash es os old new → IsLedFrom hash base new
-  events_lead [] [] old new seats fits led same = subst (IsLedFrom hash base) (sym same) led
-  events_lead [] (o ∷ os) old new seats fits led x = absurd x
-  events_lead (e ∷ es) [] old new seats fits led x = absurd x
-  events_lead (e ∷ es) (o ∷ os) old new seats fits led runs =
+      IsLedFrom hash base old → Runs hash es os old new → IsLedFrom hash base new
+  events_lead [] [] old new seats led same = subst (IsLedFrom hash base) (sym same) led
+  events_lead [] (o ∷ os) old new seats led x = absurd x
+  events_lead (e ∷ es) [] old new seats led x = absurd x
+  events_lead (e ∷ es) (o ∷ os) old new seats led runs =
       events_lead es os runs.between new
       (All-weaker (IsOfSeat old.locks) (IsOfSeat runs.between.locks) (still_of_seat old.locks runs.between.locks
       (event_keeps hash e o old runs.between runs.first).seats) es (All-tail (IsOfSeat old.locks) e es seats))
-      (All-tail IsFitting e es fits)
-      (event_leads e o old runs.between (All-head (IsOfSeat old.locks) e es seats) (All-head IsFitting e es fits) led
+      (event_leads e o old runs.between (All-head (IsOfSeat old.locks) e es seats) led
       runs.first) runs.rest
 
 pub events_led : (K : Type 0) → BeginsLed K → RefusesLed K → StepsLed K → DrivesLed K → StopsLed K → EventsLead K
-events_led K begins refuses steps drives stops hash base es os old new seats fits led runs =
-    events_lead begins refuses steps drives stops hash base es os old new seats fits led runs
+events_led K begins refuses steps drives stops hash base es os old new seats led runs =
+    events_lead begins refuses steps drives stops hash base es os old new seats led runs

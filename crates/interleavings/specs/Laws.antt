@@ -1,19 +1,14 @@
 -- Laws of kernels that are led from a system. Each is the contract of a function of laws.rt.
 use Rattle.std.specs.Prelude.{ℕ, ◌≡◌, ◌≤◌, Bool, IsTrue, List, None, Some, length, false}
-use Rattle.interleavings.specs.Words.{ActiveView, BeginFault, Call, Caller, HasCall, HasFittingCall, HasFittingCaller, HasSystem, IsDriven, IsFileOf, IsFlushedTo, IsLawful, IsOpened, IsRefused, IsSeat, IsStep, IsStopped, KernelState, MAX_SEATS, RecordKey, State, Step, after, call_at, caller_at, restarted}
+use Rattle.interleavings.specs.Words.{ActiveView, BeginFault, Call, Caller, HasCall, HasSystem, IsDriven, IsFileOf, IsFlushedTo, IsLawful, IsOpened, IsRefused, IsSeat, IsStep, IsStopped, KernelState, MAX_SEATS, RecordKey, State, Step, after, call_at, restarted}
 use Rattle.interleavings.specs.Doing.{DoesAsTold}
 use Rattle.interleaving_core.specs.search_counts.Counting.{count_at}
 use Rattle.interleavings.specs.Counting.{HopsFew}
 use Rattle.interleavings.specs.Leading.{IsLedFrom}
-use Rattle.interleavings.specs.Headline.{AreFitting, IsAsPlainLists}
+use Rattle.interleavings.specs.Headline.{IsAsPlainLists}
 use Rattle.interleavings.specs.Runs.{AreOfSeats, Runs}
 use Rattle.interleavings.specs.declared.event.Event.{Event}
 use Rattle.interleavings.specs.declared.event.Outcome.{Outcome}
-
--- the numbers of all callers fit the fields of records
-abbrev pub AreFittingCallers : List Caller → Type 0
-AreFittingCallers callers = (seat : ℕ) (caller : Caller) →
-    caller_at callers seat ≡ Some caller → HasFittingCaller caller
 
 -- it is led from the system whose file the pages of the device were
 pub record IsLedFromFile {K : Type 0} (hash : RecordKey → ℕ) (content : List (List ℕ)) (k : KernelState K) :
@@ -26,13 +21,13 @@ pub record IsLedFromFile {K : Type 0} (hash : RecordKey → ℕ) (content : List
 abbrev pub OpensLed : Type 0 → Type 0
 OpensLed K = (hash : RecordKey → ℕ) (keys : K) (content : List (List ℕ)) (honest : Bool) (callers : List Caller)
     (frames : ℕ) (k : KernelState K) → IsOpened keys content honest callers frames k → IsTrue honest →
-    HasSystem hash content → 1 ≤ length callers → length callers ≤ MAX_SEATS → AreFittingCallers callers →
+    HasSystem hash content → 1 ≤ length callers → length callers ≤ MAX_SEATS →
     IsLedFromFile hash content k
 
 -- by what Kernel::begin promises
 abbrev pub BeginsLed : Type 0 → Type 0
 BeginsLed K = (hash : RecordKey → ℕ) (base : State) (seat : ℕ) (call : Call) (old new : KernelState K) →
-    IsSeat old.locks seat → HasFittingCall call → IsLedFrom hash base old → HasCall seat call old new →
+    IsSeat old.locks seat → IsLedFrom hash base old → HasCall seat call old new →
     IsLedFrom hash base new
 
 abbrev pub RefusesLed : Type 0 → Type 0
@@ -63,7 +58,7 @@ StopsLed K = (hash : RecordKey → ℕ) (base : State) (old new : KernelState K)
 -- events one after the other, whatever seats they are of
 abbrev pub EventsLead : Type 0 → Type 0
 EventsLead K = (hash : RecordKey → ℕ) (base : State) (es : List Event) (os : List Outcome) (old new : KernelState K) →
-    AreOfSeats old.locks es → AreFitting es → IsLedFrom hash base old → Runs hash es os old new →
+    AreOfSeats old.locks es → IsLedFrom hash base old → Runs hash es os old new →
     IsLedFrom hash base new
 
 -- from a lawful system

@@ -1,6 +1,6 @@
 -- What events of many seats do to a kernel, one after the other, and what each seat is told by them.
 -- docs/STEPS.md, "Calls"; docs/QUEUES.md, "Journals".
-use Rattle.std.specs.Prelude.{ℕ, ◌≡◌, ◌==◌, Bool, false, if◌then◌else◌, List, [], ◌∷◌, ◌++◌, Option, None, Some, ⊤}
+use Rattle.std.specs.Prelude.{ℕ, ◌≡◌, ◌==◌, Bool, false, if◌then◌else◌, List, [], ◌∷◌, ◌++◌, Option, None, Some, drop, take, ⊤}
 use Rattle.std.specs.List.{All}
 use Rattle.interleavings.specs.Words.{Answer, Call, Entry, HasCall, IsDriven, IsRefused, IsRun, IsSeat, IsStep, IsStopped, KernelState, RecordKey, Step, Table, answer_told, call_at, call_of, entry_of, part_of, untold}
 use Rattle.interleavings.specs.declared.event.Event.{Event}
@@ -92,3 +92,19 @@ pub record IsToldItsPart {K : Type 0} (seat : ℕ) (es : List Event) (os : List 
   -- it was owed its last call's entry before, and may still be owed one
   pub told : told_along seat (call_of (call_at old.seats seat)) es os ++ untold seat (call_at new.seats seat)
       ≡ untold seat (call_at old.seats seat) ++ part_of seat added
+
+-- ---- real time
+
+-- a moment of a run, behind so many of its events: what a seat was told until then stands in the journal that there is
+-- then, and what it is told later joins that journal, but for the one entry that it may be owed then
+pub record HasMoment {K : Type 0} (hash : RecordKey → ℕ) (many : ℕ) (es : List Event) (os : List Outcome)
+    (old new : KernelState K) : Type 0 where
+  pub between : KernelState K
+  pub before : Runs hash (take many es) (take many os) old between
+  pub behind : Runs hash (drop many es) (drop many os) between new
+  pub told_before : (seat : ℕ) → IsToldItsPart seat (take many es) (take many os) old between
+  pub told_behind : (seat : ℕ) → IsToldItsPart seat (drop many es) (drop many os) between new
+
+-- the journal is a linearization (Herlihy and Wing 1990): a call that began after another was answered stands after it
+abbrev pub IsLinearized : {K : Type 0} → (RecordKey → ℕ) → List Event → List Outcome → (old new : KernelState K) → Type 0
+IsLinearized hash es os old new = (many : ℕ) → HasMoment hash many es os old new

@@ -42,10 +42,15 @@ pub fn steps_lead_on<K>()
 /// the kind that is told; or another seat holds against what it asks, and nothing changes; or it
 /// waits, is answered, or has no room, and nothing changes; or a transfer of the device failed. It
 /// comes to waiting only where the rules have no answer, and to having no room only where there is
-/// none.
+/// none. Where its call was woken before its seat could be told that it waits, it is the first step
+/// of that call begun anew.
 pub fn a_step_does_what_its_seat_is_told<K>()
     ensures { StepsDoAsTold K }
-{}
+{
+    calls_step_together();
+    calls_end_together();
+    calls_begin_together();
+}
 
 /// And behind each drive, which is so many steps.
 pub fn drives_lead_on<K>()

@@ -78,18 +78,33 @@ const WOKEN_BY_STOP: [Row; 3] = [
     Drives(1, Refused(Errno::EINTR)),
 ];
 
-/// What is decided behind its Decide wakes it, though its seat is told only later that it waits.
+/// What is decided after its Decide wakes it, also before it has given its names back: its seat is
+/// not told that it waits, and that step is the first one of the call begun anew.
 const WOKEN_EARLY: [Row; 7] = [
     Calls(1, Get(7), Id(1)),
     Begins(1, Receive(1, 0)),
     Reaches(1, Kind::Decide),
     Calls(2, Send(1, 0, "a"), Refused(Errno::EINVAL)),
-    Drives(1, Waiting),
+    Steps(1, Moved(Kind::Release)),
     Steps(1, Moved(Kind::Grant)),
     Drives(1, Waiting),
 ];
 
-const CASES: [Case; 4] = [
+/// A call that waits, and one that is stopped between its Decide and its last Release: that one is
+/// refused, and its seat was never told that it waits.
+const STOPPED_EARLY: [Row; 9] = [
+    Calls(1, Get(7), Id(1)),
+    Calls(2, Receive(1, 0), Waiting),
+    Begins(1, Receive(1, 0)),
+    Reaches(1, Kind::Decide),
+    Stops,
+    Steps(1, Moved(Kind::Release)),
+    Steps(1, Moved(Kind::Grant)),
+    Drives(1, Refused(Errno::EINTR)),
+    Drives(2, Refused(Errno::EINTR)),
+];
+
+const CASES: [Case; 5] = [
     Case {
         pages: 258,
         rows: &[&BOTH],
@@ -108,6 +123,11 @@ const CASES: [Case; 4] = [
     Case {
         pages: 258,
         rows: &[&WOKEN_EARLY, &WOKEN_BY_STOP],
+        left: &[Entries(4)],
+    },
+    Case {
+        pages: 258,
+        rows: &[&STOPPED_EARLY],
         left: &[Entries(4)],
     },
 ];

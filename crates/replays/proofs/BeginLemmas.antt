@@ -7,7 +7,7 @@ use Rattle.queue_model.specs.declared.entry.Entry.{Entry}
 use Rattle.interleavings.specs.interleaving_core.Kernel.{call_at}
 use Rattle.interleavings.specs.interleaving_core.Owing.{call_of, entry_of, untold}
 use Rattle.interleavings.proofs.EventLemmas.{IsTold}
-use Rattle.interleavings.proofs.PartLemmas.{entry_of_none}
+use Rattle.interleavings.proofs.of_interleaving_core.PartLemmas.{entry_of_none}
 use Rattle.msgq_cli.specs.declared.command.Command.{Command}
 use Rattle.msgq_cli.specs.declared.command.Command.TheVariants as commands
 use Rattle.msgq_cli.specs.declared.line.Line.{Line}

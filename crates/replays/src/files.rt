@@ -7,7 +7,8 @@ ghost use Rattle.replays.specs.Replays.{IsScheduleRefused, ReplaysFile};
 
 use crate::ending::run;
 use crate::opening::open;
-use interleavings::interleaving_core::{BUSY, OpenFault};
+use faults::BUSY;
+use interleavings::interleaving_core::OpenFault;
 use msgq_cli::{
     Ending, Failure, Output, Stage, complain, complain_of, complain_unopened, fail, read_file,
     read_script, refuse, unread,
@@ -69,9 +70,12 @@ where
     match FileDevice::open(rt, sources.file) {
         Ok(device) => match open(rt.alloc(), device, &script) {
             Ok(replay) => {
-                let ending = run(replay, events.as_slice(), output).ending;
-                complain_of_replay(sources.file, ending, errors);
-                ending
+                let replayed = run(replay, events.as_slice(), output);
+                if let Some(failure) = replayed.failure {
+                    complain(sources.file, "a line failed", failure, errors);
+                }
+                complain_of_replay(sources.file, replayed.ending, errors);
+                replayed.ending
             }
             Err(fault) => leave_unopened(sources.file, fault, output, errors),
         },

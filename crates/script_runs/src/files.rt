@@ -4,8 +4,8 @@ ghost use Rattle.script_runs.specs.Serves.{RunsFile};
 
 use crate::serving::run_on;
 use msgq_cli::{
-    Ending, Output, Stage, complain_of, complain_unopened, fail, read_file, read_script, refuse,
-    unread,
+    Ending, Output, Stage, complain, complain_of, complain_unopened, fail, read_file, read_script,
+    refuse, unread,
 };
 use page_device::FileDevice;
 use std::fs::{OpenFile, OpenOptions};
@@ -41,9 +41,12 @@ where
     };
     match FileDevice::open(rt, file) {
         Ok(device) => {
-            let ending = run_on(rt.alloc(), device, &script, output).1;
-            complain_of(file, ending, errors);
-            ending
+            let ran = run_on(rt.alloc(), device, &script, output);
+            if let Some(failure) = ran.failure {
+                complain(file, "a line failed", failure, errors);
+            }
+            complain_of(file, ran.ending, errors);
+            ran.ending
         }
         Err(fault) => {
             let ending = fail(Stage::Opening, fault.number(), output);

@@ -1,8 +1,14 @@
 -- The entries of a seat's calls, in a journal and told to the seat.
-use Rattle.std.proofs.Common.{◌≡◌, ◌≢◌, refl, sym, ap, ◌∙◌, ℕ, true, false, List, [], ◌∷◌, ◌++◌, Option, Some, None, eq-eqb, ne_eqb}
+use Rattle.std.proofs.Common.{◌≡◌, ◌≢◌, refl, sym, ap, ◌∙◌, subst, ℕ, true, false, List, [], ◌∷◌, ◌++◌, Option, Some, None, eq-eqb, ne_eqb}
 use Rattle.std.proofs.lemmas.Bool.{eqb-true}
 use Rattle.queue_model.specs.declared.entry.Entry.TheVariants.{Decided, Stopped}
-use Rattle.interleavings.specs.Words.{Answer, Call, Entry, entry_of, is_of, part_of}
+use Rattle.queue_model.specs.Journal.{is_of, part_of}
+use Rattle.interleaving_core.specs.Active.{ActiveView, entries_by}
+use Rattle.interleaving_core.specs.Kernel.{KernelState, call_at}
+use Rattle.interleaving_core.specs.Owing.{IsRun, told}
+use Rattle.interleaving_core.specs.Past.{entry_of, untold}
+use Rattle.interleaving_core.specs.Words.{Answer, Call, Entry, answer_of_call}
+use Rattle.interleaving_core.specs.declared.active.Draft.{Draft}
 
 -- each entry is one of this seat's calls
 abbrev pub AreOf : ℕ → List Entry → Type 0
@@ -41,3 +47,28 @@ part_other seat other (e ∷ es) not all = rw (not_of_both seat other e not all.
 pub entry_of_none : (seat : ℕ) (call : Option Call) → entry_of seat call None ≡ []
 entry_of_none seat None = refl
 entry_of_none seat (Some call) = refl
+
+-- ---- those that steps add
+
+pub entries_are_of : (seat : ℕ) (answer : Option Answer) (draft : Option Draft) →
+    AreOf seat (entries_by seat answer draft)
+entries_are_of seat None draft = tt
+entries_are_of seat (Some answer) None = tt
+entries_are_of seat (Some answer) (Some d) = (eq-eqb seat seat refl, tt)
+
+-- the entries of steps are of their seat's call
+pub added_is_of : {K : Type 0} (seat : ℕ) (answer : Option Answer) (old new : KernelState K)
+    (r : IsRun seat answer old new) → AreOf seat r.added
+added_is_of seat answer old new r =
+    back_is_of seat (untold seat (call_at old.seats seat)) r.added
+    (subst (AreOf seat) (sym r.owed)
+    (both_are_of seat (told seat (call_at old.seats seat) answer) (untold seat (call_at new.seats seat))
+    (told_is_of (call_at old.seats seat)) (untold_is_of (call_at new.seats seat))))
+  where
+    told_is_of : (at : Option ActiveView) → AreOf seat (told seat at answer)
+    told_is_of None = tt
+    told_is_of (Some a) = entry_is_of seat (Some a.machine.call) answer
+
+    untold_is_of : (at : Option ActiveView) → AreOf seat (untold seat at)
+    untold_is_of None = tt
+    untold_is_of (Some a) = entry_is_of seat (Some a.machine.call) (answer_of_call a.machine)
