@@ -142,10 +142,10 @@ module _ (steps : StepTogether) (ends : EndTogether) (begins : BeginTogether) {K
       }
       by false woken = elim (takes.goes woken) [
         | inl turn ↦ record {
-            by = a;
-            is = inl refl;
-            does = made hash base seat a did old new led there sound turn.0;
-          }
+          by = a;
+          is = inl refl;
+          does = made hash base seat a did old new led there sound turn.0;
+        }
         | inr anew ↦ does_anew anew
       ]
 

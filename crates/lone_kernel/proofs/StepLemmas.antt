@@ -262,64 +262,64 @@ module _ {K : Type 0} (hash : RecordKey → ℕ) (seat : ℕ) (caller : Caller) 
     (serves : ServesOver hash seat caller call s old)
     (anew : TurnsAnew hash seat old.stopped did serves.active left old.pool pool old.locks locks old.journal journal)
   where
-  pub never_woken : stays_waiting anew.again.wait anew.again.machine.call old.journal ≡ true
-  never_woken = by (stays_waiting anew.again.wait anew.again.machine.call old.journal) refl
-    where
-      by : (b : Bool) → stays_waiting anew.again.wait anew.again.machine.call old.journal ≡ b →
-          stays_waiting anew.again.wait anew.again.machine.call old.journal ≡ true
-      by true is = is
-      by false is = absurd (true≢false
-          (sym (woken_from hash seat old.stopped serves.active anew.again old.pool anew.between old.locks old.locks
-          old.journal old.journal anew.ends old.journal is)
-          ∙ serves.quiet (waits_from hash seat old.stopped serves.active anew.again old.pool anew.between old.locks
-          old.locks old.journal old.journal anew.ends)))
+    pub never_woken : stays_waiting anew.again.wait anew.again.machine.call old.journal ≡ true
+    never_woken = by (stays_waiting anew.again.wait anew.again.machine.call old.journal) refl
+      where
+        by : (b : Bool) → stays_waiting anew.again.wait anew.again.machine.call old.journal ≡ b →
+            stays_waiting anew.again.wait anew.again.machine.call old.journal ≡ true
+        by true is = is
+        by false is = absurd (true≢false
+            (sym (woken_from hash seat old.stopped serves.active anew.again old.pool anew.between old.locks old.locks
+            old.journal old.journal anew.ends old.journal is)
+            ∙ serves.quiet (waits_from hash seat old.stopped serves.active anew.again old.pool anew.between old.locks
+            old.locks old.journal old.journal anew.ends)))
 
 module _ (begins : BeginsAtRest) (few_steps : HaveFewSteps) {K : Type 0} (hash : RecordKey → ℕ) (seat : ℕ)
     (caller : Caller) (call : Call) (s : State) (did : Step) (old new : KernelState K) (is : IsSeat old.locks seat)
     (is_new : IsSeat new.locks seat) (serves : ServesOver hash seat caller call s old) (goes : Goes seat did old new)
   where
-  module _ (anew : TurnsAnew hash seat old.stopped did serves.active (call_at new.seats seat) old.pool new.pool
-      old.locks new.locks old.journal new.journal) where
-    abbrev mid : KernelState K
-    mid = between seat anew.again anew.between old
+    module _ (anew : TurnsAnew hash seat old.stopped did serves.active (call_at new.seats seat) old.pool new.pool
+        old.locks new.locks old.journal new.journal) where
+      abbrev mid : KernelState K
+      mid = between seat anew.again anew.between old
 
-    seated : (1 ≤ seat) × (seat ≤ length old.seats)
-    seated = seat_of_call old.seats seat serves.active serves.there
+      seated : (1 ≤ seat) × (seat ≤ length old.seats)
+      seated = seat_of_call old.seats seat serves.active serves.there
 
-    at_mid : call_at mid.seats seat ≡ Some anew.again
-    at_mid = at_same old.seats seat (Some anew.again) seated.0 seated.1
+      at_mid : call_at mid.seats seat ≡ Some anew.again
+      at_mid = at_same old.seats seat (Some anew.again) seated.0 seated.1
 
-    waits_mid : WaitsOver hash seat caller call s mid
-    waits_mid = made_stands begins few_steps hash seat caller call s steps.Waiting old mid is serves
-        (first_goes seat anew.again anew.between old seated.0 seated.1 serves.sound)
-        (subst (λ (o : Option ActiveView). MakesTurn hash seat old.stopped steps.Waiting serves.active o old.pool
-        anew.between old.locks old.locks old.journal old.journal) (sym at_mid) anew.ends)
+      waits_mid : WaitsOver hash seat caller call s mid
+      waits_mid = made_stands begins few_steps hash seat caller call s steps.Waiting old mid is serves
+          (first_goes seat anew.again anew.between old seated.0 seated.1 serves.sound)
+          (subst (λ (o : Option ActiveView). MakesTurn hash seat old.stopped steps.Waiting serves.active o old.pool
+          anew.between old.locks old.locks old.journal old.journal) (sym at_mid) anew.ends)
 
-    same : anew.again ≡ waits_mid.serves.active
-    same =
-        let both : ◌≡◌ {A = Option ActiveView} (Some anew.again) (Some waits_mid.serves.active) =
-        sym at_mid ∙ waits_mid.serves.there in cc
+      same : anew.again ≡ waits_mid.serves.active
+      same =
+          let both : ◌≡◌ {A = Option ActiveView} (Some anew.again) (Some waits_mid.serves.active) =
+          sym at_mid ∙ waits_mid.serves.there in cc
 
-    stays : stays_waiting anew.again.wait anew.again.machine.call old.journal ≡ true
-    stays = never_woken hash seat caller call s did old (call_at new.seats seat) new.pool new.locks new.journal serves
-        anew
+      stays : stays_waiting anew.again.wait anew.again.machine.call old.journal ≡ true
+      stays = never_woken hash seat caller call s did old (call_at new.seats seat) new.pool new.locks new.journal serves
+          anew
 
-    stands_anew : StandsBehind hash seat caller call s did new
-    stands_anew = waits_stands begins few_steps hash seat caller call s did mid new is_new waits_mid.serves
-        (last_goes seat anew.again anew.between old did new goes)
-        (subst (λ (a : ActiveView). stays_waiting a.wait a.machine.call old.journal ≡ true) same stays)
-        (subst (λ (a : ActiveView). StaysWaiting did a (call_at new.seats seat) anew.between new.pool old.locks
-        new.locks old.journal new.journal) same (anew.waits stays))
+      stands_anew : StandsBehind hash seat caller call s did new
+      stands_anew = waits_stands begins few_steps hash seat caller call s did mid new is_new waits_mid.serves
+          (last_goes seat anew.again anew.between old did new goes)
+          (subst (λ (a : ActiveView). stays_waiting a.wait a.machine.call old.journal ≡ true) same stays)
+          (subst (λ (a : ActiveView). StaysWaiting did a (call_at new.seats seat) anew.between new.pool old.locks
+          new.locks old.journal new.journal) same (anew.waits stays))
 
-  turns : (waits : Bool) → stays_waiting serves.active.wait serves.active.machine.call old.journal ≡ waits →
-      TakesTurn hash seat old.stopped did serves.active (call_at new.seats seat) old.pool new.pool old.locks new.locks
-      old.journal new.journal → StandsBehind hash seat caller call s did new
-  turns true stays t =
-      waits_stands begins few_steps hash seat caller call s did old new is_new serves goes stays (t.waits stays)
-  turns false woken t = elim (t.goes woken) [
-    | inl made ↦ made_stands begins few_steps hash seat caller call s did old new is_new serves goes made.0
-    | inr anew ↦ stands_anew anew
-  ]
+    turns : (waits : Bool) → stays_waiting serves.active.wait serves.active.machine.call old.journal ≡ waits →
+        TakesTurn hash seat old.stopped did serves.active (call_at new.seats seat) old.pool new.pool old.locks new.locks
+        old.journal new.journal → StandsBehind hash seat caller call s did new
+    turns true stays t =
+        waits_stands begins few_steps hash seat caller call s did old new is_new serves goes stays (t.waits stays)
+    turns false woken t = elim (t.goes woken) [
+      | inl made ↦ made_stands begins few_steps hash seat caller call s did old new is_new serves goes made.0
+      | inr anew ↦ stands_anew anew
+    ]
 
 pub answers_by_the_rules : BeginsAtRest → HaveFewSteps → (K : Type 0) → AnswersByTheRules K
 answers_by_the_rules begins few_steps K hash seat caller call s did old new is serves turn makes =
