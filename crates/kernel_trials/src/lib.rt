@@ -14,6 +14,8 @@ mod drawn;
 #[cfg(test)]
 mod finding;
 #[cfg(test)]
+mod malicious;
+#[cfg(test)]
 mod no_room;
 #[cfg(test)]
 mod plain;
