@@ -30,6 +30,8 @@ mod scripts;
 #[cfg(test)]
 mod splitting;
 #[cfg(test)]
+mod spoiling;
+#[cfg(test)]
 mod types;
 #[cfg(test)]
 mod waiting;

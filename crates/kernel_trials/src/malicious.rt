@@ -15,7 +15,7 @@ use std::test::Fail;
 const PAGES: u32 = 288;
 
 /// Page 257 has the records with even numbers, page 258 those with odd ones.
-const TWO_BUCKETS: Case = Case {
+pub const TWO_BUCKETS: Case = Case {
     pages: PAGES,
     rows: &[&FULL_BUCKET, &SPLIT],
     left: &[Bytes(257, 2500), Bytes(258, 2235), Header(1, 259)],
