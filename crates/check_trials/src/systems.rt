@@ -1,6 +1,6 @@
 //! The file of two queues, with each change of it alone, sealed again.
 
-use crate::two_buckets::{PAGES, payload_of, two_buckets};
+use crate::two_buckets::{PAGES, two_buckets};
 use crate::two_queues::{Buckets, adds, puts, takes, two_queues};
 use bucket_page::{Malformed, NumberKey, RecordKey, write_tombstone};
 use file_check::{CheckFault, Checked, check};
@@ -27,11 +27,7 @@ fn writes(
     page: u32,
     edits: &[Edit],
 ) -> Result<(), Fail> {
-    let mut payload = match page {
-        257 => buckets.even,
-        258 => buckets.odd,
-        _ => payload_of(page),
-    };
+    let mut payload = buckets.payload_of(page);
     for edit in edits {
         if edit.0 == page {
             assert!(rt; edit.1 < PAYLOAD_BYTES);
@@ -43,7 +39,7 @@ fn writes(
 }
 
 /// A device with the file.
-fn device(rt: &impl Abort, alloc: Global, buckets: &Buckets) -> Result<MemDevice, Fail> {
+pub(crate) fn device(rt: &impl Abort, alloc: Global, buckets: &Buckets) -> Result<MemDevice, Fail> {
     let mut device = two_buckets(alloc)?;
     writes(rt, &mut device, buckets, 257, &[])?;
     writes(rt, &mut device, buckets, 258, &[])?;
@@ -51,7 +47,7 @@ fn device(rt: &impl Abort, alloc: Global, buckets: &Buckets) -> Result<MemDevice
 }
 
 /// What is found; a call that found no memory is made again.
-fn finds(alloc: Global, device: MemDevice) -> Checked<MemDevice> {
+pub(crate) fn finds(alloc: Global, device: MemDevice) -> Checked<MemDevice> {
     let Checked { device, found } = check(alloc, device, NumberKey);
     if let Err(CheckFault::Structure(StructureFault::NoMemory)) = found {
         return check(alloc, device, NumberKey);
@@ -60,7 +56,7 @@ fn finds(alloc: Global, device: MemDevice) -> Checked<MemDevice> {
 }
 
 /// The number of what is wrong, 0 where two queues with five messages are found.
-fn number(rt: &impl Abort, found: &Result<System, CheckFault>) -> u8 {
+pub(crate) fn number(rt: &impl Abort, found: &Result<System, CheckFault>) -> u8 {
     match found {
         Ok(system) => {
             assert_eq!(rt; system.queues(), 2);
@@ -115,26 +111,31 @@ const HEADERS: [([Edit; 2], u8); 5] = [
     ([Edit(0, 15, 33), NONE], 22),
 ];
 
-const CHAINS: [([Edit; 2], u8); 11] = [
+const CHAINS: [([Edit; 2], u8); 14] = [
     // nothing; entry 2 is 9999, which nothing reads
     ([NONE, NONE], 0),
     ([Edit(1, 26, 0x27), Edit(1, 27, 0x0f)], 0),
-    // the next of 258 is 257, 5, 259, 288; its pattern is 0
+    // the next of 258 is 257, 5, 259, 288, 9999; its pattern is 0
     ([Edit(258, 10, 1), Edit(258, 11, 1)], 70),
     ([Edit(258, 11, 5), NONE], 70),
     ([Edit(258, 10, 1), Edit(258, 11, 3)], 70),
     ([Edit(258, 10, 1), Edit(258, 11, 0x20)], 70),
+    ([Edit(258, 10, 0x27), Edit(258, 11, 0x0f)], 70),
     ([Edit(258, 7, 0), NONE], 70),
-    // the first free page is 0; the link of 287 is 259, 288; page 287 is a tombstone
+    // the first free page is 0, 288; the link of 287 is 259, 288, 9999; page 287 is a tombstone
     ([Edit(0, 18, 0), Edit(0, 19, 0)], 71),
+    ([Edit(0, 18, 1), Edit(0, 19, 0x20)], 71),
     ([Edit(287, 6, 1), Edit(287, 7, 3)], 71),
     ([Edit(287, 6, 1), Edit(287, 7, 0x20)], 71),
+    ([Edit(287, 6, 0x27), Edit(287, 7, 0x0f)], 71),
     ([Edit(287, 0, 4), NONE], 71),
 ];
 
-const ENTRIES: [([Edit; 2], u8); 6] = [
-    // entry 1 is 257; the depth is 0, 2; there are 3 buckets of depth 1
+const ENTRIES: [([Edit; 2], u8); 8] = [
+    // entry 1 is 257, 288, 9999; the depth is 0, 2; there are 3 buckets of depth 1
     ([Edit(1, 23, 1), NONE], 72),
+    ([Edit(1, 23, 0x20), NONE], 72),
+    ([Edit(1, 22, 0x27), Edit(1, 23, 0x0f)], 72),
     ([Edit(0, 2, 0), NONE], 72),
     ([Edit(0, 2, 2), NONE], 72),
     ([Edit(0, 27, 3), NONE], 72),
@@ -241,37 +242,5 @@ fn a_record_too_many_or_too_few_has_its_number(rt: HostRuntime) -> Result<(), Fa
     };
     takes(&rt, &mut uncounted.even, &counter);
     assert_eq!(rt; told(&rt, rt.alloc(), &uncounted)?, 73);
-    Ok(())
-}
-
-#[test]
-fn a_cut_file_a_long_one_and_a_changed_page_are_refused(rt: HostRuntime) -> Result<(), Fail> {
-    let mut cut = MemDevice::new(rt.alloc());
-    for page in 0..PAGES {
-        let Checked { device, found } = finds(rt.alloc(), cut);
-        assert_eq!(rt; number(&rt, &found), 22, "{page} pages");
-        cut = device;
-        cut.extend(&seal(page, &payload_of(page)))?;
-    }
-    let buckets = two_queues(&rt);
-    let mut file = device(&rt, rt.alloc(), &buckets)?;
-    let mut changed = seal(258, &buckets.odd);
-    changed[2000] ^= 1;
-    for (page, bytes) in [
-        (258, changed),
-        (256, seal(257, &payload_of(256))),
-        (1, seal(0, &payload_of(1))),
-        (0, seal(1, &payload_of(0))),
-    ] {
-        file.write(page, &bytes)?;
-        let Checked { device, found } = finds(rt.alloc(), file);
-        file = device;
-        let want = CheckFault::Structure(StructureFault::BadDigest { page });
-        assert!(rt; found.err() == Some(want), "page {page}");
-    }
-    let mut long = device(&rt, rt.alloc(), &buckets)?;
-    long.extend(&seal(PAGES, &payload_of(PAGES)))?;
-    let Checked { device: _, found } = finds(rt.alloc(), long);
-    assert_eq!(rt; number(&rt, &found), 41);
     Ok(())
 }

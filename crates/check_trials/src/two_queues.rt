@@ -20,6 +20,17 @@ pub(crate) struct Buckets {
     pub(crate) odd: Payload,
 }
 
+impl Buckets {
+    /// The payload of a page of the file.
+    pub(crate) fn payload_of(&self, page: u32) -> Payload {
+        match page {
+            257 => self.even,
+            258 => self.odd,
+            _ => payload_of(page),
+        }
+    }
+}
+
 /// The bucket of a payload that is one.
 fn bucket<'a>(rt: &impl Abort, payload: &'a Payload) -> BucketView<'a>
     ensures page { IsBucketPage payload.now }
