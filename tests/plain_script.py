@@ -134,7 +134,8 @@ def draw_script(rng):
         lines.insert(rng.randrange(len(lines)) + 1, rng.choice(WRONG))
     if rng.random() < 0.5:
         lines = ["ids 2 0 0"] * rng.choice([1, 1, 1, 1, 1, 2]) + lines
-    data = bytearray(rng.choice(["\n", "\n", "\r\n"]).join(lines).encode() + rng.choice([b"\n", b"\n", b"\n", b"\n", b"", b"", b"\r\n", b"\r\n", b"\r"]))
+    end = rng.choices([b"\n", b"\r\n", b"", b"\r"], [4, 2, 2, 1])[0]
+    data = bytearray(rng.choice(["\n", "\n", "\r\n"]).join(lines).encode() + end)
     if rng.random() < 0.2:
         data[rng.randrange(len(data))] = rng.randrange(256)
     return bytes(data)
@@ -152,5 +153,6 @@ def draw_schedule(rng):
         seat = rng.choice(["1", "2", "3", "02", "64"])
         words.append(seat + rng.choice(["", "!", f":{rng.choice([1, 9, 300])}", "@" + rng.choice(KINDS)]))
     if rng.random() < 0.5:
-        words.insert(rng.randrange(len(words) + 1), rng.choice(["stop", "0", "65", "1:0", "1:1000001", "1@Decided", "1!!", "x", "1:", "@Look"]))
+        other = rng.choice(["stop", "0", "65", "1:0", "1:1000001", "1@Decided", "1!!", "x", "1:", "@Look"])
+        words.insert(rng.randrange(len(words) + 1), other)
     return rng.choice([" ", "\n", "\r\n\t"]).join(words).encode()
