@@ -14,6 +14,8 @@ mod drawn;
 #[cfg(test)]
 mod finding;
 #[cfg(test)]
+mod malicious;
+#[cfg(test)]
 mod no_room;
 #[cfg(test)]
 mod plain;
@@ -27,6 +29,8 @@ mod rows;
 mod scripts;
 #[cfg(test)]
 mod splitting;
+#[cfg(test)]
+mod spoiling;
 #[cfg(test)]
 mod types;
 #[cfg(test)]

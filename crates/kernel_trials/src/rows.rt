@@ -3,7 +3,7 @@
 use crate::asks::Asks;
 use bucket_page::PseudoKey;
 use interleaving_core::{BeginFault, Kernel, Step, StepFault};
-use page_device::MemDevice;
+use page_device::{MemDevice, PageDevice};
 use queue_model::{Answer, Call, Caller, Errno, QueueInfo};
 use record_file::format;
 use std::alloc::Global;
@@ -159,8 +159,8 @@ pub fn begins<K: PseudoKey + Copy>(
 }
 
 /// A call begins at a seat; where there is no such seat it comes back.
-pub fn begin<K: PseudoKey + Copy>(
-    kernel: &mut Kernel<MemDevice, K>,
+pub fn begin<D: PageDevice + Drop, K: PseudoKey + Copy>(
+    kernel: &mut Kernel<D, K>,
     seat: u8,
     call: Call,
 ) -> Result<(), (Call, BeginFault)> {
@@ -171,7 +171,10 @@ pub fn begin<K: PseudoKey + Copy>(
 }
 
 /// One step of a seat; of none where there is no such seat.
-pub fn step<K: PseudoKey + Copy>(kernel: &mut Kernel<MemDevice, K>, seat: u8) -> Step {
+pub fn step<D: PageDevice + Drop, K: PseudoKey + Copy>(
+    kernel: &mut Kernel<D, K>,
+    seat: u8,
+) -> Step {
     if seat == 0 || seat > kernel.seats() {
         return Step::Idle;
     }

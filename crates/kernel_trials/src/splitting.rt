@@ -12,7 +12,7 @@ use std::test::Fail;
 use step_rules::Kind;
 
 /// Two queues in the one bucket, which has no room for a fourth long message.
-const FULL_BUCKET: [Row; 9] = [
+pub const FULL_BUCKET: [Row; 9] = [
     Calls(1, Get(7), Id(1)),
     Calls(1, Get(9), Id(2)),
     Calls(1, Send(2, 2, "a"), Sent(1)),
@@ -25,7 +25,7 @@ const FULL_BUCKET: [Row; 9] = [
 ];
 
 /// The fourth message is sent.
-const SPLIT: [Row; 2] = [
+pub const SPLIT: [Row; 2] = [
     Begins(1, SendLong(1, 1024)),
     Counts(1, Kind::WriteOld, 1, Sent(4)),
 ];
