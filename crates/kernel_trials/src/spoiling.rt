@@ -62,10 +62,18 @@ impl PageDevice for SpoilingDevice {
 /// then to compare with the system.
 const READS_OF_OPENING: u32 = 292;
 
-/// Whether one of the first ten steps of a seat meets a fault.
+/// Whether a step is told 62.
+fn is_failed(told: &Step) -> bool {
+    match told {
+        Step::Fault(fault) => fault.number() == 62,
+        _ => false,
+    }
+}
+
+/// Whether one of the first ten steps of a seat is told 62.
 fn fails(kernel: &mut Kernel<SpoilingDevice, NumberKey>, seat: u8) -> bool {
     for _ in 0..10 {
-        if matches!(step(kernel, seat), Step::Fault(_)) {
+        if is_failed(&step(kernel, seat)) {
             return true;
         }
     }
@@ -88,11 +96,7 @@ fn a_page_that_is_spoilt_behind_opening_fails_the_kernel(rt: HostRuntime) -> Res
     assert!(rt; fails(&mut kernel, 1));
     // from then on each is told 62, and nothing is written
     for seat in [2, 1] {
-        let told = step(&mut kernel, seat);
-        assert!(rt;
-            matches!(told, Step::Fault(fault) if fault.number() == 62),
-            "seat {seat}"
-        );
+        assert!(rt; is_failed(&step(&mut kernel, seat)), "seat {seat}");
     }
     let begun = begin(&mut kernel, 3, Get(7).to_call(alloc)?);
     assert!(rt; matches!(begun, Err((_, BeginFault::Failed))));
