@@ -124,7 +124,8 @@ module _ (hash : RecordKey → ℕ) (seat : ℕ) (stopped : Bool) (a again : Act
   -- it held nothing, and holds nothing
   pub holds_nothing : locks_of (Some again) ≡ locks_of (Some a)
   holds_nothing =
-      new_holds_nothing again.machine ends_waiting.begins.begins.new ∙ sym (over_holds_nothing a.machine ends_waiting.over)
+      new_holds_nothing again.machine ends_waiting.begins.begins.new
+      ∙ sym (over_holds_nothing a.machine ends_waiting.over)
 
   pub same_rows : row_of locks seat ≡ locks_of (Some a) → locks' ≡ locks
   same_rows row =

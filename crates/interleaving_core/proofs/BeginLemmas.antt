@@ -179,7 +179,8 @@ none_due (suc n) =
     sum_by-cons due_at None (replicate n None) ∙ ap (λ (x : ℕ). due_at None + x) (none_due n)
 
 pub opened_whole : {K : Type 0} (n : ℕ) (k : KernelState K) → IsReady k.pool → k.locks ≡ replicate n [] →
-    k.seats ≡ replicate n None → length k.callers ≡ n → AreFittingCallers k.callers → k.journal ≡ [] → k.stopped ≡ false → 1 ≤ k.room →
+    k.seats ≡ replicate n None → length k.callers ≡ n → AreFittingCallers k.callers → k.journal ≡ [] →
+    k.stopped ≡ false → 1 ≤ k.room →
     k.failed ≡ is_some k.failure → k.searches ≡ opened_counts n → IsWhole k
 opened_whole n k ready locks seats callers fitting journal stopped room blamed searches = record {
   ready = ready;

@@ -11,7 +11,6 @@ use Rattle.interleaving_core.specs.Kernel.{AreFittingCallers, IsCallOf, IsWhole,
 use Rattle.interleaving_core.specs.Owing.{IsRun, IsTurn, answer_told, failure_by, is_failure, told}
 use Rattle.interleaving_core.specs.Past.{IsOfJournal, KeepsJournal, call_of, untold}
 use Rattle.interleaving_core.specs.declared.fault.Failure.{Failure}
-use Rattle.interleaving_core.specs.declared.fault.StepFault.TheVariants as faults
 use Rattle.queue_model.specs.Journal.{part_of}
 use Rattle.std.specs.Option.{is_some}
 use Rattle.interleaving_core.specs.Searches.{Counts, CountsFrom, ends_on}
@@ -20,6 +19,7 @@ use Rattle.interleaving_core.specs.declared.step.Step.{Step}
 use Rattle.interleaving_core.specs.declared.step.Step.TheVariants as steps
 use Rattle.interleaving_core.proofs.TurnLemmas.{Does}
 use Rattle.interleaving_core.proofs.AnewLemmas.{turn_does, turn_looked}
+use Rattle.interleaving_core.proofs.FailureLemmas.{blamed_by, none_blamed}
 use Rattle.interleaving_core.proofs.PartLemmas.{part_other, part_own}
 use Rattle.interleaving_core.proofs.PastLemmas.{kept_beside, part_since, unwoken_whole}
 use Rattle.interleaving_core.proofs.PlaceLemmas.{Seats, at_other, at_place, at_same, due_with, length-with_call, row_at, rows_with, with_own, with_place}
@@ -123,25 +123,6 @@ spares_by hash seat did None left old new is none t seats keys callers stopped r
 spares_by hash seat did (Some a) left old new is none t seats keys callers stopped room sound spared failed failure
     counts =
     absurd cc
-
--- ---- what failed
-
--- it is known where a step fails, and only there
-blamed_by : (seat : ℕ) (did : Step) → is_some (failure_by seat did None) ≡ is_failure did
-blamed_by seat (steps.Moved kind) = refl
-blamed_by seat (steps.Blocked other) = refl
-blamed_by seat steps.Waiting = refl
-blamed_by seat (steps.Answered answer) = refl
-blamed_by seat steps.Idle = refl
-blamed_by seat (steps.Fault (faults.File fault)) = refl
-blamed_by seat (steps.Fault faults.NoRoom) = refl
-
-none_there : (o : Option Failure) → is_some o ≡ false → o ≡ None
-none_there None none = refl
-none_there (Some failure) none = absurd cc
-
-pub none_blamed : {K : Type 0} (s : KernelState K) → IsWhole s → s.failed ≡ false → s.failure ≡ None
-none_blamed s whole sound = none_there s.failure (sym whole.blamed ∙ sound)
 
 -- ---- what is counted
 

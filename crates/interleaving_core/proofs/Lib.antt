@@ -5,6 +5,7 @@ pub mod TurnLemmas
 pub mod AnewLemmas
 pub mod SeatLemmas
 pub mod BetweenLemmas
+pub mod FailureLemmas
 pub mod KernelLemmas
 pub mod BeginLemmas
 pub mod RunLemmas

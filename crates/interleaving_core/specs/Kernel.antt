@@ -67,7 +67,8 @@ IsCallOf caller (Some a) = caller ≡ Some a.machine.caller
 
 -- the numbers of each seat's caller fit the fields of records
 abbrev pub AreFittingCallers : List Caller → Type 0
-AreFittingCallers callers = (seat : ℕ) (caller : Caller) → caller_at callers seat ≡ Some caller → HasFittingCaller caller
+AreFittingCallers callers = (seat : ℕ) (caller : Caller) →
+    caller_at callers seat ≡ Some caller → HasFittingCaller caller
 
 -- whatever the device gives
 pub record IsWhole {K : Type 0} (s : KernelState K) : Type 0 where

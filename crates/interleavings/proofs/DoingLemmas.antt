@@ -35,7 +35,8 @@ module _ {K : Type 0} (hash : RecordKey → ℕ) (base : State) (seat : ℕ) (a 
   over false (Some answer) leaves = leaves
   over false None leaves = leaves
 
-  pub waiting : StaysWaiting did a (call_at new.seats seat) old.pool new.pool old.locks new.locks old.journal new.journal →
+  pub waiting : StaysWaiting did a (call_at new.seats seat) old.pool new.pool old.locks new.locks old.journal
+      new.journal →
       Does did
   waiting stays = subst Does (sym stays.told_is) (record {
     file = ap (λ (p : PoolState). store_of p.images) stays.same_pool;

@@ -118,8 +118,8 @@ module _ (steps : StepTogether) (ends : EndTogether) (begins : BeginTogether) {K
         by false woken = record {
           by = anew.again;
           is = inr (record {
-            over = (ends_waiting hash seat old.stopped a anew.again old.pool anew.between old.locks old.locks old.journal
-                old.journal anew.ends).over;
+            over = (ends_waiting hash seat old.stopped a anew.again old.pool anew.between old.locks old.locks
+                old.journal old.journal anew.ends).over;
             waits = waits_from hash seat old.stopped a anew.again old.pool anew.between old.locks old.locks old.journal
                 old.journal anew.ends;
             woken = woken_from hash seat old.stopped a anew.again old.pool anew.between old.locks old.locks old.journal

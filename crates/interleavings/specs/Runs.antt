@@ -106,5 +106,6 @@ pub record HasMoment {K : Type 0} (hash : RecordKey → ℕ) (many : ℕ) (es : 
   pub told_behind : (seat : ℕ) → IsToldItsPart seat (drop many es) (drop many os) between new
 
 -- the journal is a linearization (Herlihy and Wing 1990): a call that began after another was answered stands after it
-abbrev pub IsLinearized : {K : Type 0} → (RecordKey → ℕ) → List Event → List Outcome → (old new : KernelState K) → Type 0
+abbrev pub IsLinearized : {K : Type 0} → (RecordKey → ℕ) → List Event → List Outcome → (old new : KernelState K) →
+    Type 0
 IsLinearized hash es os old new = (many : ℕ) → HasMoment hash many es os old new

@@ -115,7 +115,8 @@ module _ (begins : BeginsAtRest) (few_steps : HaveFewSteps) {K : Type 0} (hash :
     unspent : IsSpent seat driven.moves did driven.before new → ⊥
     unspent spent = let few = few_moves in let most = spent.most in omega (arith, few, most)
 
-    stands_by : ComesToRest hash seat driven.moves did driven.before new ⊎ IsSpent seat driven.moves did driven.before new →
+    stands_by : ComesToRest hash seat driven.moves did driven.before new
+        ⊎ IsSpent seat driven.moves did driven.before new →
         StandsDriven hash seat caller call s did old new driven
     stands_by (inl last) = record {
       stands = answers_by_the_rules begins few_steps K hash seat caller call s did driven.before new so_far.seated

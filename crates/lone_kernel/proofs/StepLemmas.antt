@@ -81,10 +81,12 @@ module _ (begins : BeginsAtRest) (few_steps : HaveFewSteps) {K : Type 0} (hash :
       by : (c : Option Conclusion) → conclusion_of serves.active.machine ≡ c →
           is_woken come.machine.call come.decided new.journal ≡ false
       by None is_c = at_decided (length old.journal)
-          (marked.decided ∙ ap (λ (c : Option Conclusion). decided_by c (length old.journal) serves.active.decided) is_c)
+          (marked.decided
+          ∙ ap (λ (c : Option Conclusion). decided_by c (length old.journal) serves.active.decided) is_c)
           (ap (list_any (wakes (queue_on come.machine.call))) (drop-length old.journal))
       by (Some c) is_c = at_decided serves.active.decided
-          (marked.decided ∙ ap (λ (c : Option Conclusion). decided_by c (length old.journal) serves.active.decided) is_c)
+          (marked.decided
+          ∙ ap (λ (c : Option Conclusion). decided_by c (length old.journal) serves.active.decided) is_c)
           (ap (λ (x : Call). is_woken x serves.active.decided old.journal) keeps.call
           ∙ serves.quiet (ap is_waiting (is_c ∙ sym (keeps.stays c is_c)) ∙ waits))
 

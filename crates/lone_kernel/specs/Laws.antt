@@ -83,7 +83,8 @@ DrivesByTheRules K = (hash : RecordKey → ℕ) (seat : ℕ) (caller : Caller) (
 abbrev pub AnswersLoneCalls : Type 0 → Type 0
 AnswersLoneCalls K = (hash : RecordKey → ℕ) (seat : ℕ) (caller : Caller) (call : Call) (s : State) (did : Step)
     (old begun new : KernelState K) → IsWhole old → RestsOver hash s old → IsSeat old.locks seat →
-    caller_at old.callers seat ≡ Some caller → HasCall seat call old begun → (driven : IsDriven hash seat did begun new) →
+    caller_at old.callers seat ≡ Some caller → HasCall seat call old begun →
+    (driven : IsDriven hash seat did begun new) →
     StandsDriven hash seat caller call s did begun new driven
 
 -- ---- the stop mark

@@ -92,48 +92,54 @@ pub invariant_of-self : goal.invariant_of-self
 invariant_of-self g c =
     (makes_step g.K.PseudoKey.of_key c.args.seat c.advance-step.result c.index_mut.result.now c.advance-step.new.self _
     _ c.args.self.now c.self.view_is c.self.invariant c.requires c.index_mut.ensures.value c.advance-step.ensures.turns
-    refl refl refl refl c.advance-step.ensures.capacity c.advance-step.ensures.spare (sym c.is_some.ensures ∙ c.if-is_some.false)
-    refl c.failure_of-self-inside.ensures (counts_by c.args.seat c.advance-step.result _ _ c.last_page-before.result
-    c.last_page-before.ensures c.note.ensures)).whole
+    refl refl refl refl c.advance-step.ensures.capacity c.advance-step.ensures.spare
+    (sym c.is_some.ensures ∙ c.if-is_some.false) refl c.failure_of-self-inside.ensures
+    (counts_by c.args.seat c.advance-step.result _ _ c.last_page-before.result c.last_page-before.ensures
+    c.note.ensures)).whole
 
 pub invariant_of-self-2 : goal.invariant_of-self-2
 invariant_of-self-2 g c =
     (makes_step g.K.PseudoKey.of_key c.args.seat c.advance-step.result c.index_mut.result.now c.advance-step.new.self _
     _ c.args.self.now c.self.view_is c.self.invariant c.requires c.index_mut.ensures.value c.advance-step.ensures.turns
-    refl refl refl refl c.advance-step.ensures.capacity c.advance-step.ensures.spare (sym c.is_some.ensures ∙ c.if-is_some.false)
-    refl c.failure_of-self-inside.ensures (counts_by c.args.seat c.advance-step.result _ _ c.last_page-before.result
-    c.last_page-before.ensures c.note.ensures)).whole
+    refl refl refl refl c.advance-step.ensures.capacity c.advance-step.ensures.spare
+    (sym c.is_some.ensures ∙ c.if-is_some.false) refl c.failure_of-self-inside.ensures
+    (counts_by c.args.seat c.advance-step.result _ _ c.last_page-before.result c.last_page-before.ensures
+    c.note.ensures)).whole
 
 pub returns-clause-turn : goal.returns-clause-turn
 returns-clause-turn g c =
     (makes_step g.K.PseudoKey.of_key c.args.seat c.advance-step.result c.index_mut.result.now c.advance-step.new.self _
     _ c.args.self.now c.self.view_is c.self.invariant c.requires c.index_mut.ensures.value c.advance-step.ensures.turns
-    refl refl refl refl c.advance-step.ensures.capacity c.advance-step.ensures.spare (sym c.is_some.ensures ∙ c.if-is_some.false)
-    refl c.failure_of-self-inside.ensures (counts_by c.args.seat c.advance-step.result _ _ c.last_page-before.result
-    c.last_page-before.ensures c.note.ensures)).turn
+    refl refl refl refl c.advance-step.ensures.capacity c.advance-step.ensures.spare
+    (sym c.is_some.ensures ∙ c.if-is_some.false) refl c.failure_of-self-inside.ensures
+    (counts_by c.args.seat c.advance-step.result _ _ c.last_page-before.result c.last_page-before.ensures
+    c.note.ensures)).turn
 
 pub returns-clause-makes : goal.returns-clause-makes
 returns-clause-makes g c =
     (makes_step g.K.PseudoKey.of_key c.args.seat c.advance-step.result c.index_mut.result.now c.advance-step.new.self _
     _ c.args.self.now c.self.view_is c.self.invariant c.requires c.index_mut.ensures.value c.advance-step.ensures.turns
-    refl refl refl refl c.advance-step.ensures.capacity c.advance-step.ensures.spare (sym c.is_some.ensures ∙ c.if-is_some.false)
-    refl c.failure_of-self-inside.ensures (counts_by c.args.seat c.advance-step.result _ _ c.last_page-before.result
-    c.last_page-before.ensures c.note.ensures)).makes
+    refl refl refl refl c.advance-step.ensures.capacity c.advance-step.ensures.spare
+    (sym c.is_some.ensures ∙ c.if-is_some.false) refl c.failure_of-self-inside.ensures
+    (counts_by c.args.seat c.advance-step.result _ _ c.last_page-before.result c.last_page-before.ensures
+    c.note.ensures)).makes
 
 pub returns-in-Moved-clause-turn : goal.returns-in-Moved-clause-turn
 returns-in-Moved-clause-turn g c =
     (told_anew g.K.PseudoKey.of_key c.args.seat c.advance-step.result _ c.args.self.now _ c.in-Moved.is
     (makes_step g.K.PseudoKey.of_key c.args.seat c.advance-step.result c.index_mut.result.now c.advance-step.new.self _
     _ c.args.self.now c.self.view_is c.self.invariant c.requires c.index_mut.ensures.value c.advance-step.ensures.turns
-    refl refl refl refl c.advance-step.ensures.capacity c.advance-step.ensures.spare (sym c.is_some.ensures ∙ c.if-is_some.false)
-    refl c.failure_of-self-inside.ensures (counts_by c.args.seat c.advance-step.result _ _ c.last_page-before.result
-    c.last_page-before.ensures c.note.ensures))).turn
+    refl refl refl refl c.advance-step.ensures.capacity c.advance-step.ensures.spare
+    (sym c.is_some.ensures ∙ c.if-is_some.false) refl c.failure_of-self-inside.ensures
+    (counts_by c.args.seat c.advance-step.result _ _ c.last_page-before.result c.last_page-before.ensures
+    c.note.ensures))).turn
 
 pub returns-in-Moved-clause-makes : goal.returns-in-Moved-clause-makes
 returns-in-Moved-clause-makes g c =
     (told_anew g.K.PseudoKey.of_key c.args.seat c.advance-step.result _ c.args.self.now _ c.in-Moved.is
     (makes_step g.K.PseudoKey.of_key c.args.seat c.advance-step.result c.index_mut.result.now c.advance-step.new.self _
     _ c.args.self.now c.self.view_is c.self.invariant c.requires c.index_mut.ensures.value c.advance-step.ensures.turns
-    refl refl refl refl c.advance-step.ensures.capacity c.advance-step.ensures.spare (sym c.is_some.ensures ∙ c.if-is_some.false)
-    refl c.failure_of-self-inside.ensures (counts_by c.args.seat c.advance-step.result _ _ c.last_page-before.result
-    c.last_page-before.ensures c.note.ensures))).makes
+    refl refl refl refl c.advance-step.ensures.capacity c.advance-step.ensures.spare
+    (sym c.is_some.ensures ∙ c.if-is_some.false) refl c.failure_of-self-inside.ensures
+    (counts_by c.args.seat c.advance-step.result _ _ c.last_page-before.result c.last_page-before.ensures
+    c.note.ensures))).makes
