@@ -26,7 +26,9 @@ pub use command_line::{Task, read_command_line};
 pub use complaint::{complain, complain_of};
 pub use ending::{Ending, Failure, Stage};
 pub use file_check;
-pub use files::{MOST_FRAMES, STANDARD_INPUT, complain_unopened, new_file, new_on, read_file};
+pub use files::{
+    MOST_FRAMES, STANDARD_INPUT, complain_unopened, leave_unopened, new_file, new_on, read_file,
+};
 pub use line::{Line, SeatIds};
 pub use mistake::{Expected, Mistake, Optional};
 pub use output::Output;

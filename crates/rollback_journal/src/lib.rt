@@ -7,6 +7,6 @@ mod layout;
 mod opening;
 mod system_pair;
 
-pub use opening::{LeftOver, OpenError, look, open};
+pub use opening::{LeftOver, OpenError, is_left_behind, look, open};
 pub use safe_device;
 pub use system_pair::SystemPair;

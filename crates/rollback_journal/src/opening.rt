@@ -22,6 +22,9 @@ pub enum OpenError {
     /// The system did not open the file, or failed to read it.
     #[error("{0}")]
     File(io::Error),
+    /// It is a fifo, a device or a socket.
+    #[error("it is no file")]
+    NoFile,
     /// The system did not open or make the journal, or failed to read or write it.
     #[error("its journal: {0}")]
     Journal(io::Error),
@@ -29,13 +32,13 @@ pub enum OpenError {
     #[error("another process uses it")]
     InUse,
     /// The journal is of another file, or names pages that this one does not have.
-    #[error("its journal is not of this file")]
+    #[error("its journal is of another file: put the file or the journal that belongs there")]
     Foreign,
     /// The journal is of another version.
     #[error("its journal is of another version")]
     OtherVersion,
     /// It does not hold whole pages.
-    #[error("it has a part of a page")]
+    #[error("it is cut: it has a part of a page")]
     NotWhole,
     /// There is no memory.
     #[error("out of memory")]
@@ -49,6 +52,15 @@ impl From<AllocError> for OpenError {
 }
 
 impl OpenError {
+    /// The number that a program prints.
+    pub fn number(&self) -> u8 {
+        match self {
+            OpenError::NotWhole => faults::PAST_END,
+            OpenError::NoMemory => faults::NO_MEMORY,
+            _ => faults::DEVICE,
+        }
+    }
+
     /// Of what a recovery failed of.
     fn of_recovery(fault: RecoveryFault) -> OpenError {
         match fault {
@@ -64,26 +76,26 @@ impl OpenError {
 
 /// Opens a file to change it, once what a session that was cut off has left is undone.
 ///
-/// It is locked until it is closed: no other process opens it so meanwhile. Its journal stands
-/// beside it, and is made where there is none. Who may not read the file may not read it.
+/// Its journal stands beside it, and is made where there is none; who may not read the file may not
+/// read it. It is locked until the device is let go: no other process opens the file so meanwhile.
 pub fn open<R>(rt: &R, path: &str) -> Result<SafeDevice<SystemPair<File>>, OpenError>
 where
     R: Files<File = File> + AllocGlobal,
 {
     // A fifo would wait for a writer.
     let found = fs::metadata(rt, path).map_err(OpenError::File)?;
-    if !found.is_file() {
-        return Err(OpenError::File(ErrorKind::Unsupported.into()));
+    if !found.is_file() && !found.is_dir() {
+        return Err(OpenError::NoFile);
     }
     let mut how = OpenOptions::new();
     how.read(true).write(true);
     let file = how.open(rt, path).map_err(OpenError::File)?;
-    match file.try_lock() {
+    let journal = open_journal(rt, path, &file).map_err(OpenError::Journal)?;
+    match journal.try_lock() {
         Ok(()) => {}
         Err(TryLockError::WouldBlock) => return Err(OpenError::InUse),
-        Err(TryLockError::Error(error)) => return Err(OpenError::File(error)),
+        Err(TryLockError::Error(error)) => return Err(OpenError::Journal(error)),
     }
-    let journal = open_journal(rt, path, &file).map_err(OpenError::Journal)?;
     let mut pair = SystemPair::new(file, journal).map_err(OpenError::File)?;
     if let Err(fault) = recover(&mut pair) {
         return Err(OpenError::of_recovery(fault));
@@ -101,6 +113,21 @@ pub struct LeftOver {
     pub pages: u32,
     /// How many of them the next opening puts back.
     pub images: u32,
+}
+
+/// Whether something stands in the journal of a file that is not there, as where it was moved away.
+pub fn is_left_behind<R>(rt: &R, path: &str) -> io::Result<bool>
+where
+    R: Files + AllocGlobal,
+{
+    let mut name = String::new(rt.alloc());
+    name.push_str(path)?;
+    name.push_str(SUFFIX)?;
+    match fs::symlink_metadata(rt, name.as_str()) {
+        Ok(found) => Ok(found.len() > 0),
+        Err(error) if error.kind() == ErrorKind::NotFound => Ok(false),
+        Err(error) => Err(error),
+    }
 }
 
 /// Looks whether a whole journal stands beside a file. Nothing is written.

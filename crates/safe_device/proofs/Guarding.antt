@@ -74,7 +74,8 @@ module _ {P : Type 0} (file : P → Pages) (journal : P → Option Journal) (may
         → base mid ≡ pages → Elapses moment left_since may_leave mid.pair new
         → LeavesOnly moment left_since old new (StandsFor pages)
     still_only old pages so_far is time =
-        goes_on moment left_since may_leave old mid.pair new (StandsFor pages) so_far time (λ c now. (kept c now).1 ∙ is)
+        goes_on moment left_since may_leave old mid.pair new (StandsFor pages) so_far time
+        (λ c now. (kept c now).1 ∙ is)
 
     pub still_safe : IsSafe file journal may_leave mid → journal new ≡ journal mid.pair
         → length (file mid.pair) ≤ length (file new) → committed file journal new ≡ base mid

@@ -92,7 +92,8 @@ abbrev with_journal : Snapshot → Option Journal → Snapshot
 with_journal s journal = record s { seen_journal = journal }
 
 pub append_follows : (s : Snapshot) (count : ℕ) (images : List PageImage)
-    → Follows (Appended count images) (MayLeave s) (MayLeave (with_journal s (Some (added count images s.seen_journal))))
+    → Follows (Appended count images) (MayLeave s)
+    (MayLeave (with_journal s (Some (added count images s.seen_journal))))
 append_follows s count images c now = ⊎_elim written lost now.1
   where
     written : c.journal ≡ Some (added count images s.seen_journal)
@@ -113,8 +114,11 @@ pub remove_follows : (s : Snapshot) → Follows Removed (MayLeave s) (MayLeave (
 remove_follows s c now = ⊎_elim written lost now.1
   where
     written : c.journal ≡ None → (d : Left) × MayLeave s d × Removed d c
-    written is =
-        (record { file = c.file; journal = s.seen_journal }, (now.0, inl refl), record { file = refl; journal = inr is })
+    written is = (
+      record { file = c.file; journal = s.seen_journal },
+      (now.0, inl refl),
+      record { file = refl; journal = inr is },
+    )
 
     lost : c.journal ≡ s.synced_journal → (d : Left) × MayLeave s d × Removed d c
     lost is = (c, (now.0, inr is), record { file = refl; journal = inl refl })
@@ -129,7 +133,8 @@ keeps [] s c had = absurd had
 keeps (p ∷ past) s c (inl here) = inl here
 keeps (p ∷ past) s c (inr there) = inr (keeps past s c there)
 
-adds : (past : List Snapshot) (s : Snapshot) (c : Left) → MightLeave (past ++ s ∷ []) c → MightLeave past c ⊎ MayLeave s c
+adds : (past : List Snapshot) (s : Snapshot) (c : Left) → MightLeave (past ++ s ∷ []) c
+    → MightLeave past c ⊎ MayLeave s c
 adds [] s c (inl here) = inr here
 adds [] s c (inr none) = absurd none
 adds (p ∷ past) s c (inl here) = inl (inl here)

@@ -44,6 +44,7 @@ module _ {P : Type 0} (moment : P → ℕ) (left_since : P → ℕ → Left → 
     later = omega (arith, one.later, two.later);
     each = λ c left. ⊎_elim (λ was. q c (one.each c was)) (r c) (two.before (moment old) c one.later left);
     before = λ t c le left.
-        ⊎_elim (λ was. ⊎_elim (λ then. inl then) (λ then. inr (q c then)) (one.before t c le was)) (λ now. inr (r c now))
+        ⊎_elim (λ was. ⊎_elim (λ then. inl then) (λ then. inr (q c then)) (one.before t c le was))
+        (λ now. inr (r c now))
         (two.before t c (omega (arith, le, one.later)) left);
   }

@@ -6,6 +6,7 @@
 mod device;
 mod guarded_file;
 mod journal;
+mod loss;
 mod memory;
 mod page_pair;
 mod recovery;
@@ -13,7 +14,8 @@ mod recovery;
 pub use device::{MOST_PENDING, SafeDevice};
 pub use guarded_file::GuardedFile;
 pub use journal::{Images, Journal, PageImage};
-pub use memory::{Changes, FileChange, Loss, MemPair, Pages, Snapshot};
+pub use loss::Loss;
+pub use memory::{Changes, FileChange, MemPair, Pages, Snapshot};
 pub use page_device;
 pub use page_pair::{FoundJournal, PagePair};
 pub use recovery::{RecoveryFault, recover};

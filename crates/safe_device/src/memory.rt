@@ -2,7 +2,7 @@
 ghost use Rattle.std.specs.Prelude.{◌≡◌, ◌≤◌, [], ◌∷◌, ◌++◌, length, take, slice_set, None, IfOk, OnOk, OnErr};
 ghost use Rattle.page_device.specs.declared.page.TheConstants.{MAX_PAGES};
 ghost use Rattle.safe_device.specs.Left.{added};
-ghost use Rattle.safe_device.specs.Memory.{FileMay, IsQuiet, MayLeave, Meets, Since, left_of, seen_stays, counts, only};
+ghost use Rattle.safe_device.specs.Memory.{IsQuiet, MayLeave, Since, seen_stays, counts, only};
 
 use crate::journal::{Images, Journal, PageImage};
 use crate::page_pair::{FoundJournal, PagePair};
@@ -15,7 +15,7 @@ use std::marker::Model;
 /// Pages. A clause sees the list of them.
 #[derive(Drop)]
 pub struct Pages {
-    items: Vec<Page>,
+    pub(crate) items: Vec<Page>,
 }
 
 impl Model for Pages {
@@ -37,7 +37,7 @@ impl Pages {
         Pages { items }
     }
 
-    fn set(&mut self, page: u32, bytes: &Page) -> bool
+    pub(crate) fn set(&mut self, page: u32, bytes: &Page) -> bool
         ensures { self.new ≡ slice_set self.old page bytes.now }
     {
         let Some(place) = self.items.get_mut(page as usize) else {
@@ -47,7 +47,7 @@ impl Pages {
         true
     }
 
-    fn push(&mut self, bytes: &Page) -> io::Result<()>
+    pub(crate) fn push(&mut self, bytes: &Page) -> io::Result<()>
         ensures ok { OnOk result (self.new ≡ self.old ++ bytes.now ∷ []) }
         ensures err { OnErr result (self.new ≡ self.old) }
     {
@@ -58,13 +58,13 @@ impl Pages {
         Ok(())
     }
 
-    fn cut(&mut self, pages: u32)
+    pub(crate) fn cut(&mut self, pages: u32)
         ensures { self.new ≡ take pages self.old }
     {
         self.items.truncate(pages as usize);
     }
 
-    fn try_copy(&self, alloc: Global) -> Result<Pages, AllocError>
+    pub(crate) fn try_copy(&self, alloc: Global) -> Result<Pages, AllocError>
         ensures { IfOk result (λ copy. copy ≡ self.now) }
     {
         let mut items = Vec::new(alloc);
@@ -89,7 +89,7 @@ pub enum FileChange {
 /// Changes, the first of them first.
 #[derive(Drop)]
 pub struct Changes {
-    items: Vec<FileChange>,
+    pub(crate) items: Vec<FileChange>,
 }
 
 impl Model for Changes {
@@ -102,7 +102,7 @@ impl Model for Changes {
 }
 
 impl Changes {
-    fn new(alloc: Global) -> Changes
+    pub(crate) fn new(alloc: Global) -> Changes
         ensures { result ≡ [] }
     {
         Changes {
@@ -136,7 +136,10 @@ pub struct Snapshot {
     pub synced_journal: Option<Journal>,
 }
 
-fn copy_journal(journal: &Option<Journal>, alloc: Global) -> Result<Option<Journal>, AllocError>
+pub(crate) fn copy_journal(
+    journal: &Option<Journal>,
+    alloc: Global,
+) -> Result<Option<Journal>, AllocError>
     ensures { IfOk result (λ copy. copy ≡ journal.now) }
 {
     match journal {
@@ -162,28 +165,15 @@ impl Snapshot {
     }
 }
 
-/// What a crash takes of the changes of a file that were not synced.
-#[derive(Clone, Copy, Debug, PartialEq, Eq)]
-pub enum Loss {
-    /// None of them, as when a program is killed.
-    Nothing,
-    /// All of them.
-    Everything,
-    /// Every second one.
-    EverySecond,
-    /// Of each page that was written half its bytes.
-    Torn,
-}
-
 /// Both files in memory, and what they were. Each call that changes them is counted, and once they
 /// are used up each fails.
 #[derive(Drop)]
 pub struct MemPair {
-    alloc: Global,
-    newest: Snapshot,
-    past: Vec<Snapshot>,
-    calls_left: usize,
-    calls: usize,
+    pub(crate) alloc: Global,
+    pub(crate) newest: Snapshot,
+    pub(crate) past: Vec<Snapshot>,
+    pub(crate) calls_left: usize,
+    pub(crate) calls: usize,
 }
 
 /// Counts a call, and fails where none is left.
@@ -247,101 +237,6 @@ impl MemPair {
         ensures { result.now ≡ self.now.newest.seen_file }
     {
         &self.newest.seen_file.items
-    }
-
-    /// The files as a crash leaves them that takes so much of the file, and of the journal what was
-    /// not synced, or nothing.
-    #[tactic(auto, using(crate::proofs::Kept::quiet))]
-    pub fn crash(&self, loss: Loss, keeps_journal: bool, calls_left: usize) -> io::Result<MemPair>
-        ensures left { IfOk result (λ after. MayLeave self.now.newest (left_of after.newest)) }
-        ensures at_rest { IfOk result (λ after. after.newest.seen_journal ≡ None → IsQuiet after) }
-    {
-        let alloc = self.alloc;
-        let file = match loss {
-            Loss::Nothing => self.newest.seen_file.try_copy(alloc)?,
-            _ => self.newest.lose(alloc, loss)?,
-        };
-        let kept = if keeps_journal {
-            &self.newest.seen_journal
-        } else {
-            &self.newest.synced_journal
-        };
-        let journal = copy_journal(kept, alloc)?;
-        Ok(MemPair {
-            alloc,
-            newest: Snapshot {
-                synced_file: file.try_copy(alloc)?,
-                seen_file: file,
-                changes: Changes::new(alloc),
-                synced_journal: copy_journal(&journal, alloc)?,
-                seen_journal: journal,
-            },
-            past: Vec::new(alloc),
-            calls_left,
-            calls: 0,
-        })
-    }
-}
-
-impl Snapshot {
-    /// The file as it was synced, with so much of what it has met since as a crash leaves.
-    fn lose(&self, alloc: Global, loss: Loss) -> io::Result<Pages>
-        ensures { IfOk result (λ file. FileMay self.now.changes self.now.synced_file file) }
-    {
-        let mut file = self.synced_file.try_copy(alloc)?;
-        for (place, change) in self.changes.items.iter().enumerate() {
-            self.meet(&mut file, *change, loss.keeps(place), loss == Loss::Torn)?;
-        }
-        Ok(file)
-    }
-
-    /// Makes a change of the file, or not; of a page that is torn, its first half.
-    fn meet(&self, file: &mut Pages, change: FileChange, keeps: bool, tears: bool) -> io::Result<()>
-        ensures { OnOk result (Meets change file.old file.new) }
-    {
-        match change {
-            FileChange::Stored(page) => {
-                let mut bytes = self.byte_page(page);
-                if tears {
-                    bytes[PAGE_BYTES / 2..].fill(0);
-                }
-                if keeps || tears {
-                    file.set(page, &bytes);
-                }
-                Ok(())
-            }
-            FileChange::Added => {
-                if keeps {
-                    return file.push(&[0; PAGE_BYTES]);
-                }
-                Ok(())
-            }
-            FileChange::Cut(pages) => {
-                if keeps {
-                    file.cut(pages);
-                }
-                Ok(())
-            }
-        }
-    }
-
-    /// A page as it was last written.
-    fn byte_page(&self, page: u32) -> Page {
-        match self.seen_file.items.get(page as usize) {
-            Some(bytes) => *bytes,
-            None => [0; PAGE_BYTES],
-        }
-    }
-}
-
-impl Loss {
-    /// Whether the change at a place is kept.
-    fn keeps(self, place: usize) -> bool {
-        match self {
-            Loss::Nothing => true,
-            Loss::Everything | Loss::Torn => false,
-            Loss::EverySecond => place % 2 == 1,
-        }
     }
 }
 

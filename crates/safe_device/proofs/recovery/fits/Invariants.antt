@@ -8,5 +8,6 @@ abbrev pub invariant-loop-index : goal.invariant-loop-index
 invariant-loop-index g l = record {
   counts : IsTrue g.P.PagePair.is_honest → l.journal.count ≤ length (g.P.PagePair.file l.pair);
   so_far : IsTrue g.P.PagePair.is_honest
-      → All (λ (image : PageImage). image.page < l.journal.count) (take l.index (images_of (g.P.PagePair.journal l.pair)));
+      → All (λ (image : PageImage). image.page < l.journal.count)
+      (take l.index (images_of (g.P.PagePair.journal l.pair)));
 }

@@ -34,7 +34,8 @@ returns-in_err-write_images-clause-restoring g c honest =
     let new = c.write_images.new.pair in
     let cut = restoring_cut_on (P.journal old) c.args.journal (P.may_leave old) (P.may_leave mid)
     (c.requires.found honest) (c.requires.durable honest) c.cut.ensures.crash in
-    let written = subst (λ (q : Option Journal). IsRestoring q (P.may_leave mid) (P.may_leave new)) c.cut.ensures.journal
+    let written = subst (λ (q : Option Journal). IsRestoring q (P.may_leave mid)
+    (P.may_leave new)) c.cut.ensures.journal
     (c.write_images.ensures.restoring honest) in
     restoring_joined (P.journal old) (P.may_leave old) (P.may_leave mid) (P.may_leave new) cut written
 

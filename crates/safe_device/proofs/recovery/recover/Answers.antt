@@ -1,4 +1,4 @@
--- Until the file is restored a crash leaves what it might have left before; once the journal is ended, what it restored.
+-- Until the file is restored a crash leaves what it might have left before, and then what was restored.
 use Rattle.std.proofs.Common.{◌≡◌, ◌∙◌, inr, refl, sym}
 use Rattle.safe_device.specs.Safe.{committed, IsFoundOrLeft, IsLeftBefore}
 use Rattle.safe_device.proofs.Moments.{first, goes_on, joined}
@@ -14,7 +14,8 @@ returns-in_err-put_back-clause-any_moment g c honest =
     let at_sync = first P.moment P.left_since P.may_leave old synced (IsFoundOrLeft found (P.may_leave old))
     (g.met.P.PagePair.only_now old) (λ f now. inr (f, now, refl)) c.sync_journal.ensures.time
     (was_left P.may_leave old synced found c.sync_journal.ensures.crash) in
-    joined P.moment P.left_since P.may_leave old synced c.put_back.new.pair _ (IsLeftBefore (P.may_leave synced)) _ at_sync
+    joined P.moment P.left_since P.may_leave old synced c.put_back.new.pair _
+    (IsLeftBefore (P.may_leave synced)) _ at_sync
     (c.put_back.ensures.any_moment honest) (λ f was. was)
     (was_before P.may_leave old synced found c.sync_journal.ensures.crash)
 
@@ -33,7 +34,8 @@ returns-in_err-end_journal-clause-any_moment g c honest =
     let at_images = joined P.moment P.left_since P.may_leave old synced mid _ (IsLeftBefore (P.may_leave synced)) _
     at_sync (c.put_back.ensures.any_moment honest) (λ f was. was) (was_before P.may_leave old synced found sync.crash)
     in
-    let file_is = c.in_ok-put_back.ensures.file honest ∙ same_committed P.file P.journal old synced sync.file sync.journal in
+    let file_is = c.in_ok-put_back.ensures.file honest
+    ∙ same_committed P.file P.journal old synced sync.file sync.journal in
     goes_on P.moment P.left_since P.may_leave old mid ended _ at_images c.end_journal.ensures.time
     (ended_kept P.may_leave old synced found sync.crash mid ended
     (λ f now. c.in_ok-put_back.ensures.durable f now ∙ file_is) (c.put_back.ensures.restoring honest).pages_kept
@@ -54,7 +56,8 @@ returns-in_err-sync_journal-2-clause-any_moment g c honest =
     let at_images = joined P.moment P.left_since P.may_leave old synced mid _ (IsLeftBefore (P.may_leave synced)) _
     at_sync (c.put_back.ensures.any_moment honest) (λ f was. was) (was_before P.may_leave old synced found sync.crash)
     in
-    let file_is = c.in_ok-put_back.ensures.file honest ∙ same_committed P.file P.journal old synced sync.file sync.journal in
+    let file_is = c.in_ok-put_back.ensures.file honest
+    ∙ same_committed P.file P.journal old synced sync.file sync.journal in
     let kept = ended_kept P.may_leave old synced found sync.crash mid ended
     (λ f now. c.in_ok-put_back.ensures.durable f now ∙ file_is) (c.put_back.ensures.restoring honest).pages_kept
     c.end_journal.ensures.crash in
@@ -77,7 +80,8 @@ returns-clause-any_moment g c honest =
     let at_images = joined P.moment P.left_since P.may_leave old synced mid _ (IsLeftBefore (P.may_leave synced)) _
     at_sync (c.put_back.ensures.any_moment honest) (λ f was. was) (was_before P.may_leave old synced found sync.crash)
     in
-    let file_is = c.in_ok-put_back.ensures.file honest ∙ same_committed P.file P.journal old synced sync.file sync.journal in
+    let file_is = c.in_ok-put_back.ensures.file honest
+    ∙ same_committed P.file P.journal old synced sync.file sync.journal in
     let kept = ended_kept P.may_leave old synced found sync.crash mid ended
     (λ f now. c.in_ok-put_back.ensures.durable f now ∙ file_is) (c.put_back.ensures.restoring honest).pages_kept
     c.end_journal.ensures.crash in

@@ -16,7 +16,8 @@ returns g c =
       content = λ honest.
           ap (λ (l : List PageImage). content_of P.is_honest count l (P.file pair)) items
           ∙ content_opened P.is_honest count (P.file pair)
-          (λ is. ap (λ (p : g.row.P.Denot). length (P.file p)) c.new.ensures.same ∙ sym (c.pages-pages.ensures is)) honest
+          (λ is. ap (λ (p : g.row.P.Denot). length (P.file p)) c.new.ensures.same
+          ∙ sym (c.pages-pages.ensures is)) honest
           ∙ ap P.file c.new.ensures.same;
       failed = refl;
       usable = refl;

@@ -16,7 +16,8 @@ returns-clause-others g c =
     let items : c.push.new.self.items ≡ d.pending.items ++ image ∷ [] = search rules in
     let was : content_of P.is_honest d.pages d.pending.items file ≡ c.args.self.now.content =
     ap (λ (s : DeviceState g.row.P.Denot). s.content) c.self-2.view_is ∙ c.make_room.ensures.content in
-    subst (λ (ps : Pages). DiffersAtMostAt c.args.page ps (content_of P.is_honest d.pages c.push.new.self.items file)) was
+    subst (λ (ps : Pages). DiffersAtMostAt c.args.page ps
+    (content_of P.is_honest d.pages c.push.new.self.items file)) was
     (subst (λ (l : List PageImage). DiffersAtMostAt c.args.page (content_of P.is_honest d.pages d.pending.items file)
     (content_of P.is_honest d.pages l file)) (sym items)
     (content_differs P.is_honest d.pages d.pending.items image file))
