@@ -87,18 +87,21 @@ fn a_page_that_is_spoilt_behind_opening_fails_the_kernel(rt: HostRuntime) -> Res
         inner: run(&rt, NumberKey, TWO_BUCKETS)?,
         right: READS_OF_OPENING,
     };
+    let call = Get(7).to_call(alloc)?;
+    let other = Get(9).to_call(alloc)?;
+    let late = Get(7).to_call(alloc)?;
     let mut kernel = match Kernel::open(alloc, device, NumberKey, &CALLERS, 28) {
         Ok(kernel) => kernel,
         Err((_, fault)) => return Err(fault.into()),
     };
-    assert!(rt; begin(&mut kernel, 1, Get(7).to_call(alloc)?).is_ok());
-    assert!(rt; begin(&mut kernel, 2, Get(9).to_call(alloc)?).is_ok());
+    assert!(rt; begin(&mut kernel, 1, call).is_ok());
+    assert!(rt; begin(&mut kernel, 2, other).is_ok());
     assert!(rt; fails(&mut kernel, 1));
     // from then on each is told 62, and nothing is written
     for seat in [2, 1] {
         assert!(rt; is_failed(&step(&mut kernel, seat)), "seat {seat}");
     }
-    let begun = begin(&mut kernel, 3, Get(7).to_call(alloc)?);
+    let begun = begin(&mut kernel, 3, late);
     assert!(rt; matches!(begun, Err((_, BeginFault::Failed))));
     match kernel.close() {
         Err(NotClosed::Fault(Closed { device: _, journal }, fault)) => {
