@@ -5,7 +5,7 @@ use crate::cases::run;
 use crate::malicious::TWO_BUCKETS;
 use crate::rows::{CALLERS, begin, step};
 use bucket_page::NumberKey;
-use interleaving_core::{BeginFault, Closed, Kernel, NotClosed, Step};
+use interleaving_core::{BeginFault, Kernel, NotClosed, Step};
 use page_device::{DeviceFault, MemDevice, Page, PageDevice};
 use std::process::Abort;
 use std::test::Fail;
@@ -103,11 +103,14 @@ fn a_page_that_is_spoilt_behind_opening_fails_the_kernel(rt: HostRuntime) -> Res
     }
     let begun = begin(&mut kernel, 3, late);
     assert!(rt; matches!(begun, Err((_, BeginFault::Failed))));
-    match kernel.close() {
-        Err(NotClosed::Fault(Closed { device: _, journal }, fault)) => {
-            assert!(rt; journal.is_empty() && fault.number() == 62);
+    let Err(left) = kernel.close() else {
+        return Ok(assert!(rt; false));
+    };
+    match left {
+        NotClosed::Fault(closed, fault) => {
+            assert!(rt; closed.journal.is_empty() && fault.number() == 62);
             Ok(())
         }
-        _ => Ok(assert!(rt; false)),
+        NotClosed::Busy(_) => Ok(assert!(rt; false)),
     }
 }
