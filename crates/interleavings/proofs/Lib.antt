@@ -5,8 +5,8 @@ pub mod CountLemmas
 pub mod CountedLemmas
 pub mod OpenLemmas
 pub mod TurnLemmas
-pub mod StepLemmas
 pub mod ScheduleLemmas
 pub mod DoingLemmas
 pub mod ToldLemmas
+pub mod OwedLemmas
 pub use Rattle.interleaving_core.proofs as of_interleaving_core

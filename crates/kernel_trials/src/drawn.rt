@@ -171,7 +171,7 @@ fn play(
     for _ in 0..MOST_BATCHES {
         let events = course.draw(rt.alloc())?;
         let places = places_of(rt.alloc(), &events)?;
-        let outcomes = plays(rt.alloc(), &mut kernel, events)?;
+        let outcomes = plays(rt, &mut kernel, events)?;
         let mut has_moved = false;
         for (place, outcome) in places.iter().zip(&outcomes) {
             let Some(moved) = course.note(*place, outcome) else {
