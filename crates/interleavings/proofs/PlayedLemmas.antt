@@ -196,9 +196,11 @@ module _ {K : Type 0} (of : K → RecordKey → ℕ) (keys : K) (content : List 
             base = led.base;
             file = led.file;
             legal = subst (λ (cs : List Caller). IsLegal cs played.journal.items led.base) same_callers
-                (subst (λ (entries : List Entry). IsLegal new.callers entries led.base) (sym ended.journal_is) lists.legal);
+                (subst (λ (entries : List Entry). IsLegal new.callers entries led.base) (sym ended.journal_is)
+                lists.legal);
             fifo = subst (λ (cs : List Caller). IsFifo cs played.journal.items led.base) same_callers
-                (subst (λ (entries : List Entry). IsFifo new.callers entries led.base) (sym ended.journal_is) lists.fifo);
+                (subst (λ (entries : List Entry). IsFifo new.callers entries led.base) (sym ended.journal_is)
+                lists.fifo);
             leaves = λ none.
                 subst (λ (cs : List Caller).
                 IsFileOf hash left (restarted (after cs played.journal.items led.base))) same_callers
@@ -222,6 +224,7 @@ module _ {K : Type 0} (of : K → RecordKey → ℕ) (keys : K) (content : List 
     has_reason lead led does steps was before =
         let later = later_along hash es os old new runs in
         record {
-          device = λ device. risen_within (omega (arith, before, later)) ended.later (omega arith) (ended.device device);
+          device = λ device. risen_within (omega (arith, before, later)) ended.later (omega arith)
+              (ended.device device);
           step = λ true_to_it. step_reason lead true_to_it (led true_to_it) does steps was before;
         }
