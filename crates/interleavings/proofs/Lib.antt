@@ -9,4 +9,7 @@ pub mod ScheduleLemmas
 pub mod DoingLemmas
 pub mod ToldLemmas
 pub mod OwedLemmas
+pub mod UnderWayLemmas
+pub mod RisenLemmas
+pub mod PlayedLemmas
 pub use Rattle.interleaving_core.proofs as of_interleaving_core

@@ -22,6 +22,7 @@ pub record IsLedFrom {K : Type 0} (hash : RecordKey → ℕ) (base : State) (k :
   pub together : k.failed ≡ false → AreCounted hash now k
 
 -- and, until a step fails, in this phase of a change of the structure
-pub record IsLedIn {K : Type 0} (hash : RecordKey → ℕ) (base : State) (k : KernelState K) (change : Change) : Type 0 where
+pub record IsLedIn {K : Type 0} (hash : RecordKey → ℕ) (base : State) (k : KernelState K) (change : Change)
+    : Type 0 where
   pub led : IsLedFrom hash base k
   pub phase : (sound : k.failed ≡ false) → (led.together sound).calls.change ≡ change

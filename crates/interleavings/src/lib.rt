@@ -5,6 +5,7 @@
 
 mod event;
 mod laws;
+mod playing;
 mod running;
 
 pub use event::{Event, Outcome, are_of_seats};
@@ -15,4 +16,5 @@ pub use laws::{
     a_step_does_what_its_seat_is_told, calls_begin_led, drives_lead_on, events_lead_on,
     refusals_leave_led, steps_lead_on, stops_lead_on, what_is_owed_is_the_rest,
 };
+pub use playing::{EndFault, Played, play_on};
 pub use running::run;

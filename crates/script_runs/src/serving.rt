@@ -140,7 +140,7 @@ fn run_open<D: PageDevice + Drop, W: Write + Drop>(
     let failure = kernel.failure();
     if kernel.has_failed() {
         return Ran {
-            device: kernel.into_device(),
+            device: kernel.abandon().device,
             failure,
             ending: fail(Stage::Closing, faults::FAILED, output),
         };
@@ -158,7 +158,7 @@ fn run_open<D: PageDevice + Drop, W: Write + Drop>(
         },
         // a device that is not honest may leave a call that is never answered
         Err(NotClosed::Busy(kernel)) => Ran {
-            device: kernel.into_device(),
+            device: kernel.abandon().device,
             failure,
             ending: fail(Stage::Closing, faults::FAILED, output),
         },
