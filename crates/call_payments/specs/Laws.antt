@@ -1,11 +1,11 @@
 -- Laws of payments. Each is the contract of a function of laws.rt. docs/STEPS.md, "What a call writes", "Remove".
-use Rattle.std.specs.Prelude.{ℕ, ◌≡◌, ◌≤◌, List, true, Option, Some, None, take, ⊤}
+use Rattle.std.specs.Prelude.{ℕ, ◌≡◌, List, true, Some, None, take, ⊤}
 use Rattle.std.specs.List.{Contains}
 use Rattle.call_decisions.specs.declared.settled.Settled.TheVariants as settlements
 use Rattle.owed_records.specs.Owing as owed
 use Rattle.call_payments.specs.declared.payment.Stage.{Stage}
-use Rattle.call_payments.specs.Words.{RecordKey, PoolState, Table, Lock, Change, Store, Exclusive, LockName, kind_of, Owns, Call, Caller, State, record_of, IsFiled, Plan, Records, inserted, OwesUnder, overlaid, Settled, AreAlike, Means, Due, Trying, Full, CallWrites, IsCarrying}
-use Rattle.call_payments.specs.Payments.{IsPaid, begun_payment, owes_now, payment_left}
+use Rattle.call_payments.specs.Words.{RecordKey, PoolState, Table, Lock, Change, Exclusive, LockName, kind_of, Owns, Call, Caller, State, record_of, IsFiled, Plan, Records, inserted, OwesUnder, overlaid, Settled, AreAlike, Means, Trying, Full, CallWrites, IsCarrying}
+use Rattle.call_payments.specs.Payments.{IsPaid, begun_payment, owes_now}
 use Rattle.call_payments.specs.Paying.{IsPaying}
 
 -- ---- its beginning

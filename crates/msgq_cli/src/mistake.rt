@@ -23,16 +23,25 @@ pub enum Mistake {
 /// What could stand at a word's place.
 #[derive(Clone, Copy, Debug, PartialEq, Eq)]
 pub enum Expected {
+    /// A seat or `ids`, the first word of a line.
     SeatOrIds,
+    /// The verb of a command, after the seat.
     Command,
+    /// The seat of an `ids` line, its user and its group.
     Seat,
     Uid,
     Gid,
+    /// `KEY` or `private`.
     Key,
+    /// The id of a queue.
     Id,
+    /// How many bytes a receive takes at most.
     Size,
+    /// How many bytes a queue may hold.
     Qbytes,
+    /// The type of a message, or of those that a receive takes.
     Type,
+    /// The body of a message.
     Hex,
     /// An option of the call, which no other repeats.
     OptionOf(Optional),

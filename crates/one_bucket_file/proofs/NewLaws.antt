@@ -1,7 +1,7 @@
 -- A new file is one of the system without queues.
-use Rattle.std.proofs.Common.{ℕ, ◌≡◌, List, sym, ap, subst}
+use Rattle.std.proofs.Common.{◌≡◌, List, sym, ap, subst}
 use Rattle.file_walk.specs.Files.{payload_on}
-use Rattle.record_file.specs.Files.{IsNewFile, new_records}
+use Rattle.record_file.specs.Files.{new_records}
 use Rattle.one_bucket_file.proofs.Names.{Bucket, Pair, ROOT_PAGE, read_again, root_bucket}
 use Rattle.one_bucket_file.proofs.EmptyLemmas.{empty_records}
 use Rattle.one_bucket_file.proofs.NewLemmas.{root_at, root_spelled}

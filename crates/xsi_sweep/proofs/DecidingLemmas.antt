@@ -1,14 +1,11 @@
 -- What the records that a Remove reads tell, and what is decided then.
-use Rattle.std.proofs.Common.{◌≡◌, ℕ, length, Option, Some, None, refl, sym, ◌∙◌, subst, arith}
-use Rattle.xsi_sweep.specs.Words.{Contains, found_id, LockName, Caller, without_queue, State, Counter, Record, guard_of, key_of, counter_key, counter_of, record_of, At, IsSwept, IsKeyed, swept, IsFiled, IsTold, Leads}
+use Rattle.std.proofs.Common.{◌≡◌, ℕ, length, Option, Some, refl, sym, ◌∙◌, subst}
+use Rattle.xsi_sweep.specs.Words.{Contains, found_id, Caller, without_queue, State, Counter, Record, guard_of, key_of, counter_key, counter_of, record_of, At, IsSwept, swept, IsFiled, IsTold, Leads}
 use Rattle.std.proofs.lemmas.List.Elements.{All-nil}
 use Rattle.queue_model.specs.declared.call.Call.TheVariants as calls
 use Rattle.queue_records.specs.declared.record.Record.TheVariants as records
 use Rattle.xsi_sweep.specs.declared.removal.Removal.{Removal}
-use Rattle.xsi_sweep.specs.declared.stage.Stage.{Stage}
-use Rattle.xsi_sweep.specs.declared.stage.Stage.TheVariants.{Seeking, Refused, Keyed, Counting, Removing}
-use Rattle.xsi_sweep.specs.Asking.{asked, locked_at}
-use Rattle.xsi_sweep.specs.Knowing.{KnowsAt, KnowsRemoval}
+use Rattle.xsi_sweep.specs.Knowing.{KnowsRemoval}
 use Rattle.xsi_sweep.specs.Removing.{names_of, removal_plan}
 use Rattle.xsi_sweep.proofs.RemovingLemmas.{ascend, plan_of, remove_leads, under}
 

@@ -1,7 +1,6 @@
 //! A Remove as it asks for records.
 
 ghost use Rattle.std.specs.Prelude.{◌≡◌, ℕ, IfSome, None, Option, slice_get};
-ghost use Rattle.std.specs.List.{Contains};
 ghost use Rattle.page_locks.specs.declared.lock.LockName.{LockName};
 ghost use Rattle.queue_model.specs.State.{State};
 ghost use Rattle.xsi_inquiry.specs.Rooms.{Roomful};
