@@ -10,7 +10,7 @@ use Rattle.call_payments.specs.Paying.{IsPaying}
 
 -- ---- its beginning
 
--- a call rests behind its trials, which all stand: the records under its names are those of the system with the trials
+-- a call rests after its trials, which all stand: the records under its names are those of the system with the trials
 pub record HasTried (hash : RecordKey → ℕ) (seat : ℕ) (names : List Lock) (held : List LockName) (p : Plan)
     (trials : CallWrites) (records : Records) (s : State) (pool : PoolState) (locks : Table) (change : Change)
     : Type 0 where

@@ -1,4 +1,4 @@
-//! What a call owes behind its decision, paid step by step: the sweep of a Remove, then its writes.
+//! What a call owes after its decision, paid step by step: the sweep of a Remove, then its writes.
 
 #![tactic(auto)]
 

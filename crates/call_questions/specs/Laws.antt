@@ -27,7 +27,7 @@ FilesAnswer = (call : Call) (i : AnyInquiry) (room : Roomful) (wanted : Wanted) 
     (s : State) → asked_of call i ≡ Some wanted → KnowsOf call i room s → IsAskedUnder held wanted →
     Agrees held store s → IsAnswered store wanted s
 
--- it holds just the names that it needs, and those under which it inserts and writes Exclusive
+-- it holds exactly the names that it needs, and those under which it inserts and writes Exclusive
 pub record HoldsNames (call : Call) (v : QuestionsView) : Type 0 where
   pub names : v.names ≡ names_for call v.inquiry
   pub exclusive : (name : LockName) → Contains (locked_of call v.inquiry) name → kind_of v.names name ≡ Some Exclusive

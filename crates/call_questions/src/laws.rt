@@ -14,7 +14,7 @@ pub fn what_stands_answers_a_question()
     ensures { FilesAnswer }
 {}
 
-/// A call that has asked all, and whose plan is not to do nothing, holds just the names that it
+/// A call that has asked all, and whose plan is not to do nothing, holds exactly the names that it
 /// needs; each name under which it inserts and writes it holds Exclusive.
 pub fn a_call_writes_under_names_that_it_holds()
     ensures { WriteUnderNames }

@@ -1,4 +1,4 @@
-//! What a call inserts on trial before its decision, and what it writes behind it, step by step.
+//! What a call inserts on trial before its decision, and what it writes after it, step by step.
 
 #![tactic(auto)]
 

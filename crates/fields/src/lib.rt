@@ -80,7 +80,7 @@ pub fn write_eight(bytes: &mut [u8], number: u64)
     BigEndian::write_u64(bytes, number);
 }
 
-/// Writes numbers of four bytes each, one behind the other.
+/// Writes numbers of four bytes each, one after the other.
 #[tactic(auto, unfolding(crate::specs::Numbers::four))]
 pub fn write_numbers(bytes: &mut [u8], numbers: &[u32])
     requires { length bytes.old ≡ 4 * length numbers.now }
@@ -89,7 +89,7 @@ pub fn write_numbers(bytes: &mut [u8], numbers: &[u32])
     BigEndian::write_u32_into(numbers, bytes);
 }
 
-/// Reads numbers of four bytes each, one behind the other.
+/// Reads numbers of four bytes each, one after the other.
 pub fn read_numbers(bytes: &[u8], numbers: &mut [u32])
     requires { length bytes.now ≡ 4 * length numbers.old }
     ensures { numbers.new ≡ numbers_of (length numbers.old) bytes.now }

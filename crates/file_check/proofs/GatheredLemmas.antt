@@ -1,4 +1,4 @@
--- Where the pages of a right file hold just the records of a lawful system, the file is that system's.
+-- Where the pages of a right file hold exactly the records of a lawful system, the file is that system's.
 use Rattle.std.proofs.Common.{ℕ, suc, option_map, ◌≡◌, ◌<◌, ◌+◌, ◌≤◌, nat_lt, Bool, true, false, List, [], ◌∷◌, ◌++◌, length, map, take, Option, Some, None, IfSome, refl, sym, ap, subst, ◌∙◌, arith}
 use Rattle.std.specs.List.{All, AllPairs, Contains, find, flat_map}
 use Rattle.std.specs.Prelude.{◌≢◌, option_to_list, slice_index, slice_index_or}

@@ -1,4 +1,4 @@
--- A file of which a system needs each record has just the records of that system, and then none is stray.
+-- A file of which a system needs each record has exactly the records of that system, and then none is stray.
 use Rattle.std.proofs.Common.{ℕ, ◌≡◌, List, [], Option, Some, None, refl, sym, subst, ◌∙◌}
 use Rattle.std.specs.List.{Contains}
 use Rattle.std.specs.Prelude.{slice_index, slice_index_or}
@@ -21,7 +21,7 @@ use Rattle.file_records.proofs.VersionLemmas.{held_none, held_some}
 use Rattle.file_check.specs.Words.{CheckFault, Layout, Pair, Record, RecordKey, Spells, State, Store, bucket_at, contents, held_in, pairs_on, records_at}
 use Rattle.file_check.proofs.RecordLemmas.{stands_on}
 
--- ---- just the records of a system
+-- ---- exactly the records of a system
 
 -- a record that the system has at a key stands there
 has_each : (held : RecordKey → Option (List ℕ)) (s : State) → HasSystem held s → (key : RecordKey) (r : Record) →

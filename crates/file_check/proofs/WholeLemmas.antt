@@ -1,4 +1,4 @@
--- The file of a system has just its records, and nothing is wrong with it.
+-- The file of a system has exactly its records, and nothing is wrong with it.
 use Rattle.std.proofs.Common.{ℕ, ◌≡◌, Bool, IsTrue, List, ◌⊎◌, inl, inr, sym, subst}
 use Rattle.file_walk.specs.Laws.{IsQuietFile}
 use Rattle.file_walk.specs.Structure as walk

@@ -1,4 +1,4 @@
--- A system of which these pages hold just the records: each of theirs is one of it, and they are as many
+-- A system of which these pages hold exactly the records: each of theirs is one of it, and they are as many
 -- (docs/FORMAT.md, "Records").
 use Rattle.std.specs.Prelude.{◌≡◌, ℕ, ◌<◌, false, List, length, slice_index_or}
 use Rattle.std.specs.List.{All, Contains}

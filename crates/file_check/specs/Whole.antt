@@ -12,7 +12,7 @@ use Rattle.file_check.specs.Right.{IsFirstWrongThing, IsRightFile}
 use Rattle.file_check.specs.Strays.{IsFirstStray}
 use Rattle.file_check.specs.Words.{CheckFault, IsLayout, LAYOUT, Layout, Record, RecordKey, Spells, State, file_in, held_in}
 
--- at each key stands just the record that the system has there
+-- at each key stands exactly the record that the system has there
 pub record HasJust (held : RecordKey → Option (List ℕ)) (s : State) : Type 0 where
   pub stand : (key : RecordKey) (r : Record) → record_of s key ≡ Some r →
       (value : List ℕ) × (held key ≡ Some value) × Spells r key value

@@ -30,10 +30,10 @@ pub struct Checked<D> {
 }
 
 /// The system whose records a file holds. An answer is lawful and not stopped; the file is sound
-/// and quiet, its directory and its counts are exact, and it holds just the records of that system.
-/// A fault is the first thing that is wrong: with the structure, with a record by itself, with all
-/// records together, with a record beside them. Nothing is written; the device is given back as it
-/// was.
+/// and quiet, its directory and its counts are exact, and it holds exactly the records of that
+/// system. A fault is the first thing that is wrong: with the structure, with a record by itself,
+/// with all records together, with a record beside them. Nothing is written; the device is given
+/// back as it was.
 pub fn check<D: PageDevice, K: PseudoKey + Drop>(alloc: Global, device: D, keys: K) -> Checked<D>
     ensures ok { IsTrue (D.is_honest device) →
         IfOk result.found (IsFileOf (K.of_key keys) (D.content device)) }
@@ -111,8 +111,8 @@ pub fn check_in<D: PageDevice, K: PseudoKey + Drop>(
 }
 
 /// Whether the file on a device is that of a system: its structure and each of its records are
-/// right, and it has just the records of the system, which is not stopped. A no says nothing of the
-/// file.
+/// right, and it has exactly the records of the system, which is not stopped. A no says nothing of
+/// the file.
 pub fn is_file_of<D: PageDevice, K: PseudoKey>(
     alloc: Global,
     device: &mut D,

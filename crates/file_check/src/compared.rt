@@ -1,5 +1,5 @@
 //! The records of a file are compared with those of a system: where each is one of them, and they
-//! are as many, the file holds just these.
+//! are as many, the file holds exactly these.
 
 ghost use Rattle.std.specs.Prelude.{◌≡◌, ◌≤◌, false, length, IfSome, IsTrue};
 ghost use Rattle.std.specs.List.{Contains};
@@ -23,8 +23,8 @@ use queue_records::{COUNTER, Counter, KEY, KeyEntry, MESSAGE, QUEUE, Record, TYP
 use record_walk::QueueLinks;
 use std::alloc::Global;
 
-/// The system of which these pages hold just the records, where each is right by itself. None says
-/// nothing of them.
+/// The system of which these pages hold exactly the records, where each is right by itself. None
+/// says nothing of them.
 pub(crate) fn quick_system<D: PageDevice, K: PseudoKey>(
     alloc: Global,
     layout: &Layout,
@@ -49,7 +49,7 @@ pub(crate) fn quick_system<D: PageDevice, K: PseudoKey>(
     Some(system)
 }
 
-/// Some where these pages hold just the records of a system. None says nothing of them.
+/// Some where these pages hold exactly the records of a system. None says nothing of them.
 pub(crate) fn has_just<D: PageDevice>(
     alloc: Global,
     layout: &Layout,

@@ -362,7 +362,7 @@ makes_step of seat did slot left old new now view whole seated at turns seats ke
     does = turn_does (of old.keys) seat old.stopped did (call_at old.seats seat) left old.pool new.pool old.locks
         new.locks old.journal new.journal here
 
--- ---- the seat behind a step
+-- ---- the seat after a step
 
 -- the row of a seat is that of the call in its place
 pub row_there : {K : Type 0} (seat : ℕ) (slot : Option ActiveView) (old : KernelState K) → IsWhole old →

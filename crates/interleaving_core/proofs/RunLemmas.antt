@@ -1,4 +1,4 @@
--- Steps of one seat, one behind the other.
+-- Steps of one seat, one after the other.
 use Rattle.std.proofs.Common.{◌≡◌, ◌≢◌, refl, sym, ap, ◌∙◌, subst, ℕ, Bool, true, ◌||◌, IsSome, List, [], ◌++◌, Option, Some, None, append-nil, append_assoc, arith}
 use Rattle.page_locks.proofs.ChangeLemmas.{IsSeat-with_row, with_row-own, with_row-twice}
 use Rattle.step_rules.specs.declared.kind.Kind.{Kind}

@@ -135,7 +135,7 @@ decide_told did m other is = other (ap (λ (d : Progress FileFault). told_of d m
 
 -- ---- what is left
 
--- what is so of what is left behind a call that has come so far
+-- what is so of what is left after a call that has come so far
 pub record Leaves (seat : ℕ) (did : Step) (come : ActiveView) (left : Option ActiveView) : Type 0 where
   pub locks : locks_of left ≡ call_locks come.machine
   pub due : due_at left ≤ drafted come.draft

@@ -31,7 +31,7 @@ pub record IsDraftOf (m : CallView) (d : Draft) : Type 0 where
   pub call : d.call ≡ m.call
   pub room : HasRoomAs d.room m
 
--- something is kept just for a call that is not answered yet
+-- something is kept exactly for a call that is not answered yet
 abbrev pub IsDrafted : CallView → Option Draft → Type 0
 IsDrafted m None = IsSome (answer_of_call m)
 IsDrafted m (Some d) = IsDraftOf m d

@@ -84,7 +84,7 @@ pub record IsWhole {K : Type 0} (s : KernelState K) : Type 0 where
   pub few : entries_of s ≤ MAX_DECIDED + 1
   -- each call keeps what the journal has had since it began
   pub past : (seat : ℕ) → KeepsJournal seat s.journal (call_at s.seats seat)
-  -- what failed a step is known just where one has failed
+  -- what failed a step is known exactly where one has failed
   pub blamed : s.failed ≡ is_some s.failure
   -- the searches of each seat are counted
   pub counted : length s.searches.counts ≡ length s.seats

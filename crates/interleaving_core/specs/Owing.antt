@@ -48,7 +48,7 @@ failure_by seat steps.Idle None = None
 failure_by seat (steps.Fault (faults.File fault)) None = Some (record { seat = seat; fault = fault })
 failure_by seat (steps.Fault faults.NoRoom) None = None
 
--- its seat has no call behind it
+-- its seat has no call after it
 abbrev pub is_end : Step → Bool
 is_end (steps.Moved kind) = false
 is_end (steps.Blocked other) = false
@@ -70,7 +70,7 @@ IsMove (steps.Answered answer) = ⊥
 IsMove steps.Idle = ⊥
 IsMove (steps.Fault fault) = ⊥
 
--- what a seat with this call is told behind a failure
+-- what a seat with this call is told after a failure
 abbrev pub told_of_failure : Option ActiveView → Step
 told_of_failure None = steps.Idle
 told_of_failure (Some a) = failed
@@ -108,11 +108,11 @@ pub record IsUnwoken {K : Type 0} (seat : ℕ) (k : KernelState K) : Type 0 wher
 -- one step of a seat
 pub record IsTurn {K : Type 0} (seat : ℕ) (did : Step) (old new : KernelState K) : Type 0 where
   pub run : IsRun seat (answer_told did) old new
-  -- it is idle just where it has no call
+  -- it is idle exactly where it has no call
   pub idle : (did ≡ steps.Idle) ↔ (call_at old.seats seat ≡ None)
   -- and then nothing changes
   pub spares : call_at old.seats seat ≡ None → new ≡ old
-  -- its call is gone just where it is told so, and else it is the same call
+  -- its call is gone exactly where it is told so, and else it is the same call
   pub over : is_end did ≡ true → call_at new.seats seat ≡ None
   pub goes : is_end did ≡ false → call_of (call_at new.seats seat) ≡ call_of (call_at old.seats seat)
   -- it is told that it waits only where nothing has woken its call
@@ -123,7 +123,7 @@ pub record IsTurn {K : Type 0} (seat : ℕ) (did : Step) (old new : KernelState 
   -- it is owed
   pub joins : (a : ActiveView) → call_at old.seats seat ≡ Some a → part_of seat (drop a.begun new.journal)
       ≡ told seat (Some a) (answer_told did) ++ untold seat (call_at new.seats seat)
-  -- behind a failure of the file each call is told of it, and nothing changes
+  -- after a failure of the file each call is told of it, and nothing changes
   pub failed : new.failed ≡ (old.failed || is_failure did)
   pub failure : new.failure ≡ failure_by seat did old.failure
   pub fails : old.failed ≡ true → did ≡ told_of_failure (call_at old.seats seat)

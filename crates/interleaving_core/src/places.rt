@@ -29,7 +29,7 @@ pub(crate) fn has_call(seats: &[Seat]) -> bool
     seats.iter().any(|at| at.has_call())
 }
 
-/// What a seat is told behind a failure.
+/// What a seat is told after a failure.
 pub(crate) fn told_of_failure(at: &Seat) -> Step
     ensures { result ≡ told_of_failure at.now }
 {

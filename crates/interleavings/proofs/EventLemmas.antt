@@ -88,7 +88,7 @@ pub record IsTold {K : Type 0} (seat : ℕ) (entries : List Entry) (old new : Ke
   pub owed : entries ++ untold seat (call_at new.seats seat)
       ≡ untold seat (call_at old.seats seat) ++ part_of seat added
 
--- and a call of it is this one behind that
+-- and a call of it is this one after that
 pub record IsToldAndHas {K : Type 0} (seat : ℕ) (entries : List Entry) (last : Option Call) (old new : KernelState K)
     : Type 0 where
   pub told : IsTold seat entries old new

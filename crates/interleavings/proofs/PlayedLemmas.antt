@@ -90,7 +90,7 @@ module _ {K : Type 0} (of : K → RecordKey → ℕ) (keys : K) (content : List 
   as_honest = (places_along hash es os old new runs).honest
       ∙ ap (λ (p : PoolState). p.honest) opened.pool
 
-  -- the call of a seat behind some of the events
+  -- the call of a seat after some of the events
   under_way : (seat : ℕ) (some : List Event) (out : List Outcome) (now : KernelState K) →
       AreOfSeats (length old.seats) some → Runs hash some out old now →
       call_on seat now ≡ call_under_way seat some out

@@ -1,4 +1,4 @@
--- And behind drives, and events of many seats.
+-- And after drives, and events of many seats.
 use Rattle.std.proofs.Common.{ℕ, zero, suc, inl, inr, sym, subst, true, List, [], ◌∷◌, Option, length}
 use Rattle.std.proofs.lemmas.Bool.{true≢false}
 use Rattle.std.proofs.lemmas.List.Elements.{All-head, All-tail}

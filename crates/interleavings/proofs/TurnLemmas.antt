@@ -1,4 +1,4 @@
--- A kernel that is led from a system stays so behind a step of a seat.
+-- A kernel that is led from a system stays so after a step of a seat.
 use Rattle.std.proofs.Common.{ℕ, ◌≡◌, ◌≤◌, ◌⊎◌, inl, inr, refl, sym, ap, ◌∙◌, subst, Bool, true, false, ◌||◌, List, [], Option, Some, None, IsSome, length}
 use Rattle.std.proofs.Math.Path.{fun_ext}
 use Rattle.std.proofs.lemmas.Bool.{cases_eq, true≢false}

@@ -1,4 +1,4 @@
--- The answers of a kernel are those of plain lists, and at rest its file holds just what the lists do.
+-- The answers of a kernel are those of plain lists, and at rest its file holds exactly what the lists do.
 -- docs/QUEUES.md, "Journals", "Order".
 use Rattle.std.specs.Prelude.{ℕ, ◌≡◌, false, None}
 use Rattle.interleavings.specs.Leading.{IsLedFrom}
@@ -9,7 +9,7 @@ pub record IsAsPlainLists {K : Type 0} (hash : RecordKey → ℕ) (base : State)
   pub legal : IsLegal k.callers k.journal base
   -- of each type messages are received in the order in which they were sent, each once
   pub fifo : IsFifo k.callers k.journal base
-  -- once no seat has a call, and no step has failed, the file has just the records of the system after the journal
+  -- once no seat has a call, and no step has failed, the file has exactly the records of the system after the journal
   pub file : ((seat : ℕ) → call_at k.seats seat ≡ None) → k.failed ≡ false →
       IsFileAtRest hash (after k.callers k.journal base) k.pool k.locks
 

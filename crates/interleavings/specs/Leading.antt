@@ -7,7 +7,7 @@ use Rattle.interleavings.specs.Words.{ActiveView, Caller, HasFittingCaller, Kern
 
 -- it has come from this system by what its journal says, whatever its seats are at
 pub record IsLedFrom {K : Type 0} (hash : RecordKey → ℕ) (base : State) (k : KernelState K) : Type 0 where
-  -- the system after the journal, which is stopped just where the kernel is
+  -- the system after the journal, which is stopped exactly where the kernel is
   pub now : State
   pub leads : LeadsAlong k.callers k.journal base now
   pub mark : now.stopped ≡ k.stopped

@@ -32,18 +32,18 @@ seat_of events.Stop = 0
 abbrev pub unless_over : Step → Option Call → Option Call
 unless_over did call = if is_end did then None else call
 
--- behind an event of the seat
+-- after an event of the seat
 abbrev pub call_behind : Event → Outcome → Option Call → Option Call
 call_behind (events.Begin seat call) outcomes.Begun under_way = Some call
 call_behind (events.Step seat) (outcomes.Stepped did) under_way = unless_over did under_way
 call_behind (events.Drive seat) (outcomes.Driven did) under_way = unless_over did under_way
 call_behind _ _ under_way = under_way
 
--- behind an event of whichever seat
+-- after an event of whichever seat
 abbrev pub call_left : ℕ → Event → Outcome → Option Call → Option Call
 call_left seat e o under_way = if is_at seat e then call_behind e o under_way else under_way
 
--- behind events with these outcomes
+-- after events with these outcomes
 abbrev pub call_along : ℕ → Option Call → List Event → List Outcome → Option Call
 call_along seat under_way (e ∷ es) (o ∷ os) = call_along seat (call_left seat e o under_way) es os
 call_along seat under_way _ _ = under_way
@@ -91,14 +91,14 @@ abbrev pub is_mark : Entry → Bool
 is_mark (Decided seat call answer) = false
 is_mark Stopped = true
 
--- these entries stood behind so many events
+-- these entries stood after so many events
 pub record HaveStood (many : ℕ) (es : List Event) (os : List Outcome) (stood : List Entry) : Type 0 where
   -- each call joined between its begin and its answer
   pub parts : (seat : ℕ) → HasItsPart seat (take many es) (take many os) stood
   -- and nothing stops the system but an event
   pub mark : list_any is_mark stood ≡ list_any is_stop (take many es)
 
--- how much of the journal stood behind so many events
+-- how much of the journal stood after so many events
 pub record HasStood (many : ℕ) (es : List Event) (os : List Outcome) (journal : List Entry) : Type 0 where
   pub stood : List Entry
   pub later : List Entry
@@ -133,7 +133,7 @@ pub record HasPlayed {D : Type 0} (es : List Event) (played : Played D) : Type 0
   pub busy : played.fault ≡ Some Busy → (seat : ℕ) × IsSome (call_under_way seat es played.outcomes.items)
   pub failed : (played.fault ≡ Some (Close closes.Failed)) ↔ (list_any tells_failure played.outcomes.items ≡ true)
 
--- why the file was not closed well, where these were the faults of its device before and behind
+-- why the file was not closed well, where these were the faults of its device before and after
 pub record HasReason {D : Type 0} (honest : Bool) (old new : ℕ) (played : Played D) : Type 0 where
   -- a transfer failed where the pages were written
   pub device : played.fault ≡ Some (Close closes.Device) → HasRisen old new

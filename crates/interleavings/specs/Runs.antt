@@ -99,7 +99,7 @@ pub record IsToldItsPart {K : Type 0} (seat : ℕ) (es : List Event) (os : List 
 
 -- ---- real time
 
--- a moment of a run, behind so many of its events: what a seat was told until then stands in the journal that there is
+-- a moment of a run, after so many of its events: what a seat was told until then stands in the journal that there is
 -- then, and what it is told later joins that journal, but for the one entry that it may be owed then
 pub record HasMoment {K : Type 0} (hash : RecordKey → ℕ) (many : ℕ) (es : List Event) (os : List Outcome)
     (old new : KernelState K) : Type 0 where

@@ -29,7 +29,7 @@ pub fn refusals_leave_led<K>()
     ensures { RefusesLed K }
 {}
 
-/// And behind each step of a seat: where its call comes to its answer, that is the one which the
+/// And after each step of a seat: where its call comes to its answer, that is the one which the
 /// rules give in the system after the journal.
 pub fn steps_lead_on<K>()
     ensures { StepsLed K }
@@ -54,7 +54,7 @@ pub fn a_step_does_what_its_seat_is_told<K>()
     calls_begin_together();
 }
 
-/// And behind each drive, which is so many steps.
+/// And after each drive, which is so many steps.
 pub fn drives_lead_on<K>()
     ensures { DrivesLed K }
 {
@@ -70,7 +70,7 @@ pub fn stops_lead_on<K>()
     calls_stop_together();
 }
 
-/// So it stays behind events of many seats, in whichever order they come.
+/// So it stays after events of many seats, in whichever order they come.
 pub fn events_lead_on<K>()
     ensures { EventsLead K }
 {
@@ -82,7 +82,7 @@ pub fn events_lead_on<K>()
 }
 
 /// Its answers are those of plain lists asked one call at a time, first in, first out; and once no
-/// seat has a call, its file holds just what the lists do.
+/// seat has a call, its file holds exactly what the lists do.
 pub fn a_kernel_led_answers_as_plain_lists<K>()
     ensures { AnswersAsPlainLists K }
 {

@@ -34,7 +34,7 @@ pub struct Played<D> {
     pub fault: Option<EndFault>,
 }
 
-/// Why a file was not closed well behind the last event.
+/// Why a file was not closed well after the last event.
 #[derive(Clone, Copy, Debug, PartialEq, Eq)]
 pub enum EndFault {
     /// A seat has a call under way.

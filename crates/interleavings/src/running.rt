@@ -23,7 +23,7 @@ use std::alloc::Global;
 ///
 /// Whatever the order of the events: where the kernel was led from a lawful system, as one is that
 /// was opened over an honest device, its answers are those of plain lists asked one call at a time;
-/// and once no seat has a call the file holds just what the lists do.
+/// and once no seat has a call the file holds exactly what the lists do.
 pub fn run<D: PageDevice + Drop, K: PseudoKey + Drop>(
     alloc: Global,
     kernel: &mut Kernel<D, K>,

@@ -161,7 +161,7 @@ fn each_event_comes_to_what_its_row_says(rt: HostRuntime) -> Result<(), Fail> {
 }
 
 /// Events of a script: calls begin at three seats, whose steps are made in an order that is drawn;
-/// then they are driven, twice each, and behind the last calls the system is stopped.
+/// then they are driven, twice each, and after the last calls the system is stopped.
 fn drawn(alloc: Global, script: &Script, seed: u64) -> Result<Vec<Event>, Fail> {
     let mut draws = Draws(seed);
     let mut events = Vec::new(alloc);

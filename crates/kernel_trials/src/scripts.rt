@@ -161,7 +161,7 @@ const OWNERS: [Row; 15] = [
     Calls(4, Remove(1), Done),
 ];
 
-/// The Counter behind one Get: the next id is 2, and no queue is alive.
+/// The Counter after one Get: the next id is 2, and no queue is alive.
 const COUNTER: &[u8] = b"\0\x08\x01\0\0\0\0\0\0\0\0\0\0\0\0\0\0\0\x02\0\0\0\0";
 
 const SCRIPTS: [Case; 10] = [

@@ -50,7 +50,7 @@ const SPLIT_AGAIN: [Row; 3] = [
     Calls(1, SendLong(1, 1024), Sent(7)),
 ];
 
-/// A Get beside the split. Behind WriteNew the old bucket has all its records.
+/// A Get beside the split. After WriteNew the old bucket has all its records.
 const BEHIND_WRITE_NEW: [Row; 6] = [
     Begins(1, SendLong(1, 1024)),
     Reaches(1, Kind::WriteNew),
@@ -60,7 +60,7 @@ const BEHIND_WRITE_NEW: [Row; 6] = [
     Drives(1, Sent(4)),
 ];
 
-/// Behind WriteOld the entry still names it, and the record stands behind it.
+/// After WriteOld the entry still names it, and the record stands behind it.
 const BEHIND_WRITE_OLD: [Row; 6] = [
     Begins(1, SendLong(1, 1024)),
     Reaches(1, Kind::WriteOld),

@@ -36,7 +36,7 @@ pub record IsAnswered {K : Type 0} (hash : RecordKey → ℕ) (caller : Caller) 
   pub by_rules : outcome caller call s ≡ Some (answer, after)
   pub rests : RestsOver hash after k
 
--- what is so behind a step of which its seat is told this
+-- what is so after a step of which its seat is told this
 abbrev pub StandsBehind : {K : Type 0} → (RecordKey → ℕ) → ℕ → Caller → Call → State → Step → KernelState K → Type 0
 StandsBehind hash seat caller call s (steps.Moved kind) k = ServesOver hash seat caller call s k
 -- nobody stands in its way
@@ -62,7 +62,7 @@ AnswersByTheRules K = (hash : RecordKey → ℕ) (seat : ℕ) (caller : Caller) 
 
 -- ---- it is driven
 
--- what is so behind a drive of which its seat is told this
+-- what is so after a drive of which its seat is told this
 pub record StandsDriven {K : Type 0} (hash : RecordKey → ℕ) (seat : ℕ) (caller : Caller) (call : Call) (s : State)
     (did : Step) (old new : KernelState K) (driven : IsDriven hash seat did old new) : Type 0 where
   pub stands : StandsBehind hash seat caller call s did new

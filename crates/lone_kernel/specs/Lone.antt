@@ -8,7 +8,7 @@ pub record RestsOver {K : Type 0} (hash : RecordKey → ℕ) (s : State) (k : Ke
   pub idle : (seat : ℕ) → call_at k.seats seat ≡ None
   -- no step has failed
   pub sound : k.failed ≡ false
-  -- it is stopped just where the kernel is
+  -- it is stopped exactly where the kernel is
   pub mark : s.stopped ≡ k.stopped
 
 -- a call that is to begin anew over a system, once something wakes it that is behind so many entries of the journal

@@ -1,4 +1,4 @@
-//! The options behind a call.
+//! The options after a call.
 
 ghost use Rattle.std.specs.Prelude.{◌≡◌};
 ghost use Rattle.msgq_cli.specs.Options.{no_options, once, with_value, with_option, options_of};
@@ -9,7 +9,7 @@ ghost use Rattle.script_words.specs.Words.{texts};
 use crate::mistake::{Expected, Optional, Unread};
 use script_words::{is_word, mode, number};
 
-/// Which options stand behind a call, and their values.
+/// Which options stand after a call, and their values.
 #[derive(Clone, Copy, Debug, PartialEq, Eq)]
 pub(crate) struct Options {
     pub create: bool,

@@ -157,7 +157,7 @@ module _ (hash : RecordKey → ℕ) (content : List (List ℕ)) (file : SpellsFi
       (subst (λ (ms : List ℕ). Contains (pairs_on (file_of content) ms) p) (sym quiet.chained)
       (in_flat_map (records_at (file_of content)) ns n p on stands))
 
-  -- ---- and where it holds just the records of a system, it is the file of that system
+  -- ---- and where it holds exactly the records of a system, it is the file of that system
 
   module _ (s : State) (lawful : IsLawful s) (running : s.stopped ≡ false)
       (holds : (key : RecordKey) → contents (store_of (payloads_of content)) key

@@ -111,7 +111,7 @@ module _ (seat place : ℕ) (did : Deed) (s t : ReplayState) (sound : IsSoundRep
       lines : t.script.lines ≡ s.script.lines
       lines = ap (λ (x : ProgressState). x.lines) b.script ∙ lines_told its_begun seat place b.reply
 
-      -- the line is under way behind its begin, and it is still
+      -- the line is under way after its begin, and it is still
       behind : (place_of its_begun.places other).under_way ≡ Some p
       behind = under_told its_begun seat place b.reply other p under_begun
           (sym (ap (λ (x : ProgressState). (place_of x.places other).under_way) b.script) ∙ at)

@@ -198,7 +198,7 @@ not_busy s sound over busy =
     let never : true ≡ false = sym busy.call ∙ idle in
     absurd cc
 
--- so `BUSY` is told just where a line is left
+-- so `BUSY` is told exactly where a line is left
 pub busy_if_left : (s : ReplayState) (fault : Option ℕ) → IsSoundReplay s → MayEndWith (is_over s) s.kernel fault →
     (fault ≡ Some BUSY) ↔ (is_over s ≡ false)
 busy_if_left s fault sound = by (is_over s) refl

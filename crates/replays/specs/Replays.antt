@@ -102,7 +102,7 @@ pub record IsClosedWell {K : Type 0} (k : KernelState K) (left : Option (List (L
   pub idle : (seat : ℕ) → call_at k.seats seat ≡ None
   pub flushed : IsTrue k.pool.honest → AreFlushed k.pool left
 
--- a fault is printed behind the replies, or none
+-- a fault is printed after the replies, or none
 abbrev pub EndsWith : Option ℕ → OutputState → Ending → OutputState → Ending → Type 0
 EndsWith None told so_far new ending = (new ≡ told) × (ending ≡ so_far)
 EndsWith (Some fault) told so_far new ending = IsFaultAlone fault told new ending

@@ -32,11 +32,11 @@ pub struct Replayed<D> {
 /// there are in the order of the script, and closes the kernel. A round is one event of each seat
 /// in turn. Behind the first that moves nobody the system is stopped; where one behind that moves
 /// nobody a line is left that no seat can finish: the kernel is let go, and fault 63 is printed
-/// behind the replies.
+/// after the replies.
 ///
 /// Whatever the schedule: where the kernel was led from a lawful system, as one is that was opened
 /// over an honest device, the answers are those of plain lists asked one call at a time, and seat
-/// by seat the lines are replied its part of them. Where no fault is told behind the replies, an
+/// by seat the lines are replied its part of them. Where no fault is told after the replies, an
 /// honest device has the file of the system that the lists come to. The device is as honest as it
 /// was.
 pub fn run<D: PageDevice + Drop, W: Write + Drop>(
@@ -88,7 +88,7 @@ fn close<D: PageDevice + Drop>(
     }
 }
 
-/// A fault is printed behind the replies, or none.
+/// A fault is printed after the replies, or none.
 fn end<W: Write + Drop>(fault: Option<u8>, so_far: Ending, output: &mut Output<W>) -> Ending
     ensures { EndsWith fault output.old so_far output.new result }
 {

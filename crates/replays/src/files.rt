@@ -36,7 +36,7 @@ pub struct Sources<'a> {
 /// The script is read first, then the schedule: fault 20 or 60 alone where one can't be read, and
 /// nothing is run where one is wrong. Then the file is opened, and what a run that was cut off has
 /// left is undone: `fault N` alone where it is not.
-/// Behind the answers there is one more fault where a line is left that no seat can finish, or the
+/// After the answers there is one more fault where a line is left that no seat can finish, or the
 /// file is not closed well.
 pub fn replay_file<R, W, E>(
     rt: &R,

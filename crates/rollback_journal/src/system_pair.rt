@@ -186,7 +186,7 @@ impl<F: FileExt + OpenFile + Drop> PagePair for SystemPair<F> {
             Some(begun) => begun,
             None => self.begin(count)?,
         };
-        // What stands behind a failed addition is not whole, and nothing more is added.
+        // What stands after a failed addition is not whole, and nothing more is added.
         self.begun = Some(begun);
         for image in images {
             let number = big_endian(image.page);

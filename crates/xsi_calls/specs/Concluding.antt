@@ -54,7 +54,7 @@ pub record GoesBack (full : Bool) (before o : Owes) (records : Records) : Type 0
   pub owed : (key : RecordKey) → overlaid o records key ≡ overlaid before records key
 
 -- what a call has come to that holds these names, and these bytes for its answer; before its Decide it owed this, and
--- behind it that
+-- after it that
 abbrev pub IsRightConclusion : Caller → Call → State → (bytes : List ℕ) → (names : List Lock) → (full : Bool) →
     (before o : Owes) → Records → Conclusion → Type 0
 IsRightConclusion c call s bytes names full before o records (conclusions.Answers verdict) =

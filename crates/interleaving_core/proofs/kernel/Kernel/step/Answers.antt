@@ -1,4 +1,4 @@
--- A step of the seat's call, or none behind a failure.
+-- A step of the seat's call, or none after a failure.
 use Rattle.std.proofs.Common.{◌∙◌, refl, sym, ap, subst, vec_capacity}
 use Rattle.std.specs.Option.{is_some}
 use Rattle.interleaving_core.specs.Kernel.{KernelState}
