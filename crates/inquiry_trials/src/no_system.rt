@@ -3,9 +3,7 @@
 use crate::asked::{Asked, ROOT};
 use crate::records::{HELD, message, mtype, receive};
 use queue_model::{Body, Call, GetArguments, SendArguments};
-use queue_records::{
-    Counter, QueueEntry, Record, counter_key, message_key, queue_key, type_key,
-};
+use queue_records::{Counter, QueueEntry, Record, counter_key, message_key, queue_key, type_key};
 use std::alloc::Global;
 use std::test::Fail;
 use xsi_control::{GetInquiry, StatInquiry};

@@ -10,9 +10,24 @@ use xsi_inquiry::{Decision, Verdict};
 #[test]
 fn a_receive_reads_three_records(rt: HostRuntime) -> Result<(), Fail> {
     let rows = [
-        (3, mtype(3, (3, 3), Some(2), Some(5)), message(3, 3, Some(4), None), 3),
-        (i64::MIN, mtype(2, (2, 4), None, Some(3)), message(2, 2, Some(3), Some(4)), 2),
-        (0, message(1, 5, Some(2), None), mtype(5, (1, 1), Some(3), None), 1),
+        (
+            3,
+            mtype(3, (3, 3), Some(2), Some(5)),
+            message(3, 3, Some(4), None),
+            3,
+        ),
+        (
+            i64::MIN,
+            mtype(2, (2, 4), None, Some(3)),
+            message(2, 2, Some(3), Some(4)),
+            2,
+        ),
+        (
+            0,
+            message(1, 5, Some(2), None),
+            mtype(5, (1, 1), Some(3), None),
+            1,
+        ),
     ];
     for (wanted, second, third, serial) in rows {
         let mut asked = receive(rt.alloc(), wanted)?;

@@ -8,7 +8,12 @@ use std::test::Fail;
 /// More calls than a session makes.
 const MANY: usize = 100_000;
 
-const LOSSES: [Loss; 4] = [Loss::Nothing, Loss::Everything, Loss::EverySecond, Loss::Torn];
+const LOSSES: [Loss; 4] = [
+    Loss::Nothing,
+    Loss::Everything,
+    Loss::EverySecond,
+    Loss::Torn,
+];
 
 /// A page full of a byte.
 fn page_of(byte: u8) -> Page {
@@ -114,9 +119,15 @@ fn one_page_too_many_is_written_before_the_sync(rt: HostRuntime) -> Result<(), F
     assert!(rt; read == page_of(21));
     // The session was not ended.
     let mut pair = device.into_pair().crash(Loss::Nothing, true, MANY)?;
-    assert_eq!(rt; bytes_of(alloc, pair.bytes())?.as_slice(), [10, 21, 30].as_slice());
+    assert_eq!(rt;
+        bytes_of(alloc, pair.bytes())?.as_slice(),
+        [10, 21, 30].as_slice()
+    );
     assert!(rt; recover(&mut pair).is_ok());
-    assert_eq!(rt; bytes_of(alloc, pair.bytes())?.as_slice(), BEFORE.as_slice());
+    assert_eq!(rt;
+        bytes_of(alloc, pair.bytes())?.as_slice(),
+        BEFORE.as_slice()
+    );
     Ok(())
 }
 
