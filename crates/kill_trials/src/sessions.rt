@@ -1,5 +1,8 @@
 //! A session that is cut off after each of its calls, and its recovery after each of those.
 
+ghost use Rattle.std.specs.Prelude.{IfOk};
+ghost use Rattle.safe_device.specs.Memory.{IsQuiet};
+
 use safe_device::page_device::{DeviceFault, PAGE_BYTES, Page, PageDevice};
 use safe_device::{Loss, MOST_PENDING, MemPair, SafeDevice, recover};
 use std::alloc::Global;
@@ -40,11 +43,10 @@ fn are_whole(pages: &[Page]) -> bool {
 }
 
 /// A file of the pages 10, 20, 30, of which so many calls succeed.
-fn before(alloc: Global, calls: usize) -> Result<MemPair, Fail> {
-    let mut pages = Vec::new(alloc);
-    pages.push(page_of(10))?;
-    pages.push(page_of(20))?;
-    pages.push(page_of(30))?;
+fn before(alloc: Global, calls: usize) -> Result<MemPair, Fail>
+    ensures { IfOk result IsQuiet }
+{
+    let pages = Vec::from_array(alloc, [page_of(10), page_of(20), page_of(30)])?;
     Ok(MemPair::new(alloc, pages, calls)?)
 }
 
@@ -93,10 +95,7 @@ fn a_session_leaves_before_or_after(rt: HostRuntime) -> Result<(), Fail> {
 #[test]
 fn a_session_of_four_pages_syncs_three_times(rt: HostRuntime) -> Result<(), Fail> {
     let alloc = rt.alloc();
-    let mut pages = Vec::new(alloc);
-    for _ in 0..8 {
-        pages.push(page_of(1))?;
-    }
+    let pages = Vec::from_array(alloc, [page_of(1); 8])?;
     let mut device = SafeDevice::new(alloc, MemPair::new(alloc, pages, MANY)?)?;
     for page in 0..4 {
         assert!(rt; device.write(page, &page_of(2)).is_ok());
