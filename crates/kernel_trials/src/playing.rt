@@ -71,7 +71,7 @@ const TABLES: [Table; 3] = [
             (Begin(2, Receive(1, 0)), Begun),
             (Drive(2), Told(Waiting)),
             (Stop, Stopped),
-            (Drive(2), Told(Want::Refused(Errno::Interrupted))),
+            (Drive(2), Told(Want::Refused(Errno::EINTR))),
             (Stop, Stopped),
         ],
         fault: None,
