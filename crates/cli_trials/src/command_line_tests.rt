@@ -39,6 +39,8 @@ fn each_command_line_is_read_or_wrong(rt: HostRuntime) -> Result<(), Fail> {
     reads(&rt, "msgq replay q - t", Some(replay))?;
     reads(&rt, "msgq check q", tells(Report::Counts))?;
     reads(&rt, "msgq stat q", tells(Report::Queues))?;
+    let migrate = Task::Migrate { old: "q", new: "r" };
+    reads(&rt, "msgq migrate q r", Some(migrate))?;
     for line in [
         "msgq new q 257",
         "msgq new q 65537",
@@ -53,6 +55,7 @@ fn each_command_line_is_read_or_wrong(rt: HostRuntime) -> Result<(), Fail> {
         "msgq replay q - -",
         "msgq check",
         "msgq stat q q",
+        "msgq migrate q",
         "msgq go",
     ] {
         reads(&rt, line, None)?;

@@ -4,6 +4,7 @@
 #![tactic(auto)]
 
 use clap::error::ErrorKind;
+use migration_runs::migrate_file;
 use script_runs::msgq_cli::{Output, Task, new_file, print_fault, read_command_line, report_file};
 use script_runs::replays::{Sources, replay_file};
 use script_runs::{run_file, serve};
@@ -39,6 +40,7 @@ fn main(rt: HostRuntime) -> ExitCode {
             };
             replay_file(&rt, sources, &mut output, &mut errors)
         }
+        Ok(Task::Migrate { old, new }) => migrate_file(&rt, old, new, &mut output, &mut errors),
         Ok(Task::Report { file, report }) => {
             report_file(&rt, file, report, &mut output, &mut errors)
         }

@@ -8,7 +8,7 @@ ghost use Rattle.file_check.specs.Whole.{IsFileOf, IsToldOf};
 ghost use Rattle.msgq_cli.specs.Checks.{IsReportOrFault, found_text};
 ghost use Rattle.msgq_cli.specs.Outputs.{Prints};
 
-use crate::complaint::complain;
+use crate::complaint::{complain, hint};
 use crate::ending::{Ending, Failure, Stage};
 use crate::files::complain_unopened;
 use crate::output::Output;
@@ -58,6 +58,7 @@ where
         Err(fault) => fault,
     };
     complain(file, what(fault), fault, errors);
+    hint(file, fault.number(), errors);
     Ending::Failed(Failure {
         stage: Stage::Checking,
         fault: fault.number(),

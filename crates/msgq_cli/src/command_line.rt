@@ -40,6 +40,13 @@ pub enum Task<'a> {
         /// The schedule.
         schedule: &'a str,
     },
+    /// A file of version 1 becomes one of today's.
+    Migrate {
+        /// The older file, which is only read.
+        old: &'a str,
+        /// Where the new one is made.
+        new: &'a str,
+    },
     /// A report of the system that a file holds.
     Report {
         /// The file.
@@ -54,6 +61,10 @@ const VERSION: &str = "0.2.0";
 
 /// Names of arguments.
 const FILE: &str = "FILE";
+
+const OLD: &str = "OLD";
+
+const NEW: &str = "NEW";
 
 const PAGES: &str = "PAGES";
 
@@ -120,6 +131,16 @@ and behind them 'next ID', the id of the next queue; or 'fault N' alone.
 Exit status 0, 1 where a fault was printed or standard output refused a write, 2 where the
 command line is wrong.";
 
+/// Behind the help of `migrate`.
+const MIGRATE_PRINTS: &str = "\
+Reads OLD, a file of version 1, and makes NEW, a file of today's version of 224 pages more, with the
+same queues and messages. Each queue is owned and was made by user 0 of group 0, and its mode is 666.
+Prints 'migrated QUEUES MESSAGES'; 'fault 20' where NEW exists or the system refuses to make it; else
+'fault N' for the first thing that is wrong with OLD, 42 where it is of another version: then NEW is
+removed again.
+Exit status 0, 1 where a fault was printed or standard output refused a write, 2 where the
+command line is wrong.";
+
 /// What is wrong with two texts that would both be that of standard input.
 const ONE_INPUT: &str = "SCRIPT and SCHEDULE can't both be standard input";
 
@@ -152,6 +173,12 @@ pub fn read_command_line<'a>(alloc: Global, words: &'a [String]) -> Result<Task<
             file,
             script,
             schedule,
+        });
+    }
+    if name == "migrate" {
+        return Ok(Task::Migrate {
+            old: arguments.get_str(OLD).unwrap_or(""),
+            new: arguments.get_str(NEW).unwrap_or(""),
         });
     }
     if name == "check" {
@@ -197,6 +224,7 @@ fn command<'a>(alloc: Global) -> Result<Command<'a>, AllocError> {
         CHECK_PRINTS,
     )?;
     let stat = report_command(alloc, "stat", "Shows the queues of a file", STAT_PRINTS)?;
+    let migrate = migrate_command(alloc)?;
     Command::new(alloc, "msgq")
         .version(VERSION)
         .about("Message queues (XSI, POSIX.1-2017) kept in one file")
@@ -206,7 +234,8 @@ fn command<'a>(alloc: Global) -> Result<Command<'a>, AllocError> {
         .subcommand(run)?
         .subcommand(replay)?
         .subcommand(check)?
-        .subcommand(stat)
+        .subcommand(stat)?
+        .subcommand(migrate)
 }
 
 /// `new FILE PAGES`.
@@ -239,6 +268,16 @@ fn replay_command<'a>(alloc: Global) -> Result<Command<'a>, AllocError> {
         .arg(argument(alloc, FILE).help("The file"))?
         .arg(script)?
         .arg(schedule)
+}
+
+/// `migrate OLD NEW`.
+fn migrate_command<'a>(alloc: Global) -> Result<Command<'a>, AllocError> {
+    let new = argument(alloc, NEW).help("Where the new file is made; there may be nothing");
+    Command::new(alloc, "migrate")
+        .about("Makes a file of today's version of one of version 1")
+        .after_help(MIGRATE_PRINTS)
+        .arg(argument(alloc, OLD).help("The file of version 1, which is not written"))?
+        .arg(new)
 }
 
 /// A subcommand with the one argument FILE.

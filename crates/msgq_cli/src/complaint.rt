@@ -22,8 +22,21 @@ pub fn complain<E: Write, D: Display + Drop>(file: &str, what: &str, why: D, err
 pub fn complain_of<E: Write>(file: &str, ending: Ending, errors: &mut E) {
     match ending {
         Ending::Failed(failure) => complain(file, what(failure.stage), why(failure), errors),
-        Ending::Unopened(fault) => complain(file, what(Stage::Opening), fault, errors),
+        Ending::Unopened(fault) => {
+            complain(file, what(Stage::Opening), fault, errors);
+            hint(file, fault.number(), errors);
+        }
         Ending::Done | Ending::Faulty | Ending::WrongLine(_) | Ending::WrongWord(_) => {}
+    }
+}
+
+/// Says what reads a file of version 1, where one is of another version than today's.
+pub(crate) fn hint<E: Write>(file: &str, fault: u8, errors: &mut E) {
+    if fault == faults::BAD_VERSION {
+        let _ = writeln!(
+            errors,
+            "msgq: {file}: 'msgq migrate' reads a file of version 1"
+        );
     }
 }
 

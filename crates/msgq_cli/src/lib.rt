@@ -30,8 +30,9 @@ pub use files::{MOST_FRAMES, STANDARD_INPUT, complain_unopened, new_file, new_on
 pub use line::{Line, SeatIds};
 pub use mistake::{Expected, Mistake, Optional};
 pub use output::Output;
+pub use progress::Shown;
 pub use record_file;
 pub use refusals::{fail, read_text, refuse, unread};
 pub use reply::{Reply, print_fault, print_info, print_made};
-pub use reports::{Report, print_ok, print_system};
+pub use reports::{Report, print_migrated, print_ok, print_system};
 pub use script::{Script, ScriptError, read_script};

@@ -17,7 +17,7 @@ const CLEARED: &[u8] = b"\r\x1b[K";
 
 /// A device that passes its transfers on to another, and shows how many pages were read.
 #[derive(Drop)]
-pub(crate) struct Shown<'a, D: PageDevice, E: Write> {
+pub struct Shown<'a, D: PageDevice, E: Write> {
     device: D,
     errors: &'a mut E,
     is_shown: bool,
@@ -26,7 +26,7 @@ pub(crate) struct Shown<'a, D: PageDevice, E: Write> {
 
 impl<'a, D: PageDevice, E: Write> Shown<'a, D, E> {
     /// The reads of a device, which are shown where it is large and this is a terminal.
-    pub(crate) fn new(device: D, errors: &'a mut E) -> Shown<'a, D, E>
+    pub fn new(device: D, errors: &'a mut E) -> Shown<'a, D, E>
     where
         E: IsTerminal,
         ensures { device_of result ≡ device }
@@ -41,7 +41,7 @@ impl<'a, D: PageDevice, E: Write> Shown<'a, D, E> {
     }
 
     /// The device; what is shown ends here.
-    pub(crate) fn into_device(self) -> D
+    pub fn into_device(self) -> D
         ensures { result ≡ device_of self.entry }
     {
         let Shown {

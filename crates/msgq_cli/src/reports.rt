@@ -1,7 +1,7 @@
 //! What is told of a system that a file holds.
 
 ghost use Rattle.msgq_cli.specs.Outputs.{Prints};
-ghost use Rattle.msgq_cli.specs.Reports.{ok_text, report_text, system_text};
+ghost use Rattle.msgq_cli.specs.Reports.{migrated_text, ok_text, report_text, system_text};
 
 use crate::output::Output;
 use crate::printed_word::PrintedWord;
@@ -36,6 +36,17 @@ pub fn print_ok<W: Write + Drop>(system: &System, output: &mut Output<W>)
 {
     output.line(&[
         PrintedWord::Text(b"ok"),
+        PrintedWord::Number(system.queues() as u64),
+        PrintedWord::Number(system.messages() as u64),
+    ]);
+}
+
+/// Prints how many queues of an older file have come to a new one, and messages on them.
+pub fn print_migrated<W: Write + Drop>(system: &System, output: &mut Output<W>)
+    ensures { Prints output.old output.new (migrated_text system.now) }
+{
+    output.line(&[
+        PrintedWord::Text(b"migrated"),
         PrintedWord::Number(system.queues() as u64),
         PrintedWord::Number(system.messages() as u64),
     ]);
