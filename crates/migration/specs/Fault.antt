@@ -6,20 +6,26 @@ use Rattle.file_check.specs.Fault as check
 use Rattle.file_pages.specs.declared.fault.FileFault.{FileFault}
 use Rattle.file_pages.specs.declared.fault.FileFault.TheVariants as file
 use Rattle.page_device.specs.Fault as device
+use Rattle.migration.specs.declared.fault.MakingFault.{MakingFault}
+use Rattle.migration.specs.declared.fault.MakingFault.TheVariants as makings
 use Rattle.migration.specs.declared.fault.MigrationFault.{MigrationFault}
 use Rattle.migration.specs.declared.fault.MigrationFault.TheVariants as faults
 
--- the number that a program prints for a fault
+-- the number that a program prints for what is wrong with a new file
+abbrev pub making_number_of : MakingFault → ℕ
+making_number_of (makings.Device fault) = device.number_of fault
+making_number_of (makings.Pool fault) = pool.number_of fault
+making_number_of makings.NoRoom = NO_ROOM
+making_number_of makings.NoMemory = NO_MEMORY
+making_number_of (makings.Wrong fault) = check.number_of fault
+making_number_of makings.Failed = FAILED
+
+-- and for a fault
 abbrev pub number_of : MigrationFault → ℕ
 number_of (faults.Old fault) = check.number_of fault
-number_of (faults.Device fault) = device.number_of fault
-number_of (faults.Pool fault) = pool.number_of fault
-number_of faults.NoRoom = NO_ROOM
-number_of faults.NoMemory = NO_MEMORY
-number_of (faults.New fault) = check.number_of fault
-number_of faults.Failed = FAILED
+number_of (faults.New fault) = making_number_of fault
 
 -- the fault of a step on the pages
-abbrev pub of_file : FileFault → MigrationFault
-of_file (file.Pool fault) = faults.Pool fault
-of_file file.Failed = faults.Failed
+abbrev pub of_file : FileFault → MakingFault
+of_file (file.Pool fault) = makings.Pool fault
+of_file file.Failed = makings.Failed

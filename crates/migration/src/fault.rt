@@ -1,7 +1,7 @@
 //! Why a file does not become one of today's.
 
 ghost use Rattle.std.specs.Prelude.{◌≡◌};
-ghost use Rattle.migration.specs.Fault.{number_of};
+ghost use Rattle.migration.specs.Fault.{making_number_of, number_of};
 
 use buffer_pool::PoolFault;
 use file_check::CheckFault;
@@ -15,6 +15,14 @@ pub enum MigrationFault {
     /// The first thing that is wrong with the old file; 42 where it is of another version.
     #[error(transparent)]
     Old(CheckFault),
+    /// The new file could not be made.
+    #[error(transparent)]
+    New(MakingFault),
+}
+
+/// Why a new file of the records of a system could not be made.
+#[derive(Clone, Copy, Debug, PartialEq, Eq, Error)]
+pub enum MakingFault {
     /// The new device failed, or has no memory for another page.
     #[error(transparent)]
     Device(DeviceFault),
@@ -28,8 +36,8 @@ pub enum MigrationFault {
     #[error("out of memory")]
     NoMemory,
     /// This is wrong with the new file, as it was read once more.
-    #[error("the new file: {0}")]
-    New(CheckFault),
+    #[error(transparent)]
+    Wrong(CheckFault),
     /// A machine of the new file failed.
     #[error("a page of the new file is none of its place")]
     Failed,
@@ -42,48 +50,59 @@ impl MigrationFault {
     {
         match self {
             MigrationFault::Old(fault) => fault.number(),
-            MigrationFault::Device(fault) => fault.number(),
-            MigrationFault::Pool(fault) => fault.number(),
-            MigrationFault::NoRoom => faults::NO_ROOM,
-            MigrationFault::NoMemory => faults::NO_MEMORY,
             MigrationFault::New(fault) => fault.number(),
-            MigrationFault::Failed => faults::FAILED,
         }
     }
 }
 
-impl From<DeviceFault> for MigrationFault {
-    ghost use Rattle.std.specs.Prelude.{◌≡◌};
-    ghost use Rattle.migration.specs.declared.fault.MigrationFault.TheVariants.{Device};
-
-    ghost from_gives = { λ fault migration_fault. migration_fault ≡ Device fault };
-
-    fn from(fault: DeviceFault) -> MigrationFault {
-        MigrationFault::Device(fault)
+impl MakingFault {
+    /// The number that a program prints.
+    pub fn number(self) -> u8
+        ensures { result ≡ making_number_of self }
+    {
+        match self {
+            MakingFault::Device(fault) => fault.number(),
+            MakingFault::Pool(fault) => fault.number(),
+            MakingFault::NoRoom => faults::NO_ROOM,
+            MakingFault::NoMemory => faults::NO_MEMORY,
+            MakingFault::Wrong(fault) => fault.number(),
+            MakingFault::Failed => faults::FAILED,
+        }
     }
 }
 
-impl From<PoolFault> for MigrationFault {
+impl From<DeviceFault> for MakingFault {
     ghost use Rattle.std.specs.Prelude.{◌≡◌};
-    ghost use Rattle.migration.specs.declared.fault.MigrationFault.TheVariants.{Pool};
+    ghost use Rattle.migration.specs.declared.fault.MakingFault.TheVariants.{Device};
 
-    ghost from_gives = { λ fault migration_fault. migration_fault ≡ Pool fault };
+    ghost from_gives = { λ fault making_fault. making_fault ≡ Device fault };
 
-    fn from(fault: PoolFault) -> MigrationFault {
-        MigrationFault::Pool(fault)
+    fn from(fault: DeviceFault) -> MakingFault {
+        MakingFault::Device(fault)
     }
 }
 
-impl From<FileFault> for MigrationFault {
+impl From<PoolFault> for MakingFault {
+    ghost use Rattle.std.specs.Prelude.{◌≡◌};
+    ghost use Rattle.migration.specs.declared.fault.MakingFault.TheVariants.{Pool};
+
+    ghost from_gives = { λ fault making_fault. making_fault ≡ Pool fault };
+
+    fn from(fault: PoolFault) -> MakingFault {
+        MakingFault::Pool(fault)
+    }
+}
+
+impl From<FileFault> for MakingFault {
     ghost use Rattle.migration.specs.Fault.{of_file};
     ghost use Rattle.std.specs.Prelude.{◌≡◌};
 
-    ghost from_gives = { λ fault migration_fault. migration_fault ≡ of_file fault };
+    ghost from_gives = { λ fault making_fault. making_fault ≡ of_file fault };
 
-    fn from(fault: FileFault) -> MigrationFault {
+    fn from(fault: FileFault) -> MakingFault {
         match fault {
-            FileFault::Pool(fault) => MigrationFault::Pool(fault),
-            FileFault::Failed => MigrationFault::Failed,
+            FileFault::Pool(fault) => MakingFault::Pool(fault),
+            FileFault::Failed => MakingFault::Failed,
         }
     }
 }

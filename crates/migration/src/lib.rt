@@ -6,5 +6,5 @@ mod fault;
 mod migrated;
 mod writer;
 
-pub use fault::MigrationFault;
+pub use fault::{MakingFault, MigrationFault};
 pub use migrated::{Migrated, migrate};

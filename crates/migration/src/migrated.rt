@@ -6,7 +6,7 @@ ghost use Rattle.page_device.specs.declared.page.TheConstants.{MAX_PAGES};
 ghost use Rattle.file_check.specs.Whole.{IsFileOf};
 ghost use Rattle.migration.specs.Migrating.{IsMigrated, IsToldOfOld};
 
-use crate::fault::MigrationFault;
+use crate::fault::{MakingFault, MigrationFault};
 use crate::writer::write;
 use bucket_page::PseudoKey;
 use buffer_pool::Pool;
@@ -69,7 +69,7 @@ pub fn migrate<O: PageDevice, N: PageDevice, K: PseudoKey + Drop>(
         Err(fault) => Migrated {
             old,
             new,
-            found: Err(fault),
+            found: Err(MigrationFault::New(fault)),
         },
     }
 }
@@ -87,7 +87,7 @@ fn pages_of(older: u32) -> u32
 /// What became of a new file, and its device.
 struct Made<D> {
     device: D,
-    made: Result<(), MigrationFault>,
+    made: Result<(), MakingFault>,
 }
 
 /// Makes the file of a system of so many pages on a device without pages, and checks that it is
@@ -109,7 +109,7 @@ fn make<D: PageDevice, K: PseudoKey>(
     if let Err(fault) = format(&mut device, pages) {
         return Made {
             device,
-            made: Err(MigrationFault::Device(fault)),
+            made: Err(MakingFault::Device(fault)),
         };
     }
     let Made { mut device, made } = fill(alloc, device, keys, system);
@@ -134,7 +134,7 @@ fn fill<D: PageDevice, K: PseudoKey>(alloc: Global, device: D, keys: &K, system:
         Err((device, fault)) => {
             return Made {
                 device,
-                made: Err(MigrationFault::Pool(fault)),
+                made: Err(MakingFault::Pool(fault)),
             };
         }
     };
@@ -143,7 +143,7 @@ fn fill<D: PageDevice, K: PseudoKey>(alloc: Global, device: D, keys: &K, system:
         Err(_) => {
             return Made {
                 device: pool.into_device(),
-                made: Err(MigrationFault::NoMemory),
+                made: Err(MakingFault::NoMemory),
             };
         }
     };
@@ -164,12 +164,12 @@ fn fill<D: PageDevice, K: PseudoKey>(alloc: Global, device: D, keys: &K, system:
 }
 
 /// Writes what the pool keeps of a new file.
-fn flush<D: PageDevice>(pool: &mut Pool<D>) -> Result<(), MigrationFault>
+fn flush<D: PageDevice>(pool: &mut Pool<D>) -> Result<(), MakingFault>
     ensures { pool.new.honest ≡ pool.old.honest }
 {
     match pool.flush() {
         Ok(()) => Ok(()),
-        Err(fault) => Err(MigrationFault::Pool(fault)),
+        Err(fault) => Err(MakingFault::Pool(fault)),
     }
 }
 
@@ -180,15 +180,15 @@ fn confirm<D: PageDevice, K: PseudoKey>(
     device: &mut D,
     keys: &K,
     system: &System,
-) -> Result<(), MigrationFault>
+) -> Result<(), MakingFault>
     ensures { IsTrue (D.is_honest device.old) → OnOk result (system.now.stopped ≡ false →
         IsFileOf (K.of_key keys.now) (D.content device.new) system.now) }
 {
     let failed = device.faults();
     match is_file_of(alloc, device, keys, system) {
         Ok(true) => Ok(()),
-        Ok(false) if device.faults() > failed => Err(MigrationFault::Device(DeviceFault::Device)),
-        Ok(false) => Err(MigrationFault::NoMemory),
-        Err(fault) => Err(MigrationFault::New(fault)),
+        Ok(false) if device.faults() > failed => Err(MakingFault::Device(DeviceFault::Device)),
+        Ok(false) => Err(MakingFault::NoMemory),
+        Err(fault) => Err(MakingFault::Wrong(fault)),
     }
 }

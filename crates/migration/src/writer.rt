@@ -5,7 +5,7 @@ ghost use Rattle.queue_model.specs.Lawful.{IsLawfulQueue};
 ghost use Rattle.record_access.specs.Accesses.{access_locks};
 ghost use Rattle.migration.specs.Writing.{IsAlone};
 
-use crate::fault::MigrationFault;
+use crate::fault::MakingFault;
 use bucket_page::PseudoKey;
 use buffer_pool::Pool;
 use page_device::PageDevice;
@@ -31,7 +31,7 @@ pub(crate) fn write<D: PageDevice, K: PseudoKey>(
     locks: &mut LockTable,
     keys: &K,
     system: &System,
-) -> Result<(), MigrationFault>
+) -> Result<(), MakingFault>
     requires { IsAlone [] pool.old locks.old }
     ensures alone { OnOk result (IsAlone [] pool.new locks.new) }
     ensures honest { pool.new.honest ≡ pool.old.honest }
@@ -55,17 +55,17 @@ fn write_queue<D: PageDevice, K: PseudoKey>(
     locks: &mut LockTable,
     keys: &K,
     queue: &Queue,
-) -> Result<(), MigrationFault>
+) -> Result<(), MakingFault>
     requires alone { IsAlone [] pool.old locks.old }
     requires lawful { IsLawfulQueue queue.now }
     ensures alone { OnOk result (IsAlone [] pool.new locks.new) }
     ensures honest { pool.new.honest ≡ pool.old.honest }
 {
     let Some(links) = QueueLinks::of(alloc, &queue.messages) else {
-        return Err(MigrationFault::NoMemory);
+        return Err(MakingFault::NoMemory);
     };
     let Some(entry) = links.queue_entry(alloc, queue) else {
-        return Err(MigrationFault::NoMemory);
+        return Err(MakingFault::NoMemory);
     };
     if let Some(key) = queue.key {
         insert(
@@ -99,18 +99,18 @@ fn insert<D: PageDevice, K: PseudoKey>(
     locks: &mut LockTable,
     keys: &K,
     record: &Record<'_>,
-) -> Result<(), MigrationFault>
+) -> Result<(), MakingFault>
     requires { IsAlone [] pool.old locks.old }
     ensures alone { OnOk result (IsAlone [] pool.new locks.new) }
     ensures honest { pool.new.honest ≡ pool.old.honest }
 {
     if !record.is_in_range() {
-        return Err(MigrationFault::Failed);
+        return Err(MakingFault::Failed);
     }
     let mut access = Access::insert(record, keys.of(&record.key()));
     drive(pool, locks, keys, &mut access)?;
     if access.has_no_room() {
-        return Err(MigrationFault::NoRoom);
+        return Err(MakingFault::NoRoom);
     }
     Ok(())
 }
@@ -121,14 +121,14 @@ fn replace<D: PageDevice, K: PseudoKey>(
     locks: &mut LockTable,
     keys: &K,
     counter: Counter,
-) -> Result<(), MigrationFault>
+) -> Result<(), MakingFault>
     requires { IsAlone [] pool.old locks.old }
     ensures alone { OnOk result (IsAlone [] pool.new locks.new) }
     ensures honest { pool.new.honest ≡ pool.old.honest }
 {
     let record = Record::Counter(counter);
     if !record.is_in_range() {
-        return Err(MigrationFault::Failed);
+        return Err(MakingFault::Failed);
     }
     let pseudokey = keys.of(&record.key());
     let mut access = Access::write(&Write::Replace(record), pseudokey);
@@ -141,7 +141,7 @@ fn drive<D: PageDevice, K: PseudoKey>(
     locks: &mut LockTable,
     keys: &K,
     access: &mut Access,
-) -> Result<(), MigrationFault>
+) -> Result<(), MakingFault>
     requires alone { IsAlone [] pool.old locks.old }
     requires begun { access_locks access.old [] ≡ [] }
     ensures alone { OnOk result (IsAlone [] pool.new locks.new) }
@@ -151,9 +151,9 @@ fn drive<D: PageDevice, K: PseudoKey>(
         match access.step(pool, locks, keys, SEAT) {
             Progress::Moved(_) => {}
             Progress::Ended => return Ok(()),
-            Progress::Fault(fault) => return Err(MigrationFault::from(fault)),
-            Progress::Blocked(_) => return Err(MigrationFault::Failed),
+            Progress::Fault(fault) => return Err(MakingFault::from(fault)),
+            Progress::Blocked(_) => return Err(MakingFault::Failed),
         }
     }
-    Err(MigrationFault::Failed)
+    Err(MakingFault::Failed)
 }
