@@ -3,14 +3,10 @@
 
 #![tactic(auto)]
 
-mod machine;
-mod putting;
-mod seat;
+mod task;
 mod trial;
 
-pub use machine::{Machine, Operation, Outcome};
-pub use putting::Putting;
-pub use seat::{Seat, Turn};
+pub use task::{Task, Value};
 pub use trial::Trial;
 
 #[cfg(test)]
