@@ -357,13 +357,17 @@ impl<D: PageDevice + Drop, K: PseudoKey + Drop> Kernel<D, K> {
         }
     }
 
-    /// The device, as it is. What was changed since the kernel was opened may be lost.
-    pub fn into_device(self) -> D
-        ensures content { D.content result ≡ self.pool.stored }
-        ensures honest { D.is_honest result ≡ self.pool.honest }
-        ensures faults { D.fault_count result ≡ self.pool.faults }
+    /// The device, as it is, and the journal. What was changed since the kernel was opened may be
+    /// lost.
+    pub fn abandon(self) -> Closed<D>
+        ensures content { D.content result.device ≡ self.pool.stored }
+        ensures honest { D.is_honest result.device ≡ self.pool.honest }
+        ensures faults { D.fault_count result.device ≡ self.pool.faults }
+        ensures journal { result.journal.items ≡ self.journal }
     {
-        self.pool.into_device()
+        let journal = self.journal;
+        let device = self.pool.into_device();
+        Closed { device, journal }
     }
 
     /// What is counted of the last search of a seat.

@@ -5,8 +5,11 @@ pub mod CountLemmas
 pub mod CountedLemmas
 pub mod OpenLemmas
 pub mod TurnLemmas
-pub mod StepLemmas
 pub mod ScheduleLemmas
 pub mod DoingLemmas
 pub mod ToldLemmas
+pub mod OwedLemmas
+pub mod UnderWayLemmas
+pub mod RisenLemmas
+pub mod PlayedLemmas
 pub use Rattle.interleaving_core.proofs as of_interleaving_core

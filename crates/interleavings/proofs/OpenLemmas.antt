@@ -40,7 +40,7 @@ opens_led rests K hash keys content honest callers frames k opened true_to_it ha
             ∙ ap (λ (x : List (Option ActiveView)). call_at x seat) (sym opened.seats) ∙ there));
         callers = λ seat caller sits. opened.fitting seat caller (sym (ap (λ (cs : List Caller). caller_at cs seat)
             opened.callers) ∙ sits);
-        together = λ sound. counted_in hash has.0 k Quiet
+        together = λ sound. (counted_in hash has.0 k Quiet
             (rests hash has.0 (calls_of k.seats) k.pool k.locks
             (subst (λ (p : PoolState). IsFileAtRest hash has.0 p k.locks) (sym opened.pool)
             (subst (IsFileAtRest hash has.0 _) (sym opened.locks) rest.rest)) idle)
@@ -49,7 +49,7 @@ opens_led rests K hash keys content honest callers frames k opened true_to_it ha
             (world k.pool.images k.locks Quiet) (calls_of k.seats seat) (idle seat)
             (ap (λ (c : CountsState). count_at c.counts seat) opened.searches
             ∙ opened_count (length callers) seat some
-            (subst (λ (n : ℕ). seat ≤ n) (ap length opened.seats ∙ length-replicate (length callers) None) within)));
+            (subst (λ (n : ℕ). seat ≤ n) (ap length opened.seats ∙ length-replicate (length callers) None) within)))).all;
       };
     }
   where
@@ -110,7 +110,7 @@ module _ (begins : BeginTogether) {K : Type 0} (hash : RecordKey → ℕ) (base 
     sits = sits_begun;
     together = λ sound.
         let was = led.together sound in
-        counted_in hash led.now (record old { seats = with_begun; room = new.room }) was.calls.change
+        (counted_in hash led.now (record old { seats = with_begun; room = new.room }) was.calls.change
         (begins hash seat has.caller call led.now has.active.machine (calls_of old.seats) (calls_of with_begun)
         old.pool old.locks was.calls (ap machine has.may.free) (led.callers seat has.caller has.sits) has.fits
         has.begun.begins (ap machine there_begun) others_begun)
@@ -118,7 +118,7 @@ module _ (begins : BeginTogether) {K : Type 0} (hash : RecordKey → ℕ) (base 
         (λ i some near. counted_of i (count_at old.searches.counts i)
         (world old.pool.images old.locks was.calls.change) (facts_of (calls_of old.seats i))
         (facts_of (calls_of with_begun i)) (same_facts i)
-        (was.counted i some (subst (λ (n : ℕ). i ≤ n) (length-with_call old.seats seat (Some has.active)) near)));
+        (was.counted i some (subst (λ (n : ℕ). i ≤ n) (length-with_call old.seats seat (Some has.active)) near)))).all;
   }
 
 pub begins_led : BeginTogether → (K : Type 0) → BeginsLed K
@@ -158,9 +158,9 @@ module _ (stops : StopTogether) {K : Type 0} (hash : RecordKey → ℕ) (base : 
     sits = led.sits;
     together = λ sound.
         let was = led.together sound in
-        counted_in hash (record led.now { stopped = true })
+        (counted_in hash (record led.now { stopped = true })
         (record old { journal = old.journal ++ Stopped ∷ []; stopped = true; room = new.room }) was.calls.change
-        (stops hash led.now true (calls_of old.seats) old.pool old.locks was.calls) was.phase was.counted;
+        (stops hash led.now true (calls_of old.seats) old.pool old.locks was.calls) was.phase was.counted).all;
   }
 
   pub stopped_by : (b : Bool) → old.stopped ≡ b → IsLedFrom hash base new

@@ -15,14 +15,15 @@ use Rattle.interleaving_core.specs.xsi_calls.Words.{Change, world}
 use Rattle.step_rules.specs.World.{World}
 use Rattle.step_rules.proofs.WalkingLemmas.{others_steps_walk, own_steps_walk}
 use Rattle.interleavings.specs.Counting.{AreCounted, IsCounted, facts_of, under_way_in}
-use Rattle.interleavings.proofs.CountedLemmas.{counted_idle, counted_in, counted_of, counts_by, fresh_facts}
+use Rattle.interleavings.proofs.CountedLemmas.{AreCountedIn, counted_idle, counted_in, counted_of, counts_by, fresh_facts}
 use Rattle.interleavings.proofs.CountLemmas.{CountsBy, counted_beside, counted_own, phase_behind}
 use Rattle.interleaving_core.specs.Turn.{IsLeft, IsLeftWhenOver, MakesTurn, told_of}
 use Rattle.interleaving_core.specs.xsi_calls.declared.conclusion.Conclusion.{Conclusion}
 use Rattle.step_rules.specs.declared.kind.Kind.TheVariants.{Decide}
 use Rattle.step_rules.specs.declared.progress.Progress.TheVariants as progress
 use Rattle.interleavings.specs.Words.{ActiveView, Begins, Caller, Entry, FileFault, HasFittingCall, HasFittingCaller, IsOver, IsSeat, KernelState, LeadsAlong, PoolState, Progress, RecordKey, State, Step, call_at, caller_at, conclusion_of, is_fault, with_call}
-use Rattle.interleavings.specs.Leading.{IsLedFrom, calls_of}
+use Rattle.interleavings.specs.Leading.{IsLedFrom, IsLedIn, calls_of}
+use Rattle.interleavings.proofs.DoingLemmas.{LeadsDoing, failed, made, waiting}
 use Rattle.interleavings.proofs.LeadLemmas.{keeps_answer, leads_on, machine, others_same, still_leads}
 use Rattle.interleaving_core.specs.Turn.{StaysWaiting}
 use Rattle.interleaving_core.proofs.BetweenLemmas.{Goes}
@@ -215,16 +216,31 @@ module _ (steps : StepTogether) (ends : EndTogether) (begins : BeginTogether) {K
 
         led_by : ((x : ActiveView) → call_at new.seats seat ≡ Some x → x.machine.caller ≡ a.machine.caller) →
             Leads → ((facts_of (calls_of new.seats seat) ≡ call_facts come.machine)
-            ⊎ (facts_of (calls_of new.seats seat) ≡ [])) → IsLedFrom hash base new
-        led_by left together knows = record {
-          now = leading.after;
-          leads = along;
-          mark = leading.mark ∙ mark;
-          callers = fitting;
-          rows = rows;
-          seated = ap length callers ∙ led.seated ∙ same_places;
-          sits = sits_now left;
-          together = λ fine. counted_in hash leading.after new phase together phase_is (all_counted knows);
+            ⊎ (facts_of (calls_of new.seats seat) ≡ [])) → IsLedIn hash base new phase
+        led_by left together knows =
+            let counted : AreCountedIn hash leading.after new phase =
+            counted_in hash leading.after new phase together phase_is (all_counted knows) in
+            record {
+              led = record {
+                now = leading.after;
+                leads = along;
+                mark = leading.mark ∙ mark;
+                callers = fitting;
+                rows = rows;
+                seated = ap length callers ∙ led.seated ∙ same_places;
+                sits = sits_now left;
+                together = λ sound_still. counted.all;
+              };
+              phase = λ sound_still. counted.phase_is;
+            }
+
+        doing : ((x : ActiveView) → call_at new.seats seat ≡ Some x → x.machine.caller ≡ a.machine.caller) →
+            Leads → ((facts_of (calls_of new.seats seat) ≡ call_facts come.machine)
+            ⊎ (facts_of (calls_of new.seats seat) ≡ [])) → LeadsDoing hash base seat a did before.change old new
+        doing left together knows = record {
+          behind = phase;
+          led = led_by left together knows;
+          does = made hash base seat a did old new led there sound turn fine phase leading.stepped.does;
         }
 
       -- ---- the file fails it
@@ -244,20 +260,27 @@ module _ (steps : StepTogether) (ends : EndTogether) (begins : BeginTogether) {K
                 ∙ turn.makes.aim.decides earlier (subst IsSome (sym later) refl)))
 
         led_still : ((x : ActiveView) → call_at new.seats seat ≡ Some x → x.machine.caller ≡ a.machine.caller) →
-            new.failed ≡ true → IsLedFrom hash base new
+            new.failed ≡ true → LeadsDoing hash base seat a did before.change old new
         led_still left broken = record {
-          now = led.now;
-          leads = subst (λ (cs : List Caller). LeadsAlong cs new.journal base led.now) (sym callers)
-              (subst (λ (es : List Entry). LeadsAlong old.callers es base led.now) (sym turn.journal)
-              (still_leads old.callers old.journal base led.now led.leads seat a.machine come.machine turn.did
-              turn.makes.aim a.draft turn.kept sits led.now refl
-              (keeps_answer seat a.machine come.machine turn.did turn.makes.aim comes_to_nothing)));
-          mark = mark;
-          callers = fitting;
-          rows = rows;
-          seated = ap length callers ∙ led.seated ∙ same_places;
-          sits = sits_now left;
-          together = λ sound_still. absurd (true≢false (sym broken ∙ sound_still));
+          behind = before.change;
+          led = record {
+            led = record {
+              now = led.now;
+              leads = subst (λ (cs : List Caller). LeadsAlong cs new.journal base led.now) (sym callers)
+                  (subst (λ (es : List Entry). LeadsAlong old.callers es base led.now) (sym turn.journal)
+                  (still_leads old.callers old.journal base led.now led.leads seat a.machine come.machine turn.did
+                  turn.makes.aim a.draft turn.kept sits led.now refl
+                  (keeps_answer seat a.machine come.machine turn.did turn.makes.aim comes_to_nothing)));
+              mark = mark;
+              callers = fitting;
+              rows = rows;
+              seated = ap length callers ∙ led.seated ∙ same_places;
+              sits = sits_now left;
+              together = λ sound_still. absurd (true≢false (sym broken ∙ sound_still));
+            };
+            phase = λ sound_still. absurd (true≢false (sym broken ∙ sound_still));
+          };
+          does = failed hash base seat a did old new led there sound turn fault is_fault_of before.change;
         }
 
       -- ---- each
@@ -282,23 +305,23 @@ module _ (steps : StepTogether) (ends : EndTogether) (begins : BeginTogether) {K
           none_some : ◌≡◌ {A = Option ActiveView} None (Some x) → ⊥
           none_some clash = cc
 
-      pub led_on : IsLedFrom hash base new
+      pub led_on : LeadsDoing hash base seat a did before.change old new
       led_on = by turn.did refl turn.left_is
         where
           by : (p : Progress FileFault) → turn.did ≡ p → IsLeft p come (call_at new.seats seat) →
-              IsLedFrom hash base new
+              LeadsDoing hash base seat a did before.change old new
           by (progress.Moved kind) p left =
-              led_by (ap is_fault p) (same_caller left) (goes_on (ap is_fault p) left)
+              doing (ap is_fault p) (same_caller left) (goes_on (ap is_fault p) left)
               (inl (ap facts_of (ap machine left)))
           by (progress.Blocked other) p left =
-              led_by (ap is_fault p) (same_caller left) (goes_on (ap is_fault p) left)
+              doing (ap is_fault p) (same_caller left) (goes_on (ap is_fault p) left)
               (inl (ap facts_of (ap machine left)))
           by (progress.Fault fault) p left = led_still fault p (same_caller left) (goes.failed
               ∙ ap is_failure (turn.told_is ∙ ap (λ (x : Progress FileFault). told_of x come.machine) p))
           by progress.Ended p left =
               let over = when_over (ap is_fault p) (turn.makes.aim.over p) (is_waiting (conclusion_of come.machine))
               left in
-              led_by (ap is_fault p) (over_caller (is_waiting (conclusion_of come.machine)) left) over.0 (inr over.1)
+              doing (ap is_fault p) (over_caller (is_waiting (conclusion_of come.machine)) left) over.0 (inr over.1)
 
     -- ---- it waits on
 
@@ -336,23 +359,33 @@ module _ (steps : StepTogether) (ends : EndTogether) (begins : BeginTogether) {K
           (subst (λ (t : Table). IsCounted i (facts_of (calls_of old.seats i)) (count_at old.searches.counts i)
           (world old.pool.images t before.change)) (sym waits.same_locks) counted)))
 
-      pub waits_on : IsLedFrom hash base new
+      counted_waits : AreCountedIn hash led.now new before.change
+      counted_waits = counted_in hash led.now new before.change
+          (subst (λ (p : PoolState). AreTogetherIn hash led.now (calls_of new.seats) p new.locks before.change)
+          (sym waits.same_pool)
+          (subst (λ (t : Table). AreTogetherIn hash led.now (calls_of new.seats) old.pool t before.change)
+          (sym waits.same_locks)
+          (subst (λ (f : ℕ → Option CallView). AreTogetherIn hash led.now f old.pool old.locks before.change)
+          (sym (fun_ext same_calls)) (record { together = before; phase = refl }))))
+          (ap (λ (c : CountsState). c.under_way) same_counts ∙ was.phase)
+          (λ i some near. still_counted i (was.counted i some (subst (λ (n : ℕ). i ≤ n) (sym same_places) near)))
+
+      pub waits_on : LeadsDoing hash base seat a did before.change old new
       waits_on = record {
-        now = led.now;
-        leads = subst (λ (cs : List Caller). LeadsAlong cs new.journal base led.now) (sym callers)
-            (subst (λ (es : List Entry). LeadsAlong old.callers es base led.now) (sym waits.same_journal) led.leads);
-        mark = mark;
-        callers = fitting;
-        rows = rows;
-        seated = ap length callers ∙ led.seated ∙ same_places;
-        sits = sits_now same_caller_waits;
-        together = λ fine. counted_in hash led.now new before.change
-            (subst (λ (p : PoolState). AreTogetherIn hash led.now (calls_of new.seats) p new.locks before.change)
-            (sym waits.same_pool)
-            (subst (λ (t : Table). AreTogetherIn hash led.now (calls_of new.seats) old.pool t before.change)
-            (sym waits.same_locks)
-            (subst (λ (f : ℕ → Option CallView). AreTogetherIn hash led.now f old.pool old.locks before.change)
-            (sym (fun_ext same_calls)) (record { together = before; phase = refl }))))
-            (ap (λ (c : CountsState). c.under_way) same_counts ∙ was.phase)
-            (λ i some near. still_counted i (was.counted i some (subst (λ (n : ℕ). i ≤ n) (sym same_places) near)));
+        behind = before.change;
+        led = record {
+          led = record {
+            now = led.now;
+            leads = subst (λ (cs : List Caller). LeadsAlong cs new.journal base led.now) (sym callers)
+                (subst (λ (es : List Entry). LeadsAlong old.callers es base led.now) (sym waits.same_journal) led.leads);
+            mark = mark;
+            callers = fitting;
+            rows = rows;
+            seated = ap length callers ∙ led.seated ∙ same_places;
+            sits = sits_now same_caller_waits;
+            together = λ fine. counted_waits.all;
+          };
+          phase = λ fine. counted_waits.phase_is;
+        };
+        does = waiting hash base seat a did old new led there sound waits;
       }

@@ -1,8 +1,8 @@
 -- What events of many seats do to a kernel, one after the other, and what each seat is told by them.
 -- docs/STEPS.md, "Calls"; docs/QUEUES.md, "Journals".
-use Rattle.std.specs.Prelude.{ℕ, ◌≡◌, ◌==◌, Bool, false, if◌then◌else◌, List, [], ◌∷◌, ◌++◌, Option, None, Some, drop, take, ⊤}
+use Rattle.std.specs.Prelude.{ℕ, ◌≡◌, ◌≤◌, ◌==◌, Bool, false, if◌then◌else◌, List, [], ◌∷◌, ◌++◌, Option, None, Some, drop, take, ⊤}
 use Rattle.std.specs.List.{All}
-use Rattle.interleavings.specs.Words.{Answer, Call, Entry, HasCall, IsDriven, IsRefused, IsRun, IsSeat, IsStep, IsStopped, KernelState, RecordKey, Step, Table, answer_told, call_at, call_of, entry_of, part_of, untold}
+use Rattle.interleavings.specs.Words.{Answer, Call, Entry, HasCall, IsDriven, IsRefused, IsRun, IsStep, IsStopped, KernelState, RecordKey, Step, answer_told, call_at, call_of, entry_of, part_of, untold}
 use Rattle.interleavings.specs.declared.event.Event.{Event}
 use Rattle.interleavings.specs.declared.event.Event.TheVariants as events
 use Rattle.interleavings.specs.declared.event.Outcome.{Outcome}
@@ -10,15 +10,19 @@ use Rattle.interleavings.specs.declared.event.Outcome.TheVariants as outcomes
 
 -- ---- the seats of events
 
--- a seat that it names has a row of locks
-abbrev pub IsOfSeat : Table → Event → Type 0
-IsOfSeat t (events.Begin seat call) = IsSeat t seat
-IsOfSeat t (events.Step seat) = IsSeat t seat
-IsOfSeat t (events.Drive seat) = IsSeat t seat
-IsOfSeat t events.Stop = ⊤
+-- seats count from 1
+abbrev pub IsSeatOf : ℕ → ℕ → Type 0
+IsSeatOf seats seat = (1 ≤ seat) × (seat ≤ seats)
 
-abbrev pub AreOfSeats : Table → List Event → Type 0
-AreOfSeats t es = All (IsOfSeat t) es
+-- the seat that it names is one of so many
+abbrev pub IsOfSeat : ℕ → Event → Type 0
+IsOfSeat seats (events.Begin seat call) = IsSeatOf seats seat
+IsOfSeat seats (events.Step seat) = IsSeatOf seats seat
+IsOfSeat seats (events.Drive seat) = IsSeatOf seats seat
+IsOfSeat seats events.Stop = ⊤
+
+abbrev pub AreOfSeats : ℕ → List Event → Type 0
+AreOfSeats seats es = All (IsOfSeat seats) es
 
 -- ---- what happens
 

@@ -1,6 +1,6 @@
 //! Events are played on a kernel, one after the other.
 
-ghost use Rattle.std.specs.Prelude.{◌≡◌, ℕ, IfErr, IfOk};
+ghost use Rattle.std.specs.Prelude.{◌≡◌, ℕ, IfErr, IfOk, length};
 ghost use Rattle.interleavings.specs.Headline.{AnswersRightly};
 ghost use Rattle.interleavings.specs.Runs.{AreOfSeats, Happens, IsLinearized, IsOfSeat, IsToldItsPart, Runs};
 
@@ -29,7 +29,7 @@ pub fn run<D: PageDevice + Drop, K: PseudoKey + Drop>(
     kernel: &mut Kernel<D, K>,
     events: Vec<Event>,
 ) -> Result<Vec<Outcome>, NoMemory>
-    requires { AreOfSeats kernel.old.locks events.items }
+    requires { AreOfSeats (length kernel.old.locks) events.items }
     ensures runs { IfOk result (λ outcomes. Runs (K.of_key kernel.old.keys) events.items
         outcomes.items kernel.old kernel.new) }
     ensures headline { IfOk result (λ _. AnswersRightly (K.of_key kernel.old.keys)
@@ -54,7 +54,7 @@ fn play<D: PageDevice + Drop, K: PseudoKey + Drop>(
     kernel: &mut Kernel<D, K>,
     event: Event,
 ) -> Outcome
-    requires { IsOfSeat kernel.old.locks event }
+    requires { IsOfSeat (length kernel.old.locks) event }
     ensures { Happens (K.of_key kernel.old.keys) event result kernel.old kernel.new }
 {
     match event {

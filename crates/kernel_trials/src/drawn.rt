@@ -23,11 +23,11 @@ const BATCH: u32 = 60;
 const MOST_BATCHES: u32 = 3_000;
 
 /// What three seats ask, each one call after the other.
-type Script = [&'static [Asks]; 3];
+pub type Script = [&'static [Asks]; 3];
 
 /// A queue made by whoever comes first, and messages for who asks by type; buckets that split and
 /// merge; a full queue; a queue that is removed beside its users; and private work beside another's.
-const SCRIPTS: [Script; 5] = [
+pub const SCRIPTS: [Script; 5] = [
     [
         &[Get(7), Send(1, 5, "a"), Send(1, 2, "b"), Receive(1, -3)],
         &[Get(7), Send(1, 3, "c"), Receive(1, 2), Stat(1)],
@@ -68,11 +68,11 @@ const SCRIPTS: [Script; 5] = [
 
 /// Numbers drawn one after the other (Knuth's multiplier).
 #[derive(Drop)]
-struct Draws(u64);
+pub struct Draws(pub u64);
 
 impl Draws {
     /// A number from 0 to 2.
-    fn below_three(&mut self) -> u8
+    pub fn below_three(&mut self) -> u8
         ensures { result < 3 }
     {
         self.0 = self
@@ -171,7 +171,7 @@ fn play(
     for _ in 0..MOST_BATCHES {
         let events = course.draw(rt.alloc())?;
         let places = places_of(rt.alloc(), &events)?;
-        let outcomes = plays(rt.alloc(), &mut kernel, events)?;
+        let outcomes = plays(rt, &mut kernel, events)?;
         let mut has_moved = false;
         for (place, outcome) in places.iter().zip(&outcomes) {
             let Some(moved) = course.note(*place, outcome) else {

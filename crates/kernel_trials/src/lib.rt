@@ -20,6 +20,8 @@ mod plain;
 #[cfg(test)]
 mod played;
 #[cfg(test)]
+mod playing;
+#[cfg(test)]
 mod racing;
 #[cfg(test)]
 mod rows;

@@ -1,10 +1,6 @@
 //! Events that `interleavings::run` plays. Its contract is what it says of them: whatever their
 //! order, the answers are those of plain lists.
 
-ghost use Rattle.std.specs.Prelude.{◌≡◌, IfOk, IsTrue, length};
-ghost use Rattle.page_locks.specs.Table.{Table};
-ghost use Rattle.interleavings.specs.Runs.{AreOfSeats, IsOfSeat};
-
 use crate::cases::close;
 use crate::plain::is_that_of_lists;
 use crate::rows::Row::{Begins, Calls, Drives, Steps, Stops};
@@ -12,45 +8,21 @@ use crate::rows::{Row, Want, is_wanted, new_kernel};
 use crate::waiting::{REMOVED, SENT, STOPPED, WAITS};
 use bucket_page::{PseudoKey, ShaKey};
 use interleaving_core::Kernel;
-use interleavings::{Event, Outcome, run};
+use interleavings::{Event, Outcome, are_of_seats, run};
 use page_device::MemDevice;
-use std::alloc::Global;
 use std::process::Abort;
 use std::test::Fail;
 
-/// Whether a seat that an event names is one of so many.
-fn is_of_seat(event: &Event, seats: u8) -> bool
-    ensures { IsTrue result → (t : Table) → seats ≡ length t → IsOfSeat t event.now }
-{
-    match event {
-        Event::Begin(seat, _) | Event::Step(seat) | Event::Drive(seat) => {
-            1 <= *seat && *seat <= seats
-        }
-        Event::Stop => true,
-    }
-}
-
-/// The events whose seats are among so many.
-fn of_seats(alloc: Global, seats: u8, events: Vec<Event>) -> Result<Vec<Event>, Fail>
-    ensures { IfOk result (λ kept. (t : Table) → seats ≡ length t → AreOfSeats t kept.items) }
-{
-    let mut kept = Vec::new(alloc);
-    for event in events {
-        if is_of_seat(&event, seats) {
-            kept.push(event)?;
-        }
-    }
-    Ok(kept)
-}
-
 /// Plays events on a kernel, and tells what came of each.
 pub fn plays<K: PseudoKey + Copy>(
-    alloc: Global,
+    rt: &(impl Abort + AllocGlobal),
     kernel: &mut Kernel<MemDevice, K>,
     events: Vec<Event>,
 ) -> Result<Vec<Outcome>, Fail> {
-    let events = of_seats(alloc, kernel.seats(), events)?;
-    Ok(run(alloc, kernel, events)?)
+    if !are_of_seats(events.as_slice(), kernel.seats()) {
+        panic!(rt; "an event is of no seat");
+    }
+    Ok(run(rt.alloc(), kernel, events)?)
 }
 
 /// Events, and what is wanted of the step that each comes to; nothing of one that makes no step.
@@ -110,7 +82,7 @@ fn rows_are_played_as_events(rt: HostRuntime) -> Result<(), Fail> {
         }
         let Plan { events, wants } = plan;
         let mut kernel = new_kernel(rt.alloc(), 258, ShaKey)?;
-        let outcomes = plays(rt.alloc(), &mut kernel, events)?;
+        let outcomes = plays(&rt, &mut kernel, events)?;
         assert_eq!(rt; outcomes.len(), wants.len());
         for (outcome, want) in outcomes.iter().zip(&wants) {
             assert!(rt; is_come_to(outcome, *want), "{outcome:?}");

@@ -34,7 +34,7 @@ pub record HasHappened (old new : KernelState ShaKey) : Type 0 where
   pub event : Event
   pub outcome : Outcome
   pub happens : Happens sha_key event outcome old new
-  pub of_seat : IsOfSeat old.locks event
+  pub of_seat : IsOfSeat (length old.locks) event
 
 abbrev pub MayHappen : KernelState ShaKey → KernelState ShaKey → Type 0
 MayHappen old new = (new ≡ old) ⊎ HasHappened old new
@@ -151,8 +151,7 @@ led_on : EventsLead ShaKey → (base : State) (old new : KernelState ShaKey) →
 led_on lead base old new (inl same) led = subst (IsLedFrom sha_key base) (sym same) led
 led_on lead base old new (inr it) led =
     lead sha_key base (it.event ∷ []) (it.outcome ∷ []) old new
-    (All-cons (IsOfSeat old.locks) it.event [] it.of_seat (All-nil (IsOfSeat old.locks)))
-    led
+    (All-cons (IsOfSeat (length old.locks)) it.event [] it.of_seat (All-nil (IsOfSeat (length old.locks)))) led
     (record { between = new; first = it.happens; rest = refl })
 
 -- ---- of a whole replay

@@ -10,7 +10,6 @@ use Rattle.interleavings.specs.interleaving_core.Beginning.{IsOpened}
 use Rattle.interleavings.specs.interleaving_core.Closing.{IsBusy, IsFlushedTo}
 use Rattle.interleavings.specs.interleaving_core.Kernel.{KernelState, call_at}
 use Rattle.interleavings.specs.Laws.{IsLedFromFile}
-use Rattle.interleavings.specs.Words.{PoolState}
 use Rattle.msgq_cli.specs.Answers.{reply_text}
 use Rattle.msgq_cli.specs.Outputs.{OutputState, Prints}
 use Rattle.msgq_cli.specs.Runs.{is_fault}
@@ -91,16 +90,11 @@ abbrev pub MayEndWith : {K : Type 0} → Bool → KernelState K → Option ℕ �
 MayEndWith false k fault = fault ≡ Some BUSY
 MayEndWith true k fault = ClosesWith k fault
 
--- the pages that are left have the images of a pool, all of them written there
-abbrev pub AreFlushed : PoolState → Option (List (List ℕ)) → Type 0
-AreFlushed pool None = ⊥
-AreFlushed pool (Some pages) = IsFlushedTo pool pages
-
 -- a kernel that was closed with no fault, and the pages that are left on its device
-pub record IsClosedWell {K : Type 0} (k : KernelState K) (left : Option (List (List ℕ))) : Type 0 where
+pub record IsClosedWell {K : Type 0} (k : KernelState K) (left : List (List ℕ)) : Type 0 where
   pub sound : k.failed ≡ false
   pub idle : (seat : ℕ) → call_at k.seats seat ≡ None
-  pub flushed : IsTrue k.pool.honest → AreFlushed k.pool left
+  pub flushed : IsTrue k.pool.honest → IsFlushedTo k.pool left
 
 -- a fault is printed behind the replies, or none
 abbrev pub EndsWith : Option ℕ → OutputState → Ending → OutputState → Ending → Type 0
@@ -110,8 +104,8 @@ EndsWith (Some fault) told so_far new ending = IsFaultAlone fault told new endin
 -- ---- the whole of it
 
 -- the words of a schedule were played, and then rounds; the replies were printed, and then a fault or none
-pub record IsReplayed (events : List Event) (first : ReplayState) (old new : OutputState)
-    (left : Option (List (List ℕ))) (ending : Ending) : Type 0 where
+pub record IsReplayed (events : List Event) (first : ReplayState) (old new : OutputState) (left : List (List ℕ))
+    (ending : Ending) : Type 0 where
   pub played : ReplayState
   pub plays : PlaysAll events first played
   pub last : ReplayState
@@ -130,23 +124,3 @@ pub record IsReplayed (events : List Event) (first : ReplayState) (old new : Out
 abbrev pub IsScheduleRefused : ScheduleError → OutputState → OutputState → Ending → Type 0
 IsScheduleRefused (errors.WrongWord word) old new ending = (ending ≡ WrongWord word) × (new ≡ old)
 IsScheduleRefused errors.NoMemory old new ending = IsFaultAlone NO_MEMORY old new ending
-
--- the pages of a device were opened for a script, which was replayed, and these are left
-pub record ReplaysOn (old new : OutputState) (ending : Ending) : Type 0 where
-  pub script : Parts
-  pub events : List Event
-  pub content : List (List ℕ)
-  pub honest : Bool
-  pub first : ReplayState
-  pub opened : IsOpenedFor script content honest first
-  pub left : Option (List (List ℕ))
-  pub replayed : IsReplayed events first old new left ending
-
--- what is printed of a script and a schedule in files: a file was opened for the script, which was replayed; or
--- nothing, where a line or a word is wrong; or one fault alone
-abbrev pub ReplaysFile : OutputState → OutputState → Ending → Type 0
-ReplaysFile old new ending =
-    ReplaysOn old new ending
-    ⊎ ((line : ℕ) × (ending ≡ WrongLine line) × (new ≡ old))
-    ⊎ ((word : ℕ) × (ending ≡ WrongWord word) × (new ≡ old))
-    ⊎ ((fault : ℕ) × IsFaultAlone fault old new ending)

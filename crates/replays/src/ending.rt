@@ -1,7 +1,6 @@
 //! How a replay ends: its replies are printed, and its kernel is closed.
 
-ghost use Rattle.std.specs.Prelude.{◌≡◌, IfSome, None};
-ghost use Rattle.std.specs.Option.{option_map};
+ghost use Rattle.std.specs.Prelude.{◌≡◌, None};
 ghost use Rattle.replays.specs.Replays.{EndsWith, IsClosedWell, IsReplayed, MayEndWith};
 
 use crate::opening::FileKeys;
@@ -20,8 +19,8 @@ use std::io::Write;
 /// What a replay leaves.
 #[derive(Drop)]
 pub struct Replayed<D> {
-    /// The device of its kernel; none where that was let go.
-    pub device: Option<D>,
+    /// The device of its kernel.
+    pub device: D,
     /// What failed a line, where one failed by a fault of the file.
     pub failure: Option<Failure>,
     /// How it ended.
@@ -31,7 +30,7 @@ pub struct Replayed<D> {
 /// Plays the words of a schedule, and then rounds until no line is left, prints the replies that
 /// there are in the order of the script, and closes the kernel. A round is one event of each seat
 /// in turn. Behind the first that moves nobody the system is stopped; where one behind that moves
-/// nobody a line is left that no seat can finish: the kernel is let go, and fault 63 is printed
+/// nobody a line is left that no seat can finish: the kernel is abandoned, and fault 63 is printed
 /// behind the replies.
 ///
 /// Whatever the schedule: where the kernel was led from a lawful system, as one is that was opened
@@ -45,8 +44,8 @@ pub fn run<D: PageDevice + Drop, W: Write + Drop>(
     output: &mut Output<W>,
 ) -> Replayed<D>
     ensures replayed { IsReplayed events.now replay.entry output.old output.new
-        (option_map D.content result.device) result.ending }
-    ensures same { IfSome result.device (λ d. D.is_honest d ≡ replay.entry.kernel.pool.honest) }
+        (D.content result.device) result.ending }
+    ensures same { D.is_honest result.device ≡ replay.entry.kernel.pool.honest }
 {
     events_lead_on::<FileKeys>();
     a_kernel_led_answers_as_plain_lists::<FileKeys>();
@@ -68,23 +67,20 @@ pub fn run<D: PageDevice + Drop, W: Write + Drop>(
     }
 }
 
-/// Closes a kernel, or lets it go where a line is left, and tells why it was not closed well, if it
+/// Closes a kernel, or abandons it where a line is left, and tells why it was not closed well, if it
 /// was not.
-fn close<D: PageDevice + Drop>(
-    kernel: Kernel<D, FileKeys>,
-    is_over: bool,
-) -> (Option<D>, Option<u8>)
+fn close<D: PageDevice + Drop>(kernel: Kernel<D, FileKeys>, is_over: bool) -> (D, Option<u8>)
     ensures closes { MayEndWith is_over kernel result.1 }
-    ensures well { result.1 ≡ None → IsClosedWell kernel (option_map D.content result.0) }
-    ensures same { IfSome result.0 (λ d. D.is_honest d ≡ kernel.pool.honest) }
+    ensures well { result.1 ≡ None → IsClosedWell kernel (D.content result.0) }
+    ensures same { D.is_honest result.0 ≡ kernel.pool.honest }
 {
     if !is_over {
-        return (None, Some(faults::BUSY));
+        return (kernel.abandon().device, Some(faults::BUSY));
     }
     match kernel.close() {
-        Ok(closed) => (Some(closed.device), None),
-        Err(NotClosed::Busy(_)) => (None, Some(faults::BUSY)),
-        Err(NotClosed::Fault(closed, fault)) => (Some(closed.device), Some(fault.number())),
+        Ok(closed) => (closed.device, None),
+        Err(NotClosed::Busy(kernel)) => (kernel.abandon().device, Some(faults::BUSY)),
+        Err(NotClosed::Fault(closed, fault)) => (closed.device, Some(fault.number())),
     }
 }
 

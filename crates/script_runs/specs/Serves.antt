@@ -76,13 +76,39 @@ PrintsRun script old new ending =
     ⊎ ((fault : ℕ) × IsPrintedAndFault script fault old new ending)
     ⊎ ((fault : ℕ) × IsFaultAlone fault old new ending)
 
--- what is printed of a script in a file: that of some script; or nothing, where a line of it is wrong; or one
--- fault alone
-abbrev pub RunsFile : OutputState → OutputState → Ending → Type 0
-RunsFile old new ending =
-    ((script : Parts) × PrintsRun script old new ending)
-    ⊎ ((line : ℕ) × (ending ≡ WrongLine line) × (new ≡ old))
-    ⊎ ((fault : ℕ) × IsFaultAlone fault old new ending)
+-- ---- a text
+
+-- nothing was run: the pages stay, and the ending tells the first wrong line
+pub record IsWrongAt (line : ℕ) (content left : List (List ℕ)) (old new : OutputState) (ending : Ending) : Type 0 where
+  pub told : ending ≡ WrongLine line
+  pub printed : new ≡ old
+  pub pages : left ≡ content
+
+-- there was no memory to read it: the pages stay
+pub record IsUnread (content left : List (List ℕ)) (old new : OutputState) (ending : Ending) : Type 0 where
+  pub alone : IsFaultAlone NO_MEMORY old new ending
+  pub pages : left ≡ content
+
+-- by what a text spells: a script, or the number of its first wrong line
+abbrev pub RunsScriptOn : Result Parts ℕ → (content left : List (List ℕ)) → (was faults : ℕ) →
+    (old new : OutputState) → Ending → Type 0
+RunsScriptOn (Ok script) content left was faults old new ending =
+    RunsOn script content (IsKept left) was faults old new ending
+RunsScriptOn (Err line) content left was faults old new ending = IsWrongAt line content left old new ending
+
+-- a text is run on the file of a device as the script that it spells
+abbrev pub RunsTextOn : List ℕ → (content left : List (List ℕ)) → (was faults : ℕ) → (old new : OutputState) →
+    Ending → Type 0
+RunsTextOn text content left was faults old new ending =
+    RunsScriptOn (script_of text) content left was faults old new ending ⊎ IsUnread content left old new ending
+
+-- of any file
+abbrev pub PrintsScript : Result Parts ℕ → OutputState → OutputState → Ending → Type 0
+PrintsScript (Ok script) old new ending = PrintsRun script old new ending
+PrintsScript (Err line) old new ending = (ending ≡ WrongLine line) × (new ≡ old)
+
+abbrev pub PrintsText : List ℕ → OutputState → OutputState → Ending → Type 0
+PrintsText text old new ending = PrintsScript (script_of text) old new ending ⊎ IsFaultAlone NO_MEMORY old new ending
 
 -- ---- a new file in memory
 

@@ -1,11 +1,8 @@
 //! Scripts run on files: the subcommand of the program.
 
-ghost use Rattle.script_runs.specs.Serves.{RunsFile};
-
-use crate::serving::run_on;
+use crate::serving::run_text_on;
 use msgq_cli::{
-    Ending, Output, Stage, complain, complain_of, complain_unopened, fail, read_file, read_script,
-    refuse, unread,
+    Ending, Output, Stage, complain, complain_of, complain_unopened, fail, read_file, unread,
 };
 use page_device::FileDevice;
 use std::fs::{OpenFile, OpenOptions};
@@ -14,9 +11,8 @@ use std::rt::Files;
 
 /// `run FILE SCRIPT`: runs the script of a file, or of standard input, on a file of message queues.
 ///
-/// The script is read first: fault 20 or 60 alone where it can't be read, and nothing is run where
-/// it is wrong. Then the file is opened: `fault N` alone where it is not. A fault when it is closed
-/// is one more line.
+/// The script is read first: fault 20 or 60 alone where it can't be read. Then the file is opened,
+/// fault 20 or 60 alone where it can't be; and then it is as `run_text_on` says.
 pub fn run_file<R, F, W, E>(
     rt: &R,
     file: &str,
@@ -29,19 +25,14 @@ where
     F: Read + Write + Seek + OpenFile + Drop,
     W: Write + Drop,
     E: Write,
-    ensures { RunsFile output.old output.new result }
 {
     let text = match read_file(rt, script) {
         Ok(text) => text,
         Err(error) => return unread(script, &error, output, errors),
     };
-    let script = match read_script(rt.alloc(), text.as_slice()) {
-        Ok(script) => script,
-        Err(error) => return refuse(rt.alloc(), error, text.as_slice(), output, errors),
-    };
     match FileDevice::open(rt, file) {
         Ok(device) => {
-            let ran = run_on(rt.alloc(), device, &script, output);
+            let ran = run_text_on(rt.alloc(), device, text.as_slice(), output, errors);
             if let Some(failure) = ran.failure {
                 complain(file, "a line failed", failure, errors);
             }

@@ -2,12 +2,10 @@
 
 ghost use Rattle.std.specs.Prelude.{◌≡◌, ℕ, ◌≤◌, IsTrue};
 ghost use Rattle.bucket_page.specs.Pseudokeys.{sha_key};
-ghost use Rattle.lone_kernel.specs.interleaving_core.Fault.{open_number_of};
 ghost use Rattle.lone_kernel.specs.Lone.{RestsOver};
 ghost use Rattle.lone_kernel.specs.Words.{State};
-ghost use Rattle.msgq_cli.specs.Refusals.{IsFaultAlone};
 ghost use Rattle.script_runs.specs.Runs.{AreSeated};
-ghost use Rattle.script_runs.specs.Serves.{IsKept, IsRunAndKept, PrintsRun, RunsInput, RunsOn, RunsText};
+ghost use Rattle.script_runs.specs.Serves.{IsKept, IsRunAndKept, PrintsRun, PrintsText, RunsInput, RunsOn, RunsText, RunsTextOn};
 
 use crate::runs::run;
 use lone_kernel::interleaving_core::{Failure, Kernel, NotClosed, OpenFault};
@@ -19,7 +17,7 @@ use msgq_cli::{
 };
 use one_bucket_file::a_new_file_has_no_queues;
 use page_device::{MemDevice, PageDevice};
-use replays::{FileKeys, open_kernel};
+use replays::{FileKeys, leave_unopened, open_kernel};
 use std::alloc::Global;
 use std::io::{Read, Write};
 
@@ -72,6 +70,33 @@ pub fn serve_text<W: Write + Drop, E: Write>(
     let ending = run_on(alloc, device, &script, output).ending;
     complain_of(MEMORY, ending, errors);
     ending
+}
+
+/// Runs a text as a script on the file of a device, and closes the file.
+///
+/// A wrong script runs nothing, and fault 60 alone stands where there is no memory to read it: then
+/// the device comes back as it was. Else it is as `run_on` says.
+pub fn run_text_on<D: PageDevice + Drop, W: Write + Drop, E: Write>(
+    alloc: Global,
+    device: D,
+    text: &[u8],
+    output: &mut Output<W>,
+    errors: &mut E,
+) -> Ran<D>
+    ensures served { IsTrue (D.is_honest device) → RunsTextOn text.now (D.content device)
+        (D.content result.device) (D.fault_count device) (D.fault_count result.device)
+        output.old output.new result.ending }
+    ensures lines { PrintsText text.now output.old output.new result.ending }
+    ensures same { D.is_honest result.device ≡ D.is_honest device }
+{
+    match read_script(alloc, text) {
+        Ok(script) => run_on(alloc, device, &script, output),
+        Err(error) => Ran {
+            device,
+            failure: None,
+            ending: refuse(alloc, error, text, output, errors),
+        },
+    }
 }
 
 /// What a run leaves.
@@ -140,7 +165,7 @@ fn run_open<D: PageDevice + Drop, W: Write + Drop>(
     let failure = kernel.failure();
     if kernel.has_failed() {
         return Ran {
-            device: kernel.into_device(),
+            device: kernel.abandon().device,
             failure,
             ending: fail(Stage::Closing, faults::FAILED, output),
         };
@@ -158,24 +183,9 @@ fn run_open<D: PageDevice + Drop, W: Write + Drop>(
         },
         // a device that is not honest may leave a call that is never answered
         Err(NotClosed::Busy(kernel)) => Ran {
-            device: kernel.into_device(),
+            device: kernel.abandon().device,
             failure,
             ending: fail(Stage::Closing, faults::FAILED, output),
         },
-    }
-}
-
-/// Ends a run whose file is refused.
-fn leave_unopened<W: Write + Drop>(fault: OpenFault, output: &mut Output<W>) -> Ending
-    ensures { IsFaultAlone (open_number_of fault) output.old output.new result }
-{
-    match fault {
-        OpenFault::Wrong(wrong) => {
-            print_fault(wrong.number(), output);
-            Ending::Unopened(wrong)
-        }
-        OpenFault::NoMemory | OpenFault::TooFewFrames => {
-            fail(Stage::Opening, fault.number(), output)
-        }
     }
 }

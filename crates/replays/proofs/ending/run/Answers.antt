@@ -1,5 +1,4 @@
 use Rattle.std.proofs.Common.{◌≡◌, ◌∙◌, ap, subst, Bool, List, Option}
-use Rattle.std.specs.Option.{option_map}
 use Rattle.bucket_page.specs.declared.pseudokey.ShaKey.{ShaKey}
 use Rattle.interleavings.specs.interleaving_core.Kernel.{KernelState}
 use Rattle.msgq_cli.specs.Outputs.{Prints}
@@ -8,7 +7,7 @@ use Rattle.msgq_cli.specs.declared.reply.Reply.{Reply}
 use Rattle.replays.specs.Places.{ProgressState}
 use Rattle.replays.specs.Replays.{IsClosedWell, MayEndWith, ending_by, replies_text}
 use Rattle.replays.specs.Rounds.{is_over}
-use Rattle.replays.proofs.ClosingLemmas.{answers_plain, if_some, left_well}
+use Rattle.replays.proofs.ClosingLemmas.{answers_plain, left_well}
 use Rattle.replays.proofs.FreeLemmas.{busy_if_left}
 use Rattle.replays.proofs.LeadLemmas.{replay_keeps}
 use Rattle.replays.proofs.ending.run.Goals as goal
@@ -29,7 +28,7 @@ returns-clause-replayed g c =
     let old = c.args.output.now in
     let told = c.print_replies-so_far.new.output in
     let fault = c.close-device.result.1 in
-    let left = option_map g.D.PageDevice.content c.close-device.result.0 in
+    let left = g.D.PageDevice.content c.close-device.result.0 in
     let closes : MayEndWith (is_over last) last.kernel fault =
     subst (λ (over : Bool). MayEndWith over last.kernel fault) c.finish-is_over.ensures.over
     (subst (λ (k : KernelState ShaKey). MayEndWith c.finish-is_over.result k fault) kernel
@@ -63,8 +62,6 @@ pub returns-clause-same : goal.returns-clause-same
 returns-clause-same g c =
     let last = c.finish-is_over.new.replay in
     let kernel : c.into_parts-kernel.result.0 ≡ last.kernel = c.into_parts-kernel.ensures.kernel in
-    if_some c.close-device.result.0
-    (λ d same. same ∙ ap (λ (k : KernelState ShaKey). k.pool.honest) kernel
+    c.close-device.ensures.same ∙ ap (λ (k : KernelState ShaKey). k.pool.honest) kernel
     ∙ (replay_keeps c.args.events.now c.args.replay c.play_all.new.self last c.play_all.ensures
-    c.finish-is_over.ensures.rounds).honest)
-    c.close-device.ensures.same
+    c.finish-is_over.ensures.rounds).honest
