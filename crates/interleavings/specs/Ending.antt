@@ -1,9 +1,9 @@
 -- How a kernel is closed, or given up.
-use Rattle.std.specs.Prelude.{ℕ, ◌≡◌, ◌≤◌, ◌↔◌, Bool, false, true, IsTrue, List, Option, Some, None}
+use Rattle.std.specs.Prelude.{ℕ, ◌≡◌, ◌≤◌, ◌↔◌, Bool, true, IsTrue, List, Option, Some, None}
 use Rattle.page_device.specs.Device.{HasRisen}
 use Rattle.interleaving_core.specs.Closing.{IsBusy}
 use Rattle.interleaving_core.specs.declared.fault.CloseFault.TheVariants as closes
-use Rattle.interleavings.specs.Words.{Entry, IsFlushedTo, KernelState, call_at}
+use Rattle.interleavings.specs.Words.{Entry, IsFlushedTo, KernelState}
 use Rattle.interleavings.specs.declared.playing.EndFault.{EndFault}
 use Rattle.interleavings.specs.declared.playing.EndFault.TheVariants.{Busy, Close}
 

@@ -1,6 +1,6 @@
 -- What events over the file of a device come to, from its opening to its closing: told by its pages, by what each seat
 -- was told and by the journal alone. docs/QUEUES.md, "Journals", "Order"; docs/STEPS.md, "Calls".
-use Rattle.std.specs.Prelude.{ℕ, ◌≡◌, ◌≢◌, ◌↔◌, ◌⊎◌, Bool, true, false, if◌then◌else◌, IsSome, IsTrue, List, [], ◌∷◌, ◌++◌, Option, Some, None, drop, take, ⊤}
+use Rattle.std.specs.Prelude.{ℕ, ◌≡◌, ◌≢◌, ◌↔◌, ◌⊎◌, Bool, true, false, if◌then◌else◌, IsSome, IsTrue, List, [], ◌∷◌, ◌++◌, Option, Some, None, take, ⊤}
 use Rattle.std.specs.List.{list_any}
 use Rattle.file_pages.specs.declared.fault.FileFault.TheVariants.{Failed}
 use Rattle.page_device.specs.Device.{HasRisen}
