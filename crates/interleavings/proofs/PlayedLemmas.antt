@@ -90,9 +90,6 @@ module _ {K : Type 0} (of : K → RecordKey → ℕ) (keys : K) (content : List 
   as_honest = (places_along hash es os old new runs).honest
       ∙ ap (λ (p : PoolState). p.honest) opened.pool
 
-  pub same_honest : left_honest ≡ honest
-  same_honest = ended.same ∙ as_honest
-
   -- the call of a seat behind some of the events
   under_way : (seat : ℕ) (some : List Event) (out : List Outcome) (now : KernelState K) →
       AreOfSeats (length old.seats) some → Runs hash some out old now →

@@ -170,7 +170,9 @@ module _ {K : Type 0} (does : StepsLeadAndDo K) (steps : StepsLed K) (lead : Eve
       not_both old.failed sound (sym (ap (λ (k : KernelState K). k.failed) same) ∙ broken)
   fails_by_along [] (o ∷ os) old new are led never sound broken = absurd never
   fails_by_along (e ∷ es) [] old new are led never sound broken = absurd never
-  fails_by_along (e ∷ es) (o ∷ os) old new are led runs sound broken = by runs.between.failed refl
+  fails_by_along (e ∷ es) (o ∷ os) old new are led runs sound broken =
+      by runs.between.failed refl (λ sound_between. fails_by_along es os runs.between new are_rest led_between runs.rest
+      sound_between broken)
     where
       first : IsOfSeat (length old.locks) e
       first = All-head (IsOfSeat (length old.locks)) e es are
@@ -191,10 +193,11 @@ module _ {K : Type 0} (does : StepsLeadAndDo K) (steps : StepsLed K) (lead : Eve
       later : runs.between.pool.faults ≤ new.pool.faults
       later = later_along hash es os runs.between new runs.rest
 
-      by : (b : Bool) → runs.between.failed ≡ b → HasFailedBy (gives_up o || list_any gives_up os) old new
-      by true is = wider old old runs.between new (gives_up o) (gives_up o || list_any gives_up os)
+      by : (b : Bool) → runs.between.failed ≡ b →
+          (runs.between.failed ≡ false → HasFailedBy (list_any gives_up os) runs.between new) →
+          HasFailedBy (gives_up o || list_any gives_up os) old new
+      by true is rest = wider old old runs.between new (gives_up o) (gives_up o || list_any gives_up os)
           (or_left (gives_up o) (list_any gives_up os)) (omega arith) earlier later
           (event_fails_by e o old runs.between first led runs.first sound is)
-      by false is = wider old runs.between new new (list_any gives_up os) (gives_up o || list_any gives_up os)
-          (or_right (gives_up o) (list_any gives_up os)) earlier later (omega arith)
-          (fails_by_along es os runs.between new are_rest led_between runs.rest is broken)
+      by false is rest = wider old runs.between new new (list_any gives_up os) (gives_up o || list_any gives_up os)
+          (or_right (gives_up o) (list_any gives_up os)) earlier later (omega arith) (rest is)
