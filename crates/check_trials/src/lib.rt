@@ -3,10 +3,8 @@
 #![tactic(auto)]
 
 #[cfg(test)]
-mod spoilt;
-#[cfg(test)]
 mod systems;
 #[cfg(test)]
-mod two_buckets;
+mod tests;
 #[cfg(test)]
 mod two_queues;

@@ -1,6 +1,5 @@
 pub mod Entries
 pub mod Fault
-pub mod Layouts
 pub mod Pages
 pub mod Reading
 pub mod Spelling

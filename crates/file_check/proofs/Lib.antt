@@ -8,4 +8,3 @@ pub mod JustLemmas
 pub mod CountLemmas
 pub mod GatheredLemmas
 pub mod WholeLemmas
-pub mod Today

@@ -1,3 +1,4 @@
-//! Names of kinds, worked by hand.
+//! Chains, directories and names of kinds, worked by hand.
 
+mod chains;
 mod kinds;

@@ -11,4 +11,3 @@ pub mod OutlinedLemmas
 pub mod StructureLemmas
 pub mod SoundLemmas
 pub mod FaultLemmas
-pub mod Today

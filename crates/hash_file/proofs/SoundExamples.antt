@@ -52,7 +52,7 @@ first_new = record {
     greatest = omega arith;
     depth = omega arith;
     entries = omega arith;
-    counts = omega arith;
+    counts = refl;
     pages = refl;
     header = refl;
   };

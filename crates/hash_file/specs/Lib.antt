@@ -11,5 +11,6 @@ pub mod Words
 pub mod Looks
 pub mod Examples
 pub mod WrongChanges
+pub mod Skeletons
 pub mod Hops
 pub mod New

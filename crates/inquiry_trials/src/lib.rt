@@ -1,4 +1,4 @@
-//! Trials of what calls ask of the records: how many they read, and what is of no system. They
+//! Trials of what calls ask of the records, decide and write: worked cases, made from outside. They
 //! stand here, so that the calls are not proved once more for them.
 
 #![tactic(auto)]
@@ -6,8 +6,12 @@
 #[cfg(test)]
 mod asked;
 #[cfg(test)]
-mod no_system;
+mod controls;
 #[cfg(test)]
-mod readings;
+mod receives;
 #[cfg(test)]
 mod records;
+#[cfg(test)]
+mod sends;
+#[cfg(test)]
+mod sweeps;

@@ -1,11 +1,5 @@
 pub mod PlaceLemmas
-pub mod PartLemmas
-pub mod PastLemmas
 pub mod TurnLemmas
-pub mod AnewLemmas
-pub mod SeatLemmas
-pub mod BetweenLemmas
-pub mod FailureLemmas
 pub mod KernelLemmas
 pub mod BeginLemmas
 pub mod RunLemmas

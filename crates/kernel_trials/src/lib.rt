@@ -14,15 +14,11 @@ mod drawn;
 #[cfg(test)]
 mod finding;
 #[cfg(test)]
-mod malicious;
+mod long_queues;
 #[cfg(test)]
 mod no_room;
 #[cfg(test)]
 mod plain;
-#[cfg(test)]
-mod played;
-#[cfg(test)]
-mod playing;
 #[cfg(test)]
 mod racing;
 #[cfg(test)]
@@ -31,9 +27,5 @@ mod rows;
 mod scripts;
 #[cfg(test)]
 mod splitting;
-#[cfg(test)]
-mod spoiling;
-#[cfg(test)]
-mod types;
 #[cfg(test)]
 mod waiting;

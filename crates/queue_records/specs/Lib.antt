@@ -1,6 +1,5 @@
 pub mod Fields
 pub mod Keys
-pub mod Older
 pub mod Range
 pub mod Reading
 pub mod Records

@@ -1,3 +1,0 @@
-pub mod Fault
-pub mod Writing
-pub mod Migrating

@@ -1,7 +1,0 @@
-mod DeviceLemmas
-mod Guarding
-mod Kept
-mod Moments
-mod Recovering
-mod Restoring
-mod Sessions
