@@ -1,11 +1,10 @@
--- The caller's names are held as before, so it knows what it knew.
+-- The caller's names are held as before.
 use Rattle.std.proofs.Common.{◌≡◌, refl, ◌∙◌, ℕ, List}
 use Rattle.page_locks.specs.Locks.{kind_of}
 use Rattle.stale_search.specs.Callers.{AddsFileLocks, IsAside}
-use Rattle.stale_search.proofs.CallerLemmas.{adders_keep, approach_adds_locks, in_aside, on_aside}
+use Rattle.stale_search.proofs.CallerLemmas.{approach_adds_locks, in_aside, on_aside}
 use Rattle.bucket_merge.specs.Words.{Lock, LockKind, Selective, Exclusive, LockName, ApproachView, in_directory, on_page, MergePlace, Approaching, ReadBuddy, GrantRight, GiveBack, GrantLeft, GrantRightAgain, LookLeft, LookRight, WriteLeft, Tombstone, Retarget, SetCounts, ReleaseRight, ReleaseLeft, Convert, GrantAlone, WriteFree, LinkFree, LowerDepth, ReleaseAlone, GiveUpRight, GiveUp, ReleaseDirectory, Done}
 use Rattle.bucket_merge.specs.Places.{MergeView, merge_locks, locks_at, on_both}
-use Rattle.bucket_merge.specs.Callers.{MergeKeeps}
 
 module _ (name : LockName) (aside : IsAside name) where
   on_one : (kind lock : LockKind) (n : ℕ) (xs : List Lock) →
@@ -46,6 +45,3 @@ module _ (name : LockName) (aside : IsAside name) where
 
 pub merge_adds_locks : (v : MergeView) → AddsFileLocks (merge_locks v)
 merge_adds_locks v before name aside = adds name aside v.place v.approach before
-
-pub merge_keeps : MergeKeeps
-merge_keeps v v' = adders_keep (merge_locks v) (merge_locks v') (merge_adds_locks v) (merge_adds_locks v')

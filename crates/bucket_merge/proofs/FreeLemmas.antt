@@ -86,7 +86,7 @@ module _ (seat : ℕ) (pool : PoolState) (locks : Table) (v : MergeView) (r : Re
       } in
       record { after = Drained j.left j.right; does = does; known = ((known.0.0, refl), tt) })
 
-  -- ---- behind both drains
+  -- ---- after both drains
   module _ (before : List Lock) (bare : HasNoFileLock before) (page : ℕ)
       (row : row_of locks seat ≡ alone_on page before) where
     alone : held locks seat Directory ≡ Some Exclusive
@@ -163,7 +163,7 @@ module _ (seat : ℕ) (pool : PoolState) (locks : Table) (v : MergeView) (r : Re
       } in
       record { after = Quiet; does = does; known = ((known.0.0, refl), tt) })
 
--- a write behind a read
+-- a write after a read
 pub read_then_written : (fine : Bool) (pool middle pool' : PoolState) → OnlyReads true pool middle →
     OnlyWrites fine middle pool' → OnlyWrites fine pool pool'
 read_then_written fine pool middle pool' reads writes = record {
@@ -173,7 +173,7 @@ read_then_written fine pool middle pool' reads writes = record {
   file = λ honest done file. writes.file (reads.honest ∙ honest) done (reads.file honest refl file);
 }
 
--- what is so of the store before a read is so behind it
+-- what is so of the store before a read is so after it
 pub ok_through : (r : Result Unit FileFault) (P Q : Type 0) → (P → Q) → OnOk r P → OnOk r Q
 ok_through (Ok x) P Q f p = f p
 ok_through (Err e) P Q f p = p

@@ -30,7 +30,7 @@ abbrev pub right_facts : Buddies → Seen → List Known
 right_facts b seen =
     Built (Shaped b.right (upper_half_of (parent_of b.range)) seen.next) ∷ OnPage b.right (Using seen.used) ∷ []
 
--- behind WriteLeft the phase says what is so of the pages. Entries of the right range that stand before this page name
+-- after WriteLeft the phase says what is so of the pages. Entries of the right range that stand before this page name
 -- the left one
 abbrev pub buried_facts : Joint → ℕ → List Known
 buried_facts j page = Built (InPhase (Buried j.left j.right j.whole)) ∷ Built (HasDepth j.depth)

@@ -2,7 +2,6 @@ pub mod Words
 pub mod Places
 pub mod Facts
 pub mod Steps
-pub mod Callers
 pub use Rattle.stale_search.specs as stale_search
 pub use Rattle.stale_search.specs.buffer_pool
 pub use Rattle.stale_search.specs.file_pages

@@ -95,7 +95,7 @@ stride_of j = if nat_lt (2 * 2 ^ j.whole.depth) PAGE_ENTRIES then PAGE_ENTRIES e
 abbrev pub entry_behind : Joint → ℕ → ℕ
 entry_behind j entry = entry + stride_of j
 
--- where a merge goes on behind its tombstone, or behind a page of the directory: to the page with this entry, if the
+-- where a merge goes on after its tombstone, or behind a page of the directory: to the page with this entry, if the
 -- directory has it
 abbrev pub retargets_from : Joint → ℕ → MergePlace
 retargets_from j entry = if nat_lt entry (2 ^ j.depth) then Retarget j entry else SetCounts j

@@ -30,7 +30,7 @@ pub record MergeStep {F : Type 0} (hash : RecordKey → ℕ) (seat : ℕ) (did :
   pub step : Step hash seat (merge_turn old) did (merge_facts new) pool pool' locks locks' change
   pub contents : KeepsContents (store_of pool.images) (store_of pool'.images)
 
--- it turns away only at a step behind which no merge can be made
+-- it turns away only at a step after which no merge can be made
 abbrev pub TurnsAwayAt : (RecordKey → ℕ) → ℕ → (old new : MergeView) → World → Type 0
 TurnsAwayAt hash seat old new w =
     is_given_up old.place ≡ false → is_given_up new.place ≡ true → TurnsAway hash old.key seat w

@@ -6,12 +6,10 @@
 // Machines promise the same of a step, each in the words of its own places: docs/DECISIONS.md,
 // "The repository", says why.
 
-mod laws;
 mod look;
 mod merge;
 mod place;
 
-pub use laws::a_merge_keeps_what_its_caller_knows;
 pub use merge::Merge;
 pub use place::{Buddies, Joint, MergePlace, Own, Seen};
 pub use stale_search;

@@ -144,7 +144,7 @@ impl Buddies {
 }
 
 impl Joint {
-    /// Where a merge goes on behind its tombstone.
+    /// Where a merge goes on after its tombstone.
     pub(crate) fn behind_tombstone(self) -> MergePlace
         requires joint { IsJoint self }
         ensures value { result ≡ retargets_from self (first_entry self) }

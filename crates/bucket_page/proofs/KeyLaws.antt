@@ -46,7 +46,7 @@ key_again k rest is =
           eight_again 5 k.number bytes rest back is.number i;
     }
 
--- thirteen bytes are just those of their key
+-- thirteen bytes are exactly those of their key
 pub exactly : (bytes : List ℕ) (k : RecordKey) → length bytes ≡ 13 → IsBytes bytes → k ≡ key_at bytes
     → key_bytes k ≡ bytes
 exactly bytes k long all is =

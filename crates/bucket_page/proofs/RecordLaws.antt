@@ -108,7 +108,7 @@ pub count_below : (ps : List Pair) → length ps ≤ length (record_bytes ps)
 count_below [] = omega arith
 count_below (p ∷ ps) = omega (arith, count_below ps, length-pair p, length-append (pair_bytes p) (record_bytes ps))
 
--- the test of lengths passes for just the bytes of so many records
+-- the test of lengths passes for exactly the bytes of so many records
 pub fills_just : (n : ℕ) (bytes : List ℕ) → IsBytes bytes → (fills n bytes ≡ true) ↔ AreBytesOf n bytes
 fills_just n bytes all = (to_records, to_test)
   where

@@ -1,7 +1,6 @@
 -- A record that stands in a bucket's payload is replaced or taken out.
 use Rattle.std.proofs.Common.{◌≡◌, ◌&&◌, ℕ, ◌+◌, ◌-◌, ◌≤◌, Bool, true, Option, Some, None, List, [], ◌∷◌, ◌++◌, length, take, drop, refl, sym, ap, subst, ◌∙◌, append_assoc, arith}
 use Rattle.std.specs.Prelude.{IsSome, unwrap_or}
-use Rattle.std.specs.Option.{option_map}
 use Rattle.std.specs.List.{AllByRecursion}
 use Rattle.std.proofs.lemmas.List.{drop_at, length-append, length-drop, length-take, take-append-drop}
 use Rattle.std.proofs.lemmas.List.Concat.{flat_map-append}
@@ -83,24 +82,10 @@ unfolding value_in
 some_in None is = absurd cc
 some_in (Some value) is = refl
 
-length_in : (o : Option (List ℕ)) (n : ℕ) → option_map length o ≡ Some n
-    → (o ≡ Some (value_in o)) × (length (value_in o) ≡ n)
-unfolding value_in
-length_in None n is = absurd cc
-length_in (Some value) n is = let same : length value ≡ n = cc in (refl, same)
-
 -- the record of a key that is there
 pub stands_there : (bytes : List ℕ) (key : RecordKey) → IsBucketPage bytes → IsSome (lookup key (records_in bytes))
     → Stands key (value_in (lookup key (records_in bytes))) bytes
 stands_there bytes key it there = stands bytes _ key it (some_in (lookup key (records_in bytes)) there)
-
-pub stands_long : (bytes : List ℕ) (key : RecordKey) (n : ℕ) → IsBucketPage bytes
-    → option_map length (lookup key (records_in bytes)) ≡ Some n
-    → Stands key (value_in (lookup key (records_in bytes))) bytes
-    × (length (value_in (lookup key (records_in bytes))) ≡ n)
-stands_long bytes key n it there =
-    let both = length_in (lookup key (records_in bytes)) n there in
-    (stands bytes _ key it both.0, both.1)
 
 -- its length, as the code reads it
 pub record IsRead (bytes : List ℕ) (key : RecordKey) (h : Head) (at n : ℕ) : Type 0 where

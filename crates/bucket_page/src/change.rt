@@ -3,7 +3,7 @@
 ghost use Rattle.std.specs.Prelude.{[], ◌∷◌, ◌++◌, true, ◌≡◌, ◌↔◌, ◌+◌, ◌<◌, ◌≤◌, IsErr, IsSome, OnErr, OnOk, Some, None, length};
 ghost use Rattle.bucket_page.specs.Records.{ascend, pair, lookup, record_bytes};
 ghost use Rattle.bucket_page.specs.Reading.{records_in, used_at};
-ghost use Rattle.bucket_page.specs.Changes.{Appends, Changes, InsertsAt, HasValueOf, IsBucketPage, below, fronted, inserted, removed, replaced, value_of_key};
+ghost use Rattle.bucket_page.specs.Changes.{Appends, Changes, InsertsAt, IsBucketPage, below, fronted, inserted, removed, value_of_key};
 
 use crate::head::Head;
 use crate::layout::{RECORD_HEAD_BYTES, ROOM_BYTES};
@@ -61,17 +61,6 @@ pub(crate) fn append(payload: &mut Payload, key: &RecordKey, value: &[u8])
 {
     let used = two_at(payload, 12) as usize;
     insert_record(payload, used, key, value);
-}
-
-/// Replaces the value of a key that the bucket has by one of the same length.
-pub fn replace(payload: &mut Payload, key: &RecordKey, value: &[u8])
-    requires bucket { IsBucketPage payload.old }
-    requires there { HasValueOf (length value.now) key.now (records_in payload.old) }
-    ensures ok { Changes (replaced (pair key.now value.now)) payload.old payload.new }
-{
-    let at = place(payload, key);
-    let (_, body) = payload.split_at_mut(HEAD_BYTES);
-    set_bytes(body, at + RECORD_HEAD_BYTES, value);
 }
 
 /// Replaces the first bytes of the value of a key that the bucket has. The others

@@ -15,7 +15,7 @@ mod splice;
 mod view;
 mod write;
 
-pub use change::{DoesNotFit, put, remove, replace, replace_front};
+pub use change::{DoesNotFit, put, remove, replace_front};
 pub use directory;
 pub use directory::{fields, page_device, positions};
 pub use divide::{cut, join, write_lower_half, write_upper_half};

@@ -30,7 +30,7 @@ pub enum Malformed {
     /// The pattern has a bit beyond the local depth.
     #[error("the pattern has too many bits")]
     Pattern,
-    /// The records don't fill their bytes just so, or those don't fit the page.
+    /// The records don't fill their bytes exactly so, or those don't fit the page.
     #[error("the records don't fill their bytes")]
     Lengths,
     /// The keys don't ascend strictly.

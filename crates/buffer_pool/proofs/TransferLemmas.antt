@@ -28,7 +28,7 @@ pub no_page : {X : Type 0} (o : Option X) → IsSome o → o ≡ None → ⊥
 no_page None some none = absurd cc
 no_page (Some x) some none = absurd cc
 
--- what stays behind a write of another page stays
+-- what stays after a write of another page stays
 pub stays_with : {old mid frames new : Held} {page frame : ℕ} → mid ≡ old → KeepsPages mid frames
     → (0 < pins_of frames page → place_of frames page ≡ Some frame → StaysIn page frame frames new)
     → 0 < pins_of old page → place_of old page ≡ Some frame → StaysIn page frame old new

@@ -44,7 +44,7 @@ pub record IsRight (c : Caller) (call : Call) (held : List LockName) (bytes : Li
 abbrev pub AreAlike : List LockName → (records others : Records) → Type 0
 AreAlike held records others = (key : RecordKey) → Contains held (guard_of key) → records key ≡ others key
 
--- behind a sweep, or at once
+-- after a sweep, or at once
 abbrev pub behind_sweep : Owes → Records → Records
 behind_sweep (owed.Writes ws) records = records
 behind_sweep (owed.Sweeps id ws) records = without_swept id records

@@ -18,9 +18,9 @@ use Rattle.call_payments.proofs.BeginLemmas.{answer_pays, waiting_pays, will_wri
 use Rattle.call_payments.proofs.Names.{AccessView, begins_right, begun_turn, ends_swept, locks_under, message_of, has_few_steps, written_local}
 use Rattle.call_payments.proofs.RecordLemmas.{none_swept, stands_none, without_at}
 use Rattle.call_payments.specs.declared.payment.Stage.TheVariants as stages
-use Rattle.call_payments.specs.Words.{RecordKey, PoolState, Table, Lock, Change, Store, store_of, StandsAt, Exclusive, LockName, kind_of, guard_of, Call, Caller, State, record_of, IsFiled, Sweep, IsSmall, Plan, Records, inserted, writes_of, without_swept, AreAlike, Writing, Due, CallWrites, CanGoOn, decided_at, owes, overlaid}
-use Rattle.call_payments.specs.Laws.{HasFewSteps, HasTried, MOST_PAYMENT_STEPS, OwesNothingAtEnd, PaysWhatIsDecided, WillPay}
-use Rattle.call_payments.specs.Payments.{begun_behind, begun_by, decided, payment_left, sweep_of}
+use Rattle.call_payments.specs.Words.{RecordKey, PoolState, Table, Lock, Change, Store, store_of, StandsAt, Exclusive, LockName, kind_of, guard_of, Call, Caller, State, record_of, IsFiled, Sweep, IsSmall, Plan, Records, inserted, writes_of, without_swept, AreAlike, Writing, Due, CallWrites, CanGoOn, decided_at, owes, overlaid, Settled}
+use Rattle.call_payments.specs.Laws.{HasTried, MOST_PAYMENT_STEPS, OwesNothingAtEnd, PaysWhatIsDecided, WillPay}
+use Rattle.call_payments.specs.Payments.{begun_behind, begun_by, begun_payment, decided, payment_left, sweep_of}
 use Rattle.call_payments.specs.Paying.{IsPaying}
 
 or_true : (a b : Bool) → b ≡ true → (a || b) ≡ true
@@ -165,6 +165,9 @@ module _ (hash : RecordKey → ℕ) (seat : ℕ) (names : List Lock) (p : Plan) 
   few_by None y = few_decided y
   few_by (Some sweep) y = few_behind sweep sweep.first y
 
-pub has_few : HasFewSteps
+pub has_few : (hash : RecordKey → ℕ) (seat : ℕ) (names : List Lock) (p : Plan) (settled : Option Settled) (due : Due)
+    (records : Records) (pool : PoolState) (locks : Table) (change : Change) (s : Store) →
+    IsPaying hash seat names p (begun_payment hash settled due) records pool locks change →
+    payment_left p (begun_payment hash settled due) s ≤ MOST_PAYMENT_STEPS
 has_few hash seat names p settled due records pool locks change s y =
     few_by hash seat names p due records pool locks change s (sweep_of settled) y

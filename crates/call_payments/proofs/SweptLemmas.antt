@@ -47,7 +47,7 @@ none_left hash id count q s (Some w) works over = absurd (works.goes_on over)
 
 -- ---- its step
 
--- the records behind a step of the sweep, which stand under the names
+-- the records after a step of the sweep, which stand under the names
 record IsSweptOn {F : Type 0} (id : ℕ) (ws : List Write) (names : List Lock) (did : Progress F)
     (records : Records) (file : Store) : Type 0 where
   pub after : Records

@@ -17,7 +17,7 @@ use Rattle.call_payments.specs.PaySteps.{MakesWrites, Pays}
 
 -- ---- what is due
 
--- behind a deed of a call that has decided
+-- after a deed of a call that has decided
 behind_decided : (p : Plan) (due due' : Due) → decided_at due ≡ due → IsBehind p due due' → decided_at due' ≡ due'
 behind_decided p (Trying place) due' decided behind = absurd cc
 behind_decided p (Full standing) due' decided behind = absurd cc

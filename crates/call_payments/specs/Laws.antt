@@ -1,16 +1,16 @@
 -- Laws of payments. Each is the contract of a function of laws.rt. docs/STEPS.md, "What a call writes", "Remove".
-use Rattle.std.specs.Prelude.{ℕ, ◌≡◌, ◌≤◌, List, true, Option, Some, None, take, ⊤}
+use Rattle.std.specs.Prelude.{ℕ, ◌≡◌, List, true, Some, None, take, ⊤}
 use Rattle.std.specs.List.{Contains}
 use Rattle.call_decisions.specs.declared.settled.Settled.TheVariants as settlements
 use Rattle.owed_records.specs.Owing as owed
 use Rattle.call_payments.specs.declared.payment.Stage.{Stage}
-use Rattle.call_payments.specs.Words.{RecordKey, PoolState, Table, Lock, Change, Store, Exclusive, LockName, kind_of, Owns, Call, Caller, State, record_of, IsFiled, Plan, Records, inserted, OwesUnder, overlaid, Settled, AreAlike, Means, Due, Trying, Full, CallWrites, IsCarrying}
-use Rattle.call_payments.specs.Payments.{IsPaid, begun_payment, owes_now, payment_left}
+use Rattle.call_payments.specs.Words.{RecordKey, PoolState, Table, Lock, Change, Exclusive, LockName, kind_of, Owns, Call, Caller, State, record_of, IsFiled, Plan, Records, inserted, OwesUnder, overlaid, Settled, AreAlike, Means, Trying, Full, CallWrites, IsCarrying}
+use Rattle.call_payments.specs.Payments.{IsPaid, begun_payment, owes_now}
 use Rattle.call_payments.specs.Paying.{IsPaying}
 
 -- ---- its beginning
 
--- a call rests behind its trials, which all stand: the records under its names are those of the system with the trials
+-- a call rests after its trials, which all stand: the records under its names are those of the system with the trials
 pub record HasTried (hash : RecordKey → ℕ) (seat : ℕ) (names : List Lock) (held : List LockName) (p : Plan)
     (trials : CallWrites) (records : Records) (s : State) (pool : PoolState) (locks : Table) (change : Change)
     : Type 0 where
@@ -83,9 +83,3 @@ OwesNothingAtEnd = (hash : RecordKey → ℕ) (seat : ℕ) (names : List Lock) (
 -- those of a sweep, and those of a plan
 abbrev pub MOST_PAYMENT_STEPS : ℕ
 MOST_PAYMENT_STEPS = 1610979
-
-abbrev pub HasFewSteps : Type 0
-HasFewSteps = (hash : RecordKey → ℕ) (seat : ℕ) (names : List Lock) (p : Plan) (settled : Option Settled)
-    (due : Due) (records : Records) (pool : PoolState) (locks : Table) (change : Change) (s : Store) →
-    IsPaying hash seat names p (begun_payment hash settled due) records pool locks change →
-    payment_left p (begun_payment hash settled due) s ≤ MOST_PAYMENT_STEPS

@@ -26,14 +26,14 @@ KeepsPart p did (stages.Writing w) (stages.Sweeping v) = ⊥
 KeepsPart p did (stages.Writing w) (stages.Writing w') = Advances p did w.due w'.due
 
 pub record KeepsPayment {F : Type 0} (p : Plan) (did : Progress F) (old new : Stage) : Type 0 where
-  -- it has ended just where nothing is left to do, and stays so
+  -- it has ended exactly where nothing is left to do, and stays so
   pub ended : (did ≡ Ended) ↔ IsPaid p old
   pub rests : did ≡ Ended → new ≡ old
   pub part : KeepsPart p did old new
 
 -- ---- on an honest device, in a sound world
 
--- the records behind a step: a sweep leaves all but the Messages and Types of its queue, and a write leaves what its
+-- the records after a step: a sweep leaves all but the Messages and Types of its queue, and a write leaves what its
 -- deed makes
 abbrev pub LeavesPart : Plan → (old new : Stage) → (records after : Records) → Type 0
 LeavesPart p (stages.Sweeping v) new records after =
@@ -41,7 +41,7 @@ LeavesPart p (stages.Sweeping v) new records after =
 LeavesPart p (stages.Writing w) (stages.Sweeping v) records after = ⊥
 LeavesPart p (stages.Writing w) (stages.Writing w') records after = Leaves p w.due w'.due records after
 
--- a step of the rules, behind which the seat pays further, and what will stand once nothing is owed is the same
+-- a step of the rules, after which the seat pays further, and what will stand once nothing is owed is the same
 pub record Pays {F : Type 0} (hash : RecordKey → ℕ) (seat : ℕ) (names : List Lock) (p : Plan) (did : Progress F)
     (old new : Stage) (records : Records) (pool pool' : PoolState) (locks locks' : Table) (change : Change)
     : Type 0 where

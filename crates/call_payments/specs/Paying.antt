@@ -10,7 +10,7 @@ abbrev pub AreSameUnder : List Lock → (records others : Records) → Type 0
 AreSameUnder names records others =
     (key : RecordKey) → IsSome (kind_of names (guard_of key)) → records key ≡ others key
 
--- the queue of a Remove is swept, and behind that the plan can be written
+-- the queue of a Remove is swept, and after that the plan can be written
 pub record IsPayingSweep (hash : RecordKey → ℕ) (seat : ℕ) (names : List Lock) (p : Plan) (v : Option Work)
     (records : Records) (pool : PoolState) (locks : Table) (change : Change) : Type 0 where
   -- so many messages of the queue of an id were swept

@@ -1,4 +1,4 @@
--- What a call owes behind its decision: how its payment begins, what it holds, knows and asks for, and what is still
+-- What a call owes after its decision: how its payment begins, what it holds, knows and asks for, and what is still
 -- owed. docs/STEPS.md, "What a call writes", "Remove".
 use Rattle.std.specs.Prelude.{ℕ, ◌+◌, List, Option, Some, None}
 use Rattle.owed_records.specs.Owing as owed
@@ -24,7 +24,7 @@ sweep_of (Some (settlements.Answers verdict)) = None
 sweep_of (Some (settlements.Sweeps sweep)) = Some sweep
 sweep_of (Some settlements.Waits) = None
 
--- behind this sweep, which is over at once where the queue has no message
+-- after this sweep, which is over at once where the queue has no message
 abbrev pub begun_behind : Option Work → Due → Stage
 begun_behind None due = stages.Writing (decided due)
 begun_behind (Some w) due = stages.Sweeping (Some w)

@@ -1,7 +1,6 @@
 //! Laws of payments. The functions do nothing; their contracts are the laws.
 
-ghost use Rattle.std.specs.Prelude.{◌<◌};
-ghost use Rattle.call_payments.specs.Laws.{HasFewSteps, MOST_PAYMENT_STEPS, OwesNothingAtEnd, OwesWhatItHolds, PaysWhatIsDecided, UndoesItsTrials};
+ghost use Rattle.call_payments.specs.Laws.{OwesNothingAtEnd, OwesWhatItHolds, PaysWhatIsDecided, UndoesItsTrials};
 
 /// A call whose trials all stand, and that has come to what its inquiry decided, pays what leads to
 /// the records of the system after, and owes nothing under other names. One of which a trial had no
@@ -19,11 +18,4 @@ pub fn a_payment_owes_what_is_held()
 /// Where nothing is left to do nothing is owed.
 pub fn a_payment_that_is_over_owes_nothing()
     ensures { OwesNothingAtEnd }
-{}
-
-/// A payment that begins has few steps left: those of a sweep of 1,024 messages, and those of seven
-/// deeds in the largest file.
-pub fn a_payment_has_few_steps()
-    ensures few { HasFewSteps }
-    ensures most { MOST_PAYMENT_STEPS < 2000000 }
 {}

@@ -1,4 +1,4 @@
-//! What a call owes behind its decision, paid step by step: the sweep of a Remove, then its writes.
+//! What a call owes after its decision, paid step by step: the sweep of a Remove, then its writes.
 
 #![tactic(auto)]
 
@@ -6,7 +6,6 @@ mod laws;
 mod payment;
 
 pub use laws::{
-    a_payment_has_few_steps, a_payment_owes_what_is_held, a_payment_that_is_over_owes_nothing,
-    what_is_decided_is_paid,
+    a_payment_owes_what_is_held, a_payment_that_is_over_owes_nothing, what_is_decided_is_paid,
 };
 pub use payment::Payment;

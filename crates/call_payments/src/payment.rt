@@ -18,7 +18,7 @@ use xsi_inquiry::Sweep;
 use xsi_remove::SweepTurns;
 use xsi_remove::step_rules::Progress;
 
-/// What a call owes behind its decision, paid step by step: first the sweep of a Remove, then its
+/// What a call owes after its decision, paid step by step: first the sweep of a Remove, then its
 /// writes, or the deletions of its trials where one had no room. It holds no name: whoever drives
 /// it holds those of the call.
 #[derive(Drop)]
@@ -80,7 +80,7 @@ impl Payment {
     }
 
     /// One step, of the sweep or else of the writes. It has ended where nothing is owed any more. A
-    /// sweep that has failed is refused as `Failed`, and nothing is written behind it.
+    /// sweep that has failed is refused as `Failed`, and nothing is written after it.
     pub fn step<D: PageDevice, K: PseudoKey>(
         &mut self,
         plan: &PlanOf<'_>,
@@ -112,7 +112,7 @@ impl Payment {
         self.make(plan, pool, locks, keys, seat)
     }
 
-    /// The plan is written from the step on behind that by which the sweep has ended.
+    /// The plan is written from the step on after that by which the sweep has ended.
     fn make<D: PageDevice, K: PseudoKey>(
         &mut self,
         plan: &PlanOf<'_>,

@@ -61,7 +61,7 @@ module _ (hash : RecordKey → ℕ) (seat : ℕ) (call : Call) (i : AnyInquiry) 
       allows = tt;
     }
 
-  -- what the inquiry has come to behind the step, in which it was told an answer, or not
+  -- what the inquiry has come to after the step, in which it was told an answer, or not
   pub record Comes (s : State) (j : AnyInquiry) (r : Roomful) (told : Bool) : Type 0 where
     pub begins : asks_more call j ≡ false → changes call j ≡ true → Begins held (names_for call j)
     pub grows : asks_more call j ≡ true → Begins held (names_for call j) ⊎ KnowsItsKey call j

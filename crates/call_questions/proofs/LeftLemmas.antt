@@ -20,9 +20,8 @@ use Rattle.xsi_sweep.specs.Knowing as remove_knowing
 use Rattle.xsi_sweep.specs.declared.stage.Stage as remove_stages
 use Rattle.xsi_sweep.specs.declared.stage.Stage.TheVariants as remove
 use Rattle.call_questions.specs.declared.question.Question.{Question}
-use Rattle.call_questions.specs.Words.{AnyInquiry, Call, Caller, IsFiled, KnowsOf, Roomful, State, Wanted, asked_of, left_of}
-use Rattle.call_questions.specs.Laws.{BeginFewSearches}
-use Rattle.call_questions.specs.Questions.{IsRightQuestion, untold}
+use Rattle.call_questions.specs.Words.{AnyInquiry, Call, Caller, IsFiled, KnowsOf, RecordKey, Roomful, State, Wanted, asked_of, left_of}
+use Rattle.call_questions.specs.Questions.{IsRight, IsRightQuestion, QuestionsView, untold}
 
 -- ---- by the kind of the call
 
@@ -126,7 +125,9 @@ asks_leave (calls.Remove id) i room s filed wanted is knows =
 
 -- ---- it begins few searches
 
-pub few_searches : BeginFewSearches
+-- a call that has come so far by its own steps has begun at most as many searches as it asks questions
+pub few_searches : (hash : RecordKey → ℕ) (call : Call) (v : QuestionsView) → IsRight hash call v →
+    v.finds ≤ most_asked call
 few_searches hash call v right = by v.question right.few right.question
   where
     told_or_not : (q : Question) (b : Bool) → q.told ≡ b →

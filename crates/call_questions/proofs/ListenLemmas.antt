@@ -1,4 +1,4 @@
--- What a call knows behind a step of its question, whether it was told an answer or not.
+-- What a call knows after a step of its question, whether it was told an answer or not.
 use Rattle.std.proofs.Common.{ℕ, ◌≡◌, Bool, false, List, [], Option, Some, None, IfSome, IsOk, Result, Ok, Err, refl, sym, ap, ◌∙◌, subst, inl, inr, ◌⊎◌}
 use Rattle.std.proofs.lemmas.Bool.{true≢false}
 use Rattle.std.specs.Option.{is_some}

@@ -4,12 +4,12 @@ use Rattle.std.specs.List.{Contains}
 use Rattle.any_inquiry.specs.Anything.{locked_of}
 use Rattle.page_locks.specs.declared.lock.LockKind.TheVariants.{Exclusive}
 use Rattle.page_locks.specs.Locks.{kind_of}
-use Rattle.call_questions.specs.Words.{RecordKey, Store, Record, StandsAt, AnyInquiry, KnowsOf, asked_of, left_of, plan_of, LockName, names_in, names_for, Call, State, Wanted, Roomful}
+use Rattle.call_questions.specs.Words.{Store, Record, StandsAt, AnyInquiry, KnowsOf, asked_of, left_of, plan_of, LockName, names_in, names_for, Call, State, Wanted, Roomful}
 use Rattle.xsi_inquiry.specs.Telling.{most_asked}
 use Rattle.xsi_inquiry.specs.Writing.{nothing}
 use Rattle.call_questions.specs.Answering.{Answers, IsAskedUnder, key_asked}
 use Rattle.call_questions.specs.Agreeing.{Agrees}
-use Rattle.call_questions.specs.Questions.{QuestionsView, IsRight, has_asked, questions_left}
+use Rattle.call_questions.specs.Questions.{QuestionsView, has_asked, questions_left}
 
 -- each question is asked under a name that the call holds then
 abbrev pub AskUnderNames : Type 0
@@ -27,7 +27,7 @@ FilesAnswer = (call : Call) (i : AnyInquiry) (room : Roomful) (wanted : Wanted) 
     (s : State) → asked_of call i ≡ Some wanted → KnowsOf call i room s → IsAskedUnder held wanted →
     Agrees held store s → IsAnswered store wanted s
 
--- it holds just the names that it needs, and those under which it inserts and writes Exclusive
+-- it holds exactly the names that it needs, and those under which it inserts and writes Exclusive
 pub record HoldsNames (call : Call) (v : QuestionsView) : Type 0 where
   pub names : v.names ≡ names_for call v.inquiry
   pub exclusive : (name : LockName) → Contains (locked_of call v.inquiry) name → kind_of v.names name ≡ Some Exclusive
@@ -44,8 +44,3 @@ MOST_QUESTION_STEPS = 15420
 abbrev pub HaveFewSteps : Type 0
 HaveFewSteps = (call : Call) (v : QuestionsView) (s : Store) → v.question ≡ None → v.names ≡ [] →
     left_of call v.inquiry ≤ most_asked call → questions_left call v s ≤ MOST_QUESTION_STEPS
-
--- a call that has come so far by its own steps has begun at most as many searches as it asks questions
-abbrev pub BeginFewSearches : Type 0
-BeginFewSearches = (hash : RecordKey → ℕ) (call : Call) (v : QuestionsView) → IsRight hash call v →
-    v.finds ≤ most_asked call

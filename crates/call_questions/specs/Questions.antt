@@ -108,7 +108,7 @@ questions_left call v s = left_behind v.question call v s + ROUND_STEPS * left_o
 
 -- ---- what it is about
 
--- until it is told: the inquiry asks for what stands at its key, under just the names that it needs
+-- until it is told: the inquiry asks for what stands at its key, under exactly the names that it needs
 pub record IsAsked (call : Call) (v : QuestionsView) (a : AccessView) : Type 0 where
   pub wanted : Wanted
   pub asked : asked_of call v.inquiry ≡ Some wanted

@@ -1,6 +1,6 @@
 //! Laws of the questions of calls. The functions do nothing; their contracts are the laws.
 
-ghost use Rattle.call_questions.specs.Laws.{AskUnderNames, BeginFewSearches, FilesAnswer, HaveFewSteps, WriteUnderNames};
+ghost use Rattle.call_questions.specs.Laws.{AskUnderNames, FilesAnswer, HaveFewSteps, WriteUnderNames};
 
 /// A call asks for a record under that record's name, and whether an id was given out under the
 /// name of its queue.
@@ -14,7 +14,7 @@ pub fn what_stands_answers_a_question()
     ensures { FilesAnswer }
 {}
 
-/// A call that has asked all, and whose plan is not to do nothing, holds just the names that it
+/// A call that has asked all, and whose plan is not to do nothing, holds exactly the names that it
 /// needs; each name under which it inserts and writes it holds Exclusive.
 pub fn a_call_writes_under_names_that_it_holds()
     ensures { WriteUnderNames }
@@ -23,10 +23,4 @@ pub fn a_call_writes_under_names_that_it_holds()
 /// A call that has just begun has few steps left until it has asked all.
 pub fn questions_have_few_steps()
     ensures { HaveFewSteps }
-{}
-
-/// A call that has come so far by its own steps has begun at most as many searches as it asks
-/// questions: a Receive at most three.
-pub fn questions_begin_few_searches()
-    ensures { BeginFewSearches }
 {}

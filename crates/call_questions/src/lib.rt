@@ -9,8 +9,8 @@ mod question;
 mod questions;
 
 pub use laws::{
-    a_call_asks_under_its_names, a_call_writes_under_names_that_it_holds,
-    questions_begin_few_searches, questions_have_few_steps, what_stands_answers_a_question,
+    a_call_asks_under_its_names, a_call_writes_under_names_that_it_holds, questions_have_few_steps,
+    what_stands_answers_a_question,
 };
 pub use questions::Questions;
 pub use step_rules;

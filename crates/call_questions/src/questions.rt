@@ -180,7 +180,7 @@ impl Questions {
         }
     }
 
-    /// One step behind the call's last write: the name that was taken last is given back.
+    /// One step after the call's last write: the name that was taken last is given back.
     pub fn give_back(&mut self, locks: &mut LockTable, seat: u8) -> Progress<FileFault>
         requires seat { IsSeat locks.old seat }
         requires none { self.old.question ≡ None }

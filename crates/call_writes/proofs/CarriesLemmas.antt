@@ -39,7 +39,7 @@ full_can : (p : Plan) (standing : ℕ) (records : Records) → standing ≤ leng
     CanGoOn p (Trying standing) records → CanGoOn p (Full standing) records
 full_can p standing records few can = record { owed = can.owed; in_range = can.in_range; may = few }
 
--- that a trial has no room is due behind an access only where it was before
+-- that a trial has no room is due after an access only where it was before
 never_full : (p : Plan) (due : Due) (standing : ℕ) (b : Bool) → (due ≡ Full standing → ⊥) →
     (IsBehind p due (Full standing) → ⊥) → PaysDue p b due (Full standing) → ⊥
 never_full p due standing true other behind pays = behind pays
@@ -127,7 +127,7 @@ module _ (hash : RecordKey → ℕ) (seat : ℕ) (p : Plan) (did : Progress File
         (row_start hash seat names p old records pool locks change c did new pool' locks' s.a s.starts)
         (owned_start hash seat names p old records pool locks change c s.a d doing) c.stands fine
 
-    -- a call of which this is known is behind the step
+    -- a call of which this is known is after the step
     carries_to : (w : CallWrites) → AllKnown seat (world pool'.images locks' m.step.after) (writes_facts w) →
         WalksTo seat (access_turn s.a (store_of pool.images)).ask s.made (world pool.images locks change)
         (world pool'.images locks' m.step.after) (writes_facts w) →

@@ -126,7 +126,7 @@ module _ (p : Plan) (due due' : Due) (records : Records) (d : Deed) (small : IsS
 
 -- ---- one step
 
--- behind the step of the access these records stand, and it goes on over them
+-- after the step of the access these records stand, and it goes on over them
 pub record IsMade (hash : RecordKey → ℕ) (seat : ℕ) (names : List Lock) (p : Plan) (did : Progress FileFault)
     (a a' : AccessView) (due due' : Due) (records : Records) (pool pool' : PoolState) (locks locks' : Table)
     (change : Change) (d : Deed) : Type 0 where

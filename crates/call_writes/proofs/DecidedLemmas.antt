@@ -1,4 +1,4 @@
--- What is owed and can be carried out where a plan is begun, and behind the decision.
+-- What is owed and can be carried out where a plan is begun, and after the decision.
 use Rattle.std.proofs.Common.{◌≡◌, refl, sym, ap, ◌∙◌, ℕ, zero, suc, ◌+◌, List, [], ◌∷◌, ◌++◌, take, Option, Some, None, arith}
 use Rattle.std.specs.Prelude.{slice_get, option_map}
 use Rattle.std.proofs.lemmas.List.Elements.{All-nil}

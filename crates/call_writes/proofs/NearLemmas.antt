@@ -31,12 +31,12 @@ add_less l l' n less = omega (arith, less)
 one_off : (n m : ℕ) → n ≡ suc m → n - 1 ≡ m
 one_off n m is = omega (arith, is)
 
--- what is left of an access and of the deeds behind it
+-- what is left of an access and of the deeds after it
 abbrev left_of : (a : AccessView) (deeds : ℕ) (s : Store) → ℕ
 left_of a deeds s = access_left a s + deeds_behind (Some a) deeds * MOST_STEPS
 
 module _ (p : Plan) where
-  -- as many deeds are behind the access before and behind its step
+  -- as many deeds are after the access before and after its step
   same_behind : (due due' : Due) (records : Records) (d : Deed) (w b b' : Bool) → IsSmall p → CanGoOn p due records →
       (b ≡ false → next_deed p due ≡ Some d) → b' ≡ (if w then true else b) → PaysDue p (not b && b') due due' →
       (if b' then deeds_left p due' else deeds_left p due' - 1) ≡ (if b then deeds_left p due else deeds_left p due - 1)
@@ -103,7 +103,7 @@ module _ (hash : RecordKey → ℕ) (seat : ℕ) (p : Plan) (did : Progress File
     behind_same d doing = same_behind p old.due s.due' records d (is_write s.made) s.a.written s.a'.written c.small
         c.can doing.next s.step.aim.written s.pays
 
-    -- behind the step itself
+    -- after the step itself
     fewer : (d : Deed) → IsDoing hash names p old.due records d s.a →
         access_left s.a' (store_of pool'.images) < access_left s.a (store_of pool.images) →
         left_of s.a' (deeds_left p s.due') (store_of pool'.images)

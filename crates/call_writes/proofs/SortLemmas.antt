@@ -17,7 +17,7 @@ pub data StartsAs (hash : RecordKey → ℕ) (p : Plan) (old : CallWrites) (a : 
   Anew : (d : Deed) → old.access ≡ None → next_deed p old.due ≡ Some d → Serves (purpose_of d) (begun_deed hash d) →
       a ≡ begun_deed hash d → StartsAs hash p old a
 
--- behind its step it goes on, or is let go
+-- after its step it goes on, or is let go
 pub data EndsAs (made did : Progress FileFault) (due' : Due) (a' : AccessView) (new : CallWrites) : Type 0 where
   Goes : (HasEnded a'.operation → is_fault made ≡ true) → did ≡ made →
       new ≡ record { due = due'; access = Some a' } → EndsAs made did due' a' new

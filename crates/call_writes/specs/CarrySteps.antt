@@ -16,14 +16,14 @@ pub data Advances {F : Type 0} (p : Plan) (did : Progress F) (due due' : Due) : 
   IsPaid : did ≡ Moved WriteRecord → IsBehind p due due' → Advances p did due due'
 
 pub record KeepsPlan {F : Type 0} (p : Plan) (did : Progress F) (old new : CallWrites) : Type 0 where
-  -- it has ended just where nothing is left to do, and stays so
+  -- it has ended exactly where nothing is left to do, and stays so
   pub ended : (did ≡ Ended) ↔ IsOver p old
   pub rests : did ≡ Ended → new ≡ old
   pub due : Advances p did old.due new.due
 
 -- ---- on an honest device, in a sound world
 
--- the records behind a step: a WriteRecord makes of them what its deed says, and nothing else changes them
+-- the records after a step: a WriteRecord makes of them what its deed says, and nothing else changes them
 pub data Leaves (p : Plan) (due due' : Due) (records after : Records) : Type 0 where
   AsTheyWere : after ≡ records → Leaves p due due' records after
   AsMade : (d : Deed) → next_deed p due ≡ Some d → after ≡ after_deed d records → IsBehind p due due' →

@@ -1,27 +1,21 @@
--- What is due and owed where a plan is begun, decided and over, and how many steps it has.
-use Rattle.std.specs.Prelude.{ℕ, ◌≡◌, ◌≤◌, ◌*◌, ◌+◌, take, Some, None}
-use Rattle.xsi_inquiry.specs.declared.write.TheConstants.{MAX_WRITES}
+-- What is due and owed where a plan is begun, decided and over.
+use Rattle.std.specs.Prelude.{ℕ, ◌≡◌, ◌+◌, take, Some, None}
 use Rattle.xsi_inquiry.specs.Writing.{Leads, inserted}
-use Rattle.call_writes.specs.Words.{RecordKey, IsSmall, Plan, Records, Store, overlaid, MOST_STEPS, Deed, Due, Trying, Full, writes_of, Writes, Writing, undoing}
+use Rattle.call_writes.specs.Words.{RecordKey, Plan, Records, overlaid, Deed, Due, Trying, Full, writes_of, Writes, Writing, undoing}
 use Rattle.call_writes.specs.Dues.{CanGoOn, after_deed, owes, next_deed}
-use Rattle.call_writes.specs.Views.{decided_at, writes_left_in}
+use Rattle.call_writes.specs.Views.{decided_at}
 
--- once nothing is left to do behind the decision, nothing is owed
+-- once nothing is left to do after the decision, nothing is owed
 abbrev pub OwesNothingAtEnd : Type 0
 OwesNothingAtEnd = (p : Plan) (due : Due) (records : Records) (key : RecordKey) →
     next_deed p (decided_at due) ≡ None → CanGoOn p (decided_at due) records →
     overlaid (owes p (decided_at due)) records key ≡ records key
 
--- a call that has inserted nothing owes nothing, and behind its decision it owes its writes
+-- a call that has inserted nothing owes nothing, and after its decision it owes its writes
 abbrev pub OwesItsWrites : Type 0
 OwesItsWrites = (p : Plan) (records : Records) (key : RecordKey) →
     (overlaid (owes p (Trying 0)) records key ≡ records key)
     × (owes p (Writing 0) ≡ Writes (writes_of p))
-
--- at rest the steps left are few, whatever is due
-abbrev pub HasFewSteps : Type 0
-HasFewSteps = (p : Plan) (due : Due) (records : Records) (s : Store) → IsSmall p → CanGoOn p due records →
-    writes_left_in p (record { due = due; access = None }) s ≤ MAX_WRITES * MOST_STEPS
 
 -- ---- the decision
 
@@ -29,7 +23,7 @@ HasFewSteps = (p : Plan) (due : Due) (records : Records) (s : Store) → IsSmall
 abbrev pub CanBegin : Type 0
 CanBegin = (p : Plan) (old new : Records) → Leads p old new → CanGoOn p (Trying 0) old
 
--- where its trials stand, and behind the decision, over the records with them inserted; then it owes what leads to the
+-- where its trials stand, and after the decision, over the records with them inserted; then it owes what leads to the
 -- records that it is to lead to
 abbrev pub CanGoOnDecided : Type 0
 CanGoOnDecided = (p : Plan) (place : ℕ) (old new : Records) → Leads p old new →
@@ -42,7 +36,7 @@ GoesBack = (p : Plan) (standing : ℕ) (records : Records) → CanGoOn p (Full s
     CanGoOn p (decided_at (Full standing)) records
     × (owes p (decided_at (Full standing)) ≡ Writes (undoing (take standing p.trials)))
 
--- the trials come to stand one behind the other
+-- the trials come to stand one after the other
 abbrev pub OneMoreStands : Type 0
 OneMoreStands = (p : Plan) (place : ℕ) (d : Deed) (old : Records) → next_deed p (Trying place) ≡ Some d →
     after_deed d (inserted (take place p.trials) old) ≡ inserted (take (place + 1) p.trials) old

@@ -66,7 +66,7 @@ turn_under (Some a) s = access_turn a s
 abbrev pub writes_turn : (RecordKey → ℕ) → Plan → CallWrites → Store → Turn
 writes_turn hash p w s = turn_under (access_next hash p w) s
 
--- the deeds behind the access under way
+-- the deeds after the access under way
 abbrev pub deeds_behind : Option AccessView → ℕ → ℕ
 deeds_behind None deeds = deeds
 deeds_behind (Some a) deeds = if a.written then deeds else deeds - 1

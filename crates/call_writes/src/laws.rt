@@ -1,25 +1,15 @@
 //! The laws of plans that are carried out. The functions do nothing; their contracts are the laws.
 
-ghost use Rattle.std.specs.Prelude.{◌≡◌, ◌*◌};
-ghost use Rattle.record_access.specs.Words.{MOST_STEPS};
-ghost use Rattle.xsi_inquiry.specs.declared.write.TheConstants.{MAX_WRITES};
-ghost use Rattle.call_writes.specs.Laws.{AllStand, CanBegin, CanGoOnDecided, GoesBack, HasFewSteps, OneMoreStands, OwesItsWrites, OwesNothingAtEnd};
+ghost use Rattle.call_writes.specs.Laws.{AllStand, CanBegin, CanGoOnDecided, GoesBack, OneMoreStands, OwesItsWrites, OwesNothingAtEnd};
 
-/// A call that has inserted nothing owes nothing; behind its decision it owes its writes, and once
+/// A call that has inserted nothing owes nothing; after its decision it owes its writes, and once
 /// nothing is left to do it owes nothing.
 pub fn what_is_due_is_owed()
     ensures writes { OwesItsWrites }
     ensures end { OwesNothingAtEnd }
 {}
 
-/// What is due takes at most 977,123 steps, those that the accesses of seven deeds may have in the
-/// largest file.
-pub fn a_plan_has_few_steps()
-    ensures few { HasFewSteps }
-    ensures most { MAX_WRITES * MOST_STEPS ≡ 977123 }
-{}
-
-/// What a plan leads to can be carried out from its first trial on. Behind the decision, over the
+/// What a plan leads to can be carried out from its first trial on. After the decision, over the
 /// records with all trials inserted, its writes can be made and lead to those records; where a
 /// trial has no room, those that stand are owed back, and can go again.
 pub fn what_is_decided_is_owed()
@@ -28,7 +18,7 @@ pub fn what_is_decided_is_owed()
     ensures full { GoesBack }
 {}
 
-/// The trials come to stand one behind the other, and where none is left all of them stand.
+/// The trials come to stand one after the other, and where none is left all of them stand.
 pub fn trials_stand_in_order()
     ensures next { OneMoreStands }
     ensures last { AllStand }

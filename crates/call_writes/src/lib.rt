@@ -1,4 +1,4 @@
-//! What a call inserts on trial before its decision, and what it writes behind it, step by step.
+//! What a call inserts on trial before its decision, and what it writes after it, step by step.
 
 #![tactic(auto)]
 
@@ -11,8 +11,6 @@ mod writes;
 
 pub use deed::Deed;
 pub use due::Due;
-pub use laws::{
-    a_plan_has_few_steps, trials_stand_in_order, what_is_decided_is_owed, what_is_due_is_owed,
-};
+pub use laws::{trials_stand_in_order, what_is_decided_is_owed, what_is_due_is_owed};
 pub use plan::PlanOf;
 pub use writes::CallWrites;

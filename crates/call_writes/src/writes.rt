@@ -78,7 +78,7 @@ impl CallWrites {
     }
 
     /// One step. It has ended where nothing is left to do: all trials stand, or one has no room; or
-    /// behind the decision all is undone, or written.
+    /// after the decision all is undone, or written.
     pub fn step<D: PageDevice, K: PseudoKey>(
         &mut self,
         plan: &PlanOf<'_>,
@@ -167,7 +167,7 @@ impl CallWrites {
     }
 
     /// One step of the access under way. Where it writes, its deed is paid. One that has ended is
-    /// refused: it is still there only behind a fault, or where it has not written, which can't be
+    /// refused: it is still there only after a fault, or where it has not written, which can't be
     /// so of the records of a system.
     fn go_on<D: PageDevice, K: PseudoKey>(
         &mut self,

@@ -3,8 +3,10 @@
 #![tactic(auto)]
 
 #[cfg(test)]
+mod spoilt;
+#[cfg(test)]
 mod systems;
 #[cfg(test)]
-mod tests;
+mod two_buckets;
 #[cfg(test)]
 mod two_queues;

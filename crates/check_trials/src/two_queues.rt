@@ -4,7 +4,7 @@ ghost use Rattle.std.specs.Prelude.{◌≡◌};
 ghost use Rattle.bucket_page.specs.Changes.{IsBucketPage};
 ghost use Rattle.bucket_page.specs.Reading.{bucket_in};
 
-use crate::tests::payload_of;
+use crate::two_buckets::payload_of;
 use bucket_page::{BucketView, PageKind, RecordKey, put, read_page, remove};
 use page_device::Payload;
 use queue_records::{Body, Counter, KeyEntry, MessageEntry, QueueEntry, Record, TypeEntry, Value};
@@ -18,6 +18,17 @@ const LONG: [u8; 1024] = [7; 1024];
 pub(crate) struct Buckets {
     pub(crate) even: Payload,
     pub(crate) odd: Payload,
+}
+
+impl Buckets {
+    /// The payload of a page of the file.
+    pub(crate) fn payload_of(&self, page: u32) -> Payload {
+        match page {
+            257 => self.even,
+            258 => self.odd,
+            _ => payload_of(page),
+        }
+    }
 }
 
 /// The bucket of a payload that is one.

@@ -3,9 +3,8 @@
 use crate::file_tests::{changed, spoilt};
 use crate::run_tests::{FIRST, new_device};
 use crate::trial::{Screen, buffered, printed};
-use msgq_cli::{Ending, Report, new_file, new_on, read_script, report_file, report_on};
+use msgq_cli::{Ending, Report, new_file, new_on, report_file, report_on};
 use page_device::{FaultyDevice, MemDevice, PageDevice};
-use script_runs::run_on;
 use std::fs;
 use std::fs::{File, OpenOptions};
 use std::process::Abort;
@@ -29,29 +28,11 @@ fn tells<R: Abort + AllocGlobal, D: PageDevice + Drop>(
     Ok(device)
 }
 
-#[test]
-fn a_file_is_told_as_its_system(rt: HostRuntime) -> Result<(), Fail> {
-    let alloc = rt.alloc();
-    let device = new_device(alloc);
-    let device = tells(&rt, device, Report::Counts, "ok 0 0\n")?;
-    let device = tells(&rt, device, Report::Queues, "next 1\n")?;
-    let script = read_script(
-        alloc,
-        b"2 get 7 create\n1 snd 1 5 61\n1 get private create mode=600\n",
-    )?;
-    let mut output = buffered(alloc)?;
-    let device = run_on(alloc, device, &script, &mut output).0;
-    let device = tells(&rt, device, Report::Counts, "ok 2 1\n")?;
-    let wanted = "info 1 7 1 1 16384 1 0 2 0 1 0 0 0 0 666\n\
-        info 2 private 0 0 16384 0 0 0 0 3 0 0 0 0 600\nnext 3\n";
-    tells(&rt, device, Report::Queues, wanted)?;
-    Ok(())
-}
-
 /// A byte of a page changed, and the page sealed again: the first byte is its kind.
 #[test]
 fn what_is_wrong_is_told_by_its_number(rt: HostRuntime) -> Result<(), Fail> {
     let alloc = rt.alloc();
+    tells(&rt, new_device(alloc), Report::Queues, "next 1\n")?;
     for (page, place, byte, wanted) in [
         (0, 1, 1, "fault 42\n"),
         (0, 4, b'm', "fault 41\n"),

@@ -41,19 +41,29 @@ pub fn spoilt(device: &mut MemDevice, page: u32) -> Result<(), Fail> {
     Ok(())
 }
 
+/// No line of a script is run. The Counter of the last row counts a queue.
 #[test]
-fn a_file_of_another_form_is_not_opened(rt: HostRuntime) -> Result<(), Fail> {
+fn a_file_that_is_not_of_a_system_is_not_opened(rt: HostRuntime) -> Result<(), Fail> {
     let alloc = rt.alloc();
-    for (place, byte, wanted, fault) in [
-        (1, 1, "fault 42\n", StructureFault::BadVersion),
-        (1, 0, "fault 42\n", StructureFault::BadVersion),
-        (4, b'm', "fault 41\n", StructureFault::BadHeader),
-        (4000, 1, "fault 41\n", StructureFault::BadHeader),
+    let formless = broken(StructureFault::Malformed {
+        page: 257,
+        reason: Malformed::Kind,
+    });
+    let counter = Ending::Unopened(CheckFault::WrongCounter);
+    for (page, place, byte, wanted, ending) in [
+        (0, 1, 0, "fault 42\n", broken(StructureFault::BadVersion)),
+        (0, 4000, 1, "fault 41\n", broken(StructureFault::BadHeader)),
+        (257, 0, 9, "fault 40\n", formless),
+        (257, 38, 1, "fault 73\n", counter),
     ] {
         let mut device = new_device(alloc);
-        changed(&mut device, 0, place, byte)?;
-        prints(&rt, device, FIRST, wanted, broken(fault))?;
+        changed(&mut device, page, place, byte)?;
+        prints(&rt, device, FIRST, wanted, ending)?;
     }
+    let mut device = new_device(alloc);
+    spoilt(&mut device, 257)?;
+    let digest = broken(StructureFault::BadDigest { page: 257 });
+    prints(&rt, device, FIRST, "fault 21\n", digest)?;
     let empty = MemDevice::new(alloc);
     prints(
         &rt,
@@ -62,37 +72,6 @@ fn a_file_of_another_form_is_not_opened(rt: HostRuntime) -> Result<(), Fail> {
         "fault 22\n",
         broken(StructureFault::PastEnd),
     )?;
-    Ok(())
-}
-
-/// No line of a script is run.
-#[test]
-fn a_page_that_was_changed_is_told(rt: HostRuntime) -> Result<(), Fail> {
-    let alloc = rt.alloc();
-    for page in [0, 1, 257] {
-        let mut device = new_device(alloc);
-        spoilt(&mut device, page)?;
-        let ending = broken(StructureFault::BadDigest { page });
-        prints(&rt, device, FIRST, "fault 21\n", ending)?;
-    }
-    let formless = broken(StructureFault::Malformed {
-        page: 257,
-        reason: Malformed::Kind,
-    });
-    for (place, byte, wanted, ending) in [
-        (0, 9, "fault 40\n", formless),
-        // The Counter counts a queue.
-        (
-            38,
-            1,
-            "fault 73\n",
-            Ending::Unopened(CheckFault::WrongCounter),
-        ),
-    ] {
-        let mut device = new_device(alloc);
-        changed(&mut device, 257, place, byte)?;
-        prints(&rt, device, FIRST, wanted, ending)?;
-    }
     Ok(())
 }
 
@@ -193,24 +172,5 @@ fn what_the_system_does_not_open_is_told_why(rt: HostRuntime) -> Result<(), Fail
         rcv, stat, set, rm or stop\n";
     runs(&rt, "refused/none", "refused/wrong", "", wrong)?;
     fs::remove_dir_all(&rt, "refused")?;
-    Ok(())
-}
-
-#[test]
-fn a_file_that_is_cut_is_told_so(rt: HostRuntime) -> Result<(), Fail> {
-    let _ = fs::remove_dir_all(&rt, "cut");
-    fs::create_dir(&rt, "cut")?;
-    fs::write(&rt, "cut/first", FIRST)?;
-    makes(&rt, "cut/queues", "made 258\n", "")?;
-    let mut how = fs::OpenOptions::new();
-    how.write(true);
-    let cut = "msgq: cut/queues: it can't be opened: the file is cut\n";
-    let in_a_page = "msgq: cut/queues: it can't be opened: it is cut: it has fewer pages than its \
-        header says, or a part of one\n";
-    for (len, cut) in [(257 * 4096, cut), (257 * 4096 + 100, in_a_page), (0, cut)] {
-        how.open(&rt, "cut/queues")?.set_len(len)?;
-        runs(&rt, "cut/queues", "cut/first", "fault 22\n", cut)?;
-    }
-    fs::remove_dir_all(&rt, "cut")?;
     Ok(())
 }

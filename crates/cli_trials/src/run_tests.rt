@@ -1,6 +1,5 @@
-//! Scripts run on files in memory: transfers that fail, the room of a file, and its limits.
+//! Scripts run on files in memory: transfers that fail, several buckets, and the limits of a file.
 
-use crate::file_tests::changed;
 use crate::trial::{buffered, printed, unbuffered};
 use directory::LEAST_PAGES;
 use file_walk::StructureFault;
@@ -9,6 +8,7 @@ use msgq_cli::{Ending, Failure, Stage, new_on, read_script};
 use page_device::{FaultyDevice, MemDevice, PAGE_BYTES, PageDevice};
 use script_runs::run_on;
 use std::alloc::Global;
+use std::ops::RangeInclusive;
 use std::process::Abort;
 use std::test::Fail;
 
@@ -42,39 +42,11 @@ pub fn prints<R: Abort + AllocGlobal, D: PageDevice + Drop>(
     let alloc = rt.alloc();
     let script = read_script(alloc, text.as_bytes())?;
     let mut output = buffered(alloc)?;
-    let (device, ended) = run_on(alloc, device, &script, &mut output);
+    let ran = run_on(alloc, device, &script, &mut output);
     let told = String::from_utf8(printed(output))?;
     assert_eq!(rt; told.as_str(), wanted);
-    assert_eq!(rt; ended, ending);
-    Ok(device)
-}
-
-/// Page, place and byte: of a new file of 260 pages another page becomes the bucket of the odd
-/// pseudokeys. That of the Counter is even.
-const SPLIT: [(u32, usize, u8); 13] = [
-    (0, 2, 1),
-    (0, 19, 3),
-    (0, 23, 0),
-    (0, 27, 2),
-    (1, 22, 1),
-    (1, 23, 2),
-    (257, 1, 1),
-    (257, 10, 1),
-    (257, 11, 2),
-    (258, 0, 3),
-    (258, 1, 1),
-    (258, 6, 0),
-    (258, 7, 1),
-];
-
-#[test]
-fn a_file_of_two_buckets_is_run_on(rt: HostRuntime) -> Result<(), Fail> {
-    let mut device = device_of(rt.alloc(), 260);
-    for (page, place, byte) in SPLIT {
-        changed(&mut device, page, place, byte)?;
-    }
-    prints(&rt, device, FIRST, "1 id 1\n2 sent 1\n", Ending::Done)?;
-    Ok(())
+    assert_eq!(rt; ran.ending, ending);
+    Ok(ran.device)
 }
 
 /// How a run ends whose file is not closed well.
@@ -93,7 +65,7 @@ fn unclosed(fault: u8) -> Ending {
 fn each_transfer_fails_in_turn(rt: HostRuntime) -> Result<(), Fail> {
     let answers = "1 id 1\n2 sent 1\n";
     let and_fault = "1 id 1\n2 sent 1\nfault 20\n";
-    let in_a_line = "1 fault 20\n2 fault 62\nfault 62\n";
+    let in_a_line = "1 fault 62\n2 fault 62\nfault 62\n";
     let opening = Ending::Unopened(CheckFault::Structure(StructureFault::Device));
     for (nth, wanted, ending) in [
         (1, "fault 20\n", opening),
@@ -127,7 +99,7 @@ fn long_script(alloc: Global, last: &str) -> Result<String, Fail> {
 fn a_transfer_that_fails_in_a_line_leaves_the_file(rt: HostRuntime) -> Result<(), Fail> {
     let alloc = rt.alloc();
     let text = long_script(alloc, "1 stat 1")?;
-    let wanted = "1 id 1\n2 sent 1\n3 sent 2\n4 sent 3\n5 fault 20\n6 fault 62\nfault 62\n";
+    let wanted = "1 id 1\n2 sent 1\n3 sent 2\n4 sent 3\n5 fault 62\n6 fault 62\nfault 62\n";
     let device = FaultyDevice::new(device_of(alloc, 260), 266);
     let device = prints(&rt, device, text.as_str(), wanted, unclosed(62))?;
     prints(&rt, device, "1 get 7\n", "1 refused ENOENT\n", Ending::Done)?;
@@ -161,54 +133,34 @@ fn what_stands_in_several_buckets_is_read_again(rt: HostRuntime) -> Result<(), F
     Ok(())
 }
 
-/// Three messages of 1,024 bytes fill the smallest file. What is received or removed leaves its
-/// room, also when the file is opened again.
-#[test]
-fn what_is_gone_leaves_its_room(rt: HostRuntime) -> Result<(), Fail> {
-    let alloc = rt.alloc();
-    let long = "61".repeat(alloc, 1024)?;
-    let mut device = new_device(alloc);
-    for id in 1..=5 {
-        let send = format!(in alloc; "1 snd {id} 5 {long}\n")?;
-        let text = format!(in alloc;
-            "1 get 9 create\n{send}{send}{send}{send}1 rcv {id} 1024 0\n{send}1 rm {id}\n1 stat {id}\n"
-        )?;
-        let wanted = format!(in alloc;
-            "1 id {id}\n2 sent 1\n3 sent 2\n4 sent 3\n5 fault 50\n6 received 1 1 5 {long}\n\
-            7 sent 4\n8 done\n9 refused EIDRM\n"
-        )?;
-        device = prints(&rt, device, text.as_str(), wanted.as_str(), Ending::Faulty)?;
-    }
-    Ok(())
-}
-
-/// One queue more than 256 is refused, and one message more than 1,024 on one of them.
+/// One queue more than 256 is refused, until another is removed; and one message more than 1,024
+/// on a queue from which one was received before.
 #[test]
 fn there_are_256_queues_and_1024_messages_at_most(rt: HostRuntime) -> Result<(), Fail> {
     let alloc = rt.alloc();
     let gets = "1 get private\n".repeat(alloc, 257)?;
     let sends = "1 snd 1 1 - nowait\n".repeat(alloc, 1025)?;
-    let text = format!(in alloc; "{gets}{sends}")?;
+    let text = format!(in alloc; "{gets}1 snd 1 1 -\n1 rcv 1 0 0\n{sends}1 rm 1\n1 get private\n")?;
     let mut wanted = String::new(alloc);
-    push_answers(alloc, &mut wanted, 0, 256, "id")?;
-    wanted.push_str("257 refused ENOSPC\n")?;
-    push_answers(alloc, &mut wanted, 257, 1024, "sent")?;
-    wanted.push_str("1282 refused EAGAIN\n")?;
+    push_answers(alloc, &mut wanted, 0, 1..=256, "id")?;
+    wanted.push_str("257 refused ENOSPC\n258 sent 1\n259 received 1 1 1 -\n")?;
+    push_answers(alloc, &mut wanted, 258, 2..=1025, "sent")?;
+    wanted.push_str("1284 refused EAGAIN\n1285 done\n1286 id 257\n")?;
     let device = device_of(alloc, 352);
     prints(&rt, device, text.as_str(), wanted.as_str(), Ending::Done)?;
     Ok(())
 }
 
-/// The answers of so many lines behind this one, with numbers from 1 on.
+/// The answers of the lines that have these numbers, so many lines before them.
 fn push_answers(
     alloc: Global,
     text: &mut String,
-    line: u32,
-    many: u32,
+    before: u32,
+    numbers: RangeInclusive<u32>,
     word: &str,
 ) -> Result<(), Fail> {
-    for number in 1..=many {
-        let line = line.wrapping_add(number);
+    for number in numbers {
+        let line = before.wrapping_add(number);
         let answer = format!(in alloc; "{line} {word} {number}\n")?;
         text.push_str(answer.as_str())?;
     }

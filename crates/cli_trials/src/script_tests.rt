@@ -1,10 +1,8 @@
-//! Scripts and the lines of answers, typed from their grammar.
+//! Scripts, typed from their grammar.
 
-use crate::trial::{buffered, printed};
-use msgq_cli::{Command, Line, Reply, ScriptError, print_info, read_script};
+use msgq_cli::{Command, Line, ScriptError, read_script};
 use queue_model::{
-    Answer, Body, Call, Caller, Errno, GetArguments, Message, Permissions, QueueInfo,
-    ReceiveArguments, SendArguments, SetArguments,
+    Body, Call, Caller, GetArguments, ReceiveArguments, SendArguments, SetArguments,
 };
 use std::alloc::Global;
 use std::process::Abort;
@@ -70,11 +68,11 @@ ids 1 x 0
 fn is_wrong(rt: &impl Abort, alloc: Global, bytes: &[u8], line: u64) -> Result<(), ScriptError> {
     match read_script(alloc, bytes) {
         Err(ScriptError::NoMemory) => Err(ScriptError::NoMemory),
-        other => {
-            let named = other.err() == Some(ScriptError::WrongLine { line });
-            assert!(rt; named, "line {line}");
+        Err(ScriptError::WrongLine { line: named, .. }) => {
+            assert_eq!(rt; named, line);
             Ok(())
         }
+        Ok(_) => panic!(rt; "line {line}"),
     }
 }
 
@@ -212,96 +210,5 @@ fn an_empty_script_has_seat_1(rt: HostRuntime) -> Result<(), Fail> {
     script.keeps_seats();
     assert!(rt; script.lines().is_empty());
     assert_eq!(rt; script.greatest_seat(), 1);
-    Ok(())
-}
-
-/// Prints a reply, which has to be this.
-fn prints<R: Abort + AllocGlobal>(
-    rt: &R,
-    number: u64,
-    reply: Reply,
-    wanted: &str,
-) -> Result<(), Fail> {
-    let mut output = buffered(rt.alloc())?;
-    reply.print(number, &mut output);
-    assert!(rt; printed(output).as_slice() == wanted.as_bytes(), "{wanted}");
-    Ok(())
-}
-
-/// The answer to a Receive.
-fn received(serial: u64, mtype: i64, bytes: Vec<u8>) -> Reply {
-    Reply::Answered(Answer::Received(Message {
-        serial,
-        sender: 1,
-        mtype,
-        bytes: Body::new(bytes),
-    }))
-}
-
-#[test]
-fn each_reply_is_printed(rt: HostRuntime) -> Result<(), Fail> {
-    let alloc = rt.alloc();
-    prints(&rt, 5, Reply::Answered(Answer::Id(1)), "5 id 1\n")?;
-    let last = Answer::Sent(u64::MAX);
-    prints(
-        &rt,
-        6,
-        Reply::Answered(last),
-        "6 sent 18446744073709551615\n",
-    )?;
-    let message = received(1, 5, b"a".to_vec(alloc)?);
-    prints(&rt, 3, message, "3 received 1 1 5 61\n")?;
-    let emptied = received(2, i64::MAX, Vec::new(alloc));
-    prints(&rt, 4, emptied, "4 received 2 1 9223372036854775807 -\n")?;
-    prints(&rt, 12, Reply::Answered(Answer::Done), "12 done\n")?;
-    let refused = Answer::Refused(Errno::EACCES);
-    prints(&rt, 9, Reply::Answered(refused), "9 refused EACCES\n")?;
-    prints(&rt, 16, Reply::Stopped, "16 done\n")?;
-    prints(&rt, 5, Reply::Failed(50), "5 fault 50\n")
-}
-
-/// The state of a queue.
-const INFO: QueueInfo = QueueInfo {
-    id: 1,
-    key: Some(7),
-    qnum: 2,
-    cbytes: 2,
-    qbytes: 30_000,
-    lspid: 2,
-    lrpid: 2,
-    stime: 16,
-    rtime: 7,
-    ctime: 14,
-    permissions: Permissions {
-        uid: 200,
-        gid: 10,
-        cuid: 100,
-        cgid: 10,
-        mode: 0o600,
-    },
-};
-
-#[test]
-fn the_state_of_a_queue_is_printed(rt: HostRuntime) -> Result<(), Fail> {
-    let wanted = "17 info 1 7 2 2 30000 2 2 16 7 14 200 10 100 10 600\n";
-    prints(&rt, 17, Reply::Answered(Answer::Info(INFO)), wanted)?;
-    let root = Permissions {
-        uid: 0,
-        gid: 0,
-        cuid: 0,
-        cgid: 0,
-        mode: 0o006,
-    };
-    let private = QueueInfo {
-        key: None,
-        permissions: root,
-        ..INFO
-    };
-    let wanted = "18 info 1 private 2 2 30000 2 2 16 7 14 0 0 0 0 006\n";
-    prints(&rt, 18, Reply::Answered(Answer::Info(private)), wanted)?;
-    let mut output = buffered(rt.alloc())?;
-    print_info(&INFO, &mut output);
-    let wanted = b"info 1 7 2 2 30000 2 2 16 7 14 200 10 100 10 600\n".as_slice();
-    assert!(rt; printed(output).as_slice() == wanted);
     Ok(())
 }

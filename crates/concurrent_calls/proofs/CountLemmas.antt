@@ -1,4 +1,4 @@
--- The file's Counter behind a step of a call beside others.
+-- The file's Counter after a step of a call beside others.
 use Rattle.std.proofs.Common.{ℕ, ◌≡◌, ◌⊎◌, ◌+◌, inl, inr, refl, ap, Option, Some, None, arith}
 use Rattle.page_locks.specs.declared.lock.LockKind.{LockKind}
 use Rattle.page_locks.specs.declared.lock.LockKind.TheVariants.{Read, Selective, Exclusive}

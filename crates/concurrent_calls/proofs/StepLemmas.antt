@@ -37,7 +37,7 @@ some_of is = subst IsSome (sym is) refl
 
 -- ---- the seat that makes the step
 
--- behind its own step it asks on where under its names there stand the records of the system
+-- after its own step it asks on where under its names there stand the records of the system
 module _ (hash : RecordKey → ℕ) (seat : ℕ) (call : Call) (s : State) (u : UndecidedCall) (records : Records)
     (pool : PoolState) (locks : Table) (change : Change) (filed : IsFiled s)
     (stands : (key : RecordKey) → StandsAt (store_of pool.images) key (records key))
@@ -171,7 +171,7 @@ module _ (hash : RecordKey → ℕ) (seat : ℕ) (s : State) (stopped : Bool) (d
       held locks i (guard_of key) ≡ Some Exclusive
   their_hold i key owes = owes_held hash s t.records pool locks t.change i (seats i) (t.rows i) (t.calls i) key owes
 
-  -- where it holds a name behind the step no other seat owes the record
+  -- where it holds a name after the step no other seat owes the record
   pub none_owed : (i : ℕ) → i ≢ seat → (key : RecordKey) → IsSome (kind_of (names_of new) (guard_of key)) →
       owes_at (owes_of (seats i)) key ≡ false
   none_owed i apart key mine = by (owes_at (owes_of (seats i)) key) refl

@@ -56,7 +56,7 @@ pub record LeadTogether (hash : RecordKey → ℕ) (seat : ℕ) (did : Progress 
   pub after : State
   pub leads : LeadsBy (conclusion_of old) (conclusion_of new) old.caller old.call new.undecided.questions.room.bytes
       s after
-  -- it is stopped just where it was
+  -- it is stopped exactly where it was
   pub mark : after.stopped ≡ s.stopped
   pub together : AreTogether hash after seats pool locks
   -- it is one of the rules, by which a search of the call goes on its way

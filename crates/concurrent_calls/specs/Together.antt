@@ -65,7 +65,7 @@ pub record AreTogether (hash : RecordKey → ℕ) (s : State) (seats : Seats) (p
   -- the records of the file
   pub records : Records
   pub stands : (key : RecordKey) → StandsAt (store_of pool.images) key (records key)
-  -- each seat holds just the locks of its call, which is right at its place
+  -- each seat holds exactly the locks of its call, which is right at its place
   pub rows : (seat : ℕ) → row_of locks seat ≡ locks_of (seats seat)
   pub calls : (seat : ℕ) → IsWell hash seat s (seats seat) records pool locks change
   -- where no other seat owes a record, there stands that of the system once this seat has paid

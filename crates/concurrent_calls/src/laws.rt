@@ -39,7 +39,7 @@ pub fn calls_owe_apart()
 {}
 
 /// Once no seat has a call the file is at rest with the system that they have come to: it holds
-/// just its records.
+/// exactly its records.
 pub fn calls_leave_the_file_at_rest()
     ensures { LeaveAtRest }
 {}

@@ -1,5 +1,6 @@
 pub mod Entries
 pub mod Fault
+pub mod Layouts
 pub mod Pages
 pub mod Reading
 pub mod Spelling

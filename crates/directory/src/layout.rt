@@ -1,8 +1,14 @@
 //! Where the pages of a file and their fields stand (docs/FORMAT.md, "Pages").
 
+ghost use Rattle.std.specs.Prelude.{◌≡◌};
+ghost use Rattle.directory.specs.declared.layout.TheConstants.{LAYOUT, OLDER_LAYOUT};
+ghost use Rattle.directory.specs.Layouts.{IsLayout, header_size, least_pages};
+
 /// The numbers in which the layouts of files differ.
 #[derive(Clone, Copy, Debug, PartialEq, Eq)]
 pub struct Layout {
+    /// The second byte of the header: the version of the format.
+    pub version: u8,
     /// The greatest depth of the directory, and the greatest local depth of a bucket.
     pub greatest_depth: u8,
     /// Local depths of buckets, of each of which the header has a count.
@@ -15,11 +21,45 @@ pub struct Layout {
 
 /// The layout of this version. Each number below that differs between layouts is of it.
 pub const LAYOUT: Layout = Layout {
+    version: 2,
     greatest_depth: 17,
     local_depths: 18,
     directory_pages: 256,
     root_page: 257,
 };
+
+/// The layout of version 1, which is only read.
+pub const OLDER_LAYOUT: Layout = Layout {
+    version: 1,
+    greatest_depth: 14,
+    local_depths: 15,
+    directory_pages: 32,
+    root_page: 33,
+};
+
+impl Layout {
+    /// Pages of the shortest file: up to the root bucket, with it.
+    pub fn least_pages(&self) -> u32
+        requires { IsLayout self.now }
+        ensures { result ≡ least_pages self.now }
+    {
+        self.root_page + 1
+    }
+
+    /// Bytes of the header up to its last count, with it.
+    pub fn header_size(&self) -> usize
+        requires { IsLayout self.now }
+        ensures { result ≡ header_size self.now }
+    {
+        COUNTS_BEGIN + 4 * self.local_depths
+    }
+}
+
+/// Both layouts are right ones.
+pub fn layouts_are_right()
+    ensures today { IsLayout LAYOUT }
+    ensures older { IsLayout OLDER_LAYOUT }
+{}
 
 /// The greatest depth of the directory, and the greatest local depth of a bucket.
 pub const GREATEST_DEPTH: u8 = LAYOUT.greatest_depth;
@@ -43,7 +83,7 @@ pub const LEAST_PAGES: u32 = LAYOUT.root_page + 1;
 pub const HEADER: u8 = 1;
 
 /// The second byte of the header: the version of the format.
-pub const VERSION: u8 = 2;
+pub const VERSION: u8 = LAYOUT.version;
 
 /// What the header has from its fifth byte on.
 pub const MAGIC: [u8; 8] = *b"MSGQFILE";

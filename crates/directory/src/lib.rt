@@ -16,11 +16,11 @@ pub use fields;
 pub use header::Header;
 pub use layout::{
     DIRECTORY, DIRECTORY_PAGES, FIRST_DIRECTORY_PAGE, GREATEST_DEPTH, HEAD_BYTES, HEADER, LAYOUT,
-    LEAST_PAGES, LOCAL_DEPTHS, Layout, PAGE_ENTRIES, ROOT_PAGE,
+    LEAST_PAGES, LOCAL_DEPTHS, Layout, OLDER_LAYOUT, PAGE_ENTRIES, ROOT_PAGE, layouts_are_right,
 };
 pub use page::{DirectoryView, directory_of, read_entries, write_directory};
 pub use page_device;
 pub use page_device::faults;
 pub use positions;
-pub use read::{HeaderFault, depth_of, header_of, read_header};
+pub use read::{HeaderFault, depth_of, header_of, read_header, read_header_in};
 pub use write::write_header;

@@ -4,12 +4,13 @@ ghost use Rattle.std.specs.Prelude.{◌≡◌, IfOk, Ok, length};
 ghost use Rattle.page_device.specs.declared.page.TheConstants.{PAYLOAD_BYTES};
 ghost use Rattle.directory.specs.Fault.{number_of};
 ghost use Rattle.fields.specs.Numbers.{numbers_of};
-ghost use Rattle.directory.specs.Reading.{counts_at, header_at, has_layout, has_magic, has_padding, has_range, reading};
-ghost use Rattle.directory.specs.Spelling.{Spells};
+ghost use Rattle.directory.specs.Layouts.{IsLayout};
+ghost use Rattle.directory.specs.Reading.{counts_at, header_at, has_layout, has_magic, has_padding, has_range, reading, reading_in};
+ghost use Rattle.directory.specs.Spelling.{Spells, SpellsIn};
 
 use crate::header::Header;
 use crate::layout::{
-    COUNTS_BEGIN, GREATEST_DEPTH, HEADER, HEADER_BYTES, LEAST_PAGES, LOCAL_DEPTHS, MAGIC, VERSION,
+    COUNTS_BEGIN, HEADER, HEADER_BYTES, LAYOUT, LOCAL_DEPTHS, Layout, MAGIC, layouts_are_right,
 };
 use fields::{four_at, is_zero, read_numbers};
 use page_device::{MAX_PAGES, Payload, faults};
@@ -48,7 +49,21 @@ pub fn read_header(payload: &Payload) -> Result<Header, HeaderFault>
     ensures ok { IfOk result (λ header. Spells header payload.now) }
     ensures only { (header : Header) → Spells header payload.now → result ≡ Ok header }
 {
-    read(payload)
+    layouts_are_right();
+    read_header_in(&LAYOUT, payload)
+}
+
+/// The header that a payload spells in a layout; accepted exactly where it is the one spelling
+/// there. Counts of local depths that the layout lacks read as 0.
+pub fn read_header_in(layout: &Layout, payload: &Payload) -> Result<Header, HeaderFault>
+    requires { IsLayout layout.now }
+    // The first test that fails names the refusal.
+    ensures value { result ≡ reading_in layout.now payload.now }
+    // What is read is spelled so, and what is spelled so is read.
+    ensures ok { IfOk result (λ header. SpellsIn layout.now header payload.now) }
+    ensures only { (header : Header) → SpellsIn layout.now header payload.now → result ≡ Ok header }
+{
+    read(layout, payload)
 }
 
 /// The header of a payload that is known to spell one. Nothing is tested again.
@@ -77,17 +92,18 @@ fn header_in(bytes: &[u8]) -> Header
     }
 }
 
-fn read(bytes: &[u8]) -> Result<Header, HeaderFault>
-    requires { length bytes.now ≡ PAYLOAD_BYTES }
-    ensures { result ≡ reading bytes.now }
+fn read(layout: &Layout, bytes: &[u8]) -> Result<Header, HeaderFault>
+    requires layout { IsLayout layout.now }
+    requires whole { length bytes.now ≡ PAYLOAD_BYTES }
+    ensures { result ≡ reading_in layout.now bytes.now }
 {
     if bytes[0] != HEADER || !has_magic(bytes) {
         return Err(HeaderFault::BadHeader);
     }
-    if bytes[1] != VERSION {
+    if bytes[1] != layout.version {
         return Err(HeaderFault::BadVersion);
     }
-    if !has_layout(bytes) {
+    if !has_layout(layout, bytes) {
         return Err(HeaderFault::BadHeader);
     }
     Ok(header_in(bytes))
@@ -104,26 +120,29 @@ fn has_magic(bytes: &[u8]) -> bool
 
 /// Whether the numbers are in range, and each byte that no field names is zero.
 #[tactic(auto, unfolding(crate::specs::Reading::has_layout))]
-fn has_layout(bytes: &[u8]) -> bool
-    requires { length bytes.now ≡ PAYLOAD_BYTES }
-    ensures { result ≡ has_layout bytes.now }
+fn has_layout(layout: &Layout, bytes: &[u8]) -> bool
+    requires layout { IsLayout layout.now }
+    requires whole { length bytes.now ≡ PAYLOAD_BYTES }
+    ensures { result ≡ has_layout layout.now bytes.now }
 {
-    has_range(bytes) && has_padding(bytes)
+    has_range(layout, bytes) && has_padding(layout, bytes)
 }
 
-fn has_range(bytes: &[u8]) -> bool
-    requires { length bytes.now ≡ PAYLOAD_BYTES }
-    ensures { result ≡ has_range bytes.now }
+fn has_range(layout: &Layout, bytes: &[u8]) -> bool
+    requires layout { IsLayout layout.now }
+    requires whole { length bytes.now ≡ PAYLOAD_BYTES }
+    ensures { result ≡ has_range layout.now bytes.now }
 {
     let pages = four_at(bytes, 12);
-    bytes[2] <= GREATEST_DEPTH && LEAST_PAGES <= pages && pages <= MAX_PAGES
+    bytes[2] <= layout.greatest_depth && layout.least_pages() <= pages && pages <= MAX_PAGES
 }
 
-fn has_padding(bytes: &[u8]) -> bool
-    requires { length bytes.now ≡ PAYLOAD_BYTES }
-    ensures { result ≡ has_padding bytes.now }
+fn has_padding(layout: &Layout, bytes: &[u8]) -> bool
+    requires layout { IsLayout layout.now }
+    requires whole { length bytes.now ≡ PAYLOAD_BYTES }
+    ensures { result ≡ has_padding layout.now bytes.now }
 {
-    let (_, rest) = bytes.split_at(HEADER_BYTES);
+    let (_, rest) = bytes.split_at(layout.header_size());
     bytes[3] == 0 && is_zero(rest)
 }
 

@@ -40,8 +40,14 @@ pub const NO_ROOM: u8 = 50;
 /// A growth was refused.
 pub const NO_MEMORY: u8 = 60;
 
+/// As many calls were decided as one session may decide.
+pub const SESSION_FULL: u8 = 61;
+
 /// A file is broken, or holds the records of no system.
 pub const FAILED: u8 = 62;
+
+/// A seat has a call under way.
+pub const BUSY: u8 = 63;
 
 /// The chain of a file is broken.
 pub const CHAIN_BROKEN: u8 = 70;

@@ -1,4 +1,4 @@
--- Numbers of four bytes, one behind the other: read from their bytes, spelled by them, and one of them written.
+-- Numbers of four bytes, one after the other: read from their bytes, spelled by them, and one of them written.
 use Rattle.std.proofs.Common.{◌≡◌, ℕ, zero, suc, ◌+◌, ◌*◌, ◌<◌, ◌^◌, List, [], ◌∷◌, ◌++◌, length, drop, get_or, slice_index, slice_set, refl, sym, ap, ◌∙◌, arith}
 use Rattle.std.specs.List.{AllByRecursion}
 use Rattle.std.proofs.lemmas.List.{drop_at, drop-drop, length-append, length-drop, nil_from_length}

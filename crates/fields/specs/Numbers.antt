@@ -24,7 +24,7 @@ four_at at bytes = big_number 4 (drop at bytes)
 unfoldable pub eight_at : ℕ → List ℕ → ℕ
 eight_at at bytes = big_number 8 (drop at bytes)
 
--- the bytes of numbers, one behind the other
+-- the bytes of numbers, one after the other
 abbrev pub numbers_bytes : List ℕ → List ℕ
 numbers_bytes ns = flat_map four ns
 

@@ -42,17 +42,6 @@ pub fn set_bytes(bytes: &mut [u8], at: usize, new: &[u8])
     bytes[at..at + new.len()].copy_from_slice(new);
 }
 
-/// Writes a number into the two bytes from `at` on.
-#[tactic(auto, unfolding(crate::specs::Numbers::two))]
-pub fn set_two(bytes: &mut [u8], at: usize, number: u16)
-    requires { at + 2 ≤ length bytes.old }
-    ensures { bytes.new ≡ overwritten bytes.old at (two number) }
-{
-    let mut new = [0; 2];
-    BigEndian::write_u16(&mut new, number);
-    set_bytes(bytes, at, &new);
-}
-
 /// Writes a number into the four bytes from `at` on.
 #[tactic(auto, unfolding(crate::specs::Numbers::four))]
 pub fn set_four(bytes: &mut [u8], at: usize, number: u32)
@@ -91,7 +80,7 @@ pub fn write_eight(bytes: &mut [u8], number: u64)
     BigEndian::write_u64(bytes, number);
 }
 
-/// Writes numbers of four bytes each, one behind the other.
+/// Writes numbers of four bytes each, one after the other.
 #[tactic(auto, unfolding(crate::specs::Numbers::four))]
 pub fn write_numbers(bytes: &mut [u8], numbers: &[u32])
     requires { length bytes.old ≡ 4 * length numbers.now }
@@ -100,7 +89,7 @@ pub fn write_numbers(bytes: &mut [u8], numbers: &[u32])
     BigEndian::write_u32_into(numbers, bytes);
 }
 
-/// Reads numbers of four bytes each, one behind the other.
+/// Reads numbers of four bytes each, one after the other.
 pub fn read_numbers(bytes: &[u8], numbers: &mut [u32])
     requires { length bytes.now ≡ 4 * length numbers.old }
     ensures { numbers.new ≡ numbers_of (length numbers.old) bytes.now }

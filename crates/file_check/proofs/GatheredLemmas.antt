@@ -1,4 +1,4 @@
--- Where the pages of a right file hold just the records of a lawful system, the file is that system's.
+-- Where the pages of a right file hold exactly the records of a lawful system, the file is that system's.
 use Rattle.std.proofs.Common.{ℕ, suc, option_map, ◌≡◌, ◌<◌, ◌+◌, ◌≤◌, nat_lt, Bool, true, false, List, [], ◌∷◌, ◌++◌, length, map, take, Option, Some, None, IfSome, refl, sym, ap, subst, ◌∙◌, arith}
 use Rattle.std.specs.List.{All, AllPairs, Contains, find, flat_map}
 use Rattle.std.specs.Prelude.{◌≢◌, option_to_list, slice_index, slice_index_or}
@@ -13,50 +13,56 @@ use Rattle.queue_records.specs.declared.record.Record.TheVariants as records
 use Rattle.file_check.proofs.Names.{all_of, AreLinksOf, contains_head, contains_tail, contents_are_pairs, counter_of, find-Some, has_id, HasContents, HasSystem, Holds, image, image_agrees, in_flat_map, in_map, IsQuietFile, IsSystemOf, key_entry, key_of_queue, key_records, message_records, one_system, Queue, queue_entry, queue_records, QueueLinks, Quiet, record_of, type_records}
 use Rattle.file_check.specs.Gathered.{AreCounted, AreJustOf, AreLinksOfAll, IsOf}
 use Rattle.file_check.specs.Strays.{AreNeeded, AreNeededOn, IsNeeded}
-use Rattle.file_check.specs.Words.{Pair, Record, RecordKey, Spells, State, Store, contents, pair, pairs_on, records_at}
+use Rattle.file_check.specs.Words.{Layout, Pair, Record, RecordKey, Spells, SpellsIn, State, Store, contents, held_in, pair, pairs_on, records_at}
+use Rattle.file_records.proofs.VersionLemmas.{held_some, some_held}
+use Rattle.file_records.specs.Versions.{today_in}
 use Rattle.file_check.proofs.CountLemmas.{count_more, named_each}
 use Rattle.file_check.proofs.RecordLemmas.{AreTestedTo, tested_all}
 
-module _ (hash : RecordKey → ℕ) (st : Store) (ns : List ℕ) (quiet : IsQuietFile hash st ns) where
+module _ (l : Layout) (hash : RecordKey → ℕ) (st : Store) (ns : List ℕ) (quiet : IsQuietFile hash st ns) where
   stand : HasContents st
   stand = contents_are_pairs hash st Quiet quiet.sound
 
   -- no record has the keys of two
-  apart : AllPairs (λ (p q : Pair). (r : Record) → Spells r p.key p.value → Spells r q.key q.value → ⊥) (pairs_on st ns)
-  apart = subst (λ (ms : List ℕ). AllPairs (λ (p q : Pair). (r : Record) → Spells r p.key p.value →
-      Spells r q.key q.value → ⊥) (pairs_on st ms)) quiet.chained
+  apart : AllPairs (λ (p q : Pair). (r : Record) → SpellsIn l r p.key p.value → SpellsIn l r q.key q.value → ⊥)
+      (pairs_on st ns)
+  apart = subst (λ (ms : List ℕ). AllPairs (λ (p q : Pair). (r : Record) → SpellsIn l r p.key p.value →
+      SpellsIn l r q.key q.value → ⊥) (pairs_on st ms)) quiet.chained
       (λ i j d before within r first second.
       stand.distinct i j d before within (first.keyed ∙ sym second.keyed))
 
-  module _ (s : State) (just : AreJustOf st ns s) where
-    each_of : (p : Pair) → Contains (pairs_on st ns) p → IsOf s p
-    each_of p on = All-contains (IsOf s) (pairs_on st ns) p just.each on
+  module _ (s : State) (just : AreJustOf l st ns s) where
+    each_of : (p : Pair) → Contains (pairs_on st ns) p → IsOf l s p
+    each_of p on = All-contains (IsOf l s) (pairs_on st ns) p just.each on
 
-    holds : (r : Record) → Contains (image s) r → Holds (contents st) r
+    holds : (r : Record) → Contains (image s) r → Holds (held_in l st) r
     holds r on =
         let many = just.many in
-        let (p, there, named) = named_each (λ (x : Record) (q : Pair). Spells x q.key q.value)
+        let (p, there, named) = named_each (λ (x : Record) (q : Pair). SpellsIn l x q.key q.value)
         (pairs_on st ns) (image s) apart each_of (omega (arith, many)) r on in
         let found : contents st p.key ≡ Some p.value =
         (stand.pairs p.key p.value).1
         (subst (λ (ms : List ℕ). Contains (pairs_on st ms) p) (sym quiet.chained) there) in
+        let value : List ℕ = today_in l p.key p.value in
         record {
-          value = p.value;
-          found = subst (λ (k : RecordKey). contents st k ≡ Some p.value) named.keyed found;
-          spelled = subst (λ (k : RecordKey). Spells r k p.value) named.keyed named;
+          value = value;
+          found = subst (λ (k : RecordKey). held_in l st k ≡ Some value) named.keyed
+              (held_some l st p.key p.value found);
+          spelled = subst (λ (k : RecordKey). Spells r k value) named.keyed named;
         }
 
     -- what is held is a record of the system
-    is_of : (key : RecordKey) (value : List ℕ) → contents st key ≡ Some value →
+    is_of : (key : RecordKey) (value : List ℕ) → held_in l st key ≡ Some value →
         (r : Record) × (record_of s key ≡ Some r)
     is_of key value found =
-        let on = subst (λ (ms : List ℕ). Contains (pairs_on st ms) (pair key value)) quiet.chained
-        ((stand.pairs key value).0 found) in
-        let (r, there, spelled) = each_of (pair key value) on in
+        let raw = some_held l st key value found in
+        let on = subst (λ (ms : List ℕ). Contains (pairs_on st ms) (pair key raw.0)) quiet.chained
+        ((stand.pairs key raw.0).0 raw.1) in
+        let (r, there, spelled) = each_of (pair key raw.0) on in
         (r, (image_agrees s just.lawful key r).1 (there, sym spelled.keyed))
 
-    has_id_of : (id : ℕ) → contents st (key_of_queue id) ≢ None → Contains (map (λ (q : Queue). q.id) s.queues) id
-    has_id_of id some = by_held (contents st (key_of_queue id)) refl
+    has_id_of : (id : ℕ) → held_in l st (key_of_queue id) ≢ None → Contains (map (λ (q : Queue). q.id) s.queues) id
+    has_id_of id some = by_held (held_in l st (key_of_queue id)) refl
       where
         by_found : (r : Record) (o : Option Queue) → find (has_id id) s.queues ≡ o →
             record_of s (key_of_queue id) ≡ Some r → Contains (map (λ (q : Queue). q.id) s.queues) id
@@ -69,25 +75,25 @@ module _ (hash : RecordKey → ℕ) (st : Store) (ns : List ℕ) (quiet : IsQuie
             subst (Contains (map (λ (q : Queue). q.id) s.queues)) ((Decides-eqb q.id id).0 found.0)
             (in_map (λ (q : Queue). q.id) s.queues q found.1)
 
-        by_held : (o : Option (List ℕ)) → contents st (key_of_queue id) ≡ o →
+        by_held : (o : Option (List ℕ)) → held_in l st (key_of_queue id) ≡ o →
             Contains (map (λ (q : Queue). q.id) s.queues) id
         by_held None e = absurd (some e)
         by_held (Some value) e =
             let (r, at) = is_of (key_of_queue id) value e in
             by_found r (find (has_id id) s.queues) refl at
 
-    has_system : HasSystem (contents st) s
+    has_system : HasSystem (held_in l st) s
     has_system = record {
       lawful = just.lawful;
       running = just.running;
-      stand = all_of (Holds (contents st)) (image s) holds;
+      stand = all_of (Holds (held_in l st)) (image s) holds;
       queues = has_id_of;
     }
 
-    pub is_system : IsSystemOf (contents st) s
+    pub is_system : IsSystemOf (held_in l st) s
     is_system = record {
       has = has_system;
-      only = λ other has. one_system (contents st) s has_system other has;
+      only = λ other has. one_system (held_in l st) s has_system other has;
     }
 
     pub are_needed : AreNeeded s st ns
@@ -130,16 +136,16 @@ sent q r on =
 
 -- ---- records are counted
 
-pub counted_all : (s : State) (ps left : List Pair) (n : ℕ) → AreTestedTo (IsOf s) ps left →
-    n + length left ≡ length ps → left ≡ [] → AreCounted s ps n
-counted_all s ps left n tested sum ended = record {
-  each = tested_all (IsOf s) ps left tested ended;
+pub counted_all : (l : Layout) (s : State) (ps left : List Pair) (n : ℕ) → AreTestedTo (IsOf l s) ps left →
+    n + length left ≡ length ps → left ≡ [] → AreCounted l s ps n
+counted_all l s ps left n tested sum ended = record {
+  each = tested_all (IsOf l s) ps left tested ended;
   number = (let none : length left ≡ 0 = ap (λ (xs : List Pair). length xs) ended in omega (arith, sum, none));
 }
 
-module _ (s : State) (st : Store) (ns : List ℕ) where
-  pub counted_more : (i n m : ℕ) → i < length ns → AreCounted s (pairs_on st (take i ns)) n →
-      AreCounted s (records_at st (slice_index ns i)) m → AreCounted s (pairs_on st (take (i + 1) ns)) (n + m)
+module _ (l : Layout) (s : State) (st : Store) (ns : List ℕ) where
+  pub counted_more : (i n m : ℕ) → i < length ns → AreCounted l s (pairs_on st (take i ns)) n →
+      AreCounted l s (records_at st (slice_index ns i)) m → AreCounted l s (pairs_on st (take (i + 1) ns)) (n + m)
   counted_more i n m within before here =
       let one : i + 1 ≡ suc i = omega arith in
       let page : ℕ = slice_index ns i in
@@ -150,15 +156,15 @@ module _ (s : State) (st : Store) (ns : List ℕ) where
       let first = before.number in
       let second = here.number in
       record {
-        each = subst (All (IsOf s)) (sym more)
-            (All-append (IsOf s) (pairs_on st (take i ns)) (pairs_on st (page ∷ [])) before.each
-            (All-append (IsOf s) (records_at st page) [] here.each (λ k d none. absurd (omega (arith, none)))));
+        each = subst (All (IsOf l s)) (sym more)
+            (All-append (IsOf l s) (pairs_on st (take i ns)) (pairs_on st (page ∷ [])) before.each
+            (All-append (IsOf l s) (records_at st page) [] here.each (λ k d none. absurd (omega (arith, none)))));
         number = omega (arith, longer, first, second);
       }
 
-  pub counted_end : (i n : ℕ) → length ns ≤ i → AreCounted s (pairs_on st (take i ns)) n →
-      AreCounted s (pairs_on st ns) n
-  counted_end i n ended so = subst (λ (ms : List ℕ). AreCounted s (pairs_on st ms) n) (take_all i ns ended) so
+  pub counted_end : (i n : ℕ) → length ns ≤ i → AreCounted l s (pairs_on st (take i ns)) n →
+      AreCounted l s (pairs_on st ns) n
+  counted_end i n ended so = subst (λ (ms : List ℕ). AreCounted l s (pairs_on st ms) n) (take_all i ns ended) so
 
 -- ---- the links of all queues
 

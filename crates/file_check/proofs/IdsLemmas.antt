@@ -1,4 +1,4 @@
--- Which ids stand among records, and that a file has the Queues of just these.
+-- Which ids stand among records, and that a file has the Queues of exactly these.
 use Rattle.std.proofs.Common.{ℕ, suc, ◌≡◌, ◌+◌, ◌<◌, ◌≤◌, Bool, true, false, List, [], ◌∷◌, ◌++◌, length, take, Some, None, Option, ◌⊎◌, if◌then◌else◌, inl, inr, refl, sym, ap, subst, ◌∙◌, arith}
 use Rattle.std.specs.Ordering.{nat_cmp}
 use Rattle.std.specs.Prelude.{◌≢◌, nat_eq, slice_index}
@@ -19,7 +19,8 @@ use Rattle.queue_records.specs.Keys.{key_of_queue}
 use Rattle.record_walk.specs.Systems.{AreQueueIds}
 use Rattle.type_chains.proofs.Members.{contains_head}
 use Rattle.file_check.specs.Ids.{is_queue, id_in, ids_in}
-use Rattle.file_check.specs.Words.{Pair, Store, chain, contents, pairs_on, records_at}
+use Rattle.file_check.specs.Words.{Layout, Pair, Store, chain, held_in, pairs_on, records_at}
+use Rattle.file_records.proofs.VersionLemmas.{held_none, none_held}
 
 -- ---- record by record
 
@@ -107,19 +108,22 @@ looked_up id (p ∷ ps) on none =
         (ap (λ b. if b then Some p.value else lookup (key_of_queue id) ps) (sym other) ∙ none)
 
 -- the ids of all records of the file, sorted and each once, are those of its Queues
-pub are_queue_ids : (s : Store) (ns all sorted ids : List ℕ) → chain s ≡ ns → all ≡ ids_in (pairs_on s ns) →
-    IsPermutation all sorted → IsSorted nat_cmp sorted → ids ≡ dedup nat_eq sorted → AreQueueIds (contents s) ids
-are_queue_ids s ns all sorted ids chained are moved order once = record {
+pub are_queue_ids : (l : Layout) (s : Store) (ns all sorted ids : List ℕ) → chain s ≡ ns
+    → all ≡ ids_in (pairs_on s ns) →
+    IsPermutation all sorted → IsSorted nat_cmp sorted → ids ≡ dedup nat_eq sorted → AreQueueIds (held_in l s) ids
+are_queue_ids l s ns all sorted ids chained are moved order once = record {
   ascend = AllPairs-from_increasing ids (IsStrictlyIncreasing-from_sorted ids
       (subst (IsStrictlySortedBy nat_cmp) (sym once) (IsStrictlySortedBy-dedup nat_cmp_total
       (λ x y. grind (arith, nat_tests)) sorted order)));
   all = λ id held. subst (λ xs. Contains xs id) (sym once)
       (Contains-dedup_nat sorted id (Contains-permutation all sorted id moved
       (subst (λ xs. Contains xs id) (sym are)
-      (stands id (pairs_on s ns) (subst (λ ms. lookup (key_of_queue id) (pairs_on s ms) ≢ None) chained held)))));
-  only = λ id on.
+      (stands id (pairs_on s ns) (subst (λ ms. lookup (key_of_queue id) (pairs_on s ms) ≢ None) chained
+      (λ none. held (held_none l s (key_of_queue id) none)))))));
+  only = λ id on none.
       subst (λ ms. lookup (key_of_queue id) (pairs_on s ms) ≢ None) (sym chained)
       (looked_up id (pairs_on s ns) (subst (λ xs. Contains xs id) are
       (Contains-permutation sorted all id (IsPermutation-sym all sorted moved)
-      (Contains-from_dedup nat_eq sorted id (subst (λ xs. Contains xs id) once on)))));
+      (Contains-from_dedup nat_eq sorted id (subst (λ xs. Contains xs id) once on)))))
+      (none_held l s (key_of_queue id) none);
 }

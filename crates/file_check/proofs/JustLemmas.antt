@@ -1,4 +1,4 @@
--- A file of which a system needs each record has just the records of that system, and then none is stray.
+-- A file of which a system needs each record has exactly the records of that system, and then none is stray.
 use Rattle.std.proofs.Common.{ℕ, ◌≡◌, List, [], Option, Some, None, refl, sym, subst, ◌∙◌}
 use Rattle.std.specs.List.{Contains}
 use Rattle.std.specs.Prelude.{slice_index, slice_index_or}
@@ -17,10 +17,11 @@ use Rattle.type_chains.proofs.Members.{from_flat_map, in_flat_map}
 use Rattle.file_check.specs.declared.fault.CheckFault.TheVariants as faults
 use Rattle.file_check.specs.Strays.{AreNeeded, IsFirstStray, IsNeeded, IsStrayIn}
 use Rattle.file_check.specs.Whole.{HasJust}
-use Rattle.file_check.specs.Words.{CheckFault, Pair, Record, RecordKey, Spells, State, Store, bucket_at, contents, pairs_on, records_at}
+use Rattle.file_records.proofs.VersionLemmas.{held_none, held_some}
+use Rattle.file_check.specs.Words.{CheckFault, Layout, Pair, Record, RecordKey, Spells, State, Store, bucket_at, contents, held_in, pairs_on, records_at}
 use Rattle.file_check.proofs.RecordLemmas.{stands_on}
 
--- ---- just the records of a system
+-- ---- exactly the records of a system
 
 -- a record that the system has at a key stands there
 has_each : (held : RecordKey → Option (List ℕ)) (s : State) → HasSystem held s → (key : RecordKey) (r : Record) →
@@ -33,7 +34,7 @@ has_each held s has key r at =
       subst (λ (k : RecordKey). Spells r k stands.value) in_image.1 stands.spelled,
     )
 
-module _ (hash : RecordKey → ℕ) (st : Store) (ns : List ℕ) (quiet : IsQuietFile hash st ns) where
+module _ (l : Layout) (hash : RecordKey → ℕ) (st : Store) (ns : List ℕ) (quiet : IsQuietFile hash st ns) where
   -- what is held at a key is a record on a page of the chain
   held_on : (key : RecordKey) (value : List ℕ) → contents st key ≡ Some value →
       (n : ℕ) × Contains ns n × Contains (records_at st n) (pair key value)
@@ -49,11 +50,11 @@ module _ (hash : RecordKey → ℕ) (st : Store) (ns : List ℕ) (quiet : IsQuie
       (subst (λ ms. Contains (pairs_on st ms) p) (sym quiet.chained) (in_flat_map (records_at st) ns n p on stands))
 
   -- where the system needs all of them, nothing stands at another key
-  no_other : (s : State) → AreNeeded s st ns → (key : RecordKey) → record_of s key ≡ None → contents st key ≡ None
+  no_other : (s : State) → AreNeeded s st ns → (key : RecordKey) → record_of s key ≡ None → held_in l st key ≡ None
   no_other s needed key none = by_value (contents st key) refl
     where
-      by_value : (o : Option (List ℕ)) → contents st key ≡ o → o ≡ None
-      by_value None e = refl
+      by_value : (o : Option (List ℕ)) → contents st key ≡ o → held_in l st key ≡ None
+      by_value None e = held_none l st key e
       by_value (Some value) e =
           let (n, on, stands) = held_on key value e in
           let there = All-contains (λ (m : ℕ). (p : Pair) → Contains (records_at st m) p → IsNeeded s p) ns n
@@ -61,11 +62,11 @@ module _ (hash : RecordKey → ℕ) (st : Store) (ns : List ℕ) (quiet : IsQuie
           (needed k d within) has) on in
           absurd (there (pair key value) stands none)
 
-  pub has_just : (s : State) → HasSystem (contents st) s → AreNeeded s st ns → HasJust (contents st) s
-  has_just s has needed = record { stand = has_each (contents st) s has; others = no_other s needed }
+  pub has_just : (s : State) → HasSystem (held_in l st) s → AreNeeded s st ns → HasJust (held_in l st) s
+  has_just s has needed = record { stand = has_each (held_in l st) s has; others = no_other s needed }
 
   -- and then none is stray
-  pub none_stray : (s : State) (fault : CheckFault) → HasJust (contents st) s → IsFirstStray s st ns fault → ⊥
+  pub none_stray : (s : State) (fault : CheckFault) → HasJust (held_in l st) s → IsFirstStray s st ns fault → ⊥
   none_stray s fault just w = by_fault fault w.stray
     where
       n : ℕ
@@ -78,6 +79,6 @@ module _ (hash : RecordKey → ℕ) (st : Store) (ns : List ℕ) (quiet : IsQuie
           let stands : Contains (records_at st n) q =
           (h.1.slot, h.1.within, get_or_default (records_at st n) h.1.slot q d h.1.within) in
           let held = on_held n q (stands_on ns w.place w.within) stands in
-          let clash = sym held ∙ just.others q.key (h.1.wrong d) in
+          let clash = sym (held_some l st q.key q.value held) ∙ just.others q.key (h.1.wrong d) in
           absurd cc
       by_fault fault h = absurd h

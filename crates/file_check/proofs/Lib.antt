@@ -8,3 +8,4 @@ pub mod JustLemmas
 pub mod CountLemmas
 pub mod GatheredLemmas
 pub mod WholeLemmas
+pub mod Today

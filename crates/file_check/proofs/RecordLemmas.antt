@@ -1,7 +1,8 @@
 -- What reading a bucket once more tells, and how far its records are tested.
-use Rattle.std.proofs.Common.{ℕ, zero, suc, ◌≡◌, ◌+◌, ◌<◌, ◌≤◌, ◌⊎◌, nat_lt, Bool, true, false, List, [], ◌∷◌, ◌++◌, length, map, take, drop, replicate, Option, None, Some, IfSome, Result, Ok, Err, IfErr, OnOk, refl, sym, ap, subst, ◌∙◌, inl, inr, arith}
+use Rattle.std.proofs.Common.{ℕ, zero, suc, ◌≡◌, ◌+◌, ◌<◌, ◌≤◌, ◌⊎◌, nat_lt, Bool, true, false, IsTrue, List, [], ◌∷◌, ◌++◌, length, map, take, drop, replicate, Option, None, Some, IfSome, Result, Ok, Err, IfErr, OnOk, refl, sym, ap, subst, ◌∙◌, inl, inr, arith}
 use Rattle.std.specs.List.{All, Contains}
 use Rattle.std.specs.Prelude.{slice_index, slice_index_or}
+use Rattle.std.specs.Option.{is_some}
 use Rattle.std.specs.Result.{result_ok}
 use Rattle.std.proofs.Math.ListN.{get_or-eq_default}
 use Rattle.std.proofs.Math.Seq.{take-suc}
@@ -12,28 +13,28 @@ use Rattle.bucket_page.specs.declared.page.Malformed.{Malformed}
 use Rattle.bucket_page.specs.declared.page.PageKind.{PageKind}
 use Rattle.bucket_page.specs.declared.page.PageKind.TheVariants as kinds
 use Rattle.bucket_page.specs.Reading.{reading}
-use Rattle.file_walk.specs.Files.{said_by, pages_on}
+use Rattle.file_walk.specs.Files.{said_by, pages_in}
 use Rattle.file_walk.specs.Readings.{IsPayloadOf}
-use Rattle.file_walk.proofs.PageLemmas.{said, is_malformed}
+use Rattle.file_walk.proofs.PageLemmas.{is_malformed, right_formed, said}
 use Rattle.file_walk.proofs.PagesLemmas.{pages_at, pages_length}
-use Rattle.file_check.specs.Words.{ROOT_PAGE, RecordKey, Bucket, Pair, Store, IsRightStructure, file_of, payload_on, has_bucket, bucket_at, bucket_of, is_bucket, CheckFault}
+use Rattle.file_check.specs.Words.{IsLayout, IsRightStructureIn, Layout, RecordKey, Bucket, Pair, Store, file_in, payload_on, has_bucket, bucket_at, bucket_of, is_bucket, CheckFault}
 use Rattle.file_check.specs.Fault.{IsOfMachineToo}
-use Rattle.file_check.specs.Records.{IsLivePage, IsFirstIn, IsWrongIn, AreRightIn, AreRightRecords, IsFirstWrongRecord}
+use Rattle.file_check.specs.Records.{IsLivePage, IsFirstIn, IsWrongIn, AreRightOn, AreRightRecordsIn, IsFirstWrongRecord}
 
 -- ---- a bucket is read once more
 
-module _ (content : List (List ℕ)) (n : ℕ) (payload : List ℕ) (live : IsLivePage content n)
+module _ (l : Layout) (content : List (List ℕ)) (n : ℕ) (payload : List ℕ) (live : IsLivePage l content n)
     (same : payload ≡ payload_on content n) where
   read_so : IsPayloadOf content n payload
   read_so = record { sealed = live.right.sealed; value = same }
 
   page_is : (page : PageKind) → Ok page ≡ reading payload →
-      slice_index_or (pages_on content) n (kinds.Free 0) ≡ page
+      slice_index_or (pages_in l content) n (kinds.Free 0) ≡ page
   page_is page e =
-      pages_at content n (kinds.Free 0) live.behind live.within ∙ said content n payload read_so page e
+      pages_at l live.layout content n (kinds.Free 0) live.behind live.within ∙ said content n payload read_so page e
 
   -- what is read is the bucket of the file
-  bucket_again : (b : Bucket) → Ok (kinds.Bucket b) ≡ reading payload → bucket_at (file_of content) n ≡ b
+  bucket_again : (b : Bucket) → Ok (kinds.Bucket b) ≡ reading payload → bucket_at (file_in l content) n ≡ b
   bucket_again b e = ap bucket_of (page_is (kinds.Bucket b) e)
 
   -- and nothing else
@@ -44,15 +45,15 @@ module _ (content : List (List ℕ)) (n : ℕ) (payload : List ℕ) (live : IsLi
 
   no_refusal : (reason : Malformed) → Err reason ≡ reading payload → ⊥
   no_refusal reason e =
-      let wrong = is_malformed content n payload read_so reason e in
-      let clash = sym live.right.formed ∙ wrong.2 in
+      let wrong = is_malformed l live.layout content n payload read_so reason e in
+      let clash = sym (right_formed l live.layout content n live.right) ∙ wrong.2 in
       absurd cc
 
-  pub read_live : reading payload ≡ Ok (kinds.Bucket (bucket_at (file_of content) n))
+  pub read_live : reading payload ≡ Ok (kinds.Bucket (bucket_at (file_in l content) n))
   read_live = by_answer (reading payload) refl
     where
       by_answer : (r : Result PageKind Malformed) → reading payload ≡ r →
-          reading payload ≡ Ok (kinds.Bucket (bucket_at (file_of content) n))
+          reading payload ≡ Ok (kinds.Bucket (bucket_at (file_in l content) n))
       by_answer (Ok (kinds.Bucket b)) e = e ∙ ap (λ (x : Bucket). Ok (kinds.Bucket x)) (sym (bucket_again b (sym e)))
       by_answer (Ok (kinds.Directory es)) e = absurd (no_other (kinds.Directory es) (sym e) refl)
       by_answer (Ok (kinds.Tombstone link)) e = absurd (no_other (kinds.Tombstone link) (sym e) refl)
@@ -69,33 +70,34 @@ is_read fault b e = absurd cc
 
 -- ---- the pages of a chain are buckets
 
-low_bucket : (content : List (List ℕ)) (n : ℕ) → n < ROOT_PAGE → has_bucket (file_of content) n ≡ false
-unfolding pages_on
-low_bucket content n small =
+low_bucket : (l : Layout) (content : List (List ℕ)) (n : ℕ) → n < l.root_page → has_bucket (file_in l content) n ≡ false
+unfolding pages_in
+low_bucket l content n small =
     let d : PageKind = kinds.Directory [] in
-    let some : n < length (replicate ROOT_PAGE d) =
-    subst (λ m. n < m) (sym (length-replicate ROOT_PAGE d)) small in
-    ap is_bucket (get_or_append_left (replicate ROOT_PAGE d) (map said_by (drop ROOT_PAGE content)) (kinds.Free 0) n
+    let some : n < length (replicate l.root_page d) =
+    subst (λ m. n < m) (sym (length-replicate l.root_page d)) small in
+    ap is_bucket (get_or_append_left (replicate l.root_page d) (map said_by (drop l.root_page content)) (kinds.Free 0) n
     some
-    ∙ get_or-replicate ROOT_PAGE n d (kinds.Free 0) small)
+    ∙ get_or-replicate l.root_page n d (kinds.Free 0) small)
 
-past_bucket : (content : List (List ℕ)) (n : ℕ) → ROOT_PAGE ≤ length content → length content ≤ n →
-    has_bucket (file_of content) n ≡ false
-past_bucket content n long past =
-    ap is_bucket (get_or-eq_default (pages_on content) (kinds.Free 0)
-    (subst (λ m. m ≤ n) (sym (pages_length content long)) past))
+past_bucket : (l : Layout) → IsLayout l → (content : List (List ℕ)) (n : ℕ) → l.root_page ≤ length content →
+    length content ≤ n → has_bucket (file_in l content) n ≡ false
+past_bucket l laid content n long past =
+    ap is_bucket (get_or-eq_default (pages_in l content) (kinds.Free 0)
+    (subst (λ m. m ≤ n) (sym (pages_length l laid content long)) past))
 
-module _ (content : List (List ℕ)) (ns : List ℕ) (r : IsRightStructure content ns) (n : ℕ) (on : Contains ns n) where
-  live_bucket : has_bucket (file_of content) n ≡ true
+module _ (l : Layout) (laid : IsLayout l) (content : List (List ℕ)) (ns : List ℕ) (r : IsRightStructureIn l content ns)
+    (n : ℕ) (on : Contains ns n) where
+  live_bucket : has_bucket (file_in l content) n ≡ true
   live_bucket = r.chain.buckets n on
 
-  long : ROOT_PAGE ≤ length content
+  long : l.root_page ≤ length content
   long = let h = r.pages.header in let least = h.in_range.least in let many = h.as_many in omega (arith, least, many)
 
-  behind_root : (b : Bool) → nat_lt n ROOT_PAGE ≡ b → ROOT_PAGE ≤ n
+  behind_root : (b : Bool) → nat_lt n l.root_page ≡ b → l.root_page ≤ n
   behind_root true less = (
-      let small : n < ROOT_PAGE = grind (arith, nat_tests) in
-      let clash : true ≡ false = sym live_bucket ∙ low_bucket content n small in
+      let small : n < l.root_page = grind (arith, nat_tests) in
+      let clash : true ≡ false = sym live_bucket ∙ low_bucket l content n small in
       absurd cc)
   behind_root false more = grind (arith, nat_tests)
 
@@ -103,32 +105,34 @@ module _ (content : List (List ℕ)) (ns : List ℕ) (r : IsRightStructure conte
   within_file true less = grind (arith, nat_tests)
   within_file false more = (
       let past : length content ≤ n = grind (arith, nat_tests) in
-      let clash : true ≡ false = sym live_bucket ∙ past_bucket content n long past in
+      let clash : true ≡ false = sym live_bucket ∙ past_bucket l laid content n long past in
       absurd cc)
 
-  pub live_page : IsLivePage content n
+  pub live_page : IsLivePage l content n
   live_page =
-      let behind = behind_root (nat_lt n ROOT_PAGE) refl in
+      let behind = behind_root (nat_lt n l.root_page) refl in
       let within = within_file (nat_lt n (length content)) refl in
+      let root = laid.root in
       record {
+        layout = laid;
         behind = behind;
         within = within;
-        right = r.pages.pages n (omega (arith, behind)) within;
+        right = r.pages.pages n (omega (arith, behind, root)) within;
         live = live_bucket;
       }
 
 -- what is wrong with what was read is wrong with the bucket of the file
-pub wrong_in : (hash : RecordKey → ℕ) (page : ℕ) (b c : Bucket) (result : Result Unit CheckFault) → b ≡ c →
-    IfErr result (IsWrongIn hash b page) →
-    IfErr result (λ fault. IsOfMachineToo fault ⊎ IsWrongIn hash c page fault)
-wrong_in hash page b c (Ok u) same h = tt
-wrong_in hash page b c (Err fault) same h = inr (subst (λ (x : Bucket). IsWrongIn hash x page fault) same h)
+pub wrong_in : (l : Layout) (hash : RecordKey → ℕ) (page : ℕ) (b c : Bucket) (result : Result Unit CheckFault) →
+    b ≡ c → IfErr result (IsWrongIn l hash b page) →
+    IfErr result (λ fault. IsOfMachineToo fault ⊎ IsWrongIn l hash c page fault)
+wrong_in l hash page b c (Ok u) same h = tt
+wrong_in l hash page b c (Err fault) same h = inr (subst (λ (x : Bucket). IsWrongIn l hash x page fault) same h)
 
 -- a bucket of the file is no page past its end
-pub not_past : (content : List (List ℕ)) (n : ℕ) (fault : CheckFault) → IsLivePage content n →
+pub not_past : (l : Layout) (content : List (List ℕ)) (n : ℕ) (fault : CheckFault) → IsLivePage l content n →
     IsOfMachineToo fault ⊎ (length content ≤ n) → IsOfMachineToo fault
-not_past content n fault live (inl machine) = machine
-not_past content n fault live (inr past) = absurd (let w = live.within in omega (arith, w, past))
+not_past l content n fault live (inl machine) = machine
+not_past l content n fault live (inr past) = absurd (let w = live.within in omega (arith, w, past))
 
 -- ---- record by record
 
@@ -210,23 +214,24 @@ module _ {D : Type 0} (content : D → List (List ℕ)) (honest : D → Bool) (c
 pub stands_on : (ns : List ℕ) (i : ℕ) → i < length ns → Contains ns (slice_index ns i)
 stands_on ns i within = (i, within, get_or_default ns i (slice_index ns i) 0 within)
 
-module _ (hash : RecordKey → ℕ) (s : Store) (ns : List ℕ) where
-  pub right_none : AreRightRecords hash s (take 0 ns)
-  right_none = All-nil (AreRightIn hash s)
+module _ (l : Layout) (hash : RecordKey → ℕ) (s : Store) (ns : List ℕ) where
+  pub right_none : AreRightRecordsIn l hash s (take 0 ns)
+  right_none = All-nil (AreRightOn l hash s)
 
-  pub right_next : (i : ℕ) → i < length ns → AreRightRecords hash s (take i ns) → AreRightIn hash s (slice_index ns i) →
-      AreRightRecords hash s (take (i + 1) ns)
+  pub right_next : (i : ℕ) → i < length ns → AreRightRecordsIn l hash s (take i ns)
+      → AreRightOn l hash s (slice_index ns i) →
+      AreRightRecordsIn l hash s (take (i + 1) ns)
   right_next i within before here =
       let one : i + 1 ≡ suc i = omega arith in
-      subst (All (AreRightIn hash s)) (sym (ap (λ n. take n ns) one ∙ take-suc ns i 0 within))
-      (All-push (AreRightIn hash s) (take i ns) (slice_index ns i) before here)
+      subst (All (AreRightOn l hash s)) (sym (ap (λ n. take n ns) one ∙ take-suc ns i 0 within))
+      (All-push (AreRightOn l hash s) (take i ns) (slice_index ns i) before here)
 
-  pub right_end : (i : ℕ) → length ns ≤ i → AreRightRecords hash s (take i ns) → AreRightRecords hash s ns
-  right_end i ended before = subst (All (AreRightIn hash s)) (take_all i ns ended) before
+  pub right_end : (i : ℕ) → length ns ≤ i → AreRightRecordsIn l hash s (take i ns) → AreRightRecordsIn l hash s ns
+  right_end i ended before = subst (All (AreRightOn l hash s)) (take_all i ns ended) before
 
-  pub wrong_next : (i : ℕ) (fault : CheckFault) → i < length ns → AreRightRecords hash s (take i ns) →
-      IsOfMachineToo fault ⊎ IsWrongIn hash (bucket_at s (slice_index ns i)) (slice_index ns i) fault →
-      IsOfMachineToo fault ⊎ IsFirstWrongRecord hash s ns fault
+  pub wrong_next : (i : ℕ) (fault : CheckFault) → i < length ns → AreRightRecordsIn l hash s (take i ns) →
+      IsOfMachineToo fault ⊎ IsWrongIn l hash (bucket_at s (slice_index ns i)) (slice_index ns i) fault →
+      IsOfMachineToo fault ⊎ IsFirstWrongRecord l hash s ns fault
   wrong_next i fault within before (inl machine) = inl machine
   wrong_next i fault within before (inr wrong) =
       inr (record { place = i; within = within; before = before; wrong = wrong })
@@ -244,3 +249,7 @@ kept P (Some x) held = held
 pub same_ok : {T E : Type 0} (r : Result T E) (x y : T) → Some x ≡ result_ok r → r ≡ Ok y → x ≡ y
 same_ok (Ok z) x y e is = cc
 same_ok (Err f) x y e is = absurd cc
+
+pub some_of : {T : Type 0} (P : Type 0) (o : Option T) → IfSome o (λ x. P) → IsTrue (is_some o) → P
+some_of P None held some = absurd cc
+some_of P (Some x) held some = held

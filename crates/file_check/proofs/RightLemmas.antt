@@ -1,5 +1,5 @@
 -- A right structure whose records are all right is a sound file; and nothing is wrong with it.
-use Rattle.std.proofs.Common.{ℕ, ◌≡◌, ◌==◌, Bool, true, false, List, [], ◌∷◌, Option, Some, None, if◌then◌else◌, ◌⊎◌, inl, inr, refl, sym, ap, subst, ◌∙◌}
+use Rattle.std.proofs.Common.{ℕ, ◌≡◌, ◌==◌, Bool, true, false, List, [], ◌∷◌, Option, Some, None, if◌then◌else◌, refl, sym, ap, subst, ◌∙◌}
 use Rattle.std.specs.List.{All, Contains}
 use Rattle.std.specs.Prelude.{slice_index, slice_index_or}
 use Rattle.directory.specs.declared.layout.TheConstants.{DIRECTORY}
@@ -12,7 +12,7 @@ use Rattle.bucket_page.specs.Reading as reading
 use Rattle.bucket_page.specs.Records.{ascend}
 use Rattle.directory.specs.Pages.{entries_at}
 use Rattle.fields.specs.Numbers.{four_at}
-use Rattle.file_walk.specs.Files.{said_by, pages_on}
+use Rattle.file_walk.specs.Files.{said_by, pages_in}
 use Rattle.file_walk.specs.Laws.{IsQuietFile}
 use Rattle.file_walk.specs.Order.{after_reading}
 use Rattle.file_walk.proofs.PagesLemmas.{pages_at}
@@ -20,10 +20,9 @@ use Rattle.file_walk.proofs.SoundLemmas.{structure_sound}
 use Rattle.file_walk.proofs.FaultLemmas.{one_chain, right_has_no_fault as structure_has_no_fault}
 use Rattle.hash_file.specs.Chain.{IsPlaced}
 use Rattle.file_check.specs.declared.fault.CheckFault.TheVariants as faults
-use Rattle.file_check.specs.Words.{RecordKey, Bucket, Pair, Store, IsRightStructure, file_of, payload_on, said_on, bucket_at, bucket_of, is_bucket, CheckFault}
-use Rattle.file_check.specs.Records.{IsLivePage, IsRightRecord, IsFirstIn, IsWrongIn, AreRightIn, AreRightRecords, IsFirstWrongRecord}
-use Rattle.file_check.specs.Fault.{IsOfMachineToo}
-use Rattle.file_check.specs.Right.{IsRightFile, IsFirstFault, IsFirstWrongThing, IsWrongAmongRecords}
+use Rattle.file_check.specs.Words.{RecordKey, Bucket, Pair, Store, IsLayout, IsRightStructureIn, Layout, file_in, payload_on, said_on, bucket_at, bucket_of, is_bucket, CheckFault}
+use Rattle.file_check.specs.Records.{IsLivePage, IsRightRecordIn, IsFirstIn, IsWrongIn, AreRightOn, AreRightRecordsIn, IsFirstWrongRecord}
+use Rattle.file_check.specs.Right.{IsRightFile, IsFirstWrongThing, IsWrongAmongRecords}
 use Rattle.file_check.proofs.RecordLemmas.{live_page}
 
 -- ---- the keys of a page ascend, as its spelling says
@@ -70,83 +69,73 @@ page_ascends p fault live =
     ∙ fourth (reading.has_depth p) (reading.has_pattern p) (reading.has_lengths p) (reading.has_order p)
     (reading.has_padding p) is.0
 
-live_ascends : (content : List (List ℕ)) (n : ℕ) → IsLivePage content n →
-    ascend (bucket_at (file_of content) n).records ≡ true
-live_ascends content n live =
-    let is : slice_index_or (pages_on content) n (kinds.Free 0) ≡ reading.page_in (payload_on content n) =
-    pages_at content n (kinds.Free 0) live.behind live.within ∙ said_is content n in
+live_ascends : (l : Layout) (content : List (List ℕ)) (n : ℕ) → IsLivePage l content n →
+    ascend (bucket_at (file_in l content) n).records ≡ true
+live_ascends l content n live =
+    let is : slice_index_or (pages_in l content) n (kinds.Free 0) ≡ reading.page_in (payload_on content n) =
+    pages_at l live.layout content n (kinds.Free 0) live.behind live.within ∙ said_is content n in
     ap (λ (page : PageKind). ascend (bucket_of page).records) is
     ∙ page_ascends (payload_on content n) (no_fault _ _ live.right.formed) (sym (ap is_bucket is) ∙ live.live)
 
 -- ---- a right file
 
-module _ (hash : RecordKey → ℕ) (content : List (List ℕ)) (ns : List ℕ) (r : IsRightStructure content ns)
-    (right : AreRightRecords hash (file_of content) ns) where
-  pub placed : (n : ℕ) → Contains ns n → IsPlaced hash (bucket_at (file_of content) n)
+module _ (l : Layout) (laid : IsLayout l) (hash : RecordKey → ℕ) (content : List (List ℕ)) (ns : List ℕ)
+    (r : IsRightStructureIn l content ns) (right : AreRightRecordsIn l hash (file_in l content) ns) where
+  pub placed : (n : ℕ) → Contains ns n → IsPlaced hash (bucket_at (file_in l content) n)
   placed n on =
-      let here : AreRightIn hash (file_of content) n =
-      subst (AreRightIn hash (file_of content)) on.2 (right on.0 n on.1) in
+      let here : AreRightOn l hash (file_in l content) n =
+      subst (AreRightOn l hash (file_in l content)) on.2 (right on.0 n on.1) in
       record {
         within = λ i d w. (here i d w).at_home;
-        ascends = live_ascends content n (live_page content ns r n on);
+        ascends = live_ascends l content n (live_page l laid content ns r n on);
       }
 
-  pub right_sound : IsQuietFile hash (file_of content) ns
-  right_sound = structure_sound hash content ns r placed
+  pub right_sound : IsQuietFile hash (file_in l content) ns
+  right_sound = structure_sound l laid hash content ns r placed
 
 -- ---- nothing is wrong with records that are right
 
-none_first : (hash : RecordKey → ℕ) (b : Bucket) (IsWrong : Pair → Type 0) (key : RecordKey) →
-    ((p : Pair) → IsRightRecord hash b p → IsWrong p → ⊥) → All (IsRightRecord hash b) b.records →
-    IsFirstIn b (IsRightRecord hash b) IsWrong key → ⊥
-none_first hash b IsWrong key clash all w =
+none_first : (l : Layout) (hash : RecordKey → ℕ) (b : Bucket) (IsWrong : Pair → Type 0) (key : RecordKey) →
+    ((p : Pair) → IsRightRecordIn l hash b p → IsWrong p → ⊥) → All (IsRightRecordIn l hash b) b.records →
+    IsFirstIn b (IsRightRecordIn l hash b) IsWrong key → ⊥
+none_first l hash b IsWrong key clash all w =
     let d : Pair = record { key = key; value = [] } in
     clash (slice_index_or b.records w.slot d) (all w.slot d w.within) (w.wrong d)
 
-pub right_not_wrong : (hash : RecordKey → ℕ) (s : Store) (ns : List ℕ) (fault : CheckFault) →
-    AreRightRecords hash s ns → IsFirstWrongRecord hash s ns fault → ⊥
-right_not_wrong hash s ns fault right w = by_fault fault w.wrong
+pub right_not_wrong : (l : Layout) (hash : RecordKey → ℕ) (s : Store) (ns : List ℕ) (fault : CheckFault) →
+    AreRightRecordsIn l hash s ns → IsFirstWrongRecord l hash s ns fault → ⊥
+right_not_wrong l hash s ns fault right w = by_fault fault w.wrong
   where
     n : ℕ
     n = slice_index ns w.place
 
-    here : AreRightIn hash s n
+    here : AreRightOn l hash s n
     here = right w.place 0 w.within
 
-    by_fault : (fault : CheckFault) → IsWrongIn hash (bucket_at s n) n fault → ⊥
+    by_fault : (fault : CheckFault) → IsWrongIn l hash (bucket_at s n) n fault → ⊥
     by_fault (faults.Misplaced p kind queue number) h =
-        none_first hash (bucket_at s n) _ _ (λ q good bad. bad.elsewhere good.at_home) here h.1
+        none_first l hash (bucket_at s n) _ _ (λ q good bad. bad.elsewhere good.at_home) here h.1
     by_fault (faults.BadRecord p kind queue number) h =
-        none_first hash (bucket_at s n) _ _ (λ q good bad. bad.senseless good.spelled) here h.1
+        none_first l hash (bucket_at s n) _ _ (λ q good bad. bad.senseless good.spelled) here h.1
     by_fault fault h = absurd h
 
 -- a file has one chain
-on_chain : (hash : RecordKey → ℕ) (content : List (List ℕ)) (ns : List ℕ) (fault : CheckFault) →
-    IsRightStructure content ns → IsWrongAmongRecords hash content fault →
-    IsFirstWrongRecord hash (file_of content) ns fault
-on_chain hash content ns fault r w =
-    subst (λ (ms : List ℕ). IsFirstWrongRecord hash (file_of content) ms fault)
-    (one_chain (file_of content) w.chain ns w.structure.chain r.chain) w.wrong
+on_chain : (l : Layout) (hash : RecordKey → ℕ) (content : List (List ℕ)) (ns : List ℕ) (fault : CheckFault) →
+    IsRightStructureIn l content ns → IsWrongAmongRecords l hash content fault →
+    IsFirstWrongRecord l hash (file_in l content) ns fault
+on_chain l hash content ns fault r w =
+    subst (λ (ms : List ℕ). IsFirstWrongRecord l hash (file_in l content) ms fault)
+    (one_chain (file_in l content) w.chain ns w.structure.chain r.chain) w.wrong
 
-pub right_has_no_fault : (hash : RecordKey → ℕ) (content : List (List ℕ)) (ns : List ℕ) (fault : CheckFault) →
-    IsRightFile hash content ns → IsFirstWrongThing hash content fault → ⊥
-right_has_no_fault hash content ns (faults.Structure fault) right h =
-    structure_has_no_fault content ns fault right.structure h
-right_has_no_fault hash content ns (faults.Misplaced page kind queue number) right h =
-    right_not_wrong hash (file_of content) ns (faults.Misplaced page kind queue number) right.records
-    (on_chain hash content ns (faults.Misplaced page kind queue number) right.structure h)
-right_has_no_fault hash content ns (faults.BadRecord page kind queue number) right h =
-    right_not_wrong hash (file_of content) ns (faults.BadRecord page kind queue number) right.records
-    (on_chain hash content ns (faults.BadRecord page kind queue number) right.structure h)
-right_has_no_fault hash content ns fault right h = absurd h
-
--- what is answered of the records, once the structure is right
-pub records_fault : (hash : RecordKey → ℕ) (content : List (List ℕ)) (ns : List ℕ) (fault : CheckFault) →
-    IsRightStructure content ns → IsOfMachineToo fault ⊎ IsFirstWrongRecord hash (file_of content) ns fault →
-    IsFirstFault hash content fault
-records_fault hash content ns fault r (inl machine) = inl machine
-records_fault hash content ns (faults.Misplaced page kind queue number) r (inr w) =
-    inr (record { chain = ns; structure = r; wrong = w })
-records_fault hash content ns (faults.BadRecord page kind queue number) r (inr w) =
-    inr (record { chain = ns; structure = r; wrong = w })
-records_fault hash content ns fault r (inr w) = absurd w.wrong
+pub right_has_no_fault : (l : Layout) → IsLayout l → (hash : RecordKey → ℕ) (content : List (List ℕ)) (ns : List ℕ)
+    (fault : CheckFault) →
+    IsRightFile l hash content ns → IsFirstWrongThing l hash content fault → ⊥
+right_has_no_fault l laid hash content ns (faults.Structure fault) right h =
+    structure_has_no_fault l laid content ns fault right.structure h
+right_has_no_fault l laid hash content ns (faults.Misplaced page kind queue number) right h =
+    right_not_wrong l hash (file_in l content) ns (faults.Misplaced page kind queue number) right.records
+    (on_chain l hash content ns (faults.Misplaced page kind queue number) right.structure h)
+right_has_no_fault l laid hash content ns (faults.BadRecord page kind queue number) right h =
+    right_not_wrong l hash (file_in l content) ns (faults.BadRecord page kind queue number) right.records
+    (on_chain l hash content ns (faults.BadRecord page kind queue number) right.structure h)
+right_has_no_fault l laid hash content ns fault right h = absurd h

@@ -1,4 +1,4 @@
--- A system of which these pages hold just the records: each of theirs is one of it, and they are as many
+-- A system of which these pages hold exactly the records: each of theirs is one of it, and they are as many
 -- (docs/FORMAT.md, "Records").
 use Rattle.std.specs.Prelude.{◌≡◌, ℕ, ◌<◌, false, List, length, slice_index_or}
 use Rattle.std.specs.List.{All, Contains}
@@ -7,21 +7,21 @@ use Rattle.queue_model.specs.Lawful.{IsLawful}
 use Rattle.record_walk.specs.declared.queue_links.QueueLinks.{QueueLinks}
 use Rattle.record_walk.specs.Links.{AreLinksOf}
 use Rattle.type_chains.specs.Image.{image}
-use Rattle.file_check.specs.Words.{Pair, Record, Spells, State, Store, pairs_on}
+use Rattle.file_check.specs.Words.{Layout, Pair, Record, SpellsIn, State, Store, pairs_on}
 
 -- key and value are those of a record of the system
-abbrev pub IsOf : State → Pair → Type 0
-IsOf s p = (r : Record) × Contains (image s) r × Spells r p.key p.value
+abbrev pub IsOf : Layout → State → Pair → Type 0
+IsOf l s p = (r : Record) × Contains (image s) r × SpellsIn l r p.key p.value
 
 -- so are all of these, and they are so many
-pub record AreCounted (s : State) (ps : List Pair) (count : ℕ) : Type 0 where
-  pub each : All (IsOf s) ps
+pub record AreCounted (l : Layout) (s : State) (ps : List Pair) (count : ℕ) : Type 0 where
+  pub each : All (IsOf l s) ps
   pub number : count ≡ length ps
 
-pub record AreJustOf (st : Store) (ns : List ℕ) (s : State) : Type 0 where
+pub record AreJustOf (l : Layout) (st : Store) (ns : List ℕ) (s : State) : Type 0 where
   pub lawful : IsLawful s
   pub running : s.stopped ≡ false
-  pub each : All (IsOf s) (pairs_on st ns)
+  pub each : All (IsOf l s) (pairs_on st ns)
   pub many : length (pairs_on st ns) ≡ length (image s)
 
 -- the links of each queue of a system

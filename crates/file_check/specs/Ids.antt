@@ -2,7 +2,7 @@
 use Rattle.std.specs.Prelude.{◌≡◌, ℕ, ◌==◌, Bool, ◌&&◌, List, [], ◌∷◌, if◌then◌else◌}
 use Rattle.std.specs.List.{flat_map}
 use Rattle.queue_records.specs.declared.layout.TheConstants.{QUEUE}
-use Rattle.file_check.specs.Words.{RecordKey, Pair, IsRightStructure, chain, file_of}
+use Rattle.file_check.specs.Words.{IsLayout, IsRightStructureIn, Layout, Pair, RecordKey, chain, file_in}
 
 -- the key of a Queue
 abbrev pub is_queue : RecordKey → Bool
@@ -15,6 +15,7 @@ abbrev pub ids_in : List Pair → List ℕ
 ids_in ps = flat_map id_in ps
 
 -- the structure is right, and these pages are its chain
-pub record HasChain (content : List (List ℕ)) (ns : List ℕ) : Type 0 where
-  pub structure : IsRightStructure content ns
-  pub chained : chain (file_of content) ≡ ns
+pub record HasChain (l : Layout) (content : List (List ℕ)) (ns : List ℕ) : Type 0 where
+  pub layout : IsLayout l
+  pub structure : IsRightStructureIn l content ns
+  pub chained : chain (file_in l content) ≡ ns

@@ -5,16 +5,16 @@ ghost use Rattle.std.specs.List.{All};
 ghost use Rattle.page_device.specs.Sealed.{payload_of};
 ghost use Rattle.positions.specs.declared.pseudokey.TheConstants.{PSEUDOKEY_BITS};
 ghost use Rattle.file_check.specs.Fault.{IsOfMachineToo};
-ghost use Rattle.file_check.specs.Records.{AreRightIn, HasCheckCause, IsLivePage, IsRightRecord, IsWrongIn};
-ghost use Rattle.file_check.specs.Words.{bucket_at, file_of, payload_on};
+ghost use Rattle.file_check.specs.Records.{AreRightOn, HasCheckCause, IsLivePage, IsRightRecordIn, IsWrongIn};
+ghost use Rattle.file_check.specs.Words.{Layout, bucket_at, file_in, payload_on};
 
 use crate::fault::CheckFault;
 use bucket_page::{PseudoKey, RecordKey};
-use file_records::{TestedBucket, read_tested};
+use directory::Layout;
+use file_records::{TestedBucket, decode_in, read_tested};
 use file_walk::StructureFault;
 use page_device::{DeviceFault, PAGE_BYTES, Page, PageDevice};
 use positions::Range;
-use queue_records::Record;
 
 /// Reads a page whose digest was tested before.
 pub(crate) fn read_again<D: PageDevice>(
@@ -39,9 +39,9 @@ pub(crate) fn read_again<D: PageDevice>(
 
 /// The bucket of a page that is known to be a bucket's.
 pub(crate) fn bucket_in(bytes: &Page, page: u32) -> Result<TestedBucket<'_>, CheckFault>
-    ensures ok { (content : List (List ℕ)) → IsLivePage content page →
+    ensures ok { (l : Layout) (content : List (List ℕ)) → IsLivePage l content page →
         payload_of bytes.now ≡ payload_on content page →
-        result ≡ Ok (bucket_at (file_of content) page) }
+        result ≡ Ok (bucket_at (file_in l content) page) }
     ensures within { IfOk result (λ bucket. bucket.depth ≤ PSEUDOKEY_BITS) }
     ensures err { IfErr result (λ fault. fault ≡ CheckFault.Changed page) }
 {
@@ -53,35 +53,38 @@ pub(crate) fn bucket_in(bytes: &Page, page: u32) -> Result<TestedBucket<'_>, Che
 
 /// Tests the records of the bucket on a page of the chain.
 pub(crate) fn test_page<D: PageDevice, K: PseudoKey>(
+    layout: &Layout,
     device: &mut D,
     keys: &K,
     page: u32,
 ) -> Result<(), CheckFault>
-    requires { IsTrue (D.is_honest device.old) → IsLivePage (D.content device.old) page }
-    ensures ok { IsTrue (D.is_honest device.old) → OnOk result
-        (AreRightIn (K.of_key keys.now) (file_of (D.content device.old)) page) }
+    requires { IsTrue (D.is_honest device.old) →
+        IsLivePage layout.now (D.content device.old) page }
+    ensures ok { IsTrue (D.is_honest device.old) → OnOk result (AreRightOn layout.now
+        (K.of_key keys.now) (file_in layout.now (D.content device.old)) page) }
     ensures err { IsTrue (D.is_honest device.old) → IfErr result (λ fault. IsOfMachineToo fault
-        ⊎ IsWrongIn (K.of_key keys.now) (bucket_at (file_of (D.content device.old)) page)
-        page fault) }
+        ⊎ IsWrongIn layout.now (K.of_key keys.now)
+        (bucket_at (file_in layout.now (D.content device.old)) page) page fault) }
     ensures same { D.content device.new ≡ D.content device.old }
     ensures honest { D.is_honest device.new ≡ D.is_honest device.old }
     ensures cause { HasCheckCause (D.fault_count device.old) (D.fault_count device.new) result }
 {
     let mut bytes = [0; PAGE_BYTES];
     read_again(device, page, &mut bytes)?;
-    test_bucket(keys, page, &bucket_in(&bytes, page)?)
+    test_bucket(layout, keys, page, &bucket_in(&bytes, page)?)
 }
 
 /// Tests the records of a bucket, from the lowest key on.
 pub(crate) fn test_bucket<K: PseudoKey>(
+    layout: &Layout,
     keys: &K,
     page: u32,
     bucket: &TestedBucket,
 ) -> Result<(), CheckFault>
     requires { bucket.now.depth ≤ PSEUDOKEY_BITS }
     ensures ok { OnOk result
-        (All (IsRightRecord (K.of_key keys.now) bucket.now) bucket.now.records) }
-    ensures err { IfErr result (IsWrongIn (K.of_key keys.now) bucket.now page) }
+        (All (IsRightRecordIn layout.now (K.of_key keys.now) bucket.now) bucket.now.records) }
+    ensures err { IfErr result (IsWrongIn layout.now (K.of_key keys.now) bucket.now page) }
 {
     let range = Range {
         depth: bucket.depth(),
@@ -91,7 +94,7 @@ pub(crate) fn test_bucket<K: PseudoKey>(
         if !range.covers(keys.of(&record.key)) {
             return Err(misplaced(page, &record.key));
         }
-        match Record::decode(&record.key, record.value) {
+        match decode_in(layout, &record.key, record.value) {
             Ok(_) => {}
             Err(_) => return Err(bad_record(page, &record.key)),
         }

@@ -3,12 +3,13 @@
 
 ghost use Rattle.std.specs.Prelude.{◌≡◌, ◌≤◌, ◌<◌, false, length, IfSome, IsTrue};
 ghost use Rattle.queue_model.specs.Lawful.{IsLawful};
-ghost use Rattle.file_check.specs.Records.{AreRightIn, AreRightRecords, IsLivePage};
-ghost use Rattle.file_check.specs.Words.{IsRightStructure, file_of};
+ghost use Rattle.file_check.specs.Records.{AreRightOn, AreRightRecordsIn, IsLivePage};
+ghost use Rattle.file_check.specs.Words.{IsLayout, IsRightStructureIn, file_in};
 
 use crate::bucket::{bucket_in, read_again, test_bucket};
 use bucket_page::PseudoKey;
-use file_records::TestedBucket;
+use directory::Layout;
+use file_records::{TestedBucket, decode_in};
 use limits::{MAX_MESSAGES, MAX_QUEUES};
 use page_device::{PAGE_BYTES, PageDevice};
 use queue_model::{Body, Message, Messages, Queue, System};
@@ -35,14 +36,17 @@ struct Parts {
 /// wrong by itself, or where there is no memory for it.
 pub(crate) fn gather<D: PageDevice, K: PseudoKey>(
     alloc: Global,
+    layout: &Layout,
     device: &mut D,
     keys: &K,
     chain: &[u32],
 ) -> Option<System>
-    requires { IsTrue (D.is_honest device.old) →
-        IsRightStructure (D.content device.old) chain.now }
+    requires layout { IsLayout layout.now }
+    requires structure { IsTrue (D.is_honest device.old) →
+        IsRightStructureIn layout.now (D.content device.old) chain.now }
     ensures right { IsTrue (D.is_honest device.old) → IfSome result (λ system.
-        AreRightRecords (K.of_key keys.now) (file_of (D.content device.old)) chain.now) }
+        AreRightRecordsIn layout.now (K.of_key keys.now)
+        (file_in layout.now (D.content device.old)) chain.now) }
     ensures running { IfSome result (λ system. system.stopped ≡ false) }
     ensures same { D.content device.new ≡ D.content device.old }
     ensures honest { D.is_honest device.new ≡ D.is_honest device.old }
@@ -53,7 +57,7 @@ pub(crate) fn gather<D: PageDevice, K: PseudoKey>(
         queues: Vec::new(alloc),
     };
     for page in chain {
-        gather_on(alloc, device, keys, *page, &mut parts)?;
+        gather_on(alloc, layout, device, keys, *page, &mut parts)?;
     }
     parts.whole(alloc)
 }
@@ -61,14 +65,16 @@ pub(crate) fn gather<D: PageDevice, K: PseudoKey>(
 /// Tests and adds what stands on a page of the chain.
 fn gather_on<D: PageDevice, K: PseudoKey>(
     alloc: Global,
+    layout: &Layout,
     device: &mut D,
     keys: &K,
     page: u32,
     parts: &mut Parts,
 ) -> Option<()>
-    requires { IsTrue (D.is_honest device.old) → IsLivePage (D.content device.old) page }
-    ensures right { IsTrue (D.is_honest device.old) → IfSome result (λ added.
-        AreRightIn (K.of_key keys.now) (file_of (D.content device.old)) page) }
+    requires { IsTrue (D.is_honest device.old) →
+        IsLivePage layout.now (D.content device.old) page }
+    ensures right { IsTrue (D.is_honest device.old) → IfSome result (λ added. AreRightOn
+        layout.now (K.of_key keys.now) (file_in layout.now (D.content device.old)) page) }
     ensures same { D.content device.new ≡ D.content device.old }
     ensures honest { D.is_honest device.new ≡ D.is_honest device.old }
     ensures later { D.fault_count device.old ≤ D.fault_count device.new }
@@ -76,15 +82,15 @@ fn gather_on<D: PageDevice, K: PseudoKey>(
     let mut bytes = [0; PAGE_BYTES];
     read_again(device, page, &mut bytes).ok()?;
     let bucket = bucket_in(&bytes, page).ok()?;
-    test_bucket(keys, page, &bucket).ok()?;
-    parts.add(alloc, &bucket)
+    test_bucket(layout, keys, page, &bucket).ok()?;
+    parts.add(alloc, layout, &bucket)
 }
 
 impl Parts {
     /// Adds what stands in a bucket.
-    fn add(&mut self, alloc: Global, bucket: &TestedBucket) -> Option<()> {
+    fn add(&mut self, alloc: Global, layout: &Layout, bucket: &TestedBucket) -> Option<()> {
         for record in bucket.records() {
-            match Record::decode(&record.key, record.value) {
+            match decode_in(layout, &record.key, record.value) {
                 Ok(Record::Counter(counter)) => self.next_id = counter.next_id,
                 Ok(Record::Queue(entry)) => self.add_queue(alloc, entry)?,
                 Ok(Record::Message(message)) => self.add_message(alloc, &message)?,

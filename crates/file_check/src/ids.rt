@@ -7,10 +7,11 @@ ghost use Rattle.file_check.specs.declared.fault.CheckFault.TheVariants as fault
 ghost use Rattle.file_check.specs.Fault.{IsOfMachineToo};
 ghost use Rattle.file_check.specs.Ids.{HasChain, ids_in};
 ghost use Rattle.file_check.specs.Records.{HasCheckCause, IsLivePage};
-ghost use Rattle.file_check.specs.Words.{contents, file_of, records_at};
+ghost use Rattle.file_check.specs.Words.{file_in, held_in, records_at};
 
 use crate::bucket::{bucket_in, read_again};
 use crate::fault::CheckFault;
+use directory::Layout;
 use file_records::TestedBucket;
 use page_device::{PAGE_BYTES, PageDevice};
 use queue_records::QUEUE;
@@ -20,12 +21,14 @@ use std::alloc::Global;
 /// written.
 pub fn queue_ids<D: PageDevice>(
     alloc: Global,
+    layout: &Layout,
     device: &mut D,
     chain: &[u32],
 ) -> Result<Vec<u32>, CheckFault>
-    requires { IsTrue (D.is_honest device.old) → HasChain (D.content device.old) chain.now }
-    ensures ok { IsTrue (D.is_honest device.old) → IfOk result (λ ids.
-        AreQueueIds (contents (file_of (D.content device.old))) ids.items) }
+    requires { IsTrue (D.is_honest device.old) →
+        HasChain layout.now (D.content device.old) chain.now }
+    ensures ok { IsTrue (D.is_honest device.old) → IfOk result (λ ids. AreQueueIds
+        (held_in layout.now (file_in layout.now (D.content device.old))) ids.items) }
     ensures err { IsTrue (D.is_honest device.old) → IfErr result IsOfMachineToo }
     ensures same { D.content device.new ≡ D.content device.old }
     ensures honest { D.is_honest device.new ≡ D.is_honest device.old }
@@ -33,7 +36,7 @@ pub fn queue_ids<D: PageDevice>(
 {
     let mut ids = Vec::new(alloc);
     for page in chain {
-        put_ids_on(device, *page, &mut ids)?;
+        put_ids_on(layout, device, *page, &mut ids)?;
     }
     ids.sort_unstable();
     ids.dedup();
@@ -42,18 +45,22 @@ pub fn queue_ids<D: PageDevice>(
 
 /// Puts the ids of the Queues on a page of the chain behind others.
 fn put_ids_on<D: PageDevice>(
+    layout: &Layout,
     device: &mut D,
     page: u32,
     ids: &mut Vec<u32>,
 ) -> Result<(), CheckFault>
-    requires { IsTrue (D.is_honest device.old) → IsLivePage (D.content device.old) page }
-    ensures ok { IsTrue (D.is_honest device.old) → OnOk result (ids.new.items
-        ≡ ids.old.items ++ ids_in (records_at (file_of (D.content device.old)) page)) }
+    requires { IsTrue (D.is_honest device.old) →
+        IsLivePage layout.now (D.content device.old) page }
+    ensures ok { IsTrue (D.is_honest device.old) → OnOk result (ids.new.items ≡ ids.old.items
+        ++ ids_in (records_at (file_in layout.now (D.content device.old)) page)) }
     ensures err { IsTrue (D.is_honest device.old) → IfErr result IsOfMachineToo }
     ensures same { D.content device.new ≡ D.content device.old }
     ensures honest { D.is_honest device.new ≡ D.is_honest device.old }
     ensures cause { HasCheckCause (D.fault_count device.old) (D.fault_count device.new) result }
 {
+    // The layout is seen by the contract alone.
+    let _ = layout;
     let mut bytes = [0; PAGE_BYTES];
     read_again(device, page, &mut bytes)?;
     put_ids_in(&bucket_in(&bytes, page)?, ids)

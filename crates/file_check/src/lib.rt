@@ -13,7 +13,7 @@ mod needs;
 mod records;
 mod strays;
 
-pub use checked::{Checked, check, check_records};
+pub use checked::{Checked, check, check_in, check_older, is_file_of};
 pub use fault::CheckFault;
 pub use ids::queue_ids;
 pub use laws::{

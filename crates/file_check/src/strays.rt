@@ -5,12 +5,13 @@ ghost use Rattle.std.specs.List.{All};
 ghost use Rattle.file_check.specs.Fault.{IsOfMachineToo};
 ghost use Rattle.file_check.specs.Records.{HasCheckCause, IsLivePage};
 ghost use Rattle.file_check.specs.Strays.{AreNeeded, AreNeededOn, IsFirstStray, IsNeeded, IsStrayIn};
-ghost use Rattle.file_check.specs.Words.{IsRightStructure, bucket_at, file_of};
+ghost use Rattle.file_check.specs.Words.{IsLayout, IsRightStructureIn, bucket_at, file_in};
 
 use crate::bucket::{bucket_in, read_again};
 use crate::fault::CheckFault;
 use crate::needs::needs;
 use bucket_page::RecordKey;
+use directory::Layout;
 use file_records::TestedBucket;
 use page_device::{PAGE_BYTES, PageDevice};
 use queue_model::System;
@@ -19,41 +20,49 @@ use queue_model::System;
 /// in the order of the chain, on each page from the lowest key on; the first that it does not need
 /// is answered. Nothing is written.
 pub fn test_strays<D: PageDevice>(
+    layout: &Layout,
     device: &mut D,
     chain: &[u32],
     system: &System,
 ) -> Result<(), CheckFault>
-    requires { IsTrue (D.is_honest device.old) →
-        IsRightStructure (D.content device.old) chain.now }
-    ensures ok { IsTrue (D.is_honest device.old) →
-        OnOk result (AreNeeded system.now (file_of (D.content device.old)) chain.now) }
+    requires layout { IsLayout layout.now }
+    requires structure { IsTrue (D.is_honest device.old) →
+        IsRightStructureIn layout.now (D.content device.old) chain.now }
+    ensures ok { IsTrue (D.is_honest device.old) → OnOk result
+        (AreNeeded system.now (file_in layout.now (D.content device.old)) chain.now) }
     ensures err { IsTrue (D.is_honest device.old) → IfErr result (λ fault. IsOfMachineToo fault
-        ⊎ IsFirstStray system.now (file_of (D.content device.old)) chain.now fault) }
+        ⊎ IsFirstStray system.now
+        (file_in layout.now (D.content device.old)) chain.now fault) }
     ensures same { D.content device.new ≡ D.content device.old }
     ensures honest { D.is_honest device.new ≡ D.is_honest device.old }
     ensures cause { HasCheckCause (D.fault_count device.old) (D.fault_count device.new) result }
 {
     for page in chain {
-        test_strays_on(device, *page, system)?;
+        test_strays_on(layout, device, *page, system)?;
     }
     Ok(())
 }
 
 /// Tests the records on a page of the chain.
 fn test_strays_on<D: PageDevice>(
+    layout: &Layout,
     device: &mut D,
     page: u32,
     system: &System,
 ) -> Result<(), CheckFault>
-    requires { IsTrue (D.is_honest device.old) → IsLivePage (D.content device.old) page }
-    ensures ok { IsTrue (D.is_honest device.old) →
-        OnOk result (AreNeededOn system.now (file_of (D.content device.old)) page) }
+    requires { IsTrue (D.is_honest device.old) →
+        IsLivePage layout.now (D.content device.old) page }
+    ensures ok { IsTrue (D.is_honest device.old) → OnOk result
+        (AreNeededOn system.now (file_in layout.now (D.content device.old)) page) }
     ensures err { IsTrue (D.is_honest device.old) → IfErr result (λ fault. IsOfMachineToo fault
-        ⊎ IsStrayIn system.now (bucket_at (file_of (D.content device.old)) page) page fault) }
+        ⊎ IsStrayIn system.now
+        (bucket_at (file_in layout.now (D.content device.old)) page) page fault) }
     ensures same { D.content device.new ≡ D.content device.old }
     ensures honest { D.is_honest device.new ≡ D.is_honest device.old }
     ensures cause { HasCheckCause (D.fault_count device.old) (D.fault_count device.new) result }
 {
+    // The layout is seen by the contract alone.
+    let _ = layout;
     let mut bytes = [0; PAGE_BYTES];
     read_again(device, page, &mut bytes)?;
     test_strays_in(page, &bucket_in(&bytes, page)?, system)

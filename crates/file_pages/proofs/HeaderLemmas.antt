@@ -25,7 +25,7 @@ header_changed (Ok value) s t v header changed change honest reads is made writt
     ∙ (λ j. with_header ((made ∙ ap change is) j) (store_of (reads.images honest j)))
 header_changed (Err fault) s t v header changed change honest reads is made written = tt
 
--- what a write behind a read leaves where it fails
+-- what a write after a read leaves where it fails
 pub nothing_changed : {T E : Type 0} (r : Result T E) (s t v : PoolState) → IsTrue s.honest → OnlyReads true s t
     → (IsTrue t.honest → OnErr r (v.images ≡ t.images)) → OnErr r (v.images ≡ s.images)
 nothing_changed (Ok value) s t v honest reads same = tt

@@ -36,7 +36,7 @@ pub half_spells : (r : Result (List ℕ) FileFault) (b : Bucket) → IfOk r (Spe
 half_spells (Ok half) b it = same_page (kinds.Bucket b) half it
 half_spells (Err fault) b it = tt
 
--- a page that was made behind a read, and stored
+-- a page that was made after a read, and stored
 pub page_stored : {T E : Type 0} (r : Result T E) (s t v : PoolState) (page : ℕ) (new : List ℕ) (kind : PageKind)
     → IsTrue s.honest → OnlyReads true s t → Spells kind new
     → (IsTrue t.honest → OnOk r (store_of v.images ≡ with_page page (page_in new) (store_of t.images)))
@@ -50,7 +50,7 @@ page_stored (Err fault) s t v page new kind honest reads spells stored = tt
 pub there_of : {page : ℕ} {s : Store} → IsBucketThere page s → IsThere page s
 there_of there = record { behind = there.behind; within = there.within }
 
--- why a page that was made behind a read is not stored
+-- why a page that was made after a read is not stored
 pub fails_to_store : {T : Type 0} (r : Result T FileFault) (s t v : PoolState) {page : ℕ} → IsTrue s.honest
     → IsFilePool s → OnlyReads true s t → IsThere page (store_of s.images)
     → (IsTrue t.honest → IsFilePool t → IsThere page (store_of t.images) → IfErr r (IsDevicesFault t v))

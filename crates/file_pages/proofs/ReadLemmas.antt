@@ -131,7 +131,7 @@ risen_after : {old mid new : ℕ} → old ≤ mid → HasRisen mid new → HasRi
 risen_after before (inl more) = inl (omega (arith, before, more))
 risen_after before (inr most) = inr most
 
--- the device's fault behind a read is so of both
+-- the device's fault after a read is so of both
 pub devices_after : {s t v : PoolState} {fault : FileFault} → s.faults ≤ t.faults → IsDevicesFault t v fault
     → IsDevicesFault s v fault
 devices_after before failed = record { risen = risen_after before failed.risen; told = failed.told }

@@ -148,7 +148,7 @@ written_store s t v page right new honest pinned is =
     ap (λ (p : PoolState). store_of p.images) is
     ∙ ap store_of (λ j. slice_set (pinned.keeps.images honest j) (pinned.right_is j) new)
 
--- a write behind a read is a write
+-- a write after a read is a write
 pub writes_on : (ok : Bool) (s t u : PoolState) → OnlyReads true s t → OnlyWrites ok t u → OnlyWrites ok s u
 writes_on ok s t u first next = record {
   ready = next.ready;

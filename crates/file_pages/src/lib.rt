@@ -23,5 +23,5 @@ pub use header::{
 };
 pub use page_device;
 pub use read::{copy_value, look, read_bucket, read_depth, read_entry};
-pub use records::{put_record, remove_record, replace_front, replace_record};
+pub use records::{put_record, remove_record, replace_front};
 pub use sight::{BucketSight, Sight};

@@ -6,7 +6,7 @@
 
 ghost use Rattle.std.specs.Prelude.{◌≡◌, ◌+◌, ◌≤◌, ◌++◌, true, is_ok, drop, length, None, IsTrue, IfErr, IsSome, OnOk, OnErr};
 ghost use Rattle.bucket_page.specs.declared.layout.TheConstants.{RECORD_HEAD_BYTES, ROOM_BYTES};
-ghost use Rattle.bucket_page.specs.Changes.{HasValueOf, IsBucketPage, value_of_key};
+ghost use Rattle.bucket_page.specs.Changes.{IsBucketPage, value_of_key};
 ghost use Rattle.bucket_page.specs.Reading.{records_in};
 ghost use Rattle.bucket_page.specs.Records.{lookup, pair, record_bytes};
 ghost use Rattle.hash_file.specs.Changes.{Put, Remove, Replace, write_record};
@@ -50,38 +50,6 @@ pub fn put_record<D: PageDevice>(
         return Err(FileFault::Failed);
     }
     let _ = pool.image_mut(&frame).put(key, value);
-    pool.unpin(frame);
-    Ok(())
-}
-
-/// Replaces the value of a key, in the bucket on a page, by one of the same length. It is `Failed`
-/// where the bucket has no such value.
-pub fn replace_record<D: PageDevice>(
-    pool: &mut Pool<D>,
-    page: u32,
-    key: &RecordKey,
-    value: &[u8],
-) -> Result<(), FileFault>
-    requires ready { IsReady pool.old }
-    ensures writes { OnlyWrites (is_ok result) pool.old pool.new }
-    ensures ok { IsTrue pool.old.honest → OnOk result (store_of pool.new.images ≡
-        write_record page (Replace (pair key.now value.now)) (store_of pool.old.images)) }
-    ensures err { IsTrue pool.old.honest → OnErr result (pool.new.images ≡ pool.old.images) }
-    ensures fault { IsTrue pool.old.honest → IsFilePool pool.old →
-        IsBucketThere page (store_of pool.old.images) →
-        HasValueOf (length value.now) key.now (records_at (store_of pool.old.images) page) →
-        IfErr result (IsDevicesFault pool.old pool.new) }
-    ensures cause { IfErr result (FileHasCause pool.old pool.new) }
-{
-    if page < ROOT_PAGE {
-        return Err(FileFault::Failed);
-    }
-    let frame = pin(pool, page)?;
-    if !has_value(pool.image(&frame), key, value.len()) {
-        pool.unpin(frame);
-        return Err(FileFault::Failed);
-    }
-    pool.image_mut(&frame).replace(key, value);
     pool.unpin(frame);
     Ok(())
 }
@@ -168,22 +136,6 @@ fn takes(page: &FilePage, key: &RecordKey, bytes: usize) -> bool
         return false;
     }
     bytes <= ROOM_BYTES && bucket.used() + (RECORD_HEAD_BYTES + bytes) <= ROOM_BYTES
-}
-
-/// Whether a page is a bucket that has a value of so many bytes under a key.
-fn has_value(page: &FilePage, key: &RecordKey, bytes: usize) -> bool
-    ensures bucket { result ≡ true → IsBucketPage page.now }
-    ensures there { result ≡ true → HasValueOf bytes key.now (records_in page.now) }
-    ensures taken { IsBucketPage page.now → HasValueOf bytes key.now (records_in page.now) →
-        result ≡ true }
-{
-    let Some(bucket) = page.bucket() else {
-        return false;
-    };
-    match bucket.find(key) {
-        Some(value) => value.len() == bytes,
-        None => false,
-    }
 }
 
 /// Whether a page is a bucket that has a value of at least so many bytes under a key.

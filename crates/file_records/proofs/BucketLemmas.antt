@@ -2,7 +2,7 @@
 use Rattle.std.proofs.Common.{ℕ, ◌≡◌, ◌<◌, ◌≤◌, ◌⊎◌, ◌%◌, ◌^◌, List, length, sym, ap, subst, ◌∙◌, inl, inr, arith}
 use Rattle.std.proofs.lemmas.Nat.{mod_below, pow_pos}
 use Rattle.std.proofs.lemmas.List.{get_or-take}
-use Rattle.file_walk.specs.Structure.{IsRightStructure}
+use Rattle.file_walk.specs.Structure.{IsRightStructureIn}
 use Rattle.file_walk.proofs.SoundLemmas.{structure_sound}
 use Rattle.hash_file.specs.Chain.{IsBucketOn, IsChain, pairs_on}
 use Rattle.hash_file.specs.Store.{range_at}
@@ -12,20 +12,22 @@ use Rattle.positions.proofs.PartitionLaws.{partition_tiles}
 use Rattle.positions.proofs.RangeLaws.{covers_truncated}
 use Rattle.file_records.specs.Answers.{AnswersFor, entry_for}
 use Rattle.file_records.specs.Files.{HasRecords, IsRecord}
-use Rattle.file_records.specs.Words.{RecordKey, IsOfMachine, Store, WalkFault, bucket_at, contents, entry_at, file_of, lookup, payload_on, records_at}
+use Rattle.file_records.specs.Versions.{found_in, held_in}
+use Rattle.file_records.specs.Words.{IsLayout, IsOfMachine, Layout, RecordKey, Spells, Store, WalkFault, bucket_at, contents, entry_at, file_in, lookup, payload_on, records_at}
 use Rattle.file_records.proofs.PageLemmas.{looked_up, read_as, within}
+use Rattle.file_records.proofs.VersionLemmas.{found_back, held_is}
 
 -- ---- the bucket of a key
 
-module _ (hash : RecordKey → ℕ) (content : List (List ℕ)) (outline : Store) (h : HasRecords hash content outline)
-    (key : RecordKey) where
+module _ (l : Layout) (laid : IsLayout l) (hash : RecordKey → ℕ) (content : List (List ℕ)) (outline : Store)
+    (h : HasRecords l hash content outline) (key : RecordKey) where
   abbrev s : Store
-  s = file_of content
+  s = file_in l content
 
   abbrev n : ℕ
   n = entry_for outline (hash key)
 
-  abbrev right : IsRightStructure content h.chain
+  abbrev right : IsRightStructureIn l content h.chain
   right = h.structure.right
 
   below : hash key % 2 ^ s.header.depth < 2 ^ s.header.depth
@@ -54,31 +56,36 @@ module _ (hash : RecordKey → ℕ) (content : List (List ℕ)) (outline : Store
   -- which has of the key what the file holds
   held_here : contents s key ≡ lookup key (records_at s n)
   held_here =
-      let quiet = structure_sound hash content h.chain right h.placed in
+      let quiet = structure_sound l laid hash content h.chain right h.placed in
       ap (λ (ns : List ℕ). lookup key (pairs_on s ns)) quiet.chained
       ∙ look_at hash s key h.chain n chained h.placed its_bucket
 
-module _ (hash : RecordKey → ℕ) (content : List (List ℕ)) (outline : Store) (h : HasRecords hash content outline)
-    (key : RecordKey) (m : ℕ) (is : m ≡ entry_for outline (hash key)) where
+module _ (l : Layout) (laid : IsLayout l) (hash : RecordKey → ℕ) (content : List (List ℕ)) (outline : Store)
+    (h : HasRecords l hash content outline) (key : RecordKey) (m : ℕ) (is : m ≡ entry_for outline (hash key)) where
   -- so its page answers for the key
   pub named_answers : (page : List ℕ) → payload_of page ≡ payload_on content m →
-      AnswersFor (contents (file_of content)) key page
+      AnswersFor l (held_in l (file_in l content)) key page
   named_answers page same =
       let n : ℕ = entry_for outline (hash key) in
-      let on = its_bucket hash content outline h key in
-      let here = held_here hash content outline h key in
+      let on = its_bucket l laid hash content outline h key in
+      let here = held_here l laid hash content outline h key in
       record {
-        bucket = bucket_at (file_of content) n;
-        read = read_as content h.chain h.structure.right n on.0 (payload_of page) (same ∙ ap (payload_on content) is);
-        value = sym here;
-        spelled = λ value held. looked_up IsRecord key value (records_at (file_of content) n) (h.spelled n on.0)
-            (sym here ∙ held);
+        bucket = bucket_at (file_in l content) n;
+        read = read_as l laid content h.chain h.structure.right n on.0 (payload_of page)
+            (same ∙ ap (payload_on content) is);
+        value = sym (held_is l (file_in l content) key ∙ ap (found_in l key) here);
+        spelled = λ value held.
+            let raw = found_back l key (contents (file_in l content) key) value
+            (sym (held_is l (file_in l content) key) ∙ held) in
+            let r = looked_up (IsRecord l) key raw.0 (records_at (file_in l content) n) (h.spelled n on.0)
+            (sym here ∙ raw.1) in
+            (r.0, subst (Spells r.0 key) raw.2 r.1);
       }
 
   -- and it is no page past the end
   pub named_within : (fault : WalkFault) → IsOfMachine fault ⊎ (length content ≤ m) → IsOfMachine fault
   named_within fault (inl machine) = machine
   named_within fault (inr past) =
-      let on = its_bucket hash content outline h key in
-      let there = within content h.chain h.structure.right (entry_for outline (hash key)) on.0 in
+      let on = its_bucket l laid hash content outline h key in
+      let there = within l laid content h.chain h.structure.right (entry_for outline (hash key)) on.0 in
       absurd (omega (arith, is, there, past))

@@ -13,31 +13,30 @@ use Rattle.bucket_page.specs.Keys.{is_same}
 use Rattle.bucket_page.specs.Reading.{answer, fault_of, page_in}
 use Rattle.bucket_page.specs.Records.{pair}
 use Rattle.bucket_page.proofs.KeyLaws.{same_is}
-use Rattle.file_walk.specs.Files.{pages_on, said_by, said_on}
-use Rattle.file_walk.specs.Order.{IsRightPage, after_reading}
-use Rattle.file_walk.specs.Structure.{IsRightStructure}
+use Rattle.file_walk.specs.Files.{pages_in, said_by, said_on}
+use Rattle.file_walk.specs.Order.{IsRightPageIn, after_reading}
+use Rattle.file_walk.specs.Structure.{IsRightStructureIn}
 use Rattle.file_walk.proofs.PagesLemmas.{pages_at, pages_length}
 use Rattle.hash_file.specs.Store.{bucket_of, has_bucket, is_bucket}
-use Rattle.directory.specs.declared.layout.TheConstants.{ROOT_PAGE}
-use Rattle.file_records.specs.Words.{RecordKey, Pair, bucket_at, file_of, lookup, payload_on, reading}
+use Rattle.file_records.specs.Words.{IsLayout, Layout, RecordKey, Pair, bucket_at, file_in, lookup, payload_on, reading}
 
 -- ---- a page of the chain
 
-low_bucket : (content : List (List ℕ)) (n : ℕ) → n < ROOT_PAGE → has_bucket (file_of content) n ≡ false
-unfolding pages_on
-low_bucket content n small =
+low_bucket : (l : Layout) (content : List (List ℕ)) (n : ℕ) → n < l.root_page → has_bucket (file_in l content) n ≡ false
+unfolding pages_in
+low_bucket l content n small =
     let d : PageKind = kinds.Directory [] in
-    let some : n < length (replicate ROOT_PAGE d) =
-    subst (λ m. n < m) (sym (length-replicate ROOT_PAGE d)) small in
-    ap is_bucket (get_or_append_left (replicate ROOT_PAGE d) (map said_by (drop ROOT_PAGE content)) (kinds.Free 0) n
+    let some : n < length (replicate l.root_page d) =
+    subst (λ m. n < m) (sym (length-replicate l.root_page d)) small in
+    ap is_bucket (get_or_append_left (replicate l.root_page d) (map said_by (drop l.root_page content)) (kinds.Free 0) n
     some
-    ∙ get_or-replicate ROOT_PAGE n d (kinds.Free 0) small)
+    ∙ get_or-replicate l.root_page n d (kinds.Free 0) small)
 
-past_bucket : (content : List (List ℕ)) (n : ℕ) → ROOT_PAGE ≤ length content → length content ≤ n →
-    has_bucket (file_of content) n ≡ false
-past_bucket content n long past =
-    ap is_bucket (get_or-eq_default (pages_on content) (kinds.Free 0)
-    (subst (λ m. m ≤ n) (sym (pages_length content long)) past))
+past_bucket : (l : Layout) → IsLayout l → (content : List (List ℕ)) (n : ℕ) → l.root_page ≤ length content
+    → length content ≤ n → has_bucket (file_in l content) n ≡ false
+past_bucket l laid content n long past =
+    ap is_bucket (get_or-eq_default (pages_in l content) (kinds.Free 0)
+    (subst (λ m. m ≤ n) (sym (pages_length l laid content long)) past))
 
 no_fault : (fault : Option Malformed) (stands : Bool) → after_reading fault stands ≡ None → fault ≡ None
 no_fault None stands e = refl
@@ -53,17 +52,18 @@ said_is : (content : List (List ℕ)) (n : ℕ) → said_on content n ≡ page_i
 unfolding said_by
 said_is content n = refl
 
-module _ (content : List (List ℕ)) (ns : List ℕ) (r : IsRightStructure content ns) (n : ℕ) (on : Contains ns n) where
-  live : has_bucket (file_of content) n ≡ true
+module _ (l : Layout) (laid : IsLayout l) (content : List (List ℕ)) (ns : List ℕ) (r : IsRightStructureIn l content ns)
+    (n : ℕ) (on : Contains ns n) where
+  live : has_bucket (file_in l content) n ≡ true
   live = r.chain.buckets n on
 
-  long : ROOT_PAGE ≤ length content
+  long : l.root_page ≤ length content
   long = let h = r.pages.header in let least = h.in_range.least in let many = h.as_many in omega (arith, least, many)
 
-  behind_root : (b : Bool) → nat_lt n ROOT_PAGE ≡ b → ROOT_PAGE ≤ n
+  behind_root : (b : Bool) → nat_lt n l.root_page ≡ b → l.root_page ≤ n
   behind_root true less = (
-      let small : n < ROOT_PAGE = grind (arith, nat_tests) in
-      let clash : true ≡ false = sym live ∙ low_bucket content n small in
+      let small : n < l.root_page = grind (arith, nat_tests) in
+      let clash : true ≡ false = sym live ∙ low_bucket l content n small in
       absurd cc)
   behind_root false more = grind (arith, nat_tests)
 
@@ -71,7 +71,7 @@ module _ (content : List (List ℕ)) (ns : List ℕ) (r : IsRightStructure conte
   within_file true less = grind (arith, nat_tests)
   within_file false more = (
       let past : length content ≤ n = grind (arith, nat_tests) in
-      let clash : true ≡ false = sym live ∙ past_bucket content n long past in
+      let clash : true ≡ false = sym live ∙ past_bucket l laid content n long past in
       absurd cc)
 
   pub within : n < length content
@@ -79,13 +79,14 @@ module _ (content : List (List ℕ)) (ns : List ℕ) (r : IsRightStructure conte
 
   -- its payload is read as the bucket that the file has there
   pub read_as : (payload : List ℕ) → payload ≡ payload_on content n →
-      reading payload ≡ Ok (kinds.Bucket (bucket_at (file_of content) n))
+      reading payload ≡ Ok (kinds.Bucket (bucket_at (file_in l content) n))
   read_as payload same =
-      let behind = behind_root (nat_lt n ROOT_PAGE) refl in
-      let right : IsRightPage content n = r.pages.pages n (omega (arith, behind)) within in
+      let behind = behind_root (nat_lt n l.root_page) refl in
+      let root = laid.root in
+      let right : IsRightPageIn l content n = r.pages.pages n (omega (arith, behind, root)) within in
       let sound : fault_of (payload_on content n) ≡ None = no_fault _ _ right.formed in
-      let is : slice_index_or (pages_on content) n (kinds.Free 0) ≡ page_in (payload_on content n) =
-      pages_at content n (kinds.Free 0) behind within ∙ said_is content n in
+      let is : slice_index_or (pages_in l content) n (kinds.Free 0) ≡ page_in (payload_on content n) =
+      pages_at l laid content n (kinds.Free 0) behind within ∙ said_is content n in
       ap reading same
       ∙ ap (λ (fault : Option Malformed). answer fault (page_in (payload_on content n))) sound
       ∙ ap (λ (page : PageKind). Ok page) (sym is ∙ is_kind _ live)

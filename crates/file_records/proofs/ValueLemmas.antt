@@ -4,8 +4,8 @@ use Rattle.queue_records.specs.declared.bad_record.BadRecord.{BadRecord}
 use Rattle.queue_records.specs.declared.record.Record.TheVariants as records
 use Rattle.queue_records.specs.Keys.{key_of_message}
 use Rattle.record_walk.specs.Held.{IsMessageAt, entry_with}
-use Rattle.file_records.specs.Answers.{IsRecordAt, StandsAt}
-use Rattle.file_records.specs.Words.{RecordKey, Holds, Linked, MessageEntry, Record, Spells, key_of, linked_of}
+use Rattle.file_records.specs.Answers.{AnswersFor, IsRecordAt, StandsAt}
+use Rattle.file_records.specs.Words.{Layout, RecordKey, Holds, Linked, MessageEntry, Record, Spells, key_of, linked_of}
 
 module _ (held : RecordKey → Option (List ℕ)) (key : RecordKey) where
   pub none_at : held key ≡ None → IsRecordAt held key None
@@ -98,3 +98,8 @@ linked_at held id serial m mtype bytes at typed copied =
       its = ap (λ (k : RecordKey). k.number) at.keyed;
       stands = subst (λ (x : MessageEntry). Holds held (records.Message x)) same at.stands;
     }
+
+-- a page answers in the layout that it is read in
+pub answers_in : (l read : Layout) (held : RecordKey → Option (List ℕ)) (key : RecordKey) (page : List ℕ) → read ≡ l →
+    AnswersFor l held key page → AnswersFor read held key page
+answers_in l read held key page is a = subst (λ (x : Layout). AnswersFor x held key page) (sym is) a

@@ -1,31 +1,37 @@
 -- A file whose structure and records are right, and what is seen of a device that holds it.
-use Rattle.std.specs.Prelude.{ℕ, Bool, List, Option}
+use Rattle.std.specs.Prelude.{◌≡◌, ℕ, Bool, List, Option}
 use Rattle.std.specs.List.{All, Contains}
-use Rattle.file_records.specs.Words.{RecordKey, Pair, Record, Spells, Store, IsPlaced, IsStructureOf, bucket_at, contents, file_of, records_at}
+use Rattle.file_records.specs.Versions.{SpellsIn, held_in}
+use Rattle.file_records.specs.Words.{IsLayout, RecordKey, Layout, Pair, Record, Store, IsPlaced, IsStructureIn, bucket_at, file_in, records_at}
 
 -- key and value are a record's
-abbrev pub IsRecord : Pair → Type 0
-IsRecord p = (r : Record) × Spells r p.key p.value
+abbrev pub IsRecord : Layout → Pair → Type 0
+IsRecord l p = (r : Record) × SpellsIn l r p.key p.value
 
 -- the structure is right, and this is what is kept of it; each record is one, and stands where it is looked for
-pub record HasRecords (hash : RecordKey → ℕ) (content : List (List ℕ)) (outline : Store) : Type 0 where
+pub record HasRecords (l : Layout) (hash : RecordKey → ℕ) (content : List (List ℕ)) (outline : Store) : Type 0 where
   pub chain : List ℕ
-  pub structure : IsStructureOf content outline chain
-  pub placed : (n : ℕ) → Contains chain n → IsPlaced hash (bucket_at (file_of content) n)
-  pub spelled : (n : ℕ) → Contains chain n → All IsRecord (records_at (file_of content) n)
+  pub structure : IsStructureIn l content outline chain
+  pub placed : (n : ℕ) → Contains chain n → IsPlaced hash (bucket_at (file_in l content) n)
+  pub spelled : (n : ℕ) → Contains chain n → All (IsRecord l) (records_at (file_in l content) n)
 
--- the pages of a device, whether it is honest, and how many transfers have failed
+-- the layout of a file, its pages, whether their device is honest, and how many transfers have failed
 pub record Source : Type 0 where
+  pub layout : Layout
   pub content : List (List ℕ)
   pub honest : Bool
   pub faults : ℕ
 
+-- both have one layout and the same pages, and are as honest
+pub record IsSameFile (old new : Source) : Type 0 where
+  pub layout : new.layout ≡ old.layout
+  pub content : new.content ≡ old.content
+  pub honest : new.honest ≡ old.honest
+
 -- what the file on these pages holds at a key
-abbrev pub held_in : List (List ℕ) → RecordKey → Option (List ℕ)
-held_in content key = contents (file_of content) key
-
 abbrev pub held_on : Source → RecordKey → Option (List ℕ)
-held_on source = held_in source.content
+held_on source = held_in source.layout (file_in source.layout source.content)
 
-abbrev pub source : List (List ℕ) → Bool → ℕ → Source
-source content honest faults = record { content = content; honest = honest; faults = faults }
+abbrev pub source : Layout → List (List ℕ) → Bool → ℕ → Source
+source layout content honest faults =
+    record { layout = layout; content = content; honest = honest; faults = faults }

@@ -1,4 +1,5 @@
 pub mod Words
+pub mod Versions
 pub mod Answers
 pub mod Files
 pub mod Tested

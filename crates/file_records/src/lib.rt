@@ -7,7 +7,8 @@ mod look;
 mod page;
 mod tested;
 mod values;
+mod versions;
 
 pub use file_records::FileRecords;
 pub use tested::{TestedBucket, read_tested};
-pub use values::is_spelled;
+pub use versions::{decode_in, is_spelled_in};

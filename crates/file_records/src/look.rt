@@ -4,7 +4,8 @@ ghost use Rattle.std.specs.Prelude.{◌≡◌};
 
 use crate::file_records::FileRecords;
 use crate::page::value_in;
-use crate::values::{is_spelled, record_in};
+use crate::values::record_in;
+use crate::versions::is_spelled_in;
 use bucket_page::PseudoKey;
 use page_device::{PAGE_BYTES, PageDevice};
 use queue_model::{Body, Message};
@@ -25,9 +26,10 @@ impl<D: PageDevice, K: PseudoKey + Drop> Records for FileRecords<D, K> {
 
     fn counter(&mut self) -> Result<Option<Counter>, WalkFault> {
         let key = counter_key();
+        let layout = self.layout();
         let mut bytes = [0; PAGE_BYTES];
         let page = self.read_page_of(&key, &mut bytes)?;
-        match record_in(&bytes, page, &key)? {
+        match record_in(&layout, &bytes, page, &key)? {
             Some(Record::Counter(counter)) => Ok(Some(counter)),
             Some(_) => Ok(None),
             None => Ok(None),
@@ -36,9 +38,10 @@ impl<D: PageDevice, K: PseudoKey + Drop> Records for FileRecords<D, K> {
 
     fn queue(&mut self, id: u32) -> Result<Option<QueueEntry>, WalkFault> {
         let key = queue_key(id);
+        let layout = self.layout();
         let mut bytes = [0; PAGE_BYTES];
         let page = self.read_page_of(&key, &mut bytes)?;
-        match record_in(&bytes, page, &key)? {
+        match record_in(&layout, &bytes, page, &key)? {
             Some(Record::Queue(queue)) => Ok(Some(queue)),
             Some(_) => Ok(None),
             None => Ok(None),
@@ -52,9 +55,10 @@ impl<D: PageDevice, K: PseudoKey + Drop> Records for FileRecords<D, K> {
         serial: u64,
     ) -> Result<Option<Linked>, WalkFault> {
         let key = message_key(id, serial);
+        let layout = self.layout();
         let mut bytes = [0; PAGE_BYTES];
         let page = self.read_page_of(&key, &mut bytes)?;
-        match record_in(&bytes, page, &key)? {
+        match record_in(&layout, &bytes, page, &key)? {
             Some(Record::Message(message)) => Ok(Some(Linked {
                 message: Message {
                     serial: message.serial,
@@ -75,10 +79,11 @@ impl<D: PageDevice, K: PseudoKey + Drop> Records for FileRecords<D, K> {
 
     fn holds(&mut self, wanted: &Record) -> Result<bool, WalkFault> {
         let key = wanted.key();
+        let layout = self.layout();
         let mut bytes = [0; PAGE_BYTES];
         let page = self.read_page_of(&key, &mut bytes)?;
-        match value_in(&bytes, page, &key)? {
-            Some(value) => Ok(is_spelled(wanted, value)),
+        match value_in(&layout, &bytes, page, &key)? {
+            Some(value) => Ok(is_spelled_in(&layout, wanted, value)),
             None => Ok(false),
         }
     }

@@ -3,10 +3,12 @@
 ghost use Rattle.std.specs.Prelude.{◌≡◌, ◌≤◌, ◌⊎◌, ℕ, List, Option, Some, None, length, IsTrue, IfErr, IfOk, IfSome, IfNone, IsOk, OnOk};
 ghost use Rattle.page_device.specs.Sealed.{payload_of};
 ghost use Rattle.file_records.specs.Answers.{AnswersFor, entry_for};
+ghost use Rattle.file_records.specs.Versions.{today_in};
 ghost use Rattle.file_records.specs.Words.{IsOfMachine, IsCaused, RecordKey, payload_on};
 
 use crate::tested::read_tested;
 use bucket_page::{PseudoKey, RecordKey};
+use directory::Layout;
 use file_walk::Outline;
 use page_device::{DeviceFault, Page, PageDevice};
 use positions::index;
@@ -42,19 +44,22 @@ pub(crate) fn read_again<D: PageDevice>(
     }
 }
 
-/// The value of a key, lent by the page of a bucket. A page of another kind has changed since it
-/// was tested.
+/// The value of a key, lent by the page of a bucket, as the layout of the file has it. A page of
+/// another kind has changed since it was tested.
 pub(crate) fn value_in<'p>(
+    layout: &Layout,
     bytes: &'p Page,
     page: u32,
     key: &RecordKey,
 ) -> Result<Option<&'p [u8]>, WalkFault>
-    ensures some { (held : RecordKey → Option (List ℕ)) → AnswersFor held key.now bytes.now →
-        IfOk result (λ found. IfSome found (λ value. held key.now ≡ Some value.now)) }
-    ensures none { (held : RecordKey → Option (List ℕ)) → AnswersFor held key.now bytes.now →
+    ensures some { (held : RecordKey → Option (List ℕ)) →
+        AnswersFor layout.now held key.now bytes.now → IfOk result (λ found. IfSome found
+        (λ value. held key.now ≡ Some (today_in layout.now key.now value.now))) }
+    ensures none { (held : RecordKey → Option (List ℕ)) →
+        AnswersFor layout.now held key.now bytes.now →
         IfOk result (λ found. IfNone found (held key.now ≡ None)) }
-    ensures ok { (held : RecordKey → Option (List ℕ)) → AnswersFor held key.now bytes.now →
-        IsOk result }
+    ensures ok { (held : RecordKey → Option (List ℕ)) →
+        AnswersFor layout.now held key.now bytes.now → IsOk result }
     ensures err { IfErr result (λ fault. fault ≡ WalkFault.Changed page) }
 {
     match read_tested(bytes) {

@@ -1,4 +1,3 @@
-//! Chains, directories and names of kinds, worked by hand.
+//! Names of kinds, worked by hand.
 
-mod chains;
 mod kinds;

@@ -1,5 +1,5 @@
 -- Nothing is wrong with what is right.
-use Rattle.std.proofs.Common.{ℕ, suc, ◌≡◌, ◌≢◌, ◌+◌, ◌<◌, Bool, true, false, if◌then◌else◌, List, [], ◌∷◌, ◌++◌, length, refl, sym, ap, subst, ◌∙◌, inl, inr, arith}
+use Rattle.std.proofs.Common.{ℕ, suc, ◌≡◌, ◌≢◌, ◌+◌, ◌<◌, nat_le, nat_lt, ◌&&◌, Bool, true, false, if◌then◌else◌, List, [], ◌∷◌, ◌++◌, length, refl, sym, ap, subst, ◌∙◌, inl, inr, arith}
 use Rattle.std.specs.List.{Contains}
 use Rattle.std.proofs.lemmas.List.{append_assoc, append-nil}
 use Rattle.std.proofs.lemmas.Bool.Decides.{nat_tests}
@@ -15,11 +15,14 @@ use Rattle.hash_file.specs.Sound.{is_numbered}
 use Rattle.hash_file.proofs.Lists.{times_append, times_member}
 use Rattle.file_walk.specs.declared.fault.StructureFault.{StructureFault}
 use Rattle.file_walk.specs.declared.fault.StructureFault.TheVariants as faults
-use Rattle.file_walk.specs.Files.{file_of}
-use Rattle.file_walk.specs.Order.{HasHeader, IsHeaderFault, IsFaultOf, IsRightPage}
-use Rattle.file_walk.specs.Structure.{IsRightStructure, IsFirstWrongThing}
+use Rattle.file_walk.specs.Files.{file_in, pages_in}
+use Rattle.file_walk.specs.Order.{HasHeaderIn, IsHeaderFaultIn, IsFaultIn, IsRightPageIn}
+use Rattle.file_walk.specs.Structure.{IsRightStructureIn, IsFirstWrongThingIn}
 use Rattle.file_walk.specs.Walks.{IsRightChain, AreRightSpares, IsNotFree, IsLost, IsRightDirectory, IsChainFault, IsSparesFault, IsDirectoryFault}
+use Rattle.file_walk.proofs.PageLemmas.{right_formed}
 use Rattle.file_walk.proofs.ChainLemmas.{broken_is_no_chain, no_tile_behind}
+use Rattle.directory.specs.declared.layout.Layout.{Layout}
+use Rattle.directory.specs.Layouts.{IsLayout, least_pages}
 
 -- what stands between two lists stands on both together
 contains_inside : (front : List ℕ) (x : ℕ) (back : List ℕ) → Contains (front ++ x ∷ back) x
@@ -28,22 +31,25 @@ contains_inside (y ∷ front) x back = contains_tail y x (front ++ x ∷ back) (
 
 -- ---- pages
 
-header_right : (content : List (List ℕ)) (fault : StructureFault) → HasHeader content → IsHeaderFault content fault → ⊥
-header_right content (faults.BadDigest page) h w = w.2 h.sealed
-header_right content faults.PastEnd h (inl none) =
-    let some = h.as_many in let least = h.in_range.least in absurd (omega arith)
-header_right content faults.PastEnd h (inr cut) = let same = h.as_many in let more = cut.more in absurd (omega arith)
-header_right content faults.BadHeader h (inl refused) = let read = h.read in let other = refused.read in absurd cc
-header_right content faults.BadHeader h (inr long) = let same = h.as_many in let fewer =
-    long.fewer in absurd (omega arith)
-header_right content faults.BadVersion h refused = let read = h.read in let other = refused.read in absurd cc
-header_right content fault h w = absurd w
+module _ (l : Layout) (laid : IsLayout l) where
+  header_right : (content : List (List ℕ)) (fault : StructureFault) → HasHeaderIn l content
+      → IsHeaderFaultIn l content fault → ⊥
+  header_right content (faults.BadDigest page) h w = w.2 h.sealed
+  header_right content faults.PastEnd h (inl none) =
+      let some = h.as_many in let least = h.in_range.least in absurd (omega arith)
+  header_right content faults.PastEnd h (inr cut) = let same = h.as_many in let more = cut.more in absurd (omega arith)
+  header_right content faults.BadHeader h (inl refused) = let read = h.read in let other = refused.read in absurd cc
+  header_right content faults.BadHeader h (inr long) = let same = h.as_many in let fewer =
+      long.fewer in absurd (omega arith)
+  header_right content faults.BadVersion h refused = let read = h.read in let other = refused.read in absurd cc
+  header_right content fault h w = absurd w
 
-page_right : (content : List (List ℕ)) (n : ℕ) (fault : StructureFault) → IsRightPage content n →
-    IsFaultOf content n fault → ⊥
-page_right content n (faults.BadDigest page) r w = w.1 r.sealed
-page_right content n (faults.Malformed page reason) r w = let none = r.formed in let some = w.2 in absurd cc
-page_right content n fault r w = absurd w
+  page_right : (content : List (List ℕ)) (n : ℕ) (fault : StructureFault) → IsRightPageIn l content n →
+      IsFaultIn l content n fault → ⊥
+  page_right content n (faults.BadDigest page) r w = w.1 r.sealed
+  page_right content n (faults.Malformed page reason) r w =
+      let none = right_formed l laid content n r in let some = w.2 in absurd cc
+  page_right content n fault r w = absurd w
 
 -- ---- the chain
 
@@ -173,17 +179,21 @@ module _ (s : Store) where
 
 -- ---- all of it
 
-pub right_has_no_fault : (content : List (List ℕ)) (ns : List ℕ) (fault : StructureFault) →
-    IsRightStructure content ns → IsFirstWrongThing content fault → ⊥
-right_has_no_fault content ns fault r (inl w) = header_right content fault r.pages.header w
-right_has_no_fault content ns fault r (inr (inl w)) =
-    page_right content w.1.page fault (r.pages.pages w.1.page w.1.behind w.1.within) w.1.wrong
-right_has_no_fault content ns fault r (inr (inr (inl w))) = chain_right (file_of content) ns fault r.chain w.wrong
-right_has_no_fault content ns fault r (inr (inr (inr (inl w)))) =
-    let same : w.chain ≡ ns = one_chain (file_of content) w.chain ns w.chain_is r.chain in
-    spares_right (file_of content) ns r.spares.0 r.spares.1 refl fault
-    (subst (λ xs. IsSparesFault (file_of content) xs fault) same w.wrong)
-right_has_no_fault content ns fault r (inr (inr (inr (inr w)))) =
-    let same : w.chain ≡ ns = one_chain (file_of content) w.chain ns w.chain_is r.chain in
-    directory_right (file_of content) ns fault r.index
-    (subst (λ xs. IsDirectoryFault (file_of content) xs fault) same w.wrong)
+module _ (l : Layout) (laid : IsLayout l) where
+  no_page_0 : (n : ℕ) → (nat_le l.root_page 0 && nat_lt 0 n) ≡ false
+  no_page_0 n = let root = laid.root in grind (arith, nat_tests)
+
+  pub right_has_no_fault : (content : List (List ℕ)) (ns : List ℕ) (fault : StructureFault) →
+      IsRightStructureIn l content ns → IsFirstWrongThingIn l content fault → ⊥
+  right_has_no_fault content ns fault r (inl w) = header_right l laid content fault r.pages.header w
+  right_has_no_fault content ns fault r (inr (inl w)) =
+      page_right l laid content w.1.page fault (r.pages.pages w.1.page w.1.behind w.1.within) w.1.wrong
+  right_has_no_fault content ns fault r (inr (inr (inl w))) = chain_right (file_in l content) ns fault r.chain w.wrong
+  right_has_no_fault content ns fault r (inr (inr (inr (inl w)))) =
+      let same : w.chain ≡ ns = one_chain (file_in l content) w.chain ns w.chain_is r.chain in
+      spares_right (file_in l content) ns r.spares.0 r.spares.1 (no_page_0 (length (pages_in l content))) fault
+      (subst (λ xs. IsSparesFault (file_in l content) xs fault) same w.wrong)
+  right_has_no_fault content ns fault r (inr (inr (inr (inr w)))) =
+      let same : w.chain ≡ ns = one_chain (file_in l content) w.chain ns w.chain_is r.chain in
+      directory_right (file_in l content) ns fault r.index
+      (subst (λ xs. IsDirectoryFault (file_in l content) xs fault) same w.wrong)

@@ -6,7 +6,6 @@ use Rattle.std.proofs.lemmas.List.{take_more}
 use Rattle.std.proofs.lemmas.List.Elements.{Contains-append_cases}
 use Rattle.positions.specs.Ranges.{Covers}
 use Rattle.positions.proofs.MemberLaws.{contains_cases, contains_none}
-use Rattle.directory.specs.declared.layout.TheConstants.{ROOT_PAGE}
 use Rattle.hash_file.specs.declared.page.Shape.{Shape}
 use Rattle.hash_file.specs.Store.{Store, is_bucket, has_bucket, bucket_at}
 use Rattle.hash_file.specs.Chain.{IsBucketOn, times, number_on}
@@ -25,7 +24,7 @@ module _ (s : Store) (ns : List ℕ) where
             let none : has_bucket s n ≡ false = ap is_bucket free in let live = b.live in absurd cc
       ]
     where
-      behind : (c : Bool) → nat_lt n ROOT_PAGE ≡ c → ROOT_PAGE ≤ n
+      behind : (c : Bool) → nat_lt n s.layout.root ≡ c → s.layout.root ≤ n
       behind true e =
           let none : has_bucket s n ≡ false = ap is_bucket (o.low n (grind (arith, nat_tests))) in
           let live = b.live in absurd cc
@@ -33,8 +32,7 @@ module _ (s : Store) (ns : List ℕ) where
 
       number : is_numbered s n ≡ true
       number =
-          let root : s.layout.root ≡ ROOT_PAGE = ap (λ l. l.root) o.laid_out in
-          let from : s.layout.root ≤ n = subst (λ r. r ≤ n) (sym root) (behind (nat_lt n ROOT_PAGE) refl) in
+          let from : s.layout.root ≤ n = behind (nat_lt n s.layout.root) refl in
           let within = b.within in
           grind (arith, nat_tests)
 

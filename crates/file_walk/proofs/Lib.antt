@@ -11,3 +11,4 @@ pub mod OutlinedLemmas
 pub mod StructureLemmas
 pub mod SoundLemmas
 pub mod FaultLemmas
+pub mod Today

@@ -9,7 +9,9 @@ use Rattle.hash_file.specs.declared.page.Shape.{Shape}
 use Rattle.hash_file.specs.Store.{Store, is_bucket, bucket_of, has_bucket, IsFreePage, next_at}
 use Rattle.file_walk.specs.declared.form.Form.{Form}
 use Rattle.file_walk.specs.declared.form.Form.TheVariants as forms
-use Rattle.file_walk.specs.Outlines.{file_shown, shown, shape_of_bucket, IsKeptAt, IsBucketAt, IsFreeAt, IsOutline, IsOutlined}
+use Rattle.file_walk.specs.Outlines.{shown_in, shown, shape_of_bucket, IsKeptAt, IsBucketAt, IsFreeAt, IsOutlineIn, IsOutlined}
+use Rattle.directory.specs.declared.layout.Layout.{Layout}
+use Rattle.directory.specs.Layouts.{IsLayout, least_pages}
 
 module _ (s : Store) (n : ℕ) where
   pub bucket_kept : (shape : Shape) → IsKeptAt s n (forms.Bucket shape) → IsBucketAt s n shape
@@ -31,30 +33,31 @@ module _ (s : Store) (n : ℕ) where
       IsFreePage s n × (n < length s.pages) → ⊥
   not_free_kept form k other = λ free. other (next_at s n) (sym k.kept ∙ free.0)
 
--- what is kept of a page is what stands there
-pub form_kept : (h : Header) (es : List ℕ) (fs : List Form) (n : ℕ) (form : Form) → n < length fs →
-    form ≡ slice_index_or fs n form → IsKeptAt (file_shown h es fs) n form
-form_kept h es fs n form within is = record {
-  within = subst (λ m. n < m) (sym (length-map fs shown)) within;
-  kept = get_or-map shown fs n form (kinds.Free 0) within ∙ ap shown (sym is);
-}
+module _ (l : Layout) (laid : IsLayout l) where
+  -- what is kept of a page is what stands there
+  pub form_kept : (h : Header) (es : List ℕ) (fs : List Form) (n : ℕ) (form : Form) → n < length fs →
+      form ≡ slice_index_or fs n form → IsKeptAt (shown_in l h es fs) n form
+  form_kept h es fs n form within is = record {
+    within = subst (λ m. n < m) (sym (length-map fs shown)) within;
+    kept = get_or-map shown fs n form (kinds.Free 0) within ∙ ap shown (sym is);
+  }
 
--- what each outline shows
-pub outline_shows : (h : Header) (es : List ℕ) (fs : List Form) → IsOutline h es fs → IsOutlined (file_shown h es fs)
-outline_shows h es fs o = record {
-  laid_out = refl;
-  depth = o.depth;
-  counts = o.counts;
-  entries = o.below;
-  pages = length-map fs shown ∙ o.pages;
-  least = o.least;
-  most = o.most;
-  low = λ n below.
-      let long : n < length fs =
-      let root : ROOT_PAGE < LEAST_PAGES = lit< tt in
-      let least = o.least in let pages = o.pages in omega arith in
-      get_or-map shown fs n forms.Other (kinds.Free 0) long
-      ∙ ap shown (sym (get_or-take ROOT_PAGE fs n forms.Other below)
-      ∙ ap (λ xs. slice_index_or xs n forms.Other) o.low
-      ∙ get_or-replicate ROOT_PAGE n forms.Other forms.Other below);
-}
+  -- what each outline shows
+  pub outline_shows : (h : Header) (es : List ℕ) (fs : List Form) → IsOutlineIn l h es fs
+      → IsOutlined (shown_in l h es fs)
+  outline_shows h es fs o = record {
+    greatest = laid.depth;
+    depth = o.depth;
+    counts = o.counts;
+    entries = o.below;
+    pages = length-map fs shown ∙ o.pages;
+    least = omega (arith, o.least);
+    most = o.most;
+    low = λ n below.
+        let long : n < length fs =
+        let least = o.least in let pages = o.pages in omega arith in
+        get_or-map shown fs n forms.Other (kinds.Free 0) long
+        ∙ ap shown (sym (get_or-take l.root_page fs n forms.Other below)
+        ∙ ap (λ xs. slice_index_or xs n forms.Other) o.low
+        ∙ get_or-replicate l.root_page n forms.Other forms.Other below);
+  }

@@ -16,7 +16,6 @@ use Rattle.positions.specs.Tiles.{Tiles}
 use Rattle.positions.proofs.PositionLaws.{width_positive}
 use Rattle.positions.proofs.TileLaws.{tiles_within}
 use Rattle.positions.proofs.WalkLaws.{links_join}
-use Rattle.directory.specs.declared.layout.TheConstants.{ROOT_PAGE}
 use Rattle.bucket_page.specs.declared.page.PageKind.TheVariants as kinds
 use Rattle.hash_file.specs.Store.{Store, is_bucket, has_bucket, range_at, next_at, IsFreePage}
 use Rattle.hash_file.specs.Chain.{times}
@@ -246,27 +245,24 @@ module _ (s : Store) (ns : List ℕ) (marks : List Bool) where
     },
   )
     where
-      root_is : s.layout.root ≡ ROOT_PAGE
-      root_is = ap (λ l. l.root) o.laid_out
-
       -- a page that stands on either has a number
       numbered : (n : ℕ) → Contains (ns ++ w.spares) n → (s.layout.root ≤ n) × (n < length s.pages)
       numbered n on = elim (Contains-append_cases ns w.spares n on) [
         | inl live ↦ (
-          above n (nat_lt n ROOT_PAGE) refl (λ low. let bucket = c.buckets n live in
+          above n (nat_lt n s.layout.root) refl (λ low. let bucket = c.buckets n live in
               let none : has_bucket s n ≡ false = ap is_bucket (o.low n low) in absurd cc),
           (chain_room s ns c).within n live,
         )
         | inr spare ↦ (
-          above n (nat_lt n ROOT_PAGE) refl (λ low.
+          above n (nat_lt n s.layout.root) refl (λ low.
               let free = (w.right.free n spare).0 in let page = o.low n low in absurd cc),
           (w.right.free n spare).1,
         )
       ]
         where
-          above : (n : ℕ) (b : Bool) → nat_lt n ROOT_PAGE ≡ b → (n < ROOT_PAGE → ⊥) → s.layout.root ≤ n
+          above : (n : ℕ) (b : Bool) → nat_lt n s.layout.root ≡ b → (n < s.layout.root → ⊥) → s.layout.root ≤ n
           above n true e no_low = absurd (no_low (grind (arith, nat_tests)))
-          above n false e no_low = subst (λ r. r ≤ n) (sym root_is) (grind (arith, nat_tests))
+          above n false e no_low = grind (arith, nat_tests)
 
       by_number : (n : ℕ) (b : Bool) → is_numbered s n ≡ b → times n (ns ++ w.spares) ≡ (if b then 1 else 0)
       by_number n true e =

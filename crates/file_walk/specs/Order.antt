@@ -2,11 +2,12 @@
 use Rattle.std.specs.Prelude.{◌≡◌, ◌⊎◌, ℕ, ◌<◌, ◌≤◌, nat_lt, Bool, true, false, List, length, Option, Some, None, Result, Ok, Err, IsErrOf, if◌then◌else◌, ⊤}
 use Rattle.page_device.specs.Device.{HasRisen}
 use Rattle.page_device.specs.Sealed.{IsSealed}
-use Rattle.directory.specs.declared.layout.TheConstants.{FIRST_DIRECTORY_PAGE, ROOT_PAGE}
+use Rattle.directory.specs.declared.layout.Layout.{Layout}
+use Rattle.directory.specs.declared.layout.TheConstants.{FIRST_DIRECTORY_PAGE, LAYOUT}
 use Rattle.directory.specs.declared.read.HeaderFault.{HeaderFault}
 use Rattle.directory.specs.declared.read.HeaderFault.TheVariants as headers
 use Rattle.directory.specs.Reading as header
-use Rattle.directory.specs.Spelling.{IsHeader, header_bytes}
+use Rattle.directory.specs.Spelling.{IsHeaderIn, bytes_in}
 use Rattle.bucket_page.specs.declared.page.Malformed.{Malformed}
 use Rattle.bucket_page.specs.declared.page.Malformed.TheVariants as reasons
 use Rattle.bucket_page.specs.declared.page.PageKind.{PageKind}
@@ -26,38 +27,38 @@ IsUnread content n fault =
 -- ---- 1: page 0
 
 -- page 0 is the header of a file of so many pages
-pub record HasHeader (content : List (List ℕ)) : Type 0 where
+pub record HasHeaderIn (l : Layout) (content : List (List ℕ)) : Type 0 where
   pub sealed : IsSealed 0 (page_on content 0)
-  pub read : header.reading (payload_on content 0) ≡ Ok (header_on content)
-  pub in_range : IsHeader (header_on content)
-  pub spelled : payload_on content 0 ≡ header_bytes (header_on content)
+  pub read : header.reading_in l (payload_on content 0) ≡ Ok (header_on content)
+  pub in_range : IsHeaderIn l (header_on content)
+  pub spelled : payload_on content 0 ≡ bytes_in l (header_on content)
   pub as_many : (header_on content).pages ≡ length content
 
 -- the header tells of more pages than there are
-pub record IsCut (content : List (List ℕ)) : Type 0 where
+pub record IsCutIn (l : Layout) (content : List (List ℕ)) : Type 0 where
   pub sealed : IsSealed 0 (page_on content 0)
-  pub read : header.reading (payload_on content 0) ≡ Ok (header_on content)
+  pub read : header.reading_in l (payload_on content 0) ≡ Ok (header_on content)
   pub more : length content < (header_on content).pages
 
 -- the header tells of fewer pages than there are
-pub record IsTooLong (content : List (List ℕ)) : Type 0 where
+pub record IsTooLongIn (l : Layout) (content : List (List ℕ)) : Type 0 where
   pub sealed : IsSealed 0 (page_on content 0)
-  pub read : header.reading (payload_on content 0) ≡ Ok (header_on content)
+  pub read : header.reading_in l (payload_on content 0) ≡ Ok (header_on content)
   pub fewer : (header_on content).pages < length content
 
 -- page 0 is sealed, and reading it answers this
-pub record IsRefused (content : List (List ℕ)) (fault : HeaderFault) : Type 0 where
+pub record IsRefusedIn (l : Layout) (content : List (List ℕ)) (fault : HeaderFault) : Type 0 where
   pub sealed : IsSealed 0 (page_on content 0)
-  pub read : header.reading (payload_on content 0) ≡ Err fault
+  pub read : header.reading_in l (payload_on content 0) ≡ Err fault
 
 -- what is wrong with page 0, or with the number of pages
-abbrev pub IsHeaderFault : List (List ℕ) → StructureFault → Type 0
-IsHeaderFault content (faults.BadDigest page) =
+abbrev pub IsHeaderFaultIn : Layout → List (List ℕ) → StructureFault → Type 0
+IsHeaderFaultIn l content (faults.BadDigest page) =
     (page ≡ 0) × (0 < length content) × (IsSealed 0 (page_on content 0) → ⊥)
-IsHeaderFault content faults.PastEnd = (length content ≡ 0) ⊎ IsCut content
-IsHeaderFault content faults.BadHeader = IsRefused content headers.BadHeader ⊎ IsTooLong content
-IsHeaderFault content faults.BadVersion = IsRefused content headers.BadVersion
-IsHeaderFault content fault = ⊥
+IsHeaderFaultIn l content faults.PastEnd = (length content ≡ 0) ⊎ IsCutIn l content
+IsHeaderFaultIn l content faults.BadHeader = IsRefusedIn l content headers.BadHeader ⊎ IsTooLongIn l content
+IsHeaderFaultIn l content faults.BadVersion = IsRefusedIn l content headers.BadVersion
+IsHeaderFaultIn l content fault = ⊥
 
 -- ---- 2: the other pages
 
@@ -66,40 +67,55 @@ is_directory (kinds.Directory es) = true
 is_directory page = false
 
 -- whether a page of this kind may have this number: those of the directory stand below the root bucket
-abbrev pub may_stand : ℕ → PageKind → Bool
-may_stand n page = if nat_lt n ROOT_PAGE then is_directory page else (if is_directory page then false else true)
+abbrev pub may_stand_in : Layout → ℕ → PageKind → Bool
+may_stand_in l n page = if nat_lt n l.root_page then is_directory page else (if is_directory page then false else true)
 
 -- what is wrong with the payload of page n
 abbrev pub after_reading : Option Malformed → Bool → Option Malformed
 after_reading (Some reason) stands = Some reason
 after_reading None stands = if stands then None else Some reasons.Kind
 
-abbrev pub malformed_on : List (List ℕ) → ℕ → Option Malformed
-malformed_on content n = after_reading (fault_of (payload_on content n)) (may_stand n (said_on content n))
+abbrev pub standing_in : Layout → List (List ℕ) → ℕ → Option Malformed
+standing_in l content n = after_reading (fault_of (payload_on content n)) (may_stand_in l n (said_on content n))
+
+-- the local depth of a bucket
+abbrev pub depth_of : PageKind → ℕ
+depth_of (kinds.Bucket b) = b.depth
+depth_of page = 0
+
+-- last, its bucket is deeper than those of the layout
+abbrev pub after_standing : Option Malformed → Bool → Option Malformed
+after_standing (Some reason) deeper = Some reason
+after_standing None deeper = if deeper then Some reasons.Depth else None
+
+abbrev pub malformed_in : Layout → List (List ℕ) → ℕ → Option Malformed
+malformed_in l content n =
+    after_standing (standing_in l content n) (nat_lt l.greatest_depth (depth_of (said_on content n)))
 
 -- page n is sealed, and its payload spells a page that may stand there
-pub record IsRightPage (content : List (List ℕ)) (n : ℕ) : Type 0 where
+pub record IsRightPageIn (l : Layout) (content : List (List ℕ)) (n : ℕ) : Type 0 where
   pub sealed : IsSealed n (page_on content n)
-  pub formed : malformed_on content n ≡ None
+  pub formed : standing_in l content n ≡ None
+  pub shallow : depth_of (said_on content n) ≤ l.greatest_depth
   pub spelled : Spells (said_on content n) (payload_on content n)
 
-abbrev pub AreRight : List (List ℕ) → ℕ → ℕ → Type 0
-AreRight content from to = (n : ℕ) → from ≤ n → n < to → IsRightPage content n
+abbrev pub AreRightIn : Layout → List (List ℕ) → ℕ → ℕ → Type 0
+AreRightIn l content from to = (n : ℕ) → from ≤ n → n < to → IsRightPageIn l content n
 
 -- what is wrong with page n
-abbrev pub IsFaultOf : List (List ℕ) → ℕ → StructureFault → Type 0
-IsFaultOf content n (faults.BadDigest page) = (page ≡ n) × (IsSealed n (page_on content n) → ⊥)
-IsFaultOf content n (faults.Malformed page reason) =
-    (page ≡ n) × IsSealed n (page_on content n) × (malformed_on content n ≡ Some reason)
-IsFaultOf content n fault = ⊥
+abbrev pub IsFaultIn : Layout → List (List ℕ) → ℕ → StructureFault → Type 0
+IsFaultIn l content n (faults.BadDigest page) = (page ≡ n) × (IsSealed n (page_on content n) → ⊥)
+IsFaultIn l content n (faults.Malformed page reason) =
+    (page ≡ n) × IsSealed n (page_on content n) × (malformed_in l content n ≡ Some reason)
+IsFaultIn l content n fault = ⊥
 
 -- the first page from here on that is not right, and what is wrong with it
-pub record IsFirstWrong (content : List (List ℕ)) (from : ℕ) (fault : StructureFault) : Type 0 where
+pub record IsFirstWrongIn (l : Layout) (content : List (List ℕ)) (from : ℕ) (fault : StructureFault) : Type 0 where
   pub page : ℕ
   pub behind : from ≤ page
   pub within : page < length content
-  pub before : AreRight content from page
-  pub wrong : IsFaultOf content page fault
+  pub before : AreRightIn l content from page
+  pub wrong : IsFaultIn l content page fault
 
 -- ---- what the machine lacks
 
@@ -120,7 +136,21 @@ pub record HasReadCause {T : Type 0} (old new : ℕ) (result : Result T Structur
   pub failed : IsErrOf result faults.Device → HasRisen old new
 
 -- what reading the pages may find
-abbrev pub IsReadingFault : List (List ℕ) → StructureFault → Type 0
-IsReadingFault content fault =
-    IsOfMachine fault ⊎ (IsHeaderFault content fault ⊎
-    (HasHeader content × IsFirstWrong content FIRST_DIRECTORY_PAGE fault))
+abbrev pub IsReadingFaultIn : Layout → List (List ℕ) → StructureFault → Type 0
+IsReadingFaultIn l content fault =
+    IsOfMachine fault ⊎ (IsHeaderFaultIn l content fault ⊎
+    (HasHeaderIn l content × IsFirstWrongIn l content FIRST_DIRECTORY_PAGE fault))
+
+-- ---- today's layout
+
+abbrev pub HasHeader : List (List ℕ) → Type 0
+HasHeader = HasHeaderIn LAYOUT
+
+abbrev pub may_stand : ℕ → PageKind → Bool
+may_stand = may_stand_in LAYOUT
+
+abbrev pub IsRightPage : List (List ℕ) → ℕ → Type 0
+IsRightPage = IsRightPageIn LAYOUT
+
+abbrev pub AreRight : List (List ℕ) → ℕ → ℕ → Type 0
+AreRight = AreRightIn LAYOUT

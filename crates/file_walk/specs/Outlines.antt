@@ -1,7 +1,9 @@
 -- A file without its records, as it is kept while it is walked.
 use Rattle.std.specs.Prelude.{◌≡◌, ℕ, ◌<◌, ◌≤◌, ◌^◌, true, List, [], length, map, take, replicate}
 use Rattle.page_device.specs.declared.page.TheConstants.{MAX_PAGES}
-use Rattle.directory.specs.declared.layout.TheConstants.{GREATEST_DEPTH, LEAST_PAGES, LOCAL_DEPTHS, ROOT_PAGE}
+use Rattle.directory.specs.declared.layout.Layout.{Layout}
+use Rattle.directory.specs.declared.layout.TheConstants.{GREATEST_DEPTH, LOCAL_DEPTHS}
+use Rattle.directory.specs.Layouts.{IsLayout, least_pages}
 use Rattle.directory.specs.declared.header.Header.{Header}
 use Rattle.bucket_page.specs.declared.page.PageKind.{PageKind}
 use Rattle.bucket_page.specs.declared.page.PageKind.TheVariants as kinds
@@ -10,7 +12,7 @@ use Rattle.hash_file.specs.Store.{Store, range_of, page_at, has_bucket, bucket_a
 use Rattle.hash_file.specs.declared.page.Shape.{Shape}
 use Rattle.file_walk.specs.declared.form.Form.{Form}
 use Rattle.file_walk.specs.declared.form.Form.TheVariants as forms
-use Rattle.file_walk.specs.Files.{file_layout}
+use Rattle.file_walk.specs.Files.{layout_in}
 
 -- a bucket without its records
 abbrev pub shape_of_bucket : Bucket → Shape
@@ -35,32 +37,33 @@ abbrev pub outlined : Store → Store
 outlined s = record s { entries = take (2 ^ s.header.depth) s.entries; pages = map bare s.pages }
 
 -- the file that is shown by what is kept of it
-abbrev pub file_shown : Header → List ℕ → List Form → Store
-file_shown header entries fs =
-    record { layout = file_layout; header = header; entries = entries; pages = map shown fs }
+abbrev pub shown_in : Layout → Header → List ℕ → List Form → Store
+shown_in l header entries fs =
+    record { layout = layout_in l; header = header; entries = entries; pages = map shown fs }
 
 -- what is kept is of one file
-pub record IsOutline (header : Header) (entries : List ℕ) (fs : List Form) : Type 0 where
-  pub depth : header.depth ≤ GREATEST_DEPTH
+pub record IsOutlineIn (l : Layout) (header : Header) (entries : List ℕ) (fs : List Form) : Type 0 where
+  pub layout : IsLayout l
+  pub depth : header.depth ≤ l.greatest_depth
   pub counts : length header.counts ≡ LOCAL_DEPTHS
-  pub least : LEAST_PAGES ≤ header.pages
+  pub least : least_pages l ≤ header.pages
   pub most : header.pages ≤ MAX_PAGES
   pub below : length entries ≡ 2 ^ header.depth
   pub pages : length fs ≡ header.pages
   -- no bucket stands below the root
-  pub low : take ROOT_PAGE fs ≡ replicate ROOT_PAGE forms.Other
+  pub low : take l.root_page fs ≡ replicate l.root_page forms.Other
 
 -- what each outline shows
 pub record IsOutlined (s : Store) : Type 0 where
-  pub laid_out : s.layout ≡ file_layout
-  pub depth : s.header.depth ≤ GREATEST_DEPTH
+  pub greatest : s.layout.greatest ≤ GREATEST_DEPTH
+  pub depth : s.header.depth ≤ s.layout.greatest
   pub counts : length s.header.counts ≡ LOCAL_DEPTHS
   pub entries : length s.entries ≡ 2 ^ s.header.depth
   pub pages : length s.pages ≡ s.header.pages
-  pub least : LEAST_PAGES ≤ s.header.pages
+  pub least : s.layout.root < s.header.pages
   pub most : s.header.pages ≤ MAX_PAGES
   -- nothing is kept of the pages below the root
-  pub low : (n : ℕ) → n < ROOT_PAGE → page_at s n ≡ kinds.Directory []
+  pub low : (n : ℕ) → n < s.layout.root → page_at s n ≡ kinds.Directory []
 
 -- ---- what is read of it
 

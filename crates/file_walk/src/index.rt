@@ -1,14 +1,12 @@
 //! The directory is tested: the depths of its buckets, its entries and the header's counts.
 
 ghost use Rattle.std.specs.Prelude.{◌≡◌, ◌≤◌, ◌<◌, ◌^◌, ◌↔◌, true, IsTrue, IfErr, OnOk};
-ghost use Rattle.directory.specs.declared.layout.TheConstants.{GREATEST_DEPTH};
 ghost use Rattle.hash_file.specs.Chain.{IsBucketOn, number_on};
 ghost use Rattle.hash_file.specs.Store.{entry_at};
 ghost use Rattle.file_walk.specs.Walks.{AreEntriesRight, AreCountsRight, AreShallow, HasRightSpares, IsDirectoryFault, IsRightChain, IsRightDirectory};
 
 use crate::fault::StructureFault;
 use crate::outline::Outline;
-use directory::GREATEST_DEPTH;
 
 /// Tests that no bucket is deeper than the directory, that each entry is the bucket of its index,
 /// and that the header's counts are those of the chain.
@@ -73,7 +71,7 @@ fn test_counts(file: &Outline, chain: &[u32]) -> Result<(), StructureFault>
     ensures err { IfErr result (IsDirectoryFault file.now chain.now) }
 {
     file.keeps_layout();
-    for depth in 0..GREATEST_DEPTH + 1 {
+    for depth in 0..file.greatest_depth() + 1 {
         if file.count(depth) as usize != number_of(file, chain, depth) {
             return Err(StructureFault::WrongCount { depth });
         }

@@ -25,4 +25,4 @@ pub use outline::Outline;
 pub use pages::read_outline;
 pub use sealed_page::read_sealed;
 pub use spares::test_spares;
-pub use structure::{Structure, check_structure};
+pub use structure::{Structure, check_structure, check_structure_in};

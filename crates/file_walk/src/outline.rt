@@ -7,7 +7,7 @@ ghost use Rattle.hash_file.specs.Store.{IsFreePage, bucket_at, count_at, entry_a
 ghost use Rattle.file_walk.specs.Outlines.{IsBucketAt, IsFreeAt, IsKeptAt, IsOutlined};
 
 use crate::form::Form;
-use directory::{Header, ROOT_PAGE};
+use directory::{Header, Layout};
 use hash_file::Shape;
 use std::marker::Model;
 
@@ -16,6 +16,7 @@ use std::marker::Model;
 /// and four an entry.
 #[derive(Debug, Drop)]
 pub struct Outline {
+    pub(crate) layout: Layout,
     pub(crate) header: Header,
     pub(crate) entries: Vec<u32>,
     pub(crate) forms: Vec<Form>,
@@ -23,13 +24,13 @@ pub struct Outline {
 
 impl Model for Outline {
     ghost use Rattle.hash_file.specs.Store.{Store};
-    ghost use Rattle.file_walk.specs.Outlines.{IsOutline, file_shown};
+    ghost use Rattle.file_walk.specs.Outlines.{IsOutlineIn, shown_in};
 
     ghost Value = { Store };
 
-    ghost view = { λ o. file_shown o.header o.entries.items o.forms.items };
+    ghost view = { λ o. shown_in o.layout o.header o.entries.items o.forms.items };
 
-    ghost invariant = { λ o. IsOutline o.header o.entries.items o.forms.items };
+    ghost invariant = { λ o. IsOutlineIn o.layout o.header o.entries.items o.forms.items };
 }
 
 impl Outline {
@@ -44,8 +45,15 @@ impl Outline {
     pub fn root(&self) -> u32
         ensures { result ≡ self.now.layout.root }
     {
-        let _ = &self.header;
-        ROOT_PAGE
+        self.layout.root_page
+    }
+
+    /// The greatest depth of the directory and of a bucket.
+    pub fn greatest_depth(&self) -> u8
+        ensures value { result ≡ self.now.layout.greatest }
+        ensures most { result ≤ GREATEST_DEPTH }
+    {
+        self.layout.greatest_depth
     }
 
     /// How many low bits of a pseudokey choose its entry.

@@ -1,10 +1,10 @@
 //! The pages of a file are read, once and in their order.
 
 ghost use Rattle.std.specs.Prelude.{◌≡◌, ◌≤◌, ◌<◌, ◌^◌, ◌⊎◌, ◌++◌, length, take, IsTrue, IfOk, IfErr, OnOk};
-ghost use Rattle.directory.specs.declared.layout.TheConstants.{FIRST_DIRECTORY_PAGE, GREATEST_DEPTH, LEAST_PAGES, ROOT_PAGE};
-ghost use Rattle.directory.specs.declared.layout.TheConstants.{PAGE_ENTRIES};
+ghost use Rattle.directory.specs.declared.layout.TheConstants.{FIRST_DIRECTORY_PAGE, GREATEST_DEPTH, PAGE_ENTRIES};
+ghost use Rattle.directory.specs.Layouts.{IsLayout, least_pages};
 ghost use Rattle.file_walk.specs.Outlines.{shape_of_bucket};
-ghost use Rattle.file_walk.specs.Order.{HasReadCause, IsFaultOf, IsFirstWrong, IsOfMachine, IsReadingFault};
+ghost use Rattle.file_walk.specs.Order.{HasReadCause, IsFaultIn, IsFirstWrongIn, IsOfMachine, IsReadingFaultIn};
 ghost use Rattle.file_walk.specs.Readings.{AreEntriesOf, AreFormsOf, IsFormOf, IsOutlineOf, TakesEntries};
 
 use crate::fault::StructureFault;
@@ -13,7 +13,7 @@ use crate::header_page::header_of;
 use crate::outline::Outline;
 use crate::sealed_page::read_sealed;
 use bucket_page::{BucketView, Malformed, PageKind, read_page};
-use directory::{DirectoryView, FIRST_DIRECTORY_PAGE, PAGE_ENTRIES, ROOT_PAGE};
+use directory::{DirectoryView, FIRST_DIRECTORY_PAGE, Layout, PAGE_ENTRIES};
 use hash_file::Shape;
 use page_device::{PAYLOAD_BYTES, PageDevice};
 use positions::Range;
@@ -21,19 +21,25 @@ use std::alloc::{AllocFailed, Global};
 
 /// Reads the header and then each page: its digest first, and then what it spells. Each
 /// page is read once.
-pub fn read_outline<D: PageDevice>(alloc: Global, device: &mut D) -> Result<Outline, StructureFault>
+pub fn read_outline<D: PageDevice>(
+    alloc: Global,
+    layout: &Layout,
+    device: &mut D,
+) -> Result<Outline, StructureFault>
+    requires layout { IsLayout layout.now }
     ensures ok { IsTrue (D.is_honest device.old) →
-        IfOk result (IsOutlineOf (D.content device.old)) }
+        IfOk result (IsOutlineOf layout.now (D.content device.old)) }
     ensures err { IsTrue (D.is_honest device.old) →
-        IfErr result (IsReadingFault (D.content device.old)) }
+        IfErr result (IsReadingFaultIn layout.now (D.content device.old)) }
     ensures same { D.content device.new ≡ D.content device.old }
     ensures honest { D.is_honest device.new ≡ D.is_honest device.old }
     ensures cause { HasReadCause (D.fault_count device.old) (D.fault_count device.new) result }
 {
-    let header = header_of(device)?;
-    let entries = entries_of(alloc, device, header.depth)?;
-    let forms = forms_of(alloc, device, header.pages)?;
+    let header = header_of(layout, device)?;
+    let entries = entries_of(alloc, layout, device, header.depth)?;
+    let forms = forms_of(alloc, layout, device, header.pages)?;
     Ok(Outline {
+        layout: *layout,
         header,
         entries,
         forms,
@@ -43,23 +49,25 @@ pub fn read_outline<D: PageDevice>(alloc: Global, device: &mut D) -> Result<Outl
 /// The entries of a directory of a depth, from its pages.
 fn entries_of<D: PageDevice>(
     alloc: Global,
+    layout: &Layout,
     device: &mut D,
     depth: u8,
 ) -> Result<Vec<u32>, StructureFault>
-    requires depth { depth ≤ GREATEST_DEPTH }
-    requires whole { LEAST_PAGES ≤ length (D.content device.old) }
-    ensures ok { IfOk result (λ entries.
-        AreEntriesOf (D.is_honest device.old) (D.content device.old) depth entries.items) }
+    requires layout { IsLayout layout.now }
+    requires depth { depth ≤ layout.now.greatest_depth }
+    requires whole { least_pages layout.now ≤ length (D.content device.old) }
+    ensures ok { IfOk result (λ entries. AreEntriesOf
+        layout.now (D.is_honest device.old) (D.content device.old) depth entries.items) }
     ensures err { IsTrue (D.is_honest device.old) → IfErr result (λ fault. IsOfMachine fault
-        ⊎ IsFirstWrong (D.content device.old) FIRST_DIRECTORY_PAGE fault) }
+        ⊎ IsFirstWrongIn layout.now (D.content device.old) FIRST_DIRECTORY_PAGE fault) }
     ensures same { D.content device.new ≡ D.content device.old }
     ensures honest { D.is_honest device.new ≡ D.is_honest device.old }
     ensures cause { HasReadCause (D.fault_count device.old) (D.fault_count device.new) result }
 {
     let most = entries_at(depth);
     let mut entries = Vec::with_capacity(alloc, most)?;
-    for page in FIRST_DIRECTORY_PAGE..ROOT_PAGE {
-        take_entries(device, page, most, &mut entries)?;
+    for page in FIRST_DIRECTORY_PAGE..layout.root_page {
+        take_entries(layout, device, page, most, &mut entries)?;
     }
     Ok(entries)
 }
@@ -74,18 +82,20 @@ fn entries_at(depth: u8) -> usize
 
 /// Keeps the entries of a directory page, up to so many.
 fn take_entries<D: PageDevice>(
+    layout: &Layout,
     device: &mut D,
     page: u32,
     most: usize,
     entries: &mut Vec<u32>,
 ) -> Result<(), StructureFault>
+    requires layout { IsLayout layout.now }
     requires within { page < length (D.content device.old) }
-    requires below { page < ROOT_PAGE }
+    requires below { page < layout.now.root_page }
     requires room { length entries.old.items ≤ most }
-    ensures ok { OnOk result (TakesEntries (D.is_honest device.old) (D.content device.old)
-        page most entries.old.items entries.new.items) }
-    ensures err { IsTrue (D.is_honest device.old) →
-        IfErr result (λ fault. IsOfMachine fault ⊎ IsFaultOf (D.content device.old) page fault) }
+    ensures ok { OnOk result (TakesEntries layout.now (D.is_honest device.old)
+        (D.content device.old) page most entries.old.items entries.new.items) }
+    ensures err { IsTrue (D.is_honest device.old) → IfErr result (λ fault.
+        IsOfMachine fault ⊎ IsFaultIn layout.now (D.content device.old) page fault) }
     ensures same { D.content device.new ≡ D.content device.old }
     ensures honest { D.is_honest device.new ≡ D.is_honest device.old }
     ensures cause { HasReadCause (D.fault_count device.old) (D.fault_count device.new) result }
@@ -125,35 +135,42 @@ fn keep_entries(
 /// What is kept of all pages.
 fn forms_of<D: PageDevice>(
     alloc: Global,
+    layout: &Layout,
     device: &mut D,
     pages: u32,
 ) -> Result<Vec<Form>, StructureFault>
-    requires least { LEAST_PAGES ≤ pages }
+    requires layout { IsLayout layout.now }
+    requires least { least_pages layout.now ≤ pages }
     requires whole { pages ≡ length (D.content device.old) }
     ensures ok { IfOk result (λ forms.
-        AreFormsOf (D.is_honest device.old) (D.content device.old) forms.items) }
+        AreFormsOf layout.now (D.is_honest device.old) (D.content device.old) forms.items) }
     ensures err { IsTrue (D.is_honest device.old) → IfErr result (λ fault. IsOfMachine fault
-        ⊎ IsFirstWrong (D.content device.old) ROOT_PAGE fault) }
+        ⊎ IsFirstWrongIn layout.now (D.content device.old) layout.now.root_page fault) }
     ensures same { D.content device.new ≡ D.content device.old }
     ensures honest { D.is_honest device.new ≡ D.is_honest device.old }
     ensures cause { HasReadCause (D.fault_count device.old) (D.fault_count device.new) result }
 {
-    let mut forms = vec![in alloc; Form::Other; ROOT_PAGE as usize]?;
-    forms.reserve((pages - ROOT_PAGE) as usize)?;
-    for page in ROOT_PAGE..pages {
-        forms.push(form_of(device, page)?)?;
+    let mut forms = vec![in alloc; Form::Other; layout.root_page as usize]?;
+    forms.reserve((pages - layout.root_page) as usize)?;
+    for page in layout.root_page..pages {
+        forms.push(form_of(layout, device, page)?)?;
     }
     Ok(forms)
 }
 
 /// What is kept of a page from the root on.
-fn form_of<D: PageDevice>(device: &mut D, page: u32) -> Result<Form, StructureFault>
+fn form_of<D: PageDevice>(
+    layout: &Layout,
+    device: &mut D,
+    page: u32,
+) -> Result<Form, StructureFault>
+    requires layout { IsLayout layout.now }
     requires within { page < length (D.content device.old) }
-    requires behind { ROOT_PAGE ≤ page }
+    requires behind { layout.now.root_page ≤ page }
     ensures ok { IsTrue (D.is_honest device.old) →
-        IfOk result (IsFormOf (D.content device.old) page) }
-    ensures err { IsTrue (D.is_honest device.old) →
-        IfErr result (λ fault. IsOfMachine fault ⊎ IsFaultOf (D.content device.old) page fault) }
+        IfOk result (IsFormOf layout.now (D.content device.old) page) }
+    ensures err { IsTrue (D.is_honest device.old) → IfErr result (λ fault.
+        IsOfMachine fault ⊎ IsFaultIn layout.now (D.content device.old) page fault) }
     ensures same { D.content device.new ≡ D.content device.old }
     ensures honest { D.is_honest device.new ≡ D.is_honest device.old }
     ensures cause { HasReadCause (D.fault_count device.old) (D.fault_count device.new) result }
@@ -161,7 +178,15 @@ fn form_of<D: PageDevice>(device: &mut D, page: u32) -> Result<Form, StructureFa
     let mut payload = [0; PAYLOAD_BYTES];
     read_sealed(device, page, &mut payload)?;
     match read_page(&payload) {
-        Ok(PageKind::Bucket(bucket)) => Ok(Form::Bucket(shape_of(&bucket))),
+        Ok(PageKind::Bucket(bucket)) => {
+            if bucket.depth() > layout.greatest_depth {
+                return Err(StructureFault::Malformed {
+                    page,
+                    reason: Malformed::Depth,
+                });
+            }
+            Ok(Form::Bucket(shape_of(&bucket)))
+        }
         Ok(PageKind::Tombstone { link }) => Ok(Form::Tombstone { left: link }),
         Ok(PageKind::Free { next }) => Ok(Form::Free { next }),
         Ok(PageKind::Directory(_)) => Err(misplaced(page)),

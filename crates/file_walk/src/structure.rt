@@ -1,8 +1,9 @@
 //! The structure of a file: all but its records.
 
 ghost use Rattle.std.specs.Prelude.{◌≡◌, IsTrue, IfOk, IfErr};
+ghost use Rattle.directory.specs.Layouts.{IsLayout};
 ghost use Rattle.file_walk.specs.Order.{HasReadCause};
-ghost use Rattle.file_walk.specs.Structure.{IsFirstFault, IsStructureOf};
+ghost use Rattle.file_walk.specs.Structure.{IsFirstFault, IsFirstFaultIn, IsStructureIn, IsStructureOf};
 
 use crate::chain::chain_of;
 use crate::fault::StructureFault;
@@ -10,6 +11,7 @@ use crate::index::test_directory;
 use crate::outline::Outline;
 use crate::pages::read_outline;
 use crate::spares::test_spares;
+use directory::{LAYOUT, Layout, layouts_are_right};
 use page_device::PageDevice;
 use std::alloc::Global;
 
@@ -38,7 +40,26 @@ pub fn check_structure<D: PageDevice>(
     ensures honest { D.is_honest device.new ≡ D.is_honest device.old }
     ensures cause { HasReadCause (D.fault_count device.old) (D.fault_count device.new) result }
 {
-    let outline = read_outline(alloc, device)?;
+    layouts_are_right();
+    check_structure_in(alloc, &LAYOUT, device)
+}
+
+/// The same of a file of a layout.
+pub fn check_structure_in<D: PageDevice>(
+    alloc: Global,
+    layout: &Layout,
+    device: &mut D,
+) -> Result<Structure, StructureFault>
+    requires layout { IsLayout layout.now }
+    ensures ok { IsTrue (D.is_honest device.old) → IfOk result (λ structure.
+        IsStructureIn layout.now (D.content device.old) structure.outline structure.chain.items) }
+    ensures err { IsTrue (D.is_honest device.old) →
+        IfErr result (IsFirstFaultIn layout.now (D.content device.old)) }
+    ensures same { D.content device.new ≡ D.content device.old }
+    ensures honest { D.is_honest device.new ≡ D.is_honest device.old }
+    ensures cause { HasReadCause (D.fault_count device.old) (D.fault_count device.new) result }
+{
+    let outline = read_outline(alloc, layout, device)?;
     let chain = chain_of(alloc, &outline)?;
     test_spares(alloc, &outline, &chain)?;
     test_directory(&outline, &chain)?;

@@ -28,7 +28,7 @@ module _ (s : Store) (head : Header) (entries : List ℕ) where
     greatest = l.greatest;
     depth = room.depth;
     entries = omega (arith, l.entries, room.slots);
-    counts = room.counts ∙ l.counts;
+    counts = omega (arith, room.counts, l.counts);
     pages = l.pages ∙ sym room.pages;
     header = l.header;
   }

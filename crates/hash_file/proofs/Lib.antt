@@ -21,7 +21,6 @@ pub mod WaysIn
 pub mod Examples
 pub mod WrongChanges
 pub mod SoundExamples
-pub mod Checking
 pub mod Hops
 pub mod Joins
 pub mod New

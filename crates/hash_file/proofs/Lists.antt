@@ -74,7 +74,7 @@ lookup_past key (p ∷ ps) qs none = by_test (is_same p.key key) refl (λ rest. 
     by_test true is more = absurd (let found = rw is at none in cc)
     by_test false is more = let rest = rw is at none in rw is (more rest)
 
--- and those behind change nothing
+-- and those after change nothing
 pub lookup_before : (key : RecordKey) (ps qs : List Pair) → lookup key qs ≡ None → lookup key (ps ++ qs) ≡ lookup key ps
 lookup_before key [] qs none = none
 lookup_before key (p ∷ ps) qs none = rw (lookup_before key ps qs none) refl

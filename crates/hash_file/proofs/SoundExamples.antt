@@ -52,7 +52,7 @@ first_new = record {
     greatest = omega arith;
     depth = omega arith;
     entries = omega arith;
-    counts = refl;
+    counts = omega arith;
     pages = refl;
     header = refl;
   };

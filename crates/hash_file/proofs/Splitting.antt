@@ -80,7 +80,7 @@ module _ (hash : RecordKey → ℕ) (s : Store) (old new : ℕ) (h : IsSoundFile
   halves : AreHalvesOf (range_at s old) (range_at t old) (range_at t new)
   halves = record { lower = lower_range; upper = upper_range }
 
-  -- pages before and behind the old bucket are other pages
+  -- pages before and after the old bucket are other pages
   before_same : (m : ℕ) → Contains front m → page_at t m ≡ page_at s m
   before_same m on = other m (tiles_not_before (range_at s) front old back 0 POSITIONS m sound.chained.tiled on)
 

@@ -11,6 +11,5 @@ pub mod Words
 pub mod Looks
 pub mod Examples
 pub mod WrongChanges
-pub mod Skeletons
 pub mod Hops
 pub mod New

@@ -15,7 +15,7 @@ pub record HasLayout (s : Store) : Type 0 where
   pub greatest : s.layout.greatest ≤ PSEUDOKEY_BITS
   pub depth : s.header.depth ≤ s.layout.greatest
   pub entries : 2 ^ s.layout.greatest ≤ length s.entries
-  pub counts : length s.header.counts ≡ suc s.layout.greatest
+  pub counts : suc s.layout.greatest ≤ length s.header.counts
   pub pages : length s.pages ≡ s.header.pages
   -- page 0 is the header's, so a next link 0 ends the chain
   pub header : has_bucket s 0 ≡ false

@@ -34,7 +34,7 @@ pub data IsOneOf (A B C : Type 0) : Type 0 where
   Second : B → (A → ⊥) → (C → ⊥) → IsOneOf A B C
   Third : C → (A → ⊥) → (B → ⊥) → IsOneOf A B C
 
--- each page from the root on is live, free or owned by the change, and just one of these; and only such are
+-- each page from the root on is live, free or owned by the change, and exactly one of these; and only such are
 pub record HasOneRole (s : Store) (c : Change) (spares : List ℕ) : Type 0 where
   pub each : (n : ℕ) → s.layout.root ≤ n → n < length s.pages →
       IsOneOf (Contains (chain s) n) (Contains spares n) (Contains (owned c) n)

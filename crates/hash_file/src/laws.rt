@@ -16,7 +16,7 @@ pub fn the_chain_is_what_is_met()
 {}
 
 /// The live buckets end, ascend in bit-reversed order, and have each pseudokey in the range of
-/// exactly one, just where their ranges lie side by side.
+/// exactly one, exactly where their ranges lie side by side.
 pub fn a_chain_is_well_formed()
     ensures { ChainIsWellFormed }
 {}
@@ -51,7 +51,7 @@ pub fn a_quiet_directory_is_exact()
     ensures { QuietIsExact }
 {}
 
-/// A live bucket leads to a pseudokey just where the pseudokey's bucket is it, or stands behind
+/// A live bucket leads to a pseudokey exactly where the pseudokey's bucket is it, or stands behind
 /// it on the chain.
 pub fn leading_is_standing_at_or_before()
     ensures { LeadingIsStandingBefore }

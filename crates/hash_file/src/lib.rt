@@ -3,11 +3,9 @@
 
 #![tactic(auto)]
 
-mod check;
 mod laws;
 mod page;
 
-pub use check::{is_chain, names_buckets};
 pub use laws::{
     a_chain_is_well_formed, a_freed_page_is_taken_again, a_hop_leads_on_and_comes_nearer,
     a_look_answers_what_the_file_holds, a_merge_comes_out_as_worked_by_hand, a_new_file_is_sound,
@@ -26,4 +24,4 @@ pub use laws::{
     writing_the_left_bucket_keeps_the_file, writing_the_new_bucket_keeps_the_file,
     writing_the_old_bucket_keeps_the_file, wrong_changes_are_refuted,
 };
-pub use page::{Page, Shape};
+pub use page::Shape;

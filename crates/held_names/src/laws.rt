@@ -2,8 +2,8 @@
 
 ghost use Rattle.held_names.specs.Laws.{AreFewTurns, TurnsAreRight, TurnsComeNearer};
 
-/// A call is ready exactly where it holds just the names that it needs; it takes the next one where
-/// those that it holds begin them, and gives one back where they do not.
+/// A call is ready exactly where it holds exactly the names that it needs; it takes the next one
+/// where those that it holds begin them, and gives one back where they do not.
 pub fn a_turn_is_made_for_the_names()
     ensures { TurnsAreRight }
 {}

@@ -9,6 +9,6 @@ pub enum NameTurn {
     Take(Lock),
     /// What it holds does not begin the names that it needs: it gives the last one back.
     GiveBack,
-    /// It holds just the names that it needs.
+    /// It holds exactly the names that it needs.
     Ready,
 }

@@ -1,4 +1,4 @@
-//! Trials of what calls ask of the records, decide and write: worked cases, made from outside. They
+//! Trials of what calls ask of the records: how many they read, and what is of no system. They
 //! stand here, so that the calls are not proved once more for them.
 
 #![tactic(auto)]
@@ -6,12 +6,8 @@
 #[cfg(test)]
 mod asked;
 #[cfg(test)]
-mod controls;
+mod no_system;
 #[cfg(test)]
-mod receives;
+mod readings;
 #[cfg(test)]
 mod records;
-#[cfg(test)]
-mod sends;
-#[cfg(test)]
-mod sweeps;

@@ -4,7 +4,7 @@ use Rattle.step_rules.specs.declared.kind.Kind.{Kind}
 use Rattle.interleaving_core.specs.Words.{IsSeat, RecordKey}
 use Rattle.interleaving_core.specs.Driving.{IsDriven, IsStep, Moves}
 use Rattle.interleaving_core.specs.Kernel.{IsWhole, KernelState}
-use Rattle.interleaving_core.specs.Owing.{IsMove, IsRun, answer_told, failed}
+use Rattle.interleaving_core.specs.Owing.{IsMove, IsRun, answer_told, failed, failure_by}
 use Rattle.interleaving_core.specs.declared.kernel.TheConstants.{MOST_STEPS}
 use Rattle.interleaving_core.specs.declared.step.Step.{Step}
 use Rattle.interleaving_core.specs.declared.step.Step.TheVariants as steps
@@ -52,7 +52,8 @@ module _ {K : Type 0} (of : K → RecordKey → ℕ) (seat moves : ℕ) (old now
       ends = inl (record { few = few; step = at_its_keys; rests = rests });
     }
 
-  pub is_spent : (new : KernelState K) → moves ≡ MOST_STEPS → new ≡ record now { failed = true } →
+  pub is_spent : (new : KernelState K) → moves ≡ MOST_STEPS →
+      new ≡ record now { failed = true; failure = failure_by seat failed None } →
       IsDriven (of old.keys) seat failed old new
   is_spent new most marked = record {
     moves = moves;

@@ -1,5 +1,5 @@
 -- A step of a seat leaves a kernel whole, and tells that seat what the journal says.
-use Rattle.std.proofs.Common.{◌≡◌, refl, sym, ap, ◌∙◌, subst, ℕ, ◌+◌, ◌-◌, ◌≤◌, Bool, false, ◌||◌, IsSome, inl, inr, List, ◌++◌, Option, Some, None, length, map, slice_set, slice_index_or, append-nil, length-append, arith}
+use Rattle.std.proofs.Common.{◌≡◌, refl, sym, ap, ◌∙◌, subst, ℕ, ◌+◌, ◌-◌, ◌≤◌, Bool, false, ◌||◌, IsSome, inl, inr, List, ◌++◌, Option, Some, None, drop, length, map, slice_set, slice_index_or, append-nil, length-append, arith}
 use Rattle.std.specs.Prelude.{sum_by}
 use Rattle.std.proofs.lemmas.Bool.{cases_eq}
 use Rattle.std.proofs.lemmas.List.{get_or_read, length-map}
@@ -7,13 +7,21 @@ use Rattle.page_locks.proofs.ChangeLemmas.{IsSeat-with_row}
 use Rattle.search_counts.specs.Counting.{CountsState, IsCountedSeat}
 use Rattle.interleaving_core.specs.Words.{Caller, Entry, IsSeat, PoolState, RecordKey, Table, caller_at, row_of, with_row}
 use Rattle.interleaving_core.specs.Active.{ActiveView}
-use Rattle.interleaving_core.specs.Kernel.{IsCallOf, IsWhole, KernelState, call_at, due_at, due_for_stop, entries_of, locks_of, with_call}
-use Rattle.interleaving_core.specs.Owing.{IsRun, IsTurn, answer_told, call_of, is_failure, told, untold}
+use Rattle.interleaving_core.specs.Kernel.{AreFittingCallers, IsCallOf, IsWhole, KernelState, call_at, due_at, due_for_stop, entries_of, locks_of, with_call}
+use Rattle.interleaving_core.specs.Owing.{IsRun, IsTurn, answer_told, failure_by, is_failure, told}
+use Rattle.interleaving_core.specs.Past.{IsOfJournal, KeepsJournal, call_of, untold}
+use Rattle.interleaving_core.specs.declared.fault.Failure.{Failure}
+use Rattle.queue_model.specs.Journal.{part_of}
+use Rattle.std.specs.Option.{is_some}
 use Rattle.interleaving_core.specs.Searches.{Counts, CountsFrom, ends_on}
 use Rattle.interleaving_core.specs.Turn.{TakesTurn, Turns}
 use Rattle.interleaving_core.specs.declared.step.Step.{Step}
 use Rattle.interleaving_core.specs.declared.step.Step.TheVariants as steps
-use Rattle.interleaving_core.proofs.TurnLemmas.{Does, turn_does}
+use Rattle.interleaving_core.proofs.TurnLemmas.{Does}
+use Rattle.interleaving_core.proofs.AnewLemmas.{turn_does, turn_looked}
+use Rattle.interleaving_core.proofs.FailureLemmas.{blamed_by, none_blamed}
+use Rattle.interleaving_core.proofs.PartLemmas.{part_other, part_own}
+use Rattle.interleaving_core.proofs.PastLemmas.{kept_beside, part_since, unwoken_whole}
 use Rattle.interleaving_core.proofs.PlaceLemmas.{Seats, at_other, at_place, at_same, due_with, length-with_call, row_at, rows_with, with_own, with_place}
 
 -- ---- a whole kernel
@@ -49,9 +57,9 @@ module _ {K : Type 0} (s : KernelState K) (whole : IsWhole s) where
 
 same_state : {K : Type 0} (old new : KernelState K) → new.keys ≡ old.keys → new.pool ≡ old.pool →
     new.locks ≡ old.locks → new.callers ≡ old.callers → new.seats ≡ old.seats → new.journal ≡ old.journal →
-    new.room ≡ old.room → new.stopped ≡ old.stopped → new.failed ≡ old.failed → new.searches ≡ old.searches →
-    new ≡ old
-same_state {K} old new keys pool locks callers seats journal room stopped failed searches =
+    new.room ≡ old.room → new.stopped ≡ old.stopped → new.failed ≡ old.failed → new.failure ≡ old.failure →
+    new.searches ≡ old.searches → new ≡ old
+same_state {K} old new keys pool locks callers seats journal room stopped failed failure searches =
     ap (λ (x : K). record new { keys = x }) keys
     ∙ ap (λ (x : PoolState). record new { keys = old.keys; pool = x }) pool
     ∙ ap (λ (x : Table). record new { keys = old.keys; pool = old.pool; locks = x }) locks
@@ -62,6 +70,7 @@ same_state {K} old new keys pool locks callers seats journal room stopped failed
       room = new.room;
       stopped = new.stopped;
       failed = new.failed;
+      failure = new.failure;
       searches = new.searches;
     }) callers
     ∙ ap (λ (x : Seats). record old {
@@ -70,6 +79,7 @@ same_state {K} old new keys pool locks callers seats journal room stopped failed
       room = new.room;
       stopped = new.stopped;
       failed = new.failed;
+      failure = new.failure;
       searches = new.searches;
     }) seats
     ∙ ap (λ (x : List Entry). record old {
@@ -77,29 +87,41 @@ same_state {K} old new keys pool locks callers seats journal room stopped failed
       room = new.room;
       stopped = new.stopped;
       failed = new.failed;
+      failure = new.failure;
       searches = new.searches;
     }) journal
     ∙ ap (λ (x : ℕ). record old {
       room = x;
       stopped = new.stopped;
       failed = new.failed;
+      failure = new.failure;
       searches = new.searches;
     }) room
-    ∙ ap (λ (x : Bool). record old { stopped = x; failed = new.failed; searches = new.searches }) stopped
-    ∙ ap (λ (x : Bool). record old { failed = x; searches = new.searches }) failed
+    ∙ ap (λ (x : Bool). record old {
+      stopped = x;
+      failed = new.failed;
+      failure = new.failure;
+      searches = new.searches;
+    }) stopped
+    ∙ ap (λ (x : Bool). record old { failed = x; failure = new.failure; searches = new.searches }) failed
+    ∙ ap (λ (x : Option Failure). record old { failure = x; searches = new.searches }) failure
     ∙ ap (λ (x : CountsState). record old { searches = x }) searches
 
 spares_by : {K : Type 0} (hash : RecordKey → ℕ) (seat : ℕ) (did : Step) (at left : Option ActiveView)
     (old new : KernelState K) → call_at old.seats seat ≡ at → at ≡ None →
     Turns hash seat old.stopped did at left old.pool new.pool old.locks new.locks old.journal new.journal →
     new.seats ≡ with_call old.seats seat left → new.keys ≡ old.keys → new.callers ≡ old.callers →
-    new.stopped ≡ old.stopped → new.room ≡ old.room → old.failed ≡ false → new.failed ≡ is_failure did →
-    Counts seat did old new → new ≡ old
-spares_by hash seat did None left old new is none t seats keys callers stopped room sound failed counts =
+    new.stopped ≡ old.stopped → new.room ≡ old.room → old.failed ≡ false → old.failure ≡ None →
+    new.failed ≡ is_failure did → new.failure ≡ failure_by seat did None → Counts seat did old new → new ≡ old
+spares_by hash seat did None left old new is none t seats keys callers stopped room sound spared failed failure
+    counts =
     same_state old new keys t.same_pool t.same_locks callers
     (seats ∙ ap (with_call old.seats seat) (t.left_is ∙ sym is) ∙ with_own old.seats seat) t.same_journal room stopped
-    (failed ∙ ap is_failure t.told_is ∙ sym sound) (subst (λ (d : Step). Counts seat d old new) t.told_is counts)
-spares_by hash seat did (Some a) left old new is none t seats keys callers stopped room sound failed counts =
+    (failed ∙ ap is_failure t.told_is ∙ sym sound)
+    (failure ∙ ap (λ (d : Step). failure_by seat d None) t.told_is ∙ sym spared)
+    (subst (λ (d : Step). Counts seat d old new) t.told_is counts)
+spares_by hash seat did (Some a) left old new is none t seats keys callers stopped room sound spared failed failure
+    counts =
     absurd cc
 
 -- ---- what is counted
@@ -138,6 +160,7 @@ module _ {K : Type 0} (seat : ℕ) (did : Step) (left : Option ActiveView) (old 
     (does : Does seat did (call_at old.seats seat) left old.pool new.pool old.locks new.locks old.journal new.journal)
     (seats : new.seats ≡ with_call old.seats seat left) (keys : new.keys ≡ old.keys)
     (callers : new.callers ≡ old.callers) (stopped : new.stopped ≡ old.stopped) (counts : Counts seat did old new)
+    (blamed : new.failed ≡ is_some new.failure)
   where
     many : length old.locks ≡ length old.seats
     many = as_many old whole
@@ -171,6 +194,18 @@ module _ {K : Type 0} (seat : ℕ) (did : Step) (left : Option ActiveView) (old 
               (whole.calls other)
         ])
 
+    -- what each call keeps of the journal
+    past : (other : ℕ) → KeepsJournal other new.journal (call_at new.seats other)
+    past other = elim (cases_eq other seat) [
+      | inl e ↦ subst (λ (n : ℕ). KeepsJournal n new.journal (call_at new.seats n)) (sym e)
+          (subst (KeepsJournal seat new.journal) (sym same_here) (does.past (whole.past seat)))
+      | inr ne ↦ subst (KeepsJournal other new.journal)
+          (sym (ap (λ (x : Seats). call_at x other) seats ∙ at_other old.seats seat other left ne))
+          (subst (λ (es : List Entry). KeepsJournal other es (call_at old.seats other)) (sym does.grows)
+          (kept_beside other old.journal does.added (call_at old.seats other)
+          (part_other other seat does.added (λ is. ne (sym is)) does.of_seat) (whole.past other)))
+    ]
+
     pub whole_behind : old.room ≤ new.room → IsWhole new
     whole_behind more = record {
       ready = does.ready whole.ready;
@@ -178,9 +213,12 @@ module _ {K : Type 0} (seat : ℕ) (did : Step) (left : Option ActiveView) (old 
           ∙ sym (ap (map locks_of) seats);
       callers = ap length callers ∙ whole.callers
           ∙ sym (ap length seats ∙ length-with_call old.seats seat left);
+      fitting = subst AreFittingCallers (sym callers) whole.fitting;
       calls = calls;
       room = let few = no_more in let had = whole.room in omega (arith, few, had, more);
       few = let fewer = no_more in let had = whole.few in omega (arith, fewer, had);
+      past = past;
+      blamed = blamed;
       counted = same_many seat did old new counts ∙ whole.counted
           ∙ sym (ap length seats ∙ length-with_call old.seats seat left);
     }
@@ -205,15 +243,49 @@ module _ {K : Type 0} (seat : ℕ) (did : Step) (left : Option ActiveView) (old 
       };
     }
 
-    pub turn_behind : (call_at old.seats seat ≡ None → new ≡ old) → old.failed ≡ false → new.failed ≡ is_failure did →
-        IsTurn seat did old new
-    turn_behind spares sound failed = record {
+    -- of what joined the journal since its call began, its part is what it is told now, or is owed
+    joins : (at : Option ActiveView) → call_at old.seats seat ≡ at → (a : ActiveView) → at ≡ Some a →
+        part_of seat (drop a.begun new.journal)
+        ≡ told seat (Some a) (answer_told did) ++ untold seat (call_at new.seats seat)
+    joins None there a is = absurd (none_some is)
+      where
+        none_some : ◌≡◌ {A = Option ActiveView} None (Some a) → ⊥
+        none_some clash = cc
+    joins (Some x) there a is =
+        let here : call_at old.seats seat ≡ Some a = there ∙ is in
+        let kept : IsOfJournal seat old.journal a = subst (KeepsJournal seat old.journal) here (whole.past seat) in
+        ap (λ (es : List Entry). part_of seat (drop a.begun es)) does.grows
+        ∙ part_since seat a.begun old.journal does.added kept.begun
+        ∙ ap (λ (es : List Entry). es ++ part_of seat does.added) kept.joined
+        ∙ ap (λ (es : List Entry). untold seat (Some a) ++ es) (part_own seat does.added does.of_seat)
+        ∙ ap (λ (o : Option ActiveView). untold seat o ++ does.added) (sym here) ∙ does.owed
+        ∙ ap (λ (o : Option ActiveView). told seat o (answer_told did) ++ untold seat left) here
+        ∙ sym (ap (λ (o : Option ActiveView). told seat (Some a) (answer_told did) ++ untold seat o) same_here)
+
+    pub turn_behind : (call_at old.seats seat ≡ None → new ≡ old) → old.failed ≡ false →
+        new.failure ≡ failure_by seat did None → (did ≡ steps.Waiting →
+        (b : ActiveView) × (left ≡ Some b) × (b.wait ≡ Some (length new.journal))) → IsTurn seat did old new
+    turn_behind spares sound failure looked = record {
       run = run;
       idle = does.idle;
       spares = spares;
+      over = λ ends. same_here ∙ does.over ends;
+      goes = λ goes. ap call_of same_here ∙ does.goes goes;
+      waits = λ told.
+          let (b, left_is, told_all) = looked told in
+          let there : call_at new.seats seat ≡ Some b = same_here ∙ left_is in
+          record {
+            active = b;
+            there = there;
+            looked = told_all;
+            unwoken = unwoken_whole seat new.journal b (subst (KeepsJournal seat new.journal) there (past seat))
+                told_all;
+          };
       decides = λ other. does.grows ∙ ap (λ (es : List Entry). old.journal ++ es) (does.decides other)
           ∙ append-nil old.journal;
-      failed = failed ∙ sym (ap (λ (b : Bool). b || is_failure did) sound);
+      joins = joins (call_at old.seats seat) refl;
+      failed = blamed ∙ ap is_some failure ∙ blamed_by seat did ∙ sym (ap (λ (b : Bool). b || is_failure did) sound);
+      failure = failure ∙ sym (ap (failure_by seat did) (none_blamed old whole sound));
       fails = λ broken. absurd cc;
       still = λ broken. absurd cc;
       counts = counts;
@@ -246,13 +318,15 @@ pub makes_step : {K : Type 0} (of : K → RecordKey → ℕ) (seat : ℕ) (did :
     Turns (of old.keys) seat old.stopped did slot left old.pool new.pool old.locks new.locks old.journal new.journal →
     new.seats ≡ slice_set old.seats (seat - 1) left → new.keys ≡ old.keys → new.callers ≡ old.callers →
     new.stopped ≡ old.stopped → old.room ≤ new.room → (slot ≡ None → new.room ≡ old.room) → old.failed ≡ false →
-    new.failed ≡ is_failure did → Counts seat did old new → MakesStep of seat did now new
+    new.failed ≡ is_some new.failure → new.failure ≡ failure_by seat did None → Counts seat did old new →
+    MakesStep of seat did now new
 makes_step of seat did slot left old new now view whole seated at turns seats keys callers stopped room spare sound
-    failed counts =
+    blamed failure counts =
     subst (λ (k : KernelState _). MakesStep of seat did k new) view record {
-      whole = whole_behind seat did left old new whole is does seats_are keys callers stopped counts room;
-      turn = turn_behind seat did left old new whole is does seats_are keys callers stopped counts spares sound
-          failed;
+      whole = whole_behind seat did left old new whole is does seats_are keys callers stopped counts blamed room;
+      turn = turn_behind seat did left old new whole is does seats_are keys callers stopped counts blamed spares sound
+          failure (turn_looked (of old.keys) seat old.stopped did (call_at old.seats seat) left old.pool new.pool
+          old.locks new.locks old.journal new.journal here);
       makes = λ a at_a fine. subst (λ (x : Option ActiveView). Turns (of old.keys) seat old.stopped did (Some a) x
           old.pool new.pool old.locks new.locks old.journal new.journal) (sym left_is)
           (subst (λ (x : Option ActiveView). Turns (of old.keys) seat old.stopped did x left old.pool new.pool
@@ -281,13 +355,14 @@ makes_step of seat did slot left old new now view whole seated at turns seats ke
 
     spares : call_at old.seats seat ≡ None → new ≡ old
     spares none = spares_by (of old.keys) seat did (call_at old.seats seat) left old new refl none here seats_are keys
-        callers stopped (spare (slot_is ∙ none)) sound failed counts
+        callers stopped (spare (slot_is ∙ none)) sound (none_blamed old whole sound)
+        (blamed ∙ ap is_some failure ∙ blamed_by seat did) failure counts
 
     does : Does seat did (call_at old.seats seat) left old.pool new.pool old.locks new.locks old.journal new.journal
     does = turn_does (of old.keys) seat old.stopped did (call_at old.seats seat) left old.pool new.pool old.locks
         new.locks old.journal new.journal here
 
--- ---- the seat behind a step
+-- ---- the seat after a step
 
 -- the row of a seat is that of the call in its place
 pub row_there : {K : Type 0} (seat : ℕ) (slot : Option ActiveView) (old : KernelState K) → IsWhole old →

@@ -1,5 +1,11 @@
 pub mod PlaceLemmas
+pub mod PartLemmas
+pub mod PastLemmas
 pub mod TurnLemmas
+pub mod AnewLemmas
+pub mod SeatLemmas
+pub mod BetweenLemmas
+pub mod FailureLemmas
 pub mod KernelLemmas
 pub mod BeginLemmas
 pub mod RunLemmas

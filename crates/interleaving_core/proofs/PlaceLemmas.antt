@@ -1,8 +1,9 @@
 -- The calls of seats in their list.
-use Rattle.std.proofs.Common.{◌≡◌, ◌≢◌, refl, sym, ap, ℕ, zero, suc, ◌+◌, ◌-◌, ◌≤◌, Bool, true, false, List, [], ◌∷◌, Option, Some, None, length, map, slice_set, slice_index_or, length-set, get_or-set_same, get_or-set_other, arith}
+use Rattle.std.proofs.Common.{◌≡◌, ◌≢◌, refl, sym, ap, ◌∙◌, inl, inr, ℕ, zero, suc, ◌+◌, ◌-◌, ◌≤◌, Bool, true, false, List, [], ◌∷◌, Option, Some, None, length, map, slice_set, slice_index_or, length-set, get_or-set_same, get_or-set_other, arith}
 use Rattle.std.specs.Prelude.{sum_by}
 use Rattle.std.proofs.Math.ListN.{get_or-map}
-use Rattle.std.proofs.lemmas.List.{map-set, set-get_or, set-set}
+use Rattle.std.proofs.lemmas.Bool.{cases_lt}
+use Rattle.std.proofs.lemmas.List.{get_or_past, map-set, set-get_or, set-set}
 use Rattle.std.proofs.lemmas.List.Sums.{sum_by-set, sum_by-cons}
 use Rattle.interleaving_core.specs.Words.{row_of, with_row}
 use Rattle.interleaving_core.specs.Active.{ActiveView, drafted}
@@ -65,6 +66,21 @@ pub due_with : (seats : Seats) (seat : ℕ) (left : Option ActiveView) → 1 ≤
     sum_by due_at (with_call seats seat left) + due_at (call_at seats seat) ≡ sum_by due_at seats + due_at left
 due_with seats zero left some within = absurd (omega (arith, some))
 due_with seats (suc place) left some within = sum_by-set due_at seats place left None (omega (arith, within))
+
+-- a seat that has a call has a place
+pub seat_of_call : (seats : Seats) (seat : ℕ) (a : ActiveView) → call_at seats seat ≡ Some a →
+    (1 ≤ seat) × (seat ≤ length seats)
+seat_of_call seats zero a there = absurd cc
+seat_of_call seats (suc place) a there = (
+  omega arith,
+  elim (cases_lt place (length seats)) [
+    | inl within ↦ omega (arith, within)
+    | inr past ↦ absurd (none_some (sym (get_or_past seats place None past) ∙ there))
+  ],
+)
+  where
+    none_some : ◌≡◌ {A = Option ActiveView} None (Some a) → ⊥
+    none_some clash = cc
 
 -- ---- the entries that are due
 

@@ -1,11 +1,14 @@
--- Steps of one seat, one behind the other.
+-- Steps of one seat, one after the other.
 use Rattle.std.proofs.Common.{◌≡◌, ◌≢◌, refl, sym, ap, ◌∙◌, subst, ℕ, Bool, true, ◌||◌, IsSome, List, [], ◌++◌, Option, Some, None, append-nil, append_assoc, arith}
 use Rattle.page_locks.proofs.ChangeLemmas.{IsSeat-with_row, with_row-own, with_row-twice}
 use Rattle.step_rules.specs.declared.kind.Kind.{Kind}
 use Rattle.interleaving_core.specs.Words.{Answer, Call, Entry, IsSeat, Table, row_of, with_row}
 use Rattle.interleaving_core.specs.Active.{ActiveView}
 use Rattle.interleaving_core.specs.Kernel.{IsWhole, KernelState, call_at, locks_of, with_call}
-use Rattle.interleaving_core.specs.Owing.{IsMove, IsRun, IsTurn, answer_told, call_of, entry_of, is_failure, told, told_of_failure, untold}
+use Rattle.interleaving_core.specs.Owing.{IsMove, IsRun, IsTurn, answer_told, failure_by, is_end, is_failure, told, told_of_failure}
+use Rattle.interleaving_core.specs.Past.{KeepsJournal, call_of, entry_of, untold}
+use Rattle.interleaving_core.specs.declared.fault.Failure.{Failure}
+use Rattle.std.specs.Option.{is_some}
 use Rattle.interleaving_core.specs.Searches.{Counts}
 use Rattle.interleaving_core.specs.declared.step.Step.{Step}
 use Rattle.interleaving_core.specs.declared.step.Step.TheVariants as steps
@@ -37,8 +40,17 @@ fails_put seat did s whole broken is = record {
       (stays_put seat s (its_row s whole seat));
   idle = (λ e. idle_at (call_at s.seats seat) (sym is ∙ e), λ e. is ∙ ap told_of_failure e);
   spares = λ e. refl;
+  over = λ ends. over_at (call_at s.seats seat) (sym (ap is_end is) ∙ ends);
+  goes = λ goes. refl;
+  waits = λ told. absurd (waits_at (call_at s.seats seat) (sym is ∙ told));
   decides = λ other. refl;
+  joins = λ a there.
+      (subst (KeepsJournal seat s.journal) there (whole.past seat)).joined
+      ∙ ap (untold seat) (sym there)
+      ∙ sym (ap (λ (x : Option Answer). told seat (Some a) x ++ untold seat (call_at s.seats seat))
+      (ap answer_told is ∙ none (call_at s.seats seat)));
   failed = broken ∙ sym (ap (λ (b : Bool). b || is_failure did) broken);
+  failure = first s.failure (sym whole.blamed ∙ broken);
   fails = λ b. is;
   still = λ b. refl;
   counts = subst (λ (d : Step). Counts seat d s s) (sym is) (stays (call_at s.seats seat));
@@ -51,6 +63,18 @@ fails_put seat did s whole broken is = record {
     none : (at : Option ActiveView) → answer_told (told_of_failure at) ≡ None
     none None = refl
     none (Some a) = refl
+
+    over_at : (at : Option ActiveView) → is_end (told_of_failure at) ≡ true → at ≡ None
+    over_at None e = refl
+    over_at (Some a) e = absurd cc
+
+    waits_at : (at : Option ActiveView) → told_of_failure at ≡ steps.Waiting → ⊥
+    waits_at None e = cc
+    waits_at (Some a) e = cc
+
+    first : (o : Option Failure) → is_some o ≡ true → o ≡ failure_by seat did o
+    first None e = absurd cc
+    first (Some failure) e = refl
 
     idle_at : (at : Option ActiveView) → told_of_failure at ≡ steps.Idle → at ≡ None
     idle_at None e = refl

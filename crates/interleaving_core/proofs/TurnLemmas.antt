@@ -1,5 +1,5 @@
 -- What a step of a call leaves at its seat, in the locks and in the journal.
-use Rattle.std.proofs.Common.{◌≡◌, ◌≢◌, ◌↔◌, refl, sym, ap, ◌∙◌, subst, ℕ, ◌+◌, ◌≤◌, Bool, true, false, IsSome, List, [], ◌∷◌, ◌++◌, Option, Some, None, length, append-nil, arith}
+use Rattle.std.proofs.Common.{◌≡◌, ◌≢◌, ◌↔◌, refl, sym, ap, ◌∙◌, subst, ℕ, ◌+◌, ◌≤◌, Bool, true, false, true≢false, IsSome, List, [], ◌∷◌, ◌++◌, Option, Some, None, drop, length, append-nil, length-append, arith}
 use Rattle.file_pages.specs.declared.fault.FileFault.{FileFault}
 use Rattle.page_locks.proofs.ChangeLemmas.{with_row-own}
 use Rattle.queue_model.specs.declared.entry.Entry.TheVariants.{Decided}
@@ -12,14 +12,18 @@ use Rattle.xsi_calls.specs.declared.conclusion.Conclusion.{Conclusion}
 use Rattle.xsi_calls.specs.declared.conclusion.Conclusion.TheVariants as conclusions
 use Rattle.xsi_calls.specs.Stages.{Stage}
 use Rattle.interleaving_core.specs.Words.{Answer, Call, CallView, Caller, Entry, IsOver, IsReady, PoolState, Progress, RecordKey, Roomful, Table, answer_of_call, call_locks, conclusion_of, row_of, with_row}
-use Rattle.interleaving_core.specs.Active.{ActiveView, BeginsAgain, IsDrafted, draft_by, drafted, entries_by, is_waiting}
+use Rattle.queue_model.specs.Journal.{part_of}
+use Rattle.interleaving_core.specs.Active.{ActiveView, BeginsAgain, IsDrafted, decided_by, draft_by, drafted, entries_by, is_waiting}
 use Rattle.interleaving_core.specs.Kernel.{IsCallOf, due_at, locks_of}
-use Rattle.interleaving_core.specs.Owing.{answer_told, call_of, entry_of, told, untold}
-use Rattle.interleaving_core.specs.Turn.{IsLeft, IsLeftWhenOver, MakesTurn, StaysIdle, StaysWaiting, TakesTurn, Turns, told_of, told_when_over}
+use Rattle.interleaving_core.specs.Owing.{answer_told, is_end, told}
+use Rattle.interleaving_core.specs.Past.{IsOfJournal, KeepsJournal, call_of, entry_of, untold}
+use Rattle.interleaving_core.specs.Turn.{IsLeft, IsLeftWhenOver, MakesTurn, StaysIdle, StaysWaiting, told_of, told_when_over}
 use Rattle.interleaving_core.specs.Waiting.{stays_waiting}
 use Rattle.interleaving_core.specs.declared.active.Draft.{Draft}
 use Rattle.interleaving_core.specs.declared.step.Step.{Step}
 use Rattle.interleaving_core.specs.declared.step.Step.TheVariants as steps
+use Rattle.interleaving_core.proofs.PartLemmas.{AreOf, entries_are_of, part_own}
+use Rattle.interleaving_core.proofs.PastLemmas.{again_keeps, part_since, waits_keeps}
 
 -- what a step of a seat does, whether it has a call or not
 pub record Does (seat : ℕ) (did : Step) (at left : Option ActiveView) (pool pool' : PoolState) (locks locks' : Table)
@@ -31,7 +35,11 @@ pub record Does (seat : ℕ) (did : Step) (at left : Option ActiveView) (pool po
   pub caller : (c : Option Caller) → IsCallOf c at → IsCallOf c left
   pub call : IsSome (call_of left) → call_of left ≡ call_of at
   pub idle : (did ≡ steps.Idle) ↔ (at ≡ None)
+  pub over : is_end did ≡ true → left ≡ None
+  pub goes : is_end did ≡ false → call_of left ≡ call_of at
+  pub past : KeepsJournal seat journal at → KeepsJournal seat journal' left
   pub added : List Entry
+  pub of_seat : AreOf seat added
   pub grows : journal' ≡ journal ++ added
   pub decides : did ≢ steps.Moved Decide → added ≡ []
   pub due : due_at left + length added ≤ due_at at
@@ -127,26 +135,32 @@ decide_told did m other is = other (ap (λ (d : Progress FileFault). told_of d m
 
 -- ---- what is left
 
--- what is so of what is left behind a call that has come so far
+-- what is so of what is left after a call that has come so far
 pub record Leaves (seat : ℕ) (did : Step) (come : ActiveView) (left : Option ActiveView) : Type 0 where
   pub locks : locks_of left ≡ call_locks come.machine
   pub due : due_at left ≤ drafted come.draft
   pub caller : (c : Option Caller) → c ≡ Some come.machine.caller → IsCallOf c left
   pub call : IsSome (call_of left) → call_of left ≡ Some come.machine.call
+  pub over : is_end did ≡ true → left ≡ None
+  pub goes : is_end did ≡ false → call_of left ≡ Some come.machine.call
+  pub past : (journal : List Entry) → IsOfJournal seat journal come → KeepsJournal seat journal left
   pub owed : untold seat (Some come) ≡ entry_of seat (Some come.machine.call) (answer_told did) ++ untold seat left
 
 stays_there : (seat : ℕ) (did : Step) (come : ActiveView) (left : Option ActiveView) → left ≡ Some come →
-    answer_told did ≡ None → Leaves seat did come left
-stays_there seat did come left is none = subst (λ (x : Option ActiveView). Leaves seat did come x) (sym is) record {
+    answer_told did ≡ None → is_end did ≡ false → Leaves seat did come left
+stays_there seat did come left is none on = subst (λ (x : Option ActiveView). Leaves seat did come x) (sym is) record {
   locks = refl;
   due = omega arith;
   caller = λ c same. same;
   call = λ some. refl;
+  over = λ ends. absurd (true≢false (sym ends ∙ on));
+  goes = λ goes. refl;
+  past = λ journal kept. kept;
   owed = sym (ap (λ (x : Option Answer). entry_of seat (Some come.machine.call) x ++ untold seat (Some come)) none);
 }
 
 -- what a call came to is no answer, where it waits
-waits_unanswered : (c : Option Conclusion) (bytes : List ℕ) → is_waiting c ≡ true → answer_by c bytes ≡ None
+pub waits_unanswered : (c : Option Conclusion) (bytes : List ℕ) → is_waiting c ≡ true → answer_by c bytes ≡ None
 waits_unanswered None bytes is = absurd cc
 waits_unanswered (Some (conclusions.Answers verdict)) bytes is = absurd cc
 waits_unanswered (Some conclusions.Waits) bytes is = refl
@@ -162,6 +176,10 @@ again_there seat come again over begins none = record {
   due = let same = ap drafted begins.draft in omega (arith, same);
   caller = λ c same. same ∙ ap (λ (x : Caller). Some x) (sym begins.begins.caller_is);
   call = λ some. ap (λ (x : Call). Some x) begins.begins.call_is;
+  over = λ ends. absurd cc;
+  goes = λ goes. ap (λ (x : Call). Some x) begins.begins.call_is;
+  past = λ journal kept. again_keeps seat journal come again begins none
+      (new_unanswered again.machine begins.begins.new) kept;
   owed = ap (entry_of seat (Some come.machine.call)) none
       ∙ sym (ap (entry_of seat (Some again.machine.call)) (new_unanswered again.machine begins.begins.new));
 }
@@ -173,6 +191,9 @@ gone seat come over None is = record {
   due = omega arith;
   caller = λ c same. tt;
   call = λ some. absurd cc;
+  over = λ ends. refl;
+  goes = λ goes. absurd cc;
+  past = λ journal kept. tt;
   owed = ap (entry_of seat (Some come.machine.call)) is;
 }
 gone seat come over (Some x) is = record {
@@ -180,6 +201,9 @@ gone seat come over (Some x) is = record {
   due = omega arith;
   caller = λ c same. tt;
   call = λ some. absurd cc;
+  over = λ ends. refl;
+  goes = λ goes. absurd cc;
+  past = λ journal kept. tt;
   owed = ap (entry_of seat (Some come.machine.call)) is;
 }
 
@@ -196,14 +220,54 @@ over_there seat come left over false waits is =
 
 left_there : (seat : ℕ) (did : Progress FileFault) (m : CallView) (come : ActiveView) (left : Option ActiveView) →
     KeepsCall did m come.machine → IsLeft did come left → Leaves seat (told_of did come.machine) come left
-left_there seat (progress.Moved kind) m come left keeps is = stays_there seat (steps.Moved kind) come left is refl
-left_there seat (progress.Blocked other) m come left keeps is = stays_there seat (steps.Blocked other) come left is refl
+left_there seat (progress.Moved kind) m come left keeps is =
+    stays_there seat (steps.Moved kind) come left is refl refl
+left_there seat (progress.Blocked other) m come left keeps is =
+    stays_there seat (steps.Blocked other) come left is refl refl
 left_there seat (progress.Fault fault) m come left keeps is =
-    stays_there seat (told_of (progress.Fault fault) come.machine) come left is refl
+    stays_there seat (told_of (progress.Fault fault) come.machine) come left is refl refl
 left_there seat progress.Ended m come left keeps is =
     over_there seat come left (keeps.over refl) (is_waiting (conclusion_of come.machine)) refl is
 
 -- ---- the whole step
+
+-- how long the journal was at its Decide, or is
+decided_within : (c : Option Conclusion) (many decided : ℕ) → decided ≤ many → decided_by c many decided ≤ many
+decided_within None many decided within = omega arith
+decided_within (Some c) many decided within = within
+
+-- what the call that has come so far keeps
+come_keeps : (hash : RecordKey → ℕ) (seat : ℕ) (stopped : Bool) (did : Step) (a : ActiveView)
+    (left : Option ActiveView) (pool pool' : PoolState) (locks locks' : Table) (journal journal' : List Entry)
+    (t : MakesTurn hash seat stopped did a left pool pool' locks locks' journal journal') →
+    IsOfJournal seat journal a → IsOfJournal seat journal' t.come
+come_keeps hash seat stopped did a left pool pool' locks locks' journal journal' t kept =
+    subst (λ (es : List Entry). IsOfJournal seat es t.come) (sym t.journal) record {
+      begun =
+          let same = t.marked.begun in
+          let was = kept.begun in
+          omega (arith, same, was, both);
+      decided =
+          let same = t.marked.decided in
+          let within = decided_within (conclusion_of a.machine) (length journal) a.decided kept.decided in
+          omega (arith, same, within, both);
+      joined = ap (λ (n : ℕ). part_of seat (drop n (journal ++ more))) t.marked.begun
+          ∙ part_since seat a.begun journal more kept.begun
+          ∙ ap (λ (es : List Entry). es ++ part_of seat more) kept.joined
+          ∙ ap (λ (es : List Entry). untold seat (Some a) ++ es) (part_own seat more (entries_are_of seat _ a.draft))
+          ∙ owed_by seat t.did a.machine t.come.machine t.makes.aim a.draft t.kept;
+      looked = λ since told. absurd (awake_apart t.come.wait since t.marked.awake told);
+    }
+  where
+    more : List Entry
+    more = entries_by seat (answer_of_call t.come.machine) a.draft
+
+    both : length (journal ++ more) ≡ length journal + length more
+    both = length-append journal more
+
+    awake_apart : (wait : Option ℕ) (since : ℕ) → wait ≡ None → wait ≡ Some since → ⊥
+    awake_apart None since none some = cc
+    awake_apart (Some n) since none some = cc
 
 pub call_does : (hash : RecordKey → ℕ) (seat : ℕ) (stopped : Bool) (did : Step) (a : ActiveView)
     (left : Option ActiveView) (pool pool' : PoolState) (locks locks' : Table) (journal journal' : List Entry) →
@@ -223,7 +287,12 @@ call_does hash seat stopped did a left pool pool' locks locks' journal journal' 
       caller = λ c same. leaves.caller c (same ∙ ap (λ (y : Caller). Some y) (sym keeps.caller));
       call = λ some. leaves.call some ∙ ap (λ (y : Call). Some y) keeps.call;
       idle = (λ is. absurd (not_idle t.did t.come.machine (sym t.told_is ∙ is)), λ none. absurd cc);
+      over = leaves.over;
+      goes = λ goes. leaves.goes goes ∙ ap (λ (y : Call). Some y) keeps.call;
+      past = λ kept. leaves.past journal' (come_keeps hash seat stopped did a left pool pool' locks locks' journal
+          journal' t kept);
       added = entries_by seat x a.draft;
+      of_seat = entries_are_of seat x a.draft;
       grows = t.journal;
       decides = λ other. added_by seat t.did a.machine t.come.machine keeps a.draft t.kept
           (decide_told t.did t.come.machine (λ is. other (t.told_is ∙ is)));
@@ -248,7 +317,11 @@ idle_does seat did left pool pool' locks locks' journal journal' t = record {
   caller = λ c same. subst (IsCallOf c) (sym t.left_is) tt;
   call = λ some. ap call_of t.left_is;
   idle = (λ is. refl, λ none. t.told_is);
+  over = λ ends. t.left_is;
+  goes = λ goes. ap call_of t.left_is;
+  past = λ kept. subst (KeepsJournal seat journal') (sym t.left_is) tt;
   added = [];
+  of_seat = tt;
   grows = t.same_journal ∙ sym (append-nil journal);
   decides = λ other. refl;
   due = let same = ap due_at t.left_is in omega (arith, same);
@@ -256,10 +329,10 @@ idle_does seat did left pool pool' locks locks' journal journal' t = record {
 }
 
 pub waits_does : (seat : ℕ) (did : Step) (a : ActiveView) (left : Option ActiveView) (pool pool' : PoolState)
-    (locks locks' : Table) (journal journal' : List Entry) →
+    (locks locks' : Table) (journal journal' : List Entry) → stays_waiting a.wait a.machine.call journal ≡ true →
     StaysWaiting did a left pool pool' locks locks' journal journal' →
     Does seat did (Some a) left pool pool' locks locks' journal journal'
-waits_does seat did a left pool pool' locks locks' journal journal' t = record {
+waits_does seat did a left pool pool' locks locks' journal journal' stays t = record {
   ready = λ ready. subst IsReady (sym t.same_pool) ready;
   honest = ap (λ (p : PoolState). p.honest) t.same_pool;
   later = let same = ap (λ (p : PoolState). p.faults) t.same_pool in omega (arith, same);
@@ -268,30 +341,16 @@ waits_does seat did a left pool pool' locks locks' journal journal' t = record {
   caller = λ c same. subst (IsCallOf c) (sym t.left_is) same;
   call = λ some. ap call_of t.left_is;
   idle = (λ is. absurd (not_idle_at_end true None (sym t.told_is ∙ is)), λ none. absurd cc);
+  over = λ ends. absurd (true≢false (sym ends ∙ ap is_end t.told_is));
+  goes = λ goes. ap call_of t.left_is;
+  past = λ kept. subst (KeepsJournal seat journal') (sym t.left_is)
+      (subst (λ (es : List Entry). IsOfJournal seat es (record a { wait = Some (length journal) }))
+      (sym t.same_journal) (waits_keeps seat journal a stays kept));
   added = [];
+  of_seat = tt;
   grows = t.same_journal ∙ sym (append-nil journal);
   decides = λ other. refl;
   due = let same = ap due_at t.left_is in omega (arith, same);
   owed = append-nil (untold seat (Some a)) ∙ sym (ap (untold seat) t.left_is)
       ∙ sym (ap (λ (d : Step). told seat (Some a) (answer_told d) ++ untold seat left) t.told_is);
 }
-
-takes_does : (hash : RecordKey → ℕ) (seat : ℕ) (stopped : Bool) (did : Step) (a : ActiveView)
-    (left : Option ActiveView) (pool pool' : PoolState) (locks locks' : Table) (journal journal' : List Entry) →
-    TakesTurn hash seat stopped did a left pool pool' locks locks' journal journal' → (waits : Bool) →
-    stays_waiting a.wait a.machine.call journal ≡ waits →
-    Does seat did (Some a) left pool pool' locks locks' journal journal'
-takes_does hash seat stopped did a left pool pool' locks locks' journal journal' t true is =
-    waits_does seat did a left pool pool' locks locks' journal journal' (t.waits is)
-takes_does hash seat stopped did a left pool pool' locks locks' journal journal' t false is =
-    call_does hash seat stopped did a left pool pool' locks locks' journal journal' (t.goes is)
-
-pub turn_does : (hash : RecordKey → ℕ) (seat : ℕ) (stopped : Bool) (did : Step) (at left : Option ActiveView)
-    (pool pool' : PoolState) (locks locks' : Table) (journal journal' : List Entry) →
-    Turns hash seat stopped did at left pool pool' locks locks' journal journal' →
-    Does seat did at left pool pool' locks locks' journal journal'
-turn_does hash seat stopped did None left pool pool' locks locks' journal journal' t =
-    idle_does seat did left pool pool' locks locks' journal journal' t
-turn_does hash seat stopped did (Some a) left pool pool' locks locks' journal journal' t =
-    takes_does hash seat stopped did a left pool pool' locks locks' journal journal' t
-    (stays_waiting a.wait a.machine.call journal) refl

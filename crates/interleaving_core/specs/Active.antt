@@ -14,6 +14,8 @@ pub record ActiveView : Type 0 where
   pub machine : CallView
   -- what is kept until it is answered
   pub draft : Option Draft
+  -- how long the journal was when it began
+  pub begun : ℕ
   -- how long the journal was at its Decide; before that, how long it was at its last step
   pub decided : ℕ
   -- once its seat was told that it waits: how much of the journal has not woken it
@@ -29,27 +31,31 @@ pub record IsDraftOf (m : CallView) (d : Draft) : Type 0 where
   pub call : d.call ≡ m.call
   pub room : HasRoomAs d.room m
 
--- something is kept just for a call that is not answered yet
+-- something is kept exactly for a call that is not answered yet
 abbrev pub IsDrafted : CallView → Option Draft → Type 0
 IsDrafted m None = IsSome (answer_of_call m)
 IsDrafted m (Some d) = IsDraftOf m d
 
 -- ---- its beginning
 
-pub record HasBegun (caller : Caller) (call : Call) (a : ActiveView) : Type 0 where
+-- while the journal has so many entries
+pub record HasBegun (caller : Caller) (call : Call) (many : ℕ) (a : ActiveView) : Type 0 where
   pub begins : Begins caller call a.machine
   pub draft : IsSome a.draft
+  pub begun : a.begun ≡ many
+  pub decided : a.decided ≡ many
   pub awake : a.wait ≡ None
 
 -- a seat at which it has begun
-abbrev pub HasBegunAt : Caller → Call → Option ActiveView → Type 0
-HasBegunAt caller call None = ⊥
-HasBegunAt caller call (Some a) = HasBegun caller call a
+abbrev pub HasBegunAt : Caller → Call → ℕ → Option ActiveView → Type 0
+HasBegunAt caller call many None = ⊥
+HasBegunAt caller call many (Some a) = HasBegun caller call many a
 
--- the same call begins anew, once something has woken it that was decided behind its Decide
+-- the same call begins anew, once something wakes it that joined the journal after its Decide
 pub record BeginsAgain (old new : ActiveView) : Type 0 where
   pub begins : Begins old.machine.caller old.machine.call new.machine
   pub draft : new.draft ≡ old.draft
+  pub begun : new.begun ≡ old.begun
   pub decided : new.decided ≡ old.decided
   pub wait : new.wait ≡ Some old.decided
 
@@ -68,6 +74,7 @@ decided_by (Some conclusion) many decided = decided
 
 -- a step that its machine makes; it waits no more
 pub record IsMarked (many : ℕ) (old new : ActiveView) : Type 0 where
+  pub begun : new.begun ≡ old.begun
   pub decided : new.decided ≡ decided_by (conclusion_of old.machine) many old.decided
   pub awake : new.wait ≡ None
 

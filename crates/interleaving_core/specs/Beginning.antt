@@ -5,9 +5,9 @@ use Rattle.file_check.specs.Whole.{IsFileOf, IsToldOf}
 use Rattle.queue_model.specs.State.{State}
 use Rattle.queue_model.specs.declared.entry.Entry.TheVariants.{Stopped}
 use Rattle.search_counts.specs.Counting.{opened_counts}
-use Rattle.interleaving_core.specs.Words.{Call, Caller, RecordKey, caller_at}
+use Rattle.interleaving_core.specs.Words.{Call, Caller, HasFittingCall, RecordKey, caller_at}
 use Rattle.interleaving_core.specs.Active.{ActiveView, HasBegun}
-use Rattle.interleaving_core.specs.Kernel.{KernelState, call_at, entries_of, with_call}
+use Rattle.interleaving_core.specs.Kernel.{AreFittingCallers, KernelState, call_at, entries_of, with_call}
 use Rattle.interleaving_core.specs.declared.fault.BeginFault.{BeginFault}
 use Rattle.interleaving_core.specs.declared.fault.BeginFault.TheVariants as begins
 use Rattle.interleaving_core.specs.declared.fault.OpenFault.{OpenFault}
@@ -23,10 +23,12 @@ pub record IsOpened {K : Type 0} (with_keys : K) (content : List (List ℕ)) (ho
   pub pool : k.pool ≡ opened frames content honest k.pool.synced k.pool.faults
   pub locks : k.locks ≡ replicate (length sitting) []
   pub callers : k.callers ≡ sitting
+  pub fitting : AreFittingCallers sitting
   pub seats : k.seats ≡ replicate (length sitting) None
   pub journal : k.journal ≡ []
   pub stopped : k.stopped ≡ false
   pub failed : k.failed ≡ false
+  pub failure : k.failure ≡ None
   pub searches : k.searches ≡ opened_counts (length sitting)
 
 -- the pages are the file of a system
@@ -56,8 +58,10 @@ pub record HasCall {K : Type 0} (seat : ℕ) (call : Call) (old new : KernelStat
   pub may : MayBegin seat old
   pub caller : Caller
   pub sits : caller_at old.callers seat ≡ Some caller
+  -- its numbers fit the fields of records
+  pub fits : HasFittingCall call
   pub active : ActiveView
-  pub begun : HasBegun caller call active
+  pub begun : HasBegun caller call (length old.journal) active
   pub is : new ≡ record old { seats = with_call old.seats seat (Some active); room = new.room }
 
 -- why it does not begin; it is refused by the first of these that is so

@@ -1,5 +1,5 @@
 -- What is left of a kernel that was closed, or was not.
-use Rattle.std.specs.Prelude.{ℕ, ◌≡◌, Bool, true, false, List, Option, Some, None, Result, Ok, Err, ⊤}
+use Rattle.std.specs.Prelude.{ℕ, ◌≡◌, ◌≤◌, Bool, true, false, List, Option, Some, None, Result, Ok, Err, ⊤}
 use Rattle.std.specs.List.{list_any}
 use Rattle.page_device.specs.Device.{HasRisen}
 use Rattle.buffer_pool.specs.Pool.{KeepsSeals, PoolState, payloads_of}
@@ -8,9 +8,9 @@ use Rattle.interleaving_core.specs.Active.{ActiveView}
 use Rattle.interleaving_core.specs.Kernel.{KernelState}
 use Rattle.interleaving_core.specs.declared.fault.CloseFault.{CloseFault}
 use Rattle.interleaving_core.specs.declared.fault.CloseFault.TheVariants as closes
-use Rattle.interleaving_core.specs.declared.kernel.Closed.{Closed}
-use Rattle.interleaving_core.specs.declared.kernel.NotClosed.{NotClosed}
-use Rattle.interleaving_core.specs.declared.kernel.NotClosed.TheVariants.{Busy, Fault}
+use Rattle.interleaving_core.specs.declared.closing.Closed.{Closed}
+use Rattle.interleaving_core.specs.declared.closing.NotClosed.{NotClosed}
+use Rattle.interleaving_core.specs.declared.closing.NotClosed.TheVariants.{Busy, Fault}
 
 abbrev pub has_one : Option ActiveView → Bool
 has_one None = false
@@ -55,6 +55,7 @@ pub record IsReleased {K : Type 0} (s : KernelState K) (fault : Option CloseFaul
   pub same : honest ≡ s.pool.honest
   -- where a step had failed it has what the pool knew to be stored
   pub unwritten : s.failed ≡ true → content ≡ s.pool.stored
+  pub later : s.pool.faults ≤ faults
   -- a failure of the device is told only where its count of faults rose
   pub cause : fault ≡ Some closes.Device → HasRisen s.pool.faults faults
 

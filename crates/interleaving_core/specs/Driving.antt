@@ -1,10 +1,10 @@
 -- How a seat is driven: it is stepped until its call does not move. docs/STEPS.md, "Calls".
-use Rattle.std.specs.Prelude.{ℕ, zero, suc, ◌≡◌, ◌⊎◌, ◌<◌, true, false, Some}
+use Rattle.std.specs.Prelude.{ℕ, zero, suc, ◌≡◌, ◌⊎◌, ◌<◌, true, false, None, Some}
 use Rattle.step_rules.specs.declared.kind.Kind.{Kind}
 use Rattle.interleaving_core.specs.Words.{RecordKey}
 use Rattle.interleaving_core.specs.Active.{ActiveView}
 use Rattle.interleaving_core.specs.Kernel.{KernelState, call_at}
-use Rattle.interleaving_core.specs.Owing.{IsMove, IsTurn, failed}
+use Rattle.interleaving_core.specs.Owing.{IsMove, IsTurn, failed, failure_by}
 use Rattle.interleaving_core.specs.Turn.{TakesTurn}
 use Rattle.interleaving_core.specs.declared.kernel.TheConstants.{MOST_STEPS}
 use Rattle.interleaving_core.specs.declared.step.Step.{Step}
@@ -39,10 +39,10 @@ pub record ComesToRest {K : Type 0} (hash : RecordKey → ℕ) (seat moves : ℕ
   pub rests : IsMove did → ⊥
 
 -- each of the most steps was a move, and that counts as a failure
-pub record IsSpent {K : Type 0} (moves : ℕ) (did : Step) (before new : KernelState K) : Type 0 where
+pub record IsSpent {K : Type 0} (seat moves : ℕ) (did : Step) (before new : KernelState K) : Type 0 where
   pub most : moves ≡ MOST_STEPS
   pub told : did ≡ failed
-  pub marked : new ≡ record before { failed = true }
+  pub marked : new ≡ record before { failed = true; failure = failure_by seat failed None }
 
 -- what a seat was told of a drive, which leaves new
 pub record IsDriven {K : Type 0} (hash : RecordKey → ℕ) (seat : ℕ) (did : Step) (old new : KernelState K)
@@ -50,4 +50,4 @@ pub record IsDriven {K : Type 0} (hash : RecordKey → ℕ) (seat : ℕ) (did : 
   pub moves : ℕ
   pub before : KernelState K
   pub moved : Moves hash seat moves old before
-  pub ends : ComesToRest hash seat moves did before new ⊎ IsSpent moves did before new
+  pub ends : ComesToRest hash seat moves did before new ⊎ IsSpent seat moves did before new

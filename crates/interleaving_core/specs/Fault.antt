@@ -1,15 +1,15 @@
 -- The numbers of faults. docs/FAULTS.md.
 use Rattle.std.specs.Prelude.{ℕ}
-use Rattle.faults.specs.declared.TheConstants.{DEVICE, FAILED, NO_MEMORY, NO_ROOM, TOO_FEW_FRAMES}
+use Rattle.faults.specs.declared.TheConstants.{BUSY, DEVICE, FAILED, NO_MEMORY, NO_ROOM, SESSION_FULL, TOO_FEW_FRAMES}
 use Rattle.file_check.specs.Fault as check
 use Rattle.file_check.specs.declared.fault.CheckFault.TheVariants as checks
 use Rattle.file_pages.specs.Fault as file
 use Rattle.file_walk.specs.declared.fault.StructureFault.TheVariants as structure
-use Rattle.interleaving_core.specs.declared.fault.TheConstants.{BUSY, SESSION_FULL}
 use Rattle.interleaving_core.specs.declared.fault.BeginFault.{BeginFault}
 use Rattle.interleaving_core.specs.declared.fault.BeginFault.TheVariants as begins
 use Rattle.interleaving_core.specs.declared.fault.CloseFault.{CloseFault}
 use Rattle.interleaving_core.specs.declared.fault.CloseFault.TheVariants as closes
+use Rattle.interleaving_core.specs.declared.fault.Failure.{Failure}
 use Rattle.interleaving_core.specs.declared.fault.OpenFault.{OpenFault}
 use Rattle.interleaving_core.specs.declared.fault.OpenFault.TheVariants as opens
 use Rattle.interleaving_core.specs.declared.fault.StepFault.{StepFault}
@@ -30,10 +30,14 @@ begin_number_of begins.Busy = BUSY
 begin_number_of begins.SessionFull = SESSION_FULL
 begin_number_of begins.NoMemory = NO_MEMORY
 
+-- whatever fault of the file it was
 abbrev pub step_number_of : StepFault → ℕ
-step_number_of (steps.File fault) = file.number_of fault
+step_number_of (steps.File fault) = FAILED
 step_number_of steps.NoRoom = NO_ROOM
 
 abbrev pub close_number_of : CloseFault → ℕ
 close_number_of closes.Device = DEVICE
 close_number_of closes.Failed = FAILED
+
+abbrev pub failure_number_of : Failure → ℕ
+failure_number_of failure = file.number_of failure.fault

@@ -2,6 +2,7 @@ pub mod Words
 pub mod Active
 pub mod Fault
 pub mod Waiting
+pub mod Past
 pub mod Turn
 pub mod Kernel
 pub mod Searches

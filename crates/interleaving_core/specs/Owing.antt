@@ -1,31 +1,19 @@
--- What a step of a seat leaves of a kernel, and which entries its seat is told. docs/QUEUES.md, "Journals".
-use Rattle.std.specs.Prelude.{ℕ, ◌≡◌, ◌≢◌, ◌↔◌, ◌≤◌, Bool, true, false, ◌||◌, IsSome, List, [], ◌∷◌, ◌++◌, Option, Some, None, ⊤}
+-- What a step of a seat leaves of a kernel, and which entries its seat is told. docs/STEPS.md, "Calls";
+-- docs/QUEUES.md, "Journals".
+use Rattle.std.specs.Prelude.{ℕ, ◌≡◌, ◌≢◌, ◌↔◌, ◌≤◌, Bool, true, false, ◌||◌, IsSome, List, ◌++◌, Option, Some, None, drop, length, ⊤}
 use Rattle.file_pages.specs.declared.fault.FileFault.TheVariants.{Failed}
-use Rattle.queue_model.specs.declared.entry.Entry.TheVariants.{Decided}
+use Rattle.queue_model.specs.Journal.{part_of}
 use Rattle.step_rules.specs.declared.kind.Kind.TheVariants.{Decide}
-use Rattle.interleaving_core.specs.Words.{Answer, Call, Entry, answer_of_call, with_row}
+pub use Rattle.interleaving_core.specs.Past.{call_of, entry_of, untold}
+use Rattle.interleaving_core.specs.Words.{Answer, Entry, with_row}
 use Rattle.interleaving_core.specs.Active.{ActiveView}
+use Rattle.interleaving_core.specs.Waiting.{is_woken}
+use Rattle.interleaving_core.specs.declared.fault.Failure.{Failure}
 use Rattle.interleaving_core.specs.Kernel.{KernelState, call_at, locks_of, with_call}
 use Rattle.interleaving_core.specs.Searches.{Counts}
 use Rattle.interleaving_core.specs.declared.fault.StepFault.TheVariants as faults
 use Rattle.interleaving_core.specs.declared.step.Step.{Step}
 use Rattle.interleaving_core.specs.declared.step.Step.TheVariants as steps
-
--- the call under way
-abbrev pub call_of : Option ActiveView → Option Call
-call_of None = None
-call_of (Some a) = Some a.machine.call
-
--- the entry of a call with an answer
-abbrev pub entry_of : ℕ → Option Call → Option Answer → List Entry
-entry_of seat None answer = []
-entry_of seat (Some call) None = []
-entry_of seat (Some call) (Some answer) = Decided seat call answer ∷ []
-
--- the entry that a seat's call has in the journal, and of which the seat was not told yet
-abbrev pub untold : ℕ → Option ActiveView → List Entry
-untold seat None = []
-untold seat (Some a) = entry_of seat (Some a.machine.call) (answer_of_call a.machine)
 
 abbrev pub answer_told : Step → Option Answer
 answer_told (steps.Moved kind) = None
@@ -49,6 +37,27 @@ is_failure steps.Idle = false
 is_failure (steps.Fault (faults.File fault)) = true
 is_failure (steps.Fault faults.NoRoom) = false
 
+-- what is known of the first step of a seat that failed
+abbrev pub failure_by : ℕ → Step → Option Failure → Option Failure
+failure_by seat did (Some first) = Some first
+failure_by seat (steps.Moved kind) None = None
+failure_by seat (steps.Blocked other) None = None
+failure_by seat steps.Waiting None = None
+failure_by seat (steps.Answered answer) None = None
+failure_by seat steps.Idle None = None
+failure_by seat (steps.Fault (faults.File fault)) None = Some (record { seat = seat; fault = fault })
+failure_by seat (steps.Fault faults.NoRoom) None = None
+
+-- its seat has no call after it
+abbrev pub is_end : Step → Bool
+is_end (steps.Moved kind) = false
+is_end (steps.Blocked other) = false
+is_end steps.Waiting = false
+is_end (steps.Answered answer) = true
+is_end steps.Idle = true
+is_end (steps.Fault (faults.File fault)) = false
+is_end (steps.Fault faults.NoRoom) = true
+
 abbrev pub failed : Step
 failed = steps.Fault (faults.File Failed)
 
@@ -61,7 +70,7 @@ IsMove (steps.Answered answer) = ⊥
 IsMove steps.Idle = ⊥
 IsMove (steps.Fault fault) = ⊥
 
--- what a seat with this call is told behind a failure
+-- what a seat with this call is told after a failure
 abbrev pub told_of_failure : Option ActiveView → Step
 told_of_failure None = steps.Idle
 told_of_failure (Some a) = failed
@@ -89,17 +98,34 @@ pub record IsRun {K : Type 0} (seat : ℕ) (answer : Option Answer) (old new : K
       told seat (call_at old.seats seat) answer ++ untold seat (call_at new.seats seat)
   pub rest : KeepsRest old new
 
+-- the call of a seat waits: it has looked at the whole journal, and no entry from its Decide on wakes it
+pub record IsUnwoken {K : Type 0} (seat : ℕ) (k : KernelState K) : Type 0 where
+  pub active : ActiveView
+  pub there : call_at k.seats seat ≡ Some active
+  pub looked : active.wait ≡ Some (length k.journal)
+  pub unwoken : is_woken active.machine.call active.decided k.journal ≡ false
+
 -- one step of a seat
 pub record IsTurn {K : Type 0} (seat : ℕ) (did : Step) (old new : KernelState K) : Type 0 where
   pub run : IsRun seat (answer_told did) old new
-  -- it is idle just where it has no call
+  -- it is idle exactly where it has no call
   pub idle : (did ≡ steps.Idle) ↔ (call_at old.seats seat ≡ None)
   -- and then nothing changes
   pub spares : call_at old.seats seat ≡ None → new ≡ old
+  -- its call is gone exactly where it is told so, and else it is the same call
+  pub over : is_end did ≡ true → call_at new.seats seat ≡ None
+  pub goes : is_end did ≡ false → call_of (call_at new.seats seat) ≡ call_of (call_at old.seats seat)
+  -- it is told that it waits only where nothing has woken its call
+  pub waits : did ≡ steps.Waiting → IsUnwoken seat new
   -- the journal grows at its Decide alone
   pub decides : did ≢ steps.Moved Decide → new.journal ≡ old.journal
-  -- behind a failure of the file each call is told of it, and nothing changes
+  -- real time: of what joined the journal since its call began its part is the entry of which it is told now, or that
+  -- it is owed
+  pub joins : (a : ActiveView) → call_at old.seats seat ≡ Some a → part_of seat (drop a.begun new.journal)
+      ≡ told seat (Some a) (answer_told did) ++ untold seat (call_at new.seats seat)
+  -- after a failure of the file each call is told of it, and nothing changes
   pub failed : new.failed ≡ (old.failed || is_failure did)
+  pub failure : new.failure ≡ failure_by seat did old.failure
   pub fails : old.failed ≡ true → did ≡ told_of_failure (call_at old.seats seat)
   pub still : old.failed ≡ true → new ≡ old
   -- each step that moves is counted, and no other

@@ -1,5 +1,5 @@
 -- What a step of a seat's call does, and what its seat is told. docs/STEPS.md, "Calls".
-use Rattle.std.specs.Prelude.{ℕ, ◌≡◌, Bool, true, false, List, ◌++◌, Option, Some, None, length}
+use Rattle.std.specs.Prelude.{ℕ, ◌≡◌, ◌≢◌, ◌⊎◌, Bool, true, false, List, ◌++◌, Option, Some, None, length}
 use Rattle.file_pages.specs.declared.fault.FileFault.{FileFault}
 use Rattle.step_rules.specs.declared.progress.Progress.TheVariants as progress
 use Rattle.xsi_calls.specs.CallSteps.{MakesCall}
@@ -15,6 +15,13 @@ use Rattle.interleaving_core.specs.declared.step.Step.TheVariants as steps
 abbrev pub told_when_over : Bool → Option Answer → Step
 told_when_over true answer = steps.Waiting
 told_when_over false answer = told_at_end answer
+
+-- of a step that has not ended its call
+abbrev pub told_on : Progress FileFault → Option Step
+told_on (progress.Moved kind) = Some (steps.Moved kind)
+told_on (progress.Blocked other) = Some (steps.Blocked other)
+told_on (progress.Fault fault) = Some (steps.Fault (faults.File fault))
+told_on progress.Ended = None
 
 -- of a step by which the call has come so far
 abbrev pub told_of : Progress FileFault → CallView → Step
@@ -35,11 +42,6 @@ IsLeft (progress.Moved kind) a left = left ≡ Some a
 IsLeft (progress.Blocked other) a left = left ≡ Some a
 IsLeft (progress.Fault fault) a left = left ≡ Some a
 IsLeft progress.Ended a left = IsLeftWhenOver (is_waiting (conclusion_of a.machine)) a left
-
--- the end of a call that is over
-pub record Finishes (told : Step) (a : ActiveView) (left : Option ActiveView) : Type 0 where
-  pub told_is : told ≡ told_when_over (is_waiting (conclusion_of a.machine)) (answer_of_call a.machine)
-  pub left_is : IsLeftWhenOver (is_waiting (conclusion_of a.machine)) a left
 
 -- ---- the whole of it
 
@@ -68,6 +70,33 @@ pub record StaysWaiting (told : Step) (a : ActiveView) (left : Option ActiveView
   pub same_locks : locks' ≡ locks
   pub same_journal : journal' ≡ journal
 
+-- a call that waits is over, and begins anew. Where something has woken it since its Decide, its machine makes the
+-- first step at once, and of that alone its seat is told
+pub record GoesAnew (hash : RecordKey → ℕ) (seat : ℕ) (stopped : Bool) (told : Step) (a left : ActiveView)
+    (pool pool' : PoolState) (locks locks' : Table) (journal journal' : List Entry) : Type 0 where
+  pub again : ActiveView
+  pub begins : BeginsAgain a again
+  pub waits : stays_waiting again.wait again.machine.call journal ≡ true →
+      StaysWaiting told again (Some left) pool pool' locks locks' journal journal'
+  pub goes : stays_waiting again.wait again.machine.call journal ≡ false →
+      MakesTurn hash seat stopped told again (Some left) pool pool' locks locks' journal journal'
+      × (told ≢ steps.Waiting)
+
+-- by the last step of its machine a call that waits is over, and begins anew
+pub record TurnsAnew (hash : RecordKey → ℕ) (seat : ℕ) (stopped : Bool) (told : Step) (a : ActiveView)
+    (left : Option ActiveView) (pool pool' : PoolState) (locks locks' : Table) (journal journal' : List Entry)
+    : Type 0 where
+  pub again : ActiveView
+  -- the pages between that step and what comes of it
+  pub between : PoolState
+  pub ends : MakesTurn hash seat stopped steps.Waiting a (Some again) pool between locks locks journal journal
+  -- it waits where nothing has woken it since its Decide, and else its machine makes the first step
+  pub waits : stays_waiting again.wait again.machine.call journal ≡ true →
+      StaysWaiting told again left between pool' locks locks' journal journal'
+  pub goes : stays_waiting again.wait again.machine.call journal ≡ false →
+      MakesTurn hash seat stopped told again left between pool' locks locks' journal journal'
+      × (told ≢ steps.Waiting)
+
 -- a step of a seat that has a call
 pub record TakesTurn (hash : RecordKey → ℕ) (seat : ℕ) (stopped : Bool) (told : Step) (a : ActiveView)
     (left : Option ActiveView) (pool pool' : PoolState) (locks locks' : Table) (journal journal' : List Entry)
@@ -76,7 +105,8 @@ pub record TakesTurn (hash : RecordKey → ℕ) (seat : ℕ) (stopped : Bool) (t
       StaysWaiting told a left pool pool' locks locks' journal journal'
   -- one that was woken begins anew with the first step of its machine
   pub goes : stays_waiting a.wait a.machine.call journal ≡ false →
-      MakesTurn hash seat stopped told a left pool pool' locks locks' journal journal'
+      (MakesTurn hash seat stopped told a left pool pool' locks locks' journal journal' × (told ≢ steps.Waiting))
+      ⊎ TurnsAnew hash seat stopped told a left pool pool' locks locks' journal journal'
 
 -- a seat that has no call
 pub record StaysIdle (told : Step) (left : Option ActiveView) (pool pool' : PoolState) (locks locks' : Table)

@@ -4,6 +4,7 @@ ghost use Rattle.std.specs.Prelude.{◌≡◌, ◌+◌, ◌≤◌, ◌++◌, IfE
 ghost use Rattle.xsi_calls.specs.CallSteps.{MakesCall};
 ghost use Rattle.xsi_calls.specs.Machine.{IsOver, answer_of_call, call_locks, conclusion_of};
 ghost use Rattle.interleaving_core.specs.Active.{BeginsAgain, HasBegun, HasRoomAs, IsDrafted, IsMarked, decided_by, draft_by, drafted, entries_by, is_waiting, told_at_end};
+ghost use Rattle.interleaving_core.specs.Turn.{GoesAnew};
 ghost use Rattle.interleaving_core.specs.Waiting.{stays_waiting};
 ghost use Rattle.interleaving_core.specs.Words.{IsReady, IsSeat, row_of};
 
@@ -48,6 +49,7 @@ impl Draft {
 pub(crate) struct Active {
     machine: CallMachine,
     draft: Option<Draft>,
+    begun: usize,
     decided: usize,
     wait: Option<usize>,
 }
@@ -60,6 +62,7 @@ impl Model for Active {
     ghost view = { λ a. record {
       machine = a.machine;
       draft = a.draft;
+      begun = a.begun;
       decided = a.decided;
       wait = a.wait;
     } };
@@ -68,10 +71,15 @@ impl Model for Active {
 }
 
 impl Active {
-    /// A call of a caller begins. All memory that it and its entry can need is taken here. Where
-    /// there is none the call comes back whole.
-    pub(crate) fn begin(alloc: Global, caller: Caller, call: Call) -> Result<Active, Call>
-        ensures ok { IfOk result (HasBegun caller call) }
+    /// A call of a caller begins while the journal has so many entries. All memory that it and its
+    /// entry can need is taken here. Where there is none the call comes back whole.
+    pub(crate) fn begin(
+        alloc: Global,
+        caller: Caller,
+        call: Call,
+        many: usize,
+    ) -> Result<Active, Call>
+        ensures ok { IfOk result (HasBegun caller call many) }
         ensures err { IfErr result (λ back. back ≡ call) }
     {
         let Ok(room) = Room::new(alloc, &call) else {
@@ -83,14 +91,21 @@ impl Active {
         Ok(Active {
             machine: CallMachine::new(caller, call, room),
             draft: Some(draft),
-            decided: 0,
+            begun: many,
+            decided: many,
             wait: None,
         })
     }
 
     /// Another call of a caller begins in the place of one that is over, as `begin` says.
-    pub(crate) fn renew(&mut self, alloc: Global, caller: Caller, call: Call) -> Result<(), Call>
-        ensures ok { IfOk result (λ _. HasBegun caller call self.new) }
+    pub(crate) fn renew(
+        &mut self,
+        alloc: Global,
+        caller: Caller,
+        call: Call,
+        many: usize,
+    ) -> Result<(), Call>
+        ensures ok { IfOk result (λ _. HasBegun caller call many self.new) }
         ensures err { IfErr result (λ back. back ≡ call) }
     {
         let Ok(room) = Room::new(alloc, &call) else {
@@ -101,7 +116,8 @@ impl Active {
         };
         self.machine.renew(caller, call, room);
         self.draft = Some(draft);
-        self.decided = 0;
+        self.begun = many;
+        self.decided = many;
         self.wait = None;
         Ok(())
     }
@@ -173,9 +189,41 @@ impl Active {
         matches!(self.machine.conclusion(), Some(Conclusion::Waits))
     }
 
-    /// The call that will wait, and has given its names back, is to begin anew, once an entry behind
+    /// The call that will wait, and has given its names back, begins anew. Where an entry since its
+    /// Decide wakes it, its first step is made now, and else once one does. It stands apart, since
+    /// each step would make room for what it alone needs.
+    #[inline(never)]
+    pub(crate) fn turn_anew<D: PageDevice, K: PseudoKey>(
+        &mut self,
+        pool: &mut Pool<D>,
+        locks: &mut LockTable,
+        keys: &K,
+        journal: &mut Vec<Entry>,
+        stopped: bool,
+        seat: u8,
+    ) -> Step
+        requires waits { is_waiting (conclusion_of self.old.machine) ≡ true }
+        requires over { IsOver self.old.machine }
+        requires seat { IsSeat locks.old seat }
+        requires ready { IsReady pool.old }
+        requires row { row_of locks.old seat ≡ call_locks self.old.machine }
+        requires room { drafted self.old.draft + length journal.old.items
+            ≤ vec_capacity journal.old }
+        ensures anew { GoesAnew (K.of_key keys.now) seat stopped result self.old self.new
+            pool.old pool.new locks.old locks.new journal.old.items journal.new.items }
+        ensures capacity { vec_capacity journal.old ≤ vec_capacity journal.new }
+    {
+        self.begin_again();
+        if self.stays_waiting(journal.as_slice()) {
+            return Step::Waiting;
+        }
+        // A call that has begun has not ended.
+        Step::of(self.step(pool, locks, keys, journal, stopped, seat)).unwrap()
+    }
+
+    /// The call that will wait, and has given its names back, is to begin anew, once an entry since
     /// its Decide wakes it.
-    pub(crate) fn begin_again(&mut self)
+    fn begin_again(&mut self)
         requires waits { is_waiting (conclusion_of self.old.machine) ≡ true }
         requires over { IsOver self.old.machine }
         ensures { BeginsAgain self.old self.new }

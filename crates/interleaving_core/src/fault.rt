@@ -1,17 +1,11 @@
 //! Why a file is not opened, a call does not begin or does not go on, and a file is not closed well.
 
 ghost use Rattle.std.specs.Prelude.{◌≡◌};
-ghost use Rattle.interleaving_core.specs.Fault.{begin_number_of, close_number_of, open_number_of, step_number_of};
+ghost use Rattle.interleaving_core.specs.Fault.{begin_number_of, close_number_of, failure_number_of, open_number_of, step_number_of};
 
 use file_check::CheckFault;
 use file_pages::FileFault;
 use thiserror::Error;
-
-/// As many calls were decided as one session may decide.
-pub const SESSION_FULL: u8 = 61;
-
-/// A seat has a call under way.
-pub const BUSY: u8 = 63;
 
 /// Why a file is not opened. Nothing was written.
 #[derive(Clone, Copy, Debug, PartialEq, Eq, Error)]
@@ -64,8 +58,8 @@ impl BeginFault {
     {
         match self {
             BeginFault::Failed => faults::FAILED,
-            BeginFault::Busy => BUSY,
-            BeginFault::SessionFull => SESSION_FULL,
+            BeginFault::Busy => faults::BUSY,
+            BeginFault::SessionFull => faults::SESSION_FULL,
             BeginFault::NoMemory => faults::NO_MEMORY,
         }
     }
@@ -83,14 +77,33 @@ pub enum StepFault {
 }
 
 impl StepFault {
-    /// The number that a program prints.
+    /// The number that a program prints: 62 whatever fault of the file it was.
     pub fn number(self) -> u8
         ensures { result ≡ step_number_of self }
     {
         match self {
-            StepFault::File(fault) => fault.number(),
+            StepFault::File(_) => faults::FAILED,
             StepFault::NoRoom => faults::NO_ROOM,
         }
+    }
+}
+
+/// What failed a kernel: the first fault of the file that a step of it met.
+#[derive(Clone, Copy, Debug, PartialEq, Eq, Error)]
+#[error("a step of seat {seat}: {fault}")]
+pub struct Failure {
+    /// The seat whose step it was. Seats count from 1.
+    pub seat: u8,
+    /// What it was.
+    pub fault: FileFault,
+}
+
+impl Failure {
+    /// The number of the fault, as docs/FAULTS.md lists it. Its seat is told 62.
+    pub fn number(self) -> u8
+        ensures { result ≡ failure_number_of self }
+    {
+        self.fault.number()
     }
 }
 

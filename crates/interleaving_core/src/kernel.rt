@@ -10,13 +10,14 @@ ghost use Rattle.interleaving_core.specs.Closing.{IfBusy, IsBusy, IsFlushedTo, I
 ghost use Rattle.interleaving_core.specs.Driving.{IsDriven};
 ghost use Rattle.interleaving_core.specs.Fault.{device_failed};
 ghost use Rattle.interleaving_core.specs.Kernel.{IsWhole, call_at, entries_of};
-ghost use Rattle.interleaving_core.specs.Owing.{IsMove, IsRun, IsTurn, answer_told, is_failure, told_of_failure};
+ghost use Rattle.interleaving_core.specs.Owing.{IsMove, IsRun, IsTurn, answer_told, told_of_failure};
 ghost use Rattle.interleaving_core.specs.Turn.{TakesTurn};
 ghost use Rattle.interleaving_core.specs.Words.{IsSeat, caller_at};
 
-use crate::fault::{BeginFault, CloseFault, OpenFault, StepFault};
+use crate::closing::{Closed, NotClosed};
+use crate::fault::{BeginFault, CloseFault, Failure, OpenFault, StepFault};
 use crate::opening::{copied, idle_seats, least_frames};
-use crate::places::{due, has_call, told_of_failure};
+use crate::places::{due, failure_of, has_call, told_of_failure};
 use crate::searches::{last_page, note};
 use crate::seat::Seat;
 use crate::step::Step;
@@ -30,6 +31,7 @@ use queue_model::{Call, Caller, Entry};
 use search_counts::{SearchCount, SearchCounts};
 use std::alloc::Global;
 use std::marker::Model;
+use type_chains::a_calls_numbers_fit;
 
 /// The calls that one session decides at most.
 pub const MAX_DECIDED: usize = 65_536;
@@ -48,12 +50,13 @@ pub struct Kernel<D: PageDevice, K: PseudoKey> {
     seats: Vec<Seat>,
     journal: Vec<Entry>,
     stopped: bool,
-    failed: bool,
+    failure: Option<Failure>,
     searches: SearchCounts,
 }
 
 impl<D: PageDevice, K: PseudoKey> Model for Kernel<D, K> {
     ghost use Rattle.std.specs.Prelude.{vec_capacity};
+    ghost use Rattle.std.specs.Option.{is_some};
     ghost use Rattle.interleaving_core.specs.Kernel.{IsWhole, KernelState};
 
     ghost Value = { KernelState K };
@@ -67,7 +70,8 @@ impl<D: PageDevice, K: PseudoKey> Model for Kernel<D, K> {
       journal = k.journal.items;
       room = vec_capacity k.journal;
       stopped = k.stopped;
-      failed = k.failed;
+      failed = is_some k.failure;
+      failure = k.failure;
       searches = k.searches;
     } };
 
@@ -80,27 +84,10 @@ impl<D: PageDevice, K: PseudoKey> Model for Kernel<D, K> {
       journal = k.journal.items;
       room = vec_capacity k.journal;
       stopped = k.stopped;
-      failed = k.failed;
+      failed = is_some k.failure;
+      failure = k.failure;
       searches = k.searches;
     }) };
-}
-
-/// What is left of a kernel that was closed.
-#[derive(Drop)]
-pub struct Closed<D> {
-    /// The device.
-    pub device: D,
-    /// What was decided, in its order.
-    pub journal: Vec<Entry>,
-}
-
-/// Why a kernel was not closed, or not closed well.
-#[derive(Drop)]
-pub enum NotClosed<D: PageDevice, K: PseudoKey> {
-    /// A seat has a call under way. Nothing changed.
-    Busy(Kernel<D, K>),
-    /// What was changed may be lost.
-    Fault(Closed<D>, CloseFault),
 }
 
 impl<D: PageDevice + Drop, K: PseudoKey + Drop> Kernel<D, K> {
@@ -164,7 +151,7 @@ impl<D: PageDevice + Drop, K: PseudoKey + Drop> Kernel<D, K> {
                 seats,
                 journal,
                 stopped: false,
-                failed: false,
+                failure: None,
                 searches,
             }),
             Err((device, PoolFault::TooFewFrames)) => Err((device, OpenFault::TooFewFrames)),
@@ -198,7 +185,15 @@ impl<D: PageDevice + Drop, K: PseudoKey + Drop> Kernel<D, K> {
     pub fn has_failed(&self) -> bool
         ensures { result ≡ self.now.failed }
     {
-        self.failed
+        self.failure.is_some()
+    }
+
+    /// What failed it, where a step has failed: the fault of the first step that did, of which each
+    /// seat with a call is told 62.
+    pub fn failure(&self) -> Option<Failure>
+        ensures { result ≡ self.now.failure }
+    {
+        self.failure
     }
 
     /// How often the last search of a seat went on from one page to another, since it read the
@@ -221,20 +216,11 @@ impl<D: PageDevice + Drop, K: PseudoKey + Drop> Kernel<D, K> {
         self.count(seat).changes
     }
 
-    /// Whether no split and no merge was under way since the last search of a seat read the
-    /// directory's depth, also behind the end of that search, until the seat's next one.
-    pub fn was_calm(&self, seat: u8) -> bool
-        requires { IsSeat self.now.locks seat }
-        ensures { result ≡ (count_at self.now.searches.counts seat).calm }
-    {
-        self.count(seat).calm
-    }
-
     /// A kernel is always whole, whatever the device gives.
     pub fn is_whole(&self)
         ensures { IsWhole self.now }
     {
-        let _ = &self.failed;
+        let _ = &self.failure;
     }
 
     /// A call begins at a seat. All memory that it and its entry in the journal can need is taken
@@ -244,7 +230,7 @@ impl<D: PageDevice + Drop, K: PseudoKey + Drop> Kernel<D, K> {
         ensures ok { IfOk result (λ _. HasCall seat call self.old self.new) }
         ensures err { IfErr result (λ back. IsRefused seat call back self.old self.new) }
     {
-        if self.failed {
+        if self.failure.is_some() {
             return Err((call, BeginFault::Failed));
         }
         let place = seat as usize - 1;
@@ -259,7 +245,9 @@ impl<D: PageDevice + Drop, K: PseudoKey + Drop> Kernel<D, K> {
         };
         let alloc: Global = *self.journal.allocator();
         let caller = self.callers[place];
-        if let Err(call) = self.seats[place].begin(alloc, caller, call) {
+        let many = self.journal.len();
+        a_calls_numbers_fit(&call);
+        if let Err(call) = self.seats[place].begin(alloc, caller, call, many) {
             return Err((call, BeginFault::NoMemory));
         }
         Ok(())
@@ -276,7 +264,7 @@ impl<D: PageDevice + Drop, K: PseudoKey + Drop> Kernel<D, K> {
             self.old.locks self.new.locks self.old.journal self.new.journal }
     {
         let place = seat as usize - 1;
-        if self.failed {
+        if self.failure.is_some() {
             return told_of_failure(&self.seats[place]);
         }
         let before = last_page(&self.locks, seat);
@@ -288,7 +276,7 @@ impl<D: PageDevice + Drop, K: PseudoKey + Drop> Kernel<D, K> {
             self.stopped,
             seat,
         );
-        self.failed = is_failure(&step);
+        self.failure = failure_of(seat, &step);
         note(&mut self.searches, &self.locks, seat, &step, before);
         // A move is told anew: what was told would be copied behind stores of another width.
         if let Step::Moved(kind) = step {
@@ -313,7 +301,10 @@ impl<D: PageDevice + Drop, K: PseudoKey + Drop> Kernel<D, K> {
                 other => return other,
             }
         }
-        self.failed = true;
+        self.failure = Some(Failure {
+            seat,
+            fault: FileFault::Failed,
+        });
         Step::Fault(StepFault::File(FileFault::Failed))
     }
 
@@ -340,7 +331,7 @@ impl<D: PageDevice + Drop, K: PseudoKey + Drop> Kernel<D, K> {
             (D.content d) (D.is_honest d) (D.fault_count d)) result }
         ensures back { IfBusy (λ kernel. kernel ≡ self) result }
     {
-        if !self.failed && has_call(self.seats.as_slice()) {
+        if self.failure.is_none() && has_call(self.seats.as_slice()) {
             return Err(NotClosed::Busy(self));
         }
         let Kernel {
@@ -351,10 +342,10 @@ impl<D: PageDevice + Drop, K: PseudoKey + Drop> Kernel<D, K> {
             seats: _,
             journal,
             stopped: _,
-            failed,
+            failure,
             searches: _,
         } = self;
-        if failed {
+        if failure.is_some() {
             let device = pool.into_device();
             return Err(NotClosed::Fault(Closed { device, journal }, CloseFault::Failed));
         }
@@ -366,13 +357,17 @@ impl<D: PageDevice + Drop, K: PseudoKey + Drop> Kernel<D, K> {
         }
     }
 
-    /// The device, as it is. What was changed since the kernel was opened may be lost.
-    pub fn into_device(self) -> D
-        ensures content { D.content result ≡ self.pool.stored }
-        ensures honest { D.is_honest result ≡ self.pool.honest }
-        ensures faults { D.fault_count result ≡ self.pool.faults }
+    /// The device, as it is, and the journal. What was changed since the kernel was opened may be
+    /// lost.
+    pub fn abandon(self) -> Closed<D>
+        ensures content { D.content result.device ≡ self.pool.stored }
+        ensures honest { D.is_honest result.device ≡ self.pool.honest }
+        ensures faults { D.fault_count result.device ≡ self.pool.faults }
+        ensures journal { result.journal.items ≡ self.journal }
     {
-        self.pool.into_device()
+        let journal = self.journal;
+        let device = self.pool.into_device();
+        Closed { device, journal }
     }
 
     /// What is counted of the last search of a seat.
@@ -390,11 +385,4 @@ impl<D: PageDevice + Drop, K: PseudoKey + Drop> Kernel<D, K> {
         let due = due(self.seats.as_slice());
         due + (self.journal.len() + usize::from(!self.stopped))
     }
-}
-
-/// Whether the file has failed a call.
-fn is_failure(step: &Step) -> bool
-    ensures { result ≡ is_failure step.now }
-{
-    matches!(step, Step::Fault(StepFault::File(_)))
 }

@@ -4,6 +4,7 @@
 #![tactic(auto)]
 
 mod active;
+mod closing;
 mod fault;
 mod kernel;
 mod opening;
@@ -13,9 +14,10 @@ mod seat;
 mod step;
 mod waiting;
 
-pub use fault::{BUSY, BeginFault, CloseFault, OpenFault, SESSION_FULL, StepFault};
+pub use closing::{Closed, NotClosed};
+pub use fault::{BeginFault, CloseFault, Failure, OpenFault, StepFault};
 pub use file_check;
-pub use kernel::{Closed, Kernel, MAX_DECIDED, MOST_STEPS, NotClosed};
+pub use kernel::{Kernel, MAX_DECIDED, MOST_STEPS};
 pub use opening::FRAMES_BESIDE;
 pub use search_counts;
 pub use step::Step;

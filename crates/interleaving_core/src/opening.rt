@@ -1,10 +1,12 @@
 //! What a kernel is made of: its seats, and the frames that they need.
 
 ghost use Rattle.std.specs.Prelude.{◌≡◌, ◌+◌, ◌*◌, ◌≤◌, IfOk, None, length, replicate};
+ghost use Rattle.interleaving_core.specs.Kernel.{AreFittingCallers};
 
 use crate::seat::Seat;
 use queue_model::{Caller, NoMemory};
 use std::alloc::Global;
+use type_chains::a_callers_numbers_fit;
 
 /// The frames that are needed beside those of the seats' steps.
 pub const FRAMES_BESIDE: usize = 8;
@@ -31,12 +33,14 @@ pub(crate) fn idle_seats(alloc: Global, seats: usize) -> Result<Vec<Seat>, NoMem
     Ok(all)
 }
 
-/// A copy of the list of callers.
+/// A copy of the list of callers, whose numbers fit the fields of records.
 pub(crate) fn copied(alloc: Global, callers: &[Caller]) -> Result<Vec<Caller>, NoMemory>
-    ensures { IfOk result (λ copy. copy.items ≡ callers.now) }
+    ensures same { IfOk result (λ copy. copy.items ≡ callers.now) }
+    ensures fitting { IfOk result (λ copy. AreFittingCallers copy.items) }
 {
     let mut copy = Vec::with_capacity(alloc, callers.len())?;
     for caller in callers {
+        a_callers_numbers_fit(caller);
         copy.push(*caller)?;
     }
     Ok(copy)

@@ -1,12 +1,12 @@
-//! The seats of a kernel, each with its call, if it has one.
+//! The seats of a kernel, each with its call, if it has one, and what fails them.
 
-ghost use Rattle.std.specs.Prelude.{◌≡◌, ◌≤◌, sum_by};
+ghost use Rattle.std.specs.Prelude.{◌≡◌, ◌≤◌, None, sum_by};
 ghost use Rattle.std.specs.List.{list_any};
 ghost use Rattle.interleaving_core.specs.Closing.{has_one};
 ghost use Rattle.interleaving_core.specs.Kernel.{due_at};
-ghost use Rattle.interleaving_core.specs.Owing.{told_of_failure};
+ghost use Rattle.interleaving_core.specs.Owing.{failure_by, told_of_failure};
 
-use crate::fault::StepFault;
+use crate::fault::{Failure, StepFault};
 use crate::seat::Seat;
 use crate::step::Step;
 use file_pages::FileFault;
@@ -29,7 +29,7 @@ pub(crate) fn has_call(seats: &[Seat]) -> bool
     seats.iter().any(|at| at.has_call())
 }
 
-/// What a seat is told behind a failure.
+/// What a seat is told after a failure.
 pub(crate) fn told_of_failure(at: &Seat) -> Step
     ensures { result ≡ told_of_failure at.now }
 {
@@ -37,5 +37,18 @@ pub(crate) fn told_of_failure(at: &Seat) -> Step
         Step::Fault(StepFault::File(FileFault::Failed))
     } else {
         Step::Idle
+    }
+}
+
+/// What failed a step of a seat, where the file has.
+pub(crate) fn failure_of(seat: u8, step: &Step) -> Option<Failure>
+    ensures { result ≡ failure_by seat step.now None }
+{
+    match step {
+        Step::Fault(StepFault::File(fault)) => Some(Failure {
+            seat,
+            fault: *fault,
+        }),
+        _ => None,
     }
 }

@@ -4,7 +4,7 @@ ghost use Rattle.std.specs.Prelude.{◌≡◌, ◌+◌, ◌≤◌, IfErr, IfOk, 
 ghost use Rattle.interleaving_core.specs.Active.{ActiveView, HasBegunAt};
 ghost use Rattle.interleaving_core.specs.Closing.{has_one};
 ghost use Rattle.interleaving_core.specs.Kernel.{due_at, locks_of};
-ghost use Rattle.interleaving_core.specs.Turn.{Finishes, Turns};
+ghost use Rattle.interleaving_core.specs.Turn.{Turns};
 ghost use Rattle.interleaving_core.specs.Words.{IsOver, IsReady, IsSeat, row_of};
 
 use crate::active::Active;
@@ -68,18 +68,24 @@ impl Seat {
         }
     }
 
-    /// A call of a caller begins. All memory that it and its entry can need is taken here. Where
-    /// there is none the call comes back whole.
-    pub(crate) fn begin(&mut self, alloc: Global, caller: Caller, call: Call) -> Result<(), Call>
+    /// A call of a caller begins while the journal has so many entries. All memory that it and its
+    /// entry can need is taken here. Where there is none the call comes back whole.
+    pub(crate) fn begin(
+        &mut self,
+        alloc: Global,
+        caller: Caller,
+        call: Call,
+        many: usize,
+    ) -> Result<(), Call>
         requires free { self.old ≡ None }
-        ensures ok { IfOk result (λ _. HasBegunAt caller call self.new) }
+        ensures ok { IfOk result (λ _. HasBegunAt caller call many self.new) }
         ensures err { IfErr result (λ back. back ≡ call) }
         ensures same { IfErr result (λ _. self.new ≡ None) }
     {
         let Some(active) = &mut self.last else {
-            return self.begin_first(alloc, caller, call);
+            return self.begin_first(alloc, caller, call, many);
         };
-        active.renew(alloc, caller, call)?;
+        active.renew(alloc, caller, call, many)?;
         self.is_busy = true;
         Ok(())
     }
@@ -87,19 +93,25 @@ impl Seat {
     /// The first call of the seat begins. It stands apart, since each that begins would make room for
     /// a whole call.
     #[inline(never)]
-    fn begin_first(&mut self, alloc: Global, caller: Caller, call: Call) -> Result<(), Call>
+    fn begin_first(
+        &mut self,
+        alloc: Global,
+        caller: Caller,
+        call: Call,
+        many: usize,
+    ) -> Result<(), Call>
         requires free { self.old ≡ None }
-        ensures ok { IfOk result (λ _. HasBegunAt caller call self.new) }
+        ensures ok { IfOk result (λ _. HasBegunAt caller call many self.new) }
         ensures err { IfErr result (λ back. back ≡ call) }
         ensures same { IfErr result (λ _. self.new ≡ None) }
     {
-        self.last = Some(Active::begin(alloc, caller, call)?);
+        self.last = Some(Active::begin(alloc, caller, call, many)?);
         self.is_busy = true;
         Ok(())
     }
 
     /// A step of its call, if it has one: none while that waits, and nothing has woken it. A call
-    /// that is over leaves the seat, but one that will wait. It stands in whoever steps the seat,
+    /// that is over leaves the seat, but one that will wait: that begins anew. It stands in whoever steps the seat,
     /// since what it tells would else be moved through memory at each step.
     #[inline(always)]
     pub(crate) fn advance<D: PageDevice, K: PseudoKey>(
@@ -129,28 +141,12 @@ impl Seat {
         if active.stays_waiting(journal.as_slice()) {
             return Step::Waiting;
         }
-        match active.step(pool, locks, keys, journal, stopped, seat) {
-            Progress::Moved(kind) => Step::Moved(kind),
-            Progress::Blocked(other) => Step::Blocked(other),
-            Progress::Fault(fault) => Step::Fault(StepFault::File(fault)),
-            Progress::Ended => self.finish(),
+        let did = active.step(pool, locks, keys, journal, stopped, seat);
+        if let Some(step) = Step::of(did) {
+            return step;
         }
-    }
-
-    /// What it is told whose call is over. That leaves the seat, but one that will wait.
-    fn finish(&mut self) -> Step
-        requires { IfSome self.old (λ a. IsOver a.machine) }
-        ensures { (a : ActiveView) → self.old ≡ Some a → Finishes result a self.new }
-    {
-        if !self.is_busy {
-            return Step::Idle;
-        }
-        let Some(active) = &mut self.last else {
-            return Step::Idle;
-        };
         if active.waits() {
-            active.begin_again();
-            return Step::Waiting;
+            return active.turn_anew(pool, locks, keys, journal, stopped, seat);
         }
         self.is_busy = false;
         active.end()

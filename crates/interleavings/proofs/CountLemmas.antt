@@ -1,4 +1,4 @@
--- What a kernel counts is of the searches of its seats, behind each step.
+-- What a kernel counts is of the searches of its seats, after each step.
 use Rattle.std.proofs.Common.{ℕ, suc, ◌≡◌, ◌≢◌, ◌≤◌, ◌+◌, inl, inr, refl, sym, ap, ◌∙◌, subst, min, Bool, true, false, not, ◌&&◌, ◌==◌, List, Option, Some, None, IsSome, arith, eq-eqb}
 use Rattle.std.proofs.lemmas.Bool.{and_parts, true≢false}
 use Rattle.std.proofs.lemmas.Int.{clamps}

@@ -25,15 +25,23 @@ use Rattle.interleaving_core.specs.Words.{answer_of_call}
 use Rattle.step_rules.specs.declared.progress.Progress.TheVariants as progress
 
 -- in a phase that is told by an equation
+pub record AreCountedIn {K : Type 0} (hash : RecordKey → ℕ) (s : State) (k : KernelState K) (change : Change)
+    : Type 0 where
+  pub all : AreCounted hash s k
+  pub phase_is : all.calls.change ≡ change
+
 pub counted_in : {K : Type 0} (hash : RecordKey → ℕ) (s : State) (k : KernelState K) (change : Change) →
     AreTogetherIn hash s (calls_of k.seats) k.pool k.locks change → k.searches.under_way ≡ under_way_in change →
     ((seat : ℕ) → 1 ≤ seat → seat ≤ length k.seats → IsCounted seat (facts_of (calls_of k.seats seat))
-    (count_at k.searches.counts seat) (world k.pool.images k.locks change)) → AreCounted hash s k
+    (count_at k.searches.counts seat) (world k.pool.images k.locks change)) → AreCountedIn hash s k change
 counted_in hash s k change t phase counted = record {
-  calls = t.together;
-  phase = phase ∙ sym (ap under_way_in t.phase);
-  counted = λ seat some within. subst (λ (c : Change). IsCounted seat (facts_of (calls_of k.seats seat))
-      (count_at k.searches.counts seat) (world k.pool.images k.locks c)) (sym t.phase) (counted seat some within);
+  all = record {
+    calls = t.together;
+    phase = phase ∙ sym (ap under_way_in t.phase);
+    counted = λ seat some within. subst (λ (c : Change). IsCounted seat (facts_of (calls_of k.seats seat))
+        (count_at k.searches.counts seat) (world k.pool.images k.locks c)) (sym t.phase) (counted seat some within);
+  };
+  phase_is = t.phase;
 }
 
 -- what a seat knows is the same

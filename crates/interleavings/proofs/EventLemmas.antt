@@ -12,7 +12,7 @@ use Rattle.interleavings.specs.declared.event.Event.{Event}
 use Rattle.interleavings.specs.declared.event.Event.TheVariants as events
 use Rattle.interleavings.specs.declared.event.Outcome.{Outcome}
 use Rattle.interleavings.specs.declared.event.Outcome.TheVariants as outcomes
-use Rattle.interleavings.proofs.PartLemmas.{AreOf, back_is_of, both_are_of, entry_is_of, entry_of_none, part_other, part_own}
+use Rattle.interleaving_core.proofs.PartLemmas.{added_is_of, entry_of_none, part_other, part_own}
 
 -- ---- what no event changes
 
@@ -88,7 +88,7 @@ pub record IsTold {K : Type 0} (seat : ℕ) (entries : List Entry) (old new : Ke
   pub owed : entries ++ untold seat (call_at new.seats seat)
       ≡ untold seat (call_at old.seats seat) ++ part_of seat added
 
--- and a call of it is this one behind that
+-- and a call of it is this one after that
 pub record IsToldAndHas {K : Type 0} (seat : ℕ) (entries : List Entry) (last : Option Call) (old new : KernelState K)
     : Type 0 where
   pub told : IsTold seat entries old new
@@ -107,19 +107,6 @@ away seat last old new added has same journal none = record {
   };
   has = subst (λ (at : Option ActiveView). IsSome (call_of at) → call_of at ≡ last) (sym same) has;
 }
-
--- the entries of steps are of their seat's call
-added_is_of : {K : Type 0} (seat : ℕ) (answer : Option Answer) (old new : KernelState K)
-    (r : IsRun seat answer old new) → AreOf seat r.added
-added_is_of seat answer old new r =
-    back_is_of seat (untold seat (call_at old.seats seat)) r.added
-    (subst (AreOf seat) (sym r.owed)
-    (both_are_of seat (told seat (call_at old.seats seat) answer) (untold seat (call_at new.seats seat))
-    (entry_is_of seat (call_of (call_at old.seats seat)) answer) (untold_is_of (call_at new.seats seat))))
-  where
-    untold_is_of : (at : Option ActiveView) → AreOf seat (untold seat at)
-    untold_is_of None = tt
-    untold_is_of (Some a) = entry_is_of seat (Some a.machine.call) (answer_of_call a.machine)
 
 -- steps of the seat
 own_run : {K : Type 0} (seat : ℕ) (last : Option Call) (answer : Option Answer) (old new : KernelState K) →

@@ -1,4 +1,3 @@
-pub mod PartLemmas
 pub mod EventLemmas
 pub mod RunLemmas
 pub mod LeadLemmas
@@ -8,3 +7,9 @@ pub mod OpenLemmas
 pub mod TurnLemmas
 pub mod ScheduleLemmas
 pub mod DoingLemmas
+pub mod ToldLemmas
+pub mod OwedLemmas
+pub mod UnderWayLemmas
+pub mod RisenLemmas
+pub mod PlayedLemmas
+pub use Rattle.interleaving_core.proofs as of_interleaving_core

@@ -16,7 +16,7 @@ use Rattle.concurrent_calls.proofs.of_lone_calls.of_opened_files.OpenLemmas.{ope
 use Rattle.queue_model.proofs.JournalLemmas.{LeadsAlong-push, after-LeadsAlong}
 use Rattle.queue_model.specs.Laws.{KeepsOrder}
 use Rattle.queue_model.specs.declared.entry.Entry.TheVariants.{Stopped}
-use Rattle.interleavings.specs.Words.{ActiveView, Call, Caller, Entry, HasCall, HasFittingCall, IsFileAtRest, IsSeat, IsStopped, KernelState, LeadsAlong, PoolState, RecordKey, State, after, call_at, caller_at, with_call}
+use Rattle.interleavings.specs.Words.{ActiveView, Call, Caller, Entry, HasCall, IsFileAtRest, IsSeat, IsStopped, KernelState, LeadsAlong, PoolState, RecordKey, State, after, call_at, caller_at, with_call}
 use Rattle.interleavings.specs.Leading.{IsLedFrom, calls_of}
 use Rattle.interleavings.specs.Laws.{AnswersAsPlainLists, BeginsLed, ClosesLed, OpensLed, RefusesLed, SearchesHopFew, StopsLed}
 use Rattle.interleavings.proofs.LeadLemmas.{machine, others_same}
@@ -24,7 +24,7 @@ use Rattle.interleavings.proofs.LeadLemmas.{machine, others_same}
 -- ---- it is opened
 
 pub opens_led : RestTogether → (K : Type 0) → OpensLed K
-opens_led rests K hash keys content honest callers frames k opened true_to_it has some few fitting =
+opens_led rests K hash keys content honest callers frames k opened true_to_it has some few =
     let rest = opens_at_rest hash content has.0 frames (length callers) k.pool.faults honest k.pool.synced has.1
     true_to_it some few in record {
       base = has.0;
@@ -38,9 +38,9 @@ opens_led rests K hash keys content honest callers frames k opened true_to_it ha
         seated = ap length opened.callers ∙ sym (length-replicate (length callers) None) ∙ ap length (sym opened.seats);
         sits = λ seat a there. absurd (none_some a (sym (idle_at (length callers) seat)
             ∙ ap (λ (x : List (Option ActiveView)). call_at x seat) (sym opened.seats) ∙ there));
-        callers = λ seat caller sits. fitting seat caller (sym (ap (λ (cs : List Caller). caller_at cs seat)
+        callers = λ seat caller sits. opened.fitting seat caller (sym (ap (λ (cs : List Caller). caller_at cs seat)
             opened.callers) ∙ sits);
-        together = λ sound. counted_in hash has.0 k Quiet
+        together = λ sound. (counted_in hash has.0 k Quiet
             (rests hash has.0 (calls_of k.seats) k.pool k.locks
             (subst (λ (p : PoolState). IsFileAtRest hash has.0 p k.locks) (sym opened.pool)
             (subst (IsFileAtRest hash has.0 _) (sym opened.locks) rest.rest)) idle)
@@ -49,7 +49,8 @@ opens_led rests K hash keys content honest callers frames k opened true_to_it ha
             (world k.pool.images k.locks Quiet) (calls_of k.seats seat) (idle seat)
             (ap (λ (c : CountsState). count_at c.counts seat) opened.searches
             ∙ opened_count (length callers) seat some
-            (subst (λ (n : ℕ). seat ≤ n) (ap length opened.seats ∙ length-replicate (length callers) None) within)));
+            (subst (λ (n : ℕ). seat ≤ n) (ap length opened.seats ∙ length-replicate (length callers) None)
+              within)))).all;
       };
     }
   where
@@ -63,7 +64,7 @@ opens_led rests K hash keys content honest callers frames k opened true_to_it ha
 -- ---- a call begins
 
 module _ (begins : BeginTogether) {K : Type 0} (hash : RecordKey → ℕ) (base : State) (seat : ℕ) (call : Call)
-    (old new : KernelState K) (is : IsSeat old.locks seat) (fits : HasFittingCall call)
+    (old new : KernelState K) (is : IsSeat old.locks seat)
     (led : IsLedFrom hash base old) (has : HasCall seat call old new) where
   within_begun : seat ≤ length old.seats
   within_begun = subst (λ (n : ℕ). seat ≤ n) led.rows is.1
@@ -110,20 +111,20 @@ module _ (begins : BeginTogether) {K : Type 0} (hash : RecordKey → ℕ) (base 
     sits = sits_begun;
     together = λ sound.
         let was = led.together sound in
-        counted_in hash led.now (record old { seats = with_begun; room = new.room }) was.calls.change
+        (counted_in hash led.now (record old { seats = with_begun; room = new.room }) was.calls.change
         (begins hash seat has.caller call led.now has.active.machine (calls_of old.seats) (calls_of with_begun)
-        old.pool old.locks was.calls (ap machine has.may.free) (led.callers seat has.caller has.sits) fits
+        old.pool old.locks was.calls (ap machine has.may.free) (led.callers seat has.caller has.sits) has.fits
         has.begun.begins (ap machine there_begun) others_begun)
         was.phase
         (λ i some near. counted_of i (count_at old.searches.counts i)
         (world old.pool.images old.locks was.calls.change) (facts_of (calls_of old.seats i))
         (facts_of (calls_of with_begun i)) (same_facts i)
-        (was.counted i some (subst (λ (n : ℕ). i ≤ n) (length-with_call old.seats seat (Some has.active)) near)));
+        (was.counted i some (subst (λ (n : ℕ). i ≤ n) (length-with_call old.seats seat (Some has.active)) near)))).all;
   }
 
 pub begins_led : BeginTogether → (K : Type 0) → BeginsLed K
-begins_led begins K hash base seat call old new is fits led has =
-    subst (IsLedFrom hash base) (sym has.is) (begun_led begins hash base seat call old new is fits led has)
+begins_led begins K hash base seat call old new is led has =
+    subst (IsLedFrom hash base) (sym has.is) (begun_led begins hash base seat call old new is led has)
 
 pub refuses_led : (K : Type 0) → RefusesLed K
 refuses_led K hash base seat call refusal old new led refused =
@@ -158,9 +159,9 @@ module _ (stops : StopTogether) {K : Type 0} (hash : RecordKey → ℕ) (base : 
     sits = led.sits;
     together = λ sound.
         let was = led.together sound in
-        counted_in hash (record led.now { stopped = true })
+        (counted_in hash (record led.now { stopped = true })
         (record old { journal = old.journal ++ Stopped ∷ []; stopped = true; room = new.room }) was.calls.change
-        (stops hash led.now true (calls_of old.seats) old.pool old.locks was.calls) was.phase was.counted;
+        (stops hash led.now true (calls_of old.seats) old.pool old.locks was.calls) was.phase was.counted).all;
   }
 
   pub stopped_by : (b : Bool) → old.stopped ≡ b → IsLedFrom hash base new

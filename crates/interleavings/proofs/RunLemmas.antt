@@ -1,11 +1,10 @@
 -- Events one after the other: what each seat is told by them, and those that were played so far.
-use Rattle.std.proofs.Common.{◌≡◌, refl, sym, ap, ◌∙◌, subst, ℕ, ◌+◌, ◌≤◌, List, [], ◌∷◌, ◌++◌, Option, length, append-nil, append_assoc, length-append, arith}
+use Rattle.std.proofs.Common.{◌≡◌, refl, sym, ap, ◌∙◌, subst, ℕ, zero, suc, ◌+◌, ◌≤◌, List, [], ◌∷◌, ◌++◌, Option, drop, length, take, append-nil, append_assoc, length-append, arith}
 use Rattle.std.proofs.lemmas.List.{nil_from_length}
-use Rattle.std.proofs.lemmas.List.Elements.{All-tail, All-weaker, filter-append}
-use Rattle.interleavings.specs.Words.{Call, Entry, KernelState, RecordKey, Table, call_at, call_of, is_of, part_of, untold}
-use Rattle.interleavings.specs.Runs.{AreOfSeats, Happens, IsOfSeat, IsToldItsPart, Runs, last_call, told_along, told_by}
+use Rattle.std.proofs.lemmas.List.Elements.{All-tail, filter-append}
+use Rattle.interleavings.specs.Words.{Call, Entry, KernelState, RecordKey, call_at, call_of, is_of, part_of, untold}
+use Rattle.interleavings.specs.Runs.{AreOfSeats, Happens, IsLinearized, IsOfSeat, IsToldItsPart, Runs, last_call, told_along, told_by}
 use Rattle.interleavings.specs.declared.event.Event.{Event}
-use Rattle.interleavings.specs.declared.event.Event.TheVariants as events
 use Rattle.interleavings.specs.declared.event.Outcome.{Outcome}
 use Rattle.interleavings.proofs.EventLemmas.{HasLast, IsTold, event_keeps, event_tells}
 
@@ -72,6 +71,40 @@ tells_its_part hash es os old new runs seat =
     let all = tells_along hash seat es os (call_of (call_at old.seats seat)) old new (λ some. refl) runs in
     record { added = all.added; journal = all.journal; told = all.owed }
 
+-- ---- a moment of a run
+
+record IsCut {K : Type 0} (hash : RecordKey → ℕ) (first rest : List Event) (first_os rest_os : List Outcome)
+    (old new : KernelState K) : Type 0 where
+  pub between : KernelState K
+  pub before : Runs hash first first_os old between
+  pub behind : Runs hash rest rest_os between new
+
+cut : {K : Type 0} (hash : RecordKey → ℕ) (many : ℕ) (es : List Event) (os : List Outcome) (old new : KernelState K) →
+    Runs hash es os old new → IsCut hash (take many es) (drop many es) (take many os) (drop many os) old new
+cut hash zero es os old new runs = record { between = old; before = refl; behind = runs }
+cut hash (suc n) [] [] old new same = record { between = old; before = refl; behind = same }
+cut hash (suc n) [] (o ∷ os) old new never = absurd never
+cut hash (suc n) (e ∷ es) [] old new never = absurd never
+cut hash (suc n) (e ∷ es) (o ∷ os) old new runs =
+    let rest = cut hash n es os runs.between new runs.rest in
+    record {
+      between = rest.between;
+      before = record { between = runs.between; first = runs.first; rest = rest.before };
+      behind = rest.behind;
+    }
+
+pub linearizes : {K : Type 0} (hash : RecordKey → ℕ) (es : List Event) (os : List Outcome) (old new : KernelState K) →
+    Runs hash es os old new → IsLinearized hash es os old new
+linearizes hash es os old new runs many =
+    let at = cut hash many es os old new runs in
+    record {
+      between = at.between;
+      before = at.before;
+      behind = at.behind;
+      told_before = tells_its_part hash (take many es) (take many os) old at.between at.before;
+      told_behind = tells_its_part hash (drop many es) (drop many os) at.between new at.behind;
+    }
+
 -- ---- those that were played so far
 
 pub record HavePlayed {K : Type 0} (hash : RecordKey → ℕ) (all played left : List Event) (many : ℕ)
@@ -80,16 +113,10 @@ pub record HavePlayed {K : Type 0} (hash : RecordKey → ℕ) (all played left :
   -- all are those, and so many that are left
   pub are_all : all ≡ played ++ left
   pub as_many : length left ≡ many
-  pub seats : AreOfSeats now.locks left
+  pub seats : AreOfSeats (length now.locks) left
   pub keys : now.keys ≡ old.keys
   -- there is room for what comes of them
   pub fits : length os + length left ≤ room
-
-pub still_of_seat : (t t' : Table) → length t' ≡ length t → (e : Event) → IsOfSeat t e → IsOfSeat t' e
-still_of_seat t t' same (events.Begin seat call) is = (is.0, let last = is.1 in omega (arith, last, same))
-still_of_seat t t' same (events.Step seat) is = (is.0, let last = is.1 in omega (arith, last, same))
-still_of_seat t t' same (events.Drive seat) is = (is.0, let last = is.1 in omega (arith, last, same))
-still_of_seat t t' same events.Stop is = tt
 
 module _ {K : Type 0} (of : K → RecordKey → ℕ) (all played left : List Event) (many : ℕ) (os : List Outcome)
     (room : ℕ) (old now : KernelState K) (so_far : HavePlayed (of old.keys) all played left many os room old now) where
@@ -109,9 +136,9 @@ module _ {K : Type 0} (of : K → RecordKey → ℕ) (all played left : List Eve
               let long = ap length is in
               let many_left = so_far.as_many in
               omega (arith, long, many_left, less);
-          seats = All-weaker (IsOfSeat now.locks) (IsOfSeat new.locks)
-              (still_of_seat now.locks new.locks keeps.seats) rest
-              (All-tail (IsOfSeat now.locks) e rest (subst (AreOfSeats now.locks) is so_far.seats));
+          seats = subst (λ (n : ℕ). AreOfSeats n rest) (sym keeps.seats)
+              (All-tail (IsOfSeat (length now.locks)) e rest
+              (subst (AreOfSeats (length now.locks)) is so_far.seats));
           keys = keeps.keys ∙ so_far.keys;
           fits =
               let long = ap length is in

@@ -1,12 +1,12 @@
--- And behind drives, and events of many seats.
-use Rattle.std.proofs.Common.{ℕ, zero, suc, inl, inr, sym, subst, true, List, [], ◌∷◌}
+-- And after drives, and events of many seats.
+use Rattle.std.proofs.Common.{ℕ, zero, suc, inl, inr, sym, subst, true, List, [], ◌∷◌, Option, length}
 use Rattle.std.proofs.lemmas.Bool.{true≢false}
-use Rattle.std.proofs.lemmas.List.Elements.{All-head, All-tail, All-weaker}
+use Rattle.std.proofs.lemmas.List.Elements.{All-head, All-tail}
 use Rattle.concurrent_calls.specs.Laws.{BeginTogether, EndTogether, StepTogether}
 use Rattle.interleaving_core.proofs.RunLemmas.{seat_stays}
+use Rattle.interleaving_core.specs.declared.fault.Failure.{Failure}
 use Rattle.interleavings.specs.Words.{IsSeat, IsDriven, KernelState, Moves, RecordKey, State, Step}
 use Rattle.interleavings.specs.Leading.{IsLedFrom}
-use Rattle.interleavings.specs.Headline.{AreFitting, IsFitting}
 use Rattle.interleavings.specs.Laws.{BeginsLed, DrivesLed, EventsLead, RefusesLed, StepsLed, StopsLed}
 use Rattle.interleavings.specs.Runs.{AreOfSeats, Happens, IsOfSeat, Runs}
 use Rattle.interleavings.specs.declared.event.Event.{Event}
@@ -14,14 +14,13 @@ use Rattle.interleavings.specs.declared.event.Event.TheVariants as events
 use Rattle.interleavings.specs.declared.event.Outcome.{Outcome}
 use Rattle.interleavings.specs.declared.event.Outcome.TheVariants as outcomes
 use Rattle.interleavings.proofs.EventLemmas.{event_keeps}
-use Rattle.interleavings.proofs.RunLemmas.{still_of_seat}
-use Rattle.interleavings.proofs.TurnLemmas.{steps_led}
+use Rattle.interleavings.proofs.ToldLemmas.{steps_led}
 
 -- ---- a drive
 
-module _ (step_on : (K : Type 0) → StepsLed K) {K : Type 0} (hash : RecordKey → ℕ) (base : State) (seat : ℕ)
+module _ {K : Type 0} (step_on : StepsLed K) (hash : RecordKey → ℕ) (base : State) (seat : ℕ)
     (old : KernelState K) (is : IsSeat old.locks seat) (led : IsLedFrom hash base old) where
-  moves_led : (n : ℕ) (now : KernelState K) → Moves hash seat n old now →
+  pub moves_led : (n : ℕ) (now : KernelState K) → Moves hash seat n old now →
       IsLedFrom hash base now × IsSeat now.locks seat
   moves_led zero now same = (
     subst (IsLedFrom hash base) (sym same) led,
@@ -29,7 +28,7 @@ module _ (step_on : (K : Type 0) → StepsLed K) {K : Type 0} (hash : RecordKey 
   )
   moves_led (suc n) now moved =
       let (before, seated) = moves_led n moved.before moved.stands in (
-        step_on K hash base seat _ moved.before now seated before moved.step,
+        step_on hash base seat _ moved.before now seated before moved.step,
         seat_stays seat _ moved.before now moved.step.turn.run seated,
       )
 
@@ -37,13 +36,14 @@ module _ (step_on : (K : Type 0) → StepsLed K) {K : Type 0} (hash : RecordKey 
   drive_on did new driven =
       let (before, seated) = moves_led driven.moves driven.before driven.moved in
       elim driven.ends [
-        | inl ends ↦ step_on K hash base seat did driven.before new seated before ends.step
-        | inr spent ↦ subst (IsLedFrom hash base) (sym spent.marked) (broken driven.before before)
+        | inl ends ↦ step_on hash base seat did driven.before new seated before ends.step
+        | inr spent ↦ subst (IsLedFrom hash base) (sym spent.marked) (broken driven.before _ before)
       ]
     where
       -- where a step has failed the journal still leads
-      broken : (k : KernelState K) → IsLedFrom hash base k → IsLedFrom hash base (record k { failed = true })
-      broken k on = record {
+      broken : (k : KernelState K) (failure : Option Failure) → IsLedFrom hash base k →
+          IsLedFrom hash base (record k { failed = true; failure = failure })
+      broken k failure on = record {
         now = on.now;
         leads = on.leads;
         mark = on.mark;
@@ -56,52 +56,51 @@ module _ (step_on : (K : Type 0) → StepsLed K) {K : Type 0} (hash : RecordKey 
 
 pub drives_led : StepTogether → EndTogether → BeginTogether → (K : Type 0) → DrivesLed K
 drives_led steps ends begins K hash base seat did old new is led driven =
-    drive_on (steps_led steps ends begins) hash base seat old is led did new driven
+    drive_on (steps_led steps ends begins K) hash base seat old is led did new driven
 
 -- ---- events
 
 module _ {K : Type 0} (begins : BeginsLed K) (refuses : RefusesLed K) (steps : StepsLed K) (drives : DrivesLed K)
     (stops : StopsLed K) (hash : RecordKey → ℕ) (base : State) where
-  event_leads : (e : Event) (o : Outcome) (old new : KernelState K) → IsOfSeat old.locks e → IsFitting e →
+  event_leads : (e : Event) (o : Outcome) (old new : KernelState K) → IsOfSeat (length old.locks) e →
       IsLedFrom hash base old → Happens hash e o old new → IsLedFrom hash base new
-  event_leads (events.Begin seat call) outcomes.Begun old new is fits led has =
-      begins hash base seat call old new is fits led has
-  event_leads (events.Begin seat call) (outcomes.Refused back fault) old new is fits led refused =
+  event_leads (events.Begin seat call) outcomes.Begun old new is led has =
+      begins hash base seat call old new is led has
+  event_leads (events.Begin seat call) (outcomes.Refused back fault) old new is led refused =
       refuses hash base seat call (back, fault) old new led refused
-  event_leads (events.Begin seat call) (outcomes.Stepped did) old new is fits led x = absurd x
-  event_leads (events.Begin seat call) (outcomes.Driven did) old new is fits led x = absurd x
-  event_leads (events.Begin seat call) outcomes.Stopped old new is fits led x = absurd x
-  event_leads (events.Step seat) outcomes.Begun old new is fits led x = absurd x
-  event_leads (events.Step seat) (outcomes.Refused back fault) old new is fits led x = absurd x
-  event_leads (events.Step seat) (outcomes.Stepped did) old new is fits led step =
+  event_leads (events.Begin seat call) (outcomes.Stepped did) old new is led x = absurd x
+  event_leads (events.Begin seat call) (outcomes.Driven did) old new is led x = absurd x
+  event_leads (events.Begin seat call) outcomes.Stopped old new is led x = absurd x
+  event_leads (events.Step seat) outcomes.Begun old new is led x = absurd x
+  event_leads (events.Step seat) (outcomes.Refused back fault) old new is led x = absurd x
+  event_leads (events.Step seat) (outcomes.Stepped did) old new is led step =
       steps hash base seat did old new is led step
-  event_leads (events.Step seat) (outcomes.Driven did) old new is fits led x = absurd x
-  event_leads (events.Step seat) outcomes.Stopped old new is fits led x = absurd x
-  event_leads (events.Drive seat) outcomes.Begun old new is fits led x = absurd x
-  event_leads (events.Drive seat) (outcomes.Refused back fault) old new is fits led x = absurd x
-  event_leads (events.Drive seat) (outcomes.Stepped did) old new is fits led x = absurd x
-  event_leads (events.Drive seat) (outcomes.Driven did) old new is fits led driven =
+  event_leads (events.Step seat) (outcomes.Driven did) old new is led x = absurd x
+  event_leads (events.Step seat) outcomes.Stopped old new is led x = absurd x
+  event_leads (events.Drive seat) outcomes.Begun old new is led x = absurd x
+  event_leads (events.Drive seat) (outcomes.Refused back fault) old new is led x = absurd x
+  event_leads (events.Drive seat) (outcomes.Stepped did) old new is led x = absurd x
+  event_leads (events.Drive seat) (outcomes.Driven did) old new is led driven =
       drives hash base seat did old new is led driven.driven
-  event_leads (events.Drive seat) outcomes.Stopped old new is fits led x = absurd x
-  event_leads events.Stop outcomes.Begun old new is fits led x = absurd x
-  event_leads events.Stop (outcomes.Refused back fault) old new is fits led x = absurd x
-  event_leads events.Stop (outcomes.Stepped did) old new is fits led x = absurd x
-  event_leads events.Stop (outcomes.Driven did) old new is fits led x = absurd x
-  event_leads events.Stop outcomes.Stopped old new is fits led stop = stops hash base old new led stop
+  event_leads (events.Drive seat) outcomes.Stopped old new is led x = absurd x
+  event_leads events.Stop outcomes.Begun old new is led x = absurd x
+  event_leads events.Stop (outcomes.Refused back fault) old new is led x = absurd x
+  event_leads events.Stop (outcomes.Stepped did) old new is led x = absurd x
+  event_leads events.Stop (outcomes.Driven did) old new is led x = absurd x
+  event_leads events.Stop outcomes.Stopped old new is led stop = stops hash base old new led stop
 
-  pub events_lead : (es : List Event) (os : List Outcome) (old new : KernelState K) → AreOfSeats old.locks es →
-      AreFitting es → IsLedFrom hash base old → Runs hash es os old new → IsLedFrom hash base new
-  events_lead [] [] old new seats fits led same = subst (IsLedFrom hash base) (sym same) led
-  events_lead [] (o ∷ os) old new seats fits led x = absurd x
-  events_lead (e ∷ es) [] old new seats fits led x = absurd x
-  events_lead (e ∷ es) (o ∷ os) old new seats fits led runs =
+  pub events_lead : (es : List Event) (os : List Outcome) (old new : KernelState K) → AreOfSeats (length old.locks) es →
+      IsLedFrom hash base old → Runs hash es os old new → IsLedFrom hash base new
+  events_lead [] [] old new seats led same = subst (IsLedFrom hash base) (sym same) led
+  events_lead [] (o ∷ os) old new seats led x = absurd x
+  events_lead (e ∷ es) [] old new seats led x = absurd x
+  events_lead (e ∷ es) (o ∷ os) old new seats led runs =
       events_lead es os runs.between new
-      (All-weaker (IsOfSeat old.locks) (IsOfSeat runs.between.locks) (still_of_seat old.locks runs.between.locks
-      (event_keeps hash e o old runs.between runs.first).seats) es (All-tail (IsOfSeat old.locks) e es seats))
-      (All-tail IsFitting e es fits)
-      (event_leads e o old runs.between (All-head (IsOfSeat old.locks) e es seats) (All-head IsFitting e es fits) led
+      (subst (λ (n : ℕ). AreOfSeats n es) (sym (event_keeps hash e o old runs.between runs.first).seats)
+      (All-tail (IsOfSeat (length old.locks)) e es seats))
+      (event_leads e o old runs.between (All-head (IsOfSeat (length old.locks)) e es seats) led
       runs.first) runs.rest
 
 pub events_led : (K : Type 0) → BeginsLed K → RefusesLed K → StepsLed K → DrivesLed K → StopsLed K → EventsLead K
-events_led K begins refuses steps drives stops hash base es os old new seats fits led runs =
-    events_lead begins refuses steps drives stops hash base es os old new seats fits led runs
+events_led K begins refuses steps drives stops hash base es os old new seats led runs =
+    events_lead begins refuses steps drives stops hash base es os old new seats led runs

@@ -1,4 +1,4 @@
--- A kernel that is led from a system stays so behind a step of a seat.
+-- A kernel that is led from a system stays so after a step of a seat.
 use Rattle.std.proofs.Common.{ℕ, ◌≡◌, ◌≤◌, ◌⊎◌, inl, inr, refl, sym, ap, ◌∙◌, subst, Bool, true, false, ◌||◌, List, [], Option, Some, None, IsSome, length}
 use Rattle.std.proofs.Math.Path.{fun_ext}
 use Rattle.std.proofs.lemmas.Bool.{cases_eq, true≢false}
@@ -15,26 +15,25 @@ use Rattle.interleaving_core.specs.xsi_calls.Words.{Change, world}
 use Rattle.step_rules.specs.World.{World}
 use Rattle.step_rules.proofs.WalkingLemmas.{others_steps_walk, own_steps_walk}
 use Rattle.interleavings.specs.Counting.{AreCounted, IsCounted, facts_of, under_way_in}
-use Rattle.interleavings.proofs.CountedLemmas.{counted_idle, counted_in, counted_of, counts_by, fresh_facts}
+use Rattle.interleavings.proofs.CountedLemmas.{AreCountedIn, counted_idle, counted_in, counted_of, counts_by, fresh_facts}
 use Rattle.interleavings.proofs.CountLemmas.{CountsBy, counted_beside, counted_own, phase_behind}
 use Rattle.interleaving_core.specs.Turn.{IsLeft, IsLeftWhenOver, MakesTurn, told_of}
-use Rattle.page_locks.proofs.ChangeLemmas.{length-with_row}
 use Rattle.interleaving_core.specs.xsi_calls.declared.conclusion.Conclusion.{Conclusion}
 use Rattle.step_rules.specs.declared.kind.Kind.TheVariants.{Decide}
 use Rattle.step_rules.specs.declared.progress.Progress.TheVariants as progress
-use Rattle.interleavings.specs.Words.{ActiveView, Begins, Caller, Entry, FileFault, HasFittingCall, HasFittingCaller, IsOver, IsSeat, IsStep, KernelState, LeadsAlong, PoolState, Progress, RecordKey, State, Step, call_at, caller_at, conclusion_of, is_fault, with_call}
-use Rattle.interleavings.specs.Leading.{IsLedFrom, calls_of}
-use Rattle.interleavings.specs.Laws.{StepsLed}
+use Rattle.interleavings.specs.Words.{ActiveView, Begins, Caller, Entry, FileFault, HasFittingCall, HasFittingCaller, IsOver, IsSeat, KernelState, LeadsAlong, PoolState, Progress, RecordKey, State, Step, call_at, caller_at, conclusion_of, is_fault, with_call}
+use Rattle.interleavings.specs.Leading.{IsLedFrom, IsLedIn, calls_of}
+use Rattle.interleavings.proofs.DoingLemmas.{LeadsDoing, failed, made, waiting}
 use Rattle.interleavings.proofs.LeadLemmas.{keeps_answer, leads_on, machine, others_same, still_leads}
-use Rattle.interleaving_core.specs.Turn.{StaysWaiting, TakesTurn}
-use Rattle.interleaving_core.specs.Waiting.{stays_waiting}
+use Rattle.interleaving_core.specs.Turn.{StaysWaiting}
+use Rattle.interleaving_core.proofs.BetweenLemmas.{Goes}
 use Rattle.interleavings.specs.Words.{CallView, Table, store_of}
 
 -- ---- a step
 
 module _ (steps : StepTogether) (ends : EndTogether) (begins : BeginTogether) {K : Type 0} (hash : RecordKey → ℕ)
     (base : State) (seat : ℕ) (did : Step) (old new : KernelState K) (is : IsSeat old.locks seat)
-    (led : IsLedFrom hash base old) (step : IsStep hash seat did old new) (a : ActiveView)
+    (led : IsLedFrom hash base old) (goes : Goes seat did old new) (a : ActiveView)
     (there : call_at old.seats seat ≡ Some a) (sound : old.failed ≡ false)
   where
     abbrev was : AreCounted hash led.now old
@@ -47,9 +46,6 @@ module _ (steps : StepTogether) (ends : EndTogether) (begins : BeginTogether) {K
     under_way = well hash seat led.now (calls_of old.seats seat) before.records old.pool old.locks before.change
         a.machine (ap machine there) (before.calls seat)
 
-    failed : new.failed ≡ is_failure did
-    failed = step.turn.failed ∙ ap (λ (b : Bool). b || is_failure did) sound
-
     sits : caller_at old.callers seat ≡ Some a.machine.caller
     sits = led.sits seat a there
 
@@ -57,16 +53,16 @@ module _ (steps : StepTogether) (ends : EndTogether) (begins : BeginTogether) {K
     within = subst (λ (n : ℕ). seat ≤ n) led.rows is.1
 
     callers : new.callers ≡ old.callers
-    callers = step.turn.run.rest.callers
+    callers = goes.callers
 
     fitting : (i : ℕ) (caller : Caller) → caller_at new.callers i ≡ Some caller → HasFittingCaller caller
     fitting i caller at = led.callers i caller (sym (ap (λ (cs : List Caller). caller_at cs i) callers) ∙ at)
 
     same_places : length old.seats ≡ length new.seats
-    same_places = sym (length-with_call old.seats seat (call_at new.seats seat)) ∙ ap length (sym step.turn.run.seats)
+    same_places = sym (length-with_call old.seats seat (call_at new.seats seat)) ∙ ap length (sym goes.seats)
 
     rows : length new.locks ≡ length new.seats
-    rows = ap length step.turn.run.locks ∙ length-with_row old.locks seat _ ∙ led.rows ∙ same_places
+    rows = goes.as_many ∙ led.rows ∙ same_places
 
     -- a call that is left at the seat is one of the same caller
     sits_now : ((x : ActiveView) → call_at new.seats seat ≡ Some x → x.machine.caller ≡ a.machine.caller) →
@@ -74,12 +70,12 @@ module _ (steps : StepTogether) (ends : EndTogether) (begins : BeginTogether) {K
     sits_now left i x at = ap (λ (cs : List Caller). caller_at cs i) callers ∙ elim (cases_eq i seat) [
       | inl same ↦ ap (caller_at old.callers) same ∙ sits
           ∙ ap Some (sym (left x (ap (call_at new.seats) (sym same) ∙ at)))
-      | inr apart ↦ led.sits i x (sym (ap (λ (l : List (Option ActiveView)). call_at l i) step.turn.run.seats
+      | inr apart ↦ led.sits i x (sym (ap (λ (l : List (Option ActiveView)). call_at l i) goes.seats
           ∙ at_other old.seats seat i (call_at new.seats seat) apart) ∙ at)
     ]
 
     mark : led.now.stopped ≡ new.stopped
-    mark = led.mark ∙ sym step.turn.run.rest.stopped
+    mark = led.mark ∙ sym goes.stopped
 
     -- ---- its machine makes a step
 
@@ -97,7 +93,7 @@ module _ (steps : StepTogether) (ends : EndTogether) (begins : BeginTogether) {K
 
       -- the other seats are what they were
       others_come : AreTheOthers seat (calls_of with_come) (calls_of new.seats)
-      others_come other apart = ap machine (ap (λ (x : List (Option ActiveView)). call_at x other) step.turn.run.seats
+      others_come other apart = ap machine (ap (λ (x : List (Option ActiveView)). call_at x other) goes.seats
           ∙ at_other old.seats seat other (call_at new.seats seat) apart
           ∙ sym (at_other old.seats seat other (Some come) apart))
 
@@ -129,7 +125,7 @@ module _ (steps : StepTogether) (ends : EndTogether) (begins : BeginTogether) {K
 
         counts : CountsBy seat turn.did old.locks new.locks old.searches new.searches
         counts = counts_by seat old new turn.did come.machine fine
-            (subst (λ (x : Step). Counts seat x old new) turn.told_is step.turn.counts)
+            (subst (λ (x : Step). Counts seat x old new) turn.told_is goes.counts)
 
         known_before : facts_of (calls_of old.seats seat) ≡ call_facts a.machine
         known_before = ap facts_of (ap machine there)
@@ -165,7 +161,7 @@ module _ (steps : StepTogether) (ends : EndTogether) (begins : BeginTogether) {K
               ])
           | inr apart ↦ counted_of i (count_at new.searches.counts i) behind (facts_of (calls_of old.seats i))
               (facts_of (calls_of new.seats i)) (ap facts_of (ap machine
-              (ap (λ (x : List (Option ActiveView)). call_at x i) step.turn.run.seats
+              (ap (λ (x : List (Option ActiveView)). call_at x i) goes.seats
               ∙ at_other old.seats seat i (call_at new.seats seat) apart)))
               (counted_beside hash seat (call_turn hash a.machine (store_of old.pool.images)) turn.did
               (call_facts a.machine) (call_facts come.machine) (world old.pool.images old.locks before.change) behind
@@ -177,7 +173,7 @@ module _ (steps : StepTogether) (ends : EndTogether) (begins : BeginTogether) {K
         -- the call goes on
         goes_on : call_at new.seats seat ≡ Some come → Leads
         goes_on left = subst (λ (x : List (Option ActiveView)). AreTogetherIn hash leading.after (calls_of x) new.pool
-            new.locks phase) (sym (step.turn.run.seats ∙ ap (with_call old.seats seat) left))
+            new.locks phase) (sym (goes.seats ∙ ap (with_call old.seats seat) left))
             (record { together = leading.together; phase = refl })
 
         -- it is over
@@ -220,16 +216,31 @@ module _ (steps : StepTogether) (ends : EndTogether) (begins : BeginTogether) {K
 
         led_by : ((x : ActiveView) → call_at new.seats seat ≡ Some x → x.machine.caller ≡ a.machine.caller) →
             Leads → ((facts_of (calls_of new.seats seat) ≡ call_facts come.machine)
-            ⊎ (facts_of (calls_of new.seats seat) ≡ [])) → IsLedFrom hash base new
-        led_by left together knows = record {
-          now = leading.after;
-          leads = along;
-          mark = leading.mark ∙ mark;
-          callers = fitting;
-          rows = rows;
-          seated = ap length callers ∙ led.seated ∙ same_places;
-          sits = sits_now left;
-          together = λ fine. counted_in hash leading.after new phase together phase_is (all_counted knows);
+            ⊎ (facts_of (calls_of new.seats seat) ≡ [])) → IsLedIn hash base new phase
+        led_by left together knows =
+            let counted : AreCountedIn hash leading.after new phase =
+            counted_in hash leading.after new phase together phase_is (all_counted knows) in
+            record {
+              led = record {
+                now = leading.after;
+                leads = along;
+                mark = leading.mark ∙ mark;
+                callers = fitting;
+                rows = rows;
+                seated = ap length callers ∙ led.seated ∙ same_places;
+                sits = sits_now left;
+                together = λ sound_still. counted.all;
+              };
+              phase = λ sound_still. counted.phase_is;
+            }
+
+        doing : ((x : ActiveView) → call_at new.seats seat ≡ Some x → x.machine.caller ≡ a.machine.caller) →
+            Leads → ((facts_of (calls_of new.seats seat) ≡ call_facts come.machine)
+            ⊎ (facts_of (calls_of new.seats seat) ≡ [])) → LeadsDoing hash base seat a did before.change old new
+        doing left together knows = record {
+          behind = phase;
+          led = led_by left together knows;
+          does = made hash base seat a did old new led there sound turn fine phase leading.stepped.does;
         }
 
       -- ---- the file fails it
@@ -249,20 +260,27 @@ module _ (steps : StepTogether) (ends : EndTogether) (begins : BeginTogether) {K
                 ∙ turn.makes.aim.decides earlier (subst IsSome (sym later) refl)))
 
         led_still : ((x : ActiveView) → call_at new.seats seat ≡ Some x → x.machine.caller ≡ a.machine.caller) →
-            new.failed ≡ true → IsLedFrom hash base new
+            new.failed ≡ true → LeadsDoing hash base seat a did before.change old new
         led_still left broken = record {
-          now = led.now;
-          leads = subst (λ (cs : List Caller). LeadsAlong cs new.journal base led.now) (sym callers)
-              (subst (λ (es : List Entry). LeadsAlong old.callers es base led.now) (sym turn.journal)
-              (still_leads old.callers old.journal base led.now led.leads seat a.machine come.machine turn.did
-              turn.makes.aim a.draft turn.kept sits led.now refl
-              (keeps_answer seat a.machine come.machine turn.did turn.makes.aim comes_to_nothing)));
-          mark = mark;
-          callers = fitting;
-          rows = rows;
-          seated = ap length callers ∙ led.seated ∙ same_places;
-          sits = sits_now left;
-          together = λ sound_still. absurd (true≢false (sym broken ∙ sound_still));
+          behind = before.change;
+          led = record {
+            led = record {
+              now = led.now;
+              leads = subst (λ (cs : List Caller). LeadsAlong cs new.journal base led.now) (sym callers)
+                  (subst (λ (es : List Entry). LeadsAlong old.callers es base led.now) (sym turn.journal)
+                  (still_leads old.callers old.journal base led.now led.leads seat a.machine come.machine turn.did
+                  turn.makes.aim a.draft turn.kept sits led.now refl
+                  (keeps_answer seat a.machine come.machine turn.did turn.makes.aim comes_to_nothing)));
+              mark = mark;
+              callers = fitting;
+              rows = rows;
+              seated = ap length callers ∙ led.seated ∙ same_places;
+              sits = sits_now left;
+              together = λ sound_still. absurd (true≢false (sym broken ∙ sound_still));
+            };
+            phase = λ sound_still. absurd (true≢false (sym broken ∙ sound_still));
+          };
+          does = failed hash base seat a did old new led there sound turn fault is_fault_of before.change;
         }
 
       -- ---- each
@@ -287,23 +305,23 @@ module _ (steps : StepTogether) (ends : EndTogether) (begins : BeginTogether) {K
           none_some : ◌≡◌ {A = Option ActiveView} None (Some x) → ⊥
           none_some clash = cc
 
-      pub led_on : IsLedFrom hash base new
+      pub led_on : LeadsDoing hash base seat a did before.change old new
       led_on = by turn.did refl turn.left_is
         where
           by : (p : Progress FileFault) → turn.did ≡ p → IsLeft p come (call_at new.seats seat) →
-              IsLedFrom hash base new
+              LeadsDoing hash base seat a did before.change old new
           by (progress.Moved kind) p left =
-              led_by (ap is_fault p) (same_caller left) (goes_on (ap is_fault p) left)
+              doing (ap is_fault p) (same_caller left) (goes_on (ap is_fault p) left)
               (inl (ap facts_of (ap machine left)))
           by (progress.Blocked other) p left =
-              led_by (ap is_fault p) (same_caller left) (goes_on (ap is_fault p) left)
+              doing (ap is_fault p) (same_caller left) (goes_on (ap is_fault p) left)
               (inl (ap facts_of (ap machine left)))
-          by (progress.Fault fault) p left = led_still fault p (same_caller left) (failed
+          by (progress.Fault fault) p left = led_still fault p (same_caller left) (goes.failed
               ∙ ap is_failure (turn.told_is ∙ ap (λ (x : Progress FileFault). told_of x come.machine) p))
           by progress.Ended p left =
               let over = when_over (ap is_fault p) (turn.makes.aim.over p) (is_waiting (conclusion_of come.machine))
               left in
-              led_by (ap is_fault p) (over_caller (is_waiting (conclusion_of come.machine)) left) over.0 (inr over.1)
+              doing (ap is_fault p) (over_caller (is_waiting (conclusion_of come.machine)) left) over.0 (inr over.1)
 
     -- ---- it waits on
 
@@ -320,12 +338,12 @@ module _ (steps : StepTogether) (ends : EndTogether) (begins : BeginTogether) {K
       same_calls i = elim (cases_eq i seat) [
         | inl same ↦ ap (calls_of new.seats) same ∙ ap machine waits.left_is ∙ sym (ap machine there)
             ∙ ap (calls_of old.seats) (sym same)
-        | inr apart ↦ ap machine (ap (λ (l : List (Option ActiveView)). call_at l i) step.turn.run.seats
+        | inr apart ↦ ap machine (ap (λ (l : List (Option ActiveView)). call_at l i) goes.seats
             ∙ at_other old.seats seat i (call_at new.seats seat) apart)
       ]
 
       same_counts : new.searches ≡ old.searches
-      same_counts = subst (λ (x : Step). Counts seat x old new) waits.told_is step.turn.counts
+      same_counts = subst (λ (x : Step). Counts seat x old new) waits.told_is goes.counts
 
       still_counted : (i : ℕ) → IsCounted i (facts_of (calls_of old.seats i)) (count_at old.searches.counts i)
           (world old.pool.images old.locks before.change) →
@@ -341,42 +359,33 @@ module _ (steps : StepTogether) (ends : EndTogether) (begins : BeginTogether) {K
           (subst (λ (t : Table). IsCounted i (facts_of (calls_of old.seats i)) (count_at old.searches.counts i)
           (world old.pool.images t before.change)) (sym waits.same_locks) counted)))
 
-      pub waits_on : IsLedFrom hash base new
+      counted_waits : AreCountedIn hash led.now new before.change
+      counted_waits = counted_in hash led.now new before.change
+          (subst (λ (p : PoolState). AreTogetherIn hash led.now (calls_of new.seats) p new.locks before.change)
+          (sym waits.same_pool)
+          (subst (λ (t : Table). AreTogetherIn hash led.now (calls_of new.seats) old.pool t before.change)
+          (sym waits.same_locks)
+          (subst (λ (f : ℕ → Option CallView). AreTogetherIn hash led.now f old.pool old.locks before.change)
+          (sym (fun_ext same_calls)) (record { together = before; phase = refl }))))
+          (ap (λ (c : CountsState). c.under_way) same_counts ∙ was.phase)
+          (λ i some near. still_counted i (was.counted i some (subst (λ (n : ℕ). i ≤ n) (sym same_places) near)))
+
+      pub waits_on : LeadsDoing hash base seat a did before.change old new
       waits_on = record {
-        now = led.now;
-        leads = subst (λ (cs : List Caller). LeadsAlong cs new.journal base led.now) (sym callers)
-            (subst (λ (es : List Entry). LeadsAlong old.callers es base led.now) (sym waits.same_journal) led.leads);
-        mark = mark;
-        callers = fitting;
-        rows = rows;
-        seated = ap length callers ∙ led.seated ∙ same_places;
-        sits = sits_now same_caller_waits;
-        together = λ fine. counted_in hash led.now new before.change
-            (subst (λ (p : PoolState). AreTogetherIn hash led.now (calls_of new.seats) p new.locks before.change)
-            (sym waits.same_pool)
-            (subst (λ (t : Table). AreTogetherIn hash led.now (calls_of new.seats) old.pool t before.change)
-            (sym waits.same_locks)
-            (subst (λ (f : ℕ → Option CallView). AreTogetherIn hash led.now f old.pool old.locks before.change)
-            (sym (fun_ext same_calls)) (record { together = before; phase = refl }))))
-            (ap (λ (c : CountsState). c.under_way) same_counts ∙ was.phase)
-            (λ i some near. still_counted i (was.counted i some (subst (λ (n : ℕ). i ≤ n) (sym same_places) near)));
+        behind = before.change;
+        led = record {
+          led = record {
+            now = led.now;
+            leads = subst (λ (cs : List Caller). LeadsAlong cs new.journal base led.now) (sym callers)
+                (subst (λ (es : List Entry). LeadsAlong old.callers es base led.now) (sym waits.same_journal) led.leads);
+            mark = mark;
+            callers = fitting;
+            rows = rows;
+            seated = ap length callers ∙ led.seated ∙ same_places;
+            sits = sits_now same_caller_waits;
+            together = λ fine. counted_waits.all;
+          };
+          phase = λ fine. counted_waits.phase_is;
+        };
+        does = waiting hash base seat a did old new led there sound waits;
       }
-
-pub steps_led : StepTogether → EndTogether → BeginTogether → (K : Type 0) → StepsLed K
-steps_led steps ends begins K hash base seat did old new is led step =
-    by (call_at old.seats seat) refl old.failed refl
-  where
-    by : (o : Option ActiveView) → call_at old.seats seat ≡ o → (b : Bool) → old.failed ≡ b → IsLedFrom hash base new
-    by None there b is_b = subst (IsLedFrom hash base) (sym (step.turn.spares there)) led
-    by (Some a) there true broken = subst (IsLedFrom hash base) (sym (step.turn.still broken)) led
-    by (Some a) there false sound = by_wait (stays_waiting a.wait a.machine.call old.journal) refl
-      where
-        takes : TakesTurn hash seat old.stopped did a (call_at new.seats seat) old.pool new.pool old.locks new.locks
-            old.journal new.journal
-        takes = step.makes a there sound
-
-        by_wait : (b : Bool) → stays_waiting a.wait a.machine.call old.journal ≡ b → IsLedFrom hash base new
-        by_wait true stays = waits_on steps ends begins hash base seat did old new is led step a there sound
-            (takes.waits stays)
-        by_wait false woken = led_on steps ends begins hash base seat did old new is led step a there sound
-            (takes.goes woken)

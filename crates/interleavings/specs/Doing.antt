@@ -1,26 +1,26 @@
 -- What a step of a seat does to the file and the locks of a kernel that is led, by what the seat is told.
 -- docs/STEPS.md, "The kinds of step", "Calls".
-use Rattle.std.specs.Prelude.{ℕ, ◌≡◌, true, false, None, Some}
-use Rattle.page_device.specs.Device.{HasRisen}
+use Rattle.std.specs.Prelude.{ℕ, ◌≡◌, ◌⊎◌, true, false, List, None, Some}
+use Rattle.file_pages.specs.Fault.{IsDevicesFault}
 use Rattle.step_rules.specs.Turns.{DoesTied, StandsInWay}
 use Rattle.step_rules.specs.declared.kind.Kind.{Kind}
+use Rattle.interleaving_core.specs.Active.{BeginsAgain, is_waiting}
+use Rattle.interleaving_core.specs.Waiting.{is_woken}
 use Rattle.interleaving_core.specs.declared.fault.StepFault.TheVariants as faults
 use Rattle.interleaving_core.specs.declared.step.Step.TheVariants as steps
 use Rattle.interleaving_core.specs.xsi_calls.Machine.{call_turn}
 use Rattle.interleaving_core.specs.xsi_calls.Words.{Change, TrialLacksRoom, Turn, has_no_room, its_plan, trials_of, world}
 use Rattle.interleaving_core.specs.xsi_calls.declared.conclusion.Conclusion.TheVariants as conclusions
-use Rattle.interleavings.specs.Words.{ActiveView, KernelState, RecordKey, State, Step, after, call_at, conclusion_of, outcome, store_of}
+use Rattle.interleavings.specs.Words.{ActiveView, Entry, FileFault, IsOver, KernelState, RecordKey, State, Step, after, call_at, conclusion_of, outcome, store_of}
 
 -- the turn of a call at its place
 abbrev pub turn_of : {K : Type 0} → (RecordKey → ℕ) → ActiveView → KernelState K → Turn
 turn_of hash a k = call_turn hash a.machine (store_of k.pool.images)
 
--- a call moves by a step of the rules of this kind, made for its turn; so one page and one lock change at most, as
--- the kind says
+-- a call moves by a step of the rules of this kind, made for its turn, from the phase before of a change of the
+-- structure to the phase behind; so one page and one lock change at most, as the kind says
 pub record MakesMove {K : Type 0} (hash : RecordKey → ℕ) (base : State) (seat : ℕ) (kind : Kind) (a come : ActiveView)
-    (old new : KernelState K) : Type 0 where
-  pub before : Change
-  pub behind : Change
+    (before behind : Change) (old new : KernelState K) : Type 0 where
   pub does : DoesTied hash (turn_of hash a old) kind seat (world old.pool.images old.locks before)
       (world new.pool.images new.locks behind)
   -- a record that it is to insert turns out to have no room only where it has none
@@ -31,27 +31,47 @@ pub record MakesMove {K : Type 0} (hash : RecordKey → ℕ) (base : State) (sea
   pub waits : conclusion_of a.machine ≡ None → conclusion_of come.machine ≡ Some conclusions.Waits →
       outcome a.machine.caller a.machine.call (after old.callers old.journal base) ≡ None
 
--- the file and the locks stay as they are
-pub record LeavesAll {K : Type 0} (old new : KernelState K) : Type 0 where
+-- the file, the locks and the phase stay as they are
+pub record LeavesAll {K : Type 0} (before behind : Change) (old new : KernelState K) : Type 0 where
   pub file : store_of new.pool.images ≡ store_of old.pool.images
   pub locks : new.locks ≡ old.locks
+  pub phase : behind ≡ before
 
 -- this other seat holds against what is asked
-pub record IsInTheWay {K : Type 0} (hash : RecordKey → ℕ) (seat other : ℕ) (a : ActiveView) (old new : KernelState K)
-    : Type 0 where
-  pub change : Change
-  pub stands : StandsInWay (turn_of hash a old).ask seat other (world old.pool.images old.locks change)
-  pub leaves : LeavesAll old new
+pub record IsInTheWay {K : Type 0} (hash : RecordKey → ℕ) (seat other : ℕ) (a : ActiveView) (before behind : Change)
+    (old new : KernelState K) : Type 0 where
+  pub stands : StandsInWay (turn_of hash a old).ask seat other (world old.pool.images old.locks before)
+  pub leaves : LeavesAll before behind old new
 
--- a step of a seat with this call, which has come so far by it
-abbrev pub DoesAsTold : {K : Type 0} → (RecordKey → ℕ) → State → ℕ → ActiveView → Step → (old new : KernelState K) →
-    Type 0
-DoesAsTold hash base seat a (steps.Moved kind) old new =
-    (come : ActiveView) × (call_at new.seats seat ≡ Some come) × MakesMove hash base seat kind a come old new
-DoesAsTold hash base seat a (steps.Blocked other) old new = IsInTheWay hash seat other a old new
-DoesAsTold hash base seat a steps.Waiting old new = LeavesAll old new
-DoesAsTold hash base seat a (steps.Answered answer) old new = LeavesAll old new
-DoesAsTold hash base seat a steps.Idle old new = LeavesAll old new
--- a transfer of the device failed
-DoesAsTold hash base seat a (steps.Fault (faults.File fault)) old new = HasRisen old.pool.faults new.pool.faults
-DoesAsTold hash base seat a (steps.Fault faults.NoRoom) old new = LeavesAll old new
+-- a transfer of the device failed, and no page has changed
+pub record FailsByDevice {K : Type 0} (fault : FileFault) (old new : KernelState K) : Type 0 where
+  pub device : IsDevicesFault old.pool new.pool fault
+  pub file : store_of new.pool.images ≡ store_of old.pool.images
+
+-- a step of this call, of which its seat is told so, from one phase to the other
+abbrev pub DoesBy : {K : Type 0} → (RecordKey → ℕ) → State → ℕ → ActiveView → Step → (before behind : Change) →
+    (old new : KernelState K) → Type 0
+DoesBy hash base seat by (steps.Moved kind) before behind old new =
+    (come : ActiveView) × (call_at new.seats seat ≡ Some come) ×
+    MakesMove hash base seat kind by come before behind old new
+DoesBy hash base seat by (steps.Blocked other) before behind old new =
+    IsInTheWay hash seat other by before behind old new
+DoesBy hash base seat by steps.Waiting before behind old new = LeavesAll before behind old new
+DoesBy hash base seat by (steps.Answered answer) before behind old new = LeavesAll before behind old new
+DoesBy hash base seat by steps.Idle before behind old new = LeavesAll before behind old new
+DoesBy hash base seat by (steps.Fault (faults.File fault)) before behind old new = FailsByDevice fault old new
+DoesBy hash base seat by (steps.Fault faults.NoRoom) before behind old new = LeavesAll before behind old new
+
+-- a call was decided to wait, and something has woken it before its seat could be told: it begins anew as this one
+pub record BeginsWoken (journal : List Entry) (a by : ActiveView) : Type 0 where
+  pub over : IsOver a.machine
+  pub waits : is_waiting (conclusion_of a.machine) ≡ true
+  pub woken : is_woken a.machine.call a.decided journal ≡ true
+  pub begins : BeginsAgain a by
+
+-- a step of a seat with this call: it is one of that call, or of the same call begun anew
+pub record DoesAsTold {K : Type 0} (hash : RecordKey → ℕ) (base : State) (seat : ℕ) (a : ActiveView) (did : Step)
+    (before behind : Change) (old new : KernelState K) : Type 0 where
+  pub by : ActiveView
+  pub is : (by ≡ a) ⊎ BeginsWoken old.journal a by
+  pub does : DoesBy hash base seat by did before behind old new

@@ -1,35 +1,22 @@
--- The answers of a kernel are those of plain lists, and at rest its file holds just what the lists do.
+-- The answers of a kernel are those of plain lists, and at rest its file holds exactly what the lists do.
 -- docs/QUEUES.md, "Journals", "Order".
-use Rattle.std.specs.Prelude.{ℕ, ◌≡◌, false, List, None, ⊤}
-use Rattle.std.specs.List.{All}
-use Rattle.interleavings.specs.declared.event.Event.{Event}
-use Rattle.interleavings.specs.declared.event.Event.TheVariants as events
+use Rattle.std.specs.Prelude.{ℕ, ◌≡◌, false, None}
 use Rattle.interleavings.specs.Leading.{IsLedFrom}
-use Rattle.interleavings.specs.Words.{HasFittingCall, IsFifo, IsFileAtRest, IsLawful, IsLegal, KernelState, RecordKey, State, after, call_at}
+use Rattle.interleavings.specs.Words.{IsFifo, IsFileAtRest, IsLawful, IsLegal, KernelState, RecordKey, State, after, call_at}
 
 pub record IsAsPlainLists {K : Type 0} (hash : RecordKey → ℕ) (base : State) (k : KernelState K) : Type 0 where
   -- each entry's answer is the outcome of its call, by the rules, in the system after the entries before it
   pub legal : IsLegal k.callers k.journal base
   -- of each type messages are received in the order in which they were sent, each once
   pub fifo : IsFifo k.callers k.journal base
-  -- once no seat has a call, and no step has failed, the file has just the records of the system after the journal
+  -- once no seat has a call, and no step has failed, the file has exactly the records of the system after the journal
   pub file : ((seat : ℕ) → call_at k.seats seat ≡ None) → k.failed ≡ false →
       IsFileAtRest hash (after k.callers k.journal base) k.pool k.locks
 
 -- ---- a run of events
 
--- the numbers of a call that begins fit the fields of records
-abbrev pub IsFitting : Event → Type 0
-IsFitting (events.Begin seat call) = HasFittingCall call
-IsFitting (events.Step seat) = ⊤
-IsFitting (events.Drive seat) = ⊤
-IsFitting events.Stop = ⊤
-
-abbrev pub AreFitting : List Event → Type 0
-AreFitting es = All IsFitting es
-
 -- whatever the events, and so whatever the order of the seats' steps: from a lawful system the kernel is led on, and is
 -- as plain lists
-pub record AnswersRightly {K : Type 0} (hash : RecordKey → ℕ) (es : List Event) (old new : KernelState K) : Type 0 where
-  pub led : (base : State) → IsLedFrom hash base old → AreFitting es → IsLedFrom hash base new
-  pub plain : (base : State) → IsLawful base → IsLedFrom hash base old → AreFitting es → IsAsPlainLists hash base new
+pub record AnswersRightly {K : Type 0} (hash : RecordKey → ℕ) (old new : KernelState K) : Type 0 where
+  pub led : (base : State) → IsLedFrom hash base old → IsLedFrom hash base new
+  pub plain : (base : State) → IsLawful base → IsLedFrom hash base old → IsAsPlainLists hash base new

@@ -1,19 +1,21 @@
 -- Laws of kernels that are led from a system. Each is the contract of a function of laws.rt.
-use Rattle.std.specs.Prelude.{ℕ, ◌≡◌, ◌≤◌, Bool, IsTrue, List, None, Some, length, false}
-use Rattle.interleavings.specs.Words.{ActiveView, BeginFault, Call, Caller, HasCall, HasFittingCall, HasFittingCaller, HasSystem, IsDriven, IsFileOf, IsFlushedTo, IsLawful, IsOpened, IsRefused, IsSeat, IsStep, IsStopped, KernelState, MAX_SEATS, RecordKey, State, Step, after, call_at, caller_at, restarted}
+use Rattle.std.specs.Prelude.{ℕ, ◌≡◌, ◌≢◌, ◌≤◌, ◌⊎◌, Bool, IsTrue, List, None, Some, length, true, false, ⊤}
+use Rattle.concurrent_calls.specs.Together.{owes_of}
+use Rattle.concurrent_calls.specs.Words.{Records, StandsAt, overlaid, owes_at, record_of}
+use Rattle.file_check.specs.Fault.{IsOfMachineToo}
+use Rattle.interleaving_core.specs.Beginning.{MayRefuse}
+use Rattle.interleaving_core.specs.declared.fault.OpenFault.{OpenFault}
+use Rattle.interleaving_core.specs.declared.fault.OpenFault.TheVariants as opens
+use Rattle.step_rules.specs.Words.{Change}
+use Rattle.interleavings.specs.Words.{ActiveView, BeginFault, Call, Caller, HasCall, HasSystem, IsDriven, IsFileOf, IsFlushedTo, IsLawful, IsOpened, IsRefused, IsSeat, IsStep, IsStopped, KernelState, MAX_SEATS, RecordKey, State, Step, after, call_at, restarted, store_of}
 use Rattle.interleavings.specs.Doing.{DoesAsTold}
 use Rattle.interleaving_core.specs.search_counts.Counting.{count_at}
 use Rattle.interleavings.specs.Counting.{HopsFew}
-use Rattle.interleavings.specs.Leading.{IsLedFrom}
-use Rattle.interleavings.specs.Headline.{AreFitting, IsAsPlainLists}
+use Rattle.interleavings.specs.Leading.{IsLedFrom, IsLedIn, calls_of}
+use Rattle.interleavings.specs.Headline.{IsAsPlainLists}
 use Rattle.interleavings.specs.Runs.{AreOfSeats, Runs}
 use Rattle.interleavings.specs.declared.event.Event.{Event}
 use Rattle.interleavings.specs.declared.event.Outcome.{Outcome}
-
--- the numbers of all callers fit the fields of records
-abbrev pub AreFittingCallers : List Caller → Type 0
-AreFittingCallers callers = (seat : ℕ) (caller : Caller) →
-    caller_at callers seat ≡ Some caller → HasFittingCaller caller
 
 -- it is led from the system whose file the pages of the device were
 pub record IsLedFromFile {K : Type 0} (hash : RecordKey → ℕ) (content : List (List ℕ)) (k : KernelState K) :
@@ -26,13 +28,13 @@ pub record IsLedFromFile {K : Type 0} (hash : RecordKey → ℕ) (content : List
 abbrev pub OpensLed : Type 0 → Type 0
 OpensLed K = (hash : RecordKey → ℕ) (keys : K) (content : List (List ℕ)) (honest : Bool) (callers : List Caller)
     (frames : ℕ) (k : KernelState K) → IsOpened keys content honest callers frames k → IsTrue honest →
-    HasSystem hash content → 1 ≤ length callers → length callers ≤ MAX_SEATS → AreFittingCallers callers →
+    HasSystem hash content → 1 ≤ length callers → length callers ≤ MAX_SEATS →
     IsLedFromFile hash content k
 
 -- by what Kernel::begin promises
 abbrev pub BeginsLed : Type 0 → Type 0
 BeginsLed K = (hash : RecordKey → ℕ) (base : State) (seat : ℕ) (call : Call) (old new : KernelState K) →
-    IsSeat old.locks seat → HasFittingCall call → IsLedFrom hash base old → HasCall seat call old new →
+    IsSeat old.locks seat → IsLedFrom hash base old → HasCall seat call old new →
     IsLedFrom hash base new
 
 abbrev pub RefusesLed : Type 0 → Type 0
@@ -45,11 +47,19 @@ abbrev pub StepsLed : Type 0 → Type 0
 StepsLed K = (hash : RecordKey → ℕ) (base : State) (seat : ℕ) (did : Step) (old new : KernelState K) →
     IsSeat old.locks seat → IsLedFrom hash base old → IsStep hash seat did old new → IsLedFrom hash base new
 
--- and so it does to the file and the locks, until a step has failed
-abbrev pub StepsDoAsTold : Type 0 → Type 0
-StepsDoAsTold K = (hash : RecordKey → ℕ) (base : State) (seat : ℕ) (a : ActiveView) (did : Step)
-    (old new : KernelState K) → IsLedFrom hash base old → call_at old.seats seat ≡ Some a → old.failed ≡ false →
-    IsStep hash seat did old new → DoesAsTold hash base seat a did old new
+-- the kernel is led on, in the phase to which this step has come from the phase before
+pub record LeadsOn {K : Type 0} (hash : RecordKey → ℕ) (base : State) (seat : ℕ) (a : ActiveView) (did : Step)
+    (before : Change) (old new : KernelState K) : Type 0 where
+  pub behind : Change
+  pub led : IsLedIn hash base new behind
+  pub does : DoesAsTold hash base seat a did before behind old new
+
+-- and so it does to the file and the locks, until a step has failed: from the phase in which the kernel is led
+abbrev pub StepsLeadAndDo : Type 0 → Type 0
+StepsLeadAndDo K = (hash : RecordKey → ℕ) (base : State) (seat : ℕ) (a : ActiveView) (did : Step)
+    (old new : KernelState K) (led : IsLedFrom hash base old) → call_at old.seats seat ≡ Some a →
+    (sound : old.failed ≡ false) → IsStep hash seat did old new →
+    LeadsOn hash base seat a did (led.together sound).calls.change old new
 
 -- by what Kernel::drive promises
 abbrev pub DrivesLed : Type 0 → Type 0
@@ -63,7 +73,7 @@ StopsLed K = (hash : RecordKey → ℕ) (base : State) (old new : KernelState K)
 -- events one after the other, whatever seats they are of
 abbrev pub EventsLead : Type 0 → Type 0
 EventsLead K = (hash : RecordKey → ℕ) (base : State) (es : List Event) (os : List Outcome) (old new : KernelState K) →
-    AreOfSeats old.locks es → AreFitting es → IsLedFrom hash base old → Runs hash es os old new →
+    AreOfSeats (length old.locks) es → IsLedFrom hash base old → Runs hash es os old new →
     IsLedFrom hash base new
 
 -- from a lawful system
@@ -83,3 +93,52 @@ abbrev pub ClosesLed : Type 0 → Type 0
 ClosesLed K = (hash : RecordKey → ℕ) (base : State) (content : List (List ℕ)) (k : KernelState K) →
     IsLedFrom hash base k → ((seat : ℕ) → call_at k.seats seat ≡ None) → k.failed ≡ false →
     IsFlushedTo k.pool content → IsFileOf hash content (restarted (after k.callers k.journal base))
+
+-- ---- opened again
+
+-- want of frames or of memory, or a transfer that failed
+abbrev pub IsOfMachine : OpenFault → Type 0
+IsOfMachine opens.TooFewFrames = ⊤
+IsOfMachine opens.NoMemory = ⊤
+IsOfMachine (opens.Wrong fault) = IsOfMachineToo fault
+
+-- by what Kernel::open promises of these pages over an honest device: it opens on this system, or for want of something
+pub record OpensOn (K : Type 0) (hash : RecordKey → ℕ) (content : List (List ℕ)) (s : State) : Type 0 where
+  pub system : (found : State) → IsFileOf hash content found → found ≡ s
+  pub opens : (keys : K) (honest : Bool) (callers : List Caller) (frames : ℕ) (k : KernelState K) →
+      IsOpened keys content honest callers frames k → IsTrue honest → 1 ≤ length callers →
+      length callers ≤ MAX_SEATS → IsLedFrom hash s k
+  pub refuses : (fault : OpenFault) → MayRefuse hash content fault → IsOfMachine fault
+
+-- the pages that Kernel::close leaves of an honest device, once no seat has a call and until a step has failed
+abbrev pub ClosedOpens : Type 0 → Type 0
+ClosedOpens K = (hash : RecordKey → ℕ) (base : State) (content : List (List ℕ)) (k : KernelState K) →
+    IsLedFrom hash base k → ((seat : ℕ) → call_at k.seats seat ≡ None) → k.failed ≡ false →
+    IsFlushedTo k.pool content → OpensOn K hash content (restarted (after k.callers k.journal base))
+
+-- ---- pending writes
+
+-- no seat owes the record at this key
+abbrev pub IsOwedByNone : {K : Type 0} → RecordKey → KernelState K → Type 0
+IsOwedByNone key k = (seat : ℕ) → owes_at (owes_of (calls_of k.seats seat)) key ≡ false
+
+-- this seat owes it, and no other
+pub record IsOwedBy {K : Type 0} (seat : ℕ) (key : RecordKey) (k : KernelState K) : Type 0 where
+  pub owes : owes_at (owes_of (calls_of k.seats seat)) key ≡ true
+  pub others : (other : ℕ) → other ≢ seat → owes_at (owes_of (calls_of k.seats other)) key ≡ false
+
+-- the system has there what stands; or what will, once the one seat that owes the record has paid
+abbrev pub IsRestAt : {K : Type 0} → RecordKey → Records → State → KernelState K → Type 0
+IsRestAt key records s k =
+    (IsOwedByNone key k × (records key ≡ record_of s key))
+    ⊎ ((seat : ℕ) × IsOwedBy seat key k × (overlaid (owes_of (calls_of k.seats seat)) records key ≡ record_of s key))
+
+-- key by key what stands in the file, and what seats owe it, are the records of the system after the journal
+pub record OwesTheRest {K : Type 0} (hash : RecordKey → ℕ) (base : State) (k : KernelState K) : Type 0 where
+  pub records : Records
+  pub stands : (key : RecordKey) → StandsAt (store_of k.pool.images) key (records key)
+  pub rest : (key : RecordKey) → IsRestAt key records (after k.callers k.journal base) k
+
+abbrev pub OwedIsTheRest : Type 0 → Type 0
+OwedIsTheRest K = (hash : RecordKey → ℕ) (base : State) (k : KernelState K) → IsLedFrom hash base k →
+    k.failed ≡ false → OwesTheRest hash base k

@@ -1,12 +1,13 @@
 -- A kernel beside the plain lists of its journal. docs/STEPS.md, "Calls"; docs/QUEUES.md, "Journals".
 use Rattle.std.specs.Prelude.{ℕ, ◌≡◌, false, Some, length}
 pub use Rattle.interleavings.specs.Counting.{calls_of}
+use Rattle.step_rules.specs.Words.{Change}
 use Rattle.interleavings.specs.Counting.{AreCounted}
 use Rattle.interleavings.specs.Words.{ActiveView, Caller, HasFittingCaller, KernelState, LeadsAlong, RecordKey, State, call_at, caller_at}
 
 -- it has come from this system by what its journal says, whatever its seats are at
 pub record IsLedFrom {K : Type 0} (hash : RecordKey → ℕ) (base : State) (k : KernelState K) : Type 0 where
-  -- the system after the journal, which is stopped just where the kernel is
+  -- the system after the journal, which is stopped exactly where the kernel is
   pub now : State
   pub leads : LeadsAlong k.callers k.journal base now
   pub mark : now.stopped ≡ k.stopped
@@ -19,3 +20,9 @@ pub record IsLedFrom {K : Type 0} (hash : RecordKey → ℕ) (base : State) (k :
       caller_at k.callers seat ≡ Some a.machine.caller
   -- that is the system to which its calls have come, and what it counts is of their searches, until a step fails
   pub together : k.failed ≡ false → AreCounted hash now k
+
+-- and, until a step fails, in this phase of a change of the structure
+pub record IsLedIn {K : Type 0} (hash : RecordKey → ℕ) (base : State) (k : KernelState K) (change : Change)
+    : Type 0 where
+  pub led : IsLedFrom hash base k
+  pub phase : (sound : k.failed ≡ false) → (led.together sound).calls.change ≡ change

@@ -4,5 +4,7 @@ pub mod Counting
 pub mod Leading
 pub mod Headline
 pub mod Doing
+pub mod Ending
+pub mod Playing
 pub mod Laws
 pub use Rattle.interleaving_core.specs as interleaving_core

@@ -1,8 +1,8 @@
 -- What events of many seats do to a kernel, one after the other, and what each seat is told by them.
 -- docs/STEPS.md, "Calls"; docs/QUEUES.md, "Journals".
-use Rattle.std.specs.Prelude.{ℕ, ◌≡◌, ◌==◌, Bool, false, if◌then◌else◌, List, [], ◌∷◌, ◌++◌, Option, None, Some, ⊤}
+use Rattle.std.specs.Prelude.{ℕ, ◌≡◌, ◌≤◌, ◌==◌, Bool, false, if◌then◌else◌, List, [], ◌∷◌, ◌++◌, Option, None, Some, drop, take, ⊤}
 use Rattle.std.specs.List.{All}
-use Rattle.interleavings.specs.Words.{Answer, Call, Entry, HasCall, IsDriven, IsRefused, IsRun, IsSeat, IsStep, IsStopped, KernelState, RecordKey, Step, Table, answer_told, call_at, call_of, entry_of, part_of, untold}
+use Rattle.interleavings.specs.Words.{Answer, Call, Entry, HasCall, IsDriven, IsRefused, IsRun, IsStep, IsStopped, KernelState, RecordKey, Step, answer_told, call_at, call_of, entry_of, part_of, untold}
 use Rattle.interleavings.specs.declared.event.Event.{Event}
 use Rattle.interleavings.specs.declared.event.Event.TheVariants as events
 use Rattle.interleavings.specs.declared.event.Outcome.{Outcome}
@@ -10,15 +10,19 @@ use Rattle.interleavings.specs.declared.event.Outcome.TheVariants as outcomes
 
 -- ---- the seats of events
 
--- a seat that it names has a row of locks
-abbrev pub IsOfSeat : Table → Event → Type 0
-IsOfSeat t (events.Begin seat call) = IsSeat t seat
-IsOfSeat t (events.Step seat) = IsSeat t seat
-IsOfSeat t (events.Drive seat) = IsSeat t seat
-IsOfSeat t events.Stop = ⊤
+-- seats count from 1
+abbrev pub IsSeatOf : ℕ → ℕ → Type 0
+IsSeatOf seats seat = (1 ≤ seat) × (seat ≤ seats)
 
-abbrev pub AreOfSeats : Table → List Event → Type 0
-AreOfSeats t es = All (IsOfSeat t) es
+-- the seat that it names is one of so many
+abbrev pub IsOfSeat : ℕ → Event → Type 0
+IsOfSeat seats (events.Begin seat call) = IsSeatOf seats seat
+IsOfSeat seats (events.Step seat) = IsSeatOf seats seat
+IsOfSeat seats (events.Drive seat) = IsSeatOf seats seat
+IsOfSeat seats events.Stop = ⊤
+
+abbrev pub AreOfSeats : ℕ → List Event → Type 0
+AreOfSeats seats es = All (IsOfSeat seats) es
 
 -- ---- what happens
 
@@ -92,3 +96,20 @@ pub record IsToldItsPart {K : Type 0} (seat : ℕ) (es : List Event) (os : List 
   -- it was owed its last call's entry before, and may still be owed one
   pub told : told_along seat (call_of (call_at old.seats seat)) es os ++ untold seat (call_at new.seats seat)
       ≡ untold seat (call_at old.seats seat) ++ part_of seat added
+
+-- ---- real time
+
+-- a moment of a run, after so many of its events: what a seat was told until then stands in the journal that there is
+-- then, and what it is told later joins that journal, but for the one entry that it may be owed then
+pub record HasMoment {K : Type 0} (hash : RecordKey → ℕ) (many : ℕ) (es : List Event) (os : List Outcome)
+    (old new : KernelState K) : Type 0 where
+  pub between : KernelState K
+  pub before : Runs hash (take many es) (take many os) old between
+  pub behind : Runs hash (drop many es) (drop many os) between new
+  pub told_before : (seat : ℕ) → IsToldItsPart seat (take many es) (take many os) old between
+  pub told_behind : (seat : ℕ) → IsToldItsPart seat (drop many es) (drop many os) between new
+
+-- the journal is a linearization (Herlihy and Wing 1990): a call that began after another was answered stands after it
+abbrev pub IsLinearized : {K : Type 0} → (RecordKey → ℕ) → List Event → List Outcome → (old new : KernelState K) →
+    Type 0
+IsLinearized hash es os old new = (many : ℕ) → HasMoment hash many es os old new

@@ -1,5 +1,8 @@
 //! What seats do on a kernel, and what comes of it.
 
+ghost use Rattle.std.specs.Prelude.{◌↔◌, IsTrue};
+ghost use Rattle.interleavings.specs.Runs.{AreOfSeats, IsOfSeat};
+
 use interleaving_core::{BeginFault, Step};
 use queue_model::Call;
 
@@ -14,6 +17,27 @@ pub enum Event {
     Drive(u8),
     /// The system is stopped.
     Stop,
+}
+
+impl Event {
+    /// Whether its seat is one of so many. A stop has none.
+    fn is_of_seats(&self, seats: u8) -> bool
+        ensures { IsTrue result ↔ IsOfSeat seats self.now }
+    {
+        match self {
+            Event::Begin(seat, _) | Event::Step(seat) | Event::Drive(seat) => {
+                1 <= *seat && *seat <= seats
+            }
+            Event::Stop => true,
+        }
+    }
+}
+
+/// Whether the seat of each event is one of so many.
+pub fn are_of_seats(events: &[Event], seats: u8) -> bool
+    ensures { IsTrue result ↔ AreOfSeats seats events.now }
+{
+    events.iter().all(|event| event.is_of_seats(seats))
 }
 
 /// What came of an event.

@@ -1,12 +1,13 @@
 //! Laws of kernels that are led from a system. The functions do nothing; their contracts are the
 //! laws.
 
-ghost use Rattle.interleavings.specs.Laws.{AnswersAsPlainLists, BeginsLed, ClosesLed, DrivesLed, EventsLead, OpensLed, RefusesLed, SearchesHopFew, StepsDoAsTold, StepsLed, StopsLed};
+ghost use Rattle.interleavings.specs.Laws.{AnswersAsPlainLists, BeginsLed, ClosedOpens, ClosesLed, DrivesLed, EventsLead, OpensLed, OwedIsTheRest, RefusesLed, SearchesHopFew, StepsLeadAndDo, StepsLed, StopsLed};
 
 use concurrent_calls::{
-    calls_begin_together, calls_end_together, calls_leave_the_file_at_rest, calls_rest_together,
-    calls_step_together, calls_stop_together,
+    calls_begin_together, calls_end_together, calls_leave_the_file_at_rest, calls_owe_apart,
+    calls_rest_together, calls_step_together, calls_stop_together,
 };
+use file_check::the_file_of_a_system_has_no_fault;
 use queue_model::journals_are_first_in_first_out;
 
 /// A kernel that is opened is led from the system whose file its device has.
@@ -28,7 +29,7 @@ pub fn refusals_leave_led<K>()
     ensures { RefusesLed K }
 {}
 
-/// And behind each step of a seat: where its call comes to its answer, that is the one which the
+/// And after each step of a seat: where its call comes to its answer, that is the one which the
 /// rules give in the system after the journal.
 pub fn steps_lead_on<K>()
     ensures { StepsLed K }
@@ -38,16 +39,22 @@ pub fn steps_lead_on<K>()
     calls_begin_together();
 }
 
-/// Such a step does to the file and the locks what its seat is told: it moves by one of the rules, of
-/// the kind that is told; or another seat holds against what it asks, and nothing changes; or it
+/// Such a step does to the file and the locks what its seat is told, from the phase of a change of
+/// the structure in which the kernel is led to that in which it is led on: it moves by one of the
+/// rules, of the kind that is told; or another seat holds against what it asks, and nothing changes; or it
 /// waits, is answered, or has no room, and nothing changes; or a transfer of the device failed. It
 /// comes to waiting only where the rules have no answer, and to having no room only where there is
-/// none.
+/// none. Where its call was woken before its seat could be told that it waits, it is the first step
+/// of that call begun anew.
 pub fn a_step_does_what_its_seat_is_told<K>()
-    ensures { StepsDoAsTold K }
-{}
+    ensures { StepsLeadAndDo K }
+{
+    calls_step_together();
+    calls_end_together();
+    calls_begin_together();
+}
 
-/// And behind each drive, which is so many steps.
+/// And after each drive, which is so many steps.
 pub fn drives_lead_on<K>()
     ensures { DrivesLed K }
 {
@@ -63,7 +70,7 @@ pub fn stops_lead_on<K>()
     calls_stop_together();
 }
 
-/// So it stays behind events of many seats, in whichever order they come.
+/// So it stays after events of many seats, in whichever order they come.
 pub fn events_lead_on<K>()
     ensures { EventsLead K }
 {
@@ -75,7 +82,7 @@ pub fn events_lead_on<K>()
 }
 
 /// Its answers are those of plain lists asked one call at a time, first in, first out; and once no
-/// seat has a call, its file holds just what the lists do.
+/// seat has a call, its file holds exactly what the lists do.
 pub fn a_kernel_led_answers_as_plain_lists<K>()
     ensures { AnswersAsPlainLists K }
 {
@@ -89,6 +96,25 @@ pub fn a_kernel_led_closes_on_its_file<K>()
     ensures { ClosesLed K }
 {
     calls_leave_the_file_at_rest();
+}
+
+/// The pages that are then left open again on that system and no other, over an honest device;
+/// and are refused for want of frames or memory alone, or where a transfer fails.
+pub fn a_closed_file_opens_on_its_system<K>()
+    ensures { ClosedOpens K }
+{
+    a_kernel_opens_led::<K>();
+    a_kernel_led_closes_on_its_file::<K>();
+    the_file_of_a_system_has_no_fault();
+}
+
+/// At any other moment, until a step has failed, key by key: what stands in the file is what the
+/// system after the journal has there, or will be once one seat, which owes that record and no
+/// other seat does, has written it.
+pub fn what_is_owed_is_the_rest<K>()
+    ensures { OwedIsTheRest K }
+{
+    calls_owe_apart();
 }
 
 /// What it counts of a seat's last search is a hop at most more than the WriteOlds and Tombstones of

@@ -1,8 +1,8 @@
 //! Events are played on a kernel, one after the other.
 
-ghost use Rattle.std.specs.Prelude.{◌≡◌, ℕ, IfErr, IfOk};
+ghost use Rattle.std.specs.Prelude.{◌≡◌, ℕ, IfErr, IfOk, length};
 ghost use Rattle.interleavings.specs.Headline.{AnswersRightly};
-ghost use Rattle.interleavings.specs.Runs.{AreOfSeats, Happens, IsOfSeat, IsToldItsPart, Runs};
+ghost use Rattle.interleavings.specs.Runs.{AreOfSeats, Happens, IsLinearized, IsOfSeat, IsToldItsPart, Runs};
 
 use crate::event::{Event, Outcome};
 use crate::laws::{a_kernel_led_answers_as_plain_lists, events_lead_on};
@@ -18,21 +18,26 @@ use std::alloc::Global;
 /// The answers that a seat is told are its part of what joins the journal, in the journal's order,
 /// each once; but for one that it is still owed.
 ///
+/// The journal is a linearization of the calls (Herlihy and Wing 1990): each joins it between its
+/// begin and its answer, so a call that began after another was answered stands after it.
+///
 /// Whatever the order of the events: where the kernel was led from a lawful system, as one is that
 /// was opened over an honest device, its answers are those of plain lists asked one call at a time;
-/// and once no seat has a call the file holds just what the lists do.
+/// and once no seat has a call the file holds exactly what the lists do.
 pub fn run<D: PageDevice + Drop, K: PseudoKey + Drop>(
     alloc: Global,
     kernel: &mut Kernel<D, K>,
     events: Vec<Event>,
 ) -> Result<Vec<Outcome>, NoMemory>
-    requires { AreOfSeats kernel.old.locks events.items }
+    requires { AreOfSeats (length kernel.old.locks) events.items }
     ensures runs { IfOk result (λ outcomes. Runs (K.of_key kernel.old.keys) events.items
         outcomes.items kernel.old kernel.new) }
-    ensures headline { IfOk result (λ _. AnswersRightly (K.of_key kernel.old.keys) events.items
+    ensures headline { IfOk result (λ _. AnswersRightly (K.of_key kernel.old.keys)
         kernel.old kernel.new) }
     ensures told { IfOk result (λ outcomes. (seat : ℕ) →
         IsToldItsPart seat events.items outcomes.items kernel.old kernel.new) }
+    ensures linear { IfOk result (λ outcomes. IsLinearized (K.of_key kernel.old.keys)
+        events.items outcomes.items kernel.old kernel.new) }
     ensures err { IfErr result (λ _. kernel.new ≡ kernel.old) }
 {
     events_lead_on::<K>();
@@ -49,7 +54,7 @@ fn play<D: PageDevice + Drop, K: PseudoKey + Drop>(
     kernel: &mut Kernel<D, K>,
     event: Event,
 ) -> Outcome
-    requires { IsOfSeat kernel.old.locks event }
+    requires { IsOfSeat (length kernel.old.locks) event }
     ensures { Happens (K.of_key kernel.old.keys) event result kernel.old kernel.new }
 {
     match event {

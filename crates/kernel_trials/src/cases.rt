@@ -25,6 +25,10 @@ pub enum Left {
     Header(u64, u64),
     /// The records on a page have so many bytes.
     Bytes(u32, u64),
+    /// These bytes stand on a page.
+    Holds(u32, &'static [u8]),
+    /// And these do not.
+    Lacks(u32, &'static [u8]),
 }
 
 /// Shows each case on a file of its own.
@@ -81,7 +85,14 @@ fn is_left(closed: &mut Closed<MemDevice>, left: Left) -> Result<bool, Fail> {
             let page = page_of(&mut closed.device, number)?;
             number_at(&page, 0, 1) == Some(3) && number_at(&page, 12, 2) == Some(bytes)
         }
+        Left::Holds(number, bytes) => has(&page_of(&mut closed.device, number)?, bytes),
+        Left::Lacks(number, bytes) => !has(&page_of(&mut closed.device, number)?, bytes),
     })
+}
+
+/// Whether these bytes stand somewhere on a page.
+fn has(page: &Page, bytes: &[u8]) -> bool {
+    (0..PAGE_BYTES).any(|at| page.get(at..).is_some_and(|rest| rest.starts_with(bytes)))
 }
 
 /// The bytes of a page.

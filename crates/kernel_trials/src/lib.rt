@@ -14,11 +14,15 @@ mod drawn;
 #[cfg(test)]
 mod finding;
 #[cfg(test)]
-mod long_queues;
+mod malicious;
 #[cfg(test)]
 mod no_room;
 #[cfg(test)]
 mod plain;
+#[cfg(test)]
+mod played;
+#[cfg(test)]
+mod playing;
 #[cfg(test)]
 mod racing;
 #[cfg(test)]
@@ -27,5 +31,9 @@ mod rows;
 mod scripts;
 #[cfg(test)]
 mod splitting;
+#[cfg(test)]
+mod spoiling;
+#[cfg(test)]
+mod types;
 #[cfg(test)]
 mod waiting;

@@ -2,11 +2,13 @@
 
 use crate::asks::Asks::{Get, ReceiveCut, SendLong};
 use crate::cases::Left::{Bytes, Entries, Header};
-use crate::cases::{Case, page_of, run, run_all};
-use crate::rows::Row;
+use crate::cases::{Case, close, page_of, run, run_all};
 use crate::rows::Row::Calls;
 use crate::rows::Want::{Id, NoRoom, Received, Sent};
+use crate::rows::{CALLERS, Row, new_kernel, show};
 use bucket_page::{ConstantKey, ShaKey};
+use file_check::{Checked, check};
+use interleaving_core::Kernel;
 use std::process::Abort;
 use std::test::Fail;
 
@@ -79,4 +81,33 @@ const TOO_DEEP: [Case; 2] = [
 #[test]
 fn a_send_into_a_bucket_of_the_greatest_depth_has_no_room(rt: HostRuntime) -> Result<(), Fail> {
     run_all(&rt, ConstantKey(0), &TOO_DEEP)
+}
+
+/// The same calls one by one, and how many messages the file has behind each.
+const CHECKED: [(Row, usize); 7] = [
+    (Calls(1, Get(7), Id(1)), 0),
+    (Calls(1, SendLong(1, 1024), Sent(1)), 1),
+    (Calls(1, SendLong(1, 1024), Sent(2)), 2),
+    (Calls(1, SendLong(1, 1024), Sent(3)), 3),
+    (Calls(1, SendLong(1, 1024), NoRoom), 3),
+    (Calls(2, ReceiveCut(1, 0, 0), Received(1)), 2),
+    (Calls(1, SendLong(1, 1024), Sent(4)), 3),
+];
+
+#[test]
+fn a_file_of_one_pseudokey_is_right_behind_each_call(rt: HostRuntime) -> Result<(), Fail> {
+    let alloc = rt.alloc();
+    let keys = ConstantKey(0);
+    let mut kernel = new_kernel(alloc, 288, keys)?;
+    for (row, messages) in CHECKED {
+        show(&rt, &mut kernel, &[row])?;
+        let Checked { device, found } = check(alloc, close(&rt, kernel).device, keys);
+        let system = found?;
+        assert!(rt; (system.queues(), system.messages()) == (1, messages));
+        kernel = match Kernel::open(alloc, device, keys, &CALLERS, 288) {
+            Ok(kernel) => kernel,
+            Err((_, fault)) => return Err(fault.into()),
+        };
+    }
+    Ok(())
 }

@@ -3,7 +3,7 @@
 use crate::asks::Asks;
 use bucket_page::PseudoKey;
 use interleaving_core::{BeginFault, Kernel, Step, StepFault};
-use page_device::MemDevice;
+use page_device::{MemDevice, PageDevice};
 use queue_model::{Answer, Call, Caller, Errno, QueueInfo};
 use record_file::format;
 use std::alloc::Global;
@@ -54,15 +54,12 @@ pub enum Row {
     Reaches(u8, Kind),
     /// Its steps come to this, with so many of this kind before.
     Counts(u8, Kind, u32, Want),
-    /// Its last search made so many hops, beside so many steps of others that may add one; whether no
-    /// structure change was under way.
-    Searched(u8, u32, u32, bool),
+    /// Its last search made so many hops, beside so many steps of others that may add one.
+    Searched(u8, u32, u32),
     /// Its steps come to this.
     Drives(u8, Want),
     /// A call begins, and its steps come to this.
     Calls(u8, Asks, Want),
-    /// A call is made so many times, and answered each time.
-    Repeats(u8, Asks, u32),
     /// So many steps of seat 1, behind each of which it blocks seat 2.
     Blocks(u32),
     /// All seats make steps by turns, until the first ones have each been answered this.
@@ -128,14 +125,11 @@ fn does<K: PseudoKey + Copy>(
         Row::Steps(seat, want) => is_wanted(&step(kernel, seat), want),
         Row::Reaches(seat, kind) => count(kernel, seat, kind, Want::Moved(kind)).is_some(),
         Row::Counts(seat, kind, many, want) => count(kernel, seat, kind, want) == Some(many),
-        Row::Searched(seat, hops, changes, calm) => {
-            searched(kernel, seat) == Some((hops, changes, calm))
-        }
+        Row::Searched(seat, hops, changes) => searched(kernel, seat) == Some((hops, changes)),
         Row::Drives(seat, want) => is_wanted(&drive(kernel, seat), want),
         Row::Calls(seat, asks, want) => {
             begins(alloc, kernel, seat, asks)? && is_wanted(&drive(kernel, seat), want)
         }
-        Row::Repeats(seat, asks, many) => repeats(alloc, kernel, seat, asks, many)?,
         Row::Blocks(many) => blocks(kernel, many),
         Row::Turns(wants) => take_turns(kernel, wants),
         Row::Stops => {
@@ -165,8 +159,8 @@ pub fn begins<K: PseudoKey + Copy>(
 }
 
 /// A call begins at a seat; where there is no such seat it comes back.
-pub fn begin<K: PseudoKey + Copy>(
-    kernel: &mut Kernel<MemDevice, K>,
+pub fn begin<D: PageDevice + Drop, K: PseudoKey + Copy>(
+    kernel: &mut Kernel<D, K>,
     seat: u8,
     call: Call,
 ) -> Result<(), (Call, BeginFault)> {
@@ -177,7 +171,10 @@ pub fn begin<K: PseudoKey + Copy>(
 }
 
 /// One step of a seat; of none where there is no such seat.
-pub fn step<K: PseudoKey + Copy>(kernel: &mut Kernel<MemDevice, K>, seat: u8) -> Step {
+pub fn step<D: PageDevice + Drop, K: PseudoKey + Copy>(
+    kernel: &mut Kernel<D, K>,
+    seat: u8,
+) -> Step {
     if seat == 0 || seat > kernel.seats() {
         return Step::Idle;
     }
@@ -193,18 +190,11 @@ fn drive<K: PseudoKey + Copy>(kernel: &mut Kernel<MemDevice, K>, seat: u8) -> St
 }
 
 /// What is counted of the last search of a seat; none where there is no such seat.
-fn searched<K: PseudoKey + Copy>(
-    kernel: &Kernel<MemDevice, K>,
-    seat: u8,
-) -> Option<(u32, u32, bool)> {
+fn searched<K: PseudoKey + Copy>(kernel: &Kernel<MemDevice, K>, seat: u8) -> Option<(u32, u32)> {
     if seat == 0 || seat > kernel.seats() {
         return None;
     }
-    Some((
-        kernel.hops(seat),
-        kernel.changes(seat),
-        kernel.was_calm(seat),
-    ))
+    Some((kernel.hops(seat), kernel.changes(seat)))
 }
 
 /// Steps a seat until a step comes to what is wanted. How many before were of this kind; none where
@@ -228,22 +218,6 @@ fn count<K: PseudoKey + Copy>(
         }
     }
     None
-}
-
-/// Whether a call is answered each of so many times.
-fn repeats<K: PseudoKey + Copy>(
-    alloc: Global,
-    kernel: &mut Kernel<MemDevice, K>,
-    seat: u8,
-    asks: Asks,
-    many: u32,
-) -> Result<bool, Fail> {
-    for _ in 0..many {
-        if !begins(alloc, kernel, seat, asks)? || !is_answered(&drive(kernel, seat)) {
-            return Ok(false);
-        }
-    }
-    Ok(true)
 }
 
 /// Whether seat 1 moves so many times, and blocks seat 2 each time.
@@ -281,7 +255,7 @@ fn is_answered(told: &Step) -> bool {
 }
 
 /// Whether a step comes to what is wanted.
-fn is_wanted(told: &Step, want: Want) -> bool {
+pub fn is_wanted(told: &Step, want: Want) -> bool {
     match (told, want) {
         (Step::Moved(kind), Want::Moved(wanted)) => *kind == wanted,
         (Step::Blocked(other), Want::Blocked(wanted)) => *other == wanted,

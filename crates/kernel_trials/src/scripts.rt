@@ -4,7 +4,7 @@ use crate::asks::Asks::{
     Find, FindExcl, Get, GetMode, GetNew, Private, Receive, ReceiveCut, ReceiveNow, ReceiveShort,
     Remove, Send, SendNow, Set, SetMode, SetOwner, Stat,
 };
-use crate::cases::Left::Entries;
+use crate::cases::Left::{Bytes, Entries, Holds};
 use crate::cases::{Case, run_all};
 use crate::rows::Row;
 use crate::rows::Row::{Begins, Calls, Drives};
@@ -41,7 +41,7 @@ const ONE_MESSAGE: [Row; 4] = [
     Calls(1, Stat(1), Info(USED)),
 ];
 
-const FOUR_SENT: [Row; 5] = [
+pub const FOUR_SENT: [Row; 5] = [
     Calls(1, Get(7), Id(1)),
     Calls(1, Send(1, 5, "a"), Sent(1)),
     Calls(1, Send(1, 2, "b"), Sent(2)),
@@ -57,12 +57,17 @@ const LOWEST_FIRST: [Row; 5] = [
     Calls(1, Receive(1, i64::MIN), Message(1, 1, 5, "a")),
 ];
 
+/// The least type there is has no absolute value of 64 bits.
+const LEAST_BOUND: [Row; 1] = [Calls(1, Receive(1, i64::MIN), Message(2, 1, 2, "b"))];
+
 const ONE_TYPE_FIRST: [Row; 4] = [
     Calls(1, Receive(1, 2), Message(2, 1, 2, "b")),
     Calls(1, Receive(1, 2), Message(4, 1, 2, "d")),
     Calls(1, Receive(1, 0), Message(1, 1, 5, "a")),
     Calls(1, Receive(1, 0), Message(3, 1, 3, "c")),
 ];
+
+const REMOVED: [Row; 1] = [Calls(1, Remove(1), Done)];
 
 const LONG_AND_EMPTY: [Row; 7] = [
     Calls(1, Get(7), Id(1)),
@@ -156,7 +161,10 @@ const OWNERS: [Row; 15] = [
     Calls(4, Remove(1), Done),
 ];
 
-const SCRIPTS: [Case; 8] = [
+/// The Counter after one Get: the next id is 2, and no queue is alive.
+const COUNTER: &[u8] = b"\0\x08\x01\0\0\0\0\0\0\0\0\0\0\0\0\0\0\0\x02\0\0\0\0";
+
+const SCRIPTS: [Case; 10] = [
     Case {
         pages: 258,
         rows: &[&ONE_MESSAGE],
@@ -169,8 +177,19 @@ const SCRIPTS: [Case; 8] = [
     },
     Case {
         pages: 258,
+        rows: &[&FOUR_SENT, &LEAST_BOUND],
+        left: &[Entries(6)],
+    },
+    Case {
+        pages: 258,
         rows: &[&FOUR_SENT, &ONE_TYPE_FIRST],
         left: &[Entries(9)],
+    },
+    // of all records the Counter alone is left
+    Case {
+        pages: 258,
+        rows: &[&FOUR_SENT, &REMOVED],
+        left: &[Entries(6), Bytes(257, 23), Holds(257, COUNTER)],
     },
     Case {
         pages: 258,

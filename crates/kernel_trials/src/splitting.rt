@@ -12,7 +12,7 @@ use std::test::Fail;
 use step_rules::Kind;
 
 /// Two queues in the one bucket, which has no room for a fourth long message.
-const FULL_BUCKET: [Row; 9] = [
+pub const FULL_BUCKET: [Row; 9] = [
     Calls(1, Get(7), Id(1)),
     Calls(1, Get(9), Id(2)),
     Calls(1, Send(2, 2, "a"), Sent(1)),
@@ -21,11 +21,11 @@ const FULL_BUCKET: [Row; 9] = [
     Calls(1, SendLong(1, 1024), Sent(1)),
     Calls(1, SendLong(1, 1024), Sent(2)),
     Calls(1, SendLong(1, 1024), Sent(3)),
-    Searched(1, 0, 0, true),
+    Searched(1, 0, 0),
 ];
 
 /// The fourth message is sent.
-const SPLIT: [Row; 2] = [
+pub const SPLIT: [Row; 2] = [
     Begins(1, SendLong(1, 1024)),
     Counts(1, Kind::WriteOld, 1, Sent(4)),
 ];
@@ -50,23 +50,23 @@ const SPLIT_AGAIN: [Row; 3] = [
     Calls(1, SendLong(1, 1024), Sent(7)),
 ];
 
-/// A Get beside the split. Behind WriteNew the old bucket has all its records.
+/// A Get beside the split. After WriteNew the old bucket has all its records.
 const BEHIND_WRITE_NEW: [Row; 6] = [
     Begins(1, SendLong(1, 1024)),
     Reaches(1, Kind::WriteNew),
     Begins(2, Get(7)),
     Counts(2, Kind::Hop, 0, Id(1)),
-    Searched(2, 0, 0, false),
+    Searched(2, 0, 0),
     Drives(1, Sent(4)),
 ];
 
-/// Behind WriteOld the entry still names it, and the record stands behind it.
+/// After WriteOld the entry still names it, and the record stands behind it.
 const BEHIND_WRITE_OLD: [Row; 6] = [
     Begins(1, SendLong(1, 1024)),
     Reaches(1, Kind::WriteOld),
     Begins(2, Get(7)),
     Counts(2, Kind::Hop, 1, Id(1)),
-    Searched(2, 1, 0, false),
+    Searched(2, 1, 0),
     Drives(1, Sent(4)),
 ];
 
@@ -87,7 +87,7 @@ const BESIDE_A_MERGE: [Row; 15] = [
     Steps(1, Moved(Kind::Convert)),
     Steps(1, Blocked(2)),
     Counts(2, Kind::Hop, 1, Id(1)),
-    Searched(2, 1, 1, false),
+    Searched(2, 1, 1),
     Drives(1, Received(3)),
 ];
 

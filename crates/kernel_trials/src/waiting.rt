@@ -12,7 +12,7 @@ use std::test::Fail;
 use step_rules::Kind;
 
 /// A Receive waits for a message of an empty queue.
-const WAITS: [Row; 5] = [
+pub const WAITS: [Row; 5] = [
     Steps(1, Idle),
     Calls(1, Get(7), Id(1)),
     Begins(1, Receive(1, 0)),
@@ -20,15 +20,15 @@ const WAITS: [Row; 5] = [
     Drives(1, Waiting),
 ];
 
-const SENT: [Row; 3] = [
+pub const SENT: [Row; 3] = [
     Calls(2, Send(1, 1, "a"), Sent(1)),
     Drives(1, Received(1)),
     Steps(1, Idle),
 ];
 
-const REMOVED: [Row; 2] = [Calls(2, Remove(1), Done), Drives(1, Refused(Errno::EIDRM))];
+pub const REMOVED: [Row; 2] = [Calls(2, Remove(1), Done), Drives(1, Refused(Errno::EIDRM))];
 
-const STOPPED: [Row; 3] = [Stops, Stops, Drives(1, Refused(Errno::EINTR))];
+pub const STOPPED: [Row; 3] = [Stops, Stops, Drives(1, Refused(Errno::EINTR))];
 
 /// A Receive and a Send wait. Once the system is stopped both are refused, and so is a new call
 /// that would wait. One that need not wait is answered as ever.
@@ -78,33 +78,33 @@ const WOKEN_BY_STOP: [Row; 3] = [
     Drives(1, Refused(Errno::EINTR)),
 ];
 
-/// What is decided behind its Decide wakes it, though its seat is told only later that it waits.
+/// What is decided after its Decide wakes it, also before it has given its names back: its seat is
+/// not told that it waits, and that step is the first one of the call begun anew.
 const WOKEN_EARLY: [Row; 7] = [
     Calls(1, Get(7), Id(1)),
     Begins(1, Receive(1, 0)),
     Reaches(1, Kind::Decide),
     Calls(2, Send(1, 0, "a"), Refused(Errno::EINVAL)),
-    Drives(1, Waiting),
+    Steps(1, Moved(Kind::Release)),
     Steps(1, Moved(Kind::Grant)),
     Drives(1, Waiting),
 ];
 
-const CASES: [Case; 7] = [
-    Case {
-        pages: 258,
-        rows: &[&WAITS, &SENT],
-        left: &[Entries(3)],
-    },
-    Case {
-        pages: 258,
-        rows: &[&WAITS, &REMOVED],
-        left: &[Entries(3)],
-    },
-    Case {
-        pages: 258,
-        rows: &[&WAITS, &STOPPED],
-        left: &[Entries(3)],
-    },
+/// A call that waits, and one that is stopped between its Decide and its last Release: that one is
+/// refused, and its seat was never told that it waits.
+const STOPPED_EARLY: [Row; 9] = [
+    Calls(1, Get(7), Id(1)),
+    Calls(2, Receive(1, 0), Waiting),
+    Begins(1, Receive(1, 0)),
+    Reaches(1, Kind::Decide),
+    Stops,
+    Steps(1, Moved(Kind::Release)),
+    Steps(1, Moved(Kind::Grant)),
+    Drives(1, Refused(Errno::EINTR)),
+    Drives(2, Refused(Errno::EINTR)),
+];
+
+const CASES: [Case; 5] = [
     Case {
         pages: 258,
         rows: &[&BOTH],
@@ -123,6 +123,11 @@ const CASES: [Case; 7] = [
     Case {
         pages: 258,
         rows: &[&WOKEN_EARLY, &WOKEN_BY_STOP],
+        left: &[Entries(4)],
+    },
+    Case {
+        pages: 258,
+        rows: &[&STOPPED_EARLY],
         left: &[Entries(4)],
     },
 ];

@@ -5,7 +5,7 @@ ghost use Rattle.page_locks.specs.Table.{IsSeat};
 
 use page_locks::Grant::{Blocked, Granted};
 use page_locks::LockKind::{Exclusive, Read, Selective};
-use page_locks::LockName::{Counter, Directory, Key, Page, Queue};
+use page_locks::LockName::{Directory, Key, Page};
 use page_locks::{Grant, LockKind, LockName, LockTable, MAX_SEATS, NoMemory};
 use std::test::*;
 
@@ -78,18 +78,11 @@ fn kinds_go_together_or_not(rt: HostRuntime) -> Result<(), NoMemory> {
     Ok(())
 }
 
-#[test]
-fn a_seat_holds_eight_names(rt: HostRuntime) -> Result<(), NoMemory> {
-    let mut table = LockTable::new(rt.alloc(), MAX_SEATS)?;
-    for number in 0..8 {
-        assert_eq!(rt; ask(&mut table, 64, Page(number), Exclusive), Some(Granted));
+/// Gives back what `fills` was granted.
+fn empties(table: &mut LockTable) {
+    for number in 0..512 {
+        give(table, (number / 8 + 1) as u8, Key(1024 * number));
     }
-    assert!(rt; has_seat(&table, 64) && table.is_full(64));
-    assert_eq!(rt; ask(&mut table, 64, Page(8), Exclusive), None);
-    assert_eq!(rt; ask(&mut table, 63, Page(7), Read), Some(Blocked(64)));
-    assert_eq!(rt; ask(&mut table, 63, Queue(7), Read), Some(Granted));
-    assert_eq!(rt; ask(&mut table, 62, Counter, Exclusive), Some(Granted));
-    Ok(())
 }
 
 #[test]
@@ -98,37 +91,15 @@ fn names_of_one_home_stand_one_after_the_other(rt: HostRuntime) -> Result<(), No
     assert_eq!(rt; table.looked(), 0);
     assert!(rt; fills(&mut table));
     assert_eq!(rt; table.looked(), 512);
+    assert!(rt; has_seat(&table, 64) && table.is_full(64));
     give(&mut table, 1, Key(0));
     assert_eq!(rt; ask(&mut table, 1, Key(8192), Exclusive), Some(Blocked(2)));
     assert_eq!(rt; ask(&mut table, 1, Key(0), Exclusive), Some(Granted));
-    for number in 0..512 {
-        give(&mut table, (number / 8 + 1) as u8, Key(1024 * number));
-    }
+    empties(&mut table);
     assert!(rt; fills(&mut table));
-    Ok(())
-}
-
-#[test]
-fn one_slot_is_looked_at_where_homes_are_apart(rt: HostRuntime) -> Result<(), NoMemory> {
-    let mut table = LockTable::new(rt.alloc(), 2)?;
+    empties(&mut table);
     assert_eq!(rt; ask(&mut table, 1, Page(5), Exclusive), Some(Granted));
-    assert_eq!(rt; table.looked(), 1);
     assert_eq!(rt; ask(&mut table, 1, Page(6), Exclusive), Some(Granted));
     assert_eq!(rt; table.looked(), 1);
-    assert_eq!(rt; ask(&mut table, 2, Queue(1029), Read), Some(Granted));
-    assert_eq!(rt; table.looked(), 3);
-    Ok(())
-}
-
-#[test]
-fn a_name_that_is_not_held_is_given_back_in_vain(rt: HostRuntime) -> Result<(), NoMemory> {
-    let mut table = LockTable::new(rt.alloc(), 2)?;
-    assert_eq!(rt; ask(&mut table, 1, Key(7), Selective), Some(Granted));
-    give(&mut table, 2, Key(7));
-    give(&mut table, 1, Queue(7));
-    assert_eq!(rt; held(&table, 1, Key(7)), Some(Selective));
-    assert_eq!(rt; held(&table, 2, Key(7)), None);
-    assert_eq!(rt; turn(&mut table, 2, Key(7), Read), None);
-    assert_eq!(rt; NoMemory.number(), 60);
     Ok(())
 }

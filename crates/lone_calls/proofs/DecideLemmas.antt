@@ -1,4 +1,4 @@
--- What a call has come to behind each of its steps.
+-- What a call has come to after each of its steps.
 use Rattle.std.proofs.Common.{ℕ, ◌≡◌, inl, inr, refl, sym, ap, ◌∙◌, subst, Bool, true, false, List, Option, Some, None, IsSome}
 use Rattle.std.specs.List.{Contains}
 use Rattle.owed_records.proofs.OverlayLemmas.{overlaid_rest}

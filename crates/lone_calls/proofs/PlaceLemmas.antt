@@ -37,7 +37,7 @@ module _ (hash : RecordKey → ℕ) (seat : ℕ) (call : Call) (s : State) (u : 
   sees_at (Paying v conclusion) is = pays_sees hash seat u.questions.names _ v records pool locks change is
   sees_at (Releasing conclusion) is = is.sees
 
-  -- ---- it goes on behind a step of its own, where all these records stand in the file
+  -- ---- it goes on after a step of its own, where all these records stand in the file
 
   module _ (stands : (key : RecordKey) → StandsAt (store_of pool.images) key (records key)) where
     asks_on : (o : Option Trials) → Sees hash seat (facts_in u.questions o) pool locks change →

@@ -1,4 +1,4 @@
--- The records of the file behind a step of a call.
+-- The records of the file after a step of a call.
 use Rattle.std.proofs.Common.{ℕ, ◌≡◌, refl, sym, ap, ◌∙◌, subst, Bool, true, false, List, Option, Some, None, IsSome}
 use Rattle.std.proofs.lemmas.Bool.{true≢false}
 use Rattle.hash_file.specs.Kept.{KeepsContents}
@@ -107,7 +107,7 @@ module _ (hash : RecordKey → ℕ) (seat : ℕ) (s : State) (did : Progress Fil
         (subst (λ (d : Progress FileFault). TurnsAt hash turn d seat before behind) (wrote_of did writes)
         step.step.does)
 
-    -- its seat holds just its names, and behind them locks of the file
+    -- its seat holds exactly its names, and behind them locks of the file
     held_so : (key : RecordKey) → held locks seat (guard_of key) ≡ kind_of names (guard_of key)
     held_so key = ap (λ (t : Table). held t seat (guard_of key)) (sym locks_stay)
         ∙ ap (λ (ls : List Lock). kind_of ls (guard_of key)) row ∙ names_aside new.undecided new.stage key

@@ -7,7 +7,7 @@ use Rattle.queue_model.specs.declared.call.Call.TheVariants.{Get, Send, Receive,
 use Rattle.type_chains.proofs.Fitting.{keeps_fitting}
 use Rattle.lone_calls.specs.Words.{Answer, Call, Caller, HasFittingCall, HasFittingCaller, IsFiled, State, outcome}
 
--- ---- behind an answer
+-- ---- after an answer
 
 marked : (s t : State) → t ≡ s → t.stopped ≡ s.stopped
 marked s t same = ap (λ (u : State). u.stopped) same

@@ -43,7 +43,7 @@ pub record HasComeTo (caller : Caller) (call : Call) (s : State) (m : CallView) 
   -- until then, and else, nothing has changed: it waits, since the rules have no answer, or a record of it had no room
   pub unanswered : answer_of_call m ≡ None → now ≡ s
   pub waits : conclusion_of m ≡ Some conclusions.Waits → outcome caller call s ≡ None
-  -- it is stopped just where it was
+  -- it is stopped exactly where it was
   pub stopped : now.stopped ≡ s.stopped
 
 abbrev pub TellsItsSystem : Type 0

@@ -5,6 +5,7 @@ use Rattle.lone_calls.specs.Words.{answer_of_call}
 use Rattle.step_rules.specs.declared.progress.Progress.TheVariants as progress
 use Rattle.lone_kernel.specs.Words.{ActiveView, Answer, Call, Caller, FileFault, HasRisen, KernelState, MakesCall, Progress, RecordKey, State, Step, TakesTurn, call_at, conclusion_of, is_failure, is_waiting, stays_waiting, told_of, told_when_over}
 use Rattle.lone_kernel.specs.Lone.{ServesOver}
+use Rattle.lone_kernel.proofs.StepLemmas.{never_woken}
 
 -- a count that rose since a later call rose since an earlier one
 pub risen_since : {first old new : ℕ} → first ≤ old → HasRisen old new → HasRisen first new
@@ -40,5 +41,8 @@ module _ {K : Type 0} (hash : RecordKey → ℕ) (seat : ℕ) (caller : Caller) 
     where
       by : (waits : Bool) → stays_waiting serves.active.wait serves.active.machine.call old.journal ≡ waits → Rises
       by true is = absurd (true≢false (sym fails ∙ ap is_failure (t.waits is).told_is))
-      by false is =
-          let m = t.goes is in by_machine m.did m.come m.makes (sym (ap is_failure m.told_is) ∙ fails)
+      by false is = elim (t.goes is) [
+        | inl made ↦ by_machine made.0.did made.0.come made.0.makes (sym (ap is_failure made.0.told_is) ∙ fails)
+        | inr anew ↦ absurd (true≢false (sym fails ∙ ap is_failure (anew.waits (never_woken hash seat caller call s did
+            old (call_at new.seats seat) new.pool new.locks new.journal serves anew)).told_is))
+      ]

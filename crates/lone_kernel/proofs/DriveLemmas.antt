@@ -14,7 +14,7 @@ use Rattle.lone_kernel.specs.Lone.{ServesOver}
 use Rattle.lone_kernel.specs.Laws.{AnswersLoneCalls, DrivesByTheRules, StandsDriven}
 use Rattle.lone_kernel.proofs.CauseLemmas.{cause_of_failure, risen_since}
 use Rattle.lone_kernel.proofs.RestingLemmas.{begins_on_a_kernel}
-use Rattle.lone_kernel.proofs.StepLemmas.{answers_by_the_rules}
+use Rattle.lone_kernel.proofs.StepLemmas.{answers_by_the_rules, never_woken}
 
 -- ---- a step that moves
 
@@ -60,9 +60,12 @@ module _ {K : Type 0} (hash : RecordKey → ℕ) (seat : ℕ) (caller : Caller) 
             steps_left seat new < call_left serves.active.machine (store_of old.pool.images)
         by true is =
             let told = ((step.makes serves.active serves.there serves.sound).waits is).told_is in absurd cc
-        by false is =
-            let t = (step.makes serves.active serves.there serves.sound).goes is in
-            nears_by t.did t.come t.makes t.left_is t.told_is
+        by false is = elim ((step.makes serves.active serves.there serves.sound).goes is) [
+          | inl made ↦ nears_by made.0.did made.0.come made.0.makes made.0.left_is made.0.told_is
+          | inr anew ↦
+              let told = (anew.waits (never_woken hash seat caller call s (steps.Moved kind) old
+              (call_at new.seats seat) new.pool new.locks new.journal serves anew)).told_is in absurd cc
+        ]
 
 -- ---- many of them, and the last step
 
@@ -109,10 +112,11 @@ module _ (begins : BeginsAtRest) (few_steps : HaveFewSteps) {K : Type 0} (hash :
         let few = serves.few in
         omega (arith, nearer, was, few)
 
-    unspent : IsSpent driven.moves did driven.before new → ⊥
+    unspent : IsSpent seat driven.moves did driven.before new → ⊥
     unspent spent = let few = few_moves in let most = spent.most in omega (arith, few, most)
 
-    stands_by : ComesToRest hash seat driven.moves did driven.before new ⊎ IsSpent driven.moves did driven.before new →
+    stands_by : ComesToRest hash seat driven.moves did driven.before new
+        ⊎ IsSpent seat driven.moves did driven.before new →
         StandsDriven hash seat caller call s did old new driven
     stands_by (inl last) = record {
       stands = answers_by_the_rules begins few_steps K hash seat caller call s did driven.before new so_far.seated
@@ -133,10 +137,10 @@ drives_by_the_rules begins few_steps K hash seat caller call s did old new is se
     stands_driven begins few_steps hash seat caller call s old is serves did new driven
 
 pub answers_lone_calls : BeginsAtRest → HaveFewSteps → (K : Type 0) → AnswersLoneCalls K
-answers_lone_calls begins few_steps K hash seat caller call s did old begun new whole rests is sits caller_fits
-    call_fits has driven =
+answers_lone_calls begins few_steps K hash seat caller call s did old begun new whole rests is sits has
+    driven =
     stands_driven begins few_steps hash seat caller call s begun
     (subst (λ (k : KernelState K). IsSeat k.locks seat) (sym has.is) is)
-    (begins_on_a_kernel begins few_steps K hash seat caller call s old begun whole rests is sits caller_fits call_fits
+    (begins_on_a_kernel begins few_steps K hash seat caller call s old begun whole rests is sits
     has)
     did new driven

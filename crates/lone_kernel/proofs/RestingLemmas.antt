@@ -7,10 +7,10 @@ use Rattle.lone_calls.specs.Laws.{BeginsAtRest, StopsAtRest}
 use Rattle.interleaving_core.proofs.BeginLemmas.{idle_at}
 use Rattle.interleaving_core.proofs.KernelLemmas.{as_many}
 use Rattle.interleaving_core.proofs.PlaceLemmas.{Seats, at_other, at_same}
-use Rattle.lone_kernel.specs.Words.{Call, Caller, HasCall, HasFittingCall, HasFittingCaller, HaveFewSteps, IsFileAtRest, IsSeat, IsStopped, IsWhole, KernelState, PoolState, RecordKey, State, Table, call_at, store_of, with_call}
+use Rattle.lone_kernel.specs.Words.{Call, Caller, HasCall, HaveFewSteps, IsFileAtRest, IsSeat, IsStopped, IsWhole, KernelState, PoolState, RecordKey, State, Table, call_at, store_of, with_call}
 use Rattle.lone_kernel.specs.Lone.{RestsOver, ServesOver}
 use Rattle.lone_kernel.specs.Laws.{BeginsOnAKernel, ClosesAKernel, OpensAKernel, RefusesAtRest, StopsAKernel}
-use Rattle.lone_kernel.proofs.WaitLemmas.{awake_apart, awake_goes, undecided_yet}
+use Rattle.lone_kernel.proofs.WaitLemmas.{awake_apart, awake_goes, undecided_no_wait, undecided_yet}
 
 -- ---- it is opened
 
@@ -56,8 +56,7 @@ within_seats seat k whole is = let many = as_many k whole in let last = is.1 in 
 
 module _ (begins : BeginsAtRest) (few : HaveFewSteps) {K : Type 0} (hash : RecordKey → ℕ) (seat : ℕ) (call : Call)
     (s : State) (old new : KernelState K) (whole : IsWhole old) (rests : RestsOver hash s old)
-    (is : IsSeat old.locks seat) (call_fits : HasFittingCall call) (has : HasCall seat call old new)
-    (caller_fits : HasFittingCaller has.caller) where
+    (is : IsSeat old.locks seat) (has : HasCall seat call old new) where
   abbrev changed : KernelState K
   changed = record old { seats = with_call old.seats seat (Some has.active); room = new.room }
 
@@ -65,11 +64,12 @@ module _ (begins : BeginsAtRest) (few : HaveFewSteps) {K : Type 0} (hash : Recor
   serves = record {
     active = has.active;
     there = at_same old.seats seat (Some has.active) is.0 (within_seats seat old whole is);
-    served = begins hash seat has.caller call s has.active.machine old.pool old.locks rests.file is caller_fits
-        call_fits has.begun.begins;
+    served = begins hash seat has.caller call s has.active.machine old.pool old.locks rests.file is
+        (whole.fitting seat has.caller has.sits) has.fits has.begun.begins;
     few = few has.active.machine (store_of old.pool.images) has.begun.begins.new;
     waits = λ stays. absurd (awake_goes has.active.wait has.active.machine.call old.journal has.begun.awake stays);
     asleep = λ since some. absurd (awake_apart has.active.wait since has.begun.awake some);
+    quiet = λ waits. absurd (undecided_no_wait has.active.machine has.begun.begins.new waits);
     decided = λ some. absurd (undecided_yet has.active.machine has.begun.begins.new some);
     others = λ other apart. at_other old.seats seat other (Some has.active) apart ∙ rests.idle other;
     sound = rests.sound;
@@ -80,12 +80,11 @@ module _ (begins : BeginsAtRest) (few : HaveFewSteps) {K : Type 0} (hash : Recor
   serves_begun = subst (ServesOver hash seat has.caller call s) (sym has.is) serves
 
 pub begins_on_a_kernel : BeginsAtRest → HaveFewSteps → (K : Type 0) → BeginsOnAKernel K
-begins_on_a_kernel begins few K hash seat caller call s old new whole rests is sits caller_fits call_fits has =
+begins_on_a_kernel begins few K hash seat caller call s old new whole rests is sits has =
     let both : ◌≡◌ {A = Option Caller} (Some has.caller) (Some caller) = sym has.sits ∙ sits in
     let same : has.caller ≡ caller = cc in
     subst (λ (c : Caller). ServesOver hash seat c call s new) same
-    (serves_begun begins few hash seat call s old new whole rests is call_fits has
-    (subst HasFittingCaller (sym same) caller_fits))
+    (serves_begun begins few hash seat call s old new whole rests is has)
 
 -- ---- it is refused
 

@@ -1,34 +1,42 @@
 -- What a step of a lone call leaves of a kernel.
-use Rattle.std.proofs.Common.{ℕ, ◌≡◌, ◌≢◌, ◌≤◌, refl, sym, ap, ◌∙◌, subst, Bool, true, false, ◌||◌, IsSome, inl, inr, List, Option, Some, None, length, arith}
+use Rattle.std.proofs.Common.{ℕ, ◌≡◌, ◌≢◌, ◌≤◌, refl, sym, ap, ◌∙◌, subst, Bool, true, false, true≢false, IsSome, inl, inr, List, ◌++◌, Option, Some, None, append-nil, length, arith}
 use Rattle.std.proofs.lemmas.Bool.{cases_eq}
 use Rattle.lone_calls.proofs.GoLemmas.{goes_on_alone, nears_its_end}
 use Rattle.lone_calls.proofs.RestLemmas.{ends_at_rest}
 use Rattle.lone_calls.specs.Laws.{BeginsAtRest, LeavesAtRest}
 use Rattle.step_rules.specs.declared.progress.Progress.TheVariants as progress
-use Rattle.interleaving_core.specs.Active.{BeginsAgain, decided_by}
-use Rattle.interleaving_core.specs.Words.{Entry}
+use Rattle.std.proofs.Math.Seq.{drop-length}
+use Rattle.std.specs.List.{list_any}
+use Rattle.interleaving_core.specs.Active.{BeginsAgain, decided_by, entries_by}
+use Rattle.interleaving_core.specs.Waiting.{queue_on, wakes}
+use Rattle.interleaving_core.specs.Words.{Answer, Entry, answer_of_call}
+use Rattle.interleaving_core.specs.declared.step.Step.TheVariants as steps
+use Rattle.interleaving_core.specs.xsi_calls.CallSteps.{KeepsCall}
 use Rattle.interleaving_core.specs.xsi_calls.Machine.{answer_by}
 use Rattle.interleaving_core.specs.xsi_calls.declared.conclusion.Conclusion.TheVariants as conclusions
-use Rattle.interleaving_core.proofs.PlaceLemmas.{Seats, at_other}
+use Rattle.interleaving_core.proofs.AnewLemmas.{waits_from, woken_from}
+use Rattle.interleaving_core.proofs.BetweenLemmas.{Goes, between, first_goes, goes_by, last_goes}
+use Rattle.interleaving_core.proofs.PlaceLemmas.{Seats, at_other, at_same, seat_of_call}
 use Rattle.interleaving_core.proofs.RunLemmas.{seat_stays}
-use Rattle.lone_kernel.specs.Words.{ActiveView, Call, Caller, Conclusion, FileFault, HaveFewSteps, IsFileAtRest, IsLeft, IsLeftWhenOver, IsMarked, IsOver, IsSeat, IsServed, IsTurn, KernelState, MOST_CALL_STEPS, MakesCall, Progress, RecordKey, State, StaysWaiting, Step, TakesTurn, call_at, call_left, conclusion_of, is_failure, is_waiting, outcome, stays_waiting, store_of, told_of, told_when_over}
+use Rattle.interleaving_core.proofs.TurnLemmas.{waits_unanswered}
+use Rattle.lone_kernel.specs.Words.{ActiveView, Call, Caller, Conclusion, FileFault, HaveFewSteps, IsFileAtRest, IsLeft, IsLeftWhenOver, IsMarked, IsOver, IsSeat, IsServed, KernelState, MOST_CALL_STEPS, MakesCall, MakesTurn, PoolState, Progress, RecordKey, State, StaysWaiting, Step, Table, TakesTurn, TurnsAnew, call_at, call_left, conclusion_of, is_failure, is_waiting, is_woken, outcome, stays_waiting, store_of, told_of, told_when_over}
 use Rattle.lone_kernel.specs.Lone.{IsAsleep, RestsOver, ServesOver, WaitsOver}
 use Rattle.lone_kernel.specs.Laws.{AnswersByTheRules, StandsBehind}
 use Rattle.lone_kernel.proofs.RestingLemmas.{at_rest_too}
-use Rattle.lone_kernel.proofs.WaitLemmas.{awake_apart, awake_goes, none_apart, still_within}
+use Rattle.lone_kernel.proofs.WaitLemmas.{awake_apart, awake_goes, none_apart, still_within, undecided_no_wait}
 
 module _ (begins : BeginsAtRest) (few_steps : HaveFewSteps) {K : Type 0} (hash : RecordKey → ℕ) (seat : ℕ)
     (caller : Caller) (call : Call) (s : State) (did : Step) (old new : KernelState K) (is : IsSeat new.locks seat)
-    (serves : ServesOver hash seat caller call s old) (turn : IsTurn seat did old new) where
+    (serves : ServesOver hash seat caller call s old) (goes : Goes seat did old new) where
   mark : s.stopped ≡ new.stopped
-  mark = serves.mark ∙ sym turn.run.rest.stopped
+  mark = serves.mark ∙ sym goes.stopped
 
   others : (other : ℕ) → other ≢ seat → call_at new.seats other ≡ None
-  others other apart = ap (λ (x : Seats). call_at x other) turn.run.seats
+  others other apart = ap (λ (x : Seats). call_at x other) goes.seats
       ∙ at_other old.seats seat other (call_at new.seats seat) apart ∙ serves.others other apart
 
   failed : new.failed ≡ is_failure did
-  failed = turn.failed ∙ ap (λ (b : Bool). b || is_failure did) serves.sound
+  failed = goes.failed
 
   abbrev left : Option ActiveView
   left = call_at new.seats seat
@@ -37,8 +45,8 @@ module _ (begins : BeginsAtRest) (few_steps : HaveFewSteps) {K : Type 0} (hash :
 
   still : (n : ℕ) → n ≤ length old.journal → n ≤ length new.journal
   still n few =
-      subst (λ (es : List Entry). n ≤ length es) (sym turn.run.journal)
-      (still_within n old.journal turn.run.added few)
+      subst (λ (es : List Entry). n ≤ length es) (sym goes.journal)
+      (still_within n old.journal goes.added few)
 
   -- when its call decided, or before this step
   still_decided : (come : ActiveView) → IsMarked (length old.journal) serves.active come →
@@ -52,19 +60,51 @@ module _ (begins : BeginsAtRest) (few_steps : HaveFewSteps) {K : Type 0} (hash :
       by None is_c = omega arith
       by (Some c) is_c = serves.decided (subst (λ (x : Option Conclusion). IsSome x) (sym is_c) refl)
 
+  -- where it has come to waiting nothing has woken it since its Decide
+  still_quiet : (did : Progress FileFault) (come : ActiveView) → KeepsCall did serves.active.machine come.machine →
+      IsMarked (length old.journal) serves.active come →
+      new.journal ≡ old.journal ++ entries_by seat (answer_of_call come.machine) serves.active.draft →
+      is_waiting (conclusion_of come.machine) ≡ true → is_woken come.machine.call come.decided new.journal ≡ false
+  still_quiet did come keeps marked grows waits = by (conclusion_of serves.active.machine) refl
+    where
+      same : new.journal ≡ old.journal
+      same = grows
+          ∙ ap (λ (x : Option Answer). old.journal ++ entries_by seat x serves.active.draft)
+          (waits_unanswered (conclusion_of come.machine) come.machine.undecided.questions.room.bytes waits)
+          ∙ append-nil old.journal
+
+      at_decided : (n : ℕ) → come.decided ≡ n → is_woken come.machine.call n old.journal ≡ false →
+          is_woken come.machine.call come.decided new.journal ≡ false
+      at_decided n is quiet = ap (is_woken come.machine.call come.decided) same
+          ∙ ap (λ (m : ℕ). is_woken come.machine.call m old.journal) is ∙ quiet
+
+      by : (c : Option Conclusion) → conclusion_of serves.active.machine ≡ c →
+          is_woken come.machine.call come.decided new.journal ≡ false
+      by None is_c = at_decided (length old.journal)
+          (marked.decided
+          ∙ ap (λ (c : Option Conclusion). decided_by c (length old.journal) serves.active.decided) is_c)
+          (ap (list_any (wakes (queue_on come.machine.call))) (drop-length old.journal))
+      by (Some c) is_c = at_decided serves.active.decided
+          (marked.decided
+          ∙ ap (λ (c : Option Conclusion). decided_by c (length old.journal) serves.active.decided) is_c)
+          (ap (λ (x : Call). is_woken x serves.active.decided old.journal) keeps.call
+          ∙ serves.quiet (ap is_waiting (is_c ∙ sym (keeps.stays c is_c)) ∙ waits))
+
   -- ---- it goes on
 
   serves_on : (a : ActiveView) → left ≡ Some a → a.wait ≡ None →
       IsServed hash seat caller call s a.machine new.pool new.locks →
-      call_left a.machine (store_of new.pool.images) ≤ MOST_CALL_STEPS → a.decided ≤ length new.journal →
-      is_failure did ≡ false → ServesOver hash seat caller call s new
-  serves_on a there awake served few decided fine = record {
+      call_left a.machine (store_of new.pool.images) ≤ MOST_CALL_STEPS →
+      (is_waiting (conclusion_of a.machine) ≡ true → is_woken a.machine.call a.decided new.journal ≡ false) →
+      a.decided ≤ length new.journal → is_failure did ≡ false → ServesOver hash seat caller call s new
+  serves_on a there awake served few quiet decided fine = record {
     active = a;
     there = there;
     served = served;
     few = few;
     waits = λ stays. absurd (awake_goes a.wait a.machine.call new.journal awake stays);
     asleep = λ since some. absurd (awake_apart a.wait since awake some);
+    quiet = quiet;
     decided = λ some. decided;
     others = others;
     sound = failed ∙ fine;
@@ -92,6 +132,7 @@ module _ (begins : BeginsAtRest) (few_steps : HaveFewSteps) {K : Type 0} (hash :
       few = few_steps a.machine (store_of new.pool.images) asleep.begins.new;
       waits = λ stays. none;
       asleep = λ n some. asleep_since a since n told some asleep;
+      quiet = λ waits. absurd (undecided_no_wait a.machine asleep.begins.new waits);
       decided = decided;
       others = others;
       sound = failed ∙ fine;
@@ -182,37 +223,109 @@ module _ (begins : BeginsAtRest) (few_steps : HaveFewSteps) {K : Type 0} (hash :
 
   stands : (p : Progress FileFault) (come : ActiveView) →
       MakesCall hash seat old.stopped p serves.active.machine come.machine old.pool new.pool old.locks new.locks →
-      IsMarked (length old.journal) serves.active come → IsLeft p come left → did ≡ told_of p come.machine →
+      IsMarked (length old.journal) serves.active come →
+      new.journal ≡ old.journal ++ entries_by seat (answer_of_call come.machine) serves.active.draft →
+      IsLeft p come left → did ≡ told_of p come.machine →
       StandsBehind hash seat caller call s (told_of p come.machine) new
-  stands (progress.Moved kind) come makes marked there told =
+  stands (progress.Moved kind) come makes marked grows there told =
       let fewer = (nears_its_end hash seat caller call s old.stopped (progress.Moved kind) serves.active.machine
       come.machine old.pool new.pool old.locks new.locks serves.served serves.mark makes).nears in
       let few = serves.few in
       serves_on come there marked.awake (goes_on_alone hash seat caller call s old.stopped (progress.Moved kind)
       serves.active.machine come.machine old.pool new.pool old.locks new.locks serves.served serves.mark makes refl)
-      (omega (arith, fewer, few)) (still_decided come marked) (ap is_failure told)
-  stands (progress.Blocked other) come makes marked there told =
+      (omega (arith, fewer, few)) (still_quiet (progress.Moved kind) come makes.aim marked grows)
+      (still_decided come marked) (ap is_failure told)
+  stands (progress.Blocked other) come makes marked grows there told =
       (nears_its_end hash seat caller call s old.stopped (progress.Blocked other) serves.active.machine come.machine
       old.pool new.pool old.locks new.locks serves.served serves.mark makes).free other refl
-  stands (progress.Fault fault) come makes marked there told = failed ∙ ap is_failure told
-  stands progress.Ended come makes marked there told =
+  stands (progress.Fault fault) come makes marked grows there told = failed ∙ ap is_failure told
+  stands progress.Ended come makes marked grows there told =
       ends come (goes_on_alone hash seat caller call s old.stopped progress.Ended serves.active.machine come.machine
       old.pool new.pool old.locks new.locks serves.served serves.mark makes refl) (makes.aim.over refl)
       (still_decided come marked) (conclusion_of come.machine) refl there told
 
-  turns : (waits : Bool) → stays_waiting serves.active.wait serves.active.machine.call old.journal ≡ waits →
-      TakesTurn hash seat old.stopped did serves.active left old.pool new.pool old.locks new.locks old.journal
-      new.journal → StandsBehind hash seat caller call s did new
-  turns true is t =
-      subst (λ (d : Step). StandsBehind hash seat caller call s d new) (sym (t.waits is).told_is)
-      (waits_on is (t.waits is))
-  turns false is t =
-      let m = t.goes is in
+  made_stands : MakesTurn hash seat old.stopped did serves.active left old.pool new.pool old.locks new.locks
+      old.journal new.journal → StandsBehind hash seat caller call s did new
+  made_stands m =
       subst (λ (d : Step). StandsBehind hash seat caller call s d new) (sym m.told_is)
-      (stands m.did m.come m.makes m.marked m.left_is m.told_is)
+      (stands m.did m.come m.makes m.marked m.journal m.left_is m.told_is)
+
+  waits_stands : stays_waiting serves.active.wait serves.active.machine.call old.journal ≡ true →
+      StaysWaiting did serves.active left old.pool new.pool old.locks new.locks old.journal new.journal →
+      StandsBehind hash seat caller call s did new
+  waits_stands is t =
+      subst (λ (d : Step). StandsBehind hash seat caller call s d new) (sym t.told_is) (waits_on is t)
+
+-- ---- it begins anew within a step
+
+-- nothing has woken it
+module _ {K : Type 0} (hash : RecordKey → ℕ) (seat : ℕ) (caller : Caller) (call : Call) (s : State) (did : Step)
+    (old : KernelState K) (left : Option ActiveView) (pool : PoolState) (locks : Table) (journal : List Entry)
+    (serves : ServesOver hash seat caller call s old)
+    (anew : TurnsAnew hash seat old.stopped did serves.active left old.pool pool old.locks locks old.journal journal)
+  where
+    pub never_woken : stays_waiting anew.again.wait anew.again.machine.call old.journal ≡ true
+    never_woken = by (stays_waiting anew.again.wait anew.again.machine.call old.journal) refl
+      where
+        by : (b : Bool) → stays_waiting anew.again.wait anew.again.machine.call old.journal ≡ b →
+            stays_waiting anew.again.wait anew.again.machine.call old.journal ≡ true
+        by true is = is
+        by false is = absurd (true≢false
+            (sym (woken_from hash seat old.stopped serves.active anew.again old.pool anew.between old.locks old.locks
+            old.journal old.journal anew.ends old.journal is)
+            ∙ serves.quiet (waits_from hash seat old.stopped serves.active anew.again old.pool anew.between old.locks
+            old.locks old.journal old.journal anew.ends)))
+
+module _ (begins : BeginsAtRest) (few_steps : HaveFewSteps) {K : Type 0} (hash : RecordKey → ℕ) (seat : ℕ)
+    (caller : Caller) (call : Call) (s : State) (did : Step) (old new : KernelState K) (is : IsSeat old.locks seat)
+    (is_new : IsSeat new.locks seat) (serves : ServesOver hash seat caller call s old) (goes : Goes seat did old new)
+  where
+    module _ (anew : TurnsAnew hash seat old.stopped did serves.active (call_at new.seats seat) old.pool new.pool
+        old.locks new.locks old.journal new.journal) where
+      abbrev mid : KernelState K
+      mid = between seat anew.again anew.between old
+
+      seated : (1 ≤ seat) × (seat ≤ length old.seats)
+      seated = seat_of_call old.seats seat serves.active serves.there
+
+      at_mid : call_at mid.seats seat ≡ Some anew.again
+      at_mid = at_same old.seats seat (Some anew.again) seated.0 seated.1
+
+      waits_mid : WaitsOver hash seat caller call s mid
+      waits_mid = made_stands begins few_steps hash seat caller call s steps.Waiting old mid is serves
+          (first_goes seat anew.again anew.between old seated.0 seated.1 serves.sound)
+          (subst (λ (o : Option ActiveView). MakesTurn hash seat old.stopped steps.Waiting serves.active o old.pool
+          anew.between old.locks old.locks old.journal old.journal) (sym at_mid) anew.ends)
+
+      same : anew.again ≡ waits_mid.serves.active
+      same =
+          let both : ◌≡◌ {A = Option ActiveView} (Some anew.again) (Some waits_mid.serves.active) =
+          sym at_mid ∙ waits_mid.serves.there in cc
+
+      stays : stays_waiting anew.again.wait anew.again.machine.call old.journal ≡ true
+      stays = never_woken hash seat caller call s did old (call_at new.seats seat) new.pool new.locks new.journal serves
+          anew
+
+      stands_anew : StandsBehind hash seat caller call s did new
+      stands_anew = waits_stands begins few_steps hash seat caller call s did mid new is_new waits_mid.serves
+          (last_goes seat anew.again anew.between old did new goes)
+          (subst (λ (a : ActiveView). stays_waiting a.wait a.machine.call old.journal ≡ true) same stays)
+          (subst (λ (a : ActiveView). StaysWaiting did a (call_at new.seats seat) anew.between new.pool old.locks
+          new.locks old.journal new.journal) same (anew.waits stays))
+
+    turns : (waits : Bool) → stays_waiting serves.active.wait serves.active.machine.call old.journal ≡ waits →
+        TakesTurn hash seat old.stopped did serves.active (call_at new.seats seat) old.pool new.pool old.locks new.locks
+        old.journal new.journal → StandsBehind hash seat caller call s did new
+    turns true stays t =
+        waits_stands begins few_steps hash seat caller call s did old new is_new serves goes stays (t.waits stays)
+    turns false woken t = elim (t.goes woken) [
+      | inl made ↦ made_stands begins few_steps hash seat caller call s did old new is_new serves goes made.0
+      | inr anew ↦ stands_anew anew
+    ]
 
 pub answers_by_the_rules : BeginsAtRest → HaveFewSteps → (K : Type 0) → AnswersByTheRules K
 answers_by_the_rules begins few_steps K hash seat caller call s did old new is serves turn makes =
-    turns begins few_steps hash seat caller call s did old new (seat_stays seat _ old new turn.run is) serves turn
+    turns begins few_steps hash seat caller call s did old new is (seat_stays seat _ old new turn.run is) serves
+    (goes_by seat did old new turn serves.sound)
     (stays_waiting serves.active.wait serves.active.machine.call old.journal) refl
     (makes serves.active serves.there serves.sound)

@@ -9,7 +9,7 @@ use Rattle.lone_calls.specs.Laws.{BeginsAtRest, StopsAtRest}
 use Rattle.interleaving_core.specs.Waiting.{is_woken, queue_on, wakes}
 use Rattle.interleaving_core.specs.Words.{Entry}
 use Rattle.interleaving_core.specs.xsi_calls.Machine.{IsNew, conclusion_at}
-use Rattle.lone_kernel.specs.Words.{ActiveView, Call, CallView, Caller, IsFileAtRest, IsStopped, KernelState, RecordKey, State, conclusion_of, stays_waiting}
+use Rattle.lone_kernel.specs.Words.{ActiveView, Call, CallView, Caller, IsFileAtRest, IsStopped, KernelState, RecordKey, State, conclusion_of, is_waiting, stays_waiting}
 use Rattle.lone_kernel.specs.Lone.{IsAsleep, ServesOver}
 use Rattle.lone_kernel.specs.Laws.{StopsAWaitingCall}
 
@@ -31,6 +31,9 @@ awake_goes (Some since) call journal none stays = cc
 -- a new one has decided nothing
 pub undecided_yet : (m : CallView) → IsNew m → IsSome (conclusion_of m) → ⊥
 undecided_yet m new some = none_apart (conclusion_of m) (ap conclusion_at new.stage) some
+
+pub undecided_no_wait : (m : CallView) → IsNew m → is_waiting (conclusion_of m) ≡ true → ⊥
+undecided_no_wait m new waits = true≢false (sym waits ∙ ap is_waiting (ap conclusion_at new.stage))
 
 -- ---- what a longer journal leaves
 
@@ -88,6 +91,7 @@ module _ (begins : BeginsAtRest) (stops : StopsAtRest) {K : Type 0} (hash : Reco
         file = file;
         within = still_within n old.journal (Stopped ∷ []) (serves.asleep n some).within;
       };
+      quiet = λ waits. absurd (undecided_no_wait a.machine asleep.begins.new waits);
       decided = λ some. still_within a.decided old.journal (Stopped ∷ []) (serves.decided some);
       others = serves.others;
       sound = serves.sound;

@@ -3,7 +3,7 @@ use Rattle.std.specs.Prelude.{ℕ, ◌≡◌, ◌≤◌, Bool, true, false, IsTr
 use Rattle.page_locks.specs.declared.lock_table.TheConstants.{MAX_SEATS}
 use Rattle.interleaving_core.specs.declared.fault.StepFault.TheVariants as faults
 use Rattle.interleaving_core.specs.declared.step.Step.TheVariants as steps
-use Rattle.lone_kernel.specs.Words.{ActiveView, Answer, BeginFault, Call, Caller, FoundNoRoom, HasCall, HasFittingCall, HasFittingCaller, HasRisen, IsDriven, IsFileOf, IsFlushedTo, IsMove, IsOpened, IsRefused, IsSeat, IsSpent, IsStopped, IsTurn, IsWhole, KernelState, MOST_CALL_STEPS, RecordKey, State, Step, TakesTurn, call_at, caller_at, is_failure, outcome, restarted}
+use Rattle.lone_kernel.specs.Words.{ActiveView, Answer, BeginFault, Call, Caller, FoundNoRoom, HasCall, HasRisen, IsDriven, IsFileOf, IsFlushedTo, IsMove, IsOpened, IsRefused, IsSeat, IsSpent, IsStopped, IsTurn, IsWhole, KernelState, MOST_CALL_STEPS, RecordKey, State, Step, TakesTurn, call_at, caller_at, is_failure, outcome, restarted}
 use Rattle.lone_kernel.specs.Lone.{RestsOver, ServesOver, WaitsOver}
 
 -- ---- it is opened
@@ -20,8 +20,7 @@ OpensAKernel K = (hash : RecordKey → ℕ) (keys : K) (content : List (List ℕ
 abbrev pub BeginsOnAKernel : Type 0 → Type 0
 BeginsOnAKernel K = (hash : RecordKey → ℕ) (seat : ℕ) (caller : Caller) (call : Call) (s : State)
     (old new : KernelState K) → IsWhole old → RestsOver hash s old → IsSeat old.locks seat →
-    caller_at old.callers seat ≡ Some caller → HasFittingCaller caller → HasFittingCall call →
-    HasCall seat call old new → ServesOver hash seat caller call s new
+    caller_at old.callers seat ≡ Some caller → HasCall seat call old new → ServesOver hash seat caller call s new
 
 -- it is refused
 abbrev pub RefusesAtRest : Type 0 → Type 0
@@ -37,7 +36,7 @@ pub record IsAnswered {K : Type 0} (hash : RecordKey → ℕ) (caller : Caller) 
   pub by_rules : outcome caller call s ≡ Some (answer, after)
   pub rests : RestsOver hash after k
 
--- what is so behind a step of which its seat is told this
+-- what is so after a step of which its seat is told this
 abbrev pub StandsBehind : {K : Type 0} → (RecordKey → ℕ) → ℕ → Caller → Call → State → Step → KernelState K → Type 0
 StandsBehind hash seat caller call s (steps.Moved kind) k = ServesOver hash seat caller call s k
 -- nobody stands in its way
@@ -63,14 +62,14 @@ AnswersByTheRules K = (hash : RecordKey → ℕ) (seat : ℕ) (caller : Caller) 
 
 -- ---- it is driven
 
--- what is so behind a drive of which its seat is told this
+-- what is so after a drive of which its seat is told this
 pub record StandsDriven {K : Type 0} (hash : RecordKey → ℕ) (seat : ℕ) (caller : Caller) (call : Call) (s : State)
     (did : Step) (old new : KernelState K) (driven : IsDriven hash seat did old new) : Type 0 where
   pub stands : StandsBehind hash seat caller call s did new
   pub rests : IsMove did → ⊥
   -- it moves no more often than a call has steps, and so is never given up
   pub few : driven.moves ≤ MOST_CALL_STEPS
-  pub unspent : IsSpent driven.moves did driven.before new → ⊥
+  pub unspent : IsSpent seat driven.moves did driven.before new → ⊥
   -- the file fails it only where a transfer of the device failed
   pub cause : is_failure did ≡ true → HasRisen old.pool.faults new.pool.faults
 
@@ -84,8 +83,8 @@ DrivesByTheRules K = (hash : RecordKey → ℕ) (seat : ℕ) (caller : Caller) (
 abbrev pub AnswersLoneCalls : Type 0 → Type 0
 AnswersLoneCalls K = (hash : RecordKey → ℕ) (seat : ℕ) (caller : Caller) (call : Call) (s : State) (did : Step)
     (old begun new : KernelState K) → IsWhole old → RestsOver hash s old → IsSeat old.locks seat →
-    caller_at old.callers seat ≡ Some caller → HasFittingCaller caller → HasFittingCall call →
-    HasCall seat call old begun → (driven : IsDriven hash seat did begun new) →
+    caller_at old.callers seat ≡ Some caller → HasCall seat call old begun →
+    (driven : IsDriven hash seat did begun new) →
     StandsDriven hash seat caller call s did begun new driven
 
 -- ---- the stop mark

@@ -1,6 +1,6 @@
 -- A kernel over a system, with no call under way or with one. docs/STEPS.md, "Calls".
 use Rattle.std.specs.Prelude.{ℕ, ◌≡◌, ◌≢◌, ◌≤◌, true, false, IsSome, Some, None, length}
-use Rattle.lone_kernel.specs.Words.{ActiveView, Begins, Call, CallView, Caller, IsFileAtRest, IsServed, KernelState, MOST_CALL_STEPS, RecordKey, State, call_at, call_left, conclusion_of, outcome, stays_waiting, store_of}
+use Rattle.lone_kernel.specs.Words.{ActiveView, Begins, Call, CallView, Caller, IsFileAtRest, IsServed, KernelState, MOST_CALL_STEPS, RecordKey, State, call_at, call_left, conclusion_of, is_waiting, is_woken, outcome, stays_waiting, store_of}
 
 -- no call is under way, and the file is at rest with this system
 pub record RestsOver {K : Type 0} (hash : RecordKey → ℕ) (s : State) (k : KernelState K) : Type 0 where
@@ -8,7 +8,7 @@ pub record RestsOver {K : Type 0} (hash : RecordKey → ℕ) (s : State) (k : Ke
   pub idle : (seat : ℕ) → call_at k.seats seat ≡ None
   -- no step has failed
   pub sound : k.failed ≡ false
-  -- it is stopped just where the kernel is
+  -- it is stopped exactly where the kernel is
   pub mark : s.stopped ≡ k.stopped
 
 -- a call that is to begin anew over a system, once something wakes it that is behind so many entries of the journal
@@ -32,6 +32,9 @@ pub record ServesOver {K : Type 0} (hash : RecordKey → ℕ) (seat : ℕ) (call
   pub waits : stays_waiting active.wait active.machine.call k.journal ≡ true → outcome caller call s ≡ None
   -- woken or not, where its seat was told so it has not begun anew yet
   pub asleep : (since : ℕ) → active.wait ≡ Some since → IsAsleep hash caller call s active.machine since k
+  -- where it was decided to wait nothing has woken it since
+  pub quiet : is_waiting (conclusion_of active.machine) ≡ true →
+      is_woken active.machine.call active.decided k.journal ≡ false
   -- once it has decided, the journal is no shorter than at its Decide
   pub decided : IsSome (conclusion_of active.machine) → active.decided ≤ length k.journal
   pub others : (other : ℕ) → other ≢ seat → call_at k.seats other ≡ None

@@ -12,8 +12,8 @@ pub use Rattle.interleaving_core.specs.Closing.{IsFlushedTo}
 pub use Rattle.interleaving_core.specs.Driving.{IsDriven, IsSpent}
 pub use Rattle.interleaving_core.specs.Kernel.{IsWhole, KernelState, call_at, with_call}
 pub use Rattle.interleaving_core.specs.Owing.{IsMove, IsTurn, is_failure}
-pub use Rattle.interleaving_core.specs.Turn.{IsLeft, IsLeftWhenOver, MakesTurn, StaysWaiting, TakesTurn, told_of, told_when_over}
-pub use Rattle.interleaving_core.specs.Waiting.{stays_waiting}
+pub use Rattle.interleaving_core.specs.Turn.{IsLeft, IsLeftWhenOver, MakesTurn, StaysWaiting, TakesTurn, TurnsAnew, told_of, told_when_over}
+pub use Rattle.interleaving_core.specs.Waiting.{is_woken, stays_waiting}
 pub use Rattle.interleaving_core.specs.declared.fault.BeginFault.{BeginFault}
 pub use Rattle.interleaving_core.specs.declared.step.Step.{Step}
 pub use Rattle.interleaving_core.specs.xsi_calls.Laws.{HaveFewSteps, MOST_CALL_STEPS}

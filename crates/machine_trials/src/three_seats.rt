@@ -76,7 +76,7 @@ fn draw(draws: &mut Draws, ended: u32) -> Operation {
     }
 }
 
-/// What the list has behind a task.
+/// What the list has after a task.
 fn mark_after(task: &Task, old: Option<u8>) -> Option<u8> {
     match task.operation {
         Insert => old.or(Some(task.mark)),

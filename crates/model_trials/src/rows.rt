@@ -1,8 +1,7 @@
-//! Rows worked by hand that no script shows: limits that a file reaches late,
-//! copies, and what waits.
+//! Rows worked by hand that no script shows: copies, and what waits.
 
 use crate::trial::{ROOT, became, get, gives, receive, send};
-use queue_model::{Answer, Applied, Body, Call, Entry, Errno, Message, NoMemory, System};
+use queue_model::{Answer, Applied, Body, Entry, Errno, Message, NoMemory, System};
 use std::alloc::{AllocError, Global};
 use std::test::Fail;
 
@@ -17,43 +16,11 @@ fn first(alloc: Global, text: &[u8]) -> Result<Answer, AllocError> {
 }
 
 #[test]
-fn empty_bodies_fill_a_queue_at_1024(rt: HostRuntime) -> Result<(), Fail> {
-    let mut system = System::empty(rt.alloc());
-    gives(&rt, &mut system, &get(Some(7)), Answer::Id(1));
-    let empty = send(rt.alloc(), b"")?;
-    gives(&rt, &mut system, &empty, Answer::Sent(1));
-    gives(&rt, &mut system, &receive(false), first(rt.alloc(), b"")?);
-    for serial in 2..1026u64 {
-        gives(&rt, &mut system, &empty, Answer::Sent(serial));
-    }
-    gives(&rt, &mut system, &empty, Answer::Refused(Errno::EAGAIN));
-    Ok(())
-}
-
-#[test]
-fn at_most_256_queues_are_alive(rt: HostRuntime) {
-    let mut system = System::empty(rt.alloc());
-    let private = get(None);
-    for id in 1..257u32 {
-        gives(&rt, &mut system, &private, Answer::Id(id));
-    }
-    for (call, want) in [
-        (get(None), Answer::Refused(Errno::ENOSPC)),
-        (Call::Remove { id: 300 }, Answer::Refused(Errno::EINVAL)),
-        (Call::Remove { id: 1 }, Answer::Done),
-        (get(None), Answer::Id(257)),
-    ] {
-        gives(&rt, &mut system, &call, want);
-    }
-    assert_eq!(rt; system.queues(), 256);
-}
-
-#[test]
 fn a_call_that_waits_changes_nothing_and_is_interrupted_once_stopped(
     rt: HostRuntime,
 ) -> Result<(), Fail> {
     let mut system = System::empty(rt.alloc());
-    gives(&rt, &mut system, &get(Some(7)), Answer::Id(1));
+    gives(&rt, &mut system, &get(7), Answer::Id(1));
     let waits = receive(false);
     assert!(rt; became(&rt, &mut system, &waits) == Applied::Waits);
     gives(&rt, &mut system, &send(rt.alloc(), b"a")?, Answer::Sent(1));
@@ -73,7 +40,7 @@ fn a_call_that_waits_changes_nothing_and_is_interrupted_once_stopped(
 #[test]
 fn copies_are_equal_and_change_apart(rt: HostRuntime) -> Result<(), Fail> {
     let mut system = System::empty(rt.alloc());
-    gives(&rt, &mut system, &get(Some(7)), Answer::Id(1));
+    gives(&rt, &mut system, &get(7), Answer::Id(1));
     gives(&rt, &mut system, &send(rt.alloc(), b"a")?, Answer::Sent(1));
     let mut copy = system.try_copy()?;
     assert!(rt; copy.info(0) == system.info(0));

@@ -15,9 +15,9 @@ pub const ROOT: Caller = Caller {
 };
 
 /// Makes a queue of this key, or gives that of the key.
-pub fn get(key: Option<u32>) -> Call {
+pub fn get(key: u32) -> Call {
     Call::Get(GetArguments {
-        key,
+        key: Some(key),
         create: true,
         excl: false,
         mode: 0o666,

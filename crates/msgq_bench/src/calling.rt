@@ -108,6 +108,17 @@ impl Called {
         Ok((spent, received))
     }
 
+    /// Asks for the state of the queue so many times; tells how often it was answered.
+    pub fn finds(&mut self, rounds: u32) -> u32 {
+        let mut found = 0u32;
+        for _ in 0..rounds {
+            if self.is_answered(Call::Stat { id: 1 }) {
+                found = found.wrapping_add(1);
+            }
+        }
+        found
+    }
+
     /// How many steps of each kind a Send of type 1 makes, and then a Receive of a type.
     pub fn steps(&mut self, mtype: i64) -> anyhow::Result<[Vec<(Kind, u32)>; 2]> {
         let send = self.send(1)?;

@@ -1,4 +1,3 @@
-pub mod CommandLemmas
 pub mod OutputLemmas
 pub mod ReportLemmas
 pub mod ScriptLemmas

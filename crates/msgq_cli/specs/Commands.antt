@@ -5,7 +5,9 @@ use Rattle.std.specs.Str.{bytes_eq}
 use Rattle.queue_model.specs.declared.call.Call.TheVariants as call
 use Rattle.queue_model.specs.declared.call.Call.{Call}
 use Rattle.script_words.specs.Numbers.{number_of, signed_of, key_of, body_of}
-use Rattle.msgq_cli.specs.Options.{options_of, fits_get, fits_send, fits_receive, fits_set}
+use Rattle.msgq_cli.specs.Options.{options_of}
+use Rattle.msgq_cli.specs.Unread.{next, alone}
+use Rattle.msgq_cli.specs.declared.mistake.Optional.TheVariants as optional
 use Rattle.script_words.specs.Reading.{◌>>=◌}
 use Rattle.msgq_cli.specs.declared.command.Command.{Command}
 use Rattle.msgq_cli.specs.declared.command.Command.TheVariants as command
@@ -13,81 +15,74 @@ use Rattle.msgq_cli.specs.declared.command.TheConstants.{DEFAULT_MODE}
 
 -- `get KEY`, then any of `create`, `excl`, `mode=OOO`
 abbrev pub get_of : ℕ → List (List ℕ) → Option Call
-get_of moment (key ∷ options) = do
-  k ← key_of key
-  o ← options_of options
-  if fits_get o then Some (call.Get (record {
-    key = k;
+get_of moment words = do
+  key ← next key_of words
+  o ← options_of optional.Get key.1
+  Some (call.Get (record {
+    key = key.0;
     create = o.create;
     excl = o.excl;
     mode = unwrap_or o.mode DEFAULT_MODE;
     moment = moment;
-  })) else None
-get_of moment words = None
+  }))
 
 -- `snd ID TYPE HEX`, then optionally `nowait`
 abbrev pub send_of : ℕ → List (List ℕ) → Option Call
-send_of moment (id ∷ mtype ∷ hex ∷ options) = do
-  i ← number_of id
-  t ← signed_of mtype
-  o ← options_of options
-  b ← body_of hex
-  if fits_send o then Some (call.Send (record {
-    id = i;
-    mtype = t;
-    body = b;
+send_of moment words = do
+  id ← next number_of words
+  mtype ← next signed_of id.1
+  body ← next body_of mtype.1
+  o ← options_of optional.Send body.1
+  Some (call.Send (record {
+    id = id.0;
+    mtype = mtype.0;
+    body = body.0;
     nowait = o.nowait;
     moment = moment;
-  })) else None
-send_of moment words = None
+  }))
 
 -- `rcv ID SIZE TYPE`, then any of `nowait`, `noerror`
 abbrev pub receive_of : ℕ → List (List ℕ) → Option Call
-receive_of moment (id ∷ size ∷ mtype ∷ options) = do
-  i ← number_of id
-  s ← number_of size
-  t ← signed_of mtype
-  o ← options_of options
-  if fits_receive o then Some (call.Receive (record {
-    id = i;
-    size = s;
-    mtype = t;
+receive_of moment words = do
+  id ← next number_of words
+  size ← next number_of id.1
+  mtype ← next signed_of size.1
+  o ← options_of optional.Receive mtype.1
+  Some (call.Receive (record {
+    id = id.0;
+    size = size.0;
+    mtype = mtype.0;
     nowait = o.nowait;
     noerror = o.noerror;
     moment = moment;
-  })) else None
-receive_of moment words = None
+  }))
 
 -- `stat ID`
 abbrev pub stat_of : List (List ℕ) → Option Call
-stat_of (id ∷ []) = option_map call.Stat (number_of id)
-stat_of words = None
+stat_of words = do
+  id ← next number_of words
+  alone (call.Stat id.0) id.1
 
 -- `set ID QBYTES`, then any of `uid=N`, `gid=N`, `mode=OOO`
 abbrev pub set_of : ℕ → List (List ℕ) → Option Call
-set_of moment (id ∷ qbytes ∷ options) = do
-  i ← number_of id
-  q ← number_of qbytes
-  o ← options_of options
-  if fits_set o then Some (call.Set (record {
-    id = i;
-    qbytes = q;
+set_of moment words = do
+  id ← next number_of words
+  qbytes ← next number_of id.1
+  o ← options_of optional.Set qbytes.1
+  Some (call.Set (record {
+    id = id.0;
+    qbytes = qbytes.0;
     uid = o.uid;
     gid = o.gid;
     mode = o.mode;
     moment = moment;
-  })) else None
-set_of moment words = None
+  }))
 
 -- `rm ID`
 abbrev pub remove_of : List (List ℕ) → Option Call
-remove_of (id ∷ []) = option_map call.Remove (number_of id)
-remove_of words = None
-
--- `stop`
-abbrev pub stop_of : List (List ℕ) → Option Command
-stop_of [] = Some command.Stop
-stop_of words = None
+remove_of words = do
+  id ← next number_of words
+  alone (call.Remove id.0) id.1
 
 -- the command of a verb and the words behind it
 abbrev pub command_of : ℕ → List (List ℕ) → Option Command
@@ -99,5 +94,5 @@ command_of moment (verb ∷ words) =
     else if bytes_eq verb (codes "stat") then option_map command.Call (stat_of words)
     else if bytes_eq verb (codes "set") then option_map command.Call (set_of moment words)
     else if bytes_eq verb (codes "rm") then option_map command.Call (remove_of words)
-    else if bytes_eq verb (codes "stop") then stop_of words
+    else if bytes_eq verb (codes "stop") then alone command.Stop words
     else None

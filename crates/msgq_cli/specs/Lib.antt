@@ -11,5 +11,6 @@ pub mod Runs
 pub mod Scripts
 pub mod Tasks
 pub mod Texts
+pub mod Unread
 pub use Rattle.file_check.specs as file_check
 pub use Rattle.record_file.specs as record_file

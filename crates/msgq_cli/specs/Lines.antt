@@ -4,6 +4,7 @@ use Rattle.std.specs.List.{list_all, onto_first}
 use Rattle.std.specs.Str.{bytes_eq}
 use Rattle.std.specs.Str.Lines.{strip_carriage_return}
 use Rattle.msgq_cli.specs.Commands.{command_of}
+use Rattle.msgq_cli.specs.Unread.{next, alone}
 use Rattle.script_words.specs.Numbers.{IsSeat, number_of, seat_of}
 use Rattle.script_words.specs.Reading.{◌>>=◌}
 use Rattle.script_words.specs.Words.{words_of}
@@ -34,12 +35,11 @@ text_of line =
 
 -- `ids SEAT UID GID`, without the first word
 abbrev pub ids_of : List (List ℕ) → Option Content
-ids_of (seat ∷ uid ∷ gid ∷ []) = do
-  s ← seat_of seat
-  u ← number_of uid
-  g ← number_of gid
-  Some (content.Ids (record { seat = s; uid = u; gid = g }))
-ids_of words = None
+ids_of words = do
+  seat ← next seat_of words
+  uid ← next number_of seat.1
+  gid ← next number_of uid.1
+  alone (content.Ids (record { seat = seat.0; uid = uid.0; gid = gid.0 })) gid.1
 
 -- a seat's command, whose moment is the line's number
 abbrev pub entry_of : ℕ → List ℕ → List (List ℕ) → Option Content

@@ -3,6 +3,8 @@ use Rattle.std.specs.Prelude.{ℕ, ◌&&◌, ◌||◌, not, Bool, true, false, L
 use Rattle.std.specs.Str.{bytes_eq}
 use Rattle.script_words.specs.Numbers.{number_of, mode_of}
 use Rattle.script_words.specs.Reading.{◌>>=◌}
+use Rattle.msgq_cli.specs.declared.mistake.Optional.{Optional}
+use Rattle.msgq_cli.specs.declared.mistake.Optional.TheVariants.{Get, Send, Receive, Set}
 use Rattle.msgq_cli.specs.declared.options.Options.{Options}
 
 -- no option at all
@@ -65,22 +67,15 @@ options_after o (word ∷ words) = do
   more ← with_option o word
   options_after more words
 
--- what these words say, each of which is an option
-abbrev pub options_of : List (List ℕ) → Option Options
-options_of words = options_after no_options words
+-- the options that a call knows, and no others
+abbrev pub fits : Optional → Options → Bool
+fits Get o = not (o.nowait || o.noerror || is_some o.uid || is_some o.gid)
+fits Send o = not (o.create || o.excl || o.noerror || is_some o.mode || is_some o.uid || is_some o.gid)
+fits Receive o = not (o.create || o.excl || is_some o.mode || is_some o.uid || is_some o.gid)
+fits Set o = not (o.create || o.excl || o.nowait || o.noerror)
 
--- those that `get` knows, and no others
-abbrev pub fits_get : Options → Bool
-fits_get o = not (o.nowait || o.noerror || is_some o.uid || is_some o.gid)
-
--- those that `snd` knows
-abbrev pub fits_send : Options → Bool
-fits_send o = not (o.create || o.excl || o.noerror || is_some o.mode || is_some o.uid || is_some o.gid)
-
--- those that `rcv` knows
-abbrev pub fits_receive : Options → Bool
-fits_receive o = not (o.create || o.excl || is_some o.mode || is_some o.uid || is_some o.gid)
-
--- those that `set` knows
-abbrev pub fits_set : Options → Bool
-fits_set o = not (o.create || o.excl || o.nowait || o.noerror)
+-- what these words say, each of which is an option that the call knows
+abbrev pub options_of : Optional → List (List ℕ) → Option Options
+options_of call words = do
+  o ← options_after no_options words
+  if fits call o then Some o else None

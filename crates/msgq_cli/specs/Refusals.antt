@@ -36,7 +36,7 @@ AreKnownAs (Some known) bytes = bytes ≡ known
 
 -- what is told where there is no script
 abbrev pub IsRefused : ScriptError → OutputState → OutputState → Ending → Type 0
-IsRefused (errors.WrongLine line) old new ending = (ending ≡ WrongLine line) × (new ≡ old)
+IsRefused (errors.WrongLine line mistake) old new ending = (ending ≡ WrongLine line) × (new ≡ old)
 IsRefused errors.NoMemory old new ending = IsFaultAlone NO_MEMORY old new ending
 
 -- the number that is printed where a text is not read: want of memory is told from the rest

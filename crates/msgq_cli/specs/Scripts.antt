@@ -57,7 +57,7 @@ script_of bytes = script_from 1 empty_script (lines_of bytes)
 -- a reader answers what the grammar gives, unless memory runs out
 abbrev pub Reads : Result Parts ScriptError → Result Parts ℕ → Type 0
 Reads (Ok s) given = given ≡ Ok s
-Reads (Err (WrongLine line)) given = given ≡ Err line
+Reads (Err (WrongLine line mistake)) given = given ≡ Err line
 Reads (Err NoMemory) given = ⊤
 
 -- the process of a seat, with the ids of a line or 0 and 0

@@ -20,18 +20,22 @@ use bucket_page::ShaKey;
 use file_check::{CheckFault, Checked, check};
 use page_device::{FileDevice, PageDevice};
 use queue_model::System;
+use rollback_journal::look;
 use std::alloc::Global;
-use std::fs::{OpenFile, OpenOptions};
-use std::io::{IsTerminal, Read, Seek, Write};
+use std::fs::{File, OpenOptions};
+use std::io::{IsTerminal, Write};
 use std::rt::Files;
 
 /// `check FILE` and `stat FILE`: checks a file, which is opened to be read alone, and prints a
 /// report of its system.
 ///
+/// What is told is of the file as it stands. Where a run that was cut off has left a journal, it is
+/// said on standard error that the next one undoes it, and nothing is written.
+///
 /// `fault N` alone where the file is not opened, where something is wrong with it, or where the
 /// machine lacks something: a transfer fails (20), or there is no memory (60). Then it is said on
 /// standard error what and where.
-pub fn report_file<R, F, W, E>(
+pub fn report_file<R, W, E>(
     rt: &R,
     file: &str,
     report: Report,
@@ -39,12 +43,12 @@ pub fn report_file<R, F, W, E>(
     errors: &mut E,
 ) -> Ending
 where
-    R: Files<File = F> + AllocGlobal,
-    F: Read + Write + Seek + OpenFile + Drop,
+    R: Files<File = File> + AllocGlobal,
     W: Write + Drop,
     E: Write + IsTerminal,
     ensures { IsReportOrFault report output.old output.new result }
 {
+    warn_of_journal(rt, file, errors);
     let device = match FileDevice::open_read_only(rt, file) {
         Ok(device) => device,
         Err(fault) => {
@@ -62,6 +66,22 @@ where
         stage: Stage::Checking,
         fault: fault.number(),
     })
+}
+
+/// Says what a run that was cut off has left, and what the next one does.
+fn warn_of_journal<R, E>(rt: &R, file: &str, errors: &mut E)
+where
+    R: Files<File = File> + AllocGlobal,
+    E: Write,
+{
+    if let Ok(Some(left)) = look(rt, file) {
+        let images = left.images;
+        let _ = writeln!(
+            errors,
+            "msgq: {file}: a run was cut off, or is under way; its journal has {images} pages as \
+            they were before, which the next run puts back"
+        );
+    }
 }
 
 /// Checks the file of a device, and prints a report of the system that it holds, or `fault N`.

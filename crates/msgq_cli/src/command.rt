@@ -1,12 +1,12 @@
 //! The commands of a script.
 
-ghost use Rattle.std.specs.Prelude.{◌≡◌};
-ghost use Rattle.std.specs.Option.{option_map};
 ghost use Rattle.msgq_cli.specs.Commands.{get_of, send_of, receive_of, stat_of, set_of, remove_of};
-ghost use Rattle.msgq_cli.specs.Commands.{stop_of, command_of};
-ghost use Rattle.script_words.specs.Reading.{Gives};
+ghost use Rattle.msgq_cli.specs.Commands.{command_of};
+ghost use Rattle.msgq_cli.specs.Unread.{IsRead, Takes, next};
+ghost use Rattle.script_words.specs.Numbers.{number_of, signed_of};
 ghost use Rattle.script_words.specs.Words.{texts};
 
+use crate::mistake::{Expected, Optional, Unread};
 use crate::options::Options;
 use queue_model::{Call, GetArguments, ReceiveArguments, SendArguments, SetArguments};
 use script_words::{Refusal, body, is_word, key, number, signed};
@@ -24,60 +24,48 @@ pub enum Command {
     Stop,
 }
 
-/// The command of a line's words behind the seat.
-pub(crate) fn read_command(alloc: Global, moment: u64, words: &[&[u8]]) -> Result<Command, Refusal>
-    ensures { Gives result (command_of moment (texts words.now)) }
+/// The command of a line's words from the second on, which follow the seat.
+pub(crate) fn read_command(alloc: Global, moment: u64, words: &[&[u8]]) -> Result<Command, Unread>
+    ensures { IsRead result (command_of moment (texts words.now)) }
 {
+    let wrong = Unread::at(2, Expected::Command);
     let [verb, arguments @ ..] = words else {
-        return Err(Refusal::Wrong);
+        return Err(wrong);
     };
-    if is_word(verb, b"get") {
-        return known(get(moment, arguments));
-    }
-    if is_word(verb, b"snd") {
-        return Ok(Command::Call(send(alloc, moment, arguments)?));
-    }
-    if is_word(verb, b"rcv") {
-        return known(receive(moment, arguments));
-    }
-    if is_word(verb, b"stat") {
-        return known(stat(arguments));
-    }
-    if is_word(verb, b"set") {
-        return known(set(moment, arguments));
-    }
-    if is_word(verb, b"rm") {
-        return known(remove(arguments));
-    }
-    if is_word(verb, b"stop") {
-        return stop(arguments);
-    }
-    Err(Refusal::Wrong)
-}
-
-/// The command of a call, where it was read.
-fn known(call: Option<Call>) -> Result<Command, Refusal>
-    ensures { Gives result (option_map Command.Call call) }
-{
-    match call {
-        Some(call) => Ok(Command::Call(call)),
-        None => Err(Refusal::Wrong),
-    }
+    let call = if is_word(verb, b"get") {
+        get(moment, arguments)?
+    } else if is_word(verb, b"snd") {
+        send(alloc, moment, arguments)?
+    } else if is_word(verb, b"rcv") {
+        receive(moment, arguments)?
+    } else if is_word(verb, b"stat") {
+        stat(arguments)?
+    } else if is_word(verb, b"set") {
+        set(moment, arguments)?
+    } else if is_word(verb, b"rm") {
+        remove(arguments)?
+    } else if is_word(verb, b"stop") {
+        return match arguments {
+            [] => Ok(Command::Stop),
+            _ => Err(Unread::at(3, Expected::End)),
+        };
+    } else {
+        return Err(wrong);
+    };
+    Ok(Command::Call(call))
 }
 
 /// `get KEY` or `get private`, then any of `create`, `excl`, `mode=OOO`.
-fn get(moment: u64, words: &[&[u8]]) -> Option<Call>
-    ensures { result ≡ get_of moment (texts words.now) }
+fn get(moment: u64, words: &[&[u8]]) -> Result<Call, Unread>
+    ensures { IsRead result (get_of moment (texts words.now)) }
 {
-    let [key_word, options @ ..] = words else {
-        return None;
+    let wrong = Unread::at(3, Expected::Key);
+    let [word, words @ ..] = words else {
+        return Err(wrong);
     };
-    let key = key(key_word)?;
-    let options = Options::read(options)?;
-    if !options.fits_get() {
-        return None;
-    }
-    Some(Call::Get(GetArguments {
+    let key = key(word).ok_or(wrong)?;
+    let options = Options::read(Optional::Get, 4, words)?;
+    Ok(Call::Get(GetArguments {
         key,
         create: options.create,
         excl: options.excl,
@@ -87,19 +75,21 @@ fn get(moment: u64, words: &[&[u8]]) -> Option<Call>
 }
 
 /// `snd ID TYPE HEX`, then optionally `nowait`.
-fn send(alloc: Global, moment: u64, words: &[&[u8]]) -> Result<Call, Refusal>
-    ensures { Gives result (send_of moment (texts words.now)) }
+fn send(alloc: Global, moment: u64, words: &[&[u8]]) -> Result<Call, Unread>
+    ensures { IsRead result (send_of moment (texts words.now)) }
 {
-    let [id, mtype, hex, options @ ..] = words else {
-        return Err(Refusal::Wrong);
+    let (id, words) = number_at(3, Expected::Id, words)?;
+    let (mtype, words) = type_at(4, words)?;
+    let wrong = Unread::at(5, Expected::Hex);
+    let [word, words @ ..] = words else {
+        return Err(wrong);
     };
-    let id = number(id).ok_or(Refusal::Wrong)?;
-    let mtype = signed(mtype).ok_or(Refusal::Wrong)?;
-    let options = Options::read(options).ok_or(Refusal::Wrong)?;
-    let body = body(alloc, hex)?;
-    if !options.fits_send() {
-        return Err(Refusal::Wrong);
-    }
+    let body = match body(alloc, word) {
+        Ok(body) => body,
+        Err(Refusal::Wrong) => return Err(wrong),
+        Err(Refusal::NoMemory) => return Err(Unread::NoMemory),
+    };
+    let options = Options::read(Optional::Send, 6, words)?;
     Ok(Call::Send(SendArguments {
         id,
         mtype,
@@ -110,20 +100,14 @@ fn send(alloc: Global, moment: u64, words: &[&[u8]]) -> Result<Call, Refusal>
 }
 
 /// `rcv ID SIZE TYPE`, then any of `nowait`, `noerror`.
-fn receive(moment: u64, words: &[&[u8]]) -> Option<Call>
-    ensures { result ≡ receive_of moment (texts words.now) }
+fn receive(moment: u64, words: &[&[u8]]) -> Result<Call, Unread>
+    ensures { IsRead result (receive_of moment (texts words.now)) }
 {
-    let [id, size, mtype, options @ ..] = words else {
-        return None;
-    };
-    let id = number(id)?;
-    let size = number(size)?;
-    let mtype = signed(mtype)?;
-    let options = Options::read(options)?;
-    if !options.fits_receive() {
-        return None;
-    }
-    Some(Call::Receive(ReceiveArguments {
+    let (id, words) = number_at(3, Expected::Id, words)?;
+    let (size, words) = number_at(4, Expected::Size, words)?;
+    let (mtype, words) = type_at(5, words)?;
+    let options = Options::read(Optional::Receive, 6, words)?;
+    Ok(Call::Receive(ReceiveArguments {
         id,
         size,
         mtype,
@@ -134,30 +118,24 @@ fn receive(moment: u64, words: &[&[u8]]) -> Option<Call>
 }
 
 /// `stat ID`.
-fn stat(words: &[&[u8]]) -> Option<Call>
-    ensures { result ≡ stat_of (texts words.now) }
+fn stat(words: &[&[u8]]) -> Result<Call, Unread>
+    ensures { IsRead result (stat_of (texts words.now)) }
 {
-    let [id] = words else {
-        return None;
-    };
-    let id = number(id)?;
-    Some(Call::Stat { id })
+    let (id, words) = number_at(3, Expected::Id, words)?;
+    match words {
+        [] => Ok(Call::Stat { id }),
+        _ => Err(Unread::at(4, Expected::End)),
+    }
 }
 
 /// `set ID QBYTES`, then any of `uid=N`, `gid=N`, `mode=OOO`.
-fn set(moment: u64, words: &[&[u8]]) -> Option<Call>
-    ensures { result ≡ set_of moment (texts words.now) }
+fn set(moment: u64, words: &[&[u8]]) -> Result<Call, Unread>
+    ensures { IsRead result (set_of moment (texts words.now)) }
 {
-    let [id, qbytes, options @ ..] = words else {
-        return None;
-    };
-    let id = number(id)?;
-    let qbytes = number(qbytes)?;
-    let options = Options::read(options)?;
-    if !options.fits_set() {
-        return None;
-    }
-    Some(Call::Set(SetArguments {
+    let (id, words) = number_at(3, Expected::Id, words)?;
+    let (qbytes, words) = number_at(4, Expected::Qbytes, words)?;
+    let options = Options::read(Optional::Set, 5, words)?;
+    Ok(Call::Set(SetArguments {
         id,
         qbytes,
         uid: options.uid,
@@ -168,22 +146,40 @@ fn set(moment: u64, words: &[&[u8]]) -> Option<Call>
 }
 
 /// `rm ID`.
-fn remove(words: &[&[u8]]) -> Option<Call>
-    ensures { result ≡ remove_of (texts words.now) }
+fn remove(words: &[&[u8]]) -> Result<Call, Unread>
+    ensures { IsRead result (remove_of (texts words.now)) }
 {
-    let [id] = words else {
-        return None;
-    };
-    let id = number(id)?;
-    Some(Call::Remove { id })
+    let (id, words) = number_at(3, Expected::Id, words)?;
+    match words {
+        [] => Ok(Call::Remove { id }),
+        _ => Err(Unread::at(4, Expected::End)),
+    }
 }
 
-/// `stop`.
-fn stop(words: &[&[u8]]) -> Result<Command, Refusal>
-    ensures { Gives result (stop_of (texts words.now)) }
+/// The number at the word of this number, and the words that follow it.
+pub(crate) fn number_at<'w, 'a>(
+    place: usize,
+    could: Expected,
+    words: &'w [&'a [u8]],
+) -> Result<(u32, &'w [&'a [u8]]), Unread>
+    ensures { Takes result (next number_of (texts words.now)) }
 {
-    match words {
-        [] => Ok(Command::Stop),
-        _ => Err(Refusal::Wrong),
-    }
+    let wrong = Unread::at(place, could);
+    let [word, rest @ ..] = words else {
+        return Err(wrong);
+    };
+    let value = number(word).ok_or(wrong)?;
+    Ok((value, rest))
+}
+
+/// The type of a message at the word of this number, and the words that follow it.
+fn type_at<'w, 'a>(place: usize, words: &'w [&'a [u8]]) -> Result<(i64, &'w [&'a [u8]]), Unread>
+    ensures { Takes result (next signed_of (texts words.now)) }
+{
+    let wrong = Unread::at(place, Expected::Type);
+    let [word, rest @ ..] = words else {
+        return Err(wrong);
+    };
+    let value = signed(word).ok_or(wrong)?;
+    Ok((value, rest))
 }

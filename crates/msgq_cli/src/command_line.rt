@@ -49,6 +49,9 @@ pub enum Task<'a> {
     },
 }
 
+/// The version of the program, which its manual page and the changelog have too.
+const VERSION: &str = "0.2.0";
+
 /// Names of arguments.
 const FILE: &str = "FILE";
 
@@ -58,7 +61,7 @@ const SCRIPT: &str = "SCRIPT";
 
 const SCHEDULE: &str = "SCHEDULE";
 
-/// Behind the help of the program.
+/// After the help of the program.
 const ENDING: &str = "\
 Without a subcommand, the script of standard input is run on a new file of 352 pages in memory.
 
@@ -74,13 +77,13 @@ Exit status:
 
 Scripts and schedules: docs/SCRIPTS.md, with examples in examples/. Faults: docs/FAULTS.md.";
 
-/// Behind the help of `new`.
+/// After the help of `new`.
 const NEW_PRINTS: &str = "\
 Prints 'made PAGES'; 'fault 20' where FILE exists or the system refuses to make it.
 Exit status 0, 1 where a fault was printed or standard output refused a write, 2 where the
 command line is wrong.";
 
-/// Behind the help of `run`.
+/// After the help of `run`.
 const RUN_PRINTS: &str = "\
 Prints the number and the answer of each line; 'fault 20' alone where SCRIPT can't be read,
 'fault N' alone where FILE is not opened, 'fault N' behind the answers where FILE is not closed
@@ -89,7 +92,7 @@ Exit status 0, 1 where a fault was printed or standard output refused a write, 2
 command line or SCRIPT is wrong: then nothing was run, and standard error says 'script line N'
 and what stands there.";
 
-/// Behind the help of `replay`.
+/// After the help of `replay`.
 const REPLAY_PRINTS: &str = "\
 Runs the lines of the seats beside one another: SCHEDULE says which seat makes the next steps. Behind
 it the seats make a step each, in turns, until all lines are answered.
@@ -100,7 +103,7 @@ Exit status 0, 1 where a fault was printed or standard output refused a write, 2
 line, SCRIPT or SCHEDULE is wrong: then nothing was run, and standard error says 'script line N' or
 'schedule word N'.";
 
-/// Behind the help of `check`.
+/// After the help of `check`.
 const CHECK_PRINTS: &str = "\
 Reads all of FILE and tests each page, each record, and that all records are those of one system
 of queues.
@@ -109,7 +112,7 @@ what and where.
 Exit status 0, 1 where a fault was printed or standard output refused a write, 2 where the
 command line is wrong.";
 
-/// Behind the help of `stat`.
+/// After the help of `stat`.
 const STAT_PRINTS: &str = "\
 Checks FILE as 'check' does, and prints for each queue, in order of id,
   info ID KEY QNUM CBYTES QBYTES LSPID LRPID STIME RTIME CTIME UID GID CUID CGID MODE
@@ -195,7 +198,7 @@ fn command<'a>(alloc: Global) -> Result<Command<'a>, AllocError> {
     )?;
     let stat = report_command(alloc, "stat", "Shows the queues of a file", STAT_PRINTS)?;
     Command::new(alloc, "msgq")
-        .version("0.1.0")
+        .version(VERSION)
         .about("Message queues (XSI, POSIX.1-2017) kept in one file")
         .after_help(ENDING)
         .disable_help_subcommand(true)

@@ -2,7 +2,9 @@
 //! rests on these words.
 
 use crate::ending::{Ending, Failure, Stage};
-use crate::misread::{Found, mistake_in};
+use crate::line::text as text_of;
+use crate::mistake::{Expected, Mistake, Optional};
+use script_words::words;
 use std::alloc::Global;
 use std::fmt::Display;
 use std::io;
@@ -48,16 +50,81 @@ pub(crate) fn why(failure: Failure) -> &'static str {
 }
 
 /// `script line N`, and below it what was not understood and what could stand there.
-pub(crate) fn complain_of_line<E: Write>(alloc: Global, text: &[u8], line: u64, errors: &mut E) {
+pub(crate) fn complain_of_line<E: Write>(
+    alloc: Global,
+    text: &[u8],
+    line: u64,
+    mistake: Mistake,
+    errors: &mut E,
+) {
     let _ = writeln!(errors, "script line {line}");
-    let Ok(mistake) = mistake_in(alloc, line_at(text, line)) else {
-        return;
-    };
-    let _ = match mistake.found {
-        Found::Word(word) => print_word(word, errors),
-        Found::Other(text) => writeln!(errors, "  not understood: {text}"),
-    };
-    let _ = writeln!(errors, "  could stand there: {}", mistake.could);
+    match mistake {
+        Mistake::Word(number, _) => {
+            let line = line_at(text, line);
+            let Ok(words) = words(alloc, text_of(line).unwrap_or(line)) else {
+                return;
+            };
+            let _ = match words.get(number.saturating_sub(1)) {
+                Some(word) => print_word(word, errors),
+                None => writeln!(errors, "  not understood: the end of the line"),
+            };
+        }
+        Mistake::ReturnAtEnd => {
+            let _ = writeln!(errors, "  not understood: a CR at the end of the script");
+        }
+        Mistake::NotAscii => {
+            let _ = writeln!(errors, "  not understood: a byte from 128 on");
+        }
+        Mistake::Blanks => {
+            let _ = writeln!(errors, "  not understood: a line of blanks");
+        }
+        Mistake::LateIds => {
+            let _ = writeln!(
+                errors,
+                "  not understood: ids behind a command, or again for a seat"
+            );
+        }
+    }
+    let _ = writeln!(errors, "  could stand there: {}", could(mistake));
+}
+
+/// What could stand where a line is wrong.
+fn could(mistake: Mistake) -> &'static str {
+    match mistake {
+        Mistake::Word(_, expected) => form(expected),
+        Mistake::ReturnAtEnd => "LF, CR LF or nothing",
+        Mistake::NotAscii => "ASCII text",
+        Mistake::Blanks => { "a seat and its command, ids, a comment behind #, or an empty line" }
+        Mistake::LateIds => {
+            "a seat and its command: ids lines come first, at most one for a seat"
+        }
+    }
+}
+
+/// The name of what could stand at a word's place, and what it looks like.
+fn form(expected: Expected) -> &'static str {
+    match expected {
+        Expected::SeatOrIds => "SEAT, a number from 1 to 64, or ids",
+        Expected::Command => "a command: get, snd, rcv, stat, set, rm or stop",
+        Expected::Seat => "SEAT, a number from 1 to 64",
+        Expected::Uid => "UID, a number from 0 to 4294967295",
+        Expected::Gid => "GID, a number from 0 to 4294967295",
+        Expected::Key => "KEY, a number from 0 to 4294967295, or private",
+        Expected::Id => "ID, a number from 0 to 4294967295",
+        Expected::Size => "SIZE, a number from 0 to 4294967295",
+        Expected::Qbytes => "QBYTES, a number from 0 to 4294967295",
+        Expected::Type => "TYPE, a number from -9223372036854775808 to 9223372036854775807",
+        Expected::Hex => "HEX, an even number of hexadecimal digits, or - for the empty body",
+        Expected::OptionOf(Optional::Get) => {
+            "create, excl, mode=OOO (three octal digits), each once, or nothing"
+        }
+        Expected::OptionOf(Optional::Send) => "nowait, once, or nothing",
+        Expected::OptionOf(Optional::Receive) => "nowait, noerror, each once, or nothing",
+        Expected::OptionOf(Optional::Set) => {
+            "uid=N, gid=N, mode=OOO (three octal digits), each once, or nothing"
+        }
+        Expected::End => "nothing more",
+    }
 }
 
 /// Shows a word. What a terminal could take for a command of its own is shown as `?`.

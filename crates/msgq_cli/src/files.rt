@@ -1,9 +1,9 @@
 //! Files made, and scripts read from files.
 
-ghost use Rattle.std.specs.Prelude.{◌≡◌, ◌≤◌, [], IsTrue};
+ghost use Rattle.std.specs.Prelude.{◌≡◌, ◌≤◌, ℕ, [], IsTrue};
 ghost use Rattle.page_device.specs.declared.page.TheConstants.{MAX_PAGES};
 ghost use Rattle.directory.specs.declared.layout.TheConstants.{LEAST_PAGES};
-ghost use Rattle.msgq_cli.specs.Refusals.{IsMadeOrFault, Makes};
+ghost use Rattle.msgq_cli.specs.Refusals.{IsFaultAlone, IsMadeOrFault, Makes};
 
 use crate::complaint::{complain, complain_of};
 use crate::ending::{Ending, Stage};
@@ -13,6 +13,7 @@ use crate::reply::print_made;
 use directory::LEAST_PAGES;
 use page_device::{FileDevice, MAX_PAGES, PageDevice, SystemFile};
 use record_file::format;
+use rollback_journal::{OpenError, is_left_behind};
 use std::fs::{OpenFile, OpenOptions};
 use std::io::{Read, Seek, Write};
 use std::rt::Files;
@@ -24,10 +25,15 @@ pub const STANDARD_INPUT: &str = "-";
 /// A file that is run on has as many frames as pages, up to this number.
 pub const MOST_FRAMES: usize = 16_384;
 
+/// What is said where a new file would have the journal of another.
+const LEFT_BEHIND: &str =
+    "the journal of a file of this name is there; where that file is gone for \
+    good, remove the journal";
+
 /// `new FILE PAGES`: makes a file, where nothing may be yet, and prints `made PAGES`.
 ///
-/// Fault 20 alone where the system refuses to make the file or a transfer fails, fault 60 alone
-/// where there is no memory.
+/// Fault 20 alone where the system refuses to make the file or a transfer fails, or where the
+/// journal of a file of this name was left behind; fault 60 alone where there is no memory.
 pub fn new_file<R, F, W, E>(
     rt: &R,
     file: &str,
@@ -36,7 +42,7 @@ pub fn new_file<R, F, W, E>(
     errors: &mut E,
 ) -> Ending
 where
-    R: Files<File = F>,
+    R: Files<File = F> + AllocGlobal,
     F: Read + Write + Seek + OpenFile + Drop,
     W: Write + Drop,
     E: Write,
@@ -44,6 +50,10 @@ where
     requires most { pages ≤ MAX_PAGES }
     ensures { IsMadeOrFault pages output.old output.new result }
 {
+    if let Ok(true) = is_left_behind(rt, file) {
+        complain(file, "it can't be made", LEFT_BEHIND, errors);
+        return fail(Stage::Making, faults::DEVICE, output);
+    }
     let mut how = OpenOptions::new();
     how.read(true).write(true).create_new(true);
     match how.open(rt, file) {
@@ -83,6 +93,20 @@ pub fn new_on<D: PageDevice, W: Write + Drop>(
         Err(fault) => fail(Stage::Making, fault.number(), output),
     };
     (device, ending)
+}
+
+/// Ends a run or a replay whose file is not opened.
+pub fn leave_unopened<W: Write + Drop, E: Write>(
+    file: &str,
+    error: OpenError,
+    output: &mut Output<W>,
+    errors: &mut E,
+) -> Ending
+    ensures { (fault : ℕ) × IsFaultAlone fault output.old output.new result }
+{
+    let ending = fail(Stage::Opening, error.number(), output);
+    complain(file, "it can't be opened", error, errors);
+    ending
 }
 
 /// All bytes of a file, or of standard input.

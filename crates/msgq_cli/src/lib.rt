@@ -10,7 +10,7 @@ mod complaint;
 mod ending;
 mod files;
 mod line;
-mod misread;
+mod mistake;
 mod options;
 mod output;
 mod printed_word;
@@ -26,8 +26,11 @@ pub use command_line::{Task, read_command_line};
 pub use complaint::{complain, complain_of};
 pub use ending::{Ending, Failure, Stage};
 pub use file_check;
-pub use files::{MOST_FRAMES, STANDARD_INPUT, complain_unopened, new_file, new_on, read_file};
+pub use files::{
+    MOST_FRAMES, STANDARD_INPUT, complain_unopened, leave_unopened, new_file, new_on, read_file,
+};
 pub use line::{Line, SeatIds};
+pub use mistake::{Expected, Mistake, Optional};
 pub use output::Output;
 pub use record_file;
 pub use refusals::{fail, read_text, refuse, unread};

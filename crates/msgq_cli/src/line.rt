@@ -1,14 +1,15 @@
 //! The lines of a script, each by itself.
 
-ghost use Rattle.std.specs.Prelude.{◌≡◌, IfOk, IfSome, nat_lt};
+ghost use Rattle.std.specs.Prelude.{◌≡◌, IfOk, nat_lt};
 ghost use Rattle.std.specs.List.{list_all};
 ghost use Rattle.std.specs.Option.{option_copied};
 ghost use Rattle.msgq_cli.specs.Lines.{HasSeat, text_of, ids_of, worded, content_of};
-ghost use Rattle.script_words.specs.Reading.{Gives};
+ghost use Rattle.msgq_cli.specs.Unread.{IsRead};
 ghost use Rattle.script_words.specs.Words.{texts};
 
-use crate::command::{Command, read_command};
-use script_words::{Refusal, is_word, number, seat, words};
+use crate::command::{Command, number_at, read_command};
+use crate::mistake::{Expected, Mistake, Unread};
+use script_words::{is_word, seat, words};
 use std::alloc::Global;
 
 /// A line with a command.
@@ -45,13 +46,13 @@ pub(crate) enum Content {
 }
 
 /// What the line of a number says. The bytes have the end of the line.
-pub(crate) fn read_content(alloc: Global, number: u64, line: &[u8]) -> Result<Content, Refusal>
-    ensures value { Gives result (content_of number line.now) }
+pub(crate) fn read_content(alloc: Global, number: u64, line: &[u8]) -> Result<Content, Unread>
+    ensures value { IsRead result (content_of number line.now) }
     ensures within { IfOk result HasSeat }
 {
-    let text = text(line).ok_or(Refusal::Wrong)?;
+    let text = text(line).ok_or(Unread::Wrong(Mistake::ReturnAtEnd))?;
     if !is_ascii(text) {
-        return Err(Refusal::Wrong);
+        return Err(Unread::Wrong(Mistake::NotAscii));
     }
     match text {
         [] | [b'#', ..] => Ok(Content::Nothing),
@@ -71,24 +72,24 @@ pub(crate) fn text(line: &[u8]) -> Option<&[u8]>
 }
 
 /// Whether all bytes are below 128.
-pub(crate) fn is_ascii(text: &[u8]) -> bool
+fn is_ascii(text: &[u8]) -> bool
     ensures { result ≡ list_all (λ byte. nat_lt byte 128) text.now }
 {
     text.iter().all(|byte| *byte < 128)
 }
 
 /// What the words of a line say.
-fn worded(alloc: Global, number: u64, words: &[&[u8]]) -> Result<Content, Refusal>
-    ensures value { Gives result (worded number (texts words.now)) }
+fn worded(alloc: Global, number: u64, words: &[&[u8]]) -> Result<Content, Unread>
+    ensures value { IsRead result (worded number (texts words.now)) }
     ensures within { IfOk result HasSeat }
 {
     let [first, rest @ ..] = words else {
-        return Err(Refusal::Wrong);
+        return Err(Unread::Wrong(Mistake::Blanks));
     };
     if is_word(first, b"ids") {
-        return ids(rest).ok_or(Refusal::Wrong);
+        return ids(rest);
     }
-    let seat = seat(first).ok_or(Refusal::Wrong)?;
+    let seat = seat(first).ok_or(Unread::at(1, Expected::SeatOrIds))?;
     let command = read_command(alloc, number, rest)?;
     Ok(Content::Line(Line {
         number,
@@ -97,16 +98,20 @@ fn worded(alloc: Global, number: u64, words: &[&[u8]]) -> Result<Content, Refusa
     }))
 }
 
-/// `SEAT UID GID` behind `ids`.
-fn ids(words: &[&[u8]]) -> Option<Content>
-    ensures value { result ≡ ids_of (texts words.now) }
-    ensures within { IfSome result HasSeat }
+/// `SEAT UID GID` after `ids`.
+fn ids(words: &[&[u8]]) -> Result<Content, Unread>
+    ensures value { IsRead result (ids_of (texts words.now)) }
+    ensures within { IfOk result HasSeat }
 {
-    let [seat_word, uid, gid] = words else {
-        return None;
+    let wrong = Unread::at(2, Expected::Seat);
+    let [word, words @ ..] = words else {
+        return Err(wrong);
     };
-    let seat = seat(seat_word)?;
-    let uid = number(uid)?;
-    let gid = number(gid)?;
-    Some(Content::Ids(SeatIds { seat, uid, gid }))
+    let seat = seat(word).ok_or(wrong)?;
+    let (uid, words) = number_at(3, Expected::Uid, words)?;
+    let (gid, words) = number_at(4, Expected::Gid, words)?;
+    match words {
+        [] => Ok(Content::Ids(SeatIds { seat, uid, gid })),
+        _ => Err(Unread::at(5, Expected::End)),
+    }
 }

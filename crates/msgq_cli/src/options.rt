@@ -1,13 +1,15 @@
-//! The options behind a call.
+//! The options after a call.
 
 ghost use Rattle.std.specs.Prelude.{◌≡◌};
 ghost use Rattle.msgq_cli.specs.Options.{no_options, once, with_value, with_option, options_of};
-ghost use Rattle.msgq_cli.specs.Options.{fits_get, fits_send, fits_receive, fits_set};
+ghost use Rattle.msgq_cli.specs.Options.{fits};
+ghost use Rattle.msgq_cli.specs.Unread.{IsRead};
 ghost use Rattle.script_words.specs.Words.{texts};
 
+use crate::mistake::{Expected, Optional, Unread};
 use script_words::{is_word, mode, number};
 
-/// Which options stand behind a call, and their values.
+/// Which options stand after a call, and their values.
 #[derive(Clone, Copy, Debug, PartialEq, Eq)]
 pub(crate) struct Options {
     pub create: bool,
@@ -20,19 +22,33 @@ pub(crate) struct Options {
 }
 
 impl Options {
-    /// What the words say, each of which is an option that no other repeats.
-    pub(crate) fn read(words: &[&[u8]]) -> Option<Options>
-        ensures { result ≡ options_of (texts words.now) }
+    /// What the words of a line say from the one of this number on, each of which is an option that
+    /// the call knows and no other repeats.
+    pub(crate) fn read(call: Optional, number: usize, words: &[&[u8]]) -> Result<Options, Unread>
+        ensures { IsRead result (options_of call (texts words.now)) }
     {
         let mut options = Options::none();
+        let mut unfit = None;
+        let mut number = number;
         for word in words {
-            options = options.with(word)?;
+            let Some(more) = options.with(word) else {
+                return Err(Unread::at(unfit.unwrap_or(number), Expected::OptionOf(call)));
+            };
+            if unfit.is_none() && !more.fits(call) {
+                unfit = Some(number);
+            }
+            options = more;
+            number = number.saturating_add(1);
         }
-        Some(options)
+        if options.fits(call) {
+            Ok(options)
+        } else {
+            Err(Unread::at(unfit.unwrap_or(number), Expected::OptionOf(call)))
+        }
     }
 
     /// No options.
-    pub(crate) fn none() -> Options
+    fn none() -> Options
         ensures { result ≡ no_options }
     {
         Options {
@@ -47,7 +63,7 @@ impl Options {
     }
 
     /// One option more, which none of these repeats.
-    pub(crate) fn with(self, word: &[u8]) -> Option<Options>
+    fn with(self, word: &[u8]) -> Option<Options>
         ensures { result ≡ with_option self word.now }
     {
         if is_word(word, b"create") && !self.create {
@@ -93,41 +109,19 @@ impl Options {
         None
     }
 
-    /// Whether `get` knows them all.
-    pub(crate) fn fits_get(&self) -> bool
-        ensures { result ≡ fits_get self.now }
+    /// Whether a call knows them all.
+    fn fits(&self, call: Optional) -> bool
+        ensures { result ≡ fits call self.now }
     {
-        !(self.nowait || self.noerror || self.uid.is_some() || self.gid.is_some())
-    }
-
-    /// Whether `snd` knows them all.
-    pub(crate) fn fits_send(&self) -> bool
-        ensures { result ≡ fits_send self.now }
-    {
-        !(self.create
-            || self.excl
-            || self.noerror
-            || self.mode.is_some()
-            || self.uid.is_some()
-            || self.gid.is_some())
-    }
-
-    /// Whether `rcv` knows them all.
-    pub(crate) fn fits_receive(&self) -> bool
-        ensures { result ≡ fits_receive self.now }
-    {
-        !(self.create
-            || self.excl
-            || self.mode.is_some()
-            || self.uid.is_some()
-            || self.gid.is_some())
-    }
-
-    /// Whether `set` knows them all.
-    pub(crate) fn fits_set(&self) -> bool
-        ensures { result ≡ fits_set self.now }
-    {
-        !(self.create || self.excl || self.nowait || self.noerror)
+        let ids = self.uid.is_some() || self.gid.is_some();
+        match call {
+            Optional::Get => !(self.nowait || self.noerror || ids),
+            Optional::Send => {
+                !(self.create || self.excl || self.noerror || self.mode.is_some() || ids)
+            }
+            Optional::Receive => !(self.create || self.excl || self.mode.is_some() || ids),
+            Optional::Set => !(self.create || self.excl || self.nowait || self.noerror),
+        }
     }
 }
 

@@ -24,8 +24,8 @@ pub fn refuse<W: Write + Drop, E: Write>(
     ensures { IsRefused error output.old output.new result }
 {
     match error {
-        ScriptError::WrongLine { line } => {
-            complain_of_line(alloc, text, line, errors);
+        ScriptError::WrongLine { line, mistake } => {
+            complain_of_line(alloc, text, line, mistake, errors);
             Ending::WrongLine(line)
         }
         ScriptError::NoMemory => {

@@ -77,7 +77,7 @@ pub fn print_made<W: Write + Drop>(pages: u32, output: &mut Output<W>)
     ]);
 }
 
-/// Prints an answer behind the number of its line.
+/// Prints an answer after the number of its line.
 fn print_answer<W: Write + Drop>(number: u64, answer: &Answer, output: &mut Output<W>)
     ensures { Prints output.old output.new
         (line_of (decimal number ∷ answer_words answer.now)) }
@@ -108,7 +108,7 @@ fn print_answer<W: Write + Drop>(number: u64, answer: &Answer, output: &mut Outp
     }
 }
 
-/// Prints a message that was received, behind the number of its line.
+/// Prints a message that was received, after the number of its line.
 fn print_message<W: Write + Drop>(number: u64, message: &Message, output: &mut Output<W>)
     ensures { Prints output.old output.new
         (line_of (decimal number ∷ message_words message.now)) }

@@ -4,11 +4,12 @@ ghost use Rattle.std.specs.Prelude.{◌≡◌, OnOk, IsErrOf, None, Some};
 ghost use Rattle.std.specs.List.{list_any, find};
 ghost use Rattle.std.specs.Option.{option_copied};
 ghost use Rattle.msgq_cli.specs.Scripts.{empty_script, with_line, script_of, Reads, IsSound};
+ghost use Rattle.msgq_cli.specs.declared.mistake.Mistake.{Mistake};
 ghost use Rattle.msgq_cli.specs.Scripts.{caller_of, is_of_seat, greatest_seat};
 
 use crate::line::{Content, Line, SeatIds, read_content};
+use crate::mistake::{Mistake, Unread};
 use queue_model::Caller;
-use script_words::Refusal;
 use std::alloc::Global;
 use std::marker::Model;
 use thiserror::Error;
@@ -21,6 +22,8 @@ pub enum ScriptError {
     WrongLine {
         /// Its number.
         line: u64,
+        /// What is wrong with it.
+        mistake: Mistake,
     },
     /// A growth was refused (fault 60).
     #[error("no memory")]
@@ -54,8 +57,13 @@ pub fn read_script(alloc: Global, bytes: &[u8]) -> Result<Script, ScriptError>
         number += 1;
         match script.add(alloc, number, line) {
             Ok(()) => {}
-            Err(Refusal::Wrong) => return Err(ScriptError::WrongLine { line: number }),
-            Err(Refusal::NoMemory) => return Err(ScriptError::NoMemory),
+            Err(Unread::Wrong(mistake)) => {
+                return Err(ScriptError::WrongLine {
+                    line: number,
+                    mistake,
+                });
+            }
+            Err(Unread::NoMemory) => return Err(ScriptError::NoMemory),
         }
     }
     Ok(script)
@@ -102,16 +110,17 @@ impl Script {
     }
 
     /// One line more.
-    fn add(&mut self, alloc: Global, number: u64, line: &[u8]) -> Result<(), Refusal>
+    fn add(&mut self, alloc: Global, number: u64, line: &[u8]) -> Result<(), Unread>
         ensures ok { OnOk result (with_line number self.old line.now ≡ Some self.new) }
-        ensures wrong { IsErrOf result Refusal.Wrong → with_line number self.old line.now ≡ None }
+        ensures wrong { (mistake : Mistake) → IsErrOf result (Unread.Wrong mistake) →
+            with_line number self.old line.now ≡ None }
     {
         let said = read_content(alloc, number, line)?;
         match said {
             Content::Nothing => {}
             Content::Ids(ids) => {
                 if !self.lines.is_empty() || has_seat(ids.seat, self.ids.as_slice()) {
-                    return Err(Refusal::Wrong);
+                    return Err(Unread::Wrong(Mistake::LateIds));
                 }
                 self.ids.push(ids)?;
             }

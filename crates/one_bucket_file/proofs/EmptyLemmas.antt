@@ -13,7 +13,8 @@ use Rattle.record_file.specs.Files.{new_counter, new_records}
 use Rattle.type_chains.specs.Fits.{HasFittingQueue}
 use Rattle.type_chains.specs.RecordOf.{record_of}
 use Rattle.type_chains.proofs.Unique.{pairs_nil}
-use Rattle.one_bucket_file.specs.Files.{AreRecordsOf, HasValues, no_queues}
+use Rattle.one_bucket_file.specs.Files.{no_queues}
+use Rattle.one_bucket_file.proofs.SystemLemmas.{AreRecordsOf, HasValues}
 
 abbrev no_record : Option Record
 no_record = None

@@ -2,9 +2,6 @@ pub mod Names
 pub mod PageLemmas
 pub mod AloneLemmas
 pub mod SystemLemmas
-pub mod RootLaws
-pub mod KeptLemmas
-pub mod KeptLaws
 pub mod EmptyLemmas
 pub mod NewLemmas
 pub mod NewStructure

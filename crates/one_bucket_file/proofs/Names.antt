@@ -1,32 +1,26 @@
 -- Words of the crates below, under one name for the proofs of this one.
 pub use Rattle.bucket_page.specs.Bucket.{Bucket}
-pub use Rattle.bucket_page.specs.Reading.{fault_of, page_in}
 pub use Rattle.bucket_page.specs.Records.{Pair, ascend, lookup}
 pub use Rattle.bucket_page.specs.declared.page.PageKind.{PageKind}
 pub use Rattle.bucket_page.specs.declared.record_key.RecordKey.{RecordKey}
-pub use Rattle.directory.specs.Spelling.{IsHeader}
 pub use Rattle.directory.specs.declared.header.Header.{Header}
-pub use Rattle.directory.specs.declared.layout.TheConstants.{DIRECTORY_PAGES, FIRST_DIRECTORY_PAGE, GREATEST_DEPTH, LEAST_PAGES, LOCAL_DEPTHS, ROOT_PAGE}
-pub use Rattle.file_walk.proofs.PagesLemmas.{pages_at, pages_length}
-pub use Rattle.file_walk.proofs.SoundLemmas.{structure_sound}
+pub use Rattle.directory.specs.declared.layout.TheConstants.{GREATEST_DEPTH, LEAST_PAGES, LOCAL_DEPTHS, ROOT_PAGE}
+pub use Rattle.file_walk.proofs.Today.{pages_length}
+pub use Rattle.file_walk.proofs.Today.{structure_sound}
 pub use Rattle.file_walk.specs.Laws.{IsQuietFile}
-pub use Rattle.file_walk.specs.Order.{HasHeader, IsRightPage, after_reading, may_stand}
 pub use Rattle.file_walk.specs.Structure.{IsRightStructure}
-pub use Rattle.file_walk.specs.Walks.{HasRightSpares, IsRightChain, IsRightDirectory}
+pub use Rattle.file_walk.specs.Walks.{IsRightChain}
 pub use Rattle.hash_file.proofs.Contents.{contents_are_pairs}
 pub use Rattle.hash_file.proofs.Lists.{lookup_before}
 pub use Rattle.hash_file.proofs.New.{new_sound}
-pub use Rattle.hash_file.specs.Chain.{IsPlaced, how_many, number_on, times}
+pub use Rattle.hash_file.specs.Chain.{IsPlaced, times}
 pub use Rattle.hash_file.specs.Change.{Quiet}
 pub use Rattle.hash_file.specs.New.{IsNew, follower}
 pub use Rattle.hash_file.specs.Sound.{HasLayout, IsSoundFile}
-pub use Rattle.hash_file.specs.Store.{IsFreePage, Store, bucket_of, entry_at, is_bucket, next_at, page_at, range_at, range_of}
+pub use Rattle.hash_file.specs.Store.{Store, bucket_of, entry_at, is_bucket, page_at, range_at, range_of}
 pub use Rattle.positions.proofs.MemberLaws.{contains_cases, contains_head, contains_none}
 pub use Rattle.positions.proofs.PartitionLaws.{tiles_partition}
-pub use Rattle.positions.specs.Links.{Links}
-pub use Rattle.positions.specs.Partition.{IsPartition}
 pub use Rattle.positions.specs.Ranges.{Covers}
-pub use Rattle.positions.specs.declared.range.Range.{Range}
 pub use Rattle.queue_model.proofs.ListLemmas.{find-Some}
 pub use Rattle.queue_model.specs.Rules.{has_id}
 pub use Rattle.queue_model.specs.declared.queue.Queue.{Queue}
@@ -36,8 +30,7 @@ pub use Rattle.record_file.specs.Files.{IsFile, free_behind, root_bucket}
 pub use Rattle.record_walk.specs.Held.{Holds}
 pub use Rattle.record_walk.specs.Systems.{HasSystem}
 pub use Rattle.record_walk.specs.Words.{key_of_queue}
-pub use Rattle.std.proofs.Math.Path.{fun_ext}
-pub use Rattle.std.proofs.lemmas.Bool.{cases_eq, cases_lt, eq-eqb, le-ltb, lt-ltb, ne_eqb}
+pub use Rattle.std.proofs.lemmas.Bool.{cases_eq, eq-eqb, le-ltb, lt-ltb, ne_eqb}
 pub use Rattle.std.proofs.lemmas.List.{append-nil, get_or-replicate, get_or_append_left, length-replicate}
 pub use Rattle.std.proofs.lemmas.List.Concat.{flat_map-cons}
 pub use Rattle.std.proofs.lemmas.List.Elements.{All-cons, All-nil}

@@ -18,7 +18,7 @@ use Rattle.hash_file.specs.Store.{page_at}
 use Rattle.file_walk.specs.Files.{file_of, header_on, payload_on, said_on}
 use Rattle.file_walk.specs.Order.{IsRightPage}
 use Rattle.file_walk.specs.Structure.{HasPages}
-use Rattle.file_walk.proofs.PageLemmas.{may_below}
+use Rattle.file_walk.proofs.Today.{may_below}
 use Rattle.record_file.specs.Files.{IsFile, entries_on, file_header, file_page, free_behind, root_bucket}
 use Rattle.one_bucket_file.proofs.PageLemmas.{is_right, may_behind, says, stands_at}
 
@@ -46,6 +46,7 @@ header_is pages least most = record {
     local_depths = refl;
     counts = (omega arith, all_zero (LOCAL_DEPTHS - 1));
   };
+  lacks = λ depth from to. absurd (omega (arith, from, to));
 }
 
 first_page : IsDirectory (slice_set (replicate PAGE_ENTRIES 0) 0 ROOT_PAGE)

@@ -2,7 +2,7 @@
 use Rattle.std.proofs.Common.{ℕ, zero, suc, ◌≡◌, ◌+◌, ◌-◌, ◌<◌, ◌≤◌, ◌^◌, ◌==◌, nat_lt, Bool, true, false, List, [], ◌∷◌, ◌++◌, length, replicate, slice_set, slice_index_or, if◌then◌else◌, refl, sym, ap, subst, ◌∙◌, inl, inr, lit≤, lit<, arith}
 use Rattle.bucket_page.specs.declared.page.PageKind.TheVariants as kinds
 use Rattle.hash_file.specs.Chain.{chain}
-use Rattle.file_walk.specs.Files.{entries_of, entries_on, file_of, said_by}
+use Rattle.file_walk.specs.Files.{entries_of, entries_in, entries_on, file_of, said_by}
 use Rattle.one_bucket_file.proofs.Names.{Contains, Covers, GREATEST_DEPTH, HasLayout, Header, IsFile, IsNew, IsPlaced, IsRightChain, IsRightStructure, IsSoundFile, LEAST_PAGES, LOCAL_DEPTHS, PageKind, Pair, Quiet, ROOT_PAGE, RecordKey, Store, append-nil, bucket_of, cases_eq, contains_head, entry_at, eq-eqb, flat_map, flat_map-cons, follower, free_behind, get_or-replicate, get_or_append_left, is_bucket, le-ltb, length-replicate, lt-ltb, ne_eqb, new_sound, page_at, pages_length, range_at, range_of, root_bucket, tiles_partition, times}
 use Rattle.one_bucket_file.proofs.AloneLemmas.{alone}
 use Rattle.one_bucket_file.proofs.NewLemmas.{first_says, free_at, has_pages, header_says, root_at}
@@ -35,7 +35,7 @@ module _ (hash : RecordKey → ℕ) (pages : ℕ) (rs : List Pair) (content : Li
 
     -- entry 0 is the root page
     first_entry : entry_at (file_of content) 0 ≡ ROOT_PAGE
-    unfolding entries_on
+    unfolding entries_in
     first_entry =
         let f : List ℕ → List ℕ = λ page. entries_of (said_by page) in
         let first = ap f (directory_page content 0 (omega arith)) ∙ ap entries_of (first_says pages rs content it) in
@@ -57,7 +57,8 @@ module _ (hash : RecordKey → ℕ) (pages : ℕ) (rs : List Pair) (content : Li
       depth = subst (λ (h : Header). h.depth ≤ GREATEST_DEPTH) (sym (header_says pages rs content it)) (omega arith);
       entries = subst (λ n. 2 ^ GREATEST_DEPTH ≤ n) (sym (length-replicate (2 ^ GREATEST_DEPTH) ROOT_PAGE))
           (omega arith);
-      counts = ap (λ (h : Header). length h.counts) (header_says pages rs content it);
+      counts = subst (λ (h : Header). suc GREATEST_DEPTH ≤ length h.counts) (sym (header_says pages rs content it))
+          (lit≤ tt);
       pages = pages_are ∙ sym (ap (λ (h : Header). h.pages) (header_says pages rs content it));
       header = ap is_bucket (page_low content 0 (lit< tt));
     }

@@ -4,7 +4,7 @@ use Rattle.std.proofs.Math.ListN.{get_or-eq_default}
 use Rattle.std.proofs.lemmas.Bool.Decides.{nat_tests}
 use Rattle.std.proofs.lemmas.List.{get_or_append_left, get_or-drop, get_or-replicate, get_or-take, length-drop, length-replicate, length-take-le}
 use Rattle.page_device.specs.Sealed.{IsSealed}
-use Rattle.directory.specs.declared.layout.TheConstants.{DIRECTORY_PAGES, FIRST_DIRECTORY_PAGE, LEAST_PAGES, ROOT_PAGE}
+use Rattle.directory.specs.declared.layout.TheConstants.{DIRECTORY_PAGES, FIRST_DIRECTORY_PAGE, GREATEST_DEPTH, LEAST_PAGES, ROOT_PAGE}
 use Rattle.bucket_page.specs.declared.page.Malformed.{Malformed}
 use Rattle.bucket_page.specs.declared.page.PageKind.{PageKind}
 use Rattle.bucket_page.specs.declared.page.PageKind.TheVariants as kinds
@@ -12,9 +12,9 @@ use Rattle.bucket_page.specs.Reading.{answer, fault_of, page_in}
 use Rattle.bucket_page.specs.Spelling.{Spells}
 use Rattle.bucket_page.proofs.PageLaws.{spelled_reads}
 use Rattle.hash_file.specs.Store.{page_at}
-use Rattle.file_walk.specs.Files.{file_of, page_on, pages_on, payload_on, said_by, said_on}
-use Rattle.file_walk.specs.Order.{IsRightPage, after_reading, is_directory, may_stand}
-use Rattle.file_walk.proofs.PagesLemmas.{pages_at, pages_length}
+use Rattle.file_walk.specs.Files.{file_of, page_on, pages_in, pages_on, payload_on, said_by, said_on}
+use Rattle.file_walk.specs.Order.{IsRightPage, after_reading, depth_of, is_directory, may_stand}
+use Rattle.file_walk.proofs.Today.{spelled_shallow, pages_at, pages_length}
 
 answered : {X : Type 0} (fault : Option Malformed) (x y : X) → answer fault y ≡ Ok x → (fault ≡ None) × (y ≡ x)
 answered None x y e = (refl, cc)
@@ -46,6 +46,7 @@ module _ (content : List (List ℕ)) (n : ℕ) (page : PageKind) (is : Spells pa
     formed = ap (λ f. after_reading f (may_stand n (said_on content n))) read.0
         ∙ ap (λ p. after_reading None (may_stand n p)) says
         ∙ ap (after_reading None) stands;
+    shallow = subst (λ (p : PageKind). depth_of p ≤ GREATEST_DEPTH) (sym says) (spelled_shallow page payload is);
     spelled = subst (λ (p : PageKind). Spells p payload) (sym says) is;
   }
 
@@ -56,7 +57,7 @@ module _ (content : List (List ℕ)) (n : ℕ) (page : PageKind) (is : Spells pa
 
 -- nothing is asked of the pages below the root
 pub page_low : (content : List (List ℕ)) (n : ℕ) → n < ROOT_PAGE → page_at (file_of content) n ≡ kinds.Directory []
-unfolding pages_on
+unfolding pages_in
 page_low content n low =
     let d : PageKind = kinds.Directory [] in
     let some : n < length (replicate ROOT_PAGE d) = subst (λ m. n < m) (sym (length-replicate ROOT_PAGE d)) low in

@@ -1,12 +1,25 @@
 -- A right file whose one bucket has the records of a system is the file of that system.
-use Rattle.std.proofs.Common.{ℕ, ◌≡◌, ◌≢◌, true, List, [], ◌∷◌, map, Option, Some, None, refl, sym, ap, subst, ◌∙◌, inl, inr, arith}
+use Rattle.std.proofs.Common.{ℕ, ◌≡◌, ◌≢◌, true, false, List, [], ◌∷◌, map, Option, Some, None, refl, sym, ap, subst, ◌∙◌, inl, inr, arith}
 use Rattle.bucket_page.specs.declared.page.PageKind.TheVariants as kinds
 use Rattle.file_check.specs.Records.{AreRightIn, AreRightRecords, IsRecord, IsRightRecord}
 use Rattle.file_check.specs.Whole.{IsFileOf}
 use Rattle.file_check.specs.Words.{IsPlaced, IsRightStructure, Pair, Record, RecordKey, Spells, State, bucket_at, contents, file_of, pairs_on, records_at}
 use Rattle.one_bucket_file.proofs.Names.{All, All-cons, All-nil, Contains, HasSystem, Holds, IsQuietFile, PageKind, Queue, Quiet, ROOT_PAGE, all_of, ascend, bucket_of, contains_cases, contains_head, contains_none, contents_are_pairs, find, find-Some, found_id, has_id, image, image_has, in_flat_map, in_map, key_of, key_of_queue, lookup, lookup_before, option_map, page_at, record_of, root_bucket, spelled, structure_sound, value_of}
 use Rattle.record_walk.proofs.OneSystem.{one_system}
-use Rattle.one_bucket_file.specs.Files.{AreRecordsOf}
+use Rattle.queue_model.specs.Lawful.{IsLawful}
+use Rattle.type_chains.specs.Fits.{HasFittingNumbers}
+
+-- at each key stands the value of the record there, and none where there is none
+abbrev pub HasValues : (RecordKey → Option Record) → List Pair → Type 0
+HasValues records ps = (key : RecordKey) → lookup key ps ≡ option_map value_of (records key)
+
+-- a lawful system whose records can be spelled, and that is not stopped, since that stands in no record; these are its
+-- records
+pub record AreRecordsOf (s : State) (rs : List Pair) : Type 0 where
+  pub lawful : IsLawful s
+  pub fits : HasFittingNumbers s
+  pub running : s.stopped ≡ false
+  pub values : HasValues (record_of s) rs
 
 module _ (hash : RecordKey → ℕ) (content : List (List ℕ)) (rs : List Pair)
     (structure : IsRightStructure content (ROOT_PAGE ∷ []))

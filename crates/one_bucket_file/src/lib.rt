@@ -1,13 +1,9 @@
-//! Files of a system of which all records stand in the root bucket: what they show, and that
-//! they stay such files.
+//! A new file is that of the system without queues, all of whose records stand in the root bucket.
 
 #![tactic(auto)]
 
 mod laws;
 
 pub use file_check;
-pub use laws::{
-    a_file_keeps_its_structure, a_new_file_has_no_queues, a_root_bucket_is_alone,
-    the_records_of_one_bucket,
-};
+pub use laws::a_new_file_has_no_queues;
 pub use record_file;

@@ -47,9 +47,9 @@ use Rattle.file_walk.specs.Files.{file_of, header_on, page_on, payload_on}
 use Rattle.file_walk.specs.Laws.{IsQuietFile}
 use Rattle.file_walk.specs.Order.{HasHeader, IsRightPage, is_directory}
 use Rattle.file_walk.specs.Structure.{IsRightStructure}
-use Rattle.file_walk.proofs.PageLemmas.{may_below}
-use Rattle.file_walk.proofs.PagesLemmas.{pages_at, pages_length}
-use Rattle.file_walk.proofs.SoundLemmas.{structure_sound}
+use Rattle.file_walk.proofs.Today.{may_below}
+use Rattle.file_walk.proofs.Today.{pages_at, pages_length}
+use Rattle.file_walk.proofs.Today.{structure_sound}
 use Rattle.record_walk.specs.Held.{Holds}
 use Rattle.record_walk.specs.Systems.{HasSystem}
 use Rattle.record_walk.specs.Words.{key_of_queue}
@@ -157,7 +157,7 @@ module _ (hash : RecordKey → ℕ) (content : List (List ℕ)) (file : SpellsFi
       (subst (λ (ms : List ℕ). Contains (pairs_on (file_of content) ms) p) (sym quiet.chained)
       (in_flat_map (records_at (file_of content)) ns n p on stands))
 
-  -- ---- and where it holds just the records of a system, it is the file of that system
+  -- ---- and where it holds exactly the records of a system, it is the file of that system
 
   module _ (s : State) (lawful : IsLawful s) (running : s.stopped ≡ false)
       (holds : (key : RecordKey) → contents (store_of (payloads_of content)) key

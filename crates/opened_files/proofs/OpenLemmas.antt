@@ -38,7 +38,7 @@ use Rattle.type_chains.proofs.Spelled.{spelled}
 use Rattle.file_walk.specs.Files.{file_of, header_on, page_on, payload_on, said_on}
 use Rattle.file_walk.specs.Order.{IsRightPage, is_directory}
 use Rattle.file_walk.specs.Structure.{HasPages}
-use Rattle.file_walk.proofs.SoundLemmas.{right_directory}
+use Rattle.file_walk.proofs.Today.{right_directory}
 use Rattle.record_walk.proofs.OneSystem.{numbers_fit}
 use Rattle.one_bucket_file.specs.file_check.Whole.{IsFileOf}
 use Rattle.one_bucket_file.proofs.PageLemmas.{said_is}

@@ -21,8 +21,8 @@ use Rattle.hash_file.specs.Store.{Store, bucket_of, entry_at, is_bucket, page_at
 use Rattle.file_pages.specs.Files.{SpellsFile, entry_on, image, kind_on, store_of}
 unfoldable use Rattle.file_pages.specs.Files.{entries_of as listed_entries}
 use Rattle.file_pages.proofs.StoreLemmas.{entry_is, header_is, layout_is, length-listed, listed_at, page_is, pages_are}
-use Rattle.file_walk.specs.Files.{entries_of, entries_on, file_layout, file_of, header_on, payload_on, said_by, said_on}
-use Rattle.file_walk.proofs.PagesLemmas.{pages_at, pages_length}
+use Rattle.file_walk.specs.Files.{entries_of, entries_in, entries_on, file_layout, file_of, header_on, payload_on, said_by, said_on}
+use Rattle.file_walk.proofs.Today.{pages_at, pages_length}
 use Rattle.file_walk.proofs.SoundLemmas.{pieces_length}
 use Rattle.one_bucket_file.proofs.PageLemmas.{directory_length, directory_of, directory_page, page_low, page_past, said_is, says}
 use Rattle.opened_files.proofs.SameLemmas.{SaysTheSame}
@@ -110,7 +110,7 @@ module _ (content : List (List ℕ)) (file : SpellsFile (payloads_of content)) w
   -- so the entry at a place is that in its slot of its page
   entry_said : (i : ℕ) → i < 2 ^ GREATEST_DEPTH →
       slice_index_or (entries_on content) i 0 ≡ slice_index (entries_at (payload_on content (page_of i))) (slot_of i)
-  unfolding entries_on
+  unfolding entries_in
   entry_said i small =
       let j : ℕ = i / PAGE_ENTRIES in
       let slot : ℕ = i % PAGE_ENTRIES in

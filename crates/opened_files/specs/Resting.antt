@@ -1,4 +1,4 @@
--- A file that no seat holds anything of, and that holds just the records of a system.
+-- A file that no seat holds anything of, and that holds exactly the records of a system.
 -- docs/STEPS.md, "Calls"; docs/FORMAT.md, "Records".
 use Rattle.std.specs.Prelude.{ℕ, ◌≡◌, [], IfSome, IsTrue}
 use Rattle.std.specs.Option.{option_map}
@@ -29,6 +29,6 @@ pub record IsFileAtRest (hash : RecordKey → ℕ) (s : State) (pool : PoolState
   pub free : (seat : ℕ) → row_of locks seat ≡ []
   -- records can spell the system
   pub filed : IsFiled s
-  -- at each key stands the value of just the record that the system has there
+  -- at each key stands the value of exactly the record that the system has there
   pub holds : (key : RecordKey) → contents (store_of pool.images) key ≡ option_map value_of (record_of s key)
   pub spelled : (key : RecordKey) → IfSome (record_of s key) (λ (r : Record). Spells r key (value_of r))

@@ -1,3 +1,4 @@
 pub mod DecideLemmas
+pub mod HeldLemmas
 pub mod Names
 pub mod OverlayLemmas

@@ -38,7 +38,7 @@ PaysBySweeping = (id : ℕ) (ws : List Write) (swept : RecordKey) (records : Rec
     is_swept id swept ≡ true →
     overlaid (Sweeps id ws) (with_at swept None records) key ≡ overlaid (Sweeps id ws) records key
 
--- and behind the last the writes are left
+-- and after the last the writes are left
 abbrev pub EndsSweep : Type 0
 EndsSweep = (id : ℕ) (ws : List Write) (records : Records) (key : RecordKey) →
     ((k : RecordKey) → is_swept id k ≡ true → records k ≡ None) →
@@ -46,7 +46,7 @@ EndsSweep = (id : ℕ) (ws : List Write) (records : Records) (key : RecordKey) �
 
 -- ---- what a decision owes
 
--- with its trials made, what a call owes behind its Decide leads from the records of the system before to those of the
+-- with its trials made, what a call owes after its Decide leads from the records of the system before to those of the
 -- system after
 pub record OwesAfter (held : List LockName) (trials : List Record) (o : Owes) (s after : State) : Type 0 where
   pub leads : (key : RecordKey) → overlaid o (inserted trials (record_of s)) key ≡ record_of after key

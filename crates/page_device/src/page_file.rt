@@ -6,7 +6,7 @@ use std::fs::OpenFile;
 use std::io;
 use std::io::{Read, Seek, SeekFrom, Write};
 
-/// A file of pages, one behind the other.
+/// A file of pages, one after the other.
 pub trait PageFile {
     /// It gives back what was written. No call makes it honest or dishonest.
     ghost is_honest: { Self → Bool };

@@ -55,7 +55,7 @@ fn digest(n: u32, payload: &[u8]) -> [u8; DIGEST_BYTES]
     hasher.finalize()
 }
 
-/// Writes the two parts one behind the other.
+/// Writes the two parts one after the other.
 fn join(front: &[u8], back: &[u8], whole: &mut [u8])
     requires { length whole.old ≡ length front.now + length back.now }
     ensures { whole.new ≡ front.now ++ back.now }

@@ -4,7 +4,7 @@ ghost use Rattle.std.specs.Prelude.{◌≡◌, ◌↔◌, ℕ, ◌+◌, ◌<◌,
 ghost use Rattle.bucket_page.specs.page_device.declared.page.TheConstants.{MAX_PAGES};
 ghost use Rattle.bucket_page.specs.declared.layout.TheConstants.{RECORD_HEAD_BYTES, ROOM_BYTES};
 ghost use Rattle.bucket_page.specs.declared.page.PageKind.TheVariants as kinds;
-ghost use Rattle.bucket_page.specs.Changes.{Changes, HasValueOf, IsBucketPage, fronted, inserted, removed, replaced, value_of_key};
+ghost use Rattle.bucket_page.specs.Changes.{Changes, IsBucketPage, fronted, inserted, removed, value_of_key};
 ghost use Rattle.bucket_page.specs.Reading.{records_in};
 ghost use Rattle.bucket_page.specs.Records.{lookup, pair, record_bytes};
 ghost use Rattle.bucket_page.specs.Spelling.{Spells};
@@ -16,9 +16,7 @@ ghost use Rattle.bucket_page.specs.directory.Spelling.{Spells as SpellsHeader};
 use crate::file_page::FilePage;
 use bucket_page::directory::{Header, copy_upper, retarget, write_header};
 use bucket_page::positions::Range;
-use bucket_page::{
-    DoesNotFit, RecordKey, put, remove, replace, replace_front, write_free, write_tombstone,
-};
+use bucket_page::{DoesNotFit, RecordKey, put, remove, replace_front, write_free, write_tombstone};
 
 impl FilePage {
     /// Puts a record into a bucket that has none of its key. Where it does not fit
@@ -32,15 +30,6 @@ impl FilePage {
         ensures err { OnErr result (self.new ≡ self.old) }
     {
         put(&mut self.payload, key, value)
-    }
-
-    /// Replaces the value of a key that the bucket has by one of the same length.
-    pub fn replace(&mut self, key: &RecordKey, value: &[u8])
-        requires bucket { IsBucketPage self.old }
-        requires there { HasValueOf (length value.now) key.now (records_in self.old) }
-        ensures { Changes (replaced (pair key.now value.now)) self.old self.new }
-    {
-        replace(&mut self.payload, key, value);
     }
 
     /// Replaces the first bytes of the value of a key that the bucket has. The others

@@ -73,13 +73,6 @@ impl FilePage {
         &self.payload
     }
 
-    /// Its bytes spell a page.
-    pub fn spells_a_page(&self)
-        ensures { IsWell self.now }
-    {
-        let _ = &self.payload;
-    }
-
     /// What it says where it is a header.
     pub fn header(&self) -> Option<Header>
         ensures some { IfSome result

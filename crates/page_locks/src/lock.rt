@@ -1,7 +1,7 @@
 //! What can be locked, and in which kinds.
 
 ghost use Rattle.std.specs.Prelude.{◌≡◌};
-ghost use Rattle.page_locks.specs.Locks.{compatible, is_on, in_kind};
+ghost use Rattle.page_locks.specs.Locks.{is_on, in_kind};
 
 /// What a lock is on. Callers take locks in the order of the variants; a table asks for none.
 #[derive(Clone, Copy, Debug, PartialEq, Eq, Default)]
@@ -29,19 +29,6 @@ pub enum LockKind {
     Selective,
     /// Beside no other.
     Exclusive,
-}
-
-impl LockKind {
-    /// Whether two seats may hold one name in these kinds.
-    pub fn is_compatible(self, other: LockKind) -> bool
-        ensures { result ≡ compatible self other }
-    {
-        match self {
-            LockKind::Read => !matches!(other, LockKind::Exclusive),
-            LockKind::Selective => matches!(other, LockKind::Read),
-            LockKind::Exclusive => false,
-        }
-    }
 }
 
 /// A name, and the kind in which it is held.

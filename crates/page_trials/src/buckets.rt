@@ -6,8 +6,8 @@ ghost use Rattle.bucket_page.specs.Dividing.{ShareNoKey};
 use crate::bucket::bucket;
 use bucket_page::{
     BucketView, ConstantKey, DoesNotFit, Malformed, NumberKey, PageKind, PseudoKey,
-    RECORD_HEAD_BYTES, ROOM_BYTES, RecordKey, ShaKey, cut, join, put, read_page, remove, replace,
-    write_bucket, write_free, write_tombstone,
+    RECORD_HEAD_BYTES, ROOM_BYTES, RecordKey, ShaKey, cut, join, put, read_page, remove,
+    replace_front, write_bucket, write_free, write_tombstone,
 };
 use directory::{GREATEST_DEPTH, PAGE_ENTRIES, set_entry, write_directory};
 use page_device::{PAYLOAD_BYTES, Payload};
@@ -46,7 +46,7 @@ fn replaces(rt: &impl Abort, payload: &mut Payload, number: u64, value: &[u8]) {
         panic!(rt; "no record {number}");
     };
     assert!(rt; old.len() == value.len());
-    replace(payload, &key, value);
+    replace_front(payload, &key, value);
 }
 
 fn removes(rt: &impl Abort, payload: &mut Payload, number: u64) {

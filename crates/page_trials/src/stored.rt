@@ -4,7 +4,7 @@
 ghost use Rattle.std.specs.Prelude.{◌+◌, ◌≤◌};
 
 use crate::bucket::bucket;
-use bucket_page::{put, remove, replace, write_bucket};
+use bucket_page::{put, remove, replace_front, write_bucket};
 use page_device::{PAYLOAD_BYTES, Payload};
 use queue_records::{Body, KeyEntry, MessageEntry, Record, TypeEntry, Value};
 use std::process::Abort;
@@ -33,7 +33,7 @@ fn replaces(rt: &impl Abort, payload: &mut Payload, record: &Record) {
         panic!(rt; "no record");
     };
     assert!(rt; old.len() == value.as_slice().len());
-    replace(payload, &key, value.as_slice());
+    replace_front(payload, &key, value.as_slice());
 }
 
 /// The head of a root bucket with so many records of so many bytes together.

@@ -1,21 +1,19 @@
 -- A list of ranges ascends and covers each pseudokey once exactly where it tiles all positions.
-use Rattle.std.proofs.Common.{ℕ, zero, suc, ◌≡◌, ◌≢◌, ◌+◌, ◌<◌, ◌≤◌, ◌↔◌, List, [], ◌∷◌, ◌++◌, length, slice_index_or, take, drop, add-one, arith, sym, ap, ◌∙◌, inl, inr}
+use Rattle.std.proofs.Common.{ℕ, zero, suc, ◌≡◌, ◌≢◌, ◌<◌, ◌≤◌, ◌↔◌, List, [], ◌∷◌, slice_index_or, arith, sym, ◌∙◌, inl, inr}
 use Rattle.std.specs.List.{Contains, All, AllPairs}
 use Rattle.std.proofs.lemmas.Bool.{cases_lt}
 use Rattle.std.proofs.lemmas.List.Elements.{All-contains, All-contains_itself}
-use Rattle.std.proofs.lemmas.List.{take-append-drop}
-use Rattle.std.proofs.Math.Seq.{take-suc, drop-cons}
 use Rattle.std.proofs.lemmas.List.Kept.{AllPairs-cons}
 use Rattle.positions.specs.declared.pseudokey.TheConstants.{POSITIONS}
 use Rattle.positions.specs.declared.range.Range.{Range}
 use Rattle.positions.specs.Positions.{position_of}
 use Rattle.positions.specs.Ranges.{IsRange, Covers, HasPosition, start_of, stop_of}
-use Rattle.positions.specs.Tiles.{IsTileAt, Tiles}
+use Rattle.positions.specs.Tiles.{Tiles}
 use Rattle.positions.specs.Partition.{LiesInOne, IsPartition}
 use Rattle.positions.proofs.MemberLaws.{contains_head, contains_tail, contains_cases, contains_none}
 use Rattle.positions.proofs.PositionLaws.{position_below, position_twice, width_positive}
 use Rattle.positions.proofs.RangeLaws.{range_stop, range_has, range_covers, range_has_start}
-use Rattle.positions.proofs.TileLaws.{tiles_push, tiles_end, tiles_cut, tiles_within, tiles_found, tiles_unique}
+use Rattle.positions.proofs.TileLaws.{tiles_within, tiles_found, tiles_unique}
 
 -- of pairs of a list, those of its first element, and those of the others
 pairs_head : {X : Type 0} (R : X → X → Type 0) (x : X) (xs : List X) → AllPairs R (x ∷ xs) → (y : X) → Contains xs y →
@@ -180,29 +178,3 @@ module _ {X : Type 0} (range : X → Range) where
       let up = tiles_ascend xs a b t i j d before within in
       let up' = rw same at up in
       omega (arith, up')
-
-  -- where the first ranges of a partition reach position m, the next is a tile there
-  pub partition_continues : (front : List X) (x : X) (back : List X) (m : ℕ) → Tiles range 0 front m →
-      IsPartition range (front ++ x ∷ back) → IsTileAt (range x) m
-  partition_continues front x back m t h =
-      let cut = tiles_cut range front x back 0 POSITIONS (partition_tiles (front ++ x ∷ back) h) in
-      record { valid = cut.valid; begins = tiles_end range front 0 (start_of (range x)) m cut.before t }
-
-  -- and all of them reach the end
-  pub partition_ends : (xs : List X) (m : ℕ) → Tiles range 0 xs m → IsPartition range xs → m ≡ POSITIONS
-  partition_ends xs m t h = tiles_end range xs 0 m POSITIONS t (partition_tiles xs h)
-
-  -- the same where the list is cut at place i
-  pub partition_continues_at : (xs : List X) (i : ℕ) (d : X) (m : ℕ) → i < length xs → Tiles range 0 (take i xs) m →
-      IsPartition range xs → IsTileAt (range (slice_index_or xs i d)) m
-  partition_continues_at xs i d m within t h =
-      let parts : xs ≡ take i xs ++ slice_index_or xs i d ∷ drop (suc i) xs =
-      sym (take-append-drop i xs) ∙ ap (λ (ys : List X). take i xs ++ ys) (drop-cons xs i d within) in
-      partition_continues (take i xs) (slice_index_or xs i d) (drop (suc i) xs) m t (rw (← parts) h)
-
-  -- and the tiles seen with it reach its stop
-  pub tiles_grown_at : (xs : List X) (i : ℕ) (d : X) (m : ℕ) → i < length xs → Tiles range 0 (take i xs) m →
-      IsTileAt (range (slice_index_or xs i d)) m →
-      Tiles range 0 (take (i + 1) xs) (stop_of (range (slice_index_or xs i d)))
-  tiles_grown_at xs i d m within t tile =
-      rw (add-one i, take-suc xs i d within) (tiles_push range (take i xs) (slice_index_or xs i d) 0 m t tile)

@@ -5,7 +5,6 @@
 #![tactic(auto)]
 
 mod laws;
-mod partition;
 mod pseudokey;
 mod range;
 
@@ -18,7 +17,6 @@ pub use laws::{
     the_halves_of_a_range_make_it_up, the_whole_range_is_a_tiling, walking_finds_the_tile,
     walking_meets_all_tiles,
 };
-pub use partition::is_partition;
 pub use pseudokey::{POSITIONS, PSEUDOKEY_BITS, index, position};
 pub use range::Range;
 

@@ -86,18 +86,6 @@ fn each_pseudokey_lies_in_one_of_three_ranges(rt: HostRuntime) {
 }
 
 #[test]
-fn a_partition_has_neither_gap_nor_overlap(rt: HostRuntime) {
-    assert!(rt; is_partition(&[Range::whole()]));
-    assert!(rt; is_partition(&[range(2, 0), range(2, 2), range(1, 1)]));
-    assert!(rt; !is_partition(&[]));
-    assert!(rt; !is_partition(&[range(2, 0), range(1, 1), range(2, 2)]));
-    assert!(rt; !is_partition(&[range(2, 0), range(2, 2)]));
-    assert!(rt; !is_partition(&[range(2, 2), range(1, 1)]));
-    assert!(rt; !is_partition(&[range(1, 0), range(2, 2), range(1, 1)]));
-    assert!(rt; !is_partition(&[range(1, 0), range(1, 0), range(1, 1)]));
-}
-
-#[test]
 fn buddies_are_halves(rt: HostRuntime) {
     let low = range(3, 1);
     let high = range(3, 5);

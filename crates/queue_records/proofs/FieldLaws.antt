@@ -166,7 +166,7 @@ pub ends_at : (at n : ℕ) (bytes part : List ℕ) → drop at bytes ≡ part ++
 ends_at at n bytes part is long some =
     omega (arith, ap length (is ∙ append-nil part), long, some, length-drop at bytes)
 
--- ---- fields one behind the other
+-- ---- fields one after the other
 
 -- each part put behind those before it
 abbrev pub appended : List ℕ → List (List ℕ) → List ℕ

@@ -1,4 +1,4 @@
--- The fields of each value, one behind the other.
+-- The fields of each value, one after the other.
 use Rattle.std.proofs.Common.{◌≡◌, ℕ, List, [], ◌∷◌}
 use Rattle.bucket_page.specs.fields.Numbers.{two, four, eight}
 use Rattle.queue_records.specs.declared.queue_entry.QueueEntry.{QueueEntry}

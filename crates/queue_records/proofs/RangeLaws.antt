@@ -1,4 +1,4 @@
--- The tests of a record's limits pass just where it keeps them.
+-- The tests of a record's limits pass exactly where it keeps them.
 use Rattle.std.proofs.Common.{◌≡◌, ℕ, Bool, true, false, ◌&&◌, ◌↔◌, ℤ, Option, Some, None, refl, arith, rules}
 use Rattle.std.specs.Prelude.{IfSome}
 use Rattle.std.proofs.lemmas.Bool.{leb-true, ltb-true, le-leb, lt-ltb}

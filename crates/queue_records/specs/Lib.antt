@@ -1,5 +1,6 @@
 pub mod Fields
 pub mod Keys
+pub mod Older
 pub mod Range
 pub mod Reading
 pub mod Records

@@ -24,6 +24,12 @@ pub const KEY_BYTES: usize = 4;
 /// Bytes of the value of a Queue.
 pub const QUEUE_BYTES: usize = 99;
 
+/// Bytes of the value of a Queue of version 1, which ends with its lowest type.
+pub const OLDER_QUEUE_BYTES: usize = 81;
+
+/// The mode of a queue of version 1, which has none: all may read and write.
+pub const OLDER_MODE: u16 = 0o666;
+
 /// Bytes of the value of a Type.
 pub const TYPE_BYTES: usize = 32;
 

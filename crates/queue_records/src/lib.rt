@@ -12,6 +12,7 @@ mod laws;
 mod layout;
 mod links;
 mod message_entry;
+mod older;
 mod queue_entry;
 mod record;
 mod relinking;
@@ -26,7 +27,10 @@ pub use field::{eight_fits, four_fits, type_fits};
 pub use key_entry::KeyEntry;
 pub use keys::{counter_key, key_key, message_key, queue_key, type_key};
 pub use laws::a_spelling_is_of_one_record;
-pub use layout::{COUNTER, KEY, MAX_VALUE_BYTES, MESSAGE, MESSAGE_BYTES, QUEUE, TYPE, TYPE_BYTES};
+pub use layout::{
+    COUNTER, KEY, MAX_VALUE_BYTES, MESSAGE, MESSAGE_BYTES, OLDER_MODE, OLDER_QUEUE_BYTES, QUEUE,
+    TYPE, TYPE_BYTES,
+};
 pub use limits::{END_OF_IDS, MAX_BODY, MAX_MESSAGES, MAX_QBYTES, MAX_QUEUES, MODES};
 pub use links::{Link, Links, MessageLinks, TypeLinks};
 pub use message_entry::MessageEntry;

@@ -2,11 +2,13 @@
 
 ghost use Rattle.std.specs.Prelude.{◌≡◌, length, slice_index, IfSome, IfOk, Ok};
 ghost use Rattle.bucket_page.specs.fields.Numbers.{four_at};
+ghost use Rattle.queue_records.specs.declared.layout.TheConstants.{OLDER_QUEUE_BYTES};
 ghost use Rattle.queue_records.specs.declared.record.Record.TheVariants as records;
 ghost use Rattle.queue_records.specs.Fields.{given_key, key_flag, key_number};
 ghost use Rattle.queue_records.specs.Range.{IsQueueInRange};
 ghost use Rattle.queue_records.specs.Reading.{Gives, has_flag, has_limits, is_queue, queue_at, reads_queue};
 ghost use Rattle.queue_records.specs.Records.{FitsFour, FitsQueue, Spells};
+ghost use Rattle.queue_records.specs.Older.{older_queue_bytes};
 ghost use Rattle.queue_records.specs.Spelling.{queue_bytes, queue_key};
 
 use crate::bad_record::BadRecord;
@@ -132,6 +134,20 @@ impl QueueEntry {
         requires { IsQueueInRange self.now }
         ensures { value.new ≡ queue_bytes self.now }
     {
+        self.encode_older(value);
+        value.put_four(self.uid);
+        value.put_four(self.gid);
+        value.put_four(self.cuid);
+        value.put_four(self.cgid);
+        value.put_two(self.mode);
+    }
+
+    /// Makes the value that of this record in version 1, which has no owners and no mode.
+    pub fn encode_older(&self, value: &mut Value)
+        requires { IsQueueInRange self.now }
+        ensures value { value.new ≡ older_queue_bytes self.now }
+        ensures len { length value.new ≡ OLDER_QUEUE_BYTES }
+    {
         value.clear();
         value.put_one(key_flag(self.key));
         value.put_four(key_number(self.key));
@@ -147,11 +163,6 @@ impl QueueEntry {
         value.put_eight(serial_number(self.first));
         value.put_eight(serial_number(self.last));
         value.put_eight(type_link_number(self.lowest));
-        value.put_four(self.uid);
-        value.put_four(self.gid);
-        value.put_four(self.cuid);
-        value.put_four(self.cgid);
-        value.put_two(self.mode);
     }
 }
 

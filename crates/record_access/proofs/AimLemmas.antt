@@ -150,7 +150,7 @@ some_told (Some at) key bytes found has = refl
 
 module _ (did : Progress FileFault) (pool : PoolState) (a : AccessView) (o' : RecordOperation) (written : Bool)
     (aim : KeepsOperation (length a.bytes) did pool a.operation o') where
-  -- the access behind a step of its operation
+  -- the access after a step of its operation
   abbrev pub behind : AccessView
   behind = record { operation = o'; links = a.links; bytes = a.bytes; written = written }
 

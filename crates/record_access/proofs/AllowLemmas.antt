@@ -1,4 +1,4 @@
--- What stands at the key behind a step allows what is left to do.
+-- What stands at the key after a step allows what is left to do.
 use Rattle.std.proofs.Common.{◌≡◌, refl, sym, ap, ◌∙◌, subst, ℕ, Bool, true, false, not, ◌&&◌, List, length, if◌then◌else◌, inl, inr, Option, Some, None, IsSome}
 use Rattle.std.proofs.lemmas.Bool.{true≢false}
 use Rattle.std.specs.Option.{option_map}
@@ -10,7 +10,7 @@ use Rattle.record_access.specs.Purposes.{Purpose, ToFind, ToInsert, ToWrite, Can
 use Rattle.record_access.specs.Accesses.{AccessView, Allows, CameTo, FitsWrite, IsFrontOf, IsPrepared, IsToWrite, is_full}
 use Rattle.record_access.specs.Readings.{SuitsRecord}
 
--- what stands there behind a step that writes, or not
+-- what stands there after a step that writes, or not
 abbrev pub left : Bool → Purpose → Option Record → Option Record
 left b p found = if b then made p found else found
 
@@ -148,7 +148,7 @@ something (Replace r) a (Some q) fits unwritten = refl
 something (Relink key links) a found fits unwritten = subst IsSome (sym (is_such links found fits.0).is) refl
 something (Delete key) a found fits unwritten = fits unwritten
 
--- behind the Look of a page that answered
+-- after the Look of a page that answered
 pub allows_taken : (p : Purpose) (found : Option Record) (a new : AccessView) → new.written ≡ a.written →
     Allows p a found → SuitsRecord p new found →
     (IsSome found → IsToWrite a.operation → IsToWrite new.operation) → Allows p new found

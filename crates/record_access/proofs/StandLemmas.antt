@@ -1,4 +1,4 @@
--- What stands at the key behind a step of the operation.
+-- What stands at the key after a step of the operation.
 use Rattle.std.proofs.Common.{◌≡◌, refl, sym, ap, ◌∙◌, subst, ℕ, Bool, true, List, [], ◌++◌, length, if◌then◌else◌, Option, Some, None, IfSome, IsSome, arith}
 use Rattle.std.proofs.lemmas.Bool.Decides.{nat_tests}
 use Rattle.std.proofs.lemmas.List.{append-nil, drop_all}

@@ -1,4 +1,4 @@
--- What an access takes from the page that answered, behind the Look of its operation.
+-- What an access takes from the page that answered, after the Look of its operation.
 use Rattle.std.proofs.Common.{◌≡◌, refl, sym, ap, ◌∙◌, subst, ℕ, ◌<◌, Bool, true, false, not, ◌&&◌, List, length, inl, inr, ◌⊎◌, Option, Some, None, IsSome, IsTrue, IsOk, Result, Ok, Err, is_ok, if◌then◌else◌, arith}
 use Rattle.std.proofs.lemmas.Bool.{true≢false}
 use Rattle.std.specs.Option.{option_map}
@@ -87,7 +87,7 @@ nears_of did looked left mid last pool pool' pool'' same near =
     (subst (λ (n : ℕ). n < left) same
     (subst (λ (d : Progress FileFault). NearsOrSpares d left mid pool pool') looked near))
 
--- a read behind a step
+-- a read after a step
 step_on : (hash : RecordKey → ℕ) (seat : ℕ) (turn : Turn) (did : Progress FileFault) (facts : List Known)
     (pool pool' pool'' : PoolState) (locks locks' : Table) (change : Change) → pool''.images ≡ pool'.images →
     IsFilePool pool'' → Step hash seat turn did facts pool pool' locks locks' change →

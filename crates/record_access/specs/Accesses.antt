@@ -144,7 +144,7 @@ pub record IsToWrite (o : RecordOperation) : Type 0 where
 
 pub record AllowsWrite (write : Write) (a : AccessView) (found : Option Record) : Type 0 where
   pub fits : FitsWrite write a found
-  -- behind its search it has written
+  -- after its search it has written
   pub due : a.written ≡ false → IsToWrite a.operation
 
 -- an insert that has written nothing came to nothing else than no room

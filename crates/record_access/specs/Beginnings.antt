@@ -1,8 +1,8 @@
--- What is so of an access that has just begun, and how many steps one has left.
-use Rattle.std.specs.Prelude.{ℕ, ◌≡◌, ◌≤◌, false, List, [], Option}
-use Rattle.record_access.specs.Words.{RecordKey, PoolState, Table, Lock, Change, store_of, Sees, HasEnded, MOST_STEPS, Record}
+-- What is so of an access that has just begun.
+use Rattle.std.specs.Prelude.{ℕ, ◌≡◌, false, List, [], Option}
+use Rattle.record_access.specs.Words.{Lock, HasEnded, Record}
 use Rattle.record_access.specs.Purposes.{CanBegin, KeepsLimits, Purpose}
-use Rattle.record_access.specs.Accesses.{AccessView, Allows, Serves, access_facts, access_left, access_locks, access_pseudokey, begun, has_no_room}
+use Rattle.record_access.specs.Accesses.{AccessView, Allows, Serves, access_facts, access_locks, access_pseudokey, begun, has_no_room}
 
 -- it holds and knows nothing of the file, and has written nothing
 pub record IsAtBeginning (p : Purpose) (k : ℕ) (a : AccessView) : Type 0 where
@@ -17,8 +17,3 @@ pub record IsAtBeginning (p : Purpose) (k : ℕ) (a : AccessView) : Type 0 where
 
 abbrev pub Begins : Type 0
 Begins = (p : Purpose) (k : ℕ) → IsAtBeginning p k (begun p k)
-
-abbrev pub HasFewSteps : Type 0
-HasFewSteps = (hash : RecordKey → ℕ) (seat : ℕ) (a : AccessView) (pool : PoolState) (locks : Table)
-    (change : Change) → Sees hash seat (access_facts a) pool locks change →
-    access_left a (store_of pool.images) ≤ MOST_STEPS

@@ -33,7 +33,7 @@ abbrev pub is_write : {F : Type 0} → Progress F → Bool
 is_write (Moved WriteRecord) = true
 is_write did = false
 
--- what stands there behind a step
+-- what stands there after a step
 abbrev pub left_by : {F : Type 0} → Progress F → Purpose → Option Record → Option Record
 left_by did p found = if is_write did then made p found else found
 

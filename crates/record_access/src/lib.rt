@@ -14,6 +14,6 @@ mod reading;
 
 pub use access::Access;
 pub use file_pages;
-pub use laws::{an_access_begins_right, an_access_has_few_steps};
+pub use laws::an_access_begins_right;
 pub use place::AccessPlace;
 pub use record_operation::step_rules;

@@ -10,7 +10,7 @@ use Rattle.bucket_merge.specs.stale_search.Searches.{AnswersFor, facts_at}
 use Rattle.record_file.specs.Words.{RecordKey, lookup, PoolState, records_at, Progress, Moved, Blocked, Fault, Ended, World, IsSoundWorld, AllKnown, Nears, found_at}
 use Rattle.record_file.specs.Machines.{Tells, FindsAt}
 
--- so many steps are left behind the search
+-- so many steps are left after the search
 pub nears_on : (did : Progress FileFault) (n left left' : ℕ) (pool pool' : PoolState) →
     Nears did left left' pool pool' →
     Nears did (left + n) (left' + n) pool pool'

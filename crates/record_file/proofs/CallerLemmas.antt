@@ -3,19 +3,17 @@ use Rattle.std.proofs.Common.{◌≡◌, refl, sym, ap, ◌∙◌, subst, ℕ, L
 use Rattle.record_file.proofs.Names.{COUNTER, ChangesRecord, Counter, FileFault, Found, GrantDirectory, GrantPage, Hop, KEY, KeepsContents, Key, LockName, Queue, ReadDepth, ReadEntry, ReleaseDirectory, SearchPlace, TurnsAt, WritesAsked, changes_just, first_kind, is_of_its_kind, is_same, key_of, kind_keeps_contents, kind_of-append, locks_at, row_of-same, value_after}
 use Rattle.bucket_page.specs.Keys.{is_same as is_same_key}
 use Rattle.step_rules.specs.declared.progress.Progress.TheVariants as answers
+use Rattle.step_rules.specs.Known.{Told}
 use Rattle.bucket_merge.specs.stale_search.declared.place.SearchPlace.TheVariants.{Look as AtLook}
-use Rattle.record_file.specs.Words.{RecordKey, RecordWrite, PoolState, Table, Lock, LockKind, Read, Selective, Directory, Page, Change, row_of, held, kind_of, lock_of, guard_of, contents, Progress, Moved, WriteRecord, World, IsHeld, Turn, IsSoundWorld, is_fault, world, SearchView, search_locks, in_directory, on_page}
-use Rattle.record_file.specs.Callers.{IsToldWritten, KeepsNames, MovesRow, StaysTold}
+use Rattle.record_file.specs.Words.{RecordKey, RecordWrite, PoolState, Table, Lock, LockKind, Read, Selective, Directory, Page, Change, IsKnown, IsSeat, Known, Step, row_of, with_row, held, kind_of, lock_of, guard_of, contents, Progress, Moved, WriteRecord, World, IsHeld, Turn, IsSoundWorld, is_fault, world, SearchView, search_locks, in_directory, on_page}
+use Rattle.record_file.specs.Callers.{KeepsNames}
 use Rattle.record_file.specs.Finds.{FindView, find_locks}
 use Rattle.record_file.specs.Replaces.{locks_in as replace_locks_in}
 use Rattle.record_file.specs.Removals.{locks_in as removal_locks_in}
-use Rattle.record_file.specs.FirstTries.{locks_in as first_try_locks_in}
 use Rattle.record_file.specs.declared.replace.ReplaceStage.{ReplaceStage}
 use Rattle.record_file.specs.declared.replace.ReplaceStage.TheVariants as replaces
 use Rattle.record_file.specs.declared.removal.RemovalStage.{RemovalStage}
 use Rattle.record_file.specs.declared.removal.RemovalStage.TheVariants as removals
-use Rattle.record_file.specs.declared.first_try.FirstTryStage.{FirstTryStage}
-use Rattle.record_file.specs.declared.first_try.FirstTryStage.TheVariants as tries
 
 first : (o : Option LockKind) → first_kind o None ≡ o
 first None = refl
@@ -76,12 +74,39 @@ removal_aside removals.Searching v before key = search_aside v before key
 removal_aside (removals.Written n due) v before key = page_aside n Selective before key
 removal_aside (removals.Ended due) v before key = refl
 
-pub first_try_aside : (stage : FirstTryStage) (v : SearchView) → KeepsNames (first_try_locks_in stage v)
-first_try_aside tries.Searching v before key = search_aside v before key
-first_try_aside (tries.Written n) v before key = page_aside n Selective before key
-first_try_aside (tries.Ended tried) v before key = refl
-
 -- ---- what is known
+
+-- a step of a seat's machine, which takes its row of locks from one place's to the next one's
+pub record MovesRow {F : Type 0} (hash : RecordKey → ℕ) (seat : ℕ) (did : Progress F) (pool : PoolState)
+    (locks locks' : Table) (change : Change) (old_locks new_locks : List Lock → List Lock) : Type 0 where
+  pub seated : IsSeat locks seat
+  pub sound : IsSoundWorld hash (world pool.images locks change)
+  pub fine : is_fault did ≡ false
+  pub old_names : KeepsNames old_locks
+  pub new_names : KeepsNames new_locks
+  pub before : List Lock
+  pub row : row_of locks seat ≡ old_locks before
+  pub is : locks' ≡ with_row locks seat (new_locks before)
+
+-- what the file holds at a key stays known through a step that writes no record
+abbrev pub StaysTold : Type 0
+StaysTold = (hash : RecordKey → ℕ) (seat : ℕ) (turn : Turn) (did : Progress FileFault) (facts : List Known)
+    (pool pool' : PoolState) (locks locks' : Table) (change : Change) (old_locks new_locks : List Lock → List Lock)
+    (step : Step hash seat turn did facts pool pool' locks locks' change) (key : RecordKey)
+    (value : Option (List ℕ)) → MovesRow hash seat did pool locks locks' change old_locks new_locks →
+    (did ≡ Moved WriteRecord → ⊥) → IsKnown seat (world pool.images locks change) (Told key value) →
+    IsKnown seat (world pool'.images locks' step.after) (Told key value)
+
+-- and is what was written, at the key that a step writes
+abbrev pub IsToldWritten : Type 0
+IsToldWritten = (hash : RecordKey → ℕ) (seat : ℕ) (turn : Turn) (did : Progress FileFault) (facts : List Known)
+    (pool pool' : PoolState) (locks locks' : Table) (change : Change) (old_locks new_locks : List Lock → List Lock)
+    (step : Step hash seat turn did facts pool pool' locks locks' change) (write : RecordWrite) (key : RecordKey)
+    (value : Option (List ℕ)) → MovesRow hash seat did pool locks locks' change old_locks new_locks →
+    did ≡ Moved WriteRecord → turn.write ≡ Some write →
+    IsKnown seat (world pool.images locks change) (Told key value) →
+    IsKnown seat (world pool'.images locks' step.after)
+    (Told key (if is_same_key (key_of write) key then value_after write else value))
 
 module _ (hash : RecordKey → ℕ) (seat : ℕ) (did : Progress FileFault) (pool : PoolState) (locks locks' : Table)
     (change : Change) (old_locks new_locks : List Lock → List Lock)

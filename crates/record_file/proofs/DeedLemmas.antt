@@ -30,7 +30,7 @@ writes_behind ok s t u r w = record {
   file = λ honest done f. w.file (r.honest ∙ honest) done (r.file honest refl f);
 }
 
--- what a write behind a read is of the file before both
+-- what a write after a read is of the file before both
 pub behind_read : (s t u : PoolState) (f : Store → Store) → OnlyReads true s t → IsTrue s.honest →
     (IsTrue t.honest → store_of u.images ≡ f (store_of t.images)) → store_of u.images ≡ f (store_of s.images)
 behind_read s t u f r honest is =

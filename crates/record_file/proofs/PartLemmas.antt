@@ -76,7 +76,7 @@ module _ (m : MergeView) (begun : IsBegun m) where
       ap (λ (p : MergePlace). merge_left_at p m.approach s) begun.place
       ∙ ap (λ (p : MergePlace). merge_left_at p m.approach t) (sym begun.place)
 
-  -- behind a step of the removal
+  -- after a step of the removal
   pub passed_locks : (stage : RemovalStage) (search : SearchView) (before : List Lock) →
       locks_in stage search before ≡ part stage (locks_in stage search before) before (merge_locks m before)
   passed_locks Searching search before = refl

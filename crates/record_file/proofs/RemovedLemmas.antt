@@ -91,7 +91,7 @@ module _ (s : Store) (page : ℕ) (key : RecordKey) (within : page < length s.pa
         le-leb (used_on s page - RECORD_HEAD_BYTES - bytes) MERGED_BYTES small,
       ) refl
 
--- behind the removal, whether a merge is due or not
+-- after the removal, whether a merge is due or not
 pub turned : (hash : RecordKey → ℕ) (key : RecordKey) (seat n : ℕ) (due : Bool) (w : World) →
     (due ≡ false → TurnsAway hash key seat w) → TurnsAwayIn hash key seat Searching (Written n due) w
 turned hash key seat n true w none = tt

@@ -40,7 +40,7 @@ no_room_is used bytes is = elim (cases_lt ROOM_BYTES (used + (RECORD_HEAD_BYTES 
       le-leb (used + (RECORD_HEAD_BYTES + bytes)) ROOM_BYTES fits,
     ) refl
 
--- a step that changes no page may stand behind a read
+-- a step that changes no page may stand after a read
 pub behind : {hash : RecordKey → ℕ} {seat : ℕ} {turn : Turn} {did : Progress FileFault} {facts : List Known}
     {locks locks' : Table} {change : Change} (s t : PoolState) → OnlyReads true s t →
     Step hash seat turn did facts s s locks locks' change → IsTrue s.honest →

@@ -54,7 +54,7 @@ delete_turn d = record {
   write = Some (Remove d.removal.search.key);
 }
 
--- what it is about stays, it has ended where it was over, where it did not move it is what it was, and behind its
+-- what it is about stays, it has ended where it was over, where it did not move it is what it was, and after its
 -- search it has written, but where nothing stands there
 pub record KeepsDelete {F : Type 0} (did : Progress F) (old new : DeleteView) : Type 0 where
   pub key : new.removal.search.key ≡ old.removal.search.key

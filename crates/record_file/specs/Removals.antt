@@ -52,7 +52,7 @@ abbrev pub ended_in : RemovalStage → Option Bool
 ended_in (HasEnded due) = Some due
 ended_in stage = None
 
--- whether a merge is due behind the removal of a record with a value of so many bytes, from a bucket that had this
+-- whether a merge is due after the removal of a record with a value of so many bytes, from a bucket that had this
 -- depth
 -- and so many bytes
 abbrev pub is_due : (depth used bytes : ℕ) → Bool
@@ -68,7 +68,7 @@ has_searched Searching = false
 has_searched (Written n due) = true
 has_searched (HasEnded due) = true
 
--- what it is about stays, it has ended where it gave the page back, where it did not move it is what it was, and behind
+-- what it is about stays, it has ended where it gave the page back, where it did not move it is what it was, and after
 -- its search it has written, but where nothing stands there
 pub record KeepsRemoval {F : Type 0} (did : Progress F) (old new : RemovalView) : Type 0 where
   pub key : new.search.key ≡ old.search.key

@@ -69,7 +69,7 @@ pub record WritesOnce {F : Type 0} (did : Progress F) (old new : PoolState) : Ty
   pub writes : OnlyWrites (not (is_fault did)) old new
   pub spares : (did ≡ Moved WriteRecord → ⊥) → IsTrue old.honest → new.images ≡ old.images
 
--- what it is about stays, it has ended where it gave the page back, where it did not move it is what it was, and behind
+-- what it is about stays, it has ended where it gave the page back, where it did not move it is what it was, and after
 -- its search it has written, but where nothing stands there
 pub record KeepsReplace {F : Type 0} (did : Progress F) (pool : PoolState) (old new : ReplaceView) : Type 0 where
   pub key : new.search.key ≡ old.search.key

@@ -25,7 +25,7 @@ TellsNone None = ⊥
 TellsNone (Some at) = at.1 ≡ None
 
 -- a search is left by the WriteRecord, or where the page that answered has no record of the key; it is told whether it
--- was left before the step and behind it
+-- was left before the step and after it
 abbrev pub LeavesSearch : {F : Type 0} → Progress F → Option (ℕ × Option ℕ) → (before after : Bool) → Type 0
 LeavesSearch did at false true = (did ≡ Moved WriteRecord) ⊎ TellsNone at
 LeavesSearch did at before after = ⊤

@@ -74,13 +74,6 @@ impl Find {
         self.ended
     }
 
-    /// How often its search went on from a page that did not answer to another one.
-    pub fn hops(&self) -> u32
-        ensures { result ≡ self.now.search.hops }
-    {
-        self.search.hops()
-    }
-
     /// One step. The value may be read from the page after the step at which it
     /// answered, until the next.
     pub fn step<D: PageDevice>(

@@ -8,7 +8,6 @@
 mod delete;
 mod find;
 mod first_try;
-mod laws;
 mod new_file;
 mod removal;
 mod replace;
@@ -16,7 +15,6 @@ mod replace;
 pub use delete::Delete;
 pub use find::Find;
 pub use first_try::{FirstTry, FirstTryStage, Tried};
-pub use laws::a_machine_keeps_what_its_caller_knows;
 pub use new_file::format;
 pub use removal::{Removal, RemovalStage};
 pub use replace::{Replace, ReplaceStage};

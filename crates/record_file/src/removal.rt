@@ -171,7 +171,7 @@ impl Removal {
     }
 }
 
-/// Whether a merge is due behind the removal of a record with a value of so many bytes, from a
+/// Whether a merge is due after the removal of a record with a value of so many bytes, from a
 /// bucket that had this depth and so many bytes.
 fn is_due(depth: u8, used: usize, bytes: usize) -> bool
     ensures { result ≡ is_due depth used bytes }

@@ -56,9 +56,6 @@ module _ (name : LockName) (aside : IsAside name) where
 pub second_adds_locks : (t : SecondTryView) → AddsFileLocks (second_locks t)
 second_adds_locks t before name aside = adds name aside t.place before
 
-pub second_aside : (t : SecondTryView) → KeepsNames (second_locks t)
-second_aside t before key = adds (guard_of key) (guard_aside key) t.place before
-
 -- ---- inserts
 
 module _ (name : LockName) (aside : IsAside name) where

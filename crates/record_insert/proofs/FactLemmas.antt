@@ -21,7 +21,7 @@ second_knows_no_way (GiveBackPage n tried) key k = tt
 second_knows_no_way (GiveBackDirectory tried) key k = tt
 second_knows_no_way (HasEnded tried) key k = tt
 
--- it hops behind a split of its own alone
+-- it hops after a split of its own alone
 second_aimed : (place : SecondPlace) (key : RecordKey) (k : ℕ) → IsAimed (ask_at place k) (facts_at place key k)
 second_aimed (Approaching a) key k = approach_aimed a.place _
 second_aimed (Look depth n) key k = tt

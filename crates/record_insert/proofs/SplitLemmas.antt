@@ -1,4 +1,4 @@
--- The steps of a split, and the look behind it.
+-- The steps of a split, and the look after it.
 use Rattle.std.proofs.Common.{◌≡◌, refl, sym, ap, ◌∙◌, subst, ℕ, suc, ◌+◌, ◌<◌, true, false, not, List, length, arith, inl, inr}
 use Rattle.std.proofs.lemmas.Bool.{true≢false}
 use Rattle.positions.specs.declared.range.Range.{Range}

@@ -27,7 +27,7 @@ pub record IsSeenThere {F : Type 0} (hash : RecordKey → ℕ) (seat : ℕ) (did
   pub bytes : ℕ
   pub tells : Tells hash seat page key (Some bytes) w
 
--- what it has come to stays so. It comes to it by a Look that sees the key, or by the WriteRecord, or by a step behind
+-- what it has come to stays so. It comes to it by a Look that sees the key, or by the WriteRecord, or by a step after
 -- which the record has no room
 abbrev pub SaysAt : {F : Type 0} → (RecordKey → ℕ) → ℕ → Progress F → Pair → (before after : Option Tried) →
     (old new : World) → Type 0

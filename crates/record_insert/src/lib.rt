@@ -7,15 +7,10 @@
 // "The repository", says why.
 
 mod insert;
-mod laws;
 mod second_place;
 mod second_try;
 
 pub use insert::{Insert, InsertStage};
-pub use laws::{
-    a_second_try_has_few_steps, a_second_try_keeps_what_its_caller_knows,
-    an_insert_keeps_what_its_caller_knows,
-};
 pub use record_file;
 pub use second_place::SecondPlace;
 pub use second_try::SecondTry;

@@ -3,13 +3,13 @@ use Rattle.std.proofs.Common.{◌≡◌, refl, subst, ℕ, true, false, List, []
 use Rattle.record_operation.proofs.Names.{FileFault, MergeView, Turn, TurnsAt, WritesAsked, merge_locks, operation_facts, operation_locks, operation_turn}
 use Rattle.record_insert.proofs.of_bucket_merge.CallerLemmas.{merge_adds_locks}
 use Rattle.hash_file.specs.Changes as changes
-use Rattle.record_insert.specs.record_file.Callers.{KeepsNames, MovesRow}
+use Rattle.record_insert.specs.record_file.Callers.{KeepsNames}
 use Rattle.record_insert.specs.record_file.Deletes.{part}
 use Rattle.record_insert.specs.record_file.Removals.{locks_in}
 use Rattle.record_insert.specs.record_file.Words.{SearchView}
 use Rattle.record_insert.specs.record_file.declared.removal.RemovalStage.{RemovalStage}
 use Rattle.record_insert.specs.record_file.declared.removal.RemovalStage.TheVariants as removals
-use Rattle.record_insert.proofs.of_record_file.CallerLemmas.{find_aside, removal_aside, replace_aside, stays_told, told_written}
+use Rattle.record_insert.proofs.of_record_file.CallerLemmas.{MovesRow, find_aside, removal_aside, replace_aside, stays_told, told_written}
 use Rattle.record_insert.proofs.CallerLemmas.{guard_aside, insert_aside}
 use Rattle.record_operation.specs.Words.{RecordKey, pair, with_front, contents, RecordWrite, PoolState, Table, Lock, Change, guard_of, store_of, Progress, Moved, WriteRecord, World, world, DeleteView, delete_locks, RecordOperation, Find, Insert, Replace, Delete}
 use Rattle.record_operation.specs.Callers.{AddsFileNames, KeepsTold, Stepped, TellsWritten}

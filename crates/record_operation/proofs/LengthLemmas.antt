@@ -19,8 +19,9 @@ use Rattle.record_insert.proofs.FewLemmas.{few_left}
 use Rattle.record_insert.specs.Inserts.{left_in as insert_left_in}
 use Rattle.record_insert.specs.declared.insert.InsertStage.{InsertStage}
 use Rattle.record_insert.specs.declared.insert.InsertStage.TheVariants.{First, Second}
-use Rattle.record_operation.specs.Words.{Store, store_of, SECOND_STEPS, RecordOperation, Find, Insert, Replace, Delete}
-use Rattle.record_operation.specs.Lengths.{HasFewSteps}
+use Rattle.record_operation.specs.Words.{Change, PoolState, RecordKey, Sees, Store, Table, store_of, SECOND_STEPS, RecordOperation, Find, Insert, Replace, Delete}
+use Rattle.record_operation.specs.Lengths.{MOST_STEPS}
+use Rattle.record_operation.specs.Operations.{operation_facts}
 
 begun_few : (range : ℕ → Range) (ns : List ℕ) (p : ℕ) → begun range ns p ≤ length ns
 begun_few range [] p = omega arith
@@ -129,7 +130,9 @@ module _ (s : Store) (short : HasShortWays s) where
 
 -- ---- in a file on its pages
 
-pub has_few_steps : HasFewSteps
+pub has_few_steps : (hash : RecordKey → ℕ) (seat : ℕ) (o : RecordOperation) (pool : PoolState) (locks : Table)
+    (change : Change) → Sees hash seat (operation_facts o) pool locks change →
+    operation_left o (store_of pool.images) ≤ MOST_STEPS
 has_few_steps hash seat o pool locks change sees =
     let images : List (List ℕ) = pool.images in
     let s : Store = store_of images in

@@ -27,7 +27,7 @@ KeepsKind bytes did pool (Delete d) (Delete d') = KeepsDelete did d d'
 KeepsKind bytes did pool old new = ⊥
 
 -- what it is about stays, it has ended where it gave all its locks back, where it did not move it is what it was, as
--- many bytes may be lent again, and behind its search it has written, but where nothing stands there
+-- many bytes may be lent again, and after its search it has written, but where nothing stands there
 pub record KeepsOperation {F : Type 0} (bytes : ℕ) (did : Progress F) (pool : PoolState) (old new : RecordOperation)
     : Type 0 where
   pub key : operation_key new ≡ operation_key old

@@ -9,6 +9,6 @@
 mod laws;
 mod operation;
 
-pub use laws::{an_operation_has_few_steps, an_operation_keeps_what_its_caller_knows};
+pub use laws::an_operation_keeps_what_its_caller_knows;
 pub use operation::RecordOperation;
 pub use record_insert::{record_file, step_rules};

@@ -66,7 +66,7 @@ module _ (held : RecordKey → Option (List ℕ)) (id : ℕ) (f : Message → Me
 
 module _ (held : RecordKey → Option (List ℕ)) (q : Queue) (links : List MessageLinks)
     (all : AreLinked held q.id q.messages links) where
-  -- the Messages of a queue stand just where these are its links
+  -- the Messages of a queue stand exactly where these are its links
   pub messages_stand : links ≡ map (links_in q) q.messages → All (Holds held) (message_records q)
   messages_stand e =
       All-map (Holds held) (λ (m : Message). records.Message (message_entry q m)) q.messages

@@ -7,7 +7,7 @@ use Rattle.queue_model.specs.declared.entry.Entry.{Entry}
 use Rattle.interleavings.specs.interleaving_core.Kernel.{call_at}
 use Rattle.interleavings.specs.interleaving_core.Owing.{call_of, entry_of, untold}
 use Rattle.interleavings.proofs.EventLemmas.{IsTold}
-use Rattle.interleavings.proofs.PartLemmas.{entry_of_none}
+use Rattle.interleavings.proofs.of_interleaving_core.PartLemmas.{entry_of_none}
 use Rattle.msgq_cli.specs.declared.command.Command.{Command}
 use Rattle.msgq_cli.specs.declared.command.Command.TheVariants as commands
 use Rattle.msgq_cli.specs.declared.line.Line.{Line}
@@ -111,7 +111,7 @@ module _ (seat place : ℕ) (did : Deed) (s t : ReplayState) (sound : IsSoundRep
       lines : t.script.lines ≡ s.script.lines
       lines = ap (λ (x : ProgressState). x.lines) b.script ∙ lines_told its_begun seat place b.reply
 
-      -- the line is under way behind its begin, and it is still
+      -- the line is under way after its begin, and it is still
       behind : (place_of its_begun.places other).under_way ≡ Some p
       behind = under_told its_begun seat place b.reply other p under_begun
           (sym (ap (λ (x : ProgressState). (place_of x.places other).under_way) b.script) ∙ at)

@@ -1,5 +1,5 @@
 -- What is left of a replay: its answers are those of plain lists, and its file is that of their system.
-use Rattle.std.proofs.Common.{◌≡◌, ◌↔◌, refl, sym, ap, ◌∙◌, subst, ℕ, zero, suc, Bool, true, false, IsTrue, List, [], ◌∷◌, ◌++◌, Option, Some, None, append-nil}
+use Rattle.std.proofs.Common.{◌≡◌, ◌↔◌, refl, sym, ap, ◌∙◌, subst, ℕ, zero, suc, Bool, true, false, IfSome, IsTrue, List, [], ◌∷◌, ◌++◌, Option, Some, None, append-nil}
 use Rattle.std.specs.List.{list_any}
 use Rattle.bucket_page.specs.Pseudokeys.{sha_key}
 use Rattle.bucket_page.specs.declared.pseudokey.ShaKey.{ShaKey}
@@ -57,6 +57,11 @@ closed_well k left busy failed flushed = record {
     sound : k.failed ≡ false
     sound = not_true k.failed
         (λ is. let told : ◌≡◌ {A = Option CloseFault} None (Some Failed) = failed.1 is in absurd cc)
+
+-- what is so of what is there
+pub if_some : {X : Type 0} {P Q : X → Type 0} (o : Option X) → ((x : X) → P x → Q x) → IfSome o P → IfSome o Q
+if_some None weaker is = tt
+if_some (Some x) weaker is = weaker x is
 
 -- ---- what is left of a replay
 

@@ -4,7 +4,7 @@ use Rattle.std.proofs.lemmas.Bool.{eqb-false, eqb-true, leb-false, leb-true}
 use Rattle.std.proofs.lemmas.List.Elements.{filter-append}
 use Rattle.queue_model.specs.Journal.{is_of, part_of}
 use Rattle.queue_model.specs.declared.entry.Entry.{Entry}
-use Rattle.interleavings.proofs.PartLemmas.{AreOf, entry_is_of, entry_of_none, part_other, part_own}
+use Rattle.interleavings.proofs.of_interleaving_core.PartLemmas.{AreOf, entry_is_of, entry_of_none, part_other, part_own}
 use Rattle.msgq_cli.specs.declared.line.Line.{Line}
 use Rattle.msgq_cli.specs.declared.reply.Reply.{Reply}
 use Rattle.replays.specs.Events.{told}

@@ -8,18 +8,16 @@ use Rattle.bucket_page.specs.Pseudokeys.{sha_key}
 use Rattle.bucket_page.specs.declared.pseudokey.ShaKey.{ShaKey}
 use Rattle.queue_model.specs.declared.call.Call.{Call}
 use Rattle.queue_model.specs.declared.entry.Entry.{Entry}
-use Rattle.step_rules.specs.declared.progress.Progress.TheVariants as progress
-use Rattle.interleavings.specs.Words.{FileFault, Progress, answer_of_call, conclusion_of}
-use Rattle.interleavings.specs.interleaving_core.Active.{ActiveView, is_waiting}
+use Rattle.interleavings.specs.interleaving_core.Active.{ActiveView}
 use Rattle.interleavings.specs.interleaving_core.Beginning.{IsStopped}
 use Rattle.interleavings.specs.interleaving_core.Closing.{IsBusy, has_one}
 use Rattle.interleavings.specs.interleaving_core.Driving.{IsDriven, IsStep, Moves}
 use Rattle.interleavings.specs.interleaving_core.Kernel.{KernelState, call_at}
-use Rattle.interleavings.specs.interleaving_core.Owing.{call_of, is_failure}
-use Rattle.interleavings.specs.interleaving_core.Turn.{IsLeft, IsLeftWhenOver, TakesTurn, told_of, told_when_over}
-use Rattle.interleavings.specs.interleaving_core.Waiting.{stays_waiting}
+use Rattle.interleavings.specs.interleaving_core.Owing.{is_end, is_failure}
+use Rattle.interleavings.specs.interleaving_core.Past.{call_of}
 use Rattle.interleavings.specs.interleaving_core.declared.fault.StepFault.TheVariants as faults
-use Rattle.interleavings.specs.interleaving_core.declared.fault.TheConstants.{BUSY}
+use Rattle.interleavings.specs.interleaving_core.declared.fault.Failure.{Failure}
+use Rattle.faults.specs.declared.TheConstants.{BUSY}
 use Rattle.interleavings.specs.interleaving_core.declared.step.Step.{Step}
 use Rattle.interleavings.specs.interleaving_core.declared.step.Step.TheVariants as steps
 use Rattle.msgq_cli.specs.declared.command.Command.{Command}
@@ -51,29 +49,15 @@ none_left other es call old new tells none = by (call_at new.seats other) refl
         let some = subst (λ (x : Option ActiveView). IsSome (call_of x)) (sym is) refl in
         absurd (no_some a.machine.call (sym (ap call_of is) ∙ tells.call_is some ∙ none))
 
--- its end is told, and it does not wait
-ended_frees : (waits : Bool) (come : ActiveView) (step : Step) (left : Option ActiveView) →
-    step ≡ told_when_over waits (answer_of_call come.machine) → IsLeftWhenOver waits come left →
-    IsSome (reply_by step) → left ≡ None
-ended_frees true come step left told is replied =
-    let never : IsSome (reply_by steps.Waiting) = subst (λ (x : Step). IsSome (reply_by x)) told replied in absurd cc
-ended_frees false come step left told is replied = is
-
-made_frees : (did : Progress FileFault) (come : ActiveView) (step : Step) (left : Option ActiveView) →
-    step ≡ told_of did come.machine → IsLeft did come left → IsSome (reply_by step) → is_failure step ≡ false →
-    left ≡ None
-made_frees (progress.Moved kind) come step left told is replied sound =
-    let never : IsSome (reply_by (steps.Moved kind)) = subst (λ (x : Step). IsSome (reply_by x)) told replied in
-    absurd cc
-made_frees (progress.Blocked other) come step left told is replied sound =
-    let never : IsSome (reply_by (steps.Blocked other)) = subst (λ (x : Step). IsSome (reply_by x)) told replied in
-    absurd cc
-made_frees (progress.Fault fault) come step left told is replied sound =
-    let never : is_failure (steps.Fault (faults.File fault)) ≡ false =
-    subst (λ (x : Step). is_failure x ≡ false) told sound in
-    absurd cc
-made_frees progress.Ended come step left told is replied sound =
-    ended_frees (is_waiting (conclusion_of come.machine)) come step left told is replied
+-- its end is told
+ends_by : (step : Step) → IsSome (reply_by step) → is_failure step ≡ false → is_end step ≡ true
+ends_by (steps.Moved kind) replied sound = absurd cc
+ends_by (steps.Blocked other) replied sound = absurd cc
+ends_by steps.Waiting replied sound = absurd cc
+ends_by (steps.Answered answer) replied sound = refl
+ends_by steps.Idle replied sound = absurd cc
+ends_by (steps.Fault (faults.File fault)) replied sound = absurd cc
+ends_by (steps.Fault faults.NoRoom) replied sound = refl
 
 neither : (x y : Bool) → (x || y) ≡ false → (x ≡ false) × (y ≡ false)
 neither true y is = absurd cc
@@ -90,22 +74,7 @@ module _ (seat : ℕ) (step : Step) (old new : KernelState ShaKey) (is : IsStep 
 
   -- and a call whose line it replies is gone
   pub step_frees : IsSome (reply_by step) → call_at new.seats seat ≡ None
-  step_frees replied = by (call_at old.seats seat) refl
-    where
-      goes : (a : ActiveView) → TakesTurn sha_key seat old.stopped step a (call_at new.seats seat) old.pool new.pool
-          old.locks new.locks old.journal new.journal → (b : Bool) →
-          stays_waiting a.wait a.machine.call old.journal ≡ b → call_at new.seats seat ≡ None
-      goes a turn true stays =
-          let never : IsSome (reply_by steps.Waiting) =
-          subst (λ (x : Step). IsSome (reply_by x)) (turn.waits stays).told_is replied in
-          absurd cc
-      goes a turn false woken =
-          let makes = turn.goes woken in
-          made_frees makes.did makes.come step (call_at new.seats seat) makes.told_is makes.left_is replied both_sound.1
-
-      by : (at : Option ActiveView) → call_at old.seats seat ≡ at → call_at new.seats seat ≡ None
-      by None none = ap (λ (k : KernelState ShaKey). call_at k.seats seat) (is.turn.spares none) ∙ none
-      by (Some a) has = goes a (is.makes a has both_sound.0) (stays_waiting a.wait a.machine.call old.journal) refl
+  step_frees replied = is.turn.over (ends_by step replied both_sound.1)
 
 -- the same of a drive
 moves_sound : (seat moves : ℕ) (old now : KernelState ShaKey) → Moves sha_key seat moves old now →
@@ -117,21 +86,21 @@ moves_sound seat (suc n) old now moved sound =
 
 module _ (seat : ℕ) (step : Step) (old new : KernelState ShaKey) (driven : IsDriven sha_key seat step old new)
     (sound : new.failed ≡ false) where
-  spent_fails : new ≡ record driven.before { failed = true } → ⊥
-  spent_fails marked =
+  spent_fails : (failure : Option Failure) → new ≡ record driven.before { failed = true; failure = failure } → ⊥
+  spent_fails failure marked =
       let never : true ≡ false = sym (ap (λ (k : KernelState ShaKey). k.failed) marked) ∙ sound in absurd cc
 
   pub sound_before_drive : old.failed ≡ false
   sound_before_drive = elim driven.ends [
     | inl rests ↦ moves_sound seat driven.moves old driven.before driven.moved
         (sound_before seat step driven.before new rests.step sound)
-    | inr spent ↦ absurd (spent_fails spent.marked)
+    | inr spent ↦ absurd (spent_fails _ spent.marked)
   ]
 
   pub drive_frees : IsSome (reply_by step) → call_at new.seats seat ≡ None
   drive_frees replied = elim driven.ends [
     | inl rests ↦ step_frees seat step driven.before new rests.step sound replied
-    | inr spent ↦ absurd (spent_fails spent.marked)
+    | inr spent ↦ absurd (spent_fails _ spent.marked)
   ]
 
 -- ---- whether a step has failed
@@ -229,7 +198,7 @@ not_busy s sound over busy =
     let never : true ≡ false = sym busy.call ∙ idle in
     absurd cc
 
--- so `BUSY` is told just where a line is left
+-- so `BUSY` is told exactly where a line is left
 pub busy_if_left : (s : ReplayState) (fault : Option ℕ) → IsSoundReplay s → MayEndWith (is_over s) s.kernel fault →
     (fault ≡ Some BUSY) ↔ (is_over s ≡ false)
 busy_if_left s fault sound = by (is_over s) refl

@@ -8,7 +8,6 @@ use Rattle.queue_model.specs.State.{State}
 use Rattle.interleavings.specs.interleaving_core.Beginning.{IsStopped}
 use Rattle.interleavings.specs.interleaving_core.Kernel.{KernelState}
 use Rattle.interleavings.specs.interleaving_core.Words.{IsSeat}
-use Rattle.interleavings.specs.Headline.{IsFitting}
 use Rattle.interleavings.specs.Laws.{EventsLead}
 use Rattle.interleavings.specs.Leading.{IsLedFrom}
 use Rattle.interleavings.specs.Runs.{Happens, IsOfSeat}
@@ -22,7 +21,7 @@ use Rattle.msgq_cli.specs.declared.command.Command.TheVariants as commands
 use Rattle.msgq_cli.specs.declared.reply.Reply.{Reply}
 use Rattle.msgq_cli.specs.declared.reply.Reply.TheVariants.{Answered, Failed, Stopped}
 use Rattle.schedules.specs.declared.event.Event.{Event as Word}
-use Rattle.replays.specs.Events.{Acts, BeginsCommand, BeginsNext, DrivesLine, HasFittingCommand, IsEvent, PlaysAll, RefusesBy, ReplayState, Stops, line_under_way, next_line}
+use Rattle.replays.specs.Events.{Acts, BeginsCommand, BeginsNext, DrivesLine, IsEvent, PlaysAll, RefusesBy, ReplayState, Stops, line_under_way, next_line}
 use Rattle.replays.specs.PlainLists.{KeepsCallers}
 use Rattle.replays.specs.Rounds.{MakesRounds}
 use Rattle.replays.specs.declared.deed.Deed.{Deed}
@@ -35,21 +34,19 @@ pub record HasHappened (old new : KernelState ShaKey) : Type 0 where
   pub event : Event
   pub outcome : Outcome
   pub happens : Happens sha_key event outcome old new
-  pub of_seat : IsOfSeat old.locks event
-  pub fitting : IsFitting event
+  pub of_seat : IsOfSeat (length old.locks) event
 
 abbrev pub MayHappen : KernelState ShaKey → KernelState ShaKey → Type 0
 MayHappen old new = (new ≡ old) ⊎ HasHappened old new
 
 refused : (seat : ℕ) (call : Call) (fault : ℕ) (old new : KernelState ShaKey) → IsSeat old.locks seat →
-    IsFitting (events.Begin seat call) → RefusesBy seat call fault old new → MayHappen old new
-refused seat call fault old new is fits (inl (none, same)) = inl same
-refused seat call fault old new is fits (inr ((back, cause), refuses, told)) = inr (record {
+    RefusesBy seat call fault old new → MayHappen old new
+refused seat call fault old new is (inl (none, same)) = inl same
+refused seat call fault old new is (inr ((back, cause), refuses, told)) = inr (record {
   event = events.Begin seat call;
   outcome = outcomes.Refused back cause;
   happens = refuses;
   of_seat = is;
-  fitting = fits;
 })
 
 stopped : (old new : KernelState ShaKey) → IsStopped old new → HasHappened old new
@@ -58,29 +55,27 @@ stopped old new stops = record {
   outcome = outcomes.Stopped;
   happens = stops;
   of_seat = tt;
-  fitting = tt;
 }
 
 command_begun : (seat : ℕ) (command : Command) (reply : Option Reply) (old new : KernelState ShaKey) →
-    IsSeat old.locks seat → HasFittingCommand command → BeginsCommand seat command reply old new → MayHappen old new
-command_begun seat commands.Stop reply old new is fits (told, stops) = inr (stopped old new stops)
-command_begun seat (commands.Call call) None old new is fits has = inr (record {
+    IsSeat old.locks seat → BeginsCommand seat command reply old new → MayHappen old new
+command_begun seat commands.Stop reply old new is (told, stops) = inr (stopped old new stops)
+command_begun seat (commands.Call call) None old new is has = inr (record {
   event = events.Begin seat call;
   outcome = outcomes.Begun;
   happens = has;
   of_seat = is;
-  fitting = fits;
 })
-command_begun seat (commands.Call call) (Some (Answered answer)) old new is fits never = absurd never
-command_begun seat (commands.Call call) (Some Stopped) old new is fits never = absurd never
-command_begun seat (commands.Call call) (Some (Failed fault)) old new is fits refuses =
-    refused seat call fault old new is fits refuses
+command_begun seat (commands.Call call) (Some (Answered answer)) old new is never = absurd never
+command_begun seat (commands.Call call) (Some Stopped) old new is never = absurd never
+command_begun seat (commands.Call call) (Some (Failed fault)) old new is refuses =
+    refused seat call fault old new is refuses
 
 pub next_may : (seat : ℕ) (line : Option ℕ) (did : Deed) (s t : ReplayState) → BeginsNext seat line did s t →
     MayHappen s.kernel t.kernel
 next_may seat None did s t (nothing, same) = inl (ap (λ (r : ReplayState). r.kernel) same)
 next_may seat (Some place) did s t begins =
-    command_begun seat begins.line.command begins.reply s.kernel t.kernel begins.seat_is begins.fitting begins.kernel
+    command_begun seat begins.line.command begins.reply s.kernel t.kernel begins.seat_is begins.kernel
 
 pub acts_may : (seat : ℕ) (line : Option ℕ) (did : Deed) (s t : ReplayState) → Acts seat line did s t →
     MayHappen s.kernel t.kernel
@@ -90,7 +85,6 @@ acts_may seat (Some place) did s t steps = inr (record {
   outcome = outcomes.Stepped steps.step;
   happens = record { turn = steps.turn; makes = steps.makes };
   of_seat = steps.seat_is;
-  fitting = tt;
 })
 
 event_may : (seat : ℕ) (did : Deed) (s t : ReplayState) → IsEvent seat did s t → MayHappen s.kernel t.kernel
@@ -102,7 +96,6 @@ drive_may seat place s t drives = inr (record {
   outcome = outcomes.Driven drives.step;
   happens = record { run = drives.run; driven = drives.driven };
   of_seat = drives.seat_is;
-  fitting = tt;
 })
 
 pub stop_may : (s t : ReplayState) → Stops s t → MayHappen s.kernel t.kernel
@@ -158,8 +151,8 @@ led_on : EventsLead ShaKey → (base : State) (old new : KernelState ShaKey) →
 led_on lead base old new (inl same) led = subst (IsLedFrom sha_key base) (sym same) led
 led_on lead base old new (inr it) led =
     lead sha_key base (it.event ∷ []) (it.outcome ∷ []) old new
-    (All-cons (IsOfSeat old.locks) it.event [] it.of_seat (All-nil (IsOfSeat old.locks)))
-    (All-cons IsFitting it.event [] it.fitting (All-nil IsFitting)) led
+    (All-cons (IsOfSeat (length old.locks)) it.event [] it.of_seat (All-nil (IsOfSeat (length old.locks))))
+    led
     (record { between = new; first = it.happens; rest = refl })
 
 -- ---- of a whole replay

@@ -5,16 +5,14 @@ use Rattle.std.specs.Prelude.{max}
 use Rattle.std.specs.List.{All, fold}
 use Rattle.std.proofs.lemmas.List.Elements.{All-head, All-tail}
 use Rattle.std.proofs.lemmas.List.{length-replicate}
-use Rattle.std.proofs.lemmas.Option.{get_or_from_slice_get, slice_get_within}
 use Rattle.bucket_page.specs.Pseudokeys.{sha_key}
 use Rattle.bucket_page.specs.declared.pseudokey.ShaKey.{ShaKey}
 use Rattle.queue_model.specs.declared.caller.Caller.{Caller}
-use Rattle.type_chains.specs.Fits.{HasFittingCaller}
 use Rattle.interleavings.specs.interleaving_core.Beginning.{HasSystem, IsOpened}
 use Rattle.interleavings.specs.interleaving_core.Kernel.{KernelState}
 use Rattle.interleavings.specs.interleaving_core.declared.fault.OpenFault.{OpenFault}
 use Rattle.interleavings.specs.interleaving_core.declared.fault.OpenFault.TheVariants.{TooFewFrames}
-use Rattle.interleavings.specs.Laws.{AreFittingCallers, IsLedFromFile, OpensLed}
+use Rattle.interleavings.specs.Laws.{IsLedFromFile, OpensLed}
 use Rattle.msgq_cli.specs.Scripts.{Parts, IsSound, caller_of, greatest_seat}
 use Rattle.msgq_cli.specs.declared.line.Line.{Line}
 use Rattle.msgq_cli.specs.declared.line.SeatIds.{SeatIds}
@@ -44,13 +42,6 @@ pub greatest_within : (script : Parts) → IsSound script →
     (1 ≤ greatest_seat script.lines) × (greatest_seat script.lines ≤ 64)
 greatest_within script sound = within script.lines 1 (omega arith) (omega arith) sound.seats
 
--- what is so of all callers is so of each seat's
-pub each_seat_fits : (callers : List Caller) → All HasFittingCaller callers → AreFittingCallers callers
-each_seat_fits callers all zero caller sits = absurd cc
-each_seat_fits callers all (suc place) caller sits =
-    subst HasFittingCaller (get_or_from_slice_get callers place caller caller sits)
-    (all place caller (slice_get_within callers place caller sits))
-
 -- with frames enough no refusal is for their lack
 pub never_too_few : {T D : Type 0} (r : Result T (D × OpenFault)) (frames least : ℕ) → least ≤ frames →
     (IsErrAnd r (λ refusal. refusal.1 ≡ TooFewFrames) ↔ (frames < least)) →
@@ -63,9 +54,9 @@ never_too_few (Err refusal) frames least enough few =
 
 pub opened_for : (script : Parts) (content : List (List ℕ)) (honest : Bool) (keys : ShaKey) (frames seats : ℕ)
     (callers : List Caller) → seats ≡ greatest_seat script.lines → callers ≡ callers_of script.ids seats →
-    AreFittingCallers callers → (k : KernelState ShaKey) → IsOpened keys content honest callers frames k →
+    (k : KernelState ShaKey) → IsOpened keys content honest callers frames k →
     IsOpenedForSeats script content honest k
-opened_for script content honest keys frames seats callers many are fitting k opened =
+opened_for script content honest keys frames seats callers many are k opened =
     let same = are ∙ ap (callers_of script.ids) many in
     record {
       frames = frames;
@@ -73,7 +64,6 @@ opened_for script content honest keys frames seats callers many are fitting k op
       opened = subst (λ (cs : List Caller). IsOpened keys content honest cs frames k) same opened;
       many = ap length opened.locks ∙ length-replicate (length callers) [] ∙ ap length same
           ∙ length-callers_of script.ids (greatest_seat script.lines);
-      fitting = subst AreFittingCallers same fitting;
     }
 
 -- of an honest device it is led from the system of the file
@@ -84,4 +74,4 @@ pub opened_led : OpensLed ShaKey → (script : Parts) (content : List (List ℕ)
 opened_led opens script content honest seats k many some few opened true_to_it has =
     let long = length-callers_of script.ids (greatest_seat script.lines) in
     opens sha_key opened.with_keys content honest (callers_of script.ids (greatest_seat script.lines)) opened.frames k
-    opened.opened true_to_it has (omega (arith, many, some, long)) (omega (arith, many, few, long)) opened.fitting
+    opened.opened true_to_it has (omega (arith, many, some, long)) (omega (arith, many, few, long))

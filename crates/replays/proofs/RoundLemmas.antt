@@ -1,4 +1,4 @@
--- Rounds behind a schedule, seat by seat and round by round.
+-- Rounds after a schedule, seat by seat and round by round.
 use Rattle.std.proofs.Common.{◌≡◌, ◌≤◌, ◌<◌, ◌⊎◌, ◌||◌, inl, inr, refl, sym, ap, ◌∙◌, subst, ℕ, ◌+◌, ◌-◌, ◌*◌, Bool, true, false, List, [], ◌∷◌, ◌++◌, Option, Some, None, length, arith}
 use Rattle.std.specs.List.{list_all, list_any}
 use Rattle.std.proofs.lemmas.List.{length-append}
@@ -153,7 +153,7 @@ pub most_is : (s : ReplayState) (lines steps : ℕ) → lines ≡ length s.scrip
     lines * steps ≡ most_rounds s
 most_is s lines steps same is = rw (same, is) refl
 
--- what comes behind the stop
+-- what comes after the stop
 goes_on : (most made : ℕ) (a b c : ReplayState) (far : HasStopped made a b) → made ≤ most →
     MovesToEnd (most - far.rounds) far.stopped c ⊎ GetsStuck (most - far.rounds) far.stopped c → GoesOnStopped most a c
 goes_on most made a b c far few behind =

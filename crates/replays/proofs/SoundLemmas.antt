@@ -16,7 +16,7 @@ use Rattle.interleavings.specs.interleaving_core.declared.step.Step.TheVariants 
 use Rattle.interleavings.specs.declared.event.Event.TheVariants as events
 use Rattle.interleavings.specs.declared.event.Outcome.TheVariants as outcomes
 use Rattle.interleavings.proofs.EventLemmas.{no_answer_driven}
-use Rattle.interleavings.proofs.PartLemmas.{entry_of_none}
+use Rattle.interleavings.proofs.of_interleaving_core.PartLemmas.{entry_of_none}
 use Rattle.msgq_cli.specs.declared.line.Line.{Line}
 use Rattle.replays.specs.Events.{BeginsNext, DrivesLine, ReplayState, StepsLine, Stops, line_under_way, next_line, reply_by, told}
 use Rattle.replays.specs.Journal.{HasCallOfLine, IsSoundReplay, answer_in, call_in, call_on, entries_at, entry_at}

@@ -12,7 +12,7 @@ use Rattle.interleavings.specs.declared.event.Event.TheVariants as events
 use Rattle.interleavings.specs.declared.event.Outcome.{Outcome}
 use Rattle.interleavings.specs.declared.event.Outcome.TheVariants as outcomes
 use Rattle.interleavings.proofs.EventLemmas.{IsTold, event_tells}
-use Rattle.interleavings.proofs.PartLemmas.{entry_of_none}
+use Rattle.interleavings.proofs.of_interleaving_core.PartLemmas.{entry_of_none}
 use Rattle.msgq_cli.specs.declared.command.Command.{Command}
 use Rattle.msgq_cli.specs.declared.command.Command.TheVariants as commands
 use Rattle.msgq_cli.specs.declared.reply.Reply.{Reply}

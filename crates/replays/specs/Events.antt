@@ -1,8 +1,7 @@
 -- What events do: a line is begun, a step is made, the system is stopped. docs/SCRIPTS.md, "Schedules".
-use Rattle.std.specs.Prelude.{ℕ, zero, suc, ◌≡◌, ◌≢◌, ◌≤◌, ◌⊎◌, false, List, [], ◌∷◌, Option, Some, None, slice_get, ⊤}
+use Rattle.std.specs.Prelude.{ℕ, zero, suc, ◌≡◌, ◌≢◌, ◌≤◌, ◌⊎◌, false, List, [], ◌∷◌, Option, Some, None, slice_get}
 use Rattle.faults.specs.declared.TheConstants.{NO_MEMORY}
 use Rattle.queue_model.specs.declared.call.Call.{Call}
-use Rattle.type_chains.specs.Fits.{HasFittingCall}
 use Rattle.step_rules.specs.declared.kind.Kind.{Kind}
 use Rattle.bucket_page.specs.Pseudokeys.{sha_key}
 use Rattle.bucket_page.specs.declared.pseudokey.ShaKey.{ShaKey}
@@ -48,11 +47,6 @@ told seat place (Some reply) s = replied seat place reply s
 
 -- ---- a line is begun
 
--- the numbers of a command's call fit the fields of records
-abbrev pub HasFittingCommand : Command → Type 0
-HasFittingCommand commands.Stop = ⊤
-HasFittingCommand (commands.Call call) = HasFittingCall call
-
 -- a call does not begin: there is no memory for it, or the kernel refuses it
 abbrev pub RefusesBy : {K : Type 0} → ℕ → Call → ℕ → KernelState K → KernelState K → Type 0
 RefusesBy seat call fault old new =
@@ -80,7 +74,6 @@ pub record BeginsLine (seat place : ℕ) (did : Deed) (old new : ReplayState) : 
   pub seat_is : IsSeat old.kernel.locks seat
   pub line : Line
   pub stands : slice_get old.script.lines place ≡ Some line
-  pub fitting : HasFittingCommand line.command
   pub reply : Option Reply
   pub kernel : BeginsCommand seat line.command reply old.kernel new.kernel
   pub script : new.script ≡ told seat place reply (begun seat place old.script)

@@ -2,15 +2,14 @@
 -- "Runs" and "Schedules".
 use Rattle.std.specs.Prelude.{ℕ, zero, suc, ◌≡◌, ◌↔◌, ◌⊎◌, Bool, true, false, List, [], ◌∷◌, ◌++◌, IsTrue, Option, Some, None, if◌then◌else◌, length}
 use Rattle.std.specs.List.{list_any}
-use Rattle.faults.specs.declared.TheConstants.{DEVICE, FAILED, NO_MEMORY}
+use Rattle.faults.specs.declared.TheConstants.{BUSY, DEVICE, FAILED, NO_MEMORY}
 use Rattle.queue_model.specs.declared.caller.Caller.{Caller}
 use Rattle.bucket_page.specs.Pseudokeys.{sha_key}
 use Rattle.bucket_page.specs.declared.pseudokey.ShaKey.{ShaKey}
 use Rattle.interleavings.specs.interleaving_core.Beginning.{IsOpened}
 use Rattle.interleavings.specs.interleaving_core.Closing.{IsBusy, IsFlushedTo}
 use Rattle.interleavings.specs.interleaving_core.Kernel.{KernelState, call_at}
-use Rattle.interleavings.specs.interleaving_core.declared.fault.TheConstants.{BUSY}
-use Rattle.interleavings.specs.Laws.{AreFittingCallers, IsLedFromFile}
+use Rattle.interleavings.specs.Laws.{IsLedFromFile}
 use Rattle.interleavings.specs.Words.{PoolState}
 use Rattle.msgq_cli.specs.Answers.{reply_text}
 use Rattle.msgq_cli.specs.Outputs.{OutputState, Prints}
@@ -43,9 +42,8 @@ pub record IsOpenedForSeats (script : Parts) (content : List (List ℕ)) (honest
   pub frames : ℕ
   pub with_keys : ShaKey
   pub opened : IsOpened with_keys content honest (callers_of script.ids (greatest_seat script.lines)) frames k
-  -- there are as many seats as the script has, and the numbers of their callers fit the fields of records
+  -- there are as many seats as the script has
   pub many : length k.locks ≡ greatest_seat script.lines
-  pub fitting : AreFittingCallers (callers_of script.ids (greatest_seat script.lines))
 
 -- and no line was begun
 pub record IsOpenedFor (script : Parts) (content : List (List ℕ)) (honest : Bool) (s : ReplayState) : Type 0 where
@@ -104,7 +102,7 @@ pub record IsClosedWell {K : Type 0} (k : KernelState K) (left : Option (List (L
   pub idle : (seat : ℕ) → call_at k.seats seat ≡ None
   pub flushed : IsTrue k.pool.honest → AreFlushed k.pool left
 
--- a fault is printed behind the replies, or none
+-- a fault is printed after the replies, or none
 abbrev pub EndsWith : Option ℕ → OutputState → Ending → OutputState → Ending → Type 0
 EndsWith None told so_far new ending = (new ≡ told) × (ending ≡ so_far)
 EndsWith (Some fault) told so_far new ending = IsFaultAlone fault told new ending

@@ -1,4 +1,4 @@
--- Rounds behind a schedule: of which events they are made, and where they end. docs/SCRIPTS.md, "Schedules".
+-- Rounds after a schedule: of which events they are made, and where they end. docs/SCRIPTS.md, "Schedules".
 use Rattle.std.specs.Prelude.{ℕ, ◌+◌, ◌*◌, ◌≡◌, ◌≤◌, ◌⊎◌, Bool, true, false, List, [], ◌∷◌, length}
 use Rattle.std.specs.List.{list_all, list_any}
 use Rattle.replays.specs.Events.{IsEvent, ReplayState, Stops, Times}
@@ -67,7 +67,7 @@ pub record GetsStuck (most : ℕ) (old new : ReplayState) : Type 0 where
   pub few : rounds ≤ most
   pub comes : ComesToRest rounds old new
 
--- behind the first round that moves nobody the system is stopped, and rounds go on: up to the end, or up to one that
+-- after the first round that moves nobody the system is stopped, and rounds go on: up to the end, or up to one that
 -- again moves nobody
 pub record GoesOnStopped (most : ℕ) (old new : ReplayState) : Type 0 where
   pub rounds : ℕ
@@ -86,6 +86,6 @@ pub record GoesOnStopped (most : ℕ) (old new : ReplayState) : Type 0 where
 abbrev pub most_rounds : ReplayState → ℕ
 most_rounds s = length s.script.lines * MOST_STEPS
 
--- the rounds behind a schedule: in all of them somebody moves, or there is a stop among them
+-- the rounds after a schedule: in all of them somebody moves, or there is a stop among them
 abbrev pub MakesRounds : ReplayState → ReplayState → Type 0
 MakesRounds old new = MovesToEnd (most_rounds old) old new ⊎ GoesOnStopped (most_rounds old) old new

@@ -1,6 +1,6 @@
 //! How a replay ends: its replies are printed, and its kernel is closed.
 
-ghost use Rattle.std.specs.Prelude.{◌≡◌, None};
+ghost use Rattle.std.specs.Prelude.{◌≡◌, IfSome, None};
 ghost use Rattle.std.specs.Option.{option_map};
 ghost use Rattle.replays.specs.Replays.{EndsWith, IsClosedWell, IsReplayed, MayEndWith};
 
@@ -8,7 +8,7 @@ use crate::opening::FileKeys;
 use crate::printing::print_replies;
 use crate::replay::Replay;
 use crate::rounds::finish;
-use interleavings::interleaving_core::{BUSY, Kernel, NotClosed};
+use interleavings::interleaving_core::{Failure, Kernel, NotClosed};
 use interleavings::{
     a_kernel_led_answers_as_plain_lists, a_kernel_led_closes_on_its_file, events_lead_on,
 };
@@ -22,6 +22,8 @@ use std::io::Write;
 pub struct Replayed<D> {
     /// The device of its kernel; none where that was let go.
     pub device: Option<D>,
+    /// What failed a line, where one failed by a fault of the file.
+    pub failure: Option<Failure>,
     /// How it ended.
     pub ending: Ending,
 }
@@ -30,19 +32,21 @@ pub struct Replayed<D> {
 /// there are in the order of the script, and closes the kernel. A round is one event of each seat
 /// in turn. Behind the first that moves nobody the system is stopped; where one behind that moves
 /// nobody a line is left that no seat can finish: the kernel is let go, and fault 63 is printed
-/// behind the replies.
+/// after the replies.
 ///
 /// Whatever the schedule: where the kernel was led from a lawful system, as one is that was opened
 /// over an honest device, the answers are those of plain lists asked one call at a time, and seat
-/// by seat the lines are replied its part of them. Where no fault is told behind the replies, an
-/// honest device has the file of the system that the lists come to.
+/// by seat the lines are replied its part of them. Where no fault is told after the replies, an
+/// honest device has the file of the system that the lists come to. The device is as honest as it
+/// was.
 pub fn run<D: PageDevice + Drop, W: Write + Drop>(
     replay: Replay<D>,
     events: &[Event],
     output: &mut Output<W>,
 ) -> Replayed<D>
-    ensures { IsReplayed events.now replay.entry output.old output.new
+    ensures replayed { IsReplayed events.now replay.entry output.old output.new
         (option_map D.content result.device) result.ending }
+    ensures same { IfSome result.device (λ d. D.is_honest d ≡ replay.entry.kernel.pool.honest) }
 {
     events_lead_on::<FileKeys>();
     a_kernel_led_answers_as_plain_lists::<FileKeys>();
@@ -54,9 +58,14 @@ pub fn run<D: PageDevice + Drop, W: Write + Drop>(
     let (kernel, script) = replay.into_parts();
     script.keeps_order();
     let so_far = print_replies(script.lines(), script.replies(), output);
+    let failure = kernel.failure();
     let (device, fault) = close(kernel, is_over);
     let ending = end(fault, so_far, output);
-    Replayed { device, ending }
+    Replayed {
+        device,
+        failure,
+        ending,
+    }
 }
 
 /// Closes a kernel, or lets it go where a line is left, and tells why it was not closed well, if it
@@ -67,18 +76,19 @@ fn close<D: PageDevice + Drop>(
 ) -> (Option<D>, Option<u8>)
     ensures closes { MayEndWith is_over kernel result.1 }
     ensures well { result.1 ≡ None → IsClosedWell kernel (option_map D.content result.0) }
+    ensures same { IfSome result.0 (λ d. D.is_honest d ≡ kernel.pool.honest) }
 {
     if !is_over {
-        return (None, Some(BUSY));
+        return (None, Some(faults::BUSY));
     }
     match kernel.close() {
         Ok(closed) => (Some(closed.device), None),
-        Err(NotClosed::Busy(_)) => (None, Some(BUSY)),
+        Err(NotClosed::Busy(_)) => (None, Some(faults::BUSY)),
         Err(NotClosed::Fault(closed, fault)) => (Some(closed.device), Some(fault.number())),
     }
 }
 
-/// A fault is printed behind the replies, or none.
+/// A fault is printed after the replies, or none.
 fn end<W: Write + Drop>(fault: Option<u8>, so_far: Ending, output: &mut Output<W>) -> Ending
     ensures { EndsWith fault output.old so_far output.new result }
 {

@@ -7,15 +7,15 @@ ghost use Rattle.replays.specs.Replays.{IsScheduleRefused, ReplaysFile};
 
 use crate::ending::run;
 use crate::opening::open;
-use interleavings::interleaving_core::{BUSY, OpenFault};
+use faults::BUSY;
+use interleavings::interleaving_core::OpenFault;
 use msgq_cli::{
-    Ending, Failure, Output, Stage, complain, complain_of, complain_unopened, fail, read_file,
+    Ending, Failure, Output, Stage, complain, complain_of, fail, leave_unopened, read_file,
     read_script, refuse, unread,
 };
-use page_device::FileDevice;
 use schedules::{ScheduleError, read_schedule};
-use std::fs::{OpenFile, OpenOptions};
-use std::io::{Read, Seek, Write};
+use std::fs::File;
+use std::io::Write;
 use std::rt::Files;
 
 /// What a replay is made of, by their names. A script or a schedule of the name `-` is that of
@@ -34,18 +34,18 @@ pub struct Sources<'a> {
 /// message queues, by a schedule.
 ///
 /// The script is read first, then the schedule: fault 20 or 60 alone where one can't be read, and
-/// nothing is run where one is wrong. Then the file is opened: `fault N` alone where it is not.
-/// Behind the answers there is one more fault where a line is left that no seat can finish, or the
+/// nothing is run where one is wrong. Then the file is opened, and what a run that was cut off has
+/// left is undone: `fault N` alone where it is not.
+/// After the answers there is one more fault where a line is left that no seat can finish, or the
 /// file is not closed well.
-pub fn replay_file<R, F, W, E>(
+pub fn replay_file<R, W, E>(
     rt: &R,
     sources: Sources,
     output: &mut Output<W>,
     errors: &mut E,
 ) -> Ending
 where
-    R: Files<File = F> + AllocGlobal + Input,
-    F: Read + Write + Seek + OpenFile + Drop,
+    R: Files<File = File> + AllocGlobal + Input,
     W: Write + Drop,
     E: Write,
     ensures { ReplaysFile output.old output.new result }
@@ -66,26 +66,19 @@ where
         Ok(events) => events,
         Err(error) => return refuse_schedule(error, output, errors),
     };
-    match FileDevice::open(rt, sources.file) {
+    match rollback_journal::open(rt, sources.file) {
         Ok(device) => match open(rt.alloc(), device, &script) {
             Ok(replay) => {
-                let ending = run(replay, events.as_slice(), output).ending;
-                complain_of_replay(sources.file, ending, errors);
-                ending
+                let replayed = run(replay, events.as_slice(), output);
+                if let Some(failure) = replayed.failure {
+                    complain(sources.file, "a line failed", failure, errors);
+                }
+                complain_of_replay(sources.file, replayed.ending, errors);
+                replayed.ending
             }
-            Err(fault) => leave_unopened(sources.file, fault, output, errors),
+            Err(fault) => leave_refused(sources.file, fault, output, errors),
         },
-        Err(fault) => {
-            let ending = fail(Stage::Opening, fault.number(), output);
-            complain_unopened(
-                rt,
-                OpenOptions::new().read(true).write(true),
-                sources.file,
-                ending,
-                errors,
-            );
-            ending
-        }
+        Err(error) => leave_unopened(sources.file, error, output, errors),
     }
 }
 
@@ -111,7 +104,7 @@ fn refuse_schedule<W: Write + Drop, E: Write>(
 }
 
 /// Ends a replay whose file is refused.
-fn leave_unopened<W: Write + Drop, E: Write>(
+fn leave_refused<W: Write + Drop, E: Write>(
     file: &str,
     fault: OpenFault,
     output: &mut Output<W>,

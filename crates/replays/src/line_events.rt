@@ -2,7 +2,7 @@
 
 ghost use Rattle.std.specs.Prelude.{◌≡◌, Some, None, length};
 ghost use Rattle.interleavings.specs.interleaving_core.Words.{IsSeat};
-ghost use Rattle.replays.specs.Events.{BeginsCall, BeginsCommand, BeginsNext, DrivesLine, HasFittingCommand, StepsLine, deed_at_once, told};
+ghost use Rattle.replays.specs.Events.{BeginsCall, BeginsCommand, BeginsNext, DrivesLine, StepsLine, deed_at_once, told};
 ghost use Rattle.replays.specs.Places.{place_of};
 
 use crate::deed::{Deed, deed_by, reply_by};
@@ -12,7 +12,6 @@ use interleavings::interleaving_core::Kernel;
 use msgq_cli::{Command, Reply};
 use page_device::PageDevice;
 use queue_model::Call;
-use type_chains::a_calls_numbers_fit;
 
 /// The next line of a seat is begun, if one is left. It is replied at once where it is a `stop`, or
 /// where its call is refused.
@@ -91,14 +90,10 @@ fn begin_command<D: PageDevice + Drop>(
     command: &Command,
 ) -> Option<Reply>
     requires { IsSeat kernel.old.locks seat }
-    ensures begins { BeginsCommand seat command.now result kernel.old kernel.new }
-    ensures fitting { HasFittingCommand command.now }
+    ensures { BeginsCommand seat command.now result kernel.old kernel.new }
 {
     match command {
-        Command::Call(call) => {
-            a_calls_numbers_fit(call);
-            begin_call(kernel, seat, call)
-        }
+        Command::Call(call) => begin_call(kernel, seat, call),
         Command::Stop => {
             kernel.stop();
             Some(Reply::Stopped)

@@ -1,4 +1,4 @@
-//! Rounds behind a schedule: an event a seat, in order of seats, until all lines are replied.
+//! Rounds after a schedule: an event a seat, in order of seats, until all lines are replied.
 
 ghost use Rattle.std.specs.Prelude.{◌≡◌, false};
 ghost use Rattle.replays.specs.Rounds.{IsRound, MakesRounds, has_moved, is_over};
@@ -10,7 +10,7 @@ use page_device::PageDevice;
 /// Makes rounds until no line is left, and tells whether none is.
 ///
 /// Where a round moves no seat the system is stopped, once, so that calls that wait are answered;
-/// where a round behind that moves none, a line stays that nobody can finish. There are at most
+/// where a round after that moves none, a line stays that nobody can finish. There are at most
 /// 4,000,000 rounds a line.
 pub(crate) fn finish<D: PageDevice + Drop>(replay: &mut Replay<D>) -> bool
     ensures rounds { MakesRounds replay.old replay.new }

@@ -106,7 +106,7 @@ module _ {K : Type 0} (seat : ℕ) (c : Caller) (call : Call) (was : ℕ) (s rea
   concludes steps.Idle driven stands ends = absurd stands.stands
   concludes (steps.Fault (faults.File fault)) driven stands ends = record {
     left = None;
-    is = (ready, is_ready, (fault, refl));
+    is = (ready, is_ready, refl);
     stands = record {
       failed = stands.stands;
       risen = risen_since was old.pool.faults new.pool.faults before (stands.cause refl);

@@ -16,7 +16,7 @@ use Rattle.lone_kernel.specs.interleaving_core.declared.fault.CloseFault.TheVari
 use Rattle.lone_kernel.specs.interleaving_core.declared.fault.OpenFault.{OpenFault}
 use Rattle.lone_kernel.specs.interleaving_core.declared.fault.OpenFault.TheVariants.{NoMemory, TooFewFrames, Wrong}
 use Rattle.file_walk.specs.declared.fault.StructureFault.TheVariants as structure
-use Rattle.one_bucket_file.proofs.of_file_check.WholeLemmas.{file_has_no_fault}
+use Rattle.one_bucket_file.proofs.of_file_check.Today.{file_has_no_fault}
 use Rattle.msgq_cli.specs.record_file.Files.{MayNotFormat}
 use Rattle.msgq_cli.specs.file_check.declared.fault.CheckFault.TheVariants.{Structure}
 use Rattle.msgq_cli.specs.file_check.Whole.{IsFileOf}

@@ -1,13 +1,10 @@
 -- What the lines of a script are replied, one after the other. docs/SCRIPTS.md, "Runs".
 use Rattle.std.specs.Prelude.{◌≡◌, ◌⊎◌, ℕ, ◌≤◌, true, List, [], ◌∷◌, Option, None, Some, length}
-use Rattle.faults.specs.declared.TheConstants.{FAILED, NO_MEMORY, NO_ROOM}
+use Rattle.faults.specs.declared.TheConstants.{FAILED, NO_MEMORY, NO_ROOM, SESSION_FULL}
 use Rattle.page_device.specs.Device.{HasRisen}
 use Rattle.bucket_page.specs.Pseudokeys.{sha_key}
 use Rattle.lone_kernel.specs.Lone.{RestsOver}
-use Rattle.lone_kernel.specs.Words.{Call, Caller, FileFault, FoundNoRoom, KernelState, State, outcome}
-use Rattle.lone_kernel.specs.interleaving_core.Fault.{step_number_of}
-use Rattle.lone_kernel.specs.interleaving_core.declared.fault.StepFault.TheVariants as steps
-use Rattle.lone_kernel.specs.interleaving_core.declared.fault.TheConstants.{SESSION_FULL}
+use Rattle.lone_kernel.specs.Words.{Call, Caller, FoundNoRoom, KernelState, State, outcome}
 use Rattle.msgq_cli.specs.Outputs.{OutputState, Prints}
 use Rattle.msgq_cli.specs.Runs.{ending_of, printed}
 use Rattle.msgq_cli.specs.Scripts.{Parts, caller_of, greatest_seat}
@@ -36,14 +33,14 @@ abbrev pub LeavesSystem : ℕ → Caller → Call → State → ℕ → Type 0
 LeavesSystem seat c call s fault =
     ((fault ≡ NO_ROOM) × FoundNoRoom sha_key seat c call s) ⊎ (fault ≡ NO_MEMORY) ⊎ (fault ≡ SESSION_FULL)
 
--- what a call is replied in the system that it is made in, and the system that it leaves; or it is replied a fault by
--- which the file has failed, and there is none
+-- what a call is replied in the system that it is made in, and the system that it leaves; or it is replied 62 where
+-- the file has failed, and there is none
 abbrev pub IsServed : ℕ → Caller → Call → State → Reply → Option State → Type 0
 IsServed seat c call s (Answered answer) (Some t) = outcome c call s ≡ Some (answer, t)
 IsServed seat c call s (Answered answer) None = ⊥
 IsServed seat c call s Stopped t = ⊥
 IsServed seat c call s (Failed fault) (Some t) = LeavesSystem seat c call s fault × (t ≡ s)
-IsServed seat c call s (Failed fault) None = (why : FileFault) × (fault ≡ step_number_of (steps.File why))
+IsServed seat c call s (Failed fault) None = fault ≡ FAILED
 
 -- what a call is replied where the system is s
 abbrev pub IsAnswered : ℕ → Caller → Call → State → Reply → Option State → Type 0

@@ -31,7 +31,7 @@ IsKept content None = ⊥
 IsKept content (Some s) = IsFileOf sha_key content (restarted s)
 
 -- a script was run from s, and the file is one of the system that it left; or a transfer failed, since the device had
--- failed so often: at the closing, or while a line was run, and then nothing was written
+-- failed so often: at the closing, or while a line was run
 abbrev pub IsRunAndKept : Parts → State → (Option State → Type 0) → ℕ → ℕ → OutputState → OutputState → Ending → Type 0
 IsRunAndKept script s IsLeft was faults old new ending =
     IsRun script s IsLeft old new ending

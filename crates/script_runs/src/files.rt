@@ -4,20 +4,19 @@ ghost use Rattle.script_runs.specs.Serves.{RunsFile};
 
 use crate::serving::run_on;
 use msgq_cli::{
-    Ending, Output, Stage, complain_of, complain_unopened, fail, read_file, read_script, refuse,
-    unread,
+    Ending, Output, complain, complain_of, leave_unopened, read_file, read_script, refuse, unread,
 };
-use page_device::FileDevice;
-use std::fs::{OpenFile, OpenOptions};
-use std::io::{Read, Seek, Write};
+use rollback_journal::open;
+use std::fs::File;
+use std::io::Write;
 use std::rt::Files;
 
 /// `run FILE SCRIPT`: runs the script of a file, or of standard input, on a file of message queues.
 ///
 /// The script is read first: fault 20 or 60 alone where it can't be read, and nothing is run where
-/// it is wrong. Then the file is opened: `fault N` alone where it is not. A fault when it is closed
-/// is one more line.
-pub fn run_file<R, F, W, E>(
+/// it is wrong. Then the file is opened, and what a run that was cut off has left is undone:
+/// `fault N` alone where it is not. A fault when it is closed is one more line.
+pub fn run_file<R, W, E>(
     rt: &R,
     file: &str,
     script: &str,
@@ -25,8 +24,7 @@ pub fn run_file<R, F, W, E>(
     errors: &mut E,
 ) -> Ending
 where
-    R: Files<File = F> + AllocGlobal + Input,
-    F: Read + Write + Seek + OpenFile + Drop,
+    R: Files<File = File> + AllocGlobal + Input,
     W: Write + Drop,
     E: Write,
     ensures { RunsFile output.old output.new result }
@@ -39,22 +37,15 @@ where
         Ok(script) => script,
         Err(error) => return refuse(rt.alloc(), error, text.as_slice(), output, errors),
     };
-    match FileDevice::open(rt, file) {
+    match open(rt, file) {
         Ok(device) => {
-            let ending = run_on(rt.alloc(), device, &script, output).1;
-            complain_of(file, ending, errors);
-            ending
+            let ran = run_on(rt.alloc(), device, &script, output);
+            if let Some(failure) = ran.failure {
+                complain(file, "a line failed", failure, errors);
+            }
+            complain_of(file, ran.ending, errors);
+            ran.ending
         }
-        Err(fault) => {
-            let ending = fail(Stage::Opening, fault.number(), output);
-            complain_unopened(
-                rt,
-                OpenOptions::new().read(true).write(true),
-                file,
-                ending,
-                errors,
-            );
-            ending
-        }
+        Err(error) => leave_unopened(file, error, output, errors),
     }
 }

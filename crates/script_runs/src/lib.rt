@@ -11,4 +11,4 @@ pub use files::run_file;
 pub use msgq_cli;
 pub use replays;
 pub use runs::run;
-pub use serving::{MEMORY_PAGES, run_on, serve, serve_text};
+pub use serving::{MEMORY_PAGES, Ran, run_on, serve, serve_text};

@@ -17,7 +17,6 @@ use page_device::PageDevice;
 use queue_model::Call;
 use replays::FileKeys;
 use std::io::Write;
-use type_chains::{a_callers_numbers_fit, a_calls_numbers_fit};
 
 /// Runs the lines of a script one after the other, each at its seat, and prints what each is replied.
 ///
@@ -25,7 +24,7 @@ use type_chains::{a_callers_numbers_fit, a_calls_numbers_fit};
 /// it left; before the first that would wait the system is stopped. A call that finds no room for
 /// a record is replied fault 50, one for which there is no memory 60, and one that comes behind as
 /// many as a session decides 61: the system is as it was. Where the device fails the line is replied
-/// its fault, and each call behind it 62. Where the output refuses a write the lines are run all the
+/// 62, and so is each call after it. Where the output refuses a write the lines are run all the
 /// same.
 pub fn run<D: PageDevice + Drop, W: Write + Drop>(
     script: &Script,
@@ -109,8 +108,6 @@ fn begin<D: PageDevice + Drop>(
     a_call_begins_on_a_kernel_at_rest::<FileKeys>();
     a_refusal_leaves_a_kernel_at_rest::<FileKeys>();
     kernel.is_whole();
-    a_callers_numbers_fit(&kernel.caller(seat));
-    a_calls_numbers_fit(call);
     let Ok(copy) = call.try_copy() else {
         return Some(Reply::Failed(faults::NO_MEMORY));
     };

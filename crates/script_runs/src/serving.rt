@@ -10,7 +10,7 @@ ghost use Rattle.script_runs.specs.Runs.{AreSeated};
 ghost use Rattle.script_runs.specs.Serves.{IsKept, IsRunAndKept, PrintsRun, RunsInput, RunsOn, RunsText};
 
 use crate::runs::run;
-use lone_kernel::interleaving_core::{Kernel, NotClosed, OpenFault};
+use lone_kernel::interleaving_core::{Failure, Kernel, NotClosed, OpenFault};
 use lone_kernel::{a_kernel_at_rest_closes_on_its_file, a_kernel_opens_at_rest};
 use msgq_cli::record_file::format;
 use msgq_cli::{
@@ -69,9 +69,20 @@ pub fn serve_text<W: Write + Drop, E: Write>(
         return ending;
     }
     a_new_file_has_no_queues();
-    let ending = run_on(alloc, device, &script, output).1;
+    let ending = run_on(alloc, device, &script, output).ending;
     complain_of(MEMORY, ending, errors);
     ending
+}
+
+/// What a run leaves.
+#[derive(Drop)]
+pub struct Ran<D> {
+    /// The device of its kernel.
+    pub device: D,
+    /// What failed a line, where one failed by a fault of the file.
+    pub failure: Option<Failure>,
+    /// How it ended.
+    pub ending: Ending,
 }
 
 /// Runs a script on the file of a device, and closes the file.
@@ -79,28 +90,33 @@ pub fn serve_text<W: Write + Drop, E: Write>(
 /// The file is checked first. Where the device is honest, it is that of one system, from which the
 /// script is run, and the file is then one of the system that it leaves; or the first thing that is
 /// wrong is told by its number alone. Fault 60 alone where there is no memory to open it. The device
-/// may fail when the file is opened, then fault 20 stands alone; while lines are run, which are then
-/// replied it, and nothing is written when the file is closed, which fault 62 behind the answers
-/// tells; or when it is closed, then fault 20 stands behind the answers.
+/// may fail when the file is opened, then fault 20 stands alone; while a line is run, which is then
+/// replied 62, as is each after it, and nothing is written when the file is closed, which fault 62
+/// after the answers tells; or when it is closed, then fault 20 stands after the answers.
 ///
-/// Of any device: a line is printed for each line of the script, and one fault behind them where
-/// the file is not closed well; or one fault alone.
+/// Of any device: a line is printed for each line of the script, and one fault after them where
+/// the file is not closed well; or one fault alone. The device is as honest as it was.
 pub fn run_on<D: PageDevice + Drop, W: Write + Drop>(
     alloc: Global,
     device: D,
     script: &Script,
     output: &mut Output<W>,
-) -> (D, Ending)
+) -> Ran<D>
     ensures served { IsTrue (D.is_honest device) → RunsOn script.now (D.content device)
-        (IsKept (D.content result.0)) (D.fault_count device) (D.fault_count result.0)
-        output.old output.new result.1 }
-    ensures lines { PrintsRun script.now output.old output.new result.1 }
+        (IsKept (D.content result.device)) (D.fault_count device) (D.fault_count result.device)
+        output.old output.new result.ending }
+    ensures lines { PrintsRun script.now output.old output.new result.ending }
+    ensures same { D.is_honest result.device ≡ D.is_honest device }
 {
     a_kernel_opens_at_rest::<FileKeys>();
     script.keeps_seats();
     match open_kernel(alloc, device, script) {
         Ok(kernel) => run_open(kernel, script, output),
-        Err((device, fault)) => (device, leave_unopened(fault, output)),
+        Err((device, fault)) => Ran {
+            device,
+            failure: None,
+            ending: leave_unopened(fault, output),
+        },
     }
 }
 
@@ -109,33 +125,43 @@ fn run_open<D: PageDevice + Drop, W: Write + Drop>(
     kernel: Kernel<D, FileKeys>,
     script: &Script,
     output: &mut Output<W>,
-) -> (D, Ending)
+) -> Ran<D>
     requires { AreSeated script.now kernel.callers }
     ensures served { (was : ℕ) (s : State) → RestsOver sha_key s kernel →
         IsTrue kernel.pool.honest → was ≤ kernel.pool.faults →
-        IsRunAndKept script.now s (IsKept (D.content result.0))
-        was (D.fault_count result.0) output.old output.new result.1 }
-    ensures lines { PrintsRun script.now output.old output.new result.1 }
+        IsRunAndKept script.now s (IsKept (D.content result.device))
+        was (D.fault_count result.device) output.old output.new result.ending }
+    ensures lines { PrintsRun script.now output.old output.new result.ending }
+    ensures same { D.is_honest result.device ≡ kernel.pool.honest }
 {
     a_kernel_at_rest_closes_on_its_file::<FileKeys>();
     let mut kernel = kernel;
     let ending = run(script, &mut kernel, output);
+    let failure = kernel.failure();
     if kernel.has_failed() {
-        return (
-            kernel.into_device(),
-            fail(Stage::Closing, faults::FAILED, output),
-        );
+        return Ran {
+            device: kernel.abandon().device,
+            failure,
+            ending: fail(Stage::Closing, faults::FAILED, output),
+        };
     }
     match kernel.close() {
-        Ok(closed) => (closed.device, ending),
-        Err(NotClosed::Fault(closed, fault)) => {
-            (closed.device, fail(Stage::Closing, fault.number(), output))
-        }
+        Ok(closed) => Ran {
+            device: closed.device,
+            failure,
+            ending,
+        },
+        Err(NotClosed::Fault(closed, fault)) => Ran {
+            device: closed.device,
+            failure,
+            ending: fail(Stage::Closing, fault.number(), output),
+        },
         // a device that is not honest may leave a call that is never answered
-        Err(NotClosed::Busy(kernel)) => (
-            kernel.into_device(),
-            fail(Stage::Closing, faults::FAILED, output),
-        ),
+        Err(NotClosed::Busy(kernel)) => Ran {
+            device: kernel.abandon().device,
+            failure,
+            ending: fail(Stage::Closing, faults::FAILED, output),
+        },
     }
 }
 

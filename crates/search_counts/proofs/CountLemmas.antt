@@ -155,7 +155,7 @@ count_there counts (suc place) c is at =
 
 -- ---- a step is counted
 
--- the list in its place, behind the loop over a slice of it
+-- the list in its place, after the loop over a slice of it
 pub written_over : {Z : Type 0} (v : Vec SearchCount Z) (kind : Kind) (u : UnderWay) (seen counts : List SearchCount) →
     seen ≡ v.items → counts ≡ map (count_beside kind u) seen →
     (with_items v counts).items ≡ map (count_beside kind u) v.items

@@ -39,13 +39,13 @@ MOST_COUNTED = 4294967295
 abbrev pub begun_count : UnderWay → SearchCount
 begun_count u = record { hops = 0; changes = 0; calm = is_nothing u }
 
--- behind a step of the seat itself, by which a search begins, or goes on to another page
+-- after a step of the seat itself, by which a search begins, or goes on to another page
 abbrev pub own_count : (begins goes_on : Bool) → UnderWay → SearchCount → SearchCount
 own_count true goes_on u c = begun_count u
 own_count false true u c = record c { hops = min (c.hops + 1) MOST_COUNTED; calm = c.calm && is_nothing u }
 own_count false false u c = record c { calm = c.calm && is_nothing u }
 
--- behind a step of another seat
+-- after a step of another seat
 abbrev pub count_beside : Kind → UnderWay → SearchCount → SearchCount
 count_beside kind u c =
     record c { changes = min (c.changes + hops_added kind) MOST_COUNTED; calm = c.calm && is_nothing u }

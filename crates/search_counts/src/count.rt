@@ -31,7 +31,7 @@ impl SearchCount {
         }
     }
 
-    /// Behind a step of the seat itself, by which a search begins, or goes on to another page, or
+    /// After a step of the seat itself, by which a search begins, or goes on to another page, or
     /// neither, and behind which this is under way.
     pub(crate) fn own(self, begins: bool, goes_on: bool, under_way: UnderWay) -> SearchCount
         ensures { result ≡ own_count begins goes_on under_way self }
@@ -51,7 +51,7 @@ impl SearchCount {
         }
     }
 
-    /// Behind a step of this kind of another seat, behind which this is under way.
+    /// After a step of this kind of another seat, behind which this is under way.
     pub(crate) fn beside(self, kind: Kind, under_way: UnderWay) -> SearchCount
         ensures { result ≡ count_beside kind under_way self }
     {

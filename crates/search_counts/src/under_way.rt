@@ -17,7 +17,7 @@ pub enum UnderWay {
 }
 
 impl UnderWay {
-    /// What is under way behind a step of this kind.
+    /// What is under way after a step of this kind.
     pub(crate) fn after(self, kind: Kind) -> UnderWay
         ensures { result ≡ change_after kind self }
     {

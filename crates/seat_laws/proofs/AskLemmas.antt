@@ -86,7 +86,7 @@ stays_undecided hash seat call s u records others same pool pool' locks locks' c
     stays_in hash seat call s u.questions records others same pool pool' locks locks' change change' leaves u.trials
     counts is
 
--- ---- behind its own step
+-- ---- after its own step
 
 pub asks_under_new_names : AsksUnderNewNames
 asks_under_new_names hash seat call s q records pool locks change on sees row filed stands alike counts = record {

@@ -1,12 +1,11 @@
 -- A call that has not decided, beside another seat's Decide.
-use Rattle.std.proofs.Common.{ℕ, zero, suc, ◌≡◌, ◌≢◌, ◌⊎◌, inl, inr, refl, sym, ap, ◌∙◌, subst, Bool, true, false, List, [], ◌∷◌, Option, Some, None, arith}
+use Rattle.std.proofs.Common.{ℕ, ◌≡◌, ◌≢◌, ◌⊎◌, inl, inr, refl, sym, ap, ◌∙◌, subst, Bool, true, false, List, [], ◌∷◌, Option, Some, None}
 use Rattle.std.specs.Prelude.{◌==◌, ◌&&◌}
 use Rattle.std.specs.List.{Contains}
 use Rattle.call_decisions.specs.Settling.{AreAlike, IsAnswer, writes_owed}
+use Rattle.owed_records.proofs.HeldLemmas.{has_or_not}
 use Rattle.owed_records.proofs.OverlayLemmas.{overlaid_rest}
 use Rattle.owed_records.specs.Owing as owed
-use Rattle.page_locks.proofs.NameLemmas.{is_same-itself, is_same-true}
-use Rattle.page_locks.specs.Locks.{is_same}
 use Rattle.queue_model.specs.declared.answer.Answer.{Answer}
 use Rattle.queue_model.specs.declared.caller.Caller.{Caller}
 use Rattle.queue_records.specs.Keys.{key_of_queue}
@@ -19,29 +18,6 @@ use Rattle.seat_laws.specs.Beside.{AreApart}
 use Rattle.seat_laws.specs.DecisionLaws.{LeavesWhatItDoesNotWrite, OthersAnswer, OthersSweep}
 use Rattle.seat_laws.proofs.ApartLemmas.{others_decide}
 use Rattle.seat_laws.proofs.SameLemmas.{same_system}
-
--- ---- a name is one of these, or none
-
-tail_has : (n name : LockName) (ns : List LockName) → Contains ns name → Contains (n ∷ ns) name
-tail_has n name ns (k, within, at) = (suc k, omega (arith, within), at)
-
-none_here : (n name : LockName) (ns : List LockName) → is_same n name ≡ false → (Contains ns name → ⊥) →
-    Contains (n ∷ ns) name → ⊥
-none_here n name ns other none (zero, within, at) =
-    let clash : ◌≡◌ {A = Bool} true false =
-    sym (is_same-itself name) ∙ ap (λ (m : LockName). is_same m name) (sym at) ∙ other in
-    cc
-none_here n name ns other none (suc k, within, at) = none (k, omega (arith, within), at)
-
-has_or_not : (ns : List LockName) (name : LockName) → Contains ns name ⊎ (Contains ns name → ⊥)
-has_or_not [] name = inr (λ (k, within, at). omega (arith, within))
-has_or_not (n ∷ ns) name = by (is_same n name) refl (has_or_not ns name)
-  where
-    by : (b : Bool) → is_same n name ≡ b → Contains ns name ⊎ (Contains ns name → ⊥) →
-        Contains (n ∷ ns) name ⊎ (Contains (n ∷ ns) name → ⊥)
-    by true is rest = inl (0, omega arith, is_same-true n name is)
-    by false is (inl has) = inl (tail_has n name ns has)
-    by false is (inr none) = inr (none_here n name ns is none)
 
 -- ---- a call that writes nothing
 

@@ -6,7 +6,7 @@ use Rattle.queue_model.specs.Rules.{has_id}
 use Rattle.queue_records.specs.declared.record.Record.TheVariants as records
 use Rattle.seat_laws.specs.Words.{Change, Counter, Exclusive, IsFilePool, IsKnown, IsSoundWorld, Known, Lock, LockName, PoolState, Record, RecordKey, StandsAt, State, Store, Table, counter_key, guard_of, held, kind_of, names_in, row_of, store_of, world}
 
--- from before the step to behind it
+-- from before the step to after it
 pub record LeavesSeat (hash : RecordKey → ℕ) (seat : ℕ) (pool pool' : PoolState) (locks locks' : Table)
     (change change' : Change) : Type 0 where
   -- the device is honest and has a file, and the world is sound
@@ -22,7 +22,7 @@ pub record LeavesSeat (hash : RecordKey → ℕ) (seat : ℕ) (pool pool' : Pool
   pub stands : (key : RecordKey) (found : Option Record) → IsSome (held locks seat (guard_of key)) →
       StandsAt (store_of pool.images) key found → StandsAt (store_of pool'.images) key found
 
--- where the first is so of a seat, the second is so of it behind each step of another
+-- where the first is so of a seat, the second is so of it after each step of another
 abbrev pub LeadsBeside : (RecordKey → ℕ) → ℕ → (IsSo IsThen : PoolState → Table → Change → Type 0) → Type 0
 LeadsBeside hash seat IsSo IsThen = (pool pool' : PoolState) (locks locks' : Table) (change change' : Change) →
     LeavesSeat hash seat pool pool' locks locks' change change' → IsSo pool locks change → IsThen pool' locks' change'

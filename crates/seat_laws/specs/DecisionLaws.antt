@@ -56,7 +56,7 @@ OthersSweep = (hash : RecordKey → ℕ) (other : ℕ) (theirs : Call) (s : Stat
 abbrev pub BeginApart : Type 0
 BeginApart = (call : Call) (q : QuestionsView) → ((s : State) → KnowsNear call q s) → IsKeptApart call q
 
--- one that holds just the names which it needs, and so that of the queue, or of the key, that it was given
+-- one that holds exactly the names which it needs, and so that of the queue, or of the key, that it was given
 abbrev pub HoldApart : Type 0
 HoldApart = (call : Call) (q : QuestionsView) (s : State) → IsFiled s → KnowsNear call q s →
     q.names ≡ names_for call q.inquiry → HoldsOwn call (names_in q.names) × IsKeptApart call q
@@ -75,7 +75,7 @@ StaysApart = (hash : RecordKey → ℕ) (seat : ℕ) (call : Call) (s : State) (
     (pool : PoolState) (locks : Table) (change : Change) →
     IsUndecided hash seat call s u records pool locks change → IsKeptApart call u.questions
 
--- also behind its own step, before it is told anew that the file agrees under its names
+-- also after its own step, before it is told anew that the file agrees under its names
 abbrev pub BehindApart : Type 0
 BehindApart = (hash : RecordKey → ℕ) (seat : ℕ) (call : Call) (s : State) (q : QuestionsView) (t : Option Trials)
     (records : Records) (pool : PoolState) (locks : Table) (change : Change) →

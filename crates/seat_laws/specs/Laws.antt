@@ -14,7 +14,7 @@ OthersLeave = (hash : RecordKey → ℕ) (seat other : ℕ) (turn : Turn) (did :
     (step : Step hash other turn did facts pool pool' locks locks' change) →
     LeavesSeat hash seat pool pool' locks locks' change step.after
 
--- what a seat does not hold Exclusive stands behind its step
+-- what a seat does not hold Exclusive stands after its step
 abbrev pub LeaveWhatTheyRead : Type 0
 LeaveWhatTheyRead = (hash : RecordKey → ℕ) (other : ℕ) (turn : Turn) (did : Progress FileFault) (facts : List Known)
     (pool pool' : PoolState) (locks locks' : Table) (change : Change) →
@@ -26,7 +26,7 @@ abbrev pub SeesOn : Type 0
 SeesOn = (hash : RecordKey → ℕ) (seat : ℕ) (facts : List Known) →
     LeadsBeside hash seat (Sees hash seat facts) (Sees hash seat facts)
 
--- and behind its own step it sees what it knows then
+-- and after its own step it sees what it knows then
 abbrev pub SeesBehind : Type 0
 SeesBehind = (hash : RecordKey → ℕ) (seat : ℕ) (turn : Turn) (did : Progress FileFault) (facts : List Known)
     (pool pool' : PoolState) (locks locks' : Table) (change : Change) → IsTrue pool'.honest →
@@ -71,7 +71,7 @@ StaysUndecided = (hash : RecordKey → ℕ) (seat : ℕ) (call : Call) (s : Stat
     CountsUnder (names_in u.questions.names) (store_of pool.images) s →
     IsUndecided hash seat call s u others pool locks change)
 
--- behind its own step, by which it may have been granted a name: where under its names there stand the records of s
+-- after its own step, by which it may have been granted a name: where under its names there stand the records of s
 abbrev pub AsksUnderNewNames : Type 0
 AsksUnderNewNames = (hash : RecordKey → ℕ) (seat : ℕ) (call : Call) (s : State) (q : QuestionsView) (records : Records)
     (pool : PoolState) (locks : Table) (change : Change) → AsksOn hash call s q →

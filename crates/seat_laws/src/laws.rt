@@ -6,7 +6,7 @@ ghost use Rattle.seat_laws.specs.Laws.{AskUnderNames, AsksUnderNewNames, CountsF
 
 /// A step of another seat leaves a seat what it holds and knows, and the records whose names it
 /// holds; and so each record whose name the other does not hold Exclusive. The seat sees what it
-/// saw, and behind a step of its own what it knows then.
+/// saw, and after a step of its own what it knows then.
 pub fn a_seat_sees_what_it_saw()
     ensures leaves { OthersLeave }
     ensures reads { LeaveWhatTheyRead }
@@ -32,7 +32,7 @@ pub fn a_payment_goes_on()
 /// A call that has not decided asks and tries on beside a step of another seat, as long as the
 /// file's Counter tells of the ids whose names it holds what the system does; that does so where it
 /// has the next id, and where another call has made the queue of its id and is still to count it.
-/// It asks on behind its own step where under its names there stand the records of the system.
+/// It asks on after its own step where under its names there stand the records of the system.
 pub fn a_call_stays_undecided()
     ensures stays { StaysUndecided }
     ensures counts { CountsForOthers }
@@ -61,9 +61,9 @@ pub fn an_id_is_given_out_under_its_name()
     ensures { IdsAreGivenOutUnderNames }
 {}
 
-/// Others leave what it knows to a call that has just begun, to one that holds just the names which
-/// it needs, among which is that of the queue, or of the key, that it was given, and to one on
-/// trial.
+/// Others leave what it knows to a call that has just begun, to one that holds exactly the names
+/// which it needs, among which is that of the queue, or of the key, that it was given, and to one
+/// on trial.
 pub fn others_leave_what_a_call_knows()
     ensures begins { BeginApart }
     ensures holds { HoldApart }
@@ -72,7 +72,7 @@ pub fn others_leave_what_a_call_knows()
 
 /// A call that has not decided others leave what it knows: it has come so far by its own steps, and
 /// while it asks it gives no name back, but a Remove between its phases, where it knows its queue's
-/// key alone. So they do behind each of its steps.
+/// key alone. So they do after each of its steps.
 pub fn a_call_stays_apart_by_its_own_steps()
     ensures stays { StaysApart }
     ensures behind { BehindApart }

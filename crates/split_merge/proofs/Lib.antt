@@ -7,6 +7,5 @@ pub mod StepLemmas
 pub mod TurnLemmas
 pub mod FactLemmas
 pub mod FaultLemmas
-pub mod CallerLemmas
 pub use Rattle.stale_search.proofs as of_stale_search
 pub use Rattle.stale_search.proofs.of_file_pages

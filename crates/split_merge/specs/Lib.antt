@@ -3,6 +3,5 @@ pub mod Entries
 pub mod Order
 pub mod Taking
 pub mod Splits
-pub mod Callers
 pub use Rattle.stale_search.specs as stale_search
 pub use Rattle.stale_search.specs.file_pages

@@ -109,7 +109,7 @@ pub record KeepsAim {F : Type 0} (did : Progress F) (old new : SplitView) : Type
   pub ended : (did ≡ Ended) ↔ IsTrue (has_ended old.place)
   pub no_record : did ≡ Moved WriteRecord → ⊥
 
--- it comes to `Full` from its first place alone, by a step behind which the record has no room
+-- it comes to `Full` from its first place alone, by a step after which the record has no room
 abbrev pub FullMeans : (RecordKey → ℕ) → Pair → SplitPlace → SplitPlace → World → Type 0
 FullMeans hash p TakePage Full after = HasNoRoom hash p after
 FullMeans hash p Full Full after = ⊤

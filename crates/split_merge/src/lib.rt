@@ -7,13 +7,11 @@
 
 mod entries;
 mod free_page;
-mod laws;
 mod order;
 mod place;
 mod split;
 mod wanted;
 
-pub use laws::a_split_keeps_what_its_caller_knows;
 pub use place::SplitPlace;
 pub use split::Split;
 pub use stale_search;

@@ -8,7 +8,7 @@ use crate::entries::{first_upper, last_upper, stride};
 use crate::place::SplitPlace;
 use positions::Range;
 
-/// The place behind TakePage. A bucket that is as deep as the directory needs it doubled.
+/// The place after TakePage. A bucket that is as deep as the directory needs it doubled.
 pub fn after_take(whole: Range, depth: u8, new: u32) -> SplitPlace
     requires shallow { whole.depth < GREATEST_DEPTH }
     ensures is { result ≡ after_take whole depth new }
@@ -20,7 +20,7 @@ pub fn after_take(whole: Range, depth: u8, new: u32) -> SplitPlace
     SplitPlace::CopyDirectory(new, first_upper(depth))
 }
 
-/// The place behind CopyDirectory of a page.
+/// The place after CopyDirectory of a page.
 pub fn after_copy(whole: Range, depth: u8, new: u32, page: u32) -> SplitPlace
     requires shallow { whole.depth < GREATEST_DEPTH }
     requires placed { IsPlaced whole depth (SplitPlace.CopyDirectory new page) }
@@ -33,7 +33,7 @@ pub fn after_copy(whole: Range, depth: u8, new: u32, page: u32) -> SplitPlace
     SplitPlace::RaiseDepth(new)
 }
 
-/// The place behind Retarget of the page of an entry.
+/// The place after Retarget of the page of an entry.
 pub fn after_retarget(whole: Range, depth: u8, new: u32, entry: u32) -> SplitPlace
     requires depth { depth ≤ GREATEST_DEPTH }
     requires placed { IsPlaced whole depth (SplitPlace.Retarget new entry) }

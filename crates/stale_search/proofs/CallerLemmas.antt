@@ -11,7 +11,7 @@ use Rattle.stale_search.specs.declared.place.ApproachPlace.TheVariants as to
 use Rattle.stale_search.specs.Rows.{in_directory, on_page}
 use Rattle.stale_search.specs.Searches.{SearchView, search_locks, locks_at}
 use Rattle.stale_search.specs.Approaches.{ApproachView, approach_locks, approach_locks_at}
-use Rattle.stale_search.specs.Callers.{AddersKeep, AddsFileLocks, ApproachKeeps, IsAside, SearchKeeps}
+use Rattle.stale_search.specs.Callers.{AddersKeep, AddsFileLocks, IsAside}
 
 first : (o : Option LockKind) → first_kind o None ≡ o
 first None = refl
@@ -87,10 +87,3 @@ adders_keep mine mine' adds adds' seat images images' locks locks' change change
     ap (λ (xs : List Lock). kind_of xs name) row ∙ adds before name (guard_aside key)
     ∙ sym (adds' before name (guard_aside key)) ∙ sym (ap (λ (xs : List Lock). kind_of xs name) now) in
     (subst IsSome still h.0, same ∙ h.1)
-
-pub search_keeps : SearchKeeps
-search_keeps v v' = adders_keep (search_locks v) (search_locks v') (search_adds_locks v) (search_adds_locks v')
-
-pub approach_keeps : ApproachKeeps
-approach_keeps v v' =
-    adders_keep (approach_locks v) (approach_locks v') (approach_adds_locks v) (approach_adds_locks v')

@@ -4,8 +4,6 @@ use Rattle.file_pages.specs.hash_file.Chain.{contents}
 use Rattle.step_rules.specs.Words.{Lock, LockName, Directory, Page, Change}
 use Rattle.stale_search.specs.Words.{RecordKey, Table, IsSeat, kind_of, row_of, with_row, store_of, Told, IsKnown}
 use Rattle.stale_search.specs.Steps.{world}
-use Rattle.stale_search.specs.Searches.{SearchView, search_locks}
-use Rattle.stale_search.specs.Approaches.{ApproachView, approach_locks}
 
 -- a name that is neither the directory's nor a page's
 abbrev pub IsAside : LockName → Type 0
@@ -31,9 +29,3 @@ CallerKeeps mine mine' = (seat : ℕ) (images images' : List (List ℕ)) (locks 
 -- so it is beside every machine that takes locks of the file alone
 abbrev pub AddersKeep : Type 0
 AddersKeep = (mine mine' : List Lock → List Lock) → AddsFileLocks mine → AddsFileLocks mine' → CallerKeeps mine mine'
-
-abbrev pub SearchKeeps : Type 0
-SearchKeeps = (v v' : SearchView) → CallerKeeps (search_locks v) (search_locks v')
-
-abbrev pub ApproachKeeps : Type 0
-ApproachKeeps = (v v' : ApproachView) → CallerKeeps (approach_locks v) (approach_locks v')

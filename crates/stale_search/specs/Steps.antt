@@ -23,7 +23,7 @@ pub record Sees (hash : RecordKey → ℕ) (seat : ℕ) (facts : List Known) (po
   pub known : AllKnown seat (world pool.images locks change) facts
 
 -- what the step leaves: the file is one again, the world is sound, the others keep what they know, the seat knows
--- what its new place says, just what the turn is about was done, and a search has gone on its way
+-- what its new place says, exactly what the turn is about was done, and a search has gone on its way
 pub record Step {F : Type 0} (hash : RecordKey → ℕ) (seat : ℕ) (turn : Turn) (did : Progress F) (facts : List Known)
     (pool pool' : PoolState) (locks locks' : Table) (change : Change) : Type 0 where
   pub after : Change

@@ -1,21 +1,10 @@
-//! The laws of searches and approaches.
+//! The laws of searches, and of machines beside which their callers know records.
 
-ghost use Rattle.stale_search.specs.Callers.{AddersKeep, ApproachKeeps, SearchKeeps};
+ghost use Rattle.stale_search.specs.Callers.{AddersKeep};
 ghost use Rattle.stale_search.specs.Walks.{SearchCountsFew, SearchWalksOn};
 
-/// What the caller of a search knows under its names stays, by the search's row and
-/// since it only reads.
-pub fn a_search_keeps_what_its_caller_knows()
-    ensures { SearchKeeps }
-{}
-
-/// So it does beside an approach.
-pub fn an_approach_keeps_what_its_caller_knows()
-    ensures { ApproachKeeps }
-{}
-
-/// And beside every machine that takes locks of the file alone, for the keys at which the file
-/// holds what it held.
+/// What the caller of a machine that takes locks of the file alone knows under its own names
+/// stays, for the keys at which the file holds what it held.
 pub fn machines_keep_what_their_callers_know()
     ensures { AddersKeep }
 {}

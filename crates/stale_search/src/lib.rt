@@ -14,9 +14,6 @@ mod search;
 pub use approach::Approach;
 pub use file_pages;
 pub use file_pages::buffer_pool;
-pub use laws::{
-    a_search_counts_few_hops, a_search_keeps_what_its_caller_knows,
-    an_approach_keeps_what_its_caller_knows, machines_keep_what_their_callers_know,
-};
+pub use laws::{a_search_counts_few_hops, machines_keep_what_their_callers_know};
 pub use place::{ApproachPlace, SearchPlace};
 pub use search::Search;

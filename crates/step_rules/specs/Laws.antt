@@ -41,7 +41,7 @@ abbrev pub KindKeepsContents : Kind → Type 0
 KindKeepsContents kind = (hash : RecordKey → ℕ) (seat : ℕ) (old new : World) → IsSoundWorld hash old →
     kind ≢ WriteRecord → Does hash kind seat old new → KeepsContents old.store new.store
 
--- and just the record of its turn
+-- and exactly the record of its turn
 abbrev pub WriteChangesOneRecord : Type 0
 WriteChangesOneRecord = (hash : RecordKey → ℕ) (seat : ℕ) (write : RecordWrite) (old new : World) →
     IsSoundWorld hash old → WritesJust hash write seat old new → ChangesRecord write old.store new.store

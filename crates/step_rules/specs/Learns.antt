@@ -1,31 +1,23 @@
 -- What a seat learns by a step of its own, each on the contract of a function of src/learns.rt.
 -- docs/STEPS.md, "Search", "Merge" and "What a seat may know".
-use Rattle.std.specs.Prelude.{ℕ, ◌≡◌, ◌≢◌, ◌≤◌, ◌⊎◌, ◌%◌, ◌^◌, true, false, Some, List}
+use Rattle.std.specs.Prelude.{ℕ, ◌≡◌, ◌≢◌, ◌≤◌, ◌⊎◌, true, false, Some, List}
 use Rattle.std.specs.List.{Contains}
 use Rattle.positions.specs.Ranges.{AreHalvesOf, is_lower, parent_of, buddy_of}
 use Rattle.bucket_page.specs.declared.record_key.RecordKey.{RecordKey}
 use Rattle.bucket_page.specs.Records.{lookup}
-use Rattle.page_locks.specs.declared.lock.LockKind.{LockKind}
 use Rattle.page_locks.specs.declared.lock.LockKind.TheVariants.{Exclusive}
 use Rattle.page_locks.specs.declared.lock.LockName.TheVariants.{Directory, Page}
 use Rattle.page_locks.specs.Table.{Table, row_of, held}
-use Rattle.page_locks.specs.Writers.{may_write, IsWriter}
-use Rattle.hash_file.specs.Store.{Store, entry_at, next_at, records_at, bucket_at, range_at}
+use Rattle.page_locks.specs.Writers.{IsWriter}
+use Rattle.hash_file.specs.Store.{Store, records_at, bucket_at, range_at}
 use Rattle.hash_file.specs.Chain.{chain, IsBucketOf}
 use Rattle.hash_file.specs.Change.{Quiet}
-use Rattle.hash_file.specs.Search.{PageLeads}
 use Rattle.hash_file.specs.Looks.{Answers}
 use Rattle.step_rules.specs.World.{World, with_locks, IsHeld, MayAim, guard_of}
 use Rattle.step_rules.specs.Sound.{IsSoundWorld}
-use Rattle.step_rules.specs.Structure.{InPhase, HasDepth, BucketOf}
-use Rattle.step_rules.specs.Known.{Known, Deep, LeadsTo, Live, Built, Told, HasAnchor, IsKnown}
-use Rattle.step_rules.specs.LockSteps.{Grants, Releases, MovesOn}
+use Rattle.step_rules.specs.Known.{Known, LeadsTo, Live, Told, HasAnchor, IsKnown}
+use Rattle.step_rules.specs.LockSteps.{Grants, Releases}
 use Rattle.step_rules.specs.PageSteps.{WritesFree, LinksFree}
-
--- an entry found by the depth that was read, however old, leads to the pseudokey
-abbrev pub EntryReadLeads : Type 0
-EntryReadLeads = (hash : RecordKey → ℕ) (seat : ℕ) (w : World) (depth k : ℕ) → IsSoundWorld hash w →
-    IsKnown seat w (Deep depth) → IsKnown seat w (LeadsTo (entry_at w.store (k % 2 ^ depth)) k)
 
 -- a page that answers has of the key what the file holds
 abbrev pub LookTells : Type 0
@@ -33,29 +25,11 @@ LookTells = (hash : RecordKey → ℕ) (seat : ℕ) (w : World) (page : ℕ) (ke
     IsKnown seat w (LeadsTo page (hash key)) → Answers w.store page (hash key) → IsHeld w.locks seat (guard_of key) →
     IsKnown seat w (Told key (lookup key (records_at w.store page)))
 
--- a page that does not answer names one that leads to the pseudokey, when it is granted
-abbrev pub HopLeadsOn : Type 0
-HopLeadsOn = (hash : RecordKey → ℕ) (seat : ℕ) (old new : World) (page k : ℕ) (kind : LockKind) →
-    IsSoundWorld hash old → PageLeads old.store old.change page k → (Answers old.store page k → ⊥) →
-    MovesOn page kind seat old new → PageLeads new.store new.change (next_at old.store page) k
-
 -- who may write a page that leads to a pseudokey and answers for it, between changes of its own, holds the live bucket
 abbrev pub OwnedAnswerIsLive : Type 0
 OwnedAnswerIsLive = (hash : RecordKey → ℕ) (seat : ℕ) (w : World) (page k : ℕ) → IsSoundWorld hash w →
     IsKnown seat w (LeadsTo page k) → IsWriter w.locks seat (Page page) →
     (IsWriter w.locks seat Directory → w.change ≡ Quiet) → Answers w.store page k → IsKnown seat w (Live page)
-
--- who is granted the directory so that it may write it finds no change under way
-abbrev pub DirectoryIsQuiet : Type 0
-DirectoryIsQuiet = (hash : RecordKey → ℕ) (seat : ℕ) (old new : World) (g : Grants seat old new) →
-    IsSoundWorld hash old → g.name ≡ Directory → may_write (Some g.kind) ≡ true
-    → IsKnown seat new (Built (InPhase Quiet))
-
--- and by the depth then read, each entry is the bucket of the pseudokey
-abbrev pub EntryIsBucket : Type 0
-EntryIsBucket = (hash : RecordKey → ℕ) (seat : ℕ) (w : World) (depth k : ℕ) → IsSoundWorld hash w →
-    IsKnown seat w (Built (InPhase Quiet)) → IsKnown seat w (Built (HasDepth depth)) →
-    IsKnown seat w (Built (BucketOf k (entry_at w.store (k % 2 ^ depth))))
 
 -- a seat keeps through its own change of locks what it knows under a lock that it still has
 abbrev pub OwnLocksKeep : Type 0
@@ -77,11 +51,6 @@ FreesNobodysPage = (hash : RecordKey → ℕ) (seat other : ℕ) (old new : Worl
 abbrev pub LinksNobodysPage : Type 0
 LinksNobodysPage = (hash : RecordKey → ℕ) (seat other : ℕ) (old new : World) (does : LinksFree seat old new) →
     IsSoundWorld hash old → other ≢ seat → MayAim old.locks other does.right → ⊥
-
--- a page that leads to a pseudokey and does not answer for it names another page than itself
-abbrev pub HopGoesElsewhere : Type 0
-HopGoesElsewhere = (hash : RecordKey → ℕ) (w : World) (page k : ℕ) → IsSoundWorld hash w →
-    PageLeads w.store w.change page k → (Answers w.store page k → ⊥) → next_at w.store page ≢ page
 
 -- page n is of these, and a bucket of this depth
 abbrev pub IsLiveOn : Store → List ℕ → ℕ → ℕ → Type 0

@@ -64,6 +64,6 @@ abbrev pub IsAimed : Option Ask → List Known → Type 0
 IsAimed (Some (ForEntry depth k)) facts = facts ≡ Deep depth ∷ []
 IsAimed (Some (ForPage page k kind)) facts = KnowsFirst (LeadsTo page k) facts
 IsAimed (Some (ForAnswer page k)) facts = KnowsFirst (LeadsTo page k) facts
--- an Insert hops in its second try too, behind a split of its own
+-- an Insert hops in its second try too, after a split of its own
 IsAimed (Some (HopFrom page k)) facts = KnowsFirst (LeadsTo page k) facts ⊎ IsOfStructure facts
 IsAimed ask facts = ⊤

@@ -165,7 +165,7 @@ pub record IsKeptFrom (page pseudokey : ℕ) (seat other : ℕ) (old : World) : 
   pub unanswered : Answers old.store page pseudokey → ⊥
   pub opposes : Opposes old.locks seat (Page (next_at old.store page)) kind other
 
--- another seat stands in the way of just what is asked
+-- another seat stands in the way of exactly what is asked
 abbrev pub StandsInWay : Option Ask → ℕ → ℕ → World → Type 0
 StandsInWay None seat other old = ⊥
 StandsInWay (Some (ForLock name kind)) seat other old = Opposes old.locks seat name kind other

@@ -32,7 +32,7 @@ pub record IsAsAdded (walk next : SearchWalk) : Type 0 where
   pub added : next.added ≡ walk.added
   pub calm : next.calm ≡ walk.calm
 
--- behind a step of its seat a search begins, or hops on to another page, or goes on with the hops that it has
+-- after a step of its seat a search begins, or hops on to another page, or goes on with the hops that it has
 pub data WalksBehind {F : Type 0} (seat : ℕ) (did : Progress F) (facts : List Known) (walk : SearchWalk)
     (old new : World) : Type 0 where
   Begins : (depth : ℕ) → did ≡ Moved kinds.ReadDepth → held new.locks seat Directory ≡ Some Read →

@@ -2,13 +2,7 @@
 //! function that does nothing.
 
 ghost use Rattle.step_rules.specs.Answering.{LookMayTell};
-ghost use Rattle.step_rules.specs.Learns.{DirectoryIsHalved, EntryReadLeads, LookTells, HopLeadsOn, HopGoesElsewhere, OwnedAnswerIsLive, DirectoryIsQuiet, EntryIsBucket, BuddyIsOtherHalf, OwnLocksKeep, OwnGrantKeeps, FreesNobodysPage, LinksNobodysPage};
-
-/// A search that reads an entry by a depth that has grown since still has a page that
-/// leads to its pseudokey.
-pub fn an_entry_that_was_read_leads()
-    ensures { EntryReadLeads }
-{}
+ghost use Rattle.step_rules.specs.Learns.{DirectoryIsHalved, LookTells, OwnedAnswerIsLive, BuddyIsOtherHalf, OwnLocksKeep, OwnGrantKeeps, FreesNobodysPage, LinksNobodysPage};
 
 /// A look at a page that leads to a key's pseudokey and answers for it tells what the file
 /// holds at the key.
@@ -17,24 +11,10 @@ pub fn a_look_tells_what_the_file_holds()
     ensures tells { LookMayTell }
 {}
 
-/// The page that a hop is granted leads to the pseudokey, and is another than the one
-/// that it gives back.
-pub fn a_hop_is_led_on()
-    ensures leads { HopLeadsOn }
-    ensures elsewhere { HopGoesElsewhere }
-{}
-
 /// A page that a seat may write, and that leads to a pseudokey and answers for it, is the live
 /// bucket: a merge takes no page off the chain that another seat may write.
 pub fn an_owned_page_that_answers_is_live()
     ensures { OwnedAnswerIsLive }
-{}
-
-/// A seat that may write the directory finds it exact: no change is under way, and each
-/// entry is the bucket.
-pub fn an_owned_directory_is_exact()
-    ensures quiet { DirectoryIsQuiet }
-    ensures entry { EntryIsBucket }
 {}
 
 /// A directory that is given back from an exclusive lock has no depth, or a live bucket is as deep

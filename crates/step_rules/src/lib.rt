@@ -18,8 +18,7 @@ pub use laws::{
 };
 pub use learns::{
     a_buddy_is_the_other_half, a_directory_is_halved_before_it_is_given_back,
-    a_freed_page_is_nobodys, a_hop_is_led_on, a_look_tells_what_the_file_holds,
-    an_entry_that_was_read_leads, an_owned_directory_is_exact, an_owned_page_that_answers_is_live,
+    a_freed_page_is_nobodys, a_look_tells_what_the_file_holds, an_owned_page_that_answers_is_live,
     own_locks_keep_what_is_known,
 };
 pub use progress::Progress;

@@ -28,7 +28,7 @@ with_type (t ∷ ts) mtype =
 abbrev pub types : List Message → List ℤ
 types ms = fold (λ (ts : List ℤ) (m : Message). with_type ts m.mtype) [] ms
 
--- the types ascend, and are just those that a message has
+-- the types ascend, and are exactly those that a message has
 pub record AreTypesOf (ms : List Message) (ts : List ℤ) : Type 0 where
   pub ascend : AllPairs (λ (a b : ℤ). a <ℤ b) ts
   pub stand : (t : ℤ) → Contains ts t ↔ ((m : Message) × Contains ms m × (m.mtype ≡ t))

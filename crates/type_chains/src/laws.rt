@@ -45,7 +45,7 @@ pub fn a_key_tells_its_queue()
     ensures { TellsQueue }
 {}
 
-/// The types of messages ascend, and are just those that a message has. So a type has a record
+/// The types of messages ascend, and are exactly those that a message has. So a type has a record
 /// exactly while a message of it is on the queue.
 pub fn the_types_are_those_of_the_messages()
     ensures { (ms : List Message) → AreTypesOf ms (types ms) }

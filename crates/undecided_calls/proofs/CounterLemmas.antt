@@ -50,7 +50,7 @@ module _ (records : Records) where
   write_aside w other =
       ap (λ (b : Bool). if b then turned w (records (key_written w)) else records counter_key) other
 
-  -- behind the write that comes next it is owed only where that is another's
+  -- after the write that comes next it is owed only where that is another's
   next_aside : (ws : List Write) (d : Deed) → WritesOnce ws →
       option_map deeds.Write (slice_get ws zero) ≡ Some d → is_written (drop 1 ws) counter_key ≡ true →
       after_deed d records counter_key ≡ records counter_key
@@ -93,7 +93,7 @@ module _ (p : Plan) (one : HasOneCounter p) where
         (sym (ap (λ (ws : List Write). is_written ws counter_key) rest)
         ∙ sym (ap (λ (x : Due). owes_at (owes p x) counter_key) is) ∙ owed)
 
-    -- while it is owed behind a step, it stands as it stood
+    -- while it is owed after a step, it stands as it stood
     pub counter_stands : (due due' : Due) → Leaves p due due' records after →
         owes_at (owes p due') counter_key ≡ true → after counter_key ≡ records counter_key
     counter_stands due due' (AsTheyWere same) owed = ap (λ (r : Records). r counter_key) same

@@ -1,19 +1,21 @@
 -- A call that has just begun.
-use Rattle.std.proofs.Common.{inl, refl, sym, ap, ◌∙◌, subst, ◌≤◌, List, [], Option, Some, None, IfSome, arith}
+use Rattle.std.proofs.Common.{ℕ, ◌≡◌, inl, refl, sym, ap, ◌∙◌, subst, ◌≤◌, List, [], Option, Some, None, IfSome, arith}
 use Rattle.std.specs.List.{Contains}
 use Rattle.call_questions.specs.declared.question.Question.{Question}
 use Rattle.call_questions.specs.Agreeing.{Agrees}
-use Rattle.call_questions.specs.Laws.{BeginFewSearches as QuestionsBeginFew, HaveFewSteps as QuestionsHaveFew}
+use Rattle.call_questions.specs.Laws.{HaveFewSteps as QuestionsHaveFew}
 use Rattle.call_questions.specs.Questions.{IsRightQuestion, facts_of, locks_behind}
 use Rattle.call_questions.specs.Words.{Begins}
 use Rattle.call_writes.specs.stale_search.Steps.{Sees}
 use Rattle.xsi_inquiry.proofs.AgreeLemmas.{agrees_itself}
 use Rattle.xsi_inquiry.specs.Telling.{most_asked}
 use Rattle.undecided_calls.specs.declared.trials.Trials.{Trials}
-use Rattle.undecided_calls.specs.Words.{AreAlike, HasBegun, Known, Lock, LockName, guard_of, names_for, names_in, record_of, store_of}
-use Rattle.undecided_calls.specs.Undecided.{left_in}
-use Rattle.undecided_calls.specs.Knowing.{IsUndecidedIn}
-use Rattle.undecided_calls.specs.Laws.{BeginFewSearches, BeginRight, HaveFewSteps, MOST_UNDECIDED_STEPS}
+use Rattle.undecided_calls.specs.Words.{AreAlike, Call, Change, HasBegun, Known, KnowsNear, Lock, LockName, PoolState, RecordKey, Records, State, Table, guard_of, names_for, names_in, record_of, row_of, store_of}
+use Rattle.undecided_calls.specs.Undecided.{IsFresh, left_in}
+use Rattle.undecided_calls.specs.Knowing.{IsUndecided, IsUndecidedIn}
+use Rattle.undecided_calls.specs.Laws.{HaveFewSteps, MOST_UNDECIDED_STEPS}
+use Rattle.undecided_calls.specs.declared.undecided.UndecidedCall.{UndecidedCall}
+use Rattle.undecided_calls.proofs.Names.{few_searches as questions_begin_few}
 
 pub few_steps : QuestionsHaveFew → HaveFewSteps
 few_steps few call u s fresh =
@@ -24,7 +26,12 @@ few_steps few call u s fresh =
 none_in : (name : LockName) → Contains {X = LockName} [] name → ⊥
 none_in name within = let few = within.1 in omega (arith, few)
 
-pub begin_right : BeginRight
+-- a call that has just begun, and knows of each system what it was told, asks: over each with which the file agrees,
+-- and whatever records stand
+pub begin_right : (hash : RecordKey → ℕ) (seat : ℕ) (call : Call) (s : State) (u : UndecidedCall) (records : Records)
+    (pool : PoolState) (locks : Table) (change : Change) → IsFresh call u →
+    ((t : State) → KnowsNear call u.questions t) → row_of locks seat ≡ [] → Sees hash seat [] pool locks change →
+    Agrees [] (store_of pool.images) s → IsUndecided hash seat call s u records pool locks change
 begin_right hash seat call s u records pool locks change fresh knows row sees agrees =
     let question = fresh.bare.question in
     let names = fresh.bare.names in
@@ -52,10 +59,13 @@ begin_right hash seat call s u records pool locks change fresh knows row sees ag
           (λ key within. absurd (none_in (guard_of key) within));
     })
 
-pub few_searches : QuestionsBeginFew → BeginFewSearches
-few_searches few hash seat call s u records pool locks change is = by u.trials is
+-- a call that has not decided has begun at most as many searches as it asks questions
+pub few_searches : (hash : RecordKey → ℕ) (seat : ℕ) (call : Call) (s : State) (u : UndecidedCall) (records : Records)
+    (pool : PoolState) (locks : Table) (change : Change) →
+    IsUndecided hash seat call s u records pool locks change → u.questions.finds ≤ most_asked call
+few_searches hash seat call s u records pool locks change is = by u.trials is
   where
     by : (o : Option Trials) → IsUndecidedIn hash seat call s u.questions o records pool locks change →
         u.questions.finds ≤ most_asked call
-    by None is = few hash call u.questions is.faces.right
+    by None is = questions_begin_few hash call u.questions is.faces.right
     by (Some t) is = is.finds

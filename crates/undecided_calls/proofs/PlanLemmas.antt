@@ -31,7 +31,7 @@ use Rattle.undecided_calls.proofs.Names.{Write, is_same, key_of, key_written, wr
 use Rattle.undecided_calls.specs.Below.{Counter, counter_key}
 use Rattle.undecided_calls.specs.Words.{AnyInquiry, Call, Caller, Plan, Record, nothing, plan_of}
 
--- behind a write of the Counter there is no other
+-- after a write of the Counter there is no other
 abbrev pub WritesOnce : List Write → Type 0
 WritesOnce [] = ⊤
 WritesOnce (w ∷ ws) =

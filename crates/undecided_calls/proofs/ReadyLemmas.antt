@@ -35,7 +35,7 @@ module _ (call : Call) (q : QuestionsView) (done : is_done call q ≡ true) wher
   pub none_asked : asked_of call q.inquiry ≡ None
   none_asked = none_of (asked_of call q.inquiry) (both_are (is_some (asked_of call q.inquiry)) _ all_asked).0
 
--- it holds just the names that it needs
+-- it holds exactly the names that it needs
 pub needed : (call : Call) (q : QuestionsView) → is_done call q ≡ true → its_plan call q ≢ nothing →
     HoldsNames call q
 needed call q done some = held_names call q (all_asked call q done) some

@@ -1,4 +1,4 @@
--- A Remove that sweeps changes the file behind its sweep.
+-- A Remove that sweeps changes the file after its sweep.
 use Rattle.std.proofs.Common.{◌≡◌, ◌≢◌, sym, ap, subst, ℕ, Bool, true, false, List, Option, Some, None, Ok, Err}
 use Rattle.std.proofs.lemmas.Bool.{true≢false}
 use Rattle.std.specs.Option.{is_some}

@@ -1,4 +1,4 @@
--- The trials that stand behind a step, one behind the other.
+-- The trials that stand after a step, one after the other.
 use Rattle.std.proofs.Common.{◌≡◌, refl, sym, ap, ◌∙◌, subst, ℕ, suc, ◌+◌, Bool, true, false, List, ◌∷◌, take, Option, Some, None, IsSome, if◌then◌else◌, arith}
 use Rattle.std.proofs.lemmas.Bool.Decides.{nat_tests}
 use Rattle.std.proofs.lemmas.Option.{slice_get_within}
@@ -38,7 +38,7 @@ elsewhere_of {names} p due due' records after own (AsMade d next made behind) ke
         (own_deed (Owns names) p own.trials own.writes due d next)))
     by false other = deed_elsewhere d key records other
 
--- ---- it has not decided behind the step either
+-- ---- it has not decided after the step either
 
 behind_on : (place : ℕ) (due' : Due) (b : Bool) → due' ≡ (if b then Trying (place + 1) else Trying place) →
     IsOnTrial due'

@@ -29,7 +29,7 @@ pub record IsSettled (hash : RecordKey → ℕ) (seat : ℕ) (call : Call) (s : 
   -- under its names stand the records of s with all trials inserted
   pub alike : AreAlike (names_in q.names) records (inserted (its_plan call q).trials (record_of s))
   pub writes : its_plan call q ≢ nothing → MayWrite call s q records
-  -- behind a sweep something is written
+  -- after a sweep something is written
   pub sweeps : (sweep : Sweep) → settled ≡ Sweeps sweep → its_plan call q ≢ nothing
 
 -- a trial has no room: those that stand are to go again

@@ -40,7 +40,7 @@ facts_in q (Some t) = writes_facts t.writes
 abbrev pub undecided_facts : UndecidedCall → List Known
 undecided_facts u = facts_in u.questions u.trials
 
--- in the step behind the last question the first trial begins
+-- in the step after the last question the first trial begins
 abbrev pub turn_in : (RecordKey → ℕ) → Call → QuestionsView → Option Trials → Store → Turn
 turn_in hash call q None s =
     if is_done call q then writes_turn hash (its_plan call q) untried s else questions_turn call q s

@@ -11,7 +11,7 @@ use Rattle.undecided_calls.specs.Knowing.{IsTrying, IsUndecided}
 
 pub record KeepsUndecided {F : Type 0} (call : Call) (did : Progress F) (old new : UndecidedCall) : Type 0 where
   pub caller : caller_of new.questions.inquiry ≡ caller_of old.questions.inquiry
-  -- it has ended just where it can decide, and stays so
+  -- it has ended exactly where it can decide, and stays so
   pub ended : (did ≡ Ended) ↔ CanDecide call old
   pub rests : did ≡ Ended → new ≡ old
   -- the room has room for as many bytes

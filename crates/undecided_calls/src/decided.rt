@@ -4,7 +4,7 @@ use call_decisions::Settled;
 use call_writes::Due;
 
 /// What a call has come to at its Decide, and how far its trials are, which rest, and are carried
-/// out further behind it.
+/// out further after it.
 #[derive(Drop)]
 pub struct Decided {
     /// What it comes to by the rules; none where a record that it was to insert on trial had no

@@ -8,5 +8,5 @@ mod trials;
 mod undecided;
 
 pub use decided::Decided;
-pub use laws::{a_call_begins_few_searches, calls_begin_right, calls_decide_in_few_steps};
+pub use laws::calls_decide_in_few_steps;
 pub use undecided::UndecidedCall;

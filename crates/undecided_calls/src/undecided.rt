@@ -98,7 +98,7 @@ impl UndecidedCall {
         self.questions.take_room()
     }
 
-    /// One step behind the call's last write: the name that was taken last is given back.
+    /// One step after the call's last write: the name that was taken last is given back.
     pub fn give_back(&mut self, locks: &mut LockTable, seat: u8) -> Progress<FileFault>
         requires seat { IsSeat locks.old seat }
         requires none { self.old.questions.question ≡ None }

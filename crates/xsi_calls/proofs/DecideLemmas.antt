@@ -1,7 +1,7 @@
--- The Decide of a call, behind the last step of what it asks and tries.
+-- The Decide of a call, after the last step of what it asks and tries.
 use Rattle.std.proofs.Common.{◌≡◌, refl, sym, ap, ◌∙◌, subst, ℕ, Bool, true, false, not, List, [], Option, Some, None, IsTrue, ◌≤◌, arith}
 use Rattle.std.proofs.lemmas.Bool.{true≢false}
-use Rattle.kernel_laws.specs.call_decisions.declared.settled.Settled.TheVariants as settlements
+use Rattle.call_decisions.specs.declared.settled.Settled.TheVariants as settlements
 use Rattle.step_rules.specs.Known.{AllKnown}
 use Rattle.step_rules.specs.Searching.{WalksTo}
 use Rattle.step_rules.specs.Sound.{IsSoundWorld}
@@ -74,7 +74,7 @@ filed_in : (hash : RecordKey → ℕ) (seat : ℕ) (call : Call) (s : State) (q 
 filed_in hash seat call s q None records pool locks change is = is.faces.agrees.filed
 filed_in hash seat call s q (Some t) records pool locks change is = is.filed
 
--- ---- behind the step by which it has ended
+-- ---- after the step by which it has ended
 
 module _ (hash : RecordKey → ℕ) (seat : ℕ) (call : Call) (s : State) (u u' : UndecidedCall) (rests : u' ≡ u)
     (records : Records) (pool pool' : PoolState) (locks locks' : Table) (change : Change)

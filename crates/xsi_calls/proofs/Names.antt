@@ -1,13 +1,13 @@
 -- Words of the crates below, under one name for the proofs of this one.
-pub use Rattle.kernel_laws.specs.call_decisions.owed_records.Owing.{is_swept}
-pub use Rattle.kernel_laws.specs.call_decisions.Settling.{IsAnswer, IsSweepOf, Means}
+pub use Rattle.owed_records.specs.Owing.{is_swept}
+pub use Rattle.call_decisions.specs.Settling.{IsAnswer, IsSweepOf, Means}
 pub use Rattle.call_payments.proofs.BeginLemmas.{undoes_its_trials}
 pub use Rattle.call_payments.proofs.DecidedLemmas.{has_few, owes_nothing_at_end, pays_what_is_decided}
 pub use Rattle.call_payments.proofs.Names.{AccessView, begun_at, nears_with}
 pub use Rattle.call_payments.specs.Laws.{HasTried, HoldsWhereSwept, MOST_PAYMENT_STEPS, WillPay, last_of}
 pub use Rattle.call_payments.specs.Words.{IsFiled, inserted, writes_of, FollowsRow}
 pub use Rattle.file_pages.specs.declared.fault.FileFault.{FileFault}
-pub use Rattle.kernel_laws.proofs.SeatLemmas.{has_or_not}
+pub use Rattle.owed_records.proofs.HeldLemmas.{has_or_not}
 pub use Rattle.page_locks.proofs.ChangeLemmas.{with_row-own, with_row-twice}
 pub use Rattle.page_locks.proofs.TableLemmas.{row_of-same}
 pub use Rattle.queue_model.specs.declared.answer.Answer.{Answer}

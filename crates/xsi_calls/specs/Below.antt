@@ -1,6 +1,6 @@
 -- Words of what a call asks and pays, for the laws of calls.
 pub use Rattle.call_payments.specs.Words.{Work, sweep_locks}
-pub use Rattle.kernel_laws.specs.Words.{owes_at}
+pub use Rattle.owed_records.specs.Owing.{owes_at}
 pub use Rattle.call_payments.specs.declared.payment.Stage.TheVariants.{Sweeping, Writing}
 pub use Rattle.undecided_calls.specs.Below.{AccessView, Counter, Question, StandsAt, counter_key, locks_behind, locks_under}
 pub use Rattle.undecided_calls.specs.Knowing.{IsUndecidedIn}

@@ -23,13 +23,13 @@ pub record KeepsCall {F : Type 0} (did : Progress F) (old new : CallView) : Type
   -- and once; with the bytes of its answer
   pub stays : (c : Conclusion) → conclusion_of old ≡ Some c → conclusion_of new ≡ Some c
   pub bytes : IsSome (conclusion_of new) → new.undecided.questions.room ≡ old.undecided.questions.room
-  -- it has ended just where nothing is owed and no name is held, and stays so
+  -- it has ended exactly where nothing is owed and no name is held, and stays so
   pub ended : (did ≡ Ended) ↔ IsOver old
   pub over : did ≡ Ended → IsOver new
 
 -- ---- on an honest device, in a sound world
 
--- before its Decide it has come so far by its own steps, behind it it pays, or gives its names back
+-- before its Decide it has come so far by its own steps, after it it pays, or gives its names back
 abbrev pub GoesOnAt : (RecordKey → ℕ) → ℕ → Call → State → UndecidedCall → Stage → Records → PoolState → Table →
     Change → Type 0
 GoesOnAt hash seat call s u Undecided records pool locks change =
@@ -68,7 +68,7 @@ pub record StepsCall {F : Type 0} (hash : RecordKey → ℕ) (seat : ℕ) (s : S
       TrialLacksRoom hash (its_plan old.call old.undecided.questions) (trials_of old.undecided).due
       (world pool'.images locks' change)
 
--- ---- the Decide, behind the last step of what a call asks and tries
+-- ---- the Decide, after the last step of what a call asks and tries
 
 -- over each system of which it knows what it was told it comes to this as it may, and so much is to be paid
 pub record ComesTo (hash : RecordKey → ℕ) (call : Call) (stopped : Bool) (conclusion : Conclusion)

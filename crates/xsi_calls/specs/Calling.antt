@@ -11,7 +11,7 @@ pub record IsReleasing (hash : RecordKey → ℕ) (seat : ℕ) (names : List Loc
   pub sees : Sees hash seat [] pool locks change
   pub row : row_of locks seat ≡ names
 
--- before its Decide it knows what it was told of s; behind it, it pays what it owes
+-- before its Decide it knows what it was told of s; after it, it pays what it owes
 abbrev pub IsCallingAt : (RecordKey → ℕ) → ℕ → Call → State → UndecidedCall → Stage → Records → PoolState → Table →
     Change → Type 0
 IsCallingAt hash seat call s u Undecided records pool locks change =

@@ -1,7 +1,7 @@
 -- What a call comes to, and what it is answered. docs/STEPS.md, "Calls"; docs/QUEUES.md, "Calls".
 use Rattle.std.specs.Prelude.{ℕ, ◌≡◌, Bool, true, List, Option, Some, None}
 use Rattle.std.specs.List.{Contains}
-use Rattle.kernel_laws.specs.call_decisions.declared.settled.Settled.TheVariants as settlements
+use Rattle.call_decisions.specs.declared.settled.Settled.TheVariants as settlements
 use Rattle.queue_model.specs.declared.answer.Answer.{Answer}
 use Rattle.queue_model.specs.Rules.{outcome}
 use Rattle.xsi_inquiry.specs.Deciding.{answer_of}
@@ -54,7 +54,7 @@ pub record GoesBack (full : Bool) (before o : Owes) (records : Records) : Type 0
   pub owed : (key : RecordKey) → overlaid o records key ≡ overlaid before records key
 
 -- what a call has come to that holds these names, and these bytes for its answer; before its Decide it owed this, and
--- behind it that
+-- after it that
 abbrev pub IsRightConclusion : Caller → Call → State → (bytes : List ℕ) → (names : List Lock) → (full : Bool) →
     (before o : Owes) → Records → Conclusion → Type 0
 IsRightConclusion c call s bytes names full before o records (conclusions.Answers verdict) =

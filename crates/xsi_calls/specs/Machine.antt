@@ -15,7 +15,7 @@ pub record CallView : Type 0 where
   pub undecided : UndecidedCall
   pub stage : Stage
 
--- no question is under way behind its Decide, and none while it inserts on trial
+-- no question is under way after its Decide, and none while it inserts on trial
 abbrev pub IsCalmAt : UndecidedCall → Stage → Type 0
 IsCalmAt u Undecided = IsCalm u
 IsCalmAt u (Paying payment conclusion) = u.questions.question ≡ None
@@ -103,7 +103,7 @@ call_owes m = owes_at m.call m.undecided m.stage
 
 -- ---- the steps that are left, if no other seat steps
 
--- its Decide, and at most as many behind it
+-- its Decide, and at most as many after it
 abbrev pub STEPS_FROM_DECIDE : ℕ
 STEPS_FROM_DECIDE = 1 + (MOST_PAYMENT_STEPS + MAX_NAMES)
 

@@ -12,7 +12,7 @@ pub data Stage : Type 0 where
   -- all is paid, and its names are given back
   Releasing : Conclusion → Stage
 
--- before its Decide the places of payment and conclusion say nothing, and behind all payments that of the payment
+-- before its Decide the places of payment and conclusion say nothing, and after all payments that of the payment
 abbrev pub stage_at : Phase → PaymentStage → Conclusion → Stage
 stage_at phases.Undecided payment conclusion = Undecided
 stage_at phases.Paying payment conclusion = Paying payment conclusion

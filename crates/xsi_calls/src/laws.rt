@@ -17,14 +17,10 @@ pub fn calls_have_few_steps()
 /// most three.
 pub fn a_call_begins_few_searches()
     ensures { BeginFewSearches }
-{
-    undecided_calls::a_call_begins_few_searches();
-}
+{}
 
 /// A call that has just begun goes on right, over each system with which the file agrees, whatever
 /// records stand.
 pub fn calls_begin_right()
     ensures { BeginRight }
-{
-    undecided_calls::calls_begin_right();
-}
+{}

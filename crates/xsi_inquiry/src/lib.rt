@@ -18,7 +18,7 @@ mod write;
 pub use decision::{Decision, Sweep};
 pub use expected::{counter_in, key_in, message_in, queue_in, type_in};
 pub use inquiry::{Inquiry, NotASystem};
-pub use near::{carry_over, others_leave_an_id, tell, tell_given};
+pub use near::{others_leave_an_id, tell, tell_given};
 pub use room::Room;
 pub use slots::next_write;
 pub use sought::Sought;

@@ -1,7 +1,6 @@
 //! What a call knows of all systems that it can't tell from one another.
 
 ghost use Rattle.std.specs.Prelude.{◌≡◌, ◌≢◌, ℕ, List, OnErr, OnOk, Some, ◌<◌};
-ghost use Rattle.std.specs.List.{Contains};
 ghost use Rattle.type_chains.specs.page_locks.declared.lock.LockName.{LockName};
 ghost use Rattle.queue_model.specs.declared.answer.Answer.{Answer};
 ghost use Rattle.queue_model.specs.declared.call.Call.{Call};
@@ -9,7 +8,7 @@ ghost use Rattle.queue_model.specs.declared.caller.Caller.{Caller};
 ghost use Rattle.queue_model.specs.Rules.{outcome};
 ghost use Rattle.queue_model.specs.State.{State};
 ghost use Rattle.type_chains.specs.Others.{queue_of};
-ghost use Rattle.xsi_inquiry.specs.Agreeing.{AgreeOnId, AgreesFor, IsCovered, IsSoNear};
+ghost use Rattle.xsi_inquiry.specs.Agreeing.{AgreeOnId, IsCovered, IsSoNear};
 ghost use Rattle.xsi_inquiry.specs.Rooms.{Roomful};
 ghost use Rattle.xsi_inquiry.specs.Telling.{AsksGiven, AsksRecord, Gives, IsFiled, IsTold, IsToldGiven};
 
@@ -61,22 +60,6 @@ pub fn tell_given<I: Inquiry>(
     ensures caller { I.caller inquiry.new ≡ I.caller inquiry.old }
 {
     inquiry.take_given(arguments, given)
-}
-
-/// What a call knows so is carried over to each system that it can't tell from that one, as others
-/// decide; and it knows it under more names.
-pub fn carry_over<I: Inquiry>(inquiry: &I, arguments: &I::Arguments)
-    ensures after { (names : List LockName) (room : Roomful) (s t : State) →
-        AgreesFor (I.call arguments.now) names s t →
-        IsSoNear (I.call arguments.now) names (I.Knows arguments.now inquiry.now room) s →
-        IsSoNear (I.call arguments.now) names (I.Knows arguments.now inquiry.now room) t }
-    ensures granted { (less more : List LockName) (room : Roomful) (s : State) →
-        ((name : LockName) → Contains less name → Contains more name) →
-        IsSoNear (I.call arguments.now) less (I.Knows arguments.now inquiry.now room) s →
-        IsSoNear (I.call arguments.now) more (I.Knows arguments.now inquiry.now room) s }
-{
-    let _ = inquiry;
-    let _ = arguments;
 }
 
 /// Others that are answered on other queues leave what a call on an id can tell.

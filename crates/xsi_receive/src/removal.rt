@@ -80,7 +80,7 @@ impl Removal {
     }
 
     /// What is written in a slot, on the queue of an id: the Queue; the Messages before and
-    /// behind it; its Type, or those beside it; then the message goes, and its Type with the
+    /// after it; its Type, or those beside it; then the message goes, and its Type with the
     /// last message of it.
     pub fn write(&self, id: u32, slot: usize) -> Option<Write>
         ensures { result ≡ slice_index_or (slots_of id self.now) slot None }

@@ -1,4 +1,4 @@
--- What is so of a turn behind a step of its access.
+-- What is so of a turn after a step of its access.
 use Rattle.std.proofs.Common.{◌≡◌, refl, sym, ap, ◌∙◌, subst, ℕ, ℤ, ◌+◌, ◌≤◌, Bool, true, false, List, length, Option, Some, None, IsSome, inl, inr}
 use Rattle.std.proofs.lemmas.Bool.{true≢false}
 use Rattle.bucket_page.specs.Keys.{is_same}

@@ -16,7 +16,7 @@ use Rattle.xsi_remove.specs.Words.{RecordKey, PoolState, Lock, OnlyWrites, Progr
 
 -- ---- what follows holds nothing yet
 
--- behind a turn under way
+-- after a turn under way
 pub record IsFresh (w : Work) (v : Option Work) : Type 0 where
   pub locks : (before : List Lock) → sweep_locks v before ≡ before
   pub facts : sweep_facts v ≡ []

@@ -11,9 +11,9 @@ use Rattle.type_chains.specs.RecordOf.{record_of}
 use Rattle.xsi_sweep.specs.Words.{find-Some, lawful_queue}
 use Rattle.xsi_sweep.proofs.SweepLemmas.{begins_whole}
 use Rattle.xsi_remove.proofs.NextLemmas.{none_left}
-use Rattle.xsi_remove.specs.Laws.{BeginsRight, EndsSwept, HasFewSteps, MOST_SWEEP_STEPS}
-use Rattle.xsi_remove.specs.Sweeps.{IsWorking, begun_at, records_left, sweep_left}
-use Rattle.xsi_remove.specs.Words.{RecordKey, Store, StandsAt, Queue, State, is_swept, swept, IsFiled, Records, MAX_MESSAGES}
+use Rattle.xsi_remove.specs.Laws.{BeginsRight, EndsSwept}
+use Rattle.xsi_remove.specs.Sweeps.{IsWorking, begun_at, begun_sweep, records_left, sweep_left}
+use Rattle.xsi_remove.specs.Words.{RecordKey, Store, StandsAt, Queue, State, Sweep, is_swept, swept, IsFiled, Records, MAX_MESSAGES}
 
 module _ (hash : RecordKey → ℕ) (id : ℕ) (q : Queue) (s : State) (file : Store) (filed : IsFiled s)
     (alive : find (has_id id) s.queues ≡ Some q) where
@@ -62,10 +62,15 @@ ends_swept hash id count q s file sweeping key its =
 
 -- ---- its steps
 
+-- a find and two deletions for each message that may stand on a queue
+abbrev pub MOST_SWEEP_STEPS : ℕ
+MOST_SWEEP_STEPS = 633856
+
 few_steps : (hash : RecordKey → ℕ) (id : ℕ) (first : Option ℕ) (file : Store) →
     sweep_left (begun_at hash id first) file ≤ MOST_SWEEP_STEPS
 few_steps hash id None file = omega arith
 few_steps hash id (Some serial) file = omega arith
 
-pub has_few_steps : HasFewSteps
+pub has_few_steps : (hash : RecordKey → ℕ) (sweep : Sweep) (file : Store) →
+    sweep_left (begun_sweep hash sweep) file ≤ MOST_SWEEP_STEPS
 has_few_steps hash sweep file = few_steps hash sweep.id sweep.first file

@@ -52,7 +52,7 @@ abbrev pub behind_find : Option MessageRead → Option Next
 behind_find None = None
 behind_find (Some m) = Some (Goes DeletingMessage)
 
--- behind a deed of which it is told whether it has written; none where that can't be so
+-- after a deed of which it is told whether it has written; none where that can't be so
 abbrev pub behind : Deed → Turn → Bool → Option Next
 behind Reading t written = behind_find t.read
 behind DeletingMessage t true = Some (behind_message (last_type t.read) t)

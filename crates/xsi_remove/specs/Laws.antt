@@ -1,11 +1,11 @@
 -- How a sweep begins and ends. Each is the contract of a function of laws.rt. docs/STEPS.md, "Remove".
-use Rattle.std.specs.Prelude.{ℕ, ◌≡◌, ◌≤◌, true, Some, None}
+use Rattle.std.specs.Prelude.{ℕ, ◌≡◌, true, Some, None}
 use Rattle.std.specs.List.{find}
 use Rattle.queue_model.specs.Rules.{has_id}
 use Rattle.type_chains.specs.Lists.{serials}
 use Rattle.type_chains.specs.Neighbours.{first_of}
 use Rattle.type_chains.specs.RecordOf.{record_of}
-use Rattle.xsi_remove.specs.Sweeps.{IsSweeping, begun_sweep, sweep_left}
+use Rattle.xsi_remove.specs.Sweeps.{IsSweeping, begun_sweep}
 use Rattle.xsi_remove.specs.Words.{RecordKey, Store, StandsAt, Queue, State, is_swept, IsFiled, Sweep}
 
 -- from the first message of a queue that is alive, over a file that has its Messages and Types
@@ -19,11 +19,3 @@ BeginsRight = (hash : RecordKey → ℕ) (sweep : Sweep) (q : Queue) (s : State)
 abbrev pub EndsSwept : Type 0
 EndsSwept = (hash : RecordKey → ℕ) (id count : ℕ) (q : Queue) (s : State) (file : Store) →
     IsSweeping hash id count q s None file → (key : RecordKey) → is_swept id key ≡ true → StandsAt file key None
-
--- a find and two deletions for each message that may stand on a queue
-abbrev pub MOST_SWEEP_STEPS : ℕ
-MOST_SWEEP_STEPS = 633856
-
-abbrev pub HasFewSteps : Type 0
-HasFewSteps = (hash : RecordKey → ℕ) (sweep : Sweep) (file : Store) →
-    sweep_left (begun_sweep hash sweep) file ≤ MOST_SWEEP_STEPS

@@ -59,7 +59,7 @@ sweep_left (Some w) s = access_left w.access s + (deeds_left w.deed + w.turns * 
 
 -- ---- what stands
 
--- before a deed and behind it: between the two deletions of a turn the Message alone is gone
+-- before a deed and after it: between the two deletions of a turn the Message alone is gone
 abbrev pub before_deed : Deed → Turn → Records → Records
 before_deed Reading t records = records
 before_deed DeletingMessage t records = records

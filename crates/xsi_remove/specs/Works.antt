@@ -12,7 +12,7 @@ use Rattle.xsi_remove.specs.Words.{RecordKey, PoolState, Table, Progress, Moved,
 abbrev pub heard_with : Option MessageRead → AccessView → Work → Work
 heard_with read a w = record w { turn = record w.turn { read = read }; access = a }
 
--- what was read before a step of the access, and behind it
+-- what was read before a step of the access, and after it
 pub record HearsBy {F : Type 0} (did : Progress F) (a : AccessView) (before after : Option MessageRead) : Type 0 where
   pub quiet : (did ≡ Moved Look → ⊥) → after ≡ before
   pub once : IsSome before → after ≡ before

@@ -1,6 +1,6 @@
 //! Laws of sweeps. The functions do nothing; their contracts are the laws.
 
-ghost use Rattle.xsi_remove.specs.Laws.{BeginsRight, EndsSwept, HasFewSteps};
+ghost use Rattle.xsi_remove.specs.Laws.{BeginsRight, EndsSwept};
 
 /// The sweep that a Remove decides on begins right: none of its messages was swept yet.
 pub fn a_sweep_begins_right()
@@ -10,9 +10,4 @@ pub fn a_sweep_begins_right()
 /// Where a sweep is over, no Message and no Type of the queue stands.
 pub fn a_sweep_leaves_nothing()
     ensures { EndsSwept }
-{}
-
-/// A sweep that begins has few steps left, however many messages stand on the queue.
-pub fn a_sweep_has_few_steps()
-    ensures { HasFewSteps }
 {}

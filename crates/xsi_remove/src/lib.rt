@@ -7,6 +7,6 @@ mod laws;
 mod sweep;
 mod work;
 
-pub use laws::{a_sweep_begins_right, a_sweep_has_few_steps, a_sweep_leaves_nothing};
+pub use laws::{a_sweep_begins_right, a_sweep_leaves_nothing};
 pub use step_rules;
 pub use sweep::SweepTurns;

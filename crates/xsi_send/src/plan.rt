@@ -36,7 +36,7 @@ pub fn sent_trial<'a>(
     }
 }
 
-/// What is written behind the decision: the Queue, then Messages by serial, then Types by type. A
+/// What is written after the decision: the Queue, then Messages by serial, then Types by type. A
 /// Message or a Type gets new links where it stands.
 pub fn sent_write(
     pid: u32,

@@ -1,14 +1,11 @@
 -- What the records that a Remove reads tell, and what is decided then.
-use Rattle.std.proofs.Common.{◌≡◌, ℕ, length, Option, Some, None, refl, sym, ◌∙◌, subst, arith}
-use Rattle.xsi_sweep.specs.Words.{Contains, found_id, LockName, Caller, without_queue, State, Counter, Record, guard_of, key_of, counter_key, counter_of, record_of, At, IsSwept, IsKeyed, swept, IsFiled, IsTold, Leads}
+use Rattle.std.proofs.Common.{◌≡◌, ℕ, length, Option, Some, refl, sym, ◌∙◌, subst}
+use Rattle.xsi_sweep.specs.Words.{Contains, found_id, Caller, without_queue, State, Counter, Record, guard_of, key_of, counter_key, counter_of, record_of, At, IsSwept, swept, IsFiled, IsTold, Leads}
 use Rattle.std.proofs.lemmas.List.Elements.{All-nil}
 use Rattle.queue_model.specs.declared.call.Call.TheVariants as calls
 use Rattle.queue_records.specs.declared.record.Record.TheVariants as records
 use Rattle.xsi_sweep.specs.declared.removal.Removal.{Removal}
-use Rattle.xsi_sweep.specs.declared.stage.Stage.{Stage}
-use Rattle.xsi_sweep.specs.declared.stage.Stage.TheVariants.{Seeking, Refused, Keyed, Counting, Removing}
-use Rattle.xsi_sweep.specs.Asking.{asked, locked_at}
-use Rattle.xsi_sweep.specs.Knowing.{KnowsAt, KnowsRemoval}
+use Rattle.xsi_sweep.specs.Knowing.{KnowsRemoval}
 use Rattle.xsi_sweep.specs.Removing.{names_of, removal_plan}
 use Rattle.xsi_sweep.proofs.RemovingLemmas.{ascend, plan_of, remove_leads, under}
 
@@ -47,14 +44,3 @@ decides_removal c id r s filed known =
       };
       ordered = record { trials = tt; writes = ascend id r.key r.counter };
     }
-
--- where nothing more is asked, it writes under the names of the key that was known
-pub locked_within : (c : Caller) (id : ℕ) (stage : Stage) (key : Option ℕ) (s : State) → asked id stage ≡ None →
-    IsKeyed id key s → KnowsAt c id stage s → (name : LockName) → Contains (locked_at id stage) name →
-    Contains (names_of id key) name
-locked_within c id (Seeking sought) key s none keyed knows name (k, within, at) = absurd (omega (arith, within))
-locked_within c id (Refused errno) key s none keyed knows name (k, within, at) = absurd (omega (arith, within))
-locked_within c id (Keyed other) key s none keyed knows name has = absurd cc
-locked_within c id (Counting other queue) key s none keyed knows name has = absurd cc
-locked_within c id (Removing r) key s none keyed knows name has =
-    subst (λ (k : Option ℕ). Contains (names_of id k) name) (knows.key ∙ keyed.keeps knows.queue knows.alive) has

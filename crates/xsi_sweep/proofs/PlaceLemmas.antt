@@ -58,7 +58,7 @@ place_of_serial (n ∷ ns) (suc i) m ascend at =
 
 -- ---- the next that passes
 
--- nothing passes just where nothing is left of what passes
+-- nothing passes exactly where nothing is left of what passes
 none_kept : (p : Message → Bool) (ms : List Message) → first_of (serials (filter p ms)) ≡ None → list_any p ms ≡ false
 none_kept p [] none = refl
 none_kept p (n ∷ ns) none = by (p n) refl none (λ rest. none_kept p ns rest)
@@ -104,7 +104,7 @@ next_kept p (n ∷ ns) (suc i) m ascend at passes =
         (place_later (is_number m.serial) n.serial (serials (filter p ns)) (grind (arith, nat_tests, less))) ∙ later)
     by false e later less = rw e later
 
--- so one has no next just where none behind it passes
+-- so one has no next exactly where none behind it passes
 pub none_behind : (p : Message → Bool) (ms : List Message) (i : ℕ) (m : Message) →
     AllPairs (λ (m n : Message). m.serial < n.serial) ms → slice_get ms i ≡ Some m → p m ≡ true →
     behind (is_number m.serial) (serials (filter p ms)) ≡ None → list_any p (drop (suc i) ms) ≡ false
@@ -136,7 +136,7 @@ left_at (m ∷ ms) (suc i) = left_at ms i
 
 -- ---- types by their numbers
 
--- types from 1 on are the same just where their numbers are
+-- types from 1 on are the same exactly where their numbers are
 injective : (a b : ℤ) → pos 1 ≤ℤ a → pos 1 ≤ℤ b → type_number a ≡ type_number b → a ≡ b
 injective (negsuc m) b first second same = absurd (omega (arith, ints, first))
 injective (pos m) (negsuc k) first second same = absurd (omega (arith, ints, second))

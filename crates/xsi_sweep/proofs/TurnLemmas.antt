@@ -53,7 +53,7 @@ module _ (id count : ℕ) (s : State) (filed : IsFiled s) (q : Queue) (m : Messa
   same_type : is_of_type m.mtype m ≡ true
   same_type = (Decides-int_eq m.mtype m.mtype).1 refl
 
-  -- ---- a test of what is left before the turn and behind it
+  -- ---- a test of what is left before the turn and after it
 
   any_left : (p : Message → Bool) → list_any p (drop count q.messages) ≡ (p m || list_any p behind_it)
   any_left p = ap (list_any p) (drop_at q.messages count m at)
@@ -117,7 +117,7 @@ module _ (id count : ℕ) (s : State) (filed : IsFiled s) (q : Queue) (m : Messa
       (any_here (has_type_number (type_number m.mtype)) (self (type_number m.mtype)))
       ∙ type_found
 
-  -- ---- what stands behind the turn
+  -- ---- what stands after the turn
 
   message_gone : swept id (suc count) s message_key ≡ None
   message_gone = swept_message id (suc count) s q found message_key refl refl

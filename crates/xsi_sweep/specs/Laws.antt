@@ -22,7 +22,7 @@ use Rattle.xsi_sweep.specs.Turns.{IsAtTurn}
 abbrev pub BeginsWhole : Type 0
 BeginsWhole = (id : ℕ) (s : State) (key : RecordKey) → swept id 0 s key ≡ record_of s key
 
--- no turn follows just where each message was swept
+-- no turn follows exactly where each message was swept
 abbrev pub EndsBehindTheLast : Type 0
 EndsBehindTheLast = (count : ℕ) (q : Queue) → count ≤ length q.messages →
     first_of (serials (unswept count q)) ≡ None ↔ (count ≡ length q.messages)

@@ -7,7 +7,7 @@ pub fn a_sweep_begins_with_all()
     ensures { BeginsWhole }
 {}
 
-/// No message is left just where as many were swept as stood on the queue.
+/// No message is left exactly where as many were swept as stood on the queue.
 pub fn a_sweep_ends_behind_the_last()
     ensures { EndsBehindTheLast }
 {}

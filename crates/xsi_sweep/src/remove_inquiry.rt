@@ -1,7 +1,6 @@
 //! A Remove as it asks for records.
 
 ghost use Rattle.std.specs.Prelude.{◌≡◌, ℕ, IfSome, None, Option, slice_get};
-ghost use Rattle.std.specs.List.{Contains};
 ghost use Rattle.page_locks.specs.declared.lock.LockName.{LockName};
 ghost use Rattle.queue_model.specs.State.{State};
 ghost use Rattle.xsi_inquiry.specs.Rooms.{Roomful};
@@ -60,18 +59,6 @@ impl RemoveInquiry {
             (Some(key), 0) => Some(LockName::Key(key)),
             (Some(_), _) => name_behind(id, place - 1),
         }
-    }
-
-    /// Where it decides, all names under which it writes are those of the key that it
-    /// knew between its phases.
-    pub fn keeps_to_its_names(&self)
-        ensures { (id : ℕ) (key : Option ℕ) (room : Roomful) (s : State) →
-            ⟦<RemoveInquiry as Inquiry>⟧.wanted id self.now ≡ None → IsKeyed id key s →
-            ⟦<RemoveInquiry as Inquiry>⟧.Knows id self.now room s → (name : LockName) →
-            Contains (⟦<RemoveInquiry as Inquiry>⟧.locked id self.now) name →
-            Contains (names_of id key) name }
-    {
-        let _ = self;
     }
 }
 

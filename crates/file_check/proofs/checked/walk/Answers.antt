@@ -9,17 +9,17 @@ use Rattle.file_check.proofs.checked.walk.Goals as goal
 pub read_system-read-requires : goal.read_system-read-requires
 read_system-read-requires g c = λ is.
     subst (λ (x : Source). AreQueueIds (held_on x) c.args.ids.now) (sym c.new-records.ensures)
-    (c.requires.ids (is_honest_too _ _ _ _ c.new-records.ensures is))
+    (c.requires.ids (is_honest_too _ _ _ _ _ c.new-records.ensures is))
 
 pub returns-in-Ok-clause-ok : goal.returns-in-Ok-clause-ok
 returns-in-Ok-clause-ok g c = λ is.
     subst (λ (x : Source). IsSystemOf (held_on x) c.in-Ok.system) c.new-records.ensures
-    (c.in-Ok.ensures.ok (is_honest_back _ _ _ _ c.new-records.ensures is))
+    (c.in-Ok.ensures.ok (is_honest_back _ _ _ _ _ c.new-records.ensures is))
 
 pub returns-in-Err-clause-err : goal.returns-in-Err-clause-err
 returns-in-Err-clause-err g c = λ is. (
   c.in-Err.fault,
   c.from.ensures,
   subst (λ (x : Source). IsToldOfSystem (held_on x) c.in-Err.fault) c.new-records.ensures
-      (c.in-Err.ensures.err (is_honest_back _ _ _ _ c.new-records.ensures is)),
+      (c.in-Err.ensures.err (is_honest_back _ _ _ _ _ c.new-records.ensures is)),
 )

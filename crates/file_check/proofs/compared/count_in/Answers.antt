@@ -21,5 +21,6 @@ loop-record-preserved c =
 pub returns : goal.returns
 returns c =
     let ended : c.loop-record.record-iterator ≡ [] = search rules in
-    counted_all c.args.system.now c.args.bucket.now.records c.loop-record.record-iterator c.loop-record.count
+    counted_all c.args.layout.now c.args.system.now c.args.bucket.now.records c.loop-record.record-iterator
+    c.loop-record.count
     c.loop-record.invariant.2 c.loop-record.invariant.3 ended

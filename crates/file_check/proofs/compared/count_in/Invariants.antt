@@ -8,5 +8,5 @@ abbrev pub invariant-loop-record : goal.invariant-loop-record
 invariant-loop-record l =
     (goal.iterator-loop-record).can_next l.record-iterator ×
     (goal.iterator-loop-record).is_finite l.record-iterator ×
-    AreTestedTo (IsOf l.system) l.bucket.records l.record-iterator ×
+    AreTestedTo (IsOf l.layout l.system) l.bucket.records l.record-iterator ×
     (l.count + length l.record-iterator ≡ length l.bucket.records)

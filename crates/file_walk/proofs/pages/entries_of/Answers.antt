@@ -3,9 +3,9 @@ use Rattle.std.proofs.Common.{◌≡◌, ◌<◌, ◌++◌, take, length, sym, s
 use Rattle.std.proofs.Math.Nat.{min-zero}
 use Rattle.std.proofs.Math.Seq.{take-nil}
 use Rattle.std.proofs.lemmas.Result.{err_from_is_err_and}
-use Rattle.directory.specs.declared.layout.TheConstants.{FIRST_DIRECTORY_PAGE, ROOT_PAGE}
+use Rattle.directory.specs.declared.layout.TheConstants.{FIRST_DIRECTORY_PAGE}
 use Rattle.file_walk.specs.Files.{entries_of, said_on}
-use Rattle.file_walk.specs.Order.{AreRight}
+use Rattle.file_walk.specs.Order.{AreRightIn}
 use Rattle.file_walk.proofs.PagesLemmas.{read_none, read_more, entries_kept, entries_counted, entries_number, entries_whole, first_wrong}
 use Rattle.file_walk.proofs.pages.entries_of.Goals as goal
 
@@ -13,7 +13,8 @@ pub loop-page-init : goal.loop-page-init
 loop-page-init g c =
     let none = c.in_ok-entries.ensures.items in
     record {
-      read = read_none g.D.PageDevice.content g.D.PageDevice.is_honest g.D.PageDevice.fault_count _ _;
+      read = read_none c.args.layout.now c.requires.layout g.D.PageDevice.content g.D.PageDevice.is_honest
+          g.D.PageDevice.fault_count _ _;
       number = ap length none ∙ sym (min-zero _);
       value = λ is. none ∙ sym (take-nil _);
     }
@@ -25,10 +26,13 @@ loop-page-preserved g c =
     let within : c.loop-page.page < length (g.D.PageDevice.content c.args.device.now) =
     let long = c.requires.whole in let here = c.loop-page-test.true in omega arith in
     record {
-      read = read_more g.D.PageDevice.content g.D.PageDevice.is_honest g.D.PageDevice.fault_count _ _ _ _ _ before.read
+      read = read_more c.args.layout.now c.requires.layout g.D.PageDevice.content g.D.PageDevice.is_honest
+          g.D.PageDevice.fault_count _ _ _ _ _ before.read
           taken.same taken.honest taken.cause.later taken.ok.right;
-      number = entries_counted _ _ _ _ c.loop-page.auto.page before.number taken.ok.number;
-      value = λ is. entries_kept _ _ _ _ _ c.loop-page.auto.page within (before.value is)
+      number = entries_counted c.args.layout.now c.requires.layout _ _ _ _ c.loop-page.auto.page before.number
+          taken.ok.number;
+      value = λ is. entries_kept c.args.layout.now c.requires.layout _ _ _ _ _ c.loop-page.auto.page within
+          (before.value is)
           (subst (λ pages. c.take_entries.new.entries.items
           ≡ take c.entries_at-most.result (c.loop-page.entries.items ++ entries_of (said_on pages c.loop-page.page)))
           before.read.same (taken.ok.value (subst IsTrue (sym before.read.honesty) is)));
@@ -41,18 +45,23 @@ returns-in_err-take_entries-clause-err g c = λ is.
     let long = c.requires.whole in let here = c.loop-page-test.true in omega arith in
     let p = err_from_is_err_and c.from_residual-in_err-take_entries.result
     c.from_residual-in_err-take_entries.ensures.1 in
-    rw (p.1, p.2) (first_wrong _ _ _ _ _ before.read.same (before.read.right is) c.loop-page.auto.page within
+    rw (p.1, p.2) (first_wrong c.args.layout.now c.requires.layout _ _ _ _ _ before.read.same
+    (before.read.right is) c.loop-page.auto.page within
     (c.in_err-take_entries.ensures.err (subst IsTrue (sym before.read.honesty) is)))
 
 pub returns-clause-ok : goal.returns-clause-ok
 returns-clause-ok g c =
     let before = c.loop-page.invariant in
-    let ended : c.loop-page.page ≡ ROOT_PAGE = omega (arith, c.loop-page.auto.page-end, c.loop-page-test.false) in
+    let ended : c.loop-page.page ≡ c.args.layout.now.root_page =
+    omega (arith, c.loop-page.auto.page-end, c.loop-page-test.false) in
     record {
-      number = entries_number (g.D.PageDevice.content c.args.device.now) _ _ _ _ c.requires.depth
+      number = entries_number c.args.layout.now c.requires.layout
+          (g.D.PageDevice.content c.args.device.now) _ _ _ _ c.requires.depth
           c.entries_at-most.ensures
           ended before.number;
-      right = λ is. subst (AreRight (g.D.PageDevice.content c.args.device.now) FIRST_DIRECTORY_PAGE) ended
+      right = λ is. subst (AreRightIn c.args.layout.now (g.D.PageDevice.content c.args.device.now) FIRST_DIRECTORY_PAGE)
+          ended
           (before.read.right is);
-      value = λ is. entries_whole _ _ _ _ _ c.requires.depth c.entries_at-most.ensures ended (before.value is);
+      value = λ is. entries_whole c.args.layout.now c.requires.layout _ _ _ _ _ c.requires.depth
+          c.entries_at-most.ensures ended (before.value is);
     }

@@ -6,7 +6,7 @@ use Rattle.file_walk.proofs.pages.entries_of.Given as goal
 
 abbrev pub invariant-loop-page : goal.invariant-loop-page
 invariant-loop-page g l = record {
-  read : IsReadTo g.D.PageDevice.content g.D.PageDevice.is_honest g.D.PageDevice.fault_count
+  read : IsReadTo l.layout g.D.PageDevice.content g.D.PageDevice.is_honest g.D.PageDevice.fault_count
       l.fn.device l.device FIRST_DIRECTORY_PAGE l.page;
   number : length l.entries.items ≡ min l.most (PAGE_ENTRIES * (l.page - FIRST_DIRECTORY_PAGE));
   value : IsTrue (g.D.PageDevice.is_honest l.fn.device) →

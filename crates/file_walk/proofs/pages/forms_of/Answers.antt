@@ -1,12 +1,11 @@
 -- Page by page what is kept of it is put behind.
 use Rattle.std.proofs.Common.{◌≡◌, ◌≤◌, ◌<◌, ◌+◌, map, take, lit≤, length, length-append, sym, subst, ap, ◌∙◌, IsTrue, arith}
 use Rattle.std.proofs.lemmas.Result.{err_from_is_err_and}
-use Rattle.directory.specs.declared.layout.TheConstants.{ROOT_PAGE}
 use Rattle.file_walk.specs.declared.form.Form.TheVariants as forms
 use Rattle.std.proofs.lemmas.List.{length-replicate, take_all, take-append-le}
 use Rattle.file_walk.specs.Files.{said_on}
 use Rattle.file_walk.specs.Outlines.{shown, bare}
-use Rattle.file_walk.specs.Order.{AreRight}
+use Rattle.file_walk.specs.Order.{AreRightIn}
 use Rattle.file_walk.proofs.PagesLemmas.{read_none, read_more, forms_start, forms_more, forms_end, first_wrong}
 use Rattle.file_walk.proofs.pages.forms_of.Goals as goal
 
@@ -14,11 +13,13 @@ pub loop-page-init : goal.loop-page-init
 loop-page-init g c =
     let items = c.in_ok-reserve.ensures.items ∙ c.in_ok-forms.ensures.items_if_clones_equal (λ y same. same) in
     record {
-      read = read_none g.D.PageDevice.content g.D.PageDevice.is_honest g.D.PageDevice.fault_count _ _;
-      number = ap length items ∙ length-replicate ROOT_PAGE forms.Other;
-      low = ap (take ROOT_PAGE) items ∙ take_all ROOT_PAGE _
-          (subst (λ n. n ≤ ROOT_PAGE) (sym (length-replicate ROOT_PAGE forms.Other)) (lit≤ tt));
-      value = λ is. ap (map shown) items ∙ forms_start _;
+      read = read_none c.args.layout.now c.requires.layout g.D.PageDevice.content g.D.PageDevice.is_honest
+          g.D.PageDevice.fault_count _ _;
+      number = ap length items ∙ length-replicate c.args.layout.now.root_page forms.Other;
+      low = ap (take c.args.layout.now.root_page) items ∙ take_all c.args.layout.now.root_page _
+          (subst (λ n. n ≤ c.args.layout.now.root_page) (sym (length-replicate c.args.layout.now.root_page forms.Other))
+          (omega arith));
+      value = λ is. ap (map shown) items ∙ forms_start c.args.layout.now c.requires.layout _;
     }
 
 pub loop-page-preserved : goal.loop-page-preserved
@@ -28,19 +29,20 @@ loop-page-preserved g c =
     let within : c.loop-page.page < length (g.D.PageDevice.content c.args.device.now) =
     let whole = c.requires.whole in let here = c.loop-page-test.true in omega arith in
     record {
-      read = read_more g.D.PageDevice.content g.D.PageDevice.is_honest g.D.PageDevice.fault_count _ _ _ _ _ before.read
+      read = read_more c.args.layout.now c.requires.layout g.D.PageDevice.content g.D.PageDevice.is_honest
+          g.D.PageDevice.fault_count _ _ _ _ _ before.read
           taken.same taken.honest taken.cause.later (λ is. (taken.ok is).right);
       number =
           ap length c.in_ok-push.ensures.items ∙ length-append c.loop-page.forms.items _
           ∙ ap (λ n. n + 1) before.number;
       low =
-          ap (take ROOT_PAGE) c.in_ok-push.ensures.items
-          ∙ take-append-le ROOT_PAGE c.loop-page.forms.items _
-          (subst (λ n. ROOT_PAGE ≤ n) (sym before.number) c.loop-page.auto.page)
+          ap (take c.args.layout.now.root_page) c.in_ok-push.ensures.items
+          ∙ take-append-le c.args.layout.now.root_page c.loop-page.forms.items _
+          (subst (λ n. c.args.layout.now.root_page ≤ n) (sym before.number) c.loop-page.auto.page)
           ∙ before.low;
       value = λ is.
           ap (map shown) c.in_ok-push.ensures.items
-          ∙ forms_more _ _ _ _ c.loop-page.auto.page within (before.value is)
+          ∙ forms_more c.args.layout.now c.requires.layout _ _ _ _ c.loop-page.auto.page within (before.value is)
           (subst (λ pages. shown c.in_ok-form_of.field-0 ≡ bare (said_on pages c.loop-page.page)) before.read.same
           (taken.ok (subst IsTrue (sym before.read.honesty) is)).value);
     }
@@ -51,7 +53,8 @@ returns-in_err-form_of-clause-err g c = λ is.
     let within : c.loop-page.page < length (g.D.PageDevice.content c.args.device.now) =
     let whole = c.requires.whole in let here = c.loop-page-test.true in omega arith in
     let p = err_from_is_err_and c.from_residual-in_err-form_of.result c.from_residual-in_err-form_of.ensures.1 in
-    rw (p.1, p.2) (first_wrong _ _ _ _ _ before.read.same (before.read.right is) c.loop-page.auto.page within
+    rw (p.1, p.2) (first_wrong c.args.layout.now c.requires.layout _ _ _ _ _ before.read.same
+    (before.read.right is) c.loop-page.auto.page within
     (c.in_err-form_of.ensures.err (subst IsTrue (sym before.read.honesty) is)))
 
 pub returns-clause-ok : goal.returns-clause-ok
@@ -64,11 +67,11 @@ returns-clause-ok g c =
       c.loop-page-test.false,
       c.requires.least,
     ) in
-    let long : ROOT_PAGE ≤ length (g.D.PageDevice.content c.args.device.now) =
+    let long : c.args.layout.now.root_page ≤ length (g.D.PageDevice.content c.args.device.now) =
     let whole = c.requires.whole in let least = c.requires.least in omega arith in
     record {
       number = before.number ∙ ended;
       low = before.low;
-      right = λ is. subst (AreRight _ ROOT_PAGE) ended (before.read.right is);
-      value = λ is. forms_end _ _ _ long ended (before.value is);
+      right = λ is. subst (AreRightIn c.args.layout.now _ c.args.layout.now.root_page) ended (before.read.right is);
+      value = λ is. forms_end c.args.layout.now c.requires.layout _ _ _ long ended (before.value is);
     }

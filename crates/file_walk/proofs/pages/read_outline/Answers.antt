@@ -1,8 +1,7 @@
 -- The parts that were read are of one file.
 use Rattle.std.proofs.Common.{sym, subst, ◌∙◌, ◌⊎◌, IsTrue}
 use Rattle.std.proofs.lemmas.Result.{err_from_is_err_and}
-use Rattle.directory.specs.declared.layout.TheConstants.{ROOT_PAGE}
-use Rattle.file_walk.specs.Order.{IsOfMachine, IsFirstWrong}
+use Rattle.file_walk.specs.Order.{IsOfMachine, IsFirstWrongIn}
 use Rattle.file_walk.specs.Readings.{AreEntriesOf, AreFormsOf}
 use Rattle.file_walk.proofs.ReadLemmas.{moved, outline_kept, outline_read, root_wrong}
 use Rattle.file_walk.proofs.pages.read_outline.Goals as goal
@@ -11,20 +10,28 @@ pub invariant_of-result : goal.invariant_of-result
 invariant_of-result g c =
     let h = c.in_ok-header.ensures in
     let e = c.in_ok-entries.ensures in
-    outline_kept (g.D.PageDevice.is_honest c.args.device.now) (g.D.PageDevice.content c.args.device.now) _ _ _ h.ok
-    (moved (λ x y. AreEntriesOf x y c.in_ok-header.header.depth c.in_ok-entries.entries.items) _ _ _ _ h.honest
+    outline_kept c.args.layout.now c.requires.layout (g.D.PageDevice.is_honest c.args.device.now)
+    (g.D.PageDevice.content c.args.device.now) _ _ _ h.ok
+    (moved c.args.layout.now c.requires.layout
+    (λ x y. AreEntriesOf c.args.layout.now x y c.in_ok-header.header.depth c.in_ok-entries.entries.items) _ _ _ _
+    h.honest
     h.same e.ok)
-    (moved (λ x y. AreFormsOf x y c.in_ok-forms.forms.items) _ _ _ _ (e.honest ∙ h.honest) (e.same ∙ h.same)
+    (moved c.args.layout.now c.requires.layout (λ x y. AreFormsOf c.args.layout.now x y c.in_ok-forms.forms.items)
+    _ _ _ _ (e.honest ∙ h.honest) (e.same ∙ h.same)
     c.in_ok-forms.ensures.ok)
 
 pub returns-clause-ok : goal.returns-clause-ok
 returns-clause-ok g c =
     let h = c.in_ok-header.ensures in
     let e = c.in_ok-entries.ensures in
-    outline_read (g.D.PageDevice.is_honest c.args.device.now) (g.D.PageDevice.content c.args.device.now) _ _ _ h.ok
-    (moved (λ x y. AreEntriesOf x y c.in_ok-header.header.depth c.in_ok-entries.entries.items) _ _ _ _ h.honest
+    outline_read c.args.layout.now c.requires.layout (g.D.PageDevice.is_honest c.args.device.now)
+    (g.D.PageDevice.content c.args.device.now) _ _ _ h.ok
+    (moved c.args.layout.now c.requires.layout
+    (λ x y. AreEntriesOf c.args.layout.now x y c.in_ok-header.header.depth c.in_ok-entries.entries.items) _ _ _ _
+    h.honest
     h.same e.ok)
-    (moved (λ x y. AreFormsOf x y c.in_ok-forms.forms.items) _ _ _ _ (e.honest ∙ h.honest) (e.same ∙ h.same)
+    (moved c.args.layout.now c.requires.layout (λ x y. AreFormsOf c.args.layout.now x y c.in_ok-forms.forms.items)
+    _ _ _ _ (e.honest ∙ h.honest) (e.same ∙ h.same)
     c.in_ok-forms.ensures.ok)
 
 pub returns-in_err-forms-clause-err : goal.returns-in_err-forms-clause-err
@@ -32,9 +39,13 @@ returns-in_err-forms-clause-err g c = λ is.
     let h = c.in_ok-header.ensures in
     let e = c.in_ok-entries.ensures in
     let p = err_from_is_err_and c.from_residual-in_err-forms.result c.from_residual-in_err-forms.ensures.1 in
-    let b = moved (λ x y. AreEntriesOf x y c.in_ok-header.header.depth c.in_ok-entries.entries.items) _ _ _ _
+    let b = moved c.args.layout.now c.requires.layout
+    (λ x y. AreEntriesOf c.args.layout.now x y c.in_ok-header.header.depth c.in_ok-entries.entries.items) _ _ _ _
     h.honest h.same e.ok in
-    rw (p.1, p.2) (root_wrong (g.D.PageDevice.content c.args.device.now) _ (h.ok.right is) (b.right is)
-    (subst (λ pages. IsOfMachine c.in_err-forms.field-0.0 ⊎ IsFirstWrong pages ROOT_PAGE c.in_err-forms.field-0.0)
+    rw (p.1, p.2) (root_wrong c.args.layout.now c.requires.layout (g.D.PageDevice.content c.args.device.now) _
+    (h.ok.right is) (b.right is)
+    (subst
+    (λ pages. IsOfMachine c.in_err-forms.field-0.0 ⊎ IsFirstWrongIn c.args.layout.now pages
+    c.args.layout.now.root_page c.in_err-forms.field-0.0)
     (e.same ∙ h.same)
     (c.in_err-forms.ensures.err (subst IsTrue (sym (e.honest ∙ h.honest)) is))))

@@ -1,4 +1,4 @@
-use Rattle.interleavings.proofs.TurnLemmas.{steps_led}
+use Rattle.interleavings.proofs.ToldLemmas.{steps_led}
 use Rattle.interleavings.proofs.laws.steps_lead_on.Goals as goal
 
 pub returns : goal.returns

@@ -1,5 +1,5 @@
 -- One event more was played; behind the last one each seat was told its part.
-use Rattle.interleavings.proofs.RunLemmas.{all_played, one_more, tells_its_part}
+use Rattle.interleavings.proofs.RunLemmas.{all_played, linearizes, one_more, tells_its_part}
 use Rattle.interleavings.proofs.running.run.Goals as goal
 
 pub loop-event-preserved : goal.loop-event-preserved
@@ -25,11 +25,18 @@ returns-clause-headline g c =
     c.loop-event.outcomes.items _ c.args.kernel.now c.loop-event.kernel c.loop-event.invariant.2
     c.in-None.ensures.steps.0) in
     record {
-      led = λ base led fits. c.events_lead_on.ensures (g.K.PseudoKey.of_key c.args.kernel.now.keys) base
-          c.args.events.items c.loop-event.outcomes.items c.args.kernel.now c.loop-event.kernel c.requires fits led
+      led = λ base led. c.events_lead_on.ensures (g.K.PseudoKey.of_key c.args.kernel.now.keys) base
+          c.args.events.items c.loop-event.outcomes.items c.args.kernel.now c.loop-event.kernel c.requires led
           runs;
-      plain = λ base lawful led fits. c.a_kernel_led_answers_as_plain_lists.ensures
+      plain = λ base lawful led. c.a_kernel_led_answers_as_plain_lists.ensures
           (g.K.PseudoKey.of_key c.args.kernel.now.keys) base c.loop-event.kernel lawful
           (c.events_lead_on.ensures (g.K.PseudoKey.of_key c.args.kernel.now.keys) base c.args.events.items
-          c.loop-event.outcomes.items c.args.kernel.now c.loop-event.kernel c.requires fits led runs);
+          c.loop-event.outcomes.items c.args.kernel.now c.loop-event.kernel c.requires led runs);
     }
+
+pub returns-clause-linear : goal.returns-clause-linear
+returns-clause-linear g c =
+    linearizes (g.K.PseudoKey.of_key c.args.kernel.now.keys) c.args.events.items c.loop-event.outcomes.items
+    c.args.kernel.now c.loop-event.kernel
+    (all_played g.K.PseudoKey.of_key c.args.events.items c.loop-event.yielded _ _ c.loop-event.outcomes.items _
+    c.args.kernel.now c.loop-event.kernel c.loop-event.invariant.2 c.in-None.ensures.steps.0)

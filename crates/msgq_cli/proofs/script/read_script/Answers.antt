@@ -43,4 +43,4 @@ returns-in-Err-Wrong c =
     let lines = lines_of (split_inclusive_rest c.next.new.self) in
     read_ends (c.loop-line.number + 1) c.loop-line.script c.in-Some.line.now lines _
     (rw (next_line before) at c.loop-line.invariant.goes_on)
-    (c.in-Err-Wrong.ensures.wrong (rw c.in-Err-Wrong.field-0-is refl))
+    (c.in-Err-Wrong.ensures.wrong c.in-Err-Wrong.mistake (rw c.in-Err-Wrong.field-0-is refl))

@@ -8,13 +8,14 @@ use Rattle.msgq_cli.specs.declared.reply.Reply.{Reply}
 use Rattle.replays.specs.Places.{ProgressState}
 use Rattle.replays.specs.Replays.{IsClosedWell, MayEndWith, ending_by, replies_text}
 use Rattle.replays.specs.Rounds.{is_over}
-use Rattle.replays.proofs.ClosingLemmas.{answers_plain, left_well}
+use Rattle.replays.proofs.ClosingLemmas.{answers_plain, if_some, left_well}
 use Rattle.replays.proofs.FreeLemmas.{busy_if_left}
+use Rattle.replays.proofs.LeadLemmas.{replay_keeps}
 use Rattle.replays.proofs.ending.run.Goals as goal
 
 -- whatever the words, and however many rounds came behind them
-pub returns : goal.returns
-returns g c =
+pub returns-clause-replayed : goal.returns-clause-replayed
+returns-clause-replayed g c =
     let last = c.finish-is_over.new.replay in
     let words = c.args.events.now in
     let plays = c.play_all.ensures in
@@ -56,3 +57,14 @@ returns g c =
           (subst (λ (k : KernelState ShaKey). IsClosedWell k left) kernel (c.close-device.ensures.well none));
       ends = c.end-ending.ensures;
     }
+
+-- no event changes whether the device is honest
+pub returns-clause-same : goal.returns-clause-same
+returns-clause-same g c =
+    let last = c.finish-is_over.new.replay in
+    let kernel : c.into_parts-kernel.result.0 ≡ last.kernel = c.into_parts-kernel.ensures.kernel in
+    if_some c.close-device.result.0
+    (λ d same. same ∙ ap (λ (k : KernelState ShaKey). k.pool.honest) kernel
+    ∙ (replay_keeps c.args.events.now c.args.replay c.play_all.new.self last c.play_all.ensures
+    c.finish-is_over.ensures.rounds).honest)
+    c.close-device.ensures.same

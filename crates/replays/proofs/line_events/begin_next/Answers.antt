@@ -1,7 +1,7 @@
 use Rattle.std.proofs.Common.{◌≡◌, refl, sym, ap, ◌∙◌, subst, ℕ, ◌≤◌, length, arith}
 use Rattle.std.proofs.lemmas.Option.{slice_get_read}
 use Rattle.msgq_cli.specs.declared.line.Line.{Line}
-use Rattle.replays.specs.Events.{BeginsCommand, HasFittingCommand, told}
+use Rattle.replays.specs.Events.{BeginsCommand, told}
 use Rattle.replays.specs.Places.{ProgressState}
 use Rattle.replays.specs.declared.progress.Place.{Place}
 use Rattle.replays.proofs.PlaceLemmas.{next_is_seat, next_within}
@@ -27,8 +27,7 @@ returns g c =
     let next = sym (ap (λ (p : Place). p.next) c.place.ensures) ∙ c.in-Some.is in
     let within = next_within c.args.script.now c.args.seat c.in-Some.place c.keeps_order.ensures next in
     let is = rw c.lines.ensures at c.index-lines-place.is in
-    let begins = rw c.lines.ensures at c.begin_command-reply.ensures.begins in
-    let fitting = rw c.lines.ensures at c.begin_command-reply.ensures.fitting in
+    let begins = rw c.lines.ensures at c.begin_command-reply.ensures in
     let place = c.in-Some.place in
     let is_seat = next_is_seat c.args.script.now.places c.args.seat place next in
     let reply = c.begin_command-reply.result in
@@ -37,7 +36,6 @@ returns g c =
       line = c.index-lines-place.result;
       stands = slice_get_read c.args.script.now.lines (length c.args.script.now.lines) place c.index-lines-place.result
           refl within is;
-      fitting = subst (λ (l : Line). HasFittingCommand l.command) (sym is) fitting;
       reply = reply;
       kernel = subst (λ (l : Line). BeginsCommand c.args.seat l.command reply c.args.kernel.now
           c.begin_command-reply.new.kernel) (sym is) begins;

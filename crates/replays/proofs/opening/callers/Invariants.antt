@@ -1,9 +1,7 @@
--- The callers of the seats so far, whose numbers fit.
+-- The callers of the seats so far.
 use Rattle.std.proofs.Common.{◌≡◌}
-use Rattle.std.specs.List.{All}
-use Rattle.type_chains.specs.Fits.{HasFittingCaller}
 use Rattle.replays.specs.Replays.{callers_of}
 use Rattle.replays.proofs.opening.callers.Given as goal
 
 abbrev pub invariant-loop-place : goal.invariant-loop-place
-invariant-loop-place l = (l.made.items ≡ callers_of l.script.ids l.place) × All HasFittingCaller l.made.items
+invariant-loop-place l = l.made.items ≡ callers_of l.script.ids l.place

@@ -1,6 +1,5 @@
-use Rattle.std.proofs.Common.{◌∙◌, subst, sym}
+use Rattle.std.proofs.Common.{◌∙◌}
 use Rattle.std.proofs.lemmas.Result.{IfOk-weaker}
-use Rattle.interleavings.specs.Laws.{AreFittingCallers}
 use Rattle.replays.proofs.OpeningLemmas.{opened_for}
 use Rattle.replays.proofs.opening.open_kernel.Goals as goal
 
@@ -10,5 +9,4 @@ returns-clause-ok g c =
     IfOk-weaker c.open.result _ _
     (opened_for c.args.script.now (g.D.PageDevice.content c.args.device) (g.D.PageDevice.is_honest c.args.device) _
     c.clamp-frames.result c.seats_of-seats.result c.as_slice.result.now c.seats_of-seats.ensures.value
-    (c.as_slice.ensures.value ∙ c.in-Ok.ensures.ok)
-    (subst AreFittingCallers (sym c.as_slice.ensures.value) c.in-Ok.ensures.fitting)) c.open.ensures.ok
+    (c.as_slice.ensures.value ∙ c.in-Ok.ensures.ok)) c.open.ensures.ok

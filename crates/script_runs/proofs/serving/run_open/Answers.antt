@@ -12,7 +12,7 @@ returns-then-has_failed-clause-served g c = λ was s rests honest before.
     let run = c.run-ending.ensures.served s rests in
     let failed : c.run-ending.new.kernel.failed ≡ true = sym c.has_failed.ensures ∙ c.if-has_failed.true in
     inr (
-      subst (λ (n : ℕ). HasRisen was n) (sym c.into_device.ensures.faults)
+      subst (λ (n : ℕ). HasRisen was n) (sym c.abandon.ensures.faults)
           (has_risen was c.args.kernel.pool.faults c.run-ending.new.kernel failed before run.left run.held),
       inr (record {
         run_to = c.run-ending.new.output;

@@ -2,4 +2,4 @@ use Rattle.xsi_calls.proofs.LawLemmas.{begin_right}
 use Rattle.xsi_calls.proofs.laws.calls_begin_right.Goals as goal
 
 pub returns : goal.returns
-returns c = begin_right c.calls_begin_right.ensures
+returns c = begin_right

@@ -7,14 +7,15 @@ use Rattle.queue_records.specs.Keys.{key_of_message}
 use Rattle.file_records.specs.Answers.{StandsAt}
 use Rattle.file_records.specs.Files.{held_on}
 use Rattle.file_records.specs.Words.{MessageEntry, RecordKey}
-use Rattle.file_records.proofs.ValueLemmas.{found_is, linked_at, linked_is}
+use Rattle.file_records.proofs.ValueLemmas.{answers_in, found_is, linked_at, linked_is}
 use Rattle.file_records.proofs.look.FileRecordsRecords.message.Goals as goal
 
 pub returns-in_ok-from_slice-in-Some-Message-clause-ok : goal.returns-in_ok-from_slice-in-Some-Message-clause-ok
 returns-in_ok-from_slice-in-Some-Message-clause-ok g c = λ is other h its serial.
     let same : records.Message c.in-Some-Message.message ≡ records.Message other =
     sym c.in-Some-Message.field-0-is
-    ∙ found_is _ _ _ _ _ (c.in_ok-message.ensures.ok _ (c.in_ok-page.ensures.ok is)) c.in-Some-Message.is
+    ∙ found_is _ _ _ _ _ (c.in_ok-message.ensures.ok _ (answers_in _ _ _ _ _ c.layout-layout.ensures
+    (c.in_ok-page.ensures.ok is))) c.in-Some-Message.is
     (ap (λ id. key_of_message id other.serial) its ∙ ap (key_of_message c.args.id) serial
     ∙ sym c.message_key-key.ensures) h in
     let it : c.in-Some-Message.message ≡ other = cc in
@@ -25,7 +26,8 @@ returns-in_ok-from_slice-in-Some-Message-clause-ok g c = λ is other h its seria
 pub returns-in_ok-from_slice-in-Some-Message-clause-stands : goal.returns-in_ok-from_slice-in-Some-Message-clause-stands
 returns-in_ok-from_slice-in-Some-Message-clause-stands g c = λ is.
     let held = held_on c.args.self.now in
-    let found = rw c.in-Some-Message.is at (c.in_ok-message.ensures.stands held (c.in_ok-page.ensures.ok is)) in
+    let found = rw c.in-Some-Message.is at (c.in_ok-message.ensures.stands held
+    (answers_in _ _ _ _ _ c.layout-layout.ensures (c.in_ok-page.ensures.ok is))) in
     let at =
     subst (λ (k : RecordKey). StandsAt held k (records.Message c.in-Some-Message.message)) c.message_key-key.ensures
     (subst (StandsAt held c.message_key-key.result) c.in-Some-Message.field-0-is found) in

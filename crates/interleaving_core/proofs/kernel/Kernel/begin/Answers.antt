@@ -2,6 +2,8 @@
 use Rattle.std.proofs.Common.{◌≡◌, ◌∙◌, sym, ap, subst, ℕ, ◌+◌, ◌-◌, ◌≤◌, Some, length, slice_set, vec_capacity, arith}
 use Rattle.std.proofs.lemmas.Bool.Decides.{nat_tests}
 use Rattle.std.proofs.lemmas.Grind.{common_steps}
+use Rattle.std.specs.Option.{is_some}
+use Rattle.interleaving_core.specs.Active.{HasBegunAt}
 use Rattle.interleaving_core.specs.Beginning.{HasCall, IsRefused, MayBegin}
 use Rattle.interleaving_core.specs.Kernel.{KernelState, entries_of, with_call}
 use Rattle.interleaving_core.specs.Words.{IsSeat}
@@ -23,7 +25,8 @@ returns-in-Err-clause-err g c =
       journal = c.self.inside.journal.items;
       room = vec_capacity c.self.inside.journal;
       stopped = c.self.inside.stopped;
-      failed = c.self.inside.failed;
+      failed = is_some c.self.inside.failure;
+      failure = c.self.inside.failure;
       searches = c.self.inside.searches;
     } in
     let new : KernelState g.row.K.Denot = record {
@@ -35,7 +38,8 @@ returns-in-Err-clause-err g c =
       journal = c.reserve.new.self.items;
       room = vec_capacity c.reserve.new.self;
       stopped = c.self.inside.stopped;
-      failed = c.self.inside.failed;
+      failed = is_some c.self.inside.failure;
+      failure = c.self.inside.failure;
       searches = c.self.inside.searches;
     } in
     let is : IsSeat old.locks c.args.seat =
@@ -52,7 +56,7 @@ returns-in-Err-clause-err g c =
     subst (λ (k : KernelState g.row.K.Denot). IsRefused c.args.seat c.args.call (c.in-Err.call, NoMemory) k new)
     c.self.view_is record {
       back = c.in-Err.ensures.err;
-      cause = (c.if-self.false, free, λ full. omega (arith, full, few, same));
+      cause = (sym c.is_some.ensures ∙ c.if-is_some.false, free, λ full. omega (arith, full, few, same));
       same = made;
     }
 
@@ -67,7 +71,8 @@ invariant_of-self-2 g c =
       journal = c.self.inside.journal.items;
       room = vec_capacity c.self.inside.journal;
       stopped = c.self.inside.stopped;
-      failed = c.self.inside.failed;
+      failed = is_some c.self.inside.failure;
+      failure = c.self.inside.failure;
       searches = c.self.inside.searches;
     } in
     let new : KernelState g.row.K.Denot = record {
@@ -79,7 +84,8 @@ invariant_of-self-2 g c =
       journal = c.reserve.new.self.items;
       room = vec_capacity c.reserve.new.self;
       stopped = c.self.inside.stopped;
-      failed = c.self.inside.failed;
+      failed = is_some c.self.inside.failure;
+      failure = c.self.inside.failure;
       searches = c.self.inside.searches;
     } in
     let is : IsSeat old.locks c.args.seat =
@@ -89,8 +95,11 @@ invariant_of-self-2 g c =
     let free = sym (slot_here old.seats c.args.seat c.index.result.now is.0 there c.index.ensures) ∙ none in
     let few : c.entries.result ≤ MAX_DECIDED = grind (arith, nat_tests) in
     let caller = c.index-caller.result.now in
+    let many : c.len-many.result ≡ length old.journal = grind (arith, common_steps) in
     let (active, is_there, begun) =
-    begun_at caller c.args.call c.begin.new.self c.in_default-begin.ensures.ok in
+    begun_at caller c.args.call (length old.journal) c.begin.new.self
+    (subst (λ (n : ℕ). HasBegunAt caller c.args.call n c.begin.new.self) many
+    c.in_default-begin.ensures.ok) in
     let made : new ≡ record old {
       seats = with_call old.seats c.args.seat (Some active);
       room = new.room;
@@ -117,7 +126,8 @@ returns-clause-ok g c =
       journal = c.self.inside.journal.items;
       room = vec_capacity c.self.inside.journal;
       stopped = c.self.inside.stopped;
-      failed = c.self.inside.failed;
+      failed = is_some c.self.inside.failure;
+      failure = c.self.inside.failure;
       searches = c.self.inside.searches;
     } in
     let new : KernelState g.row.K.Denot = record {
@@ -129,7 +139,8 @@ returns-clause-ok g c =
       journal = c.reserve.new.self.items;
       room = vec_capacity c.reserve.new.self;
       stopped = c.self.inside.stopped;
-      failed = c.self.inside.failed;
+      failed = is_some c.self.inside.failure;
+      failure = c.self.inside.failure;
       searches = c.self.inside.searches;
     } in
     let is : IsSeat old.locks c.args.seat =
@@ -141,8 +152,11 @@ returns-clause-ok g c =
     let same : c.entries.result ≡ entries_of old =
     c.entries.ensures ∙ ap (λ (k : KernelState g.row.K.Denot). entries_of k) (sym c.self.view_is) in
     let caller = c.index-caller.result.now in
+    let many : c.len-many.result ≡ length old.journal = grind (arith, common_steps) in
     let (active, is_there, begun) =
-    begun_at caller c.args.call c.begin.new.self c.in_default-begin.ensures.ok in
+    begun_at caller c.args.call (length old.journal) c.begin.new.self
+    (subst (λ (n : ℕ). HasBegunAt caller c.args.call n c.begin.new.self) many
+    c.in_default-begin.ensures.ok) in
     let made : new ≡ record old {
       seats = with_call old.seats c.args.seat (Some active);
       room = new.room;
@@ -153,9 +167,9 @@ returns-clause-ok g c =
     let sits = caller_there old.callers c.args.seat is.0 (omega (arith, there, as_many)) caller
     c.index-caller.ensures in
     let may : MayBegin c.args.seat old = record {
-      sound = c.if-self.false;
+      sound = sym c.is_some.ensures ∙ c.if-is_some.false;
       free = free;
       few = λ full. omega (arith, full, few, same);
     } in
     subst (λ (k : KernelState g.row.K.Denot). HasCall c.args.seat c.args.call k new) c.self.view_is
-    (has_call c.args.seat caller c.args.call active old new may sits begun made)
+    (has_call c.args.seat caller c.args.call active old new may sits c.a_calls_numbers_fit.ensures begun made)

@@ -1,5 +1,6 @@
 -- Each seat has a caller.
 use Rattle.std.proofs.Common.{◌≡◌, sym, subst, Some, length, vec_capacity, arith}
+use Rattle.std.specs.Option.{is_some}
 use Rattle.interleaving_core.specs.Kernel.{KernelState}
 use Rattle.interleaving_core.specs.Words.{IsSeat, caller_at}
 use Rattle.interleaving_core.proofs.BeginLemmas.{caller_there}
@@ -17,7 +18,8 @@ returns g c =
       journal = c.self.inside.journal.items;
       room = vec_capacity c.self.inside.journal;
       stopped = c.self.inside.stopped;
-      failed = c.self.inside.failed;
+      failed = is_some c.self.inside.failure;
+      failure = c.self.inside.failure;
       searches = c.self.inside.searches;
     } in
     let is : IsSeat old.locks c.args.seat =

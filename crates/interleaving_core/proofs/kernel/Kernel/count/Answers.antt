@@ -1,5 +1,6 @@
 -- The searches of each seat are counted.
 use Rattle.std.proofs.Common.{sym, subst, vec_capacity}
+use Rattle.std.specs.Option.{is_some}
 use Rattle.interleaving_core.specs.Kernel.{KernelState}
 use Rattle.interleaving_core.specs.Words.{IsSeat}
 use Rattle.interleaving_core.proofs.KernelLemmas.{is_counted}
@@ -16,7 +17,8 @@ of-requires g c =
       journal = c.self.inside.journal.items;
       room = vec_capacity c.self.inside.journal;
       stopped = c.self.inside.stopped;
-      failed = c.self.inside.failed;
+      failed = is_some c.self.inside.failure;
+      failure = c.self.inside.failure;
       searches = c.self.inside.searches;
     } in
     let is : IsSeat old.locks c.args.seat =

@@ -1,6 +1,7 @@
 -- Each step goes on from those before it, each of which moved.
-use Rattle.std.proofs.Common.{◌≡◌, ◌<◌, ap, true, arith}
+use Rattle.std.proofs.Common.{◌≡◌, ◌<◌, ap, true, None, arith}
 use Rattle.interleaving_core.specs.Kernel.{KernelState}
+use Rattle.interleaving_core.specs.Owing.{failed, failure_by}
 use Rattle.interleaving_core.specs.declared.kernel.TheConstants.{MOST_STEPS}
 use Rattle.interleaving_core.proofs.DriveLemmas.{is_spent, moves_on, none_made, rests_at}
 use Rattle.interleaving_core.proofs.RunLemmas.{no_move, runs_on}
@@ -35,4 +36,7 @@ returns-clause-driven g c =
     let last = c.loop.auto.counter-end in
     let most : c.loop.counter ≡ MOST_STEPS = omega (arith, test, last) in
     is_spent g.K.PseudoKey.of_key c.args.seat c.loop.counter c.args.self.now c.loop.self c.loop.invariant _ most
-    (ap (λ (s : KernelState g.row.K.Denot). record s { failed = true }) c.self-2.view_is)
+    (ap (λ (s : KernelState g.row.K.Denot). record s {
+      failed = true;
+      failure = failure_by c.args.seat failed None;
+    }) c.self-2.view_is)

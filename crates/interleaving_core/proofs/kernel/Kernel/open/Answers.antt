@@ -15,5 +15,6 @@ invariant_of-result g c =
     let memory : 1 ≤ vec_capacity c.reserve.new.self = grind (arith, common_steps) in
     opened_whole (length c.args.callers.now) _
     (record { rest = c.in-Ok-open.ensures.rest; frames = omega (arith, frames, least, needs) })
-    c.in-Ok-new.ensures c.in-Ok-idle_seats.ensures (ap length c.in-Ok-copied.ensures)
-    (c.in-Ok-reserve.ensures.items ∙ c.new-journal.ensures.items) refl memory c.in-Ok-new-2.ensures
+    c.in-Ok-new.ensures c.in-Ok-idle_seats.ensures (ap length c.in-Ok-copied.ensures.same)
+    c.in-Ok-copied.ensures.fitting (c.in-Ok-reserve.ensures.items ∙ c.new-journal.ensures.items) refl memory refl
+    c.in-Ok-new-2.ensures

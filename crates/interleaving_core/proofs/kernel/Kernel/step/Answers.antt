@@ -1,5 +1,6 @@
--- A step of the seat's call, or none behind a failure.
+-- A step of the seat's call, or none after a failure.
 use Rattle.std.proofs.Common.{◌∙◌, refl, sym, ap, subst, vec_capacity}
+use Rattle.std.specs.Option.{is_some}
 use Rattle.interleaving_core.specs.Kernel.{KernelState}
 use Rattle.interleaving_core.specs.Owing.{IsTurn, told_of_failure}
 use Rattle.interleaving_core.specs.Words.{IsSeat}
@@ -7,8 +8,8 @@ use Rattle.interleaving_core.proofs.KernelLemmas.{counts_by, is_counted, makes_s
 use Rattle.interleaving_core.proofs.RunLemmas.{fails_put}
 use Rattle.interleaving_core.proofs.kernel.Kernel.step.Goals as goal
 
-pub returns-then-self-clause-turn : goal.returns-then-self-clause-turn
-returns-then-self-clause-turn g c =
+pub returns-then-is_some-clause-turn : goal.returns-then-is_some-clause-turn
+returns-then-is_some-clause-turn g c =
     let old : KernelState g.row.K.Denot = record {
       keys = c.self.inside.keys;
       pool = c.self.inside.pool;
@@ -18,13 +19,14 @@ returns-then-self-clause-turn g c =
       journal = c.self.inside.journal.items;
       room = vec_capacity c.self.inside.journal;
       stopped = c.self.inside.stopped;
-      failed = c.self.inside.failed;
+      failed = is_some c.self.inside.failure;
+      failure = c.self.inside.failure;
       searches = c.self.inside.searches;
     } in
     let is : IsSeat old.locks c.args.seat =
     subst (λ (k : KernelState g.row.K.Denot). IsSeat k.locks c.args.seat) (sym c.self.view_is) c.requires in
     subst (λ (k : KernelState g.row.K.Denot). IsTurn c.args.seat c.told_of_failure.result k k) c.self.view_is
-    (fails_put c.args.seat c.told_of_failure.result old c.self.invariant c.if-self.true
+    (fails_put c.args.seat c.told_of_failure.result old c.self.invariant (sym c.is_some.ensures ∙ c.if-is_some.true)
     (c.told_of_failure.ensures ∙ ap told_of_failure (slot_here old.seats c.args.seat c.index.result.now is.0
     (seat_there old c.self.invariant c.args.seat is) c.index.ensures)))
 
@@ -39,7 +41,8 @@ advance-step-requires-clause-row g c =
       journal = c.self.inside.journal.items;
       room = vec_capacity c.self.inside.journal;
       stopped = c.self.inside.stopped;
-      failed = c.self.inside.failed;
+      failed = is_some c.self.inside.failure;
+      failure = c.self.inside.failure;
       searches = c.self.inside.searches;
     } in
     let is : IsSeat old.locks c.args.seat =
@@ -57,7 +60,8 @@ note-requires-clause-seat g c =
       journal = c.self.inside.journal.items;
       room = vec_capacity c.self.inside.journal;
       stopped = c.self.inside.stopped;
-      failed = c.self.inside.failed;
+      failed = is_some c.self.inside.failure;
+      failure = c.self.inside.failure;
       searches = c.self.inside.searches;
     } in
     let is : IsSeat old.locks c.args.seat =
@@ -76,7 +80,8 @@ note-requires-clause-counted g c =
       journal = c.self.inside.journal.items;
       room = vec_capacity c.self.inside.journal;
       stopped = c.self.inside.stopped;
-      failed = c.self.inside.failed;
+      failed = is_some c.self.inside.failure;
+      failure = c.self.inside.failure;
       searches = c.self.inside.searches;
     } in
     let is : IsSeat old.locks c.args.seat =
@@ -87,48 +92,54 @@ pub invariant_of-self : goal.invariant_of-self
 invariant_of-self g c =
     (makes_step g.K.PseudoKey.of_key c.args.seat c.advance-step.result c.index_mut.result.now c.advance-step.new.self _
     _ c.args.self.now c.self.view_is c.self.invariant c.requires c.index_mut.ensures.value c.advance-step.ensures.turns
-    refl refl refl refl c.advance-step.ensures.capacity c.advance-step.ensures.spare c.if-self.false
-    c.is_failure-self-inside.ensures (counts_by c.args.seat c.advance-step.result _ _ c.last_page-before.result
-    c.last_page-before.ensures c.note.ensures)).whole
+    refl refl refl refl c.advance-step.ensures.capacity c.advance-step.ensures.spare
+    (sym c.is_some.ensures ∙ c.if-is_some.false) refl c.failure_of-self-inside.ensures
+    (counts_by c.args.seat c.advance-step.result _ _ c.last_page-before.result c.last_page-before.ensures
+    c.note.ensures)).whole
 
 pub invariant_of-self-2 : goal.invariant_of-self-2
 invariant_of-self-2 g c =
     (makes_step g.K.PseudoKey.of_key c.args.seat c.advance-step.result c.index_mut.result.now c.advance-step.new.self _
     _ c.args.self.now c.self.view_is c.self.invariant c.requires c.index_mut.ensures.value c.advance-step.ensures.turns
-    refl refl refl refl c.advance-step.ensures.capacity c.advance-step.ensures.spare c.if-self.false
-    c.is_failure-self-inside.ensures (counts_by c.args.seat c.advance-step.result _ _ c.last_page-before.result
-    c.last_page-before.ensures c.note.ensures)).whole
+    refl refl refl refl c.advance-step.ensures.capacity c.advance-step.ensures.spare
+    (sym c.is_some.ensures ∙ c.if-is_some.false) refl c.failure_of-self-inside.ensures
+    (counts_by c.args.seat c.advance-step.result _ _ c.last_page-before.result c.last_page-before.ensures
+    c.note.ensures)).whole
 
 pub returns-clause-turn : goal.returns-clause-turn
 returns-clause-turn g c =
     (makes_step g.K.PseudoKey.of_key c.args.seat c.advance-step.result c.index_mut.result.now c.advance-step.new.self _
     _ c.args.self.now c.self.view_is c.self.invariant c.requires c.index_mut.ensures.value c.advance-step.ensures.turns
-    refl refl refl refl c.advance-step.ensures.capacity c.advance-step.ensures.spare c.if-self.false
-    c.is_failure-self-inside.ensures (counts_by c.args.seat c.advance-step.result _ _ c.last_page-before.result
-    c.last_page-before.ensures c.note.ensures)).turn
+    refl refl refl refl c.advance-step.ensures.capacity c.advance-step.ensures.spare
+    (sym c.is_some.ensures ∙ c.if-is_some.false) refl c.failure_of-self-inside.ensures
+    (counts_by c.args.seat c.advance-step.result _ _ c.last_page-before.result c.last_page-before.ensures
+    c.note.ensures)).turn
 
 pub returns-clause-makes : goal.returns-clause-makes
 returns-clause-makes g c =
     (makes_step g.K.PseudoKey.of_key c.args.seat c.advance-step.result c.index_mut.result.now c.advance-step.new.self _
     _ c.args.self.now c.self.view_is c.self.invariant c.requires c.index_mut.ensures.value c.advance-step.ensures.turns
-    refl refl refl refl c.advance-step.ensures.capacity c.advance-step.ensures.spare c.if-self.false
-    c.is_failure-self-inside.ensures (counts_by c.args.seat c.advance-step.result _ _ c.last_page-before.result
-    c.last_page-before.ensures c.note.ensures)).makes
+    refl refl refl refl c.advance-step.ensures.capacity c.advance-step.ensures.spare
+    (sym c.is_some.ensures ∙ c.if-is_some.false) refl c.failure_of-self-inside.ensures
+    (counts_by c.args.seat c.advance-step.result _ _ c.last_page-before.result c.last_page-before.ensures
+    c.note.ensures)).makes
 
 pub returns-in-Moved-clause-turn : goal.returns-in-Moved-clause-turn
 returns-in-Moved-clause-turn g c =
     (told_anew g.K.PseudoKey.of_key c.args.seat c.advance-step.result _ c.args.self.now _ c.in-Moved.is
     (makes_step g.K.PseudoKey.of_key c.args.seat c.advance-step.result c.index_mut.result.now c.advance-step.new.self _
     _ c.args.self.now c.self.view_is c.self.invariant c.requires c.index_mut.ensures.value c.advance-step.ensures.turns
-    refl refl refl refl c.advance-step.ensures.capacity c.advance-step.ensures.spare c.if-self.false
-    c.is_failure-self-inside.ensures (counts_by c.args.seat c.advance-step.result _ _ c.last_page-before.result
-    c.last_page-before.ensures c.note.ensures))).turn
+    refl refl refl refl c.advance-step.ensures.capacity c.advance-step.ensures.spare
+    (sym c.is_some.ensures ∙ c.if-is_some.false) refl c.failure_of-self-inside.ensures
+    (counts_by c.args.seat c.advance-step.result _ _ c.last_page-before.result c.last_page-before.ensures
+    c.note.ensures))).turn
 
 pub returns-in-Moved-clause-makes : goal.returns-in-Moved-clause-makes
 returns-in-Moved-clause-makes g c =
     (told_anew g.K.PseudoKey.of_key c.args.seat c.advance-step.result _ c.args.self.now _ c.in-Moved.is
     (makes_step g.K.PseudoKey.of_key c.args.seat c.advance-step.result c.index_mut.result.now c.advance-step.new.self _
     _ c.args.self.now c.self.view_is c.self.invariant c.requires c.index_mut.ensures.value c.advance-step.ensures.turns
-    refl refl refl refl c.advance-step.ensures.capacity c.advance-step.ensures.spare c.if-self.false
-    c.is_failure-self-inside.ensures (counts_by c.args.seat c.advance-step.result _ _ c.last_page-before.result
-    c.last_page-before.ensures c.note.ensures))).makes
+    refl refl refl refl c.advance-step.ensures.capacity c.advance-step.ensures.spare
+    (sym c.is_some.ensures ∙ c.if-is_some.false) refl c.failure_of-self-inside.ensures
+    (counts_by c.args.seat c.advance-step.result _ _ c.last_page-before.result c.last_page-before.ensures
+    c.note.ensures))).makes

@@ -1,8 +1,8 @@
 use Rattle.std.specs.Prelude.{◌≡◌, drop}
-use Rattle.msgq_cli.specs.Options.{options_after, options_of}
+use Rattle.msgq_cli.specs.Options.{no_options, options_after}
 use Rattle.script_words.specs.Words.{texts}
 use Rattle.msgq_cli.proofs.options.Options.read.Given as goal
 
 -- what the words that are left make of the options so far is what all of them say
 abbrev pub invariant-loop-word : goal.invariant-loop-word
-invariant-loop-word l = options_after l.options (texts (drop l.word-index l.words)) ≡ options_of (texts l.words)
+invariant-loop-word l = options_after l.options (texts (drop l.word-index l.words)) ≡ options_after no_options (texts l.words)

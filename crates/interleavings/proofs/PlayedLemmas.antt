@@ -1,0 +1,230 @@
+-- Events over a kernel that was opened, and closed behind them, told without the kernel.
+use Rattle.std.proofs.Common.{ℕ, zero, suc, ◌≡◌, ◌≤◌, ◌⊎◌, ◌↔◌, inl, inr, refl, sym, ap, ◌∙◌, subst, Bool, true, false, ◌||◌, IsSome, IsTrue, List, [], ◌∷◌, ◌++◌, Option, Some, None, drop, length, replicate, take, append-nil, arith}
+use Rattle.std.specs.List.{list_any}
+use Rattle.std.proofs.lemmas.Bool.{true≢false}
+use Rattle.std.proofs.lemmas.List.{length-replicate}
+use Rattle.std.proofs.lemmas.List.Elements.{All-take}
+use Rattle.page_device.specs.Device.{HasRisen}
+use Rattle.interleaving_core.proofs.BeginLemmas.{idle_at}
+use Rattle.interleaving_core.specs.Closing.{IsBusy, has_one}
+use Rattle.interleaving_core.specs.declared.fault.CloseFault.{CloseFault}
+use Rattle.interleaving_core.specs.declared.fault.CloseFault.TheVariants as closes
+use Rattle.interleavings.specs.Words.{ActiveView, Answer, Call, Caller, Entry, HasSystem, IsFifo, IsFileOf, IsFlushedTo, IsLawful, IsLegal, IsOpened, KernelState, PoolState, RecordKey, State, after, answer_of_call, call_at, call_of, entry_of, part_of, restarted, untold}
+use Rattle.interleavings.specs.Ending.{HasEnded}
+use Rattle.interleavings.specs.Headline.{IsAsPlainLists}
+use Rattle.interleavings.specs.Laws.{AnswersAsPlainLists, ClosesLed, EventsLead, IsLedFromFile, StepsLeadAndDo, StepsLed}
+use Rattle.interleavings.specs.Leading.{IsLedFrom}
+use Rattle.interleavings.specs.Playing.{HasItsPart, HasPlayed, HasReason, HasStood, PlaysAsPlainLists, call_along, call_under_way, gives_up, is_mark, is_stop, tells_failure}
+use Rattle.interleavings.specs.Runs.{AreOfSeats, IsLinearized, IsOfSeat, IsToldItsPart, Runs, told_along}
+use Rattle.interleavings.specs.declared.event.Event.{Event}
+use Rattle.interleavings.specs.declared.event.Outcome.{Outcome}
+use Rattle.interleavings.specs.declared.playing.EndFault.{EndFault}
+use Rattle.interleavings.specs.declared.playing.EndFault.TheVariants.{Busy, Close}
+use Rattle.interleavings.specs.declared.playing.Played.{Played}
+use Rattle.interleavings.proofs.RisenLemmas.{fails_by_along, later_along, risen_within}
+use Rattle.interleavings.proofs.UnderWayLemmas.{call_on, places_along, come_along, fails_along, leaves_along, marked_along, none_at}
+
+-- ---- who has a call
+
+not_true : (b : Bool) → (b ≡ true → ⊥) → b ≡ false
+not_true true not = absurd (not refl)
+not_true false not = refl
+
+none_has : (seats : List (Option ActiveView)) → list_any has_one seats ≡ false → (seat : ℕ) →
+    call_at seats seat ≡ None
+none_has seats none zero = refl
+none_has [] none (suc place) = refl
+none_has (None ∷ xs) none (suc zero) = refl
+none_has (None ∷ xs) none (suc (suc place)) = none_has xs none (suc place)
+none_has (Some a ∷ xs) none (suc place) = absurd cc
+
+one_has : (seats : List (Option ActiveView)) → list_any has_one seats ≡ true →
+    (seat : ℕ) × IsSome (call_of (call_at seats seat))
+one_has [] some = absurd cc
+one_has (Some a ∷ xs) some = (1, refl)
+one_has (None ∷ xs) some = behind (one_has xs some)
+  where
+    behind : (seat : ℕ) × IsSome (call_of (call_at xs seat)) →
+        (seat : ℕ) × IsSome (call_of (call_at (None ∷ xs) seat))
+    behind (zero, never) = absurd cc
+    behind (suc place, there) = (suc (suc place), there)
+
+-- what a seat's call was answered, and its seat was not told yet
+abbrev answer_at : Option ActiveView → Option Answer
+answer_at None = None
+answer_at (Some a) = answer_of_call a.machine
+
+untold_is : (seat : ℕ) (at : Option ActiveView) → untold seat at ≡ entry_of seat (call_of at) (answer_at at)
+untold_is seat None = refl
+untold_is seat (Some a) = refl
+
+-- ---- from a kernel that was opened
+
+module _ {K : Type 0} (of : K → RecordKey → ℕ) (keys : K) (content : List (List ℕ)) (honest : Bool)
+    (callers : List Caller) (frames : ℕ) (es : List Event) (old new : KernelState K) {D : Type 0} (played : Played D)
+    (left : List (List ℕ)) (left_honest : Bool) (faults : ℕ)
+    (opened : IsOpened keys content honest callers frames old) (are : AreOfSeats (length callers) es)
+    (ran : Runs (of old.keys) es played.outcomes.items old new)
+    (ended : HasEnded new played.fault played.journal.items left left_honest faults) where
+  abbrev hash : RecordKey → ℕ
+  hash = of keys
+
+  abbrev os : List Outcome
+  os = played.outcomes.items
+
+  runs : Runs hash es os old new
+  runs = subst (λ (k : K). Runs (of k) es os old new) opened.keys ran
+
+  none_before : (seat : ℕ) → call_at old.seats seat ≡ None
+  none_before seat = ap (λ (seats : List (Option ActiveView)). call_at seats seat) opened.seats
+      ∙ idle_at (length callers) seat
+
+  idle_before : (seat : ℕ) → call_on seat old ≡ None
+  idle_before seat = ap call_of (none_before seat)
+
+  are_seats : AreOfSeats (length old.seats) es
+  are_seats = subst (λ (n : ℕ). AreOfSeats n es)
+      (sym (ap length opened.seats ∙ length-replicate (length callers) None)) are
+
+  as_honest : new.pool.honest ≡ honest
+  as_honest = (places_along hash es os old new runs).honest
+      ∙ ap (λ (p : PoolState). p.honest) opened.pool
+
+  -- the call of a seat after some of the events
+  under_way : (seat : ℕ) (some : List Event) (out : List Outcome) (now : KernelState K) →
+      AreOfSeats (length old.seats) some → Runs hash some out old now →
+      call_on seat now ≡ call_under_way seat some out
+  under_way seat some out now those first = leaves_along hash seat some out old now those first
+      ∙ ap (λ (c : Option Call). call_along seat c some out) (idle_before seat)
+
+  its_part : (seat : ℕ) (some : List Event) (out : List Outcome) (now : KernelState K) →
+      AreOfSeats (length old.seats) some → Runs hash some out old now → IsToldItsPart seat some out old now →
+      HasItsPart seat some out now.journal
+  its_part seat some out now those first told = record {
+    owed = answer_at (call_at now.seats seat);
+    told =
+        ap (λ (c : Option Call). told_along seat None some out ++ entry_of seat c (answer_at (call_at now.seats seat)))
+        (sym (under_way seat some out now those first))
+        ∙ ap (λ (entries : List Entry). told_along seat None some out ++ entries)
+        (sym (untold_is seat (call_at now.seats seat)))
+        ∙ ap (λ (at : Option Call). told_along seat at some out ++ untold seat (call_at now.seats seat))
+        (sym (ap call_of (none_before seat)))
+        ∙ told.told
+        ∙ ap (λ (at : Option ActiveView). untold seat at ++ part_of seat told.added) (none_before seat)
+        ∙ ap (part_of seat) (sym (told.journal ∙ ap (λ (entries : List Entry). entries ++ told.added) opened.journal));
+  }
+
+  module _ (tells : (seat : ℕ) → IsToldItsPart seat es os old new)
+      (line : IsLinearized (of old.keys) es os old new) where
+    linear : IsLinearized hash es os old new
+    linear = subst (λ (k : K). IsLinearized (of k) es os old new) opened.keys line
+
+    stood : (many : ℕ) → HasStood many es os new.journal
+    stood many =
+        let moment = linear many in
+        let marked = marked_along hash (take many es) (take many os) old moment.between moment.before in
+        record {
+          stood = moment.between.journal;
+          later = (moment.told_behind 0).added;
+          journal_is = (moment.told_behind 0).journal;
+          was = record {
+            parts = λ seat. its_part seat (take many es) (take many os) moment.between
+                (All-take (IsOfSeat (length old.seats)) many es are_seats) moment.before (moment.told_before seat);
+            mark = marked.marked (ap (list_any is_mark) opened.journal ∙ sym opened.stopped) ∙ marked.stopped
+                ∙ ap (λ (b : Bool). b || list_any is_stop (take many es)) opened.stopped;
+          };
+        }
+
+    sound_by : played.fault ≡ None → new.failed ≡ false
+    sound_by none = not_true new.failed (λ broken. none_some (sym none ∙ ended.failed.1 broken))
+      where
+        none_some : ◌≡◌ {A = Option EndFault} None (Some (Close closes.Failed)) → ⊥
+        none_some clash = cc
+
+    idle_by : played.fault ≡ None → (seat : ℕ) → call_at new.seats seat ≡ None
+    idle_by none = none_has new.seats (not_true (list_any has_one new.seats)
+        (λ one. none_some (sym none ∙ ended.busy.1 (record { sound = sound_by none; call = one }))))
+      where
+        none_some : ◌≡◌ {A = Option EndFault} None (Some Busy) → ⊥
+        none_some clash = cc
+
+    call_then : (seat : ℕ) → call_on seat new ≡ call_under_way seat es os
+    call_then seat = under_way seat es os new are_seats runs
+
+    busy_by : played.fault ≡ Some Busy → (seat : ℕ) × IsSome (call_under_way seat es os)
+    busy_by busy =
+        let one = one_has new.seats (ended.busy.0 busy).call in
+        (one.0, subst IsSome (call_then one.0) one.1)
+
+    failed_is : new.failed ≡ list_any tells_failure os
+    failed_is = fails_along hash es os old new runs ∙ ap (λ (b : Bool). b || list_any tells_failure os) opened.failed
+
+    pub has_played : HasPlayed es played
+    has_played = record {
+      outcomes = come_along hash es os old new (λ seat. None) (λ seat. sym (idle_before seat)) are_seats runs;
+      told = λ seat. subst (HasItsPart seat es os) (sym ended.journal_is)
+          (its_part seat es os new are_seats runs (tells seat));
+      linear = λ many. subst (HasStood many es os) (sym ended.journal_is) (stood many);
+      ended = λ none seat. sym (call_then seat) ∙ ap call_of (idle_by none seat);
+      busy = busy_by;
+      failed = (
+        λ failed. sym failed_is ∙ ended.failed.0 failed,
+        λ told. ended.failed.1 (failed_is ∙ told),
+      );
+    }
+
+    -- ---- of an honest device
+
+    module _ (lead : EventsLead K) (true_to_it : IsTrue honest) (led : IsLedFromFile hash content old) where
+      are_rows : AreOfSeats (length old.locks) es
+      are_rows = subst (λ (n : ℕ). AreOfSeats n es)
+          (sym (ap length opened.locks ∙ length-replicate (length callers) [])) are
+
+      led_behind : IsLedFrom hash led.base new
+      led_behind = lead hash led.base es os old new are_rows led.led runs
+
+      same_callers : new.callers ≡ callers
+      same_callers = (places_along hash es os old new runs).callers ∙ opened.callers
+
+      honest_still : IsTrue new.pool.honest
+      honest_still = subst IsTrue (sym as_honest) true_to_it
+
+      pub plays_plain : AnswersAsPlainLists K → ClosesLed K → PlaysAsPlainLists hash callers content left played
+      plays_plain plain closes =
+          let lists = plain hash led.base new led.file.system.has.lawful led_behind in
+          record {
+            base = led.base;
+            file = led.file;
+            legal = subst (λ (cs : List Caller). IsLegal cs played.journal.items led.base) same_callers
+                (subst (λ (entries : List Entry). IsLegal new.callers entries led.base) (sym ended.journal_is)
+                lists.legal);
+            fifo = subst (λ (cs : List Caller). IsFifo cs played.journal.items led.base) same_callers
+                (subst (λ (entries : List Entry). IsFifo new.callers entries led.base) (sym ended.journal_is)
+                lists.fifo);
+            leaves = λ none.
+                subst (λ (cs : List Caller).
+                IsFileOf hash left (restarted (after cs played.journal.items led.base))) same_callers
+                (subst (λ (entries : List Entry). IsFileOf hash left (restarted (after new.callers entries led.base)))
+                (sym ended.journal_is)
+                (closes hash led.base left new led_behind (idle_by none) (sound_by none)
+                (ended.flushed honest_still none)));
+          }
+
+      step_reason : StepsLeadAndDo K → StepsLed K → (was : ℕ) → was ≤ old.pool.faults →
+          played.fault ≡ Some (Close closes.Failed) → HasRisen was faults ⊎ (list_any gives_up os ≡ true)
+      step_reason does steps was before failed = elim (fails_by_along does steps lead hash led.base es os old new
+          are_rows led.led runs opened.failed (ended.failed.0 failed)) [
+            | inl risen ↦ inl (risen_within before
+                (later_along hash es os old new runs) ended.later risen)
+            | inr given_up ↦ inr given_up
+          ]
+
+    pub has_reason : EventsLead K → (IsTrue honest → IsLedFromFile hash content old) → StepsLeadAndDo K →
+        StepsLed K → (was : ℕ) → was ≤ old.pool.faults → HasReason honest was faults played
+    has_reason lead led does steps was before =
+        let later = later_along hash es os old new runs in
+        record {
+          device = λ device. risen_within (omega (arith, before, later)) ended.later (omega arith)
+              (ended.device device);
+          step = λ true_to_it. step_reason lead true_to_it (led true_to_it) does steps was before;
+        }

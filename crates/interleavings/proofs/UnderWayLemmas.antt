@@ -1,0 +1,378 @@
+-- The call that a seat has under way, and what the journal and a failure say, told by the outcomes of events.
+use Rattle.std.proofs.Common.{ℕ, zero, suc, ◌≡◌, ◌≢◌, ◌⊎◌, ◌↔◌, inl, inr, refl, sym, ap, ◌∙◌, subst, ◌==◌, Bool, true, false, ◌||◌, if◌then◌else◌, List, [], ◌∷◌, ◌++◌, Option, Some, None, length, arith}
+use Rattle.std.specs.List.{list_any}
+use Rattle.std.proofs.lemmas.Bool.{eqb-false, eqb-true}
+use Rattle.std.proofs.lemmas.List.Elements.{All-head, All-tail}
+use Rattle.interleaving_core.proofs.PartLemmas.{AreOf, added_is_of}
+use Rattle.interleaving_core.proofs.PlaceLemmas.{at_other, at_same, length-with_call}
+use Rattle.interleaving_core.specs.Beginning.{Refuses}
+use Rattle.interleaving_core.specs.Owing.{IsMove, failed, is_end, is_failure}
+use Rattle.interleaving_core.specs.declared.fault.BeginFault.{BeginFault}
+use Rattle.interleaving_core.specs.declared.fault.BeginFault.TheVariants as refusals
+use Rattle.interleaving_core.specs.declared.step.Step.TheVariants as steps
+use Rattle.queue_model.specs.declared.entry.Entry.TheVariants.{Decided, Stopped}
+use Rattle.queue_model.specs.Journal.{is_of}
+use Rattle.interleavings.specs.Words.{ActiveView, Answer, Call, Entry, HasCall, IsDriven, IsRefused, IsRun, IsStep, IsStopped, IsTurn, KernelState, Moves, RecordKey, Step, answer_told, call_at, call_of, with_call}
+use Rattle.interleavings.specs.Runs.{AreOfSeats, Happens, IsOfSeat, IsSeatOf, Runs}
+use Rattle.interleavings.specs.Playing.{AreOutcomes, MayCome, call_along, call_behind, call_left, is_mark, is_stop, seat_of, tells_failure, unless_over}
+use Rattle.interleavings.specs.declared.event.Event.{Event}
+use Rattle.interleavings.specs.declared.event.Event.TheVariants as events
+use Rattle.interleavings.specs.declared.event.Outcome.{Outcome}
+use Rattle.interleavings.specs.declared.event.Outcome.TheVariants as outcomes
+
+-- the call of a seat
+abbrev pub call_on : {K : Type 0} → ℕ → KernelState K → Option Call
+call_on seat k = call_of (call_at k.seats seat)
+
+pub none_at : (at : Option ActiveView) → call_of at ≡ None → at ≡ None
+none_at None none = refl
+none_at (Some a) none = absurd cc
+
+-- ---- so many places
+
+pub stop_same : {K : Type 0} {X : Type 0} (get : KernelState K → X) (old new : KernelState K) → IsStopped old new →
+    ((journal : List Entry) (room : ℕ) → get (record old { journal = journal; stopped = true; room = room }) ≡ get old) →
+    (b : Bool) → old.stopped ≡ b → get new ≡ get old
+stop_same get old new stops kept true is = ap get (stops.again is)
+stop_same get old new stops kept false is = ap get (stops.first is) ∙ kept (old.journal ++ Stopped ∷ []) new.room
+
+pub event_places : {K : Type 0} (hash : RecordKey → ℕ) (e : Event) (o : Outcome) (old new : KernelState K) →
+    Happens hash e o old new → length new.seats ≡ length old.seats
+event_places {K} hash (events.Begin seat call) outcomes.Begun old new has =
+    ap (λ (k : KernelState K). length k.seats) has.is ∙ length-with_call old.seats seat (Some has.active)
+event_places {K} hash (events.Begin seat call) (outcomes.Refused back fault) old new is =
+    ap (λ (k : KernelState K). length k.seats) is.same
+event_places hash (events.Step seat) (outcomes.Stepped did) old new step =
+    ap length step.turn.run.seats ∙ length-with_call old.seats seat (call_at new.seats seat)
+event_places hash (events.Drive seat) (outcomes.Driven did) old new drives =
+    ap length drives.run.seats ∙ length-with_call old.seats seat (call_at new.seats seat)
+event_places {K} hash events.Stop outcomes.Stopped old new stops =
+    stop_same (λ (k : KernelState K). length k.seats) old new stops (λ journal room. refl) old.stopped refl
+event_places hash _ _ old new never = absurd never
+
+-- ---- a step, and a drive
+
+module _ {K : Type 0} (hash : RecordKey → ℕ) (seat : ℕ) (old : KernelState K) where
+  pub turn_leaves : (did : Step) (new : KernelState K) → IsTurn seat did old new → (b : Bool) → is_end did ≡ b →
+      call_on seat new ≡ (if b then None else call_on seat old)
+  turn_leaves did new turn true is = ap call_of (turn.over is)
+  turn_leaves did new turn false is = turn.goes is
+
+  pub moves_leave : (moves : ℕ) (now : KernelState K) → Moves hash seat moves old now →
+      call_on seat now ≡ call_on seat old
+  moves_leave zero now same = ap (call_on seat) same
+  moves_leave (suc n) now moved = moved.step.turn.goes refl ∙ moves_leave n moved.before moved.stands
+
+  -- and no failure
+  pub moves_fail_not : (moves : ℕ) (now : KernelState K) → Moves hash seat moves old now → now.failed ≡ old.failed
+  moves_fail_not zero now same = ap (λ (k : KernelState K). k.failed) same
+  moves_fail_not (suc n) now moved =
+      moved.step.turn.failed ∙ or_nothing moved.before.failed ∙ moves_fail_not n moved.before moved.stands
+    where
+      or_nothing : (b : Bool) → (b || false) ≡ b
+      or_nothing true = refl
+      or_nothing false = refl
+
+pub or_false : (b : Bool) → (b || false) ≡ b
+or_false true = refl
+or_false false = refl
+
+pub or_true : (b : Bool) → (b || true) ≡ true
+or_true true = refl
+or_true false = refl
+
+pub or_or : (a b c : Bool) → ((a || b) || c) ≡ (a || (b || c))
+or_or true b c = refl
+or_or false b c = refl
+
+module _ {K : Type 0} (hash : RecordKey → ℕ) (seat : ℕ) (did : Step) (old new : KernelState K)
+    (driven : IsDriven hash seat did old new) where
+  still : call_on seat driven.before ≡ call_on seat old
+  still = moves_leave hash seat old driven.moves driven.before driven.moved
+
+  pub drive_leaves : call_on seat new ≡ unless_over did (call_on seat old)
+  drive_leaves = elim driven.ends [
+    | inl rests ↦ turn_leaves hash seat driven.before did new rests.step.turn (is_end did) refl
+        ∙ ap (unless_over did) still
+    | inr spent ↦ ap (call_on seat) spent.marked ∙ still
+        ∙ ap (λ (d : Step). unless_over d (call_on seat old)) (sym spent.told)
+  ]
+
+  pub drive_fails : new.failed ≡ (old.failed || is_failure did)
+  drive_fails = elim driven.ends [
+    | inl rests ↦ rests.step.turn.failed ∙ ap (λ (b : Bool). b || is_failure did)
+        (moves_fail_not hash seat old driven.moves driven.before driven.moved)
+    | inr spent ↦ ap (λ (k : KernelState K). k.failed) spent.marked ∙ sym (or_true old.failed)
+        ∙ ap (λ (d : Step). old.failed || is_failure d) (sym spent.told)
+  ]
+
+  -- it is idle where there is no call
+  pub idle_driven : (did ≡ steps.Idle) ↔ (call_on seat old ≡ None)
+  idle_driven = elim driven.ends [
+    | inl rests ↦ (
+      λ idle. sym still ∙ ap call_of (rests.step.turn.idle.0 idle),
+      λ none. rests.step.turn.idle.1 (none_at (call_at driven.before.seats seat) (still ∙ none)),
+    )
+    | inr spent ↦ (
+      λ idle. absurd (not_failed (sym spent.told ∙ idle)),
+      λ none. absurd (unmoved driven.moves spent.most driven.before driven.moved none),
+    )
+  ]
+    where
+      not_failed : failed ≡ steps.Idle → ⊥
+      not_failed clash = cc
+
+      unmoved : (moves : ℕ) → moves ≡ 4000000 → (now : KernelState K) → Moves hash seat moves old now →
+          call_on seat old ≡ None → ⊥
+      unmoved zero most now moved none = omega (arith, most)
+      unmoved (suc n) most now moved none =
+          let idle = moved.step.turn.idle.1 (none_at (call_at moved.before.seats seat)
+          (moves_leave hash seat old n moved.before moved.stands ∙ none)) in
+          cc
+
+  pub drive_rests : IsMove did → ⊥
+  drive_rests moves = elim driven.ends [
+    | inl rests ↦ rests.rests moves
+    | inr spent ↦ subst IsMove spent.told moves
+  ]
+
+-- ---- whichever seat it is
+
+same_if : (b : Bool) (now was : Option Call) → now ≡ was → now ≡ (if b then was else was)
+same_if true now was same = same
+same_if false now was same = same
+
+begun_if : {K : Type 0} (seat other : ℕ) (call : Call) (old new : KernelState K) → IsSeatOf (length old.seats) other →
+    HasCall other call old new → (b : Bool) → (other == seat) ≡ b →
+    call_on seat new ≡ (if b then Some call else call_on seat old)
+begun_if {K} seat other call old new is has true same =
+    ap (call_on seat) has.is
+    ∙ ap (λ (n : ℕ). call_of (call_at (with_call old.seats other (Some has.active)) n)) (sym (eqb-true other seat same))
+    ∙ ap call_of (at_same old.seats other (Some has.active) is.0 is.1)
+    ∙ ap (λ (c : Call). Some c) has.begun.begins.call_is
+begun_if {K} seat other call old new is has false same =
+    ap (call_on seat) has.is
+    ∙ ap call_of (at_other old.seats other seat (Some has.active) (λ is. eqb-false other seat same (sym is)))
+
+ran_if : {K : Type 0} (seat other : ℕ) (did : Step) (old new : KernelState K) →
+    call_on other new ≡ unless_over did (call_on other old) → IsRun other (answer_told did) old new →
+    (b : Bool) → (other == seat) ≡ b →
+    call_on seat new ≡ (if b then unless_over did (call_on seat old) else call_on seat old)
+ran_if {K} seat other did old new own run true same =
+    subst (λ (n : ℕ). call_on n new ≡ unless_over did (call_on n old)) (eqb-true other seat same) own
+ran_if {K} seat other did old new own run false same =
+    ap call_of (ap (λ (seats : List (Option ActiveView)). call_at seats seat) run.seats
+    ∙ at_other old.seats other seat (call_at new.seats other) (λ is. eqb-false other seat same (sym is)))
+
+pub event_leaves : {K : Type 0} (hash : RecordKey → ℕ) (seat : ℕ) (e : Event) (o : Outcome) (old new : KernelState K) →
+    IsOfSeat (length old.seats) e → Happens hash e o old new →
+    call_on seat new ≡ call_left seat e o (call_on seat old)
+event_leaves hash seat (events.Begin other call) outcomes.Begun old new is has =
+    begun_if seat other call old new is has (other == seat) refl
+event_leaves hash seat (events.Begin other call) (outcomes.Refused back fault) old new is refused =
+    same_if (other == seat) (call_on seat new) (call_on seat old) (ap (call_on seat) refused.same)
+event_leaves hash seat (events.Step other) (outcomes.Stepped did) old new is step =
+    ran_if seat other did old new (turn_leaves hash other old did new step.turn (is_end did) refl) step.turn.run
+    (other == seat) refl
+event_leaves hash seat (events.Drive other) (outcomes.Driven did) old new is drives =
+    ran_if seat other did old new (drive_leaves hash other did old new drives.driven) drives.run (other == seat) refl
+event_leaves hash seat events.Stop outcomes.Stopped old new is stops =
+    stop_same (call_on seat) old new stops (λ journal room. refl) old.stopped refl
+event_leaves hash seat _ _ old new is never = absurd never
+
+-- ---- one event after the other
+
+module _ {K : Type 0} (hash : RecordKey → ℕ) where
+  seats_behind : (e : Event) (es : List Event) (o : Outcome) (old new : KernelState K) → Happens hash e o old new →
+      AreOfSeats (length old.seats) (e ∷ es) → AreOfSeats (length new.seats) es
+  seats_behind e es o old new happens are =
+      subst (λ (n : ℕ). AreOfSeats n es) (sym (event_places hash e o old new happens))
+      (All-tail (IsOfSeat (length old.seats)) e es are)
+
+  pub leaves_along : (seat : ℕ) (es : List Event) (os : List Outcome) (old new : KernelState K) →
+      AreOfSeats (length old.seats) es → Runs hash es os old new →
+      call_on seat new ≡ call_along seat (call_on seat old) es os
+  leaves_along seat [] [] old new are same = ap (call_on seat) same
+  leaves_along seat [] (o ∷ os) old new are never = absurd never
+  leaves_along seat (e ∷ es) [] old new are never = absurd never
+  leaves_along seat (e ∷ es) (o ∷ os) old new are runs =
+      leaves_along seat es os runs.between new (seats_behind e es o old runs.between runs.first are) runs.rest
+      ∙ ap (λ (c : Option Call). call_along seat c es os) (event_leaves hash seat e o old runs.between
+      (All-head (IsOfSeat (length old.seats)) e es are) runs.first)
+
+  may_come : (e : Event) (o : Outcome) (old new : KernelState K) (under_way : Option Call) →
+      under_way ≡ call_on (seat_of e) old → Happens hash e o old new → MayCome e o under_way
+  may_come (events.Begin seat call) outcomes.Begun old new under_way same has = same ∙ ap call_of has.may.free
+  may_come (events.Begin seat call) (outcomes.Refused back fault) old new under_way same refused = (
+    refused.back,
+    λ busy none. (subst (Refuses seat old) busy refused.cause).1
+        (none_at (call_at old.seats seat) (sym same ∙ none)),
+  )
+  may_come (events.Step seat) (outcomes.Stepped did) old new under_way same step = (
+    λ idle. same ∙ ap call_of (step.turn.idle.0 idle),
+    λ none. step.turn.idle.1 (none_at (call_at old.seats seat) (sym same ∙ none)),
+  )
+  may_come (events.Drive seat) (outcomes.Driven did) old new under_way same drives =
+      let idle = idle_driven hash seat did old new drives.driven in
+      ((λ is. same ∙ idle.0 is, λ none. idle.1 (sym same ∙ none)), drive_rests hash seat did old new drives.driven)
+  may_come events.Stop outcomes.Stopped old new under_way same stops = tt
+  may_come _ _ old new under_way same never = absurd never
+
+  pub come_along : (es : List Event) (os : List Outcome) (old new : KernelState K) (under_way : ℕ → Option Call) →
+      ((seat : ℕ) → under_way seat ≡ call_on seat old) → AreOfSeats (length old.seats) es → Runs hash es os old new →
+      AreOutcomes under_way es os
+  come_along [] [] old new under_way same are runs = tt
+  come_along [] (o ∷ os) old new under_way same are never = absurd never
+  come_along (e ∷ es) [] old new under_way same are never = absurd never
+  come_along (e ∷ es) (o ∷ os) old new under_way same are runs = (
+    may_come e o old runs.between (under_way (seat_of e)) (same (seat_of e)) runs.first,
+    come_along es os runs.between new (λ seat. call_left seat e o (under_way seat))
+        (λ seat. ap (call_left seat e o) (same seat) ∙ sym (event_leaves hash seat e o old runs.between
+        (All-head (IsOfSeat (length old.seats)) e es are) runs.first))
+        (seats_behind e es o old runs.between runs.first are) runs.rest,
+  )
+
+  -- ---- failures
+
+  event_fails : (e : Event) (o : Outcome) (old new : KernelState K) → Happens hash e o old new →
+      new.failed ≡ (old.failed || tells_failure o)
+  event_fails (events.Begin seat call) outcomes.Begun old new has =
+      ap (λ (k : KernelState K). k.failed) has.is ∙ sym (or_false old.failed)
+  event_fails (events.Begin seat call) (outcomes.Refused back fault) old new refused =
+      ap (λ (k : KernelState K). k.failed) refused.same ∙ sym (or_false old.failed)
+  event_fails (events.Step seat) (outcomes.Stepped did) old new step = step.turn.failed
+  event_fails (events.Drive seat) (outcomes.Driven did) old new drives = drive_fails hash seat did old new drives.driven
+  event_fails events.Stop outcomes.Stopped old new stops =
+      stop_same (λ (k : KernelState K). k.failed) old new stops (λ journal room. refl) old.stopped refl
+      ∙ sym (or_false old.failed)
+  event_fails _ _ old new never = absurd never
+
+  pub fails_along : (es : List Event) (os : List Outcome) (old new : KernelState K) → Runs hash es os old new →
+      new.failed ≡ (old.failed || list_any tells_failure os)
+  fails_along [] [] old new same = ap (λ (k : KernelState K). k.failed) same ∙ sym (or_false old.failed)
+  fails_along [] (o ∷ os) old new never = absurd never
+  fails_along (e ∷ es) [] old new never = absurd never
+  fails_along (e ∷ es) (o ∷ os) old new runs =
+      fails_along es os runs.between new runs.rest
+      ∙ ap (λ (b : Bool). b || list_any tells_failure os) (event_fails e o old runs.between runs.first)
+      ∙ or_or old.failed (tells_failure o) (list_any tells_failure os)
+
+-- ---- the stop
+
+no_marks : (seat : ℕ) (es : List Entry) → AreOf seat es → list_any is_mark es ≡ false
+no_marks seat [] all = refl
+no_marks seat (Decided other call answer ∷ es) all = no_marks seat es all.1
+no_marks seat (Stopped ∷ es) all = absurd (never all.0)
+  where
+    never : ◌≡◌ {A = Bool} false true → ⊥
+    never clash = cc
+
+marks_append : (xs ys : List Entry) → list_any is_mark (xs ++ ys) ≡ (list_any is_mark xs || list_any is_mark ys)
+marks_append [] ys = refl
+marks_append (x ∷ xs) ys = ap (λ (b : Bool). is_mark x || b) (marks_append xs ys)
+    ∙ sym (or_or (is_mark x) (list_any is_mark xs) (list_any is_mark ys))
+
+abbrev marks : {K : Type 0} → KernelState K → Bool
+marks k = list_any is_mark k.journal
+
+-- it stands in the journal where the system is stopped
+pub record IsMarkedRight {K : Type 0} (stops : Bool) (old new : KernelState K) : Type 0 where
+  pub marked : marks old ≡ old.stopped → marks new ≡ new.stopped
+  pub stopped : new.stopped ≡ (old.stopped || stops)
+
+ran_marked : {K : Type 0} (seat : ℕ) (answer : Option Answer) (old new : KernelState K) → IsRun seat answer old new →
+    IsMarkedRight false old new
+ran_marked seat answer old new run = record {
+  marked = λ was. ap (list_any is_mark) run.journal ∙ marks_append old.journal run.added
+      ∙ ap (λ (b : Bool). marks old || b) (no_marks seat run.added (added_is_of seat answer old new run))
+      ∙ or_false (marks old) ∙ was ∙ sym run.rest.stopped;
+  stopped = run.rest.stopped ∙ sym (or_false old.stopped);
+}
+
+same_marked : {K : Type 0} (old new : KernelState K) → new.journal ≡ old.journal → new.stopped ≡ old.stopped →
+    IsMarkedRight false old new
+same_marked old new journal stopped = record {
+  marked = λ was. ap (list_any is_mark) journal ∙ was ∙ sym stopped;
+  stopped = stopped ∙ sym (or_false old.stopped);
+}
+
+stop_marked : {K : Type 0} (old new : KernelState K) → IsStopped old new → (b : Bool) → old.stopped ≡ b →
+    IsMarkedRight true old new
+stop_marked {K} old new stops true is = record {
+  marked = λ was. ap (λ (k : KernelState K). marks k) (stops.again is) ∙ was
+      ∙ sym (ap (λ (k : KernelState K). k.stopped) (stops.again is));
+  stopped = ap (λ (k : KernelState K). k.stopped) (stops.again is) ∙ is ∙ sym (or_true old.stopped);
+}
+stop_marked {K} old new stops false is = record {
+  marked = λ was. ap (λ (k : KernelState K). marks k) (stops.first is) ∙ marks_append old.journal (Stopped ∷ [])
+      ∙ or_true (marks old) ∙ sym (ap (λ (k : KernelState K). k.stopped) (stops.first is));
+  stopped = ap (λ (k : KernelState K). k.stopped) (stops.first is) ∙ sym (or_true old.stopped);
+}
+
+event_marked : {K : Type 0} (hash : RecordKey → ℕ) (e : Event) (o : Outcome) (old new : KernelState K) →
+    Happens hash e o old new → IsMarkedRight (is_stop e) old new
+event_marked {K} hash (events.Begin seat call) outcomes.Begun old new has =
+    same_marked old new (ap (λ (k : KernelState K). k.journal) has.is) (ap (λ (k : KernelState K). k.stopped) has.is)
+event_marked {K} hash (events.Begin seat call) (outcomes.Refused back fault) old new refused =
+    same_marked old new (ap (λ (k : KernelState K). k.journal) refused.same)
+    (ap (λ (k : KernelState K). k.stopped) refused.same)
+event_marked hash (events.Step seat) (outcomes.Stepped did) old new step =
+    ran_marked seat (answer_told did) old new step.turn.run
+event_marked hash (events.Drive seat) (outcomes.Driven did) old new drives =
+    ran_marked seat (answer_told did) old new drives.run
+event_marked hash events.Stop outcomes.Stopped old new stops = stop_marked old new stops old.stopped refl
+event_marked hash _ _ old new never = absurd never
+
+pub marked_along : {K : Type 0} (hash : RecordKey → ℕ) (es : List Event) (os : List Outcome) (old new : KernelState K) →
+    Runs hash es os old new → IsMarkedRight (list_any is_stop es) old new
+marked_along {K} hash [] [] old new same =
+    same_marked old new (ap (λ (k : KernelState K). k.journal) same) (ap (λ (k : KernelState K). k.stopped) same)
+marked_along hash [] (o ∷ os) old new never = absurd never
+marked_along hash (e ∷ es) [] old new never = absurd never
+marked_along hash (e ∷ es) (o ∷ os) old new runs =
+    let first = event_marked hash e o old runs.between runs.first in
+    let rest = marked_along hash es os runs.between new runs.rest in
+    record {
+      marked = λ was. rest.marked (first.marked was);
+      stopped = rest.stopped ∙ ap (λ (b : Bool). b || list_any is_stop es) first.stopped
+          ∙ or_or old.stopped (is_stop e) (list_any is_stop es);
+    }
+
+-- ---- who sits at the seats, and whether the device is honest
+
+pub record KeepsPlaces {K : Type 0} (old new : KernelState K) : Type 0 where
+  pub callers : new.callers ≡ old.callers
+  pub honest : new.pool.honest ≡ old.pool.honest
+
+same_places : {K : Type 0} (old new : KernelState K) → new.callers ≡ old.callers →
+    new.pool.honest ≡ old.pool.honest → KeepsPlaces old new
+same_places old new callers honest = record { callers = callers; honest = honest }
+
+event_keeps_places : {K : Type 0} (hash : RecordKey → ℕ) (e : Event) (o : Outcome) (old new : KernelState K) →
+    Happens hash e o old new → KeepsPlaces old new
+event_keeps_places {K} hash (events.Begin seat call) outcomes.Begun old new has =
+    same_places old new (ap (λ (k : KernelState K). k.callers) has.is)
+    (ap (λ (k : KernelState K). k.pool.honest) has.is)
+event_keeps_places {K} hash (events.Begin seat call) (outcomes.Refused back fault) old new refused =
+    same_places old new (ap (λ (k : KernelState K). k.callers) refused.same)
+    (ap (λ (k : KernelState K). k.pool.honest) refused.same)
+event_keeps_places hash (events.Step seat) (outcomes.Stepped did) old new step =
+    same_places old new step.turn.run.rest.callers step.turn.run.rest.honest
+event_keeps_places hash (events.Drive seat) (outcomes.Driven did) old new drives =
+    same_places old new drives.run.rest.callers drives.run.rest.honest
+event_keeps_places {K} hash events.Stop outcomes.Stopped old new stops =
+    same_places old new
+    (stop_same (λ (k : KernelState K). k.callers) old new stops (λ journal room. refl) old.stopped refl)
+    (stop_same (λ (k : KernelState K). k.pool.honest) old new stops (λ journal room. refl) old.stopped refl)
+event_keeps_places hash _ _ old new never = absurd never
+
+pub places_along : {K : Type 0} (hash : RecordKey → ℕ) (es : List Event) (os : List Outcome)
+    (old new : KernelState K) → Runs hash es os old new → KeepsPlaces old new
+places_along {K} hash [] [] old new same =
+    same_places old new (ap (λ (k : KernelState K). k.callers) same) (ap (λ (k : KernelState K). k.pool.honest) same)
+places_along hash [] (o ∷ os) old new never = absurd never
+places_along hash (e ∷ es) [] old new never = absurd never
+places_along hash (e ∷ es) (o ∷ os) old new runs =
+    let first = event_keeps_places hash e o old runs.between runs.first in
+    let rest = places_along hash es os runs.between new runs.rest in
+    same_places old new (rest.callers ∙ first.callers) (rest.honest ∙ first.honest)

@@ -1,0 +1,164 @@
+//! The file of two queues as a kernel leaves it, each time with one thing wrong: it is not opened,
+//! and comes back as it is.
+
+use crate::cases::Left::{Bytes, Header};
+use crate::cases::{Case, close, page_of, run};
+use crate::rows::CALLERS;
+use crate::splitting::{FULL_BUCKET, SPLIT};
+use bucket_page::NumberKey;
+use interleaving_core::Kernel;
+use page_device::{MemDevice, PAGE_BYTES, PAYLOAD_BYTES, PageDevice, seal, unseal};
+use std::process::Abort;
+use std::test::Fail;
+
+/// The pages of the file.
+const PAGES: u32 = 288;
+
+/// Page 257 has the records with even numbers, page 258 those with odd ones.
+pub const TWO_BUCKETS: Case = Case {
+    pages: PAGES,
+    rows: &[&FULL_BUCKET, &SPLIT],
+    left: &[Bytes(257, 2500), Bytes(258, 2235), Header(1, 259)],
+};
+
+/// A byte that is changed: its page, its place in the payload, and what it becomes.
+#[derive(Clone, Copy)]
+struct Edit(u32, usize, u8);
+
+/// No change: page 0 is of kind 1.
+const NONE: Edit = Edit(0, 0, 1);
+
+/// Changes by docs/FORMAT.md, each of which is sealed again, and the number that is told; 0 where
+/// the file is opened.
+const ROWS: [([Edit; 2], u8); 33] = [
+    // nothing; entry 2 is 9999, which nothing reads
+    ([NONE, NONE], 0),
+    ([Edit(1, 26, 0x27), Edit(1, 27, 0x0f)], 0),
+    // the version, the magic, the depth, the number of pages
+    ([Edit(0, 1, 1), NONE], 42),
+    ([Edit(0, 4, b'm'), NONE], 41),
+    ([Edit(0, 2, 18), NONE], 41),
+    ([Edit(0, 15, 31), NONE], 41),
+    ([Edit(0, 15, 33), NONE], 22),
+    // of 258: pattern 2; the first two records exchanged; the last byte; kind 6
+    ([Edit(258, 7, 2), NONE], 40),
+    ([Edit(258, 30, 9), Edit(258, 49, 7)], 40),
+    ([Edit(258, 4063, 1), NONE], 40),
+    ([Edit(258, 0, 6), NONE], 40),
+    // page 2 is a free page
+    ([Edit(2, 0, 5), NONE], 40),
+    // the next of 258 is 257, 5, 259, 288, 9999; its pattern is 0
+    ([Edit(258, 10, 1), Edit(258, 11, 1)], 70),
+    ([Edit(258, 11, 5), NONE], 70),
+    ([Edit(258, 10, 1), Edit(258, 11, 3)], 70),
+    ([Edit(258, 10, 1), Edit(258, 11, 0x20)], 70),
+    ([Edit(258, 10, 0x27), Edit(258, 11, 0x0f)], 70),
+    ([Edit(258, 7, 0), NONE], 70),
+    // the first free page is 0, 288; the link of 287 is 259, 288, 9999; 287 is a tombstone
+    ([Edit(0, 18, 0), Edit(0, 19, 0)], 71),
+    ([Edit(0, 19, 0x20), NONE], 71),
+    ([Edit(287, 6, 1), Edit(287, 7, 3)], 71),
+    ([Edit(287, 6, 1), Edit(287, 7, 0x20)], 71),
+    ([Edit(287, 6, 0x27), Edit(287, 7, 0x0f)], 71),
+    ([Edit(287, 0, 4), NONE], 71),
+    // entry 1 is 257, 288; the depth is 0, 2; there are 3 buckets of local depth 1
+    ([Edit(1, 23, 1), NONE], 72),
+    ([Edit(1, 23, 0x20), NONE], 72),
+    ([Edit(0, 2, 0), NONE], 72),
+    ([Edit(0, 2, 2), NONE], 72),
+    ([Edit(0, 27, 3), NONE], 72),
+    // key 7 is of queue 0, is key 8
+    ([Edit(258, 34, 0), NONE], 43),
+    ([Edit(258, 30, 8), NONE], 74),
+    // queue 1 has 3 messages, or behind its message 4 stands its message 1
+    ([Edit(257, 70, 3), NONE], 73),
+    ([Edit(257, 1431, 1), NONE], 73),
+];
+
+/// The file of two queues.
+fn two_buckets(rt: &(impl Abort + AllocGlobal)) -> Result<MemDevice, Fail> {
+    run(rt, NumberKey, TWO_BUCKETS)
+}
+
+/// The number by which the file on a device is refused, 0 where it is opened; and the device.
+fn opens(rt: &(impl Abort + AllocGlobal), device: MemDevice) -> (MemDevice, u8) {
+    match Kernel::open(rt.alloc(), device, NumberKey, &CALLERS, PAGES as usize) {
+        Ok(kernel) => (close(rt, kernel).device, 0),
+        Err((device, fault)) => (device, fault.number()),
+    }
+}
+
+/// Changes a byte, and seals its page again.
+fn change(rt: &impl Abort, device: &mut MemDevice, edit: Edit) -> Result<(), Fail> {
+    let Edit(page, place, byte) = edit;
+    let mut payload = unseal(page, &page_of(device, page)?)?;
+    assert!(rt; place < PAYLOAD_BYTES);
+    payload[place] = byte;
+    device.write(page, &seal(page, &payload))?;
+    Ok(())
+}
+
+#[test]
+fn a_changed_file_is_refused_by_its_number(rt: HostRuntime) -> Result<(), Fail> {
+    let mut device = two_buckets(&rt)?;
+    for (place, ([first, second], want)) in ROWS.iter().enumerate() {
+        let whole = [
+            page_of(&mut device, first.0)?,
+            page_of(&mut device, second.0)?,
+        ];
+        change(&rt, &mut device, *first)?;
+        change(&rt, &mut device, *second)?;
+        let changed = [
+            page_of(&mut device, first.0)?,
+            page_of(&mut device, second.0)?,
+        ];
+        let (mut back, number) = opens(&rt, device);
+        assert!(rt; number == *want, "row {place}: {number}");
+        assert!(rt; changed == [page_of(&mut back, first.0)?, page_of(&mut back, second.0)?]);
+        back.write(first.0, &whole[0])?;
+        back.write(second.0, &whole[1])?;
+        device = back;
+    }
+    Ok(())
+}
+
+#[test]
+fn a_page_that_is_not_sealed_again_is_refused(rt: HostRuntime) -> Result<(), Fail> {
+    let mut device = two_buckets(&rt)?;
+    for page in [0, 1, 256, 257, 258, 259, 287] {
+        let whole = page_of(&mut device, page)?;
+        for place in [0, 2000, 4063, 4064, 4095] {
+            let mut spoilt = whole;
+            spoilt[place] ^= 1;
+            device.write(page, &spoilt)?;
+            let (mut back, number) = opens(&rt, device);
+            assert!(rt; number == 21, "byte {place} of page {page}: {number}");
+            back.write(page, &whole)?;
+            device = back;
+        }
+    }
+    Ok(())
+}
+
+#[test]
+fn a_file_cut_at_any_page_or_longer_is_refused(rt: HostRuntime) -> Result<(), Fail> {
+    let mut whole = two_buckets(&rt)?;
+    let mut device = MemDevice::new(rt.alloc());
+    for page in 0..PAGES {
+        let (back, number) = opens(&rt, device);
+        assert!(rt; number == 22, "{page} pages: {number}");
+        device = back;
+        device.extend(&page_of(&mut whole, page)?)?;
+    }
+    let (back, number) = opens(&rt, device);
+    assert!(rt; number == 0, "whole: {number}");
+    device = back;
+    device.extend(&[0; PAGE_BYTES])?;
+    for more in [[0; PAGE_BYTES], [0xa5; PAGE_BYTES], page_of(&mut whole, 0)?] {
+        device.write(PAGES, &more)?;
+        let (back, number) = opens(&rt, device);
+        assert!(rt; number == 41, "longer: {number}");
+        device = back;
+    }
+    Ok(())
+}

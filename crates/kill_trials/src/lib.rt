@@ -1,0 +1,6 @@
+//! Sessions on a file that are killed, cut off by a crash, or whose transfers fail.
+
+#![tactic(auto)]
+
+#[cfg(test)]
+mod sessions;

@@ -1,0 +1,7 @@
+-- A write begins without locks.
+use Rattle.std.proofs.Common.{[], ap}
+use Rattle.record_access.specs.Accesses.{AccessView, access_locks}
+use Rattle.migration.proofs.writer.replace.Goals as goal
+
+pub drive-requires-clause-begun : goal.drive-requires-clause-begun
+drive-requires-clause-begun g c = ap (λ (a : AccessView). access_locks a []) c.write-access.ensures.value

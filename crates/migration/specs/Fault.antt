@@ -1,0 +1,31 @@
+-- The numbers of faults (docs/FAULTS.md).
+use Rattle.std.specs.Prelude.{ℕ}
+use Rattle.faults.specs.declared.TheConstants.{FAILED, NO_MEMORY, NO_ROOM}
+use Rattle.buffer_pool.specs.Fault as pool
+use Rattle.file_check.specs.Fault as check
+use Rattle.file_pages.specs.declared.fault.FileFault.{FileFault}
+use Rattle.file_pages.specs.declared.fault.FileFault.TheVariants as file
+use Rattle.page_device.specs.Fault as device
+use Rattle.migration.specs.declared.fault.MakingFault.{MakingFault}
+use Rattle.migration.specs.declared.fault.MakingFault.TheVariants as makings
+use Rattle.migration.specs.declared.fault.MigrationFault.{MigrationFault}
+use Rattle.migration.specs.declared.fault.MigrationFault.TheVariants as faults
+
+-- the number that a program prints for what is wrong with a new file
+abbrev pub making_number_of : MakingFault → ℕ
+making_number_of (makings.Device fault) = device.number_of fault
+making_number_of (makings.Pool fault) = pool.number_of fault
+making_number_of makings.NoRoom = NO_ROOM
+making_number_of makings.NoMemory = NO_MEMORY
+making_number_of (makings.Wrong fault) = check.number_of fault
+making_number_of makings.Failed = FAILED
+
+-- and for a fault
+abbrev pub number_of : MigrationFault → ℕ
+number_of (faults.Old fault) = check.number_of fault
+number_of (faults.New fault) = making_number_of fault
+
+-- the fault of a step on the pages
+abbrev pub of_file : FileFault → MakingFault
+of_file (file.Pool fault) = makings.Pool fault
+of_file file.Failed = makings.Failed

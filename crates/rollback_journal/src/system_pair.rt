@@ -1,0 +1,210 @@
+//! A file of the system, and its journal.
+
+use crate::layout::{
+    FoundHead, HEAD_BYTES, Head, IMAGE_BYTES, Sum, big_endian, chained, digest, image_at, page_at,
+    read_head, spell_head, spell_image,
+};
+use byteorder::{BigEndian, ByteOrder};
+use safe_device::page_device::{DIGEST_BYTES, MAX_PAGES, PAGE_BYTES, Page};
+use safe_device::{FoundJournal, PageImage, PagePair};
+use std::fs::OpenFile;
+use std::io::{self, ErrorKind};
+use std::os::unix::fs::FileExt;
+
+/// A file of the system and its journal, both open for reads and writes.
+///
+/// Nobody can know whether they are honest: no clause says which bytes a read of the system gives.
+/// So the members say nothing, and what is promised of an honest pair is not promised of this one.
+#[derive(Drop)]
+pub struct SystemPair<F: Drop> {
+    file: F,
+    journal: F,
+    pages: u32,
+    begun: Option<Begun>,
+}
+
+/// The journal of this session: how many images it holds, and the digest with which it ends.
+#[derive(Clone, Copy, Debug, Drop)]
+struct Begun {
+    images: u32,
+    sum: Sum,
+}
+
+impl<F: FileExt + OpenFile + Drop> SystemPair<F> {
+    /// Two open files. One with more pages than there can be shows one too many.
+    pub fn new(file: F, journal: F) -> io::Result<SystemPair<F>> {
+        let len = file.metadata()?.len();
+        let pages = (len / PAGE_BYTES as u64).min(MAX_PAGES as u64 + 1) as u32;
+        Ok(SystemPair {
+            file,
+            journal,
+            pages,
+            begun: None,
+        })
+    }
+
+    /// Whether the file holds whole pages.
+    pub fn is_whole(&self) -> io::Result<bool> {
+        Ok(self.file.metadata()?.len() % PAGE_BYTES as u64 == 0)
+    }
+
+    /// The digest of page 0, where there is one.
+    fn page_zero(&self) -> io::Result<Sum> {
+        let mut bytes = [0; PAGE_BYTES];
+        if self.pages > 0 {
+            self.file.read_exact_at(&mut bytes, 0)?;
+        }
+        Ok(digest(&bytes))
+    }
+
+    /// Writes the head of a journal in place of whatever stands there.
+    fn begin(&mut self, count: u32) -> io::Result<Begun> {
+        let head = Head {
+            count,
+            page_zero: self.page_zero()?,
+        };
+        let (bytes, sum) = spell_head(&head);
+        self.journal.set_len(0)?;
+        self.journal.write_all_at(&bytes, 0)?;
+        Ok(Begun { images: 0, sum })
+    }
+
+    /// Reads an image with the digest behind it.
+    fn read_image(&self, index: u32, page: &mut Page) -> io::Result<([u8; 4], Sum)> {
+        let at = image_at(index);
+        let mut number = [0; 4];
+        let mut sum = [0; DIGEST_BYTES];
+        self.journal.read_exact_at(&mut number, at)?;
+        self.journal.read_exact_at(page, at + 4)?;
+        self.journal
+            .read_exact_at(&mut sum, at + 4 + PAGE_BYTES as u64)?;
+        Ok((number, sum))
+    }
+
+    /// How many whole images stand after a head, from the first on, and whether one of them is of
+    /// page 0 with this digest.
+    fn count_images(&self, most: u32, first: Sum, page_zero: &Sum) -> io::Result<(u32, bool)> {
+        let mut before = first;
+        let mut has_page_zero = false;
+        let mut page = [0; PAGE_BYTES];
+        for index in 0..most {
+            let (number, sum) = self.read_image(index, &mut page)?;
+            if chained(&before, &number, &page) != sum {
+                return Ok((index, has_page_zero));
+            }
+            has_page_zero |= BigEndian::read_u32(&number) == 0 && digest(&page) == *page_zero;
+            before = sum;
+        }
+        Ok((most, has_page_zero))
+    }
+}
+
+impl<F: FileExt + OpenFile + Drop> PagePair for SystemPair<F> {
+    ghost use Rattle.std.specs.Prelude.{false, None, []};
+
+    ghost is_honest = { false };
+
+    ghost file = { λ _. [] };
+
+    ghost journal = { λ _. None };
+
+    ghost may_leave = { λ _ _. ⊥ };
+
+    ghost moment = { λ _. 0 };
+
+    ghost left_since = { λ _ _ _. ⊥ };
+
+    ghost seen_may_stay = { λ _ honest. absurd cc };
+
+    ghost counts_now = { λ _ _ _ _ now. now };
+
+    ghost only_now = { λ _ _ left. left };
+
+    fn pages(&self) -> u32 {
+        self.pages
+    }
+
+    fn load(&self, page: u32, into: &mut Page) -> io::Result<()> {
+        self.file.read_exact_at(into, page_at(page))
+    }
+
+    fn store(&mut self, page: u32, bytes: &Page) -> io::Result<()> {
+        if page >= self.pages {
+            return Err(ErrorKind::UnexpectedEof.into());
+        }
+        self.file.write_all_at(bytes, page_at(page))
+    }
+
+    fn extend(&mut self, bytes: &Page) -> io::Result<()> {
+        self.file.write_all_at(bytes, page_at(self.pages))?;
+        self.pages = self.pages.saturating_add(1);
+        Ok(())
+    }
+
+    fn cut(&mut self, pages: u32) -> io::Result<()> {
+        self.file.set_len(page_at(pages))?;
+        self.pages = pages;
+        Ok(())
+    }
+
+    fn sync_file(&mut self) -> io::Result<()> {
+        self.file.sync_all()
+    }
+
+    fn find_journal(&self) -> io::Result<Option<FoundJournal>> {
+        let len = self.journal.metadata()?.len();
+        if len < HEAD_BYTES as u64 {
+            return Ok(None);
+        }
+        let mut bytes = [0; HEAD_BYTES];
+        self.journal.read_exact_at(&mut bytes, 0)?;
+        let (head, sum) = match read_head(&bytes) {
+            FoundHead::Torn => return Ok(None),
+            FoundHead::OtherVersion => {
+                return Err(ErrorKind::Unsupported.into());
+            }
+            FoundHead::Whole(head, sum) => (head, sum),
+        };
+        let most = ((len - HEAD_BYTES as u64) / IMAGE_BYTES as u64).min(u32::MAX as u64) as u32;
+        let (images, has_page_zero) = self.count_images(most, sum, &head.page_zero)?;
+        if !has_page_zero && self.page_zero()? != head.page_zero {
+            return Err(ErrorKind::InvalidData.into());
+        }
+        Ok(Some(FoundJournal {
+            count: head.count,
+            images,
+        }))
+    }
+
+    fn load_image(&self, index: u32, into: &mut Page) -> io::Result<u32> {
+        let (number, _) = self.read_image(index, into)?;
+        Ok(BigEndian::read_u32(&number))
+    }
+
+    fn append_images(&mut self, count: u32, images: &[PageImage]) -> io::Result<()> {
+        let mut begun = match self.begun {
+            Some(begun) => begun,
+            None => self.begin(count)?,
+        };
+        // What stands after a failed addition is not whole, and nothing more is added.
+        self.begun = Some(begun);
+        for image in images {
+            let number = big_endian(image.page);
+            begun.sum = chained(&begun.sum, &number, &image.bytes);
+            let bytes = spell_image(&number, &image.bytes, &begun.sum);
+            self.journal.write_all_at(&bytes, image_at(begun.images))?;
+            begun.images = begun.images.saturating_add(1);
+        }
+        self.begun = Some(begun);
+        Ok(())
+    }
+
+    fn end_journal(&mut self) -> io::Result<()> {
+        self.begun = None;
+        self.journal.set_len(0)
+    }
+
+    fn sync_journal(&mut self) -> io::Result<()> {
+        self.journal.sync_all()
+    }
+}

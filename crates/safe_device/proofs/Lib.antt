@@ -1,0 +1,7 @@
+mod DeviceLemmas
+mod Guarding
+mod Kept
+mod Moments
+mod Recovering
+mod Restoring
+mod Sessions

@@ -1,0 +1,25 @@
+-- What was recovered stands in the file.
+use Rattle.std.proofs.Common.{◌≡◌, ◌∙◌, ap, sym, refl, List, length, IsTrue}
+use Rattle.safe_device.specs.Device.{content_of}
+use Rattle.safe_device.specs.declared.journal.PageImage.{PageImage}
+use Rattle.safe_device.proofs.DeviceLemmas.{content_opened, opened_synced}
+use Rattle.safe_device.proofs.device.SafeDevice.new.Goals as goal
+
+pub returns : goal.returns
+returns g c =
+    let P = g.P.PagePair in
+    let count = c.pages-pages.result in
+    let pair = c.new.result.pair in
+    let items = c.in_ok-pending.ensures.items in
+    record {
+      pair = c.new.ensures.same;
+      content = λ honest.
+          ap (λ (l : List PageImage). content_of P.is_honest count l (P.file pair)) items
+          ∙ content_opened P.is_honest count (P.file pair)
+          (λ is. ap (λ (p : g.row.P.Denot). length (P.file p)) c.new.ensures.same
+          ∙ sym (c.pages-pages.ensures is)) honest
+          ∙ ap P.file c.new.ensures.same;
+      failed = refl;
+      usable = refl;
+      synced = opened_synced c.new.result.begun c.in_ok-pending.pending.items c.new.ensures.rest items;
+    }

@@ -1,0 +1,90 @@
+-- What a safe device shows, and what is true of it.
+use Rattle.std.specs.Prelude.{◌≡◌, ◌≤◌, ◌<◌, ℕ, Bool, true, false, not, List, [], ◌∷◌, length, replicate, Option, IsTrue, Result, IsOk, OnOk}
+use Rattle.safe_device.specs.declared.device.TheConstants.{MOST_PENDING}
+use Rattle.safe_device.specs.Crash.{LeavesOnly}
+use Rattle.safe_device.specs.Left.{Left, restored}
+use Rattle.safe_device.specs.Safe.{IsSafe, IsEither, StandsFor, committed}
+use Rattle.safe_device.specs.declared.guarded_file.GuardedFile.{GuardedFile}
+use Rattle.safe_device.specs.declared.journal.Journal.{Journal}
+use Rattle.safe_device.specs.declared.journal.PageImage.{PageImage}
+
+pub record DeviceState (P : Type 0) : Type 0 where
+  -- both files
+  pub pair : P
+  -- the pages as they were last written
+  pub content : List (List ℕ)
+  -- how many pages there are, and how many wait to be written to the file
+  pub pages : ℕ
+  pub pending : ℕ
+  -- how many transfers have failed
+  pub failed : ℕ
+  -- one failed that changes a file
+  pub is_broken : Bool
+  -- nothing was written since the last sync
+  pub is_synced : Bool
+
+-- the pages of the file, where each that waits was put in its place; of files that are not honest nothing is
+-- known but how many pages they have
+abbrev pub content_of : Bool → ℕ → List PageImage → List (List ℕ) → List (List ℕ)
+content_of true count pending file = restored count pending file
+content_of false count pending file = replicate count []
+
+abbrev pub is_synced : Bool → List PageImage → Bool
+is_synced begun [] = not begun
+is_synced begun (image ∷ pending) = false
+
+-- what is true of each device
+pub record IsSound {P : Type 0} (honest : Bool) (file : P → List (List ℕ)) (journal : P → Option Journal)
+    (may_leave : P → Left → Type 0) (safe : GuardedFile P) (count : ℕ) (is_broken : Bool) (room : ℕ) : Type 0 where
+  -- there is room for each page that waits
+  pub roomy : MOST_PENDING ≤ room
+  -- the file has all its pages, and no more until an addition has failed
+  pub many : IsTrue honest → count ≤ length (file safe.pair)
+  pub whole : IsTrue honest → is_broken ≡ false → length (file safe.pair) ≡ count
+  -- until a transfer has failed a crash leaves the pages of the last sync
+  pub safe_file : IsTrue honest → is_broken ≡ false → IsSafe file journal may_leave safe
+
+-- the device of a pair: nothing has failed, nothing waits
+pub record IsOpened {P : Type 0} (honest : Bool) (file : P → List (List ℕ)) (given : P) (device : DeviceState P) :
+    Type 0 where
+  pub pair : device.pair ≡ given
+  pub content : IsTrue honest → device.content ≡ file given
+  pub failed : device.failed ≡ 0
+  pub usable : device.is_broken ≡ false
+  pub synced : IsTrue device.is_synced
+
+-- what was written stands in the file, and a crash leaves what it left
+pub record IsWrittenOut {P : Type 0} (honest : Bool) (file : P → List (List ℕ)) (journal : P → Option Journal)
+    (old new : DeviceState P) : Type 0 where
+  pub usable : new.is_broken ≡ false
+  pub none : new.pending ≡ 0
+  pub failed : new.failed ≡ old.failed
+  pub written : IsTrue honest → file new.pair ≡ old.content
+  pub commits : IsTrue honest → committed file journal new.pair ≡ committed file journal old.pair
+
+-- A device that is broken asks nothing of its files. Until then a crash at any moment leaves the pages of the
+-- last sync; and where the call succeeds, they stay those.
+pub record StaysCommitted {P : Type 0} (honest : Bool) (file : P → List (List ℕ)) (journal : P → Option Journal)
+    (moment : P → ℕ) (left_since : P → ℕ → Left → Type 0) (succeeded : Bool) (old new : DeviceState P) : Type 0 where
+  pub broken : IsTrue old.is_broken → (new.pair ≡ old.pair) × IsTrue new.is_broken
+  pub any_moment : IsTrue honest → old.is_broken ≡ false
+      → LeavesOnly moment left_since old.pair new.pair (StandsFor (committed file journal old.pair))
+  pub stays : IsTrue honest → IsTrue succeeded
+      → committed file journal new.pair ≡ committed file journal old.pair
+
+-- A device that is broken asks nothing of its files. Until then a crash at any moment of a sync leaves the pages
+-- of the last one, or those that there are now; and where it succeeds, the latter.
+pub record Commits {P : Type 0} (honest : Bool) (file : P → List (List ℕ)) (journal : P → Option Journal)
+    (moment : P → ℕ) (left_since : P → ℕ → Left → Type 0) (succeeded : Bool) (old new : DeviceState P) : Type 0 where
+  pub broken : IsTrue old.is_broken → (new.pair ≡ old.pair) × IsTrue new.is_broken
+  pub any_moment : IsTrue honest → old.is_broken ≡ false
+      → LeavesOnly moment left_since old.pair new.pair (IsEither (committed file journal old.pair) old.content)
+  pub commits : IsTrue honest → IsTrue succeeded → committed file journal new.pair ≡ old.content
+
+-- one more page can wait, and a crash leaves what it left
+pub record HasRoom {P : Type 0} (honest : Bool) (file : P → List (List ℕ)) (journal : P → Option Journal)
+    (old new : DeviceState P) : Type 0 where
+  pub usable : new.is_broken ≡ false
+  pub room : new.pending < MOST_PENDING
+  pub failed : new.failed ≡ old.failed
+  pub commits : IsTrue honest → committed file journal new.pair ≡ committed file journal old.pair

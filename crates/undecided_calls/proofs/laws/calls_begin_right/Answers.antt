@@ -1,5 +1,0 @@
-use Rattle.undecided_calls.proofs.LawLemmas.{begin_right}
-use Rattle.undecided_calls.proofs.laws.calls_begin_right.Goals as goal
-
-pub returns : goal.returns
-returns c = begin_right
