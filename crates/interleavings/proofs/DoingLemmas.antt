@@ -14,18 +14,18 @@ use Rattle.step_rules.specs.Turns.{TurnsAt}
 use Rattle.step_rules.specs.declared.progress.Progress.TheVariants as progress
 use Rattle.interleavings.specs.Words.{ActiveView, Answer, Call, Caller, FileFault, KernelState, PoolState, Progress, RecordKey, State, Step, after as journal_after, answer_of_call, call_at, conclusion_of, is_fault, outcome, store_of}
 use Rattle.interleavings.specs.Doing.{DoesBy, LeavesAll, turn_of}
-use Rattle.interleavings.specs.Leading.{IsLedFrom, IsLedIn, calls_of}
+use Rattle.interleavings.specs.Refining.{Refines, RefinesIn, calls_of}
 use Rattle.interleavings.proofs.LeadLemmas.{machine}
 
 -- a kernel is led on by a step of this call
 pub record LeadsDoing {K : Type 0} (hash : RecordKey → ℕ) (base : State) (seat : ℕ) (by : ActiveView) (did : Step)
     (before : Change) (old new : KernelState K) : Type 0 where
   pub behind : Change
-  pub led : IsLedIn hash base new behind
+  pub led : RefinesIn hash base new behind
   pub does : DoesBy hash base seat by did before behind old new
 
 module _ {K : Type 0} (hash : RecordKey → ℕ) (base : State) (seat : ℕ) (a : ActiveView) (did : Step)
-    (old new : KernelState K) (led : IsLedFrom hash base old) (there : call_at old.seats seat ≡ Some a)
+    (old new : KernelState K) (led : Refines hash base old) (there : call_at old.seats seat ≡ Some a)
     (sound : old.failed ≡ false) where
   abbrev together : AreTogether hash led.now (calls_of old.seats) old.pool old.locks
   together = (led.together sound).calls
@@ -40,11 +40,11 @@ module _ {K : Type 0} (hash : RecordKey → ℕ) (base : State) (seat : ℕ) (a 
   pub waiting : StaysWaiting did a (call_at new.seats seat) old.pool new.pool old.locks new.locks old.journal new.journal →
       DoesBy hash base seat a did phase phase old new
   waiting stays =
-    subst (λ (told : Step). DoesBy hash base seat a told phase phase old new) (sym stays.told_is) (record {
-    file = ap (λ (p : PoolState). store_of p.images) stays.same_pool;
-    locks = stays.same_locks;
-    phase = refl;
-  })
+      subst (λ (told : Step). DoesBy hash base seat a told phase phase old new) (sym stays.told_is) (record {
+        file = ap (λ (p : PoolState). store_of p.images) stays.same_pool;
+        locks = stays.same_locks;
+        phase = refl;
+      })
 
   module _ (turn : MakesTurn hash seat old.stopped did a (call_at new.seats seat) old.pool new.pool old.locks new.locks
       old.journal new.journal) where

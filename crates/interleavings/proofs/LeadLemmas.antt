@@ -15,7 +15,7 @@ use Rattle.queue_model.proofs.JournalLemmas.{LeadsAlong-push}
 use Rattle.queue_model.specs.Journal.{outcome_for}
 use Rattle.queue_model.specs.declared.entry.Entry.TheVariants.{Decided}
 use Rattle.interleavings.specs.Words.{ActiveView, Answer, Call, CallView, Caller, Entry, FileFault, LeadsAlong, Progress, State, answer_of, answer_of_call, call_at, caller_at, conclusion_of, with_call}
-use Rattle.interleavings.specs.Leading.{calls_of}
+use Rattle.interleavings.specs.Refining.{calls_of}
 
 -- ---- seats
 

@@ -17,13 +17,13 @@ use Rattle.queue_model.proofs.JournalLemmas.{LeadsAlong-push, after-LeadsAlong}
 use Rattle.queue_model.specs.Laws.{KeepsOrder}
 use Rattle.queue_model.specs.declared.entry.Entry.TheVariants.{Stopped}
 use Rattle.interleavings.specs.Words.{ActiveView, Call, Caller, Entry, HasCall, IsFileAtRest, IsSeat, IsStopped, KernelState, LeadsAlong, PoolState, RecordKey, State, after, call_at, caller_at, with_call}
-use Rattle.interleavings.specs.Leading.{IsLedFrom, calls_of}
-use Rattle.interleavings.specs.Laws.{AnswersAsPlainLists, BeginsLed, ClosesLed, OpensLed, RefusesLed, SearchesHopFew, StopsLed}
+use Rattle.interleavings.specs.Refining.{Refines, calls_of}
+use Rattle.interleavings.specs.Laws.{AnswersAsPlainLists, BeginsRefine, ClosesRefine, OpensRefine, RefusalsRefine, SearchesHopFew, StopsRefine}
 use Rattle.interleavings.proofs.LeadLemmas.{machine, others_same}
 
 -- ---- it is opened
 
-pub opens_led : RestTogether → (K : Type 0) → OpensLed K
+pub opens_led : RestTogether → (K : Type 0) → OpensRefine K
 opens_led rests K hash keys content honest callers frames k opened true_to_it has some few =
     let rest = opens_at_rest hash content has.0 frames (length callers) k.pool.faults honest k.pool.synced has.1
     true_to_it some few in record {
@@ -50,7 +50,7 @@ opens_led rests K hash keys content honest callers frames k opened true_to_it ha
             (ap (λ (c : CountsState). count_at c.counts seat) opened.searches
             ∙ opened_count (length callers) seat some
             (subst (λ (n : ℕ). seat ≤ n) (ap length opened.seats ∙ length-replicate (length callers) None)
-              within)))).all;
+            within)))).all;
       };
     }
   where
@@ -65,7 +65,7 @@ opens_led rests K hash keys content honest callers frames k opened true_to_it ha
 
 module _ (begins : BeginTogether) {K : Type 0} (hash : RecordKey → ℕ) (base : State) (seat : ℕ) (call : Call)
     (old new : KernelState K) (is : IsSeat old.locks seat)
-    (led : IsLedFrom hash base old) (has : HasCall seat call old new) where
+    (led : Refines hash base old) (has : HasCall seat call old new) where
   within_begun : seat ≤ length old.seats
   within_begun = subst (λ (n : ℕ). seat ≤ n) led.rows is.1
 
@@ -100,7 +100,7 @@ module _ (begins : BeginTogether) {K : Type 0} (hash : RecordKey → ℕ) (base 
     | inr apart ↦ ap facts_of (others_begun i apart)
   ]
 
-  begun_led : IsLedFrom hash base (record old { seats = with_call old.seats seat (Some has.active); room = new.room })
+  begun_led : Refines hash base (record old { seats = with_call old.seats seat (Some has.active); room = new.room })
   begun_led = record {
     now = led.now;
     leads = led.leads;
@@ -122,13 +122,13 @@ module _ (begins : BeginTogether) {K : Type 0} (hash : RecordKey → ℕ) (base 
         (was.counted i some (subst (λ (n : ℕ). i ≤ n) (length-with_call old.seats seat (Some has.active)) near)))).all;
   }
 
-pub begins_led : BeginTogether → (K : Type 0) → BeginsLed K
+pub begins_led : BeginTogether → (K : Type 0) → BeginsRefine K
 begins_led begins K hash base seat call old new is led has =
-    subst (IsLedFrom hash base) (sym has.is) (begun_led begins hash base seat call old new is led has)
+    subst (Refines hash base) (sym has.is) (begun_led begins hash base seat call old new is led has)
 
-pub refuses_led : (K : Type 0) → RefusesLed K
+pub refuses_led : (K : Type 0) → RefusalsRefine K
 refuses_led K hash base seat call refusal old new led refused =
-    let still : IsLedFrom hash base (record old { room = new.room }) = record {
+    let still : Refines hash base (record old { room = new.room }) = record {
       now = led.now;
       leads = led.leads;
       mark = led.mark;
@@ -140,14 +140,14 @@ refuses_led K hash base seat call refusal old new led refused =
           let was = led.together sound in
           record { calls = was.calls; phase = was.phase; counted = was.counted };
     } in
-    subst (IsLedFrom hash base) (sym refused.same) still
+    subst (Refines hash base) (sym refused.same) still
 
 -- ---- it is stopped
 
 module _ (stops : StopTogether) {K : Type 0} (hash : RecordKey → ℕ) (base : State) (old new : KernelState K)
-    (led : IsLedFrom hash base old) (stop : IsStopped old new) where
+    (led : Refines hash base old) (stop : IsStopped old new) where
   first : old.stopped ≡ false →
-      IsLedFrom hash base (record old { journal = old.journal ++ Stopped ∷ []; stopped = true; room = new.room })
+      Refines hash base (record old { journal = old.journal ++ Stopped ∷ []; stopped = true; room = new.room })
   first running = record {
     now = record led.now { stopped = true };
     leads = LeadsAlong-push old.callers old.journal Stopped base led.now (record led.now { stopped = true }) led.leads
@@ -164,11 +164,11 @@ module _ (stops : StopTogether) {K : Type 0} (hash : RecordKey → ℕ) (base : 
         (stops hash led.now true (calls_of old.seats) old.pool old.locks was.calls) was.phase was.counted).all;
   }
 
-  pub stopped_by : (b : Bool) → old.stopped ≡ b → IsLedFrom hash base new
-  stopped_by true is = subst (IsLedFrom hash base) (sym (stop.again is)) led
-  stopped_by false is = subst (IsLedFrom hash base) (sym (stop.first is)) (first is)
+  pub stopped_by : (b : Bool) → old.stopped ≡ b → Refines hash base new
+  stopped_by true is = subst (Refines hash base) (sym (stop.again is)) led
+  stopped_by false is = subst (Refines hash base) (sym (stop.first is)) (first is)
 
-pub stops_led : StopTogether → (K : Type 0) → StopsLed K
+pub stops_led : StopTogether → (K : Type 0) → StopsRefine K
 stops_led stops K hash base old new led stop = stopped_by stops hash base old new led stop old.stopped refl
 
 -- ---- the headline
@@ -193,7 +193,7 @@ counts_few K hash base k seat led sound some within =
 
 -- ---- it is closed
 
-pub closes_led : LeaveAtRest → (K : Type 0) → ClosesLed K
+pub closes_led : LeaveAtRest → (K : Type 0) → ClosesRefine K
 closes_led rests K hash base content k led idle sound flushed =
     closes_at_rest hash (after k.callers k.journal base) k.pool (record k.pool { stored = content }) k.locks
     (subst (λ (s : State). IsFileAtRest hash s k.pool k.locks)

@@ -11,8 +11,8 @@ use Rattle.interleaving_core.specs.declared.fault.OpenFault.{OpenFault}
 use Rattle.interleaving_core.specs.declared.fault.OpenFault.TheVariants as opens
 use Rattle.queue_model.proofs.JournalLemmas.{after-LeadsAlong}
 use Rattle.interleavings.specs.Words.{ActiveView, IsFileOf, KernelState, RecordKey, State, after, call_at, restarted}
-use Rattle.interleavings.specs.Leading.{IsLedFrom, calls_of}
-use Rattle.interleavings.specs.Laws.{ClosedOpens, ClosesLed, IsOfMachine, IsOwedBy, IsOwedByNone, IsRestAt, OpensLed, OpensOn, OwedIsTheRest}
+use Rattle.interleavings.specs.Refining.{Refines, calls_of}
+use Rattle.interleavings.specs.Laws.{ClosedOpens, ClosesRefine, IsOfMachine, IsOwedBy, IsOwedByNone, IsRestAt, OpensRefine, OpensOn, OwedIsTheRest}
 use Rattle.interleavings.proofs.LeadLemmas.{machine}
 
 -- ---- who owes a record
@@ -52,7 +52,7 @@ one_or_none key (at ∷ seats) = by (owes_there key at) refl (one_or_none key se
     by false is (inr none) = inr (all is none)
 
 module _ (apart : OweApart) {K : Type 0} (hash : RecordKey → ℕ) (base : State) (k : KernelState K)
-    (led : IsLedFrom hash base k) (sound : k.failed ≡ false) where
+    (led : Refines hash base k) (sound : k.failed ≡ false) where
   abbrev calls : AreTogether hash led.now (calls_of k.seats) k.pool k.locks
   calls = (led.together sound).calls
 
@@ -87,16 +87,16 @@ module _ (no_fault : FileHasNoFault) (hash : RecordKey → ℕ) (content : List 
     | inr wrong ↦ absurd (no_fault LAYOUT is_today hash content s fault file wrong)
   ]
 
-  opens_on : (K : Type 0) → OpensLed K → OpensOn K hash content s
+  opens_on : (K : Type 0) → OpensRefine K → OpensOn K hash content s
   opens_on K opens_led = record {
     system = λ found is. file.system.only found is.system.has;
     opens = λ keys honest callers frames k opened true_to_it some few.
         let led = opens_led hash keys content honest callers frames k opened true_to_it (s, file) some few in
-        subst (λ (base : State). IsLedFrom hash base k) (file.system.only led.base led.file.system.has) led.led;
+        subst (λ (base : State). Refines hash base k) (file.system.only led.base led.file.system.has) led.led;
     refuses = refused_for_want;
   }
 
-pub closed_opens : FileHasNoFault → (K : Type 0) → OpensLed K → ClosesLed K → ClosedOpens K
+pub closed_opens : FileHasNoFault → (K : Type 0) → OpensRefine K → ClosesRefine K → ClosedOpens K
 closed_opens no_fault K opens_led closes hash base content k led idle sound flushed =
     opens_on no_fault hash content (restarted (after k.callers k.journal base))
     (closes hash base content k led idle sound flushed) K opens_led

@@ -12,8 +12,8 @@ use Rattle.interleaving_core.specs.declared.fault.CloseFault.TheVariants as clos
 use Rattle.interleavings.specs.Words.{ActiveView, Answer, Call, Caller, Entry, HasSystem, IsFifo, IsFileOf, IsFlushedTo, IsLawful, IsLegal, IsOpened, KernelState, PoolState, RecordKey, State, after, answer_of_call, call_at, call_of, entry_of, part_of, restarted, untold}
 use Rattle.interleavings.specs.Ending.{HasEnded}
 use Rattle.interleavings.specs.Headline.{IsAsPlainLists}
-use Rattle.interleavings.specs.Laws.{AnswersAsPlainLists, ClosesLed, EventsLead, IsLedFromFile, StepsLeadAndDo, StepsLed}
-use Rattle.interleavings.specs.Leading.{IsLedFrom}
+use Rattle.interleavings.specs.Laws.{AnswersAsPlainLists, ClosesRefine, EventsRefine, RefinesFile, StepsRefineAndDo, StepsRefine}
+use Rattle.interleavings.specs.Refining.{Refines}
 use Rattle.interleavings.specs.Playing.{HasItsPart, HasPlayed, HasReason, HasStood, PlaysAsPlainLists, call_along, call_under_way, gives_up, is_mark, is_stop, tells_failure}
 use Rattle.interleavings.specs.Runs.{AreOfSeats, IsLinearized, IsOfSeat, IsToldItsPart, Runs, told_along}
 use Rattle.interleavings.specs.declared.event.Event.{Event}
@@ -175,12 +175,12 @@ module _ {K : Type 0} (of : K → RecordKey → ℕ) (keys : K) (content : List 
 
     -- ---- of an honest device
 
-    module _ (lead : EventsLead K) (true_to_it : IsTrue honest) (led : IsLedFromFile hash content old) where
+    module _ (lead : EventsRefine K) (true_to_it : IsTrue honest) (led : RefinesFile hash content old) where
       are_rows : AreOfSeats (length old.locks) es
       are_rows = subst (λ (n : ℕ). AreOfSeats n es)
           (sym (ap length opened.locks ∙ length-replicate (length callers) [])) are
 
-      led_behind : IsLedFrom hash led.base new
+      led_behind : Refines hash led.base new
       led_behind = lead hash led.base es os old new are_rows led.led runs
 
       same_callers : new.callers ≡ callers
@@ -189,7 +189,7 @@ module _ {K : Type 0} (of : K → RecordKey → ℕ) (keys : K) (content : List 
       honest_still : IsTrue new.pool.honest
       honest_still = subst IsTrue (sym as_honest) true_to_it
 
-      pub plays_plain : AnswersAsPlainLists K → ClosesLed K → PlaysAsPlainLists hash callers content left played
+      pub plays_plain : AnswersAsPlainLists K → ClosesRefine K → PlaysAsPlainLists hash callers content left played
       plays_plain plain closes =
           let lists = plain hash led.base new led.file.system.has.lawful led_behind in
           record {
@@ -210,7 +210,7 @@ module _ {K : Type 0} (of : K → RecordKey → ℕ) (keys : K) (content : List 
                 (ended.flushed honest_still none)));
           }
 
-      step_reason : StepsLeadAndDo K → StepsLed K → (was : ℕ) → was ≤ old.pool.faults →
+      step_reason : StepsRefineAndDo K → StepsRefine K → (was : ℕ) → was ≤ old.pool.faults →
           played.fault ≡ Some (Close closes.Failed) → HasRisen was faults ⊎ (list_any gives_up os ≡ true)
       step_reason does steps was before failed = elim (fails_by_along does steps lead hash led.base es os old new
           are_rows led.led runs opened.failed (ended.failed.0 failed)) [
@@ -219,8 +219,8 @@ module _ {K : Type 0} (of : K → RecordKey → ℕ) (keys : K) (content : List 
             | inr given_up ↦ inr given_up
           ]
 
-    pub has_reason : EventsLead K → (IsTrue honest → IsLedFromFile hash content old) → StepsLeadAndDo K →
-        StepsLed K → (was : ℕ) → was ≤ old.pool.faults → HasReason honest was faults played
+    pub has_reason : EventsRefine K → (IsTrue honest → RefinesFile hash content old) → StepsRefineAndDo K →
+        StepsRefine K → (was : ℕ) → was ≤ old.pool.faults → HasReason honest was faults played
     has_reason lead led does steps was before =
         let later = later_along hash es os old new runs in
         record {

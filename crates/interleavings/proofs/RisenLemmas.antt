@@ -9,8 +9,8 @@ use Rattle.interleaving_core.specs.declared.fault.StepFault.TheVariants as fault
 use Rattle.interleaving_core.specs.declared.step.Step.TheVariants as steps
 use Rattle.interleavings.specs.Words.{ActiveView, IsDriven, IsSeat, IsStep, KernelState, Moves, RecordKey, State, Step, call_at}
 use Rattle.interleavings.specs.Doing.{DoesBy}
-use Rattle.interleavings.specs.Laws.{EventsLead, StepsLeadAndDo, StepsLed}
-use Rattle.interleavings.specs.Leading.{IsLedFrom}
+use Rattle.interleavings.specs.Laws.{EventsRefine, StepsRefineAndDo, StepsRefine}
+use Rattle.interleavings.specs.Refining.{Refines}
 use Rattle.interleavings.specs.Playing.{gives_up, is_given_up}
 use Rattle.interleavings.specs.Runs.{AreOfSeats, Happens, IsOfSeat, Runs}
 use Rattle.interleavings.specs.declared.event.Event.{Event}
@@ -39,7 +39,7 @@ risen_within {first} {old} {new} {last} before between behind risen = elim risen
 
 -- ---- a step that fails
 
-module _ {K : Type 0} (does : StepsLeadAndDo K) (hash : RecordKey → ℕ) (base : State) (seat : ℕ) where
+module _ {K : Type 0} (does : StepsRefineAndDo K) (hash : RecordKey → ℕ) (base : State) (seat : ℕ) where
   told_risen : (a : ActiveView) (did : Step) (before behind : Change) (old new : KernelState K) →
       DoesBy hash base seat a did before behind old new → is_failure did ≡ true →
       HasRisen old.pool.faults new.pool.faults
@@ -51,7 +51,7 @@ module _ {K : Type 0} (does : StepsLeadAndDo K) (hash : RecordKey → ℕ) (base
   told_risen a (steps.Fault (faults.File fault)) before behind old new is fails = is.device.risen
   told_risen a (steps.Fault faults.NoRoom) before behind old new is fails = absurd cc
 
-  pub step_risen : (did : Step) (old new : KernelState K) → IsLedFrom hash base old → IsStep hash seat did old new →
+  pub step_risen : (did : Step) (old new : KernelState K) → Refines hash base old → IsStep hash seat did old new →
       old.failed ≡ false → is_failure did ≡ true → HasRisen old.pool.faults new.pool.faults
   step_risen did old new led step sound fails = by (call_at old.seats seat) refl
     where
@@ -72,8 +72,8 @@ module _ {K : Type 0} (does : StepsLeadAndDo K) (hash : RecordKey → ℕ) (base
       let last = moved.step.turn.run.rest.later in
       omega (arith, before, last)
 
-  pub drive_risen : StepsLed K → (did : Step) (old new : KernelState K) → IsSeat old.locks seat →
-      IsLedFrom hash base old → IsDriven hash seat did old new → old.failed ≡ false → new.failed ≡ true →
+  pub drive_risen : StepsRefine K → (did : Step) (old new : KernelState K) → IsSeat old.locks seat →
+      Refines hash base old → IsDriven hash seat did old new → old.failed ≡ false → new.failed ≡ true →
       HasRisen old.pool.faults new.pool.faults ⊎ (is_given_up did ≡ true)
   drive_risen steps did old new is led driven sound broken = elim driven.ends [
     | inl rests ↦
@@ -123,7 +123,7 @@ module _ {K : Type 0} (hash : RecordKey → ℕ) where
       let rest = later_along es os runs.between new runs.rest in
       omega (arith, first, rest)
 
-module _ {K : Type 0} (does : StepsLeadAndDo K) (steps : StepsLed K) (lead : EventsLead K) (hash : RecordKey → ℕ)
+module _ {K : Type 0} (does : StepsRefineAndDo K) (steps : StepsRefine K) (lead : EventsRefine K) (hash : RecordKey → ℕ)
     (base : State) where
   not_both : {X : Type 0} (b : Bool) → b ≡ false → b ≡ true → X
   not_both b is_false is_true = absurd (clash (sym is_false ∙ is_true))
@@ -132,7 +132,7 @@ module _ {K : Type 0} (does : StepsLeadAndDo K) (steps : StepsLed K) (lead : Eve
       clash is = cc
 
   event_fails_by : (e : Event) (o : Outcome) (old new : KernelState K) → IsOfSeat (length old.locks) e →
-      IsLedFrom hash base old → Happens hash e o old new → old.failed ≡ false → new.failed ≡ true →
+      Refines hash base old → Happens hash e o old new → old.failed ≡ false → new.failed ≡ true →
       HasFailedBy (gives_up o) old new
   event_fails_by (events.Begin seat call) outcomes.Begun old new is led has sound broken =
       not_both old.failed sound (sym (ap (λ (k : KernelState K). k.failed) has.is) ∙ broken)
@@ -164,7 +164,7 @@ module _ {K : Type 0} (does : StepsLeadAndDo K) (steps : StepsLed K) (lead : Eve
   or_right false b is = is
 
   pub fails_by_along : (es : List Event) (os : List Outcome) (old new : KernelState K) →
-      AreOfSeats (length old.locks) es → IsLedFrom hash base old → Runs hash es os old new → old.failed ≡ false →
+      AreOfSeats (length old.locks) es → Refines hash base old → Runs hash es os old new → old.failed ≡ false →
       new.failed ≡ true → HasFailedBy (list_any gives_up os) old new
   fails_by_along [] [] old new are led same sound broken =
       not_both old.failed sound (sym (ap (λ (k : KernelState K). k.failed) same) ∙ broken)
@@ -177,7 +177,7 @@ module _ {K : Type 0} (does : StepsLeadAndDo K) (steps : StepsLed K) (lead : Eve
       first : IsOfSeat (length old.locks) e
       first = All-head (IsOfSeat (length old.locks)) e es are
 
-      led_between : IsLedFrom hash base runs.between
+      led_between : Refines hash base runs.between
       led_between = lead hash base (e ∷ []) (o ∷ []) old runs.between
           (All-cons (IsOfSeat (length old.locks)) e [] first (All-nil (IsOfSeat (length old.locks)))) led
           (record { between = runs.between; first = runs.first; rest = refl })

@@ -6,8 +6,8 @@ use Rattle.concurrent_calls.specs.Laws.{BeginTogether, EndTogether, StepTogether
 use Rattle.interleaving_core.proofs.RunLemmas.{seat_stays}
 use Rattle.interleaving_core.specs.declared.fault.Failure.{Failure}
 use Rattle.interleavings.specs.Words.{IsSeat, IsDriven, KernelState, Moves, RecordKey, State, Step}
-use Rattle.interleavings.specs.Leading.{IsLedFrom}
-use Rattle.interleavings.specs.Laws.{BeginsLed, DrivesLed, EventsLead, RefusesLed, StepsLed, StopsLed}
+use Rattle.interleavings.specs.Refining.{Refines}
+use Rattle.interleavings.specs.Laws.{BeginsRefine, DrivesRefine, EventsRefine, RefusalsRefine, StepsRefine, StopsRefine}
 use Rattle.interleavings.specs.Runs.{AreOfSeats, Happens, IsOfSeat, Runs}
 use Rattle.interleavings.specs.declared.event.Event.{Event}
 use Rattle.interleavings.specs.declared.event.Event.TheVariants as events
@@ -18,12 +18,12 @@ use Rattle.interleavings.proofs.ToldLemmas.{steps_led}
 
 -- ---- a drive
 
-module _ {K : Type 0} (step_on : StepsLed K) (hash : RecordKey → ℕ) (base : State) (seat : ℕ)
-    (old : KernelState K) (is : IsSeat old.locks seat) (led : IsLedFrom hash base old) where
+module _ {K : Type 0} (step_on : StepsRefine K) (hash : RecordKey → ℕ) (base : State) (seat : ℕ)
+    (old : KernelState K) (is : IsSeat old.locks seat) (led : Refines hash base old) where
   pub moves_led : (n : ℕ) (now : KernelState K) → Moves hash seat n old now →
-      IsLedFrom hash base now × IsSeat now.locks seat
+      Refines hash base now × IsSeat now.locks seat
   moves_led zero now same = (
-    subst (IsLedFrom hash base) (sym same) led,
+    subst (Refines hash base) (sym same) led,
     subst (λ (k : KernelState K). IsSeat k.locks seat) (sym same) is,
   )
   moves_led (suc n) now moved =
@@ -32,17 +32,17 @@ module _ {K : Type 0} (step_on : StepsLed K) (hash : RecordKey → ℕ) (base : 
         seat_stays seat _ moved.before now moved.step.turn.run seated,
       )
 
-  pub drive_on : (did : Step) (new : KernelState K) → IsDriven hash seat did old new → IsLedFrom hash base new
+  pub drive_on : (did : Step) (new : KernelState K) → IsDriven hash seat did old new → Refines hash base new
   drive_on did new driven =
       let (before, seated) = moves_led driven.moves driven.before driven.moved in
       elim driven.ends [
         | inl ends ↦ step_on hash base seat did driven.before new seated before ends.step
-        | inr spent ↦ subst (IsLedFrom hash base) (sym spent.marked) (broken driven.before _ before)
+        | inr spent ↦ subst (Refines hash base) (sym spent.marked) (broken driven.before _ before)
       ]
     where
       -- where a step has failed the journal still leads
-      broken : (k : KernelState K) (failure : Option Failure) → IsLedFrom hash base k →
-          IsLedFrom hash base (record k { failed = true; failure = failure })
+      broken : (k : KernelState K) (failure : Option Failure) → Refines hash base k →
+          Refines hash base (record k { failed = true; failure = failure })
       broken k failure on = record {
         now = on.now;
         leads = on.leads;
@@ -54,16 +54,16 @@ module _ {K : Type 0} (step_on : StepsLed K) (hash : RecordKey → ℕ) (base : 
         together = λ sound. absurd (true≢false sound);
       }
 
-pub drives_led : StepTogether → EndTogether → BeginTogether → (K : Type 0) → DrivesLed K
+pub drives_led : StepTogether → EndTogether → BeginTogether → (K : Type 0) → DrivesRefine K
 drives_led steps ends begins K hash base seat did old new is led driven =
     drive_on (steps_led steps ends begins K) hash base seat old is led did new driven
 
 -- ---- events
 
-module _ {K : Type 0} (begins : BeginsLed K) (refuses : RefusesLed K) (steps : StepsLed K) (drives : DrivesLed K)
-    (stops : StopsLed K) (hash : RecordKey → ℕ) (base : State) where
+module _ {K : Type 0} (begins : BeginsRefine K) (refuses : RefusalsRefine K) (steps : StepsRefine K) (drives : DrivesRefine K)
+    (stops : StopsRefine K) (hash : RecordKey → ℕ) (base : State) where
   event_leads : (e : Event) (o : Outcome) (old new : KernelState K) → IsOfSeat (length old.locks) e →
-      IsLedFrom hash base old → Happens hash e o old new → IsLedFrom hash base new
+      Refines hash base old → Happens hash e o old new → Refines hash base new
   event_leads (events.Begin seat call) outcomes.Begun old new is led has =
       begins hash base seat call old new is led has
   event_leads (events.Begin seat call) (outcomes.Refused back fault) old new is led refused =
@@ -90,8 +90,8 @@ module _ {K : Type 0} (begins : BeginsLed K) (refuses : RefusesLed K) (steps : S
   event_leads events.Stop outcomes.Stopped old new is led stop = stops hash base old new led stop
 
   pub events_lead : (es : List Event) (os : List Outcome) (old new : KernelState K) → AreOfSeats (length old.locks) es →
-      IsLedFrom hash base old → Runs hash es os old new → IsLedFrom hash base new
-  events_lead [] [] old new seats led same = subst (IsLedFrom hash base) (sym same) led
+      Refines hash base old → Runs hash es os old new → Refines hash base new
+  events_lead [] [] old new seats led same = subst (Refines hash base) (sym same) led
   events_lead [] (o ∷ os) old new seats led x = absurd x
   events_lead (e ∷ es) [] old new seats led x = absurd x
   events_lead (e ∷ es) (o ∷ os) old new seats led runs =
@@ -101,6 +101,6 @@ module _ {K : Type 0} (begins : BeginsLed K) (refuses : RefusesLed K) (steps : S
       (event_leads e o old runs.between (All-head (IsOfSeat (length old.locks)) e es seats) led
       runs.first) runs.rest
 
-pub events_led : (K : Type 0) → BeginsLed K → RefusesLed K → StepsLed K → DrivesLed K → StopsLed K → EventsLead K
+pub events_led : (K : Type 0) → BeginsRefine K → RefusalsRefine K → StepsRefine K → DrivesRefine K → StopsRefine K → EventsRefine K
 events_led K begins refuses steps drives stops hash base es os old new seats led runs =
     events_lead begins refuses steps drives stops hash base es os old new seats led runs

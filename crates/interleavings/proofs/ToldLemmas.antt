@@ -15,8 +15,8 @@ use Rattle.interleaving_core.specs.xsi_calls.Machine.{call_turn}
 use Rattle.interleaving_core.specs.xsi_calls.Words.{Change, Store, TrialLacksRoom, Turn, World, its_plan, trials_of, world}
 use Rattle.interleavings.specs.Words.{ActiveView, IsSeat, IsTurn, KernelState, PoolState, RecordKey, State, Step, Table, call_at, store_of}
 use Rattle.interleavings.specs.Doing.{BeginsWoken, DoesAsTold, DoesBy, FailsByDevice, IsInTheWay, LeavesAll, MakesMove, turn_of}
-use Rattle.interleavings.specs.Leading.{IsLedFrom, IsLedIn}
-use Rattle.interleavings.specs.Laws.{LeadsOn, StepsLeadAndDo, StepsLed}
+use Rattle.interleavings.specs.Refining.{Refines, RefinesIn}
+use Rattle.interleavings.specs.Laws.{RefinesOn, StepsRefineAndDo, StepsRefine}
 use Rattle.interleavings.proofs.DoingLemmas.{LeadsDoing}
 use Rattle.interleavings.proofs.TurnLemmas.{led_on, waits_on}
 
@@ -79,13 +79,13 @@ module _ {K : Type 0} (hash : RecordKey → ℕ) (base : State) (seat : ℕ) (by
 -- ---- each step
 
 module _ (steps : StepTogether) (ends : EndTogether) (begins : BeginTogether) {K : Type 0} (hash : RecordKey → ℕ)
-    (base : State) (seat : ℕ) (a : ActiveView) (did : Step) (old new : KernelState K) (led : IsLedFrom hash base old)
+    (base : State) (seat : ℕ) (a : ActiveView) (did : Step) (old new : KernelState K) (led : Refines hash base old)
     (there : call_at old.seats seat ≡ Some a) (sound : old.failed ≡ false) (turn : IsTurn seat did old new) where
   abbrev phase_before : Change
   phase_before = (led.together sound).calls.change
 
   abbrev Leads : Type 0
-  Leads = LeadsOn hash base seat a did phase_before old new
+  Leads = RefinesOn hash base seat a did phase_before old new
 
   goes : Goes seat did old new
   goes = goes_by seat did old new turn sound
@@ -120,7 +120,7 @@ module _ (steps : StepTogether) (ends : EndTogether) (begins : BeginTogether) {K
         (subst (λ (o : Option ActiveView). MakesTurn hash seat old.stopped told.Waiting a o old.pool anew.between
         old.locks old.locks old.journal old.journal) (sym at_then) anew.ends)
 
-    abbrev led_then : IsLedFrom hash base then
+    abbrev led_then : Refines hash base then
     led_then = first.led.led
 
     abbrev phase_then : Change
@@ -192,16 +192,16 @@ module _ (steps : StepTogether) (ends : EndTogether) (begins : BeginTogether) {K
         | inr anew ↦ leads_anew anew
       ]
 
-pub steps_lead_and_do : StepTogether → EndTogether → BeginTogether → (K : Type 0) → StepsLeadAndDo K
+pub steps_lead_and_do : StepTogether → EndTogether → BeginTogether → (K : Type 0) → StepsRefineAndDo K
 steps_lead_and_do steps ends begins K hash base seat a did old new led there sound step =
     leads_by steps ends begins hash base seat a did old new led there sound step.turn (step.makes a there sound)
 
-pub steps_led : StepTogether → EndTogether → BeginTogether → (K : Type 0) → StepsLed K
+pub steps_led : StepTogether → EndTogether → BeginTogether → (K : Type 0) → StepsRefine K
 steps_led steps ends begins K hash base seat did old new is led step =
     by (call_at old.seats seat) refl old.failed refl
   where
-    by : (o : Option ActiveView) → call_at old.seats seat ≡ o → (b : Bool) → old.failed ≡ b → IsLedFrom hash base new
-    by None there b is_b = subst (IsLedFrom hash base) (sym (step.turn.spares there)) led
-    by (Some a) there true broken = subst (IsLedFrom hash base) (sym (step.turn.still broken)) led
+    by : (o : Option ActiveView) → call_at old.seats seat ≡ o → (b : Bool) → old.failed ≡ b → Refines hash base new
+    by None there b is_b = subst (Refines hash base) (sym (step.turn.spares there)) led
+    by (Some a) there true broken = subst (Refines hash base) (sym (step.turn.still broken)) led
     by (Some a) there false sound =
         (steps_lead_and_do steps ends begins K hash base seat a did old new led there sound step).led.led

@@ -22,7 +22,7 @@ use Rattle.interleaving_core.specs.xsi_calls.declared.conclusion.Conclusion.{Con
 use Rattle.step_rules.specs.declared.kind.Kind.TheVariants.{Decide}
 use Rattle.step_rules.specs.declared.progress.Progress.TheVariants as progress
 use Rattle.interleavings.specs.Words.{ActiveView, Begins, Caller, Entry, FileFault, HasFittingCall, HasFittingCaller, IsOver, IsSeat, KernelState, LeadsAlong, PoolState, Progress, RecordKey, State, Step, call_at, caller_at, conclusion_of, is_fault, with_call}
-use Rattle.interleavings.specs.Leading.{IsLedFrom, IsLedIn, calls_of}
+use Rattle.interleavings.specs.Refining.{Refines, RefinesIn, calls_of}
 use Rattle.interleavings.proofs.DoingLemmas.{LeadsDoing, failed, made, waiting}
 use Rattle.interleavings.proofs.LeadLemmas.{keeps_answer, leads_on, machine, others_same, still_leads}
 use Rattle.interleaving_core.specs.Turn.{StaysWaiting}
@@ -33,7 +33,7 @@ use Rattle.interleavings.specs.Words.{CallView, Table, store_of}
 
 module _ (steps : StepTogether) (ends : EndTogether) (begins : BeginTogether) {K : Type 0} (hash : RecordKey → ℕ)
     (base : State) (seat : ℕ) (did : Step) (old new : KernelState K) (is : IsSeat old.locks seat)
-    (led : IsLedFrom hash base old) (goes : Goes seat did old new) (a : ActiveView)
+    (led : Refines hash base old) (goes : Goes seat did old new) (a : ActiveView)
     (there : call_at old.seats seat ≡ Some a) (sound : old.failed ≡ false)
   where
     abbrev was : AreCounted hash led.now old
@@ -216,7 +216,7 @@ module _ (steps : StepTogether) (ends : EndTogether) (begins : BeginTogether) {K
 
         led_by : ((x : ActiveView) → call_at new.seats seat ≡ Some x → x.machine.caller ≡ a.machine.caller) →
             Leads → ((facts_of (calls_of new.seats seat) ≡ call_facts come.machine)
-            ⊎ (facts_of (calls_of new.seats seat) ≡ [])) → IsLedIn hash base new phase
+            ⊎ (facts_of (calls_of new.seats seat) ≡ [])) → RefinesIn hash base new phase
         led_by left together knows =
             let counted : AreCountedIn hash leading.after new phase =
             counted_in hash leading.after new phase together phase_is (all_counted knows) in

@@ -1,4 +1,4 @@
--- What a step of a seat does to the file and the locks of a kernel that is led, by what the seat is told.
+-- What a step of a seat does to the file and the locks of a kernel that refines a system, by what the seat is told.
 -- docs/STEPS.md, "The kinds of step", "Calls".
 use Rattle.std.specs.Prelude.{ℕ, ◌≡◌, ◌⊎◌, true, false, List, None, Some}
 use Rattle.file_pages.specs.Fault.{IsDevicesFault}

@@ -1,7 +1,7 @@
 -- The answers of a kernel are those of plain lists, and at rest its file holds exactly what the lists do.
 -- docs/QUEUES.md, "Journals", "Order".
 use Rattle.std.specs.Prelude.{ℕ, ◌≡◌, false, None}
-use Rattle.interleavings.specs.Leading.{IsLedFrom}
+use Rattle.interleavings.specs.Refining.{Refines}
 use Rattle.interleavings.specs.Words.{IsFifo, IsFileAtRest, IsLawful, IsLegal, KernelState, RecordKey, State, after, call_at}
 
 pub record IsAsPlainLists {K : Type 0} (hash : RecordKey → ℕ) (base : State) (k : KernelState K) : Type 0 where
@@ -15,8 +15,8 @@ pub record IsAsPlainLists {K : Type 0} (hash : RecordKey → ℕ) (base : State)
 
 -- ---- a run of events
 
--- whatever the events, and so whatever the order of the seats' steps: from a lawful system the kernel is led on, and is
+-- whatever the events, and so whatever the order of the seats' steps: where it refines a lawful system the kernel still does, and is
 -- as plain lists
 pub record AnswersRightly {K : Type 0} (hash : RecordKey → ℕ) (old new : KernelState K) : Type 0 where
-  pub led : (base : State) → IsLedFrom hash base old → IsLedFrom hash base new
-  pub plain : (base : State) → IsLawful base → IsLedFrom hash base old → IsAsPlainLists hash base new
+  pub led : (base : State) → Refines hash base old → Refines hash base new
+  pub plain : (base : State) → IsLawful base → Refines hash base old → IsAsPlainLists hash base new

@@ -1,4 +1,4 @@
--- Laws of kernels that are led from a system. Each is the contract of a function of laws.rt.
+-- Laws of kernels that refine a system. Each is the contract of a function of laws.rt.
 use Rattle.std.specs.Prelude.{ℕ, ◌≡◌, ◌≢◌, ◌≤◌, ◌⊎◌, Bool, IsTrue, List, None, Some, length, true, false, ⊤}
 use Rattle.concurrent_calls.specs.Together.{owes_of}
 use Rattle.concurrent_calls.specs.Words.{Records, StandsAt, overlaid, owes_at, record_of}
@@ -11,87 +11,87 @@ use Rattle.interleavings.specs.Words.{ActiveView, BeginFault, Call, Caller, HasC
 use Rattle.interleavings.specs.Doing.{DoesAsTold}
 use Rattle.interleaving_core.specs.search_counts.Counting.{count_at}
 use Rattle.interleavings.specs.Counting.{HopsFew}
-use Rattle.interleavings.specs.Leading.{IsLedFrom, IsLedIn, calls_of}
+use Rattle.interleavings.specs.Refining.{Refines, RefinesIn, calls_of}
 use Rattle.interleavings.specs.Headline.{IsAsPlainLists}
 use Rattle.interleavings.specs.Runs.{AreOfSeats, Runs}
 use Rattle.interleavings.specs.declared.event.Event.{Event}
 use Rattle.interleavings.specs.declared.event.Outcome.{Outcome}
 
--- it is led from the system whose file the pages of the device were
-pub record IsLedFromFile {K : Type 0} (hash : RecordKey → ℕ) (content : List (List ℕ)) (k : KernelState K) :
+-- it refines the system whose file the pages of the device were
+pub record RefinesFile {K : Type 0} (hash : RecordKey → ℕ) (content : List (List ℕ)) (k : KernelState K) :
     Type 0 where
   pub base : State
   pub file : IsFileOf hash content base
-  pub led : IsLedFrom hash base k
+  pub led : Refines hash base k
 
 -- by what Kernel::open promises of an honest device
-abbrev pub OpensLed : Type 0 → Type 0
-OpensLed K = (hash : RecordKey → ℕ) (keys : K) (content : List (List ℕ)) (honest : Bool) (callers : List Caller)
+abbrev pub OpensRefine : Type 0 → Type 0
+OpensRefine K = (hash : RecordKey → ℕ) (keys : K) (content : List (List ℕ)) (honest : Bool) (callers : List Caller)
     (frames : ℕ) (k : KernelState K) → IsOpened keys content honest callers frames k → IsTrue honest →
     HasSystem hash content → 1 ≤ length callers → length callers ≤ MAX_SEATS →
-    IsLedFromFile hash content k
+    RefinesFile hash content k
 
 -- by what Kernel::begin promises
-abbrev pub BeginsLed : Type 0 → Type 0
-BeginsLed K = (hash : RecordKey → ℕ) (base : State) (seat : ℕ) (call : Call) (old new : KernelState K) →
-    IsSeat old.locks seat → IsLedFrom hash base old → HasCall seat call old new →
-    IsLedFrom hash base new
+abbrev pub BeginsRefine : Type 0 → Type 0
+BeginsRefine K = (hash : RecordKey → ℕ) (base : State) (seat : ℕ) (call : Call) (old new : KernelState K) →
+    IsSeat old.locks seat → Refines hash base old → HasCall seat call old new →
+    Refines hash base new
 
-abbrev pub RefusesLed : Type 0 → Type 0
-RefusesLed K = (hash : RecordKey → ℕ) (base : State) (seat : ℕ) (call : Call) (refusal : Call × BeginFault)
-    (old new : KernelState K) → IsLedFrom hash base old → IsRefused seat call refusal old new →
-    IsLedFrom hash base new
+abbrev pub RefusalsRefine : Type 0 → Type 0
+RefusalsRefine K = (hash : RecordKey → ℕ) (base : State) (seat : ℕ) (call : Call) (refusal : Call × BeginFault)
+    (old new : KernelState K) → Refines hash base old → IsRefused seat call refusal old new →
+    Refines hash base new
 
 -- by what Kernel::step promises
-abbrev pub StepsLed : Type 0 → Type 0
-StepsLed K = (hash : RecordKey → ℕ) (base : State) (seat : ℕ) (did : Step) (old new : KernelState K) →
-    IsSeat old.locks seat → IsLedFrom hash base old → IsStep hash seat did old new → IsLedFrom hash base new
+abbrev pub StepsRefine : Type 0 → Type 0
+StepsRefine K = (hash : RecordKey → ℕ) (base : State) (seat : ℕ) (did : Step) (old new : KernelState K) →
+    IsSeat old.locks seat → Refines hash base old → IsStep hash seat did old new → Refines hash base new
 
--- the kernel is led on, in the phase to which this step has come from the phase before
-pub record LeadsOn {K : Type 0} (hash : RecordKey → ℕ) (base : State) (seat : ℕ) (a : ActiveView) (did : Step)
+-- the kernel still refines it, in the phase to which this step has come from the phase before
+pub record RefinesOn {K : Type 0} (hash : RecordKey → ℕ) (base : State) (seat : ℕ) (a : ActiveView) (did : Step)
     (before : Change) (old new : KernelState K) : Type 0 where
   pub behind : Change
-  pub led : IsLedIn hash base new behind
+  pub led : RefinesIn hash base new behind
   pub does : DoesAsTold hash base seat a did before behind old new
 
--- and so it does to the file and the locks, until a step has failed: from the phase in which the kernel is led
-abbrev pub StepsLeadAndDo : Type 0 → Type 0
-StepsLeadAndDo K = (hash : RecordKey → ℕ) (base : State) (seat : ℕ) (a : ActiveView) (did : Step)
-    (old new : KernelState K) (led : IsLedFrom hash base old) → call_at old.seats seat ≡ Some a →
+-- and so it does to the file and the locks, until a step has failed: from the phase in which the kernel was
+abbrev pub StepsRefineAndDo : Type 0 → Type 0
+StepsRefineAndDo K = (hash : RecordKey → ℕ) (base : State) (seat : ℕ) (a : ActiveView) (did : Step)
+    (old new : KernelState K) (led : Refines hash base old) → call_at old.seats seat ≡ Some a →
     (sound : old.failed ≡ false) → IsStep hash seat did old new →
-    LeadsOn hash base seat a did (led.together sound).calls.change old new
+    RefinesOn hash base seat a did (led.together sound).calls.change old new
 
 -- by what Kernel::drive promises
-abbrev pub DrivesLed : Type 0 → Type 0
-DrivesLed K = (hash : RecordKey → ℕ) (base : State) (seat : ℕ) (did : Step) (old new : KernelState K) →
-    IsSeat old.locks seat → IsLedFrom hash base old → IsDriven hash seat did old new → IsLedFrom hash base new
+abbrev pub DrivesRefine : Type 0 → Type 0
+DrivesRefine K = (hash : RecordKey → ℕ) (base : State) (seat : ℕ) (did : Step) (old new : KernelState K) →
+    IsSeat old.locks seat → Refines hash base old → IsDriven hash seat did old new → Refines hash base new
 
-abbrev pub StopsLed : Type 0 → Type 0
-StopsLed K = (hash : RecordKey → ℕ) (base : State) (old new : KernelState K) → IsLedFrom hash base old →
-    IsStopped old new → IsLedFrom hash base new
+abbrev pub StopsRefine : Type 0 → Type 0
+StopsRefine K = (hash : RecordKey → ℕ) (base : State) (old new : KernelState K) → Refines hash base old →
+    IsStopped old new → Refines hash base new
 
 -- events one after the other, whatever seats they are of
-abbrev pub EventsLead : Type 0 → Type 0
-EventsLead K = (hash : RecordKey → ℕ) (base : State) (es : List Event) (os : List Outcome) (old new : KernelState K) →
-    AreOfSeats (length old.locks) es → IsLedFrom hash base old → Runs hash es os old new →
-    IsLedFrom hash base new
+abbrev pub EventsRefine : Type 0 → Type 0
+EventsRefine K = (hash : RecordKey → ℕ) (base : State) (es : List Event) (os : List Outcome) (old new : KernelState K) →
+    AreOfSeats (length old.locks) es → Refines hash base old → Runs hash es os old new →
+    Refines hash base new
 
 -- from a lawful system
 abbrev pub AnswersAsPlainLists : Type 0 → Type 0
 AnswersAsPlainLists K = (hash : RecordKey → ℕ) (base : State) (k : KernelState K) → IsLawful base →
-    IsLedFrom hash base k → IsAsPlainLists hash base k
+    Refines hash base k → IsAsPlainLists hash base k
 
 -- what a kernel counts of a seat's last search, until a step has failed: at most one hop more than others may have
 -- added, and none where no structure change was under way since it read the depth
 abbrev pub SearchesHopFew : Type 0 → Type 0
-SearchesHopFew K = (hash : RecordKey → ℕ) (base : State) (k : KernelState K) (seat : ℕ) → IsLedFrom hash base k →
+SearchesHopFew K = (hash : RecordKey → ℕ) (base : State) (k : KernelState K) (seat : ℕ) → Refines hash base k →
     k.failed ≡ false → 1 ≤ seat → seat ≤ length k.locks → HopsFew (count_at k.searches.counts seat)
 
 -- by what Kernel::close promises of an honest device: the file is that of the system after the journal, which is not
 -- stopped for who opens it next
-abbrev pub ClosesLed : Type 0 → Type 0
-ClosesLed K = (hash : RecordKey → ℕ) (base : State) (content : List (List ℕ)) (k : KernelState K) →
-    IsLedFrom hash base k → ((seat : ℕ) → call_at k.seats seat ≡ None) → k.failed ≡ false →
+abbrev pub ClosesRefine : Type 0 → Type 0
+ClosesRefine K = (hash : RecordKey → ℕ) (base : State) (content : List (List ℕ)) (k : KernelState K) →
+    Refines hash base k → ((seat : ℕ) → call_at k.seats seat ≡ None) → k.failed ≡ false →
     IsFlushedTo k.pool content → IsFileOf hash content (restarted (after k.callers k.journal base))
 
 -- ---- opened again
@@ -107,13 +107,13 @@ pub record OpensOn (K : Type 0) (hash : RecordKey → ℕ) (content : List (List
   pub system : (found : State) → IsFileOf hash content found → found ≡ s
   pub opens : (keys : K) (honest : Bool) (callers : List Caller) (frames : ℕ) (k : KernelState K) →
       IsOpened keys content honest callers frames k → IsTrue honest → 1 ≤ length callers →
-      length callers ≤ MAX_SEATS → IsLedFrom hash s k
+      length callers ≤ MAX_SEATS → Refines hash s k
   pub refuses : (fault : OpenFault) → MayRefuse hash content fault → IsOfMachine fault
 
 -- the pages that Kernel::close leaves of an honest device, once no seat has a call and until a step has failed
 abbrev pub ClosedOpens : Type 0 → Type 0
 ClosedOpens K = (hash : RecordKey → ℕ) (base : State) (content : List (List ℕ)) (k : KernelState K) →
-    IsLedFrom hash base k → ((seat : ℕ) → call_at k.seats seat ≡ None) → k.failed ≡ false →
+    Refines hash base k → ((seat : ℕ) → call_at k.seats seat ≡ None) → k.failed ≡ false →
     IsFlushedTo k.pool content → OpensOn K hash content (restarted (after k.callers k.journal base))
 
 -- ---- pending writes
@@ -140,5 +140,5 @@ pub record OwesTheRest {K : Type 0} (hash : RecordKey → ℕ) (base : State) (k
   pub rest : (key : RecordKey) → IsRestAt key records (after k.callers k.journal base) k
 
 abbrev pub OwedIsTheRest : Type 0 → Type 0
-OwedIsTheRest K = (hash : RecordKey → ℕ) (base : State) (k : KernelState K) → IsLedFrom hash base k →
+OwedIsTheRest K = (hash : RecordKey → ℕ) (base : State) (k : KernelState K) → Refines hash base k →
     k.failed ≡ false → OwesTheRest hash base k

@@ -1,7 +1,7 @@
 pub mod Words
 pub mod Runs
 pub mod Counting
-pub mod Leading
+pub mod Refining
 pub mod Headline
 pub mod Doing
 pub mod Ending

@@ -1,7 +1,7 @@
-//! Laws of kernels that are led from a system. The functions do nothing; their contracts are the
+//! Laws of kernels that refine a system. The functions do nothing; their contracts are the
 //! laws.
 
-ghost use Rattle.interleavings.specs.Laws.{AnswersAsPlainLists, BeginsLed, ClosedOpens, ClosesLed, DrivesLed, EventsLead, OpensLed, OwedIsTheRest, RefusesLed, SearchesHopFew, StepsLeadAndDo, StepsLed, StopsLed};
+ghost use Rattle.interleavings.specs.Laws.{AnswersAsPlainLists, BeginsRefine, ClosedOpens, ClosesRefine, DrivesRefine, EventsRefine, OpensRefine, OwedIsTheRest, RefusalsRefine, SearchesHopFew, StepsRefineAndDo, StepsRefine, StopsRefine};
 
 use concurrent_calls::{
     calls_begin_together, calls_end_together, calls_leave_the_file_at_rest, calls_owe_apart,
@@ -10,29 +10,29 @@ use concurrent_calls::{
 use file_check::the_file_of_a_system_has_no_fault;
 use queue_model::journals_are_first_in_first_out;
 
-/// A kernel that is opened is led from the system whose file its device has.
-pub fn a_kernel_opens_led<K>()
-    ensures { OpensLed K }
+/// A kernel that is opened refines the system whose file its device has.
+pub fn an_opened_kernel_refines<K>()
+    ensures { OpensRefine K }
 {
     calls_rest_together();
 }
 
 /// It stays so where a call begins.
-pub fn calls_begin_led<K>()
-    ensures { BeginsLed K }
+pub fn begins_refine<K>()
+    ensures { BeginsRefine K }
 {
     calls_begin_together();
 }
 
 /// And where one is refused.
-pub fn refusals_leave_led<K>()
-    ensures { RefusesLed K }
+pub fn refusals_refine<K>()
+    ensures { RefusalsRefine K }
 {}
 
 /// And after each step of a seat: where its call comes to its answer, that is the one which the
 /// rules give in the system after the journal.
-pub fn steps_lead_on<K>()
-    ensures { StepsLed K }
+pub fn steps_refine<K>()
+    ensures { StepsRefine K }
 {
     calls_step_together();
     calls_end_together();
@@ -40,14 +40,14 @@ pub fn steps_lead_on<K>()
 }
 
 /// Such a step does to the file and the locks what its seat is told, from the phase of a change of
-/// the structure in which the kernel is led to that in which it is led on: it moves by one of the
-/// rules, of the kind that is told; or another seat holds against what it asks, and nothing changes; or it
-/// waits, is answered, or has no room, and nothing changes; or a transfer of the device failed. It
-/// comes to waiting only where the rules have no answer, and to having no room only where there is
-/// none. Where its call was woken before its seat could be told that it waits, it is the first step
-/// of that call begun anew.
+/// the structure before the step to the phase after it: it moves by one of the rules, of the kind
+/// that is told; or another seat holds against what it asks, and nothing changes; or it waits, is
+/// answered, or has no room, and nothing changes; or a transfer of the device failed. It comes to
+/// waiting only where the rules have no answer, and to having no room only where there is none.
+/// Where its call was woken before its seat could be told that it waits, it is the first step of
+/// that call begun anew.
 pub fn a_step_does_what_its_seat_is_told<K>()
-    ensures { StepsLeadAndDo K }
+    ensures { StepsRefineAndDo K }
 {
     calls_step_together();
     calls_end_together();
@@ -55,8 +55,8 @@ pub fn a_step_does_what_its_seat_is_told<K>()
 }
 
 /// And after each drive, which is so many steps.
-pub fn drives_lead_on<K>()
-    ensures { DrivesLed K }
+pub fn drives_refine<K>()
+    ensures { DrivesRefine K }
 {
     calls_step_together();
     calls_end_together();
@@ -64,26 +64,26 @@ pub fn drives_lead_on<K>()
 }
 
 /// And where the system is stopped.
-pub fn stops_lead_on<K>()
-    ensures { StopsLed K }
+pub fn stops_refine<K>()
+    ensures { StopsRefine K }
 {
     calls_stop_together();
 }
 
 /// So it stays after events of many seats, in whichever order they come.
-pub fn events_lead_on<K>()
-    ensures { EventsLead K }
+pub fn events_refine<K>()
+    ensures { EventsRefine K }
 {
-    calls_begin_led::<K>();
-    refusals_leave_led::<K>();
-    steps_lead_on::<K>();
-    drives_lead_on::<K>();
-    stops_lead_on::<K>();
+    begins_refine::<K>();
+    refusals_refine::<K>();
+    steps_refine::<K>();
+    drives_refine::<K>();
+    stops_refine::<K>();
 }
 
 /// Its answers are those of plain lists asked one call at a time, first in, first out; and once no
 /// seat has a call, its file holds exactly what the lists do.
-pub fn a_kernel_led_answers_as_plain_lists<K>()
+pub fn a_refining_kernel_answers_as_plain_lists<K>()
     ensures { AnswersAsPlainLists K }
 {
     calls_leave_the_file_at_rest();
@@ -92,8 +92,8 @@ pub fn a_kernel_led_answers_as_plain_lists<K>()
 
 /// Where it is closed once no seat has a call, and no step has failed, its device has the file of
 /// the system that the lists come to. The stop mark stands in no record.
-pub fn a_kernel_led_closes_on_its_file<K>()
-    ensures { ClosesLed K }
+pub fn a_refining_kernel_closes_on_its_file<K>()
+    ensures { ClosesRefine K }
 {
     calls_leave_the_file_at_rest();
 }
@@ -103,8 +103,8 @@ pub fn a_kernel_led_closes_on_its_file<K>()
 pub fn a_closed_file_opens_on_its_system<K>()
     ensures { ClosedOpens K }
 {
-    a_kernel_opens_led::<K>();
-    a_kernel_led_closes_on_its_file::<K>();
+    an_opened_kernel_refines::<K>();
+    a_refining_kernel_closes_on_its_file::<K>();
     the_file_of_a_system_has_no_fault();
 }
 

@@ -11,8 +11,8 @@ ghost use Rattle.interleavings.specs.Runs.{AreOfSeats};
 
 use crate::event::{Event, Outcome};
 use crate::laws::{
-    a_kernel_led_answers_as_plain_lists, a_kernel_led_closes_on_its_file, a_kernel_opens_led,
-    a_step_does_what_its_seat_is_told, events_lead_on, steps_lead_on,
+    a_refining_kernel_answers_as_plain_lists, a_refining_kernel_closes_on_its_file,
+    a_step_does_what_its_seat_is_told, an_opened_kernel_refines, events_refine, steps_refine,
 };
 use crate::running::run;
 use bucket_page::PseudoKey;
@@ -86,12 +86,12 @@ pub fn play_on<D: PageDevice + Drop, K: PseudoKey + Drop>(
         × IfErr result (λ refusal. refusal.1 ≡ device_failed →
         HasRisen (D.fault_count device) (D.fault_count refusal.0)) }
 {
-    a_kernel_opens_led::<K>();
-    events_lead_on::<K>();
-    steps_lead_on::<K>();
+    an_opened_kernel_refines::<K>();
+    events_refine::<K>();
+    steps_refine::<K>();
     a_step_does_what_its_seat_is_told::<K>();
-    a_kernel_led_answers_as_plain_lists::<K>();
-    a_kernel_led_closes_on_its_file::<K>();
+    a_refining_kernel_answers_as_plain_lists::<K>();
+    a_refining_kernel_closes_on_its_file::<K>();
     let mut kernel = Kernel::open(alloc, device, keys, callers, frames)?;
     let Ok(outcomes) = run(alloc, &mut kernel, events) else {
         return Err((kernel.abandon().device, OpenFault::NoMemory));

@@ -5,7 +5,7 @@ ghost use Rattle.interleavings.specs.Headline.{AnswersRightly};
 ghost use Rattle.interleavings.specs.Runs.{AreOfSeats, Happens, IsLinearized, IsOfSeat, IsToldItsPart, Runs};
 
 use crate::event::{Event, Outcome};
-use crate::laws::{a_kernel_led_answers_as_plain_lists, events_lead_on};
+use crate::laws::{a_refining_kernel_answers_as_plain_lists, events_refine};
 use bucket_page::PseudoKey;
 use interleaving_core::Kernel;
 use page_device::PageDevice;
@@ -21,7 +21,7 @@ use std::alloc::Global;
 /// The journal is a linearization of the calls (Herlihy and Wing 1990): each joins it between its
 /// begin and its answer, so a call that began after another was answered stands after it.
 ///
-/// Whatever the order of the events: where the kernel was led from a lawful system, as one is that
+/// Whatever the order of the events: where the kernel refines a lawful system, as one does that
 /// was opened over an honest device, its answers are those of plain lists asked one call at a time;
 /// and once no seat has a call the file holds exactly what the lists do.
 pub fn run<D: PageDevice + Drop, K: PseudoKey + Drop>(
@@ -40,8 +40,8 @@ pub fn run<D: PageDevice + Drop, K: PseudoKey + Drop>(
         events.items outcomes.items kernel.old kernel.new) }
     ensures err { IfErr result (λ _. kernel.new ≡ kernel.old) }
 {
-    events_lead_on::<K>();
-    a_kernel_led_answers_as_plain_lists::<K>();
+    events_refine::<K>();
+    a_refining_kernel_answers_as_plain_lists::<K>();
     let mut outcomes = Vec::with_capacity(alloc, events.len())?;
     for event in events {
         outcomes.push(play(kernel, event)).unwrap();

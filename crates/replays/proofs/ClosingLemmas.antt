@@ -12,8 +12,8 @@ use Rattle.interleavings.specs.interleaving_core.Kernel.{KernelState, call_at}
 use Rattle.interleavings.specs.interleaving_core.Owing.{untold}
 use Rattle.interleavings.specs.interleaving_core.declared.fault.CloseFault.{CloseFault}
 use Rattle.interleavings.specs.interleaving_core.declared.fault.CloseFault.TheVariants.{Failed}
-use Rattle.interleavings.specs.Laws.{AnswersAsPlainLists as AnswersLed, ClosesLed, EventsLead}
-use Rattle.interleavings.specs.Leading.{IsLedFrom}
+use Rattle.interleavings.specs.Laws.{AnswersAsPlainLists as AnswersLed, ClosesRefine, EventsRefine}
+use Rattle.interleavings.specs.Refining.{Refines}
 use Rattle.interleavings.specs.Words.{restarted}
 use Rattle.msgq_cli.specs.Outputs.{OutputState}
 use Rattle.msgq_cli.specs.Scripts.{Parts}
@@ -65,7 +65,7 @@ if_some (Some x) weaker is = weaker x is
 
 -- ---- what is left of a replay
 
-module _ (leads : EventsLead ShaKey) (words : List Event) (first played last : ReplayState)
+module _ (leads : EventsRefine ShaKey) (words : List Event) (first played last : ReplayState)
     (plays : PlaysAll words first played) (goes : MakesRounds played last) (sound : IsSoundReplay last) where
   pub answers_plain : AnswersLed ShaKey → AnswersAsPlainLists first last
   answers_plain plain = record {
@@ -75,8 +75,8 @@ module _ (leads : EventsLead ShaKey) (words : List Event) (first played last : R
     told = sound.told;
   }
 
-  module _ (closes : ClosesLed ShaKey) (left : Option (List (List ℕ))) (well : IsClosedWell last.kernel left) where
-    file_by : (base : State) → IsLedFrom sha_key base first.kernel → (pages : Option (List (List ℕ))) →
+  module _ (closes : ClosesRefine ShaKey) (left : Option (List (List ℕ))) (well : IsClosedWell last.kernel left) where
+    file_by : (base : State) → Refines sha_key base first.kernel → (pages : Option (List (List ℕ))) →
         AreFlushed last.kernel.pool pages →
         HaveFileOf pages (restarted (after last.kernel.callers last.kernel.journal base))
     file_by base led None never = absurd never

@@ -8,8 +8,8 @@ use Rattle.queue_model.specs.State.{State}
 use Rattle.interleavings.specs.interleaving_core.Beginning.{IsStopped}
 use Rattle.interleavings.specs.interleaving_core.Kernel.{KernelState}
 use Rattle.interleavings.specs.interleaving_core.Words.{IsSeat}
-use Rattle.interleavings.specs.Laws.{EventsLead}
-use Rattle.interleavings.specs.Leading.{IsLedFrom}
+use Rattle.interleavings.specs.Laws.{EventsRefine}
+use Rattle.interleavings.specs.Refining.{Refines}
 use Rattle.interleavings.specs.Runs.{Happens, IsOfSeat}
 use Rattle.interleavings.specs.declared.event.Event.{Event}
 use Rattle.interleavings.specs.declared.event.Event.TheVariants as events
@@ -146,9 +146,9 @@ seats_kept old new (inr it) = (event_keeps sha_key it.event it.outcome old new i
 
 -- ---- where the journal leads
 
-led_on : EventsLead ShaKey → (base : State) (old new : KernelState ShaKey) → MayHappen old new →
-    IsLedFrom sha_key base old → IsLedFrom sha_key base new
-led_on lead base old new (inl same) led = subst (IsLedFrom sha_key base) (sym same) led
+led_on : EventsRefine ShaKey → (base : State) (old new : KernelState ShaKey) → MayHappen old new →
+    Refines sha_key base old → Refines sha_key base new
+led_on lead base old new (inl same) led = subst (Refines sha_key base) (sym same) led
 led_on lead base old new (inr it) led =
     lead sha_key base (it.event ∷ []) (it.outcome ∷ []) old new
     (All-cons (IsOfSeat (length old.locks)) it.event [] it.of_seat (All-nil (IsOfSeat (length old.locks))))
@@ -180,8 +180,8 @@ replay_keeps words first played last plays goes =
     throughout (KeepsCallers first.kernel) (keeps_on first.kernel) words first played last plays goes
     (record { callers = refl; honest = refl })
 
-pub replay_leads : EventsLead ShaKey → (base : State) (words : List Word) (first played last : ReplayState) →
-    PlaysAll words first played → MakesRounds played last → IsLedFrom sha_key base first.kernel →
-    IsLedFrom sha_key base last.kernel
+pub replay_leads : EventsRefine ShaKey → (base : State) (words : List Word) (first played last : ReplayState) →
+    PlaysAll words first played → MakesRounds played last → Refines sha_key base first.kernel →
+    Refines sha_key base last.kernel
 replay_leads lead base words first played last plays goes led =
-    throughout (IsLedFrom sha_key base) (led_on lead base) words first played last plays goes led
+    throughout (Refines sha_key base) (led_on lead base) words first played last plays goes led

@@ -12,7 +12,7 @@ use Rattle.interleavings.specs.interleaving_core.Beginning.{HasSystem, IsOpened}
 use Rattle.interleavings.specs.interleaving_core.Kernel.{KernelState}
 use Rattle.interleavings.specs.interleaving_core.declared.fault.OpenFault.{OpenFault}
 use Rattle.interleavings.specs.interleaving_core.declared.fault.OpenFault.TheVariants.{TooFewFrames}
-use Rattle.interleavings.specs.Laws.{IsLedFromFile, OpensLed}
+use Rattle.interleavings.specs.Laws.{RefinesFile, OpensRefine}
 use Rattle.msgq_cli.specs.Scripts.{Parts, IsSound, caller_of, greatest_seat}
 use Rattle.msgq_cli.specs.declared.line.Line.{Line}
 use Rattle.msgq_cli.specs.declared.line.SeatIds.{SeatIds}
@@ -67,10 +67,10 @@ opened_for script content honest keys frames seats callers many are k opened =
     }
 
 -- of an honest device it is led from the system of the file
-pub opened_led : OpensLed ShaKey → (script : Parts) (content : List (List ℕ)) (honest : Bool) (seats : ℕ)
+pub opened_led : OpensRefine ShaKey → (script : Parts) (content : List (List ℕ)) (honest : Bool) (seats : ℕ)
     (k : KernelState ShaKey) → seats ≡ greatest_seat script.lines → 1 ≤ seats → seats ≤ MAX_SEATS →
     IsOpenedForSeats script content honest k → IsTrue honest → HasSystem sha_key content →
-    IsLedFromFile sha_key content k
+    RefinesFile sha_key content k
 opened_led opens script content honest seats k many some few opened true_to_it has =
     let long = length-callers_of script.ids (greatest_seat script.lines) in
     opens sha_key opened.with_keys content honest (callers_of script.ids (greatest_seat script.lines)) opened.frames k

@@ -4,7 +4,7 @@ use Rattle.std.specs.Prelude.{ℕ, ◌≡◌, IsTrue, List, Option, Some, None}
 use Rattle.bucket_page.specs.Pseudokeys.{sha_key}
 use Rattle.interleavings.specs.interleaving_core.Kernel.{KernelState}
 use Rattle.interleavings.specs.Headline.{IsAsPlainLists}
-use Rattle.interleavings.specs.Leading.{IsLedFrom}
+use Rattle.interleavings.specs.Refining.{Refines}
 use Rattle.interleavings.specs.Words.{IsFileOf, IsLawful, State, after, part_of, restarted}
 use Rattle.replays.specs.Events.{ReplayState}
 use Rattle.replays.specs.Journal.{IsToldItsPart, entries_at}
@@ -25,14 +25,14 @@ pub record IsLeftWell (first last : ReplayState) (left : Option (List (List ℕ)
   pub told : (seat : ℕ) → part_of seat last.kernel.journal ≡
       part_of seat (entries_at last.script.lines last.script.replies)
   -- an honest device has the file of the system after the journal
-  pub file : (base : State) → IsLedFrom sha_key base first.kernel → IsTrue first.kernel.pool.honest →
+  pub file : (base : State) → Refines sha_key base first.kernel → IsTrue first.kernel.pool.honest →
       HaveFileOf left (restarted (after last.kernel.callers last.kernel.journal base))
 
 -- whatever the schedule: the answers are those of plain lists asked one call at a time
 pub record AnswersAsPlainLists (first last : ReplayState) : Type 0 where
   pub keeps : KeepsCallers first.kernel last.kernel
   -- from a lawful system the journal is legal, and first in first out
-  pub plain : (base : State) → IsLawful base → IsLedFrom sha_key base first.kernel →
+  pub plain : (base : State) → IsLawful base → Refines sha_key base first.kernel →
       IsAsPlainLists sha_key base last.kernel
   -- and of it each seat's lines were told its part
   pub told : (seat : ℕ) → IsToldItsPart seat last

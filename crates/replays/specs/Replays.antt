@@ -9,7 +9,7 @@ use Rattle.bucket_page.specs.declared.pseudokey.ShaKey.{ShaKey}
 use Rattle.interleavings.specs.interleaving_core.Beginning.{IsOpened}
 use Rattle.interleavings.specs.interleaving_core.Closing.{IsBusy, IsFlushedTo}
 use Rattle.interleavings.specs.interleaving_core.Kernel.{KernelState, call_at}
-use Rattle.interleavings.specs.Laws.{IsLedFromFile}
+use Rattle.interleavings.specs.Laws.{RefinesFile}
 use Rattle.interleavings.specs.Words.{PoolState}
 use Rattle.msgq_cli.specs.Answers.{reply_text}
 use Rattle.msgq_cli.specs.Outputs.{OutputState, Prints}
@@ -48,8 +48,8 @@ pub record IsOpenedForSeats (script : Parts) (content : List (List ℕ)) (honest
 -- and no line was begun
 pub record IsOpenedFor (script : Parts) (content : List (List ℕ)) (honest : Bool) (s : ReplayState) : Type 0 where
   pub kernel : IsOpenedForSeats script content honest s.kernel
-  -- an honest device has the file of a system, from which the kernel is led
-  pub led : IsTrue honest → IsLedFromFile sha_key content s.kernel
+  -- an honest device has the file of a system, which the kernel refines
+  pub led : IsTrue honest → RefinesFile sha_key content s.kernel
   pub script_is : s.script ≡ start script.lines (greatest_seat script.lines)
 
 -- ---- what is printed

@@ -10,7 +10,7 @@ use crate::replay::Replay;
 use crate::rounds::finish;
 use interleavings::interleaving_core::{Failure, Kernel, NotClosed};
 use interleavings::{
-    a_kernel_led_answers_as_plain_lists, a_kernel_led_closes_on_its_file, events_lead_on,
+    a_refining_kernel_answers_as_plain_lists, a_refining_kernel_closes_on_its_file, events_refine,
 };
 use msgq_cli::{Ending, Output, Stage, fail};
 use page_device::PageDevice;
@@ -34,7 +34,7 @@ pub struct Replayed<D> {
 /// nobody a line is left that no seat can finish: the kernel is let go, and fault 63 is printed
 /// after the replies.
 ///
-/// Whatever the schedule: where the kernel was led from a lawful system, as one is that was opened
+/// Whatever the schedule: where the kernel refines a lawful system, as one does that was opened
 /// over an honest device, the answers are those of plain lists asked one call at a time, and seat
 /// by seat the lines are replied its part of them. Where no fault is told after the replies, an
 /// honest device has the file of the system that the lists come to. The device is as honest as it
@@ -48,9 +48,9 @@ pub fn run<D: PageDevice + Drop, W: Write + Drop>(
         (option_map D.content result.device) result.ending }
     ensures same { IfSome result.device (λ d. D.is_honest d ≡ replay.entry.kernel.pool.honest) }
 {
-    events_lead_on::<FileKeys>();
-    a_kernel_led_answers_as_plain_lists::<FileKeys>();
-    a_kernel_led_closes_on_its_file::<FileKeys>();
+    events_refine::<FileKeys>();
+    a_refining_kernel_answers_as_plain_lists::<FileKeys>();
+    a_refining_kernel_closes_on_its_file::<FileKeys>();
     let mut replay = replay;
     replay.play_all(events);
     let is_over = finish(&mut replay);

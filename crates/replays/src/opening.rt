@@ -12,7 +12,7 @@ ghost use Rattle.replays.specs.Replays.{IsOpenedFor, IsOpenedForSeats, callers_o
 use crate::progress::Progress;
 use crate::replay::Replay;
 use bucket_page::ShaKey;
-use interleavings::a_kernel_opens_led;
+use interleavings::an_opened_kernel_refines;
 use interleavings::interleaving_core::{FRAMES_BESIDE, Kernel, OpenFault};
 use kept_keys::KeptKeys;
 use msgq_cli::{MOST_FRAMES, Script};
@@ -29,7 +29,7 @@ const FRAMES_A_SEAT: usize = 4;
 
 /// Opens the file of a device for the seats of a script, of which no line was begun. All memory for
 /// the seats and for the replies is taken here. The file is checked first, and refused by the first
-/// thing that is wrong with it. The kernel that is opened of an honest device is led from the
+/// thing that is wrong with it. The kernel that is opened of an honest device refines the
 /// system whose file it has.
 ///
 /// # Errors
@@ -46,7 +46,7 @@ pub fn open<'a, D: PageDevice + Drop>(
         IfErr result (MayRefuse sha_key (D.content device)) }
     ensures enough { IfErr result (λ fault. fault ≢ OpenFault.TooFewFrames) }
 {
-    a_kernel_opens_led::<FileKeys>();
+    an_opened_kernel_refines::<FileKeys>();
     let seats = seats_of(script);
     let Ok(progress) = Progress::new(alloc, script.lines(), seats) else {
         return Err(OpenFault::NoMemory);

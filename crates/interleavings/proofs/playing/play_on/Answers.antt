@@ -19,12 +19,12 @@ returns-clause-headline g c = λ true_to_it.
     plays_plain g.K.PseudoKey.of_key c.args.keys (g.D.PageDevice.content c.args.device)
     (g.D.PageDevice.is_honest c.args.device) c.args.callers.now c.args.frames c.args.events.items
     c.in_ok-kernel.kernel c.run.new.kernel _ _ _ _ c.in_ok-kernel.ensures.ok c.requires.seats c.in-Ok.ensures.runs
-    c.end-closed.ensures c.in-Ok.ensures.told c.in-Ok.ensures.linear c.events_lead_on.ensures true_to_it
-    (c.a_kernel_opens_led.ensures (g.K.PseudoKey.of_key c.args.keys) c.args.keys
+    c.end-closed.ensures c.in-Ok.ensures.told c.in-Ok.ensures.linear c.events_refine.ensures true_to_it
+    (c.an_opened_kernel_refines.ensures (g.K.PseudoKey.of_key c.args.keys) c.args.keys
     (g.D.PageDevice.content c.args.device) (g.D.PageDevice.is_honest c.args.device) c.args.callers.now c.args.frames
     c.in_ok-kernel.kernel c.in_ok-kernel.ensures.ok true_to_it (c.in_ok-kernel.ensures.file true_to_it)
-    c.requires.some c.requires.few) c.a_kernel_led_answers_as_plain_lists.ensures
-    c.a_kernel_led_closes_on_its_file.ensures
+    c.requires.some c.requires.few) c.a_refining_kernel_answers_as_plain_lists.ensures
+    c.a_refining_kernel_closes_on_its_file.ensures
 
 pub returns-clause-played : goal.returns-clause-played
 returns-clause-played g c =
@@ -48,11 +48,11 @@ returns-clause-cause g c = (
   has_reason g.K.PseudoKey.of_key c.args.keys (g.D.PageDevice.content c.args.device)
       (g.D.PageDevice.is_honest c.args.device) c.args.callers.now c.args.frames c.args.events.items
       c.in_ok-kernel.kernel c.run.new.kernel _ _ _ _ c.in_ok-kernel.ensures.ok c.requires.seats
-      c.in-Ok.ensures.runs c.end-closed.ensures c.in-Ok.ensures.told c.in-Ok.ensures.linear c.events_lead_on.ensures
-      (λ true_to_it. c.a_kernel_opens_led.ensures (g.K.PseudoKey.of_key c.args.keys) c.args.keys
+      c.in-Ok.ensures.runs c.end-closed.ensures c.in-Ok.ensures.told c.in-Ok.ensures.linear c.events_refine.ensures
+      (λ true_to_it. c.an_opened_kernel_refines.ensures (g.K.PseudoKey.of_key c.args.keys) c.args.keys
       (g.D.PageDevice.content c.args.device) (g.D.PageDevice.is_honest c.args.device) c.args.callers.now
       c.args.frames c.in_ok-kernel.kernel c.in_ok-kernel.ensures.ok true_to_it
       (c.in_ok-kernel.ensures.file true_to_it) c.requires.some c.requires.few)
-      c.a_step_does_what_its_seat_is_told.ensures c.steps_lead_on.ensures _ c.in_ok-kernel.ensures.cause.0,
+      c.a_step_does_what_its_seat_is_told.ensures c.steps_refine.ensures _ c.in_ok-kernel.ensures.cause.0,
   tt,
 )

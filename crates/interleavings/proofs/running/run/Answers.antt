@@ -25,12 +25,12 @@ returns-clause-headline g c =
     c.loop-event.outcomes.items _ c.args.kernel.now c.loop-event.kernel c.loop-event.invariant.2
     c.in-None.ensures.steps.0) in
     record {
-      led = λ base led. c.events_lead_on.ensures (g.K.PseudoKey.of_key c.args.kernel.now.keys) base
+      led = λ base led. c.events_refine.ensures (g.K.PseudoKey.of_key c.args.kernel.now.keys) base
           c.args.events.items c.loop-event.outcomes.items c.args.kernel.now c.loop-event.kernel c.requires led
           runs;
-      plain = λ base lawful led. c.a_kernel_led_answers_as_plain_lists.ensures
+      plain = λ base lawful led. c.a_refining_kernel_answers_as_plain_lists.ensures
           (g.K.PseudoKey.of_key c.args.kernel.now.keys) base c.loop-event.kernel lawful
-          (c.events_lead_on.ensures (g.K.PseudoKey.of_key c.args.kernel.now.keys) base c.args.events.items
+          (c.events_refine.ensures (g.K.PseudoKey.of_key c.args.kernel.now.keys) base c.args.events.items
           c.loop-event.outcomes.items c.args.kernel.now c.loop-event.kernel c.requires led runs);
     }
 

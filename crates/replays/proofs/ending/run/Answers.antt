@@ -39,8 +39,8 @@ returns-clause-replayed g c =
       plays = plays;
       last = last;
       rounds = rounds;
-      answers = answers_plain c.events_lead_on.ensures words c.args.replay c.play_all.new.self last plays rounds
-          c.is_sound.ensures c.a_kernel_led_answers_as_plain_lists.ensures;
+      answers = answers_plain c.events_refine.ensures words c.args.replay c.play_all.new.self last plays rounds
+          c.is_sound.ensures c.a_refining_kernel_answers_as_plain_lists.ensures;
       told = told;
       so_far = c.print_replies-so_far.result;
       tells = record {
@@ -52,8 +52,8 @@ returns-clause-replayed g c =
       fault = fault;
       closes = closes;
       stuck = busy_if_left last fault c.is_sound.ensures closes;
-      well = λ none. left_well c.events_lead_on.ensures words c.args.replay c.play_all.new.self last plays rounds
-          c.is_sound.ensures c.a_kernel_led_closes_on_its_file.ensures left
+      well = λ none. left_well c.events_refine.ensures words c.args.replay c.play_all.new.self last plays rounds
+          c.is_sound.ensures c.a_refining_kernel_closes_on_its_file.ensures left
           (subst (λ (k : KernelState ShaKey). IsClosedWell k left) kernel (c.close-device.ensures.well none));
       ends = c.end-ending.ensures;
     }

@@ -1,6 +1,6 @@
 use Rattle.std.proofs.Common.{◌∙◌, ap, subst, sym, List}
 use Rattle.bucket_page.specs.Pseudokeys.{sha_key}
-use Rattle.interleavings.specs.Laws.{IsLedFromFile}
+use Rattle.interleavings.specs.Laws.{RefinesFile}
 use Rattle.msgq_cli.specs.declared.line.Line.{Line}
 use Rattle.replays.specs.Journal.{IsSoundReplay}
 use Rattle.replays.specs.Places.{ProgressState, start}
@@ -27,8 +27,8 @@ returns-in-Ok-open_kernel-clause-ok g c =
     let same = sym c.new-in-Ok-open_kernel.ensures.kernel in
     record {
       kernel = subst (IsOpenedForSeats c.args.script.now content honest) same opened;
-      led = λ true_to_it. subst (IsLedFromFile sha_key content) same
-          (opened_led c.a_kernel_opens_led.ensures c.args.script.now content honest c.seats_of-seats.result
+      led = λ true_to_it. subst (RefinesFile sha_key content) same
+          (opened_led c.an_opened_kernel_refines.ensures c.args.script.now content honest c.seats_of-seats.result
           c.in-Ok-open_kernel.kernel c.seats_of-seats.ensures.value c.seats_of-seats.ensures.some
           c.seats_of-seats.ensures.few opened true_to_it (c.in-Ok-open_kernel.ensures.file true_to_it));
       script_is = c.new-in-Ok-open_kernel.ensures.script ∙ c.in-Ok.ensures.ok

@@ -5,8 +5,8 @@ use Rattle.step_rules.specs.Words.{Change}
 use Rattle.interleavings.specs.Counting.{AreCounted}
 use Rattle.interleavings.specs.Words.{ActiveView, Caller, HasFittingCaller, KernelState, LeadsAlong, RecordKey, State, call_at, caller_at}
 
--- it has come from this system by what its journal says, whatever its seats are at
-pub record IsLedFrom {K : Type 0} (hash : RecordKey → ℕ) (base : State) (k : KernelState K) : Type 0 where
+-- it refines this system: it has come from it by what its journal says, whatever its seats are at
+pub record Refines {K : Type 0} (hash : RecordKey → ℕ) (base : State) (k : KernelState K) : Type 0 where
   -- the system after the journal, which is stopped exactly where the kernel is
   pub now : State
   pub leads : LeadsAlong k.callers k.journal base now
@@ -22,7 +22,7 @@ pub record IsLedFrom {K : Type 0} (hash : RecordKey → ℕ) (base : State) (k :
   pub together : k.failed ≡ false → AreCounted hash now k
 
 -- and, until a step fails, in this phase of a change of the structure
-pub record IsLedIn {K : Type 0} (hash : RecordKey → ℕ) (base : State) (k : KernelState K) (change : Change)
+pub record RefinesIn {K : Type 0} (hash : RecordKey → ℕ) (base : State) (k : KernelState K) (change : Change)
     : Type 0 where
-  pub led : IsLedFrom hash base k
+  pub led : Refines hash base k
   pub phase : (sound : k.failed ≡ false) → (led.together sound).calls.change ≡ change

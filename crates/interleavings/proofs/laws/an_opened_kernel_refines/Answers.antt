@@ -1,5 +1,5 @@
 use Rattle.interleavings.proofs.OpenLemmas.{opens_led}
-use Rattle.interleavings.proofs.laws.a_kernel_opens_led.Goals as goal
+use Rattle.interleavings.proofs.laws.an_opened_kernel_refines.Goals as goal
 
 pub returns : goal.returns
 returns g c = opens_led c.calls_rest_together.ensures _

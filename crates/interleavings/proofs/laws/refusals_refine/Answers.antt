@@ -1,5 +1,5 @@
 use Rattle.interleavings.proofs.OpenLemmas.{refuses_led}
-use Rattle.interleavings.proofs.laws.refusals_leave_led.Goals as goal
+use Rattle.interleavings.proofs.laws.refusals_refine.Goals as goal
 
 pub returns : goal.returns
 returns g c = refuses_led _
