@@ -3,7 +3,7 @@ import hashlib
 from dataclasses import dataclass, field
 
 PAGE, PAYLOAD, FIELDS, ROOM = 4096, 4064, 16, 4048
-ROOT, DEEPEST, LEAST, MOST = 257, 17, 258, 65536
+MOST = 65536
 HEADER, DIRECTORY, BUCKET, TOMBSTONE, FREE = 1, 2, 3, 4, 5
 COUNTER, KEY, QUEUE, TYPE, MESSAGE = 1, 2, 3, 4, 5
 POSITIONS = 2**32
@@ -12,6 +12,20 @@ POSITIONS = 2**32
 QUEUE_FIELDS = [("qbytes", 4), ("cbytes", 4), ("qnum", 4), ("lspid", 4), ("lrpid", 4), ("stime", 8), ("rtime", 8), ("ctime", 8),
                 ("next_serial", 8), ("first", 8), ("last", 8), ("lowest", 8), ("uid", 4), ("gid", 4), ("cuid", 4), ("cgid", 4), ("mode", 2)]
 WIDTHS = {COUNTER: [4, 4], KEY: [4], QUEUE: [1, 4] + [width for _, width in QUEUE_FIELDS], TYPE: [8, 8, 8, 8], MESSAGE: [8, 4, 8, 8, 8]}
+
+
+@dataclass(frozen=True)
+class Layout:
+    """Where the versions of the format differ: byte 1 of the header, the root's page, the greatest depth, the bytes of a Queue's value."""
+    version: int
+    root: int
+    deepest: int
+    queue_bytes: int
+
+
+TODAY, OLDER = Layout(2, 257, 17, 99), Layout(1, 33, 14, 81)
+# What a Queue of version 1 lacks at its end: owner, creator and their groups are 0, and the mode is 666.
+NO_OWNERS = bytes(16) + b"\1\xb6"
 
 
 class Wrong(Exception):
@@ -98,6 +112,11 @@ def records_of(system):
     return records
 
 
+def older_records(records):
+    """The same records as a file of version 1 has them."""
+    return {key: value[:OLDER.queue_bytes] if key[0] == QUEUE else value for key, value in records.items()}
+
+
 # ---- a file is made
 
 
@@ -117,22 +136,23 @@ def halves(rng, depth, pattern, records, ease):
     return halves(rng, depth + 1, pattern, lower, ease) + halves(rng, depth + 1, pattern + 2**depth, upper, ease)
 
 
-def payloads_of(rng, records, spare):
+def payloads_of(rng, records, spare, layout=TODAY):
     """The payloads of a right file with these records. Its buckets and free pages lie anywhere."""
     buckets = halves(rng, 0, 0, records, rng.choice([0.0, 0.3, 0.7]))
-    pages = LEAST - 1 + len(buckets) + spare
-    rest = list(range(LEAST, pages))
+    pages = layout.root + len(buckets) + spare
+    rest = list(range(layout.root + 1, pages))
     rng.shuffle(rest)
-    chain, free = [ROOT] + rest[:len(buckets) - 1], rest[len(buckets) - 1:]
+    chain, free = [layout.root] + rest[:len(buckets) - 1], rest[len(buckets) - 1:]
     depth = max(bucket[0] for bucket in buckets)
-    counts = [sum(bucket[0] == local for bucket in buckets) for local in range(DEEPEST + 1)]
-    header = bytes([HEADER, 2, depth, 0]) + b"MSGQFILE" + joined([4] * 20, [pages, next_to(free, 0)] + counts)
+    counts = [sum(bucket[0] == local for bucket in buckets) for local in range(layout.deepest + 1)]
+    numbers = [pages, next_to(free, 0)] + counts
+    header = bytes([HEADER, layout.version, depth, 0]) + b"MSGQFILE" + joined([4] * len(numbers), numbers)
     payloads = {0: header.ljust(PAYLOAD, b"\0")}
-    entries = [0] * 2**DEEPEST
+    entries = [0] * 2**layout.deepest
     for (local, pattern, _), page in zip(buckets, chain):
         for entry in range(pattern, 2**depth, 2**local):
             entries[entry] = page
-    for page in range(1, ROOT):
+    for page in range(1, layout.root):
         listed = joined([4] * 512, entries[512 * (page - 1):512 * page])
         payloads[page] = (bytes([DIRECTORY]).ljust(FIELDS, b"\0") + listed).ljust(PAYLOAD, b"\0")
     for place, (local, pattern, held) in enumerate(buckets):
@@ -145,10 +165,10 @@ def payloads_of(rng, records, spare):
 # ---- a file is checked
 
 
-def records_in(payload):
+def records_in(payload, layout=TODAY):
     """The records of a bucket's payload, by key, or 40."""
     many, size = number(payload, 2, 2), number(payload, 12, 2)
-    if payload[1] > DEEPEST or number(payload, 4, 4) >= 2**payload[1] or size > ROOM:
+    if payload[1] > layout.deepest or number(payload, 4, 4) >= 2**payload[1] or size > ROOM:
         raise Wrong(40)
     records, at, last = {}, FIELDS, b""
     for _ in range(many):
@@ -165,7 +185,7 @@ def records_in(payload):
     return records
 
 
-def read_pages(data):
+def read_pages(data, layout):
     """The payloads of a file whose pages are each right, and the records of its buckets."""
     if len(data) % PAGE or not data:
         raise Wrong(22)
@@ -175,10 +195,10 @@ def read_pages(data):
         raise Wrong(21)
     if header[0] != HEADER or header[4:12] != b"MSGQFILE":
         raise Wrong(41)
-    if header[1] != 2:
+    if header[1] != layout.version:
         raise Wrong(42)
     said = number(header, 12, 4)
-    if header[2] > DEEPEST or not LEAST <= said <= MOST or header[3] or any(header[92:]):
+    if header[2] > layout.deepest or not layout.root < said <= MOST or header[3] or any(header[20 + 4 * (layout.deepest + 1):]):
         raise Wrong(41)
     if said != len(pages):
         raise Wrong(22 if said > len(pages) else 41)
@@ -187,11 +207,11 @@ def read_pages(data):
         payload = whole[:PAYLOAD]
         if whole != seal(page, payload):
             raise Wrong(21)
-        kinds, fields = ((DIRECTORY,), 1) if page < ROOT else ((BUCKET, TOMBSTONE, FREE), 4)
+        kinds, fields = ((DIRECTORY,), 1) if page < layout.root else ((BUCKET, TOMBSTONE, FREE), 4)
         if payload[0] not in kinds:
             raise Wrong(40)
         if payload[0] == BUCKET:
-            buckets[page] = records_in(payload)
+            buckets[page] = records_in(payload, layout)
         elif payload[0] == DIRECTORY and (any(payload[1:FIELDS]) or any(payload[2064:])):
             raise Wrong(40)
         elif payload[0] in (TOMBSTONE, FREE) and (any(payload[1:fields]) or any(payload[8:])):
@@ -199,9 +219,9 @@ def read_pages(data):
     return [page[:PAYLOAD] for page in pages], buckets
 
 
-def chain_of(payloads, buckets):
+def chain_of(payloads, buckets, layout):
     """The buckets' pages in the order of the chain, or 70."""
-    chain, page, begin = [], ROOT, 0
+    chain, page, begin = [], layout.root, 0
     while page or not chain:
         if page not in buckets:
             raise Wrong(70)
@@ -216,7 +236,7 @@ def chain_of(payloads, buckets):
     return chain
 
 
-def check_structure(payloads, chain):
+def check_structure(payloads, chain, layout):
     header, met = payloads[0], set(chain)
     page = number(header, 16, 4)
     while page:
@@ -224,11 +244,12 @@ def check_structure(payloads, chain):
             raise Wrong(71)
         met.add(page)
         page = number(payloads[page], 4, 4)
-    if met != set(range(ROOT, len(payloads))):
+    if met != set(range(layout.root, len(payloads))):
         raise Wrong(71)
     depth = header[2]
     locals_ = [payloads[page][1] for page in chain]
-    if max(locals_) > depth or [locals_.count(local) for local in range(DEEPEST + 1)] != split(header[20:], [4] * (DEEPEST + 1)):
+    counts = [locals_.count(local) for local in range(layout.deepest + 1)]
+    if max(locals_) > depth or counts != split(header[20:], [4] * len(counts)):
         raise Wrong(72)
     for local, page in zip(locals_, chain):
         for entry in range(number(payloads[page], 4, 4), 2**depth, 2**local):
@@ -293,21 +314,28 @@ def system_in(records):
     return system
 
 
-def check(data):
-    """What `msgq check` prints of a file with these bytes."""
+def system_of(data, layout=TODAY):
+    """The system that a file with these bytes holds, or the first thing that is wrong with it."""
+    payloads, buckets = read_pages(data, layout)
+    chain = chain_of(payloads, buckets, layout)
+    check_structure(payloads, chain, layout)
+    records = {}
+    for page in chain:
+        for key, value in sorted(buckets[page].items()):
+            if (pseudokey(key) ^ number(payloads[page], 4, 4)) % 2**payloads[page][1]:
+                raise Wrong(74)
+            if key[0] == QUEUE and layout == OLDER:
+                value = value + NO_OWNERS if len(value) == OLDER.queue_bytes else b""
+            if not is_record(key, value):
+                raise Wrong(43)
+            records[key] = value
+    return system_in(records)
+
+
+def check(data, layout=TODAY, word="ok"):
+    """What `msgq check` prints of a file with these bytes, and `msgq migrate` of an older one."""
     try:
-        payloads, buckets = read_pages(data)
-        chain = chain_of(payloads, buckets)
-        check_structure(payloads, chain)
-        records = {}
-        for page in chain:
-            for key, value in sorted(buckets[page].items()):
-                if (pseudokey(key) ^ number(payloads[page], 4, 4)) % 2**payloads[page][1]:
-                    raise Wrong(74)
-                if not is_record(key, value):
-                    raise Wrong(43)
-            records.update(buckets[page])
-        system = system_in(records)
+        system = system_of(data, layout)
     except Wrong as wrong:
         return f"fault {wrong.args[0]}\n"
-    return f"ok {len(system.queues)} {sum(len(queue.messages) for queue in system.queues)}\n"
+    return f"{word} {len(system.queues)} {sum(len(queue.messages) for queue in system.queues)}\n"

@@ -3,7 +3,9 @@
 use crate::file_tests::{changed, spoilt};
 use crate::run_tests::{FIRST, new_device};
 use crate::trial::{Screen, buffered, printed};
-use msgq_cli::{Ending, Report, new_file, new_on, report_file, report_on};
+use msgq_cli::{
+    Ending, Report, ReportRequest, Shown, advise, new_file, new_on, report_file, report_on,
+};
 use page_device::{FaultyDevice, MemDevice, PageDevice};
 use std::fs;
 use std::fs::{File, OpenOptions};
@@ -55,19 +57,24 @@ fn what_is_wrong_is_told_by_its_number(rt: HostRuntime) -> Result<(), Fail> {
     Ok(())
 }
 
-/// Of a file of 5,120 pages each is read once, and the root bucket again for its records.
+/// Of a file of 5,120 pages each is made, then read once, and the root bucket again for its records.
 #[test]
 fn a_terminal_shows_how_far_it_is(rt: HostRuntime) -> Result<(), Fail> {
     let alloc = rt.alloc();
     for is_terminal in [true, false] {
         let mut output = buffered(alloc)?;
-        let device = new_on(MemDevice::new(alloc), 5_120, &mut output).0;
         let mut screen = Screen::new(alloc, is_terminal);
+        let device = Shown::new(MemDevice::new(alloc), &mut screen);
+        let device = new_on(device, 5_120, &mut output).0.into_device();
         let found = report_on(alloc, device, Report::Counts, &mut output, &mut screen).1;
         assert!(rt; found.is_ok());
         let said = String::from_utf8(screen.into_said())?;
-        let wanted = "\r\u{1b}[Kmsgq: checked 5120 of 5120 pages";
-        assert!(rt; said.contains(wanted) == is_terminal);
+        for wanted in [
+            "\r\u{1b}[Kmsgq: made 5120 pages\r\u{1b}[K",
+            "\r\u{1b}[Kmsgq: checked 5120 of 5120 pages",
+        ] {
+            assert!(rt; said.contains(wanted) == is_terminal);
+        }
         assert!(rt; said.ends_with("\r\u{1b}[K") == is_terminal);
         assert!(rt; said.is_empty() != is_terminal);
     }
@@ -84,8 +91,13 @@ fn is_told<R: Abort + AllocGlobal + Files<File = File>>(
     let alloc = rt.alloc();
     let mut output = buffered(alloc)?;
     let mut screen = Screen::new(alloc, true);
-    let ended = report_file(rt, file, Report::Counts, &mut output, &mut screen);
-    assert!(rt; (ended == Ending::Done) == errors.is_empty(), "{file}");
+    let request = ReportRequest {
+        file,
+        report: Report::Counts,
+        is_verbose: false,
+    };
+    let ended = report_file(rt, request, &mut output, &mut screen);
+    advise(rt, file, ended, &mut screen);
     assert!(rt;
         ended.status(false) == u8::from(ended != Ending::Done),
         "{file}"
@@ -109,19 +121,21 @@ fn files_are_checked_and_told_why(rt: HostRuntime) -> Result<(), Fail> {
     let mut screen = Screen::new(alloc, true);
     let file = "checked/queues";
     assert!(rt; new_file(&rt, file, 258, &mut output, &mut screen) == Ending::Done);
-    is_told(&rt, file, "ok 0 0\n", "")?;
-    fs::write(&rt, "checked/first", FIRST)?;
-    is_told(&rt, "checked/first", "fault 22\n", CUT_FIRST)?;
-    let part = "msgq: checked/queues: it can't be opened: it is cut: it has fewer pages than its \
-        header says, or a part of one\n";
-    let cut = "msgq: checked/queues: it is wrong: the file is cut\n";
+    is_told(&rt, file, "ok 0 0\n", FULLNESS)?;
+    fs::write(&rt, "checked/first\n\u{1b}\u{e9}", FIRST)?;
+    is_told(
+        &rt,
+        "checked/first\n\u{1b}\u{e9}",
+        "fault 22\n",
+        NOT_OF_QUEUES,
+    )?;
     let mut how = OpenOptions::new();
     how.write(true);
     for (len, errors) in [
-        (258 * 4096 + 1, part),
-        (257 * 4096, cut),
-        (257 * 4096 + 100, part),
-        (0, cut),
+        (258 * 4096 + 1, PART),
+        (257 * 4096, CUT),
+        (257 * 4096 + 100, PART),
+        (0, EMPTY),
     ] {
         how.open(&rt, file)?.set_len(len)?;
         is_told(&rt, file, "fault 22\n", errors)?;
@@ -130,6 +144,24 @@ fn files_are_checked_and_told_why(rt: HostRuntime) -> Result<(), Fail> {
     Ok(())
 }
 
-/// What is said of a script in the place of a file.
-const CUT_FIRST: &str = "msgq: checked/first: it can't be opened: it is cut: it has fewer pages \
-    than its header says, or a part of one\n";
+/// What a terminal shows of a new file.
+const FULLNESS: &str = "msgq: checked/queues: 258 pages: 257 of the header and the directory, 1 of \
+    records, 0 free; the directory has depth 0\n";
+
+/// What is said of a script in the place of a file, whose name has a line feed and an escape.
+const NOT_OF_QUEUES: &str =
+    "msgq: checked/first\\n\\u{1b}\u{e9}: it can't be opened: it is cut: it has \
+    fewer pages than its header says, or a part of one\n\
+    msgq: checked/first\\n\\u{1b}\u{e9}: it does not begin as a file of message queues does\n";
+
+/// And of a file that is cut.
+const PART: &str =
+    "msgq: checked/queues: it can't be opened: it is cut: it has fewer pages than its \
+    header says, or a part of one\n\
+    msgq: checked/queues: no command mends it: put a copy in its place\n";
+
+const CUT: &str = "msgq: checked/queues: it is wrong: the file is cut\n\
+    msgq: checked/queues: no command mends it: put a copy in its place\n";
+
+const EMPTY: &str = "msgq: checked/queues: it is wrong: the file is cut\n\
+    msgq: checked/queues: it does not begin as a file of message queues does\n";

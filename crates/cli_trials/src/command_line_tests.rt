@@ -1,6 +1,6 @@
 //! Command lines, and the exit status of those that are wrong.
 
-use msgq_cli::{Report, Task, read_command_line};
+use msgq_cli::{Report, ReportRequest, Task, read_command_line};
 use std::process::Abort;
 use std::test::Fail;
 
@@ -25,7 +25,13 @@ fn reads<R: Abort + AllocGlobal>(rt: &R, line: &str, wanted: Option<Task>) -> Re
 fn each_command_line_is_read_or_wrong(rt: HostRuntime) -> Result<(), Fail> {
     let new = |pages| Some(Task::New { file: "q", pages });
     let run = |script| Some(Task::Run { file: "q", script });
-    let tells = |report| Some(Task::Report { file: "q", report });
+    let tells = |report, is_verbose| {
+        Some(Task::Report(ReportRequest {
+            file: "q",
+            report,
+            is_verbose,
+        }))
+    };
     let replay = Task::Replay {
         file: "q",
         script: "-",
@@ -37,8 +43,12 @@ fn each_command_line_is_read_or_wrong(rt: HostRuntime) -> Result<(), Fail> {
     reads(&rt, "msgq run q s", run("s"))?;
     reads(&rt, "msgq run q -", run("-"))?;
     reads(&rt, "msgq replay q - t", Some(replay))?;
-    reads(&rt, "msgq check q", tells(Report::Counts))?;
-    reads(&rt, "msgq stat q", tells(Report::Queues))?;
+    reads(&rt, "msgq check q", tells(Report::Counts, false))?;
+    reads(&rt, "msgq check --verbose q", tells(Report::Counts, true))?;
+    reads(&rt, "msgq stat q", tells(Report::Queues, false))?;
+    reads(&rt, "msgq stat q -v", tells(Report::Queues, true))?;
+    let migrate = Task::Migrate { old: "q", new: "r" };
+    reads(&rt, "msgq migrate q r", Some(migrate))?;
     for line in [
         "msgq new q 257",
         "msgq new q 65537",
@@ -53,6 +63,9 @@ fn each_command_line_is_read_or_wrong(rt: HostRuntime) -> Result<(), Fail> {
         "msgq replay q - -",
         "msgq check",
         "msgq stat q q",
+        "msgq migrate q",
+        "msgq migrate q r 300",
+        "msgq run -v q s",
         "msgq go",
     ] {
         reads(&rt, line, None)?;

@@ -1,7 +1,7 @@
 //! Scripts run on files that are not as they should be, and on files of the system.
 
 use crate::run_tests::{FIRST, new_device, prints};
-use crate::trial::{buffered, printed};
+use crate::trial::{Screen, buffered, printed};
 use bucket_page::Malformed;
 use file_walk::StructureFault;
 use msgq_cli::file_check::CheckFault;
@@ -83,12 +83,12 @@ fn makes<R: Abort + AllocGlobal + Files<File = File>>(
     errors: &str,
 ) -> Result<(), Fail> {
     let mut output = buffered(rt.alloc())?;
-    let mut said = Vec::new(rt.alloc());
-    let ended = new_file(rt, path, 258, &mut output, &mut said);
+    let mut screen = Screen::new(rt.alloc(), false);
+    let ended = new_file(rt, path, 258, &mut output, &mut screen);
     assert!(rt; (ended == Ending::Done) == errors.is_empty());
     let told = String::from_utf8(printed(output))?;
     assert_eq!(rt; told.as_str(), wanted);
-    let said = String::from_utf8(said)?;
+    let said = String::from_utf8(screen.into_said())?;
     assert_eq!(rt; said.as_str(), errors);
     Ok(())
 }

@@ -17,3 +17,5 @@ mod script_tests;
 mod serving_tests;
 #[cfg(test)]
 mod trial;
+#[cfg(test)]
+mod untold_tests;

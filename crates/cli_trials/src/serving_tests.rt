@@ -1,7 +1,7 @@
 //! Readers and writers that fail, and what is said of wrong scripts.
 
 use crate::trial::{Refusing, buffered, printed, unbuffered};
-use msgq_cli::{Ending, Failure, Stage, print_made};
+use msgq_cli::{Ending, Failure, Reply, Stage, complain_of_lines, print_made};
 use script_runs::{serve, serve_text};
 use std::io;
 use std::io::{ErrorKind, Read};
@@ -123,3 +123,35 @@ fn is_named<R: Abort + AllocGlobal>(
     assert!(rt; said.starts_with(wanted.as_str()), "{line}: {said}");
     Ok(())
 }
+
+/// Each kind of fault that lines were replied is explained once, with how many lines more met it.
+#[test]
+fn a_kind_of_fault_is_explained_once(rt: HostRuntime) -> Result<(), Fail> {
+    let alloc = rt.alloc();
+    let mut output = buffered(alloc)?;
+    for (line, fault) in [
+        (4, 50),
+        (5, 61),
+        (7, 50),
+        (8, 61),
+        (9, 61),
+        (11, 62),
+        (12, 60),
+    ] {
+        Reply::Failed(fault).print(line, &mut output);
+    }
+    let mut errors = Vec::new(alloc);
+    complain_of_lines("q", &output, &mut errors);
+    let said = String::from_utf8(errors)?;
+    assert_eq!(rt; said.as_str(), EXPLAINED);
+    Ok(())
+}
+
+/// What is said of lines 4 to 12.
+const EXPLAINED: &str = "\
+msgq: q: line 4: there is no room for its records: take messages out, or go on in a larger file \
+('msgq check --verbose' tells how full one is); so one line more
+msgq: q: line 12: there was no memory for it, and nothing changed: it may be asked again
+msgq: q: line 5: a run makes at most 65536 calls: run the lines from here on by themselves; so 2 lines \
+more
+";

@@ -12,7 +12,13 @@ mod closing;
 #[cfg(test)]
 mod drawn;
 #[cfg(test)]
+mod failing;
+#[cfg(test)]
+mod filling;
+#[cfg(test)]
 mod finding;
+#[cfg(test)]
+mod growing;
 #[cfg(test)]
 mod malicious;
 #[cfg(test)]

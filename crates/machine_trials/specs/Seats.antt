@@ -1,5 +1,5 @@
 -- What the seats of a trial hold.
-use Rattle.std.specs.Prelude.{ℕ, suc, ◌≡◌, List, [], ◌∷◌, length, replicate, Some, slice_get, ⊤}
+use Rattle.std.specs.Prelude.{ℕ, suc, ◌≡◌, ◌≤◌, List, [], ◌∷◌, length, replicate, Option, Some, None, slice_get, ⊤}
 use Rattle.page_locks.specs.declared.lock.Lock.{Lock}
 use Rattle.page_locks.specs.declared.lock.LockKind.TheVariants.{Exclusive}
 use Rattle.page_locks.specs.declared.lock.LockName.{LockName}
@@ -9,26 +9,30 @@ use Rattle.buffer_pool.specs.Pool.{PoolState}
 use Rattle.file_pages.specs.Files.{IsReady}
 use Rattle.stale_search.specs.Rows.{HasNoFileLock}
 use Rattle.stale_search.specs.Searches.{search_locks}
-use Rattle.record_file.specs.Finds.{find_locks}
-use Rattle.record_file.specs.Replaces.{replace_locks}
-use Rattle.record_insert.specs.Inserts.{insert_locks}
-use Rattle.record_file.specs.Deletes.{delete_locks}
-use Rattle.machine_trials.specs.declared.machine.Machine.{Machine}
-use Rattle.machine_trials.specs.declared.machine.Machine.TheVariants.{Search, Find, Replace, Insert, Delete}
-use Rattle.machine_trials.specs.declared.seat.Seat.{Seat}
-use Rattle.machine_trials.specs.declared.seat.Seat.TheVariants.{Idle, At, Gone}
+use Rattle.record_operation.specs.Operations.{MayBeLent, operation_locks}
+use Rattle.machine_trials.specs.declared.task.Task.{Task}
+use Rattle.machine_trials.specs.declared.task.TheConstants.{MAX_VALUE_BYTES}
+use Rattle.machine_trials.specs.declared.work.Work.{Work}
+use Rattle.machine_trials.specs.declared.work.Work.TheVariants.{Operation, Search}
 
 -- of the directory and of pages
 abbrev pub MOST_LOCKS : ℕ
 MOST_LOCKS = 3
 
--- the locks of a machine, behind those that its seat had before
-abbrev pub machine_locks : Machine → List Lock → List Lock
-machine_locks (Search s) before = search_locks s before
-machine_locks (Find f) before = find_locks f before
-machine_locks (Replace r) before = replace_locks r before
-machine_locks (Insert i) before = insert_locks i before
-machine_locks (Delete d) before = delete_locks d before
+-- its locks, behind those that its seat had before
+abbrev pub work_locks : Work → List Lock → List Lock
+work_locks (Operation o) before = operation_locks o before
+work_locks (Search s) before = search_locks s before
+
+-- as many bytes may be lent to it
+abbrev pub MayLend : ℕ → Work → Type 0
+MayLend bytes (Operation o) = MayBeLent bytes o
+MayLend bytes (Search s) = ⊤
+
+-- it holds nothing yet, and a value of any length may be lent to it
+pub record IsBegun (w : Work) : Type 0 where
+  pub bare : (before : List Lock) → work_locks w before ≡ before
+  pub lent : (bytes : ℕ) → MayLend bytes w
 
 -- the lock of a record
 abbrev pub guarded : LockName → List Lock
@@ -38,25 +42,35 @@ guarded name = lock_of name Exclusive ∷ []
 abbrev pub IsGuard : LockName → Type 0
 IsGuard name = HasNoFileLock (guarded name)
 
--- an idle seat holds nothing, one at a machine the lock of its record and behind it what the machine says; of a seat
--- that has ended nothing is said
-abbrev pub Holds : Seat → List Lock → Type 0
-Holds Idle row = row ≡ []
-Holds (At m name) row = IsGuard name × (row ≡ machine_locks m (guarded name))
-Holds Gone row = ⊤
+-- the seat holds the lock of the record, and behind it what its work says, and the value may be lent
+pub record IsAtWork (t : Task) (name : LockName) (row : List Lock) : Type 0 where
+  pub guard : IsGuard name
+  pub locks : row ≡ work_locks t.work (guarded name)
+  pub few : t.value.bytes ≤ MAX_VALUE_BYTES
+  pub lent : MayLend t.value.bytes t.work
+
+-- of a seat that gave the lock of the record back nothing is said
+abbrev pub HoldsGuard : Task → Option LockName → List Lock → Type 0
+HoldsGuard t (Some name) row = IsAtWork t name row
+HoldsGuard t None row = ⊤
+
+-- an idle seat holds nothing
+abbrev pub Holds : Option Task → List Lock → Type 0
+Holds None row = row ≡ []
+Holds (Some t) row = HoldsGuard t t.guard row
 
 -- one row has changed, and is what its seat holds
-pub record Follows (seat : ℕ) (old : Table) (s : Seat) (new : Table) : Type 0 where
+pub record Follows (seat : ℕ) (old : Table) (s : Option Task) (new : Table) : Type 0 where
   pub row : List Lock
   pub is : new ≡ with_row old seat row
   pub holds : Holds s row
 
 -- so many seats, which have not begun
-abbrev pub AreIdle : ℕ → List Seat → Type 0
-AreIdle many seats = seats ≡ replicate many Idle
+abbrev pub AreIdle : ℕ → List (Option Task) → Type 0
+AreIdle many seats = seats ≡ replicate many None
 
--- nothing is pinned, and each seat holds what its machine says
-pub record IsTrial (pool : PoolState) (t : Table) (seats : List Seat) : Type 0 where
+-- nothing is pinned, and each seat holds what its task says
+pub record IsTrial (pool : PoolState) (t : Table) (seats : List (Option Task)) : Type 0 where
   pub ready : IsReady pool
   pub as_many : length seats ≡ length t
-  pub holds : (place : ℕ) (s : Seat) → slice_get seats place ≡ Some s → Holds s (row_of t (suc place))
+  pub holds : (place : ℕ) (s : Option Task) → slice_get seats place ≡ Some s → Holds s (row_of t (suc place))

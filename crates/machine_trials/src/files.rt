@@ -1,19 +1,21 @@
 //! Files of 288 pages, and operations on their records.
 
-use crate::machine::{Operation, Outcome};
-use crate::seat::Turn;
 use crate::soundness::PAGES;
+use crate::task::Value;
 use crate::trial::Trial;
 use bucket_page::{PseudoKey, RecordKey};
 use page_device::{MemDevice, PageDevice};
-use record_file::format;
+use record_file::{Tried, format};
 use std::alloc::Global;
 use std::process::Abort;
 use std::test::Fail;
-use step_rules::Kind;
+use step_rules::{Kind, Progress};
 
 /// The value of a record of 1,075 bytes: three fit a bucket, and a fourth does not.
-pub const LONG: [u8; 1060] = [7; 1060];
+pub const LONG: Value = Value {
+    mark: 7,
+    bytes: 1060,
+};
 
 /// More steps than any operation makes.
 const MOST_STEPS: u32 = 4000;
@@ -41,51 +43,50 @@ pub fn empty_file<K: PseudoKey + Drop>(
         queue: 0,
         number: 0,
     };
-    let Some(seat) = trial.begin(Operation::Delete, counter, 0) else {
+    let Some(seat) = trial.delete(counter) else {
         panic!(rt; "no seat");
     };
-    assert_eq!(rt;
-        finish(&mut trial, seat, &[], Kind::WriteRecord),
-        Some((Outcome::Found(257, Some(8)), 1))
-    );
+    assert_eq!(rt; count(&mut trial, seat, Kind::WriteRecord), Some(1));
+    assert_eq!(rt; trial.found(seat), Some((257, Some(8))));
     Ok(trial)
 }
 
-/// Steps a seat to its end. What it came to, and how many steps were of this kind.
-pub fn finish<D: PageDevice + Drop, K: PseudoKey + Drop>(
+/// Steps a seat to its end. How many steps were of this kind.
+pub fn count<D: PageDevice + Drop, K: PseudoKey + Drop>(
     trial: &mut Trial<D, K>,
     seat: u8,
-    value: &[u8],
     counted: Kind,
-) -> Option<(Outcome, u32)> {
+) -> Option<u32> {
     let mut count: u32 = 0;
     for _ in 0..MOST_STEPS {
-        match trial.step(seat, value)? {
-            Turn::Ended(outcome) => return Some((outcome, count)),
-            Turn::Moved(kind) if kind == counted => count = count.wrapping_add(1),
-            Turn::Moved(_) => {}
+        match trial.step(seat)? {
+            Progress::Ended => return Some(count),
+            Progress::Moved(kind) if kind == counted => count = count.wrapping_add(1),
+            Progress::Moved(_) => {}
             _ => return None,
         }
     }
     None
 }
 
-/// What an operation on the record of a number comes to, and how many steps were of this kind.
-pub fn count<D: PageDevice + Drop, K: PseudoKey + Drop>(
+/// What the insert of a long record of a number comes to, and how many buckets it splits.
+pub fn insert<D: PageDevice + Drop, K: PseudoKey + Drop>(
     trial: &mut Trial<D, K>,
-    operation: Operation,
     number: u32,
-    counted: Kind,
-) -> Option<(Outcome, u32)> {
-    let seat = trial.begin(operation, key(number), LONG.len())?;
-    finish(trial, seat, &LONG, counted)
+) -> Option<(Tried, u32)> {
+    let seat = trial.insert(key(number), LONG)?;
+    let splits = count(trial, seat, Kind::WriteOld)?;
+    Some((trial.tried(seat)?, splits))
 }
 
-/// What an operation on the record of a number comes to.
-pub fn run<D: PageDevice + Drop, K: PseudoKey + Drop>(
+/// The page on which the delete of the record of a number looks, and the length of the value
+/// there. How many steps were of this kind.
+pub fn delete<D: PageDevice + Drop, K: PseudoKey + Drop>(
     trial: &mut Trial<D, K>,
-    operation: Operation,
     number: u32,
-) -> Option<Outcome> {
-    count(trial, operation, number, Kind::WriteRecord).map(|(outcome, _)| outcome)
+    counted: Kind,
+) -> Option<((u32, Option<usize>), u32)> {
+    let seat = trial.delete(key(number))?;
+    let count = count(trial, seat, counted)?;
+    Some((trial.found(seat)?, count))
 }

@@ -3,15 +3,13 @@
 
 #![tactic(auto)]
 
-mod machine;
-mod putting;
-mod seat;
+mod task;
 mod trial;
+mod work;
 
-pub use machine::{Machine, Operation, Outcome};
-pub use putting::Putting;
-pub use seat::{Seat, Turn};
+pub use task::{Task, Value};
 pub use trial::Trial;
+pub use work::Work;
 
 #[cfg(test)]
 mod bytes;

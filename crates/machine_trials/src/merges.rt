@@ -1,9 +1,6 @@
 //! A merge over the 32 pages of a directory of depth 14, and each of its transfers failed.
 
-use crate::files::{count, empty_file, key, run};
-use crate::machine::Operation::{Delete, Insert};
-use crate::machine::Outcome::{Found, Tried};
-use crate::seat::Turn;
+use crate::files::{delete, empty_file, insert, key};
 use crate::soundness::{covers_once, is_in_place, pictured};
 use crate::trial::Trial;
 use bucket_page::NumberKey;
@@ -12,13 +9,16 @@ use record_file::Tried::IsPut;
 use std::alloc::Global;
 use std::process::Abort;
 use std::test::Fail;
-use step_rules::Kind;
+use step_rules::{Kind, Progress};
+
+/// More transfers than the delete makes.
+const MOST_TRANSFERS: u64 = 500;
 
 /// Records 5 and 7 are left of eight: 5 on page 258, 7 on page 272, behind a directory of depth 14.
 fn two_halves(rt: &impl Abort, alloc: Global) -> Result<Trial<MemDevice, NumberKey>, Fail> {
     let mut trial = empty_file(rt, alloc, NumberKey)?;
-    for number in [0, 8192, 16384, 24576] {
-        assert_eq!(rt; run(&mut trial, Insert, number), Some(Tried(IsPut)));
+    for (number, splits) in [(0, 0), (8192, 0), (16384, 0), (24576, 14)] {
+        assert_eq!(rt; insert(&mut trial, number), Some((IsPut, splits)));
     }
     let Some(seen) = pictured(alloc, &mut trial) else {
         panic!(rt; "not sound");
@@ -29,8 +29,8 @@ fn two_halves(rt: &impl Abort, alloc: Global) -> Result<Trial<MemDevice, NumberK
         seen.leaf(258)
             .is_some_and(|leaf| leaf.depth == 1 && leaf.pattern == 1)
     );
-    for number in [1, 3, 5, 7] {
-        assert_eq!(rt; run(&mut trial, Insert, number), Some(Tried(IsPut)));
+    for (number, splits) in [(1, 0), (3, 0), (5, 0), (7, 1)] {
+        assert_eq!(rt; insert(&mut trial, number), Some((IsPut, splits)));
     }
     let Some(seen) = pictured(alloc, &mut trial) else {
         panic!(rt; "not sound");
@@ -38,8 +38,8 @@ fn two_halves(rt: &impl Abort, alloc: Global) -> Result<Trial<MemDevice, NumberK
     assert!(rt; seen.has(258, &[1, 5]) && seen.has(272, &[3, 7]));
     for (number, page) in [(1, 258), (3, 272)] {
         assert_eq!(rt;
-            count(&mut trial, Delete, number, Kind::Tombstone),
-            Some((Found(page, Some(1060)), 0))
+            delete(&mut trial, number, Kind::Tombstone),
+            Some(((page, Some(1060)), 0))
         );
     }
     Ok(trial)
@@ -64,8 +64,8 @@ fn is_merged<D: PageDevice + Drop>(alloc: Global, trial: &mut Trial<D, NumberKey
 fn a_merge_goes_through_the_directory(rt: HostRuntime) -> Result<(), Fail> {
     let mut trial = two_halves(&rt, rt.alloc())?;
     assert_eq!(rt;
-        count(&mut trial, Delete, 7, Kind::Retarget),
-        Some((Found(272, Some(1060)), 32))
+        delete(&mut trial, 7, Kind::Retarget),
+        Some(((272, Some(1060)), 32))
     );
     assert!(rt; is_merged(rt.alloc(), &mut trial));
     Ok(())
@@ -86,23 +86,48 @@ fn copy_of(alloc: Global, device: &mut MemDevice) -> Result<MemDevice, DeviceFau
 /// it did not end.
 fn delete_once_more<D: PageDevice + Drop>(trial: &mut Trial<D, NumberKey>) -> Option<u32> {
     let mut failed: u32 = 0;
-    let seat = trial.begin(Delete, key(7), 0)?;
+    let seat = trial.delete(key(7))?;
     for _ in 0..1000 {
-        match trial.step(seat, &[])? {
-            Turn::Moved(_) => {}
-            Turn::Failed(20) if failed == 0 => failed = 1,
-            Turn::Ended(Found(272, Some(1060))) => return Some(failed),
+        match trial.step(seat)? {
+            Progress::Moved(_) => {}
+            Progress::Fault(fault) if failed == 0 && fault.number() == 20 => failed = 1,
+            Progress::Ended if trial.found(seat) == Some((272, Some(1060))) => return Some(failed),
             _ => return None,
         }
     }
     None
 }
 
+/// The pages of a trial's file after the merge.
+fn merged(rt: &impl Abort, alloc: Global) -> Result<MemDevice, Fail> {
+    let mut trial = two_halves(rt, alloc)?;
+    assert_eq!(rt; delete_once_more(&mut trial), Some(0));
+    assert!(rt; is_merged(alloc, &mut trial));
+    Ok(trial.close()?)
+}
+
+/// Whether two devices have the same pages.
+fn are_same(one: &mut MemDevice, other: &mut MemDevice) -> Result<bool, DeviceFault> {
+    if one.pages() != other.pages() {
+        return Ok(false);
+    }
+    let mut pages = [[0; PAGE_BYTES]; 2];
+    for number in 0..one.pages() {
+        one.read(number, &mut pages[0])?;
+        other.read(number, &mut pages[1])?;
+        if pages[0] != pages[1] {
+            return Ok(false);
+        }
+    }
+    Ok(true)
+}
+
 #[test]
 fn each_transfer_of_a_merge_fails_in_turn(rt: HostRuntime) -> Result<(), Fail> {
     let mut device = two_halves(&rt, rt.alloc())?.close()?;
+    let mut wanted = merged(&rt, rt.alloc())?;
     let mut met: u64 = 0;
-    for nth in 1..=500 {
+    for nth in 1..=MOST_TRANSFERS {
         let faulty = FaultyDevice::new(copy_of(rt.alloc(), &mut device)?, nth);
         let mut trial = Trial::open(rt.alloc(), faulty, 12, NumberKey)?;
         let failed = delete_once_more(&mut trial);
@@ -112,10 +137,11 @@ fn each_transfer_of_a_merge_fails_in_turn(rt: HostRuntime) -> Result<(), Fail> {
             break;
         }
         assert_eq!(rt; trial.faults(), 1, "transfer {nth}");
-        assert!(rt; is_merged(rt.alloc(), &mut trial), "transfer {nth}");
+        let mut left = trial.close()?.into_inner();
+        assert!(rt; are_same(&mut left, &mut wanted)?, "transfer {nth}");
         met = nth;
     }
     // the header, 32 pages of the directory, two buckets, and the free page behind them
-    assert!(rt; met >= 35 && met < 500, "{met} transfers");
+    assert!(rt; met >= 35 && met < MOST_TRANSFERS, "{met} transfers");
     Ok(())
 }

@@ -1,9 +1,7 @@
 //! Buckets that are split, and one that can't be.
 
 use crate::bytes::number_at;
-use crate::files::{count, empty_file, run};
-use crate::machine::Operation::{Delete, Find, Insert};
-use crate::machine::Outcome::{Found, Tried};
+use crate::files::{count, delete, empty_file, insert, key};
 use crate::soundness::{covers_once, is_in_place, pictured};
 use crate::trial::Trial;
 use bucket_page::{ConstantKey, NumberKey, PseudoKey};
@@ -25,20 +23,17 @@ fn entry<D: PageDevice + Drop, K: PseudoKey + Drop>(
 fn a_bucket_is_split_by_the_lowest_bit_and_then_by_the_next(rt: HostRuntime) -> Result<(), Fail> {
     let mut trial = empty_file(&rt, rt.alloc(), NumberKey)?;
     for number in 0..3 {
-        assert_eq!(rt; run(&mut trial, Insert, number), Some(Tried(IsPut)));
+        assert_eq!(rt; insert(&mut trial, number), Some((IsPut, 0)));
     }
-    assert_eq!(rt;
-        count(&mut trial, Insert, 3, Kind::WriteOld),
-        Some((Tried(IsPut), 1))
-    );
+    assert_eq!(rt; insert(&mut trial, 3), Some((IsPut, 1)));
     let Some(seen) = pictured(rt.alloc(), &mut trial) else {
         panic!(rt; "not sound");
     };
     assert!(rt; seen.is(&[(257, &[0, 2]), (258, &[1, 3])]));
     assert!(rt; covers_once(&seen.leaves) && is_in_place(&seen));
     assert_eq!(rt; seen.depth, 1);
-    for number in [4, 6] {
-        assert_eq!(rt; run(&mut trial, Insert, number), Some(Tried(IsPut)));
+    for (number, splits) in [(4, 0), (6, 1)] {
+        assert_eq!(rt; insert(&mut trial, number), Some((IsPut, splits)));
     }
     let Some(seen) = pictured(rt.alloc(), &mut trial) else {
         panic!(rt; "not sound");
@@ -49,9 +44,13 @@ fn a_bucket_is_split_by_the_lowest_bit_and_then_by_the_next(rt: HostRuntime) -> 
     for (index, page) in [(0, 257), (1, 258), (2, 259), (3, 258)] {
         assert_eq!(rt; entry(&mut trial, index), Some(page), "entry {index}");
     }
-    assert_eq!(rt; run(&mut trial, Insert, 6), Some(Tried(IsThere)));
-    assert_eq!(rt; run(&mut trial, Find, 6), Some(Found(259, Some(1060))));
-    assert_eq!(rt; run(&mut trial, Delete, 7), Some(Found(258, None)));
+    assert_eq!(rt; insert(&mut trial, 6), Some((IsThere, 0)));
+    let Some(finder) = trial.find(key(6)) else {
+        panic!(rt; "no seat");
+    };
+    assert_eq!(rt; count(&mut trial, finder, Kind::Hop), Some(0));
+    assert_eq!(rt; trial.found(finder), Some((259, Some(1060))));
+    assert_eq!(rt; delete(&mut trial, 7, Kind::Hop), Some(((258, None), 0)));
     Ok(())
 }
 
@@ -60,20 +59,20 @@ fn a_bucket_is_split_by_the_lowest_bit_and_then_by_the_next(rt: HostRuntime) -> 
 fn a_bucket_of_the_greatest_depth_has_no_room(rt: HostRuntime) -> Result<(), Fail> {
     let mut trial = empty_file(&rt, rt.alloc(), ConstantKey(0))?;
     for number in 0..3 {
-        assert_eq!(rt; run(&mut trial, Insert, number), Some(Tried(IsPut)));
+        assert_eq!(rt; insert(&mut trial, number), Some((IsPut, 0)));
     }
-    assert_eq!(rt;
-        count(&mut trial, Insert, 3, Kind::WriteOld),
-        Some((Tried(IsFull), 17))
-    );
+    assert_eq!(rt; insert(&mut trial, 3), Some((IsFull, 17)));
     let Some(seen) = pictured(rt.alloc(), &mut trial) else {
         panic!(rt; "not sound");
     };
     assert_eq!(rt; seen.depth, 17);
     assert_eq!(rt; seen.leaves.len(), 18);
     assert!(rt; seen.has(257, &[0, 1, 2]) && covers_once(&seen.leaves));
-    assert_eq!(rt; run(&mut trial, Insert, 3), Some(Tried(IsFull)));
-    assert_eq!(rt; run(&mut trial, Delete, 1), Some(Found(257, Some(1060))));
-    assert_eq!(rt; run(&mut trial, Insert, 3), Some(Tried(IsPut)));
+    assert_eq!(rt; insert(&mut trial, 3), Some((IsFull, 0)));
+    assert_eq!(rt;
+        delete(&mut trial, 1, Kind::Hop),
+        Some(((257, Some(1060)), 0))
+    );
+    assert_eq!(rt; insert(&mut trial, 3), Some((IsPut, 0)));
     Ok(())
 }

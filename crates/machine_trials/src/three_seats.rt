@@ -1,19 +1,17 @@
 //! Two thousand operations of three seats, step by step beside one another.
 
 use crate::files::{empty_file, key};
-use crate::machine::Operation::{Delete, Find, Insert, Replace};
-use crate::machine::Outcome::{Found, Tried};
-use crate::machine::{Operation, Outcome};
-use crate::seat::Turn;
 use crate::soundness::{Picture, covers_once, is_in_place, pictured};
+use crate::task::Value;
 use crate::trial::Trial;
 use bucket_page::NumberKey;
 use file_walk::check_structure;
 use page_device::MemDevice;
+use record_file::Tried;
 use record_file::Tried::{IsPut, IsThere};
 use std::alloc::Global;
 use std::test::Fail;
-use step_rules::Kind;
+use step_rules::{Kind, Progress};
 
 /// Operations that are made.
 const OPERATIONS: u32 = 2000;
@@ -42,13 +40,15 @@ impl Draws {
     }
 }
 
-/// What a seat is at: an operation on the record of a number, and the first byte that it writes.
+/// What a seat is at: an operation on the record of a number. What an insert comes to, and the
+/// first bytes of the value before and after.
 #[derive(Clone, Copy, Debug)]
-struct Task {
+struct Begun {
     seat: u8,
-    operation: Operation,
     number: u32,
-    mark: u8,
+    tried: Option<Tried>,
+    before: Option<u8>,
+    after: Option<u8>,
 }
 
 /// Of each number whether it has a record, and the first byte of its value.
@@ -63,36 +63,13 @@ fn length_of(number: u32) -> usize {
     }
 }
 
-/// The next operation. There are times of putting and times of deleting.
-fn draw(draws: &mut Draws, ended: u32) -> Operation {
-    let grows = (ended / PHASE) % 2 == 0;
-    match draws.below(8) {
-        0 => Find,
-        1 => Replace,
-        2 => Insert,
-        3 => Delete,
-        _ if grows => Insert,
-        _ => Delete,
-    }
-}
-
-/// What the list has after a task.
-fn mark_after(task: &Task, old: Option<u8>) -> Option<u8> {
-    match task.operation {
-        Insert => old.or(Some(task.mark)),
-        Replace => old.map(|_| task.mark),
-        Delete => None,
-        _ => old,
-    }
-}
-
-/// Whether an outcome is the one of the task, by what the list had.
-fn is_right(task: &Task, old: Option<u8>, outcome: Outcome) -> bool {
-    match (task.operation, outcome) {
-        (Insert, Tried(tried)) => tried == if old.is_some() { IsThere } else { IsPut },
-        (Insert, _) => false,
-        (_, Found(_, bytes)) => bytes == old.map(|_| length_of(task.number)),
-        _ => false,
+/// Whether what a seat came to is what the list says.
+fn is_right(trial: &Trial<MemDevice, NumberKey>, begun: &Begun) -> bool {
+    match begun.tried {
+        Some(_) => trial.tried(begun.seat) == begun.tried,
+        None => trial.found(begun.seat).is_some_and(|(_, bytes)| {
+            bytes == begun.before.map(|_| length_of(begun.number))
+        }),
     }
 }
 
@@ -126,7 +103,7 @@ fn is_sound(alloc: Global, trial: &mut Trial<MemDevice, NumberKey>) -> bool {
 struct Course {
     draws: Draws,
     list: List,
-    tasks: [Option<Task>; 3],
+    tasks: [Option<Begun>; 3],
     begun: u32,
     ended: u32,
     /// Of all steps: those that were blocked, and hops, splits and merges.
@@ -137,21 +114,43 @@ struct Course {
 }
 
 impl Course {
-    /// One of three begins an operation, where all seats together have begun fewer than all.
+    /// One of three begins an operation, where all seats together have begun fewer than all. There
+    /// are times of putting and times of deleting.
     fn begin(&mut self, trial: &mut Trial<MemDevice, NumberKey>, place: usize) -> Option<()> {
-        let operation = draw(&mut self.draws, self.ended);
+        let grows = (self.ended / PHASE) % 2 == 0;
+        let drawn = self.draws.below(8);
         let number = self.draws.below(NUMBERS as u32);
         let mark = u8::try_from(self.draws.below(256)).ok()?;
-        if self.begun < OPERATIONS {
-            if let Some(seat) = trial.begin(operation, key(number), length_of(number)) {
-                *self.tasks.get_mut(place)? = Some(Task {
-                    seat,
-                    operation,
-                    number,
-                    mark,
-                });
-                self.begun = self.begun.checked_add(1)?;
+        if self.begun == OPERATIONS {
+            return Some(());
+        }
+        let key = key(number);
+        let before = *self.list.get(number as usize)?;
+        let (seat, tried, after) = match drawn {
+            0 => (trial.find(key), None, before),
+            1 => {
+                let front = Value { mark, bytes: 1 };
+                (trial.replace(key, front), None, before.map(|_| mark))
             }
+            _ if drawn == 2 || drawn > 3 && grows => {
+                let value = Value {
+                    mark,
+                    bytes: length_of(number),
+                };
+                let tried = if before.is_some() { IsThere } else { IsPut };
+                (trial.insert(key, value), Some(tried), before.or(Some(mark)))
+            }
+            _ => (trial.delete(key), None, None),
+        };
+        if let Some(seat) = seat {
+            *self.tasks.get_mut(place)? = Some(Begun {
+                seat,
+                number,
+                tried,
+                before,
+                after,
+            });
+            self.begun = self.begun.checked_add(1)?;
         }
         Some(())
     }
@@ -161,29 +160,23 @@ impl Course {
         &mut self,
         trial: &mut Trial<MemDevice, NumberKey>,
         place: usize,
-        task: Task,
+        task: Begun,
     ) -> Option<()> {
-        let value = [task.mark; 1060];
-        let lent = match task.operation {
-            Replace => 1,
-            _ => length_of(task.number),
-        };
-        match trial.step(task.seat, value.get(..lent)?)? {
-            Turn::Ended(outcome) => {
-                let standing = self.list.get_mut(task.number as usize)?;
-                if !is_right(&task, *standing, outcome) {
+        match trial.step(task.seat)? {
+            Progress::Ended => {
+                if !is_right(trial, &task) {
                     return None;
                 }
-                *standing = mark_after(&task, *standing);
+                *self.list.get_mut(task.number as usize)? = task.after;
                 *self.tasks.get_mut(place)? = None;
                 self.ended = self.ended.checked_add(1)?;
             }
-            Turn::Moved(Kind::WriteOld) => self.splits = self.splits.checked_add(1)?,
-            Turn::Moved(Kind::Tombstone) => self.merges = self.merges.checked_add(1)?,
-            Turn::Moved(Kind::Hop) => self.hops = self.hops.checked_add(1)?,
-            Turn::Moved(_) => {}
-            Turn::Blocked(_) => self.blocked = self.blocked.checked_add(1)?,
-            Turn::Failed(_) => return None,
+            Progress::Moved(Kind::WriteOld) => self.splits = self.splits.checked_add(1)?,
+            Progress::Moved(Kind::Tombstone) => self.merges = self.merges.checked_add(1)?,
+            Progress::Moved(Kind::Hop) => self.hops = self.hops.checked_add(1)?,
+            Progress::Moved(_) => {}
+            Progress::Blocked(_) => self.blocked = self.blocked.checked_add(1)?,
+            Progress::Fault(_) => return None,
         }
         Some(())
     }

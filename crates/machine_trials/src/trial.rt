@@ -2,19 +2,26 @@
 
 ghost use Rattle.std.specs.Prelude.{IfOk};
 ghost use Rattle.file_pages.specs.Files.{IsReady};
-ghost use Rattle.machine_trials.specs.Seats.{AreIdle};
+ghost use Rattle.machine_trials.specs.Seats.{AreIdle, IsBegun};
 
-use crate::machine::{Operation, Outcome};
-use crate::seat::{Seat, Turn};
+use crate::task::{Task, Value};
+use crate::work::Work;
 use bucket_page::{PseudoKey, RecordKey};
 use buffer_pool::{Pool, PoolFault};
+use file_pages::FileFault;
 use page_device::{PageDevice, Payload};
 use page_locks::{LockTable, MAX_SEATS};
+use record_file::Tried;
+use record_operation::RecordOperation;
 use std::alloc::Global;
 use std::marker::Model;
+use step_rules::Progress;
 
 /// The frames that a pool of a trial has at least.
 const LEAST_FRAMES: usize = 4;
+
+/// The value of an operation that puts none.
+const NO_VALUE: Value = Value { mark: 0, bytes: 0 };
 
 /// Seats at machines. Each operation has a seat of its own.
 #[derive(Drop)]
@@ -22,7 +29,7 @@ pub struct Trial<D: PageDevice, K: PseudoKey> {
     pool: Pool<D>,
     locks: LockTable,
     keys: K,
-    seats: Vec<Seat>,
+    seats: Vec<Option<Task>>,
     begun: u8,
 }
 
@@ -86,48 +93,88 @@ impl<D: PageDevice + Drop, K: PseudoKey + Drop> Trial<D, K> {
         Ok(())
     }
 
-    /// The seat that was granted the lock of a record and has begun an operation on it. It is
-    /// none where another seat holds that lock, or no seat is idle. An insert is of a value
-    /// of so many bytes.
-    pub fn begin(&mut self, operation: Operation, key: RecordKey, bytes: usize) -> Option<u8> {
+    /// The seat that has begun to find a record. As of each operation it is none where another seat
+    /// holds the lock of that record, or no seat is idle.
+    pub fn find(&mut self, key: RecordKey) -> Option<u8> {
+        let operation = RecordOperation::find(key, self.keys.of(&key));
+        self.begin(&key, Work::Operation(operation), NO_VALUE)
+    }
+
+    /// The seat that has begun to insert a record of this value.
+    pub fn insert(&mut self, key: RecordKey, value: Value) -> Option<u8> {
+        let operation = RecordOperation::insert(key, self.keys.of(&key));
+        self.begin(&key, Work::Operation(operation), value)
+    }
+
+    /// The seat that has begun to replace the first bytes of a record's value by this one.
+    pub fn replace(&mut self, key: RecordKey, value: Value) -> Option<u8> {
+        let operation = RecordOperation::replace(key, self.keys.of(&key));
+        self.begin(&key, Work::Operation(operation), value)
+    }
+
+    /// The seat that has begun to delete a record.
+    pub fn delete(&mut self, key: RecordKey) -> Option<u8> {
+        let operation = RecordOperation::delete(key, self.keys.of(&key));
+        self.begin(&key, Work::Operation(operation), NO_VALUE)
+    }
+
+    /// The seat that has begun a search alone, which stays on the page that answers.
+    pub fn search(&mut self, key: RecordKey) -> Option<u8> {
+        let search = Work::search(key, self.keys.of(&key));
+        self.begin(&key, search, NO_VALUE)
+    }
+
+    /// The next idle seat begins work on the record of a key.
+    fn begin(&mut self, key: &RecordKey, work: Work, value: Value) -> Option<u8>
+        requires { IsBegun work }
+    {
         let place = self.begun;
-        if place >= self.locks.seats() {
+        if place >= self.locks.seats() || self.seats[place as usize].is_some() {
             return None;
         }
         let seat = place + 1;
-        let task = (operation, key, bytes);
-        if !self.seats[place as usize].begin(&mut self.locks, &self.keys, seat, task) {
+        self.seats[place as usize] = Task::begin(&mut self.locks, seat, key, work, value);
+        if self.seats[place as usize].is_none() {
             return None;
         }
         self.begun = seat;
         Some(seat)
     }
 
-    /// One step of a seat, none where there is no such seat. The value that is to be put, or the
-    /// first bytes of one, are lent to it.
-    pub fn step(&mut self, seat: u8, value: &[u8]) -> Option<Turn> {
+    /// One step of a seat, none where it has not begun.
+    pub fn step(&mut self, seat: u8) -> Option<Progress<FileFault>> {
         if seat == 0 || seat > self.locks.seats() {
             return None;
         }
-        Some(self.seats[seat as usize - 1].step(
-            &mut self.pool,
-            &mut self.locks,
-            &self.keys,
-            seat,
-            value,
-        ))
+        let task = self.seats[seat as usize - 1].as_mut()?;
+        Some(task.step(&mut self.pool, &mut self.locks, &self.keys, seat))
+    }
+
+    /// What the insert of a seat came to.
+    pub fn tried(&self, seat: u8) -> Option<Tried> {
+        self.work(seat)?.tried()
+    }
+
+    /// The page that answered another operation or the search of a seat, and the length of the
+    /// value there.
+    pub fn found(&self, seat: u8) -> Option<(u32, Option<usize>)> {
+        self.work(seat)?.found()
+    }
+
+    /// The hops of a search alone.
+    pub fn hops(&self, seat: u8) -> Option<u32> {
+        self.work(seat)?.hops()
+    }
+
+    /// The work of a seat that has begun.
+    fn work(&self, seat: u8) -> Option<&Work> {
+        let place = (seat as usize).checked_sub(1)?;
+        Some(self.seats.get(place)?.as_ref()?.work())
     }
 
     /// The bytes of a page.
     pub fn payload(&mut self, page: u32) -> Result<Payload, PoolFault> {
         payload_of(&mut self.pool, page)
-    }
-
-    /// What the machine of a seat has come to, and its hops where it is a search.
-    pub fn seen(&self, seat: u8) -> Option<(Outcome, Option<u32>)> {
-        let place = (seat as usize).checked_sub(1)?;
-        let machine = self.seats.get(place)?.machine()?;
-        Some((machine.outcome(), machine.hops()))
     }
 
     /// How many transfers of the device have failed.
@@ -150,12 +197,12 @@ impl<D: PageDevice + Drop, K: PseudoKey + Drop> Trial<D, K> {
 }
 
 /// As many idle seats as a table of locks may have.
-fn idle_seats(alloc: Global) -> Result<Vec<Seat>, PoolFault>
+fn idle_seats(alloc: Global) -> Result<Vec<Option<Task>>, PoolFault>
     ensures { IfOk result (λ seats. AreIdle MAX_SEATS seats.items) }
 {
     let mut seats = Vec::new(alloc);
     for _ in 0..MAX_SEATS {
-        match seats.push(Seat::Idle) {
+        match seats.push(None) {
             Ok(()) => {}
             Err(_) => return Err(PoolFault::NoMemory),
         }

@@ -1,15 +1,23 @@
 //! Message queues (XSI, POSIX.1-2017) kept in one file: makes files, runs scripts of calls on
-//! them, and checks them.
+//! them, checks them, and migrates older ones.
 
 #![tactic(auto)]
 
+use clap::Error;
 use clap::error::ErrorKind;
-use script_runs::msgq_cli::{Output, Task, new_file, print_fault, read_command_line, report_file};
+use migration_runs::migrate_file;
+use script_runs::msgq_cli::{
+    Output, Task, advise, complain, complain_of_lines, new_file, print_fault, read_command_line,
+    report_file,
+};
 use script_runs::replays::{Sources, replay_file};
 use script_runs::{run_file, serve};
 use std::io;
-use std::io::BufWriter;
+use std::io::{BufWriter, Write};
 use std::process::ExitCode;
+
+/// What faults of lines are told of, where a script is run without a file.
+const MEMORY: &str = "the file in memory";
 
 fn main(rt: HostRuntime) -> ExitCode {
     let alloc = rt.alloc();
@@ -18,13 +26,30 @@ fn main(rt: HostRuntime) -> ExitCode {
     };
     let mut output = Output::new(writer);
     let mut errors = rt.stderr();
-    let Some(words) = words(&rt) else {
-        return without_memory(&rt);
+    let words = match words(&rt) {
+        Ok(words) => words,
+        Err(error) if error.kind() == io::ErrorKind::OutOfMemory => return without_memory(&rt),
+        Err(_) => {
+            let _ = writeln!(errors, "msgq: a word of the command line is not UTF-8");
+            return ExitCode::from(2);
+        }
     };
-    let ending = match read_command_line(alloc, words.as_slice()) {
-        Ok(Task::Serve) => serve(alloc, &mut rt.reader(), &mut output, &mut errors),
+    let task = read_command_line(alloc, words.as_slice());
+    // These two say themselves what became of their file.
+    let is_run = matches!(&task, Ok(Task::Run { .. } | Task::Replay { .. }));
+    let ending = match task {
+        Ok(Task::Serve) => {
+            let ending = serve(alloc, &mut rt.reader(), &mut output, &mut errors);
+            complain_of_lines(MEMORY, &output, &mut errors);
+            ending
+        }
         Ok(Task::New { file, pages }) => new_file(&rt, file, pages, &mut output, &mut errors),
-        Ok(Task::Run { file, script }) => run_file(&rt, file, script, &mut output, &mut errors),
+        Ok(Task::Run { file, script }) => {
+            let ending = run_file(&rt, file, script, &mut output, &mut errors);
+            complain_of_lines(file, &output, &mut errors);
+            advise(&rt, file, ending, &mut errors);
+            ending
+        }
         Ok(
             Task::Replay {
                 file,
@@ -37,24 +62,40 @@ fn main(rt: HostRuntime) -> ExitCode {
                 script,
                 schedule,
             };
-            replay_file(&rt, sources, &mut output, &mut errors)
+            let ending = replay_file(&rt, sources, &mut output, &mut errors);
+            complain_of_lines(file, &output, &mut errors);
+            advise(&rt, file, ending, &mut errors);
+            ending
         }
-        Ok(Task::Report { file, report }) => {
-            report_file(&rt, file, report, &mut output, &mut errors)
+        Ok(Task::Migrate { old, new }) => migrate_file(&rt, old, new, &mut output, &mut errors),
+        Ok(Task::Report(request)) => {
+            let ending = report_file(&rt, request, &mut output, &mut errors);
+            advise(&rt, request.file, ending, &mut errors);
+            ending
         }
         Err(error) if error.kind() == ErrorKind::OutOfMemory => return without_memory(&rt),
-        Err(error) => {
-            let _ = error.print(&rt);
-            return ExitCode::from(u8::try_from(error.exit_code()).unwrap_or(2));
-        }
+        Err(error) => return tell(&rt, error),
     };
     output.flush();
+    if let Some(error) = output.refusal() {
+        if !is_run {
+            complain("standard output", "it can't be written", error, &mut errors);
+        }
+    }
     ExitCode::from(ending.status(output.has_refused()))
 }
 
-/// The words of the command line, where there is memory for them.
-fn words(rt: &HostRuntime) -> Option<Vec<String>> {
-    std::env::args(rt).ok()?.collect(rt.alloc()).ok()
+/// The words of the command line.
+fn words(rt: &HostRuntime) -> io::Result<Vec<String>> {
+    Ok(std::env::args(rt)?.collect(rt.alloc())?)
+}
+
+/// Shows help or the version, or says what is wrong with the command line.
+fn tell(rt: &HostRuntime, text: Error) -> ExitCode {
+    match text.print(rt) {
+        Err(_) if !text.use_stderr() => ExitCode::FAILURE,
+        _ => ExitCode::from(u8::try_from(text.exit_code()).unwrap_or(2)),
+    }
 }
 
 /// Ends where there is no memory to begin with. A buffer of no byte takes none.

@@ -13,6 +13,11 @@ use Rattle.msgq_cli.specs.declared.reports.Report.TheVariants.{Counts, Queues}
 abbrev pub ok_text : State → List ℕ
 ok_text s = line_of (codes "ok" ∷ decimal (length s.queues) ∷ decimal (sum_by messages_of s.queues) ∷ [])
 
+-- how many queues have come from an older file, and messages on them
+abbrev pub migrated_text : State → List ℕ
+migrated_text s =
+    line_of (codes "migrated" ∷ decimal (length s.queues) ∷ decimal (sum_by messages_of s.queues) ∷ [])
+
 -- the state of each queue, in order of id
 abbrev pub infos_text : List Queue → List ℕ
 infos_text [] = []

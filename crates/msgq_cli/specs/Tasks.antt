@@ -6,7 +6,7 @@ use Rattle.directory.specs.declared.layout.TheConstants.{LEAST_PAGES}
 use Rattle.script_words.specs.Numbers.{number_of}
 use Rattle.script_words.specs.Reading.{◌>>=◌}
 use Rattle.msgq_cli.specs.declared.command_line.Task.{Task}
-use Rattle.msgq_cli.specs.declared.command_line.Task.TheVariants.{Serve, New, Run, Replay, Report}
+use Rattle.msgq_cli.specs.declared.command_line.Task.TheVariants.{Serve, New, Run, Replay, Migrate, Report}
 
 -- a file can have so many pages
 pub record IsFileSize (pages : ℕ) : Type 0 where
@@ -26,7 +26,8 @@ HasPages Serve = ⊤
 HasPages (New file pages) = IsFileSize pages
 HasPages (Run file script) = ⊤
 HasPages (Replay file script schedule) = ⊤
-HasPages (Report file report) = ⊤
+HasPages (Migrate old new) = ⊤
+HasPages (Report request) = ⊤
 
 -- this names the text of standard input
 abbrev pub is_input : List ℕ → Bool
@@ -38,4 +39,5 @@ ReadsInputOnce Serve = ⊤
 ReadsInputOnce (New file pages) = ⊤
 ReadsInputOnce (Run file script) = ⊤
 ReadsInputOnce (Replay file script schedule) = (is_input script.now && is_input schedule.now) ≡ false
-ReadsInputOnce (Report file report) = ⊤
+ReadsInputOnce (Migrate old new) = ⊤
+ReadsInputOnce (Report request) = ⊤

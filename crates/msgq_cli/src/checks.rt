@@ -10,19 +10,21 @@ ghost use Rattle.msgq_cli.specs.Outputs.{Prints};
 
 use crate::complaint::complain;
 use crate::ending::{Ending, Failure, Stage};
-use crate::files::complain_unopened;
+use crate::files::open_to_read;
 use crate::output::Output;
+use crate::plain::Plain;
 use crate::progress::Shown;
 use crate::refusals::fail;
 use crate::reply::print_fault;
-use crate::reports::Report;
+use crate::reports::{Report, ReportRequest};
 use bucket_page::ShaKey;
+use directory::{ROOT_PAGE, read_header};
 use file_check::{CheckFault, Checked, check};
-use page_device::{FileDevice, PageDevice};
+use page_device::{PAGE_BYTES, PageDevice, unseal};
 use queue_model::System;
 use rollback_journal::look;
 use std::alloc::Global;
-use std::fs::{File, OpenOptions};
+use std::fs::File;
 use std::io::{IsTerminal, Write};
 use std::rt::Files;
 
@@ -30,15 +32,15 @@ use std::rt::Files;
 /// report of its system.
 ///
 /// What is told is of the file as it stands. Where a run that was cut off has left a journal, it is
-/// said on standard error that the next one undoes it, and nothing is written.
+/// said on standard error that the next one undoes it, and nothing is written. How full the file is
+/// is said there too, where that is asked for or a terminal.
 ///
 /// `fault N` alone where the file is not opened, where something is wrong with it, or where the
 /// machine lacks something: a transfer fails (20), or there is no memory (60). Then it is said on
 /// standard error what and where.
 pub fn report_file<R, W, E>(
     rt: &R,
-    file: &str,
-    report: Report,
+    request: ReportRequest,
     output: &mut Output<W>,
     errors: &mut E,
 ) -> Ending
@@ -46,19 +48,26 @@ where
     R: Files<File = File> + AllocGlobal,
     W: Write + Drop,
     E: Write + IsTerminal,
-    ensures { IsReportOrFault report output.old output.new result }
+    ensures { IsReportOrFault request.entry.report output.old output.new result }
 {
+    let ReportRequest {
+        file,
+        report,
+        is_verbose,
+    } = request;
     warn_of_journal(rt, file, errors);
-    let device = match FileDevice::open_read_only(rt, file) {
+    let device = match open_to_read(rt, file, errors) {
         Ok(device) => device,
-        Err(fault) => {
-            let ending = fail(Stage::Opening, fault.number(), output);
-            complain_unopened(rt, OpenOptions::new().read(true), file, ending, errors);
-            return ending;
-        }
+        Err(fault) => return fail(Stage::Opening, fault.number(), output),
     };
-    let fault = match report_on(rt.alloc(), device, report, output, errors).1 {
-        Ok(_) => return Ending::Done,
+    let (device, found) = report_on(rt.alloc(), device, report, output, errors);
+    let fault = match found {
+        Ok(_) => {
+            if is_verbose || errors.is_terminal() {
+                tell_fullness(file, device, errors);
+            }
+            return Ending::Done;
+        }
         Err(fault) => fault,
     };
     complain(file, what(fault), fault, errors);
@@ -66,6 +75,36 @@ where
         stage: Stage::Checking,
         fault: fault.number(),
     })
+}
+
+/// Says how many pages a file that is right has, how many of them are free, and the depth of its
+/// directory.
+fn tell_fullness<D: PageDevice + Drop, E: Write>(file: &str, device: D, errors: &mut E) {
+    let mut device = device;
+    let mut first = [0; PAGE_BYTES];
+    let Ok(()) = device.read(0, &mut first) else {
+        return;
+    };
+    let Ok(payload) = unseal(0, &first) else {
+        return;
+    };
+    let Ok(header) = read_header(&payload) else {
+        return;
+    };
+    // Each page from the root on is a bucket that is counted, or free.
+    let mut buckets = 0u32;
+    for count in header.counts.iter() {
+        buckets = buckets.saturating_add(*count);
+    }
+    let pages = header.pages;
+    let free = pages.saturating_sub(ROOT_PAGE).saturating_sub(buckets);
+    let depth = header.depth;
+    let file = Plain(file);
+    let _ = writeln!(
+        errors,
+        "msgq: {file}: {pages} pages: {ROOT_PAGE} of the header and the directory, {buckets} of \
+        records, {free} free; the directory has depth {depth}"
+    );
 }
 
 /// Says what a run that was cut off has left, and what the next one does.
@@ -76,6 +115,7 @@ where
 {
     if let Ok(Some(left)) = look(rt, file) {
         let images = left.images;
+        let file = Plain(file);
         let _ = writeln!(
             errors,
             "msgq: {file}: a run was cut off, or is under way; its journal has {images} pages as \

@@ -4,7 +4,8 @@ ghost use Rattle.std.specs.Prelude.{◌≡◌, IfOk, IfSome};
 ghost use Rattle.msgq_cli.specs.Tasks.{HasPages, IsFileSize, ReadsInputOnce, pages_of};
 
 use crate::files::STANDARD_INPUT;
-use crate::reports::Report;
+use crate::plain::Plain;
+use crate::reports::{Report, ReportRequest};
 use clap::error::ErrorKind;
 use clap::{Arg, ArgAction, Command, Error};
 use directory::LEAST_PAGES;
@@ -40,13 +41,15 @@ pub enum Task<'a> {
         /// The schedule.
         schedule: &'a str,
     },
-    /// A report of the system that a file holds.
-    Report {
-        /// The file.
-        file: &'a str,
-        /// What is told.
-        report: Report,
+    /// A file of version 1 becomes one of today's.
+    Migrate {
+        /// The older file, which is only read.
+        old: &'a str,
+        /// Where the new one is made.
+        new: &'a str,
     },
+    /// A report of the system that a file holds.
+    Report(ReportRequest<'a>),
 }
 
 /// The version of the program, which its manual page and the changelog have too.
@@ -55,11 +58,17 @@ const VERSION: &str = "0.2.0";
 /// Names of arguments.
 const FILE: &str = "FILE";
 
+const OLD: &str = "OLD";
+
+const NEW: &str = "NEW";
+
 const PAGES: &str = "PAGES";
 
 const SCRIPT: &str = "SCRIPT";
 
 const SCHEDULE: &str = "SCHEDULE";
+
+const VERBOSE: &str = "verbose";
 
 /// After the help of the program.
 const ENDING: &str = "\
@@ -108,7 +117,7 @@ const CHECK_PRINTS: &str = "\
 Reads all of FILE and tests each page, each record, and that all records are those of one system
 of queues.
 Prints 'ok QUEUES MESSAGES', or 'fault N' for the first thing that is wrong; standard error says
-what and where.
+what and where, and on a terminal or with --verbose how full a file is that is right.
 Exit status 0, 1 where a fault was printed or standard output refused a write, 2 where the
 command line is wrong.";
 
@@ -120,11 +129,18 @@ and behind them 'next ID', the id of the next queue; or 'fault N' alone.
 Exit status 0, 1 where a fault was printed or standard output refused a write, 2 where the
 command line is wrong.";
 
+/// After the help of `migrate`.
+const MIGRATE_PRINTS: &str = "\
+Reads OLD, a file of version 1, and makes NEW, a file of today's version of 224 pages more, with the
+same queues and messages. Each queue is owned and was made by user 0 of group 0, and its mode is 666.
+Prints 'migrated QUEUES MESSAGES'; 'fault 20' where NEW exists or the system refuses to make it; else
+'fault N' for the first thing that is wrong with OLD, 42 where it is of another version: then the
+NEW that was made is removed.
+Exit status 0, 1 where a fault was printed or standard output refused a write, 2 where the
+command line is wrong.";
+
 /// What is wrong with two texts that would both be that of standard input.
 const ONE_INPUT: &str = "SCRIPT and SCHEDULE can't both be standard input";
-
-/// What is wrong with a PAGES that is no number of pages.
-const WRONG_PAGES: &str = "PAGES is a decimal number from 258 to 65536, without a sign";
 
 /// Reads the words of a command line, of which the first names the program.
 ///
@@ -146,7 +162,8 @@ pub fn read_command_line<'a>(alloc: Global, words: &'a [String]) -> Result<Task<
         let script = arguments.get_str(SCRIPT).unwrap_or("");
         let schedule = arguments.get_str(SCHEDULE).unwrap_or("");
         if script == STANDARD_INPUT && schedule == STANDARD_INPUT {
-            return Err(command(alloc)?.error(ErrorKind::ValueValidation, ONE_INPUT)?);
+            let mut replay = replay_command(alloc)?.bin_name("msgq replay")?;
+            return Err(replay.error(ErrorKind::ValueValidation, ONE_INPUT)?);
         }
         return Ok(Task::Replay {
             file,
@@ -154,22 +171,41 @@ pub fn read_command_line<'a>(alloc: Global, words: &'a [String]) -> Result<Task<
             schedule,
         });
     }
+    if name == "migrate" {
+        return Ok(Task::Migrate {
+            old: arguments.get_str(OLD).unwrap_or(""),
+            new: arguments.get_str(NEW).unwrap_or(""),
+        });
+    }
     if name == "check" {
-        return Ok(Task::Report {
+        return Ok(Task::Report(ReportRequest {
             file,
             report: Report::Counts,
-        });
+            is_verbose: arguments.get_flag(VERBOSE),
+        }));
     }
     if name == "stat" {
-        return Ok(Task::Report {
+        return Ok(Task::Report(ReportRequest {
             file,
             report: Report::Queues,
-        });
+            is_verbose: arguments.get_flag(VERBOSE),
+        }));
     }
-    match pages(arguments.get_str(PAGES).unwrap_or("").as_bytes()) {
+    let word = arguments.get_str(PAGES).unwrap_or("");
+    match pages(word.as_bytes()) {
         Some(pages) => Ok(Task::New { file, pages }),
-        None => Err(command(alloc)?.error(ErrorKind::ValueValidation, WRONG_PAGES)?),
+        None => Err(no_pages(alloc, word)?),
     }
+}
+
+/// What is said of a word that is no number of pages.
+fn no_pages(alloc: Global, word: &str) -> Result<Error, AllocError> {
+    let word = Plain(word);
+    let why = format!(in alloc;
+        "'{word}' is no PAGES, a decimal number from 258 to 65536, without a sign"
+    )?;
+    let mut new = new_command(alloc)?.bin_name("msgq new")?;
+    new.error(ErrorKind::ValueValidation, why.as_str())
 }
 
 /// The number of pages that a word asks for, where a file can have so many.
@@ -197,6 +233,7 @@ fn command<'a>(alloc: Global) -> Result<Command<'a>, AllocError> {
         CHECK_PRINTS,
     )?;
     let stat = report_command(alloc, "stat", "Shows the queues of a file", STAT_PRINTS)?;
+    let migrate = migrate_command(alloc)?;
     Command::new(alloc, "msgq")
         .version(VERSION)
         .about("Message queues (XSI, POSIX.1-2017) kept in one file")
@@ -206,7 +243,8 @@ fn command<'a>(alloc: Global) -> Result<Command<'a>, AllocError> {
         .subcommand(run)?
         .subcommand(replay)?
         .subcommand(check)?
-        .subcommand(stat)
+        .subcommand(stat)?
+        .subcommand(migrate)
 }
 
 /// `new FILE PAGES`.
@@ -241,17 +279,33 @@ fn replay_command<'a>(alloc: Global) -> Result<Command<'a>, AllocError> {
         .arg(schedule)
 }
 
-/// A subcommand with the one argument FILE.
+/// `migrate OLD NEW`.
+fn migrate_command<'a>(alloc: Global) -> Result<Command<'a>, AllocError> {
+    let new = argument(alloc, NEW).help("Where the new file is made; there may be nothing");
+    Command::new(alloc, "migrate")
+        .about("Makes a file of today's version of one of version 1")
+        .after_help(MIGRATE_PRINTS)
+        .arg(argument(alloc, OLD).help("The file of version 1, which is not written"))?
+        .arg(new)
+}
+
+/// A subcommand with the argument FILE, and the flag of a report.
 fn report_command<'a>(
     alloc: Global,
     name: &'a str,
     about: &'a str,
     prints: &'a str,
 ) -> Result<Command<'a>, AllocError> {
+    let verbose = Arg::new(alloc, VERBOSE)
+        .short('v')
+        .long(VERBOSE)
+        .action(ArgAction::SetTrue)
+        .help("Says on standard error how full the file is, as on a terminal");
     Command::new(alloc, name)
         .about(about)
         .after_help(prints)
-        .arg(argument(alloc, FILE).help("The file, which is not written"))
+        .arg(argument(alloc, FILE).help("The file, which is not written"))?
+        .arg(verbose)
 }
 
 /// An argument that has to be given.

@@ -1,9 +1,12 @@
 //! What standard error says of a run that does not go as it was asked. No claim
 //! rests on these words.
 
-use crate::ending::{Ending, Failure, Stage};
+use crate::ending::{Ending, Stage};
 use crate::line::text as text_of;
+use crate::line_faults::Met;
 use crate::mistake::{Expected, Mistake, Optional};
+use crate::output::Output;
+use crate::plain::Plain;
 use script_words::words;
 use std::alloc::Global;
 use std::fmt::Display;
@@ -13,15 +16,54 @@ use std::io::Write;
 /// Of a longer word the beginning is shown.
 const MOST_SHOWN: usize = 64;
 
+/// What fault 50 of a line says.
+const NO_ROOM: &str = "there is no room for its records: take messages out, or go on in a larger \
+    file ('msgq check --verbose' tells how full one is)";
+
+/// What fault 60 of a line says.
+const NO_MEMORY: &str = "there was no memory for it, and nothing changed: it may be asked again";
+
+/// What fault 61 of a line says.
+const SESSION_FULL: &str =
+    "a run makes at most 65536 calls: run the lines from here on by themselves";
+
 /// `msgq: FILE: what: why`.
 pub fn complain<E: Write, D: Display + Drop>(file: &str, what: &str, why: D, errors: &mut E) {
+    let file = Plain(file);
     let _ = writeln!(errors, "msgq: {file}: {what}: {why}");
+}
+
+/// Says of each kind of fault that lines were replied what it is and what can be done: of the first
+/// line that met it, and of how many more.
+pub fn complain_of_lines<W: Write + Drop, E: Write>(
+    file: &str,
+    output: &Output<W>,
+    errors: &mut E,
+) {
+    let faults = output.line_faults();
+    complain_of_kind(file, faults.no_room, NO_ROOM, errors);
+    complain_of_kind(file, faults.no_memory, NO_MEMORY, errors);
+    complain_of_kind(file, faults.session_full, SESSION_FULL, errors);
+}
+
+/// Says of one kind of fault what it is, where a line met it.
+fn complain_of_kind<E: Write>(file: &str, met: Option<Met>, why: &str, errors: &mut E) {
+    let Some(Met { first, more }) = met else {
+        return;
+    };
+    let file = Plain(file);
+    let _ = write!(errors, "msgq: {file}: line {first}: {why}");
+    let _ = match more {
+        0 => writeln!(errors),
+        1 => writeln!(errors, "; so one line more"),
+        _ => writeln!(errors, "; so {more} lines more"),
+    };
 }
 
 /// Says of a run on a file that ended by a fault that no line met what this was.
 pub fn complain_of<E: Write>(file: &str, ending: Ending, errors: &mut E) {
     match ending {
-        Ending::Failed(failure) => complain(file, what(failure.stage), why(failure), errors),
+        Ending::Failed(failure) => complain(file, what(failure.stage), why(failure.fault), errors),
         Ending::Unopened(fault) => complain(file, what(Stage::Opening), fault, errors),
         Ending::Done | Ending::Faulty | Ending::WrongLine(_) | Ending::WrongWord(_) => {}
     }
@@ -39,8 +81,8 @@ fn what(stage: Stage) -> &'static str {
 }
 
 /// What a fault says that the system has no words for (docs/FAULTS.md).
-pub(crate) fn why(failure: Failure) -> &'static str {
-    match failure.fault {
+pub(crate) fn why(fault: u8) -> &'static str {
+    match fault {
         faults::DEVICE => "it is no file, or the system failed to read or write it",
         faults::PAST_END => "it is cut: it has fewer pages than its header says, or a part of one",
         faults::NO_MEMORY => "there is no memory",

@@ -61,6 +61,18 @@ impl Ending {
         }
     }
 
+    /// What was being done at a fault that no line met, and its number.
+    pub(crate) fn failure(self) -> Option<Failure> {
+        match self {
+            Ending::Failed(failure) => Some(failure),
+            Ending::Unopened(fault) => Some(Failure {
+                stage: Stage::Opening,
+                fault: fault.number(),
+            }),
+            Ending::Done | Ending::Faulty | Ending::WrongLine(_) | Ending::WrongWord(_) => None,
+        }
+    }
+
     /// How it ends after one reply more.
     pub fn after(self, reply: &Reply) -> Ending
         ensures { result ≡ (if is_fault reply.now then Ending.Faulty else self) }

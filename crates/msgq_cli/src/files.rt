@@ -5,17 +5,20 @@ ghost use Rattle.page_device.specs.declared.page.TheConstants.{MAX_PAGES};
 ghost use Rattle.directory.specs.declared.layout.TheConstants.{LEAST_PAGES};
 ghost use Rattle.msgq_cli.specs.Refusals.{IsFaultAlone, IsMadeOrFault, Makes};
 
-use crate::complaint::{complain, complain_of};
+use crate::complaint::{complain, complain_of, why};
 use crate::ending::{Ending, Stage};
+use crate::heard::Heard;
 use crate::output::Output;
+use crate::plain::Plain;
+use crate::progress::Shown;
 use crate::refusals::{fail, read_text};
 use crate::reply::print_made;
 use directory::LEAST_PAGES;
-use page_device::{FileDevice, MAX_PAGES, PageDevice, SystemFile};
+use page_device::{DeviceFault, FileDevice, MAX_PAGES, PageDevice, SystemFile};
 use record_file::format;
 use rollback_journal::{OpenError, is_left_behind};
-use std::fs::{OpenFile, OpenOptions};
-use std::io::{Read, Seek, Write};
+use std::fs::{File, OpenFile, OpenOptions};
+use std::io::{IsTerminal, Read, Seek, Write};
 use std::rt::Files;
 use std::{fs, io};
 
@@ -33,7 +36,8 @@ const LEFT_BEHIND: &str =
 /// `new FILE PAGES`: makes a file, where nothing may be yet, and prints `made PAGES`.
 ///
 /// Fault 20 alone where the system refuses to make the file or a transfer fails, or where the
-/// journal of a file of this name was left behind; fault 60 alone where there is no memory.
+/// journal of a file of this name was left behind; fault 60 alone where there is no memory. What
+/// was made is then removed.
 pub fn new_file<R, F, W, E>(
     rt: &R,
     file: &str,
@@ -45,28 +49,81 @@ where
     R: Files<File = F> + AllocGlobal,
     F: Read + Write + Seek + OpenFile + Drop,
     W: Write + Drop,
-    E: Write,
+    E: Write + IsTerminal,
     requires least { LEAST_PAGES ≤ pages }
     requires most { pages ≤ MAX_PAGES }
     ensures { IsMadeOrFault pages output.old output.new result }
 {
+    let Some(made) = create_file(rt, file, errors) else {
+        return fail(Stage::Making, faults::DEVICE, output);
+    };
+    let Ok((heard, refusal)) = Heard::new(rt.alloc(), SystemFile::new(made)) else {
+        remove_made(rt, file, errors);
+        return fail(Stage::Making, faults::NO_MEMORY, output);
+    };
+    let device = Shown::new(FileDevice::new(heard, 0), &mut *errors);
+    let (device, ending) = new_on(device, pages, output);
+    let _ = device.into_device();
+    if ending == Ending::Done {
+        return ending;
+    }
+    match refusal.into_error() {
+        Some(error) => complain(file, "it can't be made", &error, errors),
+        None => complain_of(file, ending, errors),
+    }
+    remove_made(rt, file, errors);
+    ending
+}
+
+/// Makes a file without a page, where nothing may be yet, nor the journal of a file of this name.
+/// Its name outlasts a crash. Where it can't be made this is said, and there is none.
+pub fn create_file<R, F, E>(rt: &R, file: &str, errors: &mut E) -> Option<F>
+where
+    R: Files<File = F> + AllocGlobal,
+    F: OpenFile + Drop,
+    E: Write,
+{
     if let Ok(true) = is_left_behind(rt, file) {
         complain(file, "it can't be made", LEFT_BEHIND, errors);
-        return fail(Stage::Making, faults::DEVICE, output);
+        return None;
     }
     let mut how = OpenOptions::new();
     how.read(true).write(true).create_new(true);
-    match how.open(rt, file) {
-        Ok(made) => {
-            let device = FileDevice::new(SystemFile::new(made), 0);
-            let ending = new_on(device, pages, output).1;
-            complain_of(file, ending, errors);
-            ending
-        }
+    let made = match how.open(rt, file) {
+        Ok(made) => made,
         Err(error) => {
             complain(file, "it can't be made", &error, errors);
-            fail(Stage::Making, faults::DEVICE, output)
+            return None;
         }
+    };
+    if let Err(error) = sync_folder_of(rt, file) {
+        complain(file, "its name can't be kept", &error, errors);
+        remove_made(rt, file, errors);
+        return None;
+    }
+    Some(made)
+}
+
+/// Brings the names of the folder of a file to where they outlast a crash.
+fn sync_folder_of<R: Files>(rt: &R, file: &str) -> io::Result<()> {
+    let folder = match file.rfind('/') {
+        Some(0) => "/",
+        Some(end) => &file[..end],
+        None => ".",
+    };
+    let mut how = OpenOptions::new();
+    how.read(true);
+    how.open(rt, folder)?.sync_all()
+}
+
+/// Removes a file that was made and of which nothing came.
+pub fn remove_made<R: Files, E: Write>(rt: &R, file: &str, errors: &mut E) {
+    match rt.remove_file(file) {
+        Ok(()) => {
+            let file = Plain(file);
+            let _ = writeln!(errors, "msgq: {file}: what was made of it is removed");
+        }
+        Err(error) => complain(file, "what was made of it can't be removed", &error, errors),
     }
 }
 
@@ -82,6 +139,7 @@ pub fn new_on<D: PageDevice, W: Write + Drop>(
     ensures honest { IsTrue (D.is_honest device) → Makes pages (D.content result.0)
         (D.fault_count device) (D.fault_count result.0) output.old output.new result.1 }
     ensures one { IsMadeOrFault pages output.old output.new result.1 }
+    ensures same { D.is_honest result.0 ≡ D.is_honest device }
 {
     let mut device = device;
     let made = format(&mut device, pages);
@@ -122,16 +180,38 @@ where
     read_text(rt.alloc(), &mut file)
 }
 
-/// Says why a file was not opened so: in the system's words, where it does not open it.
-pub fn complain_unopened<R: Files, E: Write>(
+/// Opens a file to read it alone. Why one is not opened is said: in the system's words, where it does
+/// not open it.
+pub fn open_to_read<R, E>(
     rt: &R,
-    how: &OpenOptions,
     file: &str,
-    ending: Ending,
     errors: &mut E,
-) {
+) -> Result<FileDevice<SystemFile<File>>, DeviceFault>
+where
+    R: Files<File = File>,
+    E: Write,
+{
+    if is_no_file(rt, file) {
+        complain(file, "it can't be opened", "it is no file", errors);
+        return Err(DeviceFault::Device);
+    }
+    let fault = match FileDevice::open_read_only(rt, file) {
+        Ok(device) => return Ok(device),
+        Err(fault) => fault,
+    };
+    let mut how = OpenOptions::new();
+    how.read(true);
     match how.open(rt, file) {
-        Ok(_) => complain_of(file, ending, errors),
+        Ok(_) => complain(file, "it can't be opened", why(fault.number()), errors),
         Err(error) => complain(file, "it can't be opened", &error, errors),
+    }
+    Err(fault)
+}
+
+/// Whether this is a fifo, a device or a socket. A fifo would wait for a writer.
+fn is_no_file<R: Files>(rt: &R, file: &str) -> bool {
+    match fs::metadata(rt, file) {
+        Ok(found) => !found.is_file() && !found.is_dir(),
+        Err(_) => false,
     }
 }

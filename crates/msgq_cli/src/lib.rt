@@ -3,16 +3,20 @@
 
 #![tactic(auto)]
 
+mod advice;
 mod checks;
 mod command;
 mod command_line;
 mod complaint;
 mod ending;
 mod files;
+mod heard;
 mod line;
+mod line_faults;
 mod mistake;
 mod options;
 mod output;
+mod plain;
 mod printed_word;
 mod progress;
 mod refusals;
@@ -20,20 +24,25 @@ mod reply;
 mod reports;
 mod script;
 
+pub use advice::advise;
 pub use checks::{report_file, report_on};
 pub use command::{Command, DEFAULT_MODE};
 pub use command_line::{Task, read_command_line};
-pub use complaint::{complain, complain_of};
+pub use complaint::{complain, complain_of, complain_of_lines};
 pub use ending::{Ending, Failure, Stage};
 pub use file_check;
 pub use files::{
-    MOST_FRAMES, STANDARD_INPUT, complain_unopened, leave_unopened, new_file, new_on, read_file,
+    MOST_FRAMES, STANDARD_INPUT, create_file, leave_unopened, new_file, new_on, open_to_read,
+    read_file, remove_made,
 };
+pub use heard::{Heard, Refusal};
 pub use line::{Line, SeatIds};
 pub use mistake::{Expected, Mistake, Optional};
 pub use output::Output;
+pub use plain::Plain;
+pub use progress::Shown;
 pub use record_file;
 pub use refusals::{fail, read_text, refuse, unread};
 pub use reply::{Reply, print_fault, print_info, print_made};
-pub use reports::{Report, print_ok, print_system};
+pub use reports::{Report, ReportRequest, print_migrated, print_ok, print_system};
 pub use script::{Script, ScriptError, read_script};

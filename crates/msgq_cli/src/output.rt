@@ -1,9 +1,11 @@
 //! Where answers are printed.
 
-ghost use Rattle.std.specs.Prelude.{◌≡◌, false, []};
+ghost use Rattle.std.specs.Prelude.{◌≡◌, false, [], is_some};
 ghost use Rattle.std.specs.Io.Buffered.{writer_contents, writer_inner};
 ghost use Rattle.msgq_cli.specs.Outputs.{Prints, Takes};
 
+use crate::line_faults::LineFaults;
+use std::io;
 use std::io::{BufWriter, ErrorKind, Write};
 use std::marker::Model;
 
@@ -12,17 +14,19 @@ use std::marker::Model;
 #[derive(Drop)]
 pub struct Output<W: Write + Drop> {
     writer: BufWriter<W>,
-    refused: bool,
+    refusal: Option<io::Error>,
+    line_faults: LineFaults,
 }
 
 impl<W: Write + Drop> Model for Output<W> {
+    ghost use Rattle.std.specs.Prelude.{is_some};
     ghost use Rattle.std.specs.Io.Buffered.{writer_contents, writer_inner};
     ghost use Rattle.msgq_cli.specs.Outputs.{OutputState};
 
     ghost Value = { OutputState };
 
     ghost view = { λ o. record {
-      refused = o.refused;
+      refused = is_some o.refusal;
       known = writer_contents W.contents o.writer;
       handed = W.contents (writer_inner o.writer);
     } };
@@ -37,7 +41,8 @@ impl<W: Write + Drop> Output<W> {
     {
         Output {
             writer,
-            refused: false,
+            refusal: None,
+            line_faults: LineFaults::NONE,
         }
     }
 
@@ -45,7 +50,14 @@ impl<W: Write + Drop> Output<W> {
     pub fn has_refused(&self) -> bool
         ensures { result ≡ self.now.refused }
     {
-        self.refused
+        self.refusal.is_some()
+    }
+
+    /// What refused a write, once one was.
+    pub fn refusal(&self) -> Option<&io::Error>
+        ensures { is_some result ≡ self.now.refused }
+    {
+        self.refusal.as_ref()
     }
 
     /// Hands on to the writer all that was printed, unless a write was or is refused.
@@ -53,8 +65,8 @@ impl<W: Write + Drop> Output<W> {
         ensures same { Prints self.old self.new [] }
         ensures handed { self.new.refused ≡ false → self.new.handed ≡ self.new.known }
     {
-        if !self.refused {
-            self.refused = self.writer.flush().is_err();
+        if self.refusal.is_none() {
+            self.refusal = self.writer.flush().err();
         }
     }
 
@@ -65,31 +77,43 @@ impl<W: Write + Drop> Output<W> {
         self.writer.into_parts().0
     }
 
+    /// The faults that lines were replied.
+    pub(crate) fn line_faults(&self) -> LineFaults {
+        self.line_faults
+    }
+
+    /// A line is replied a fault; nothing is printed.
+    pub(crate) fn note(&mut self, line: u64, fault: u8)
+        ensures { self.new ≡ self.old }
+    {
+        self.line_faults.note(line, fault);
+    }
+
     /// Prints a text.
     pub(crate) fn put(&mut self, text: &[u8])
         ensures { Prints self.old self.new text.now }
     {
-        if !self.refused {
-            self.refused = is_refused(&mut self.writer, text);
+        if self.refusal.is_none() {
+            self.refusal = write_all(&mut self.writer, text);
         }
     }
 }
 
-/// Writes a text, and tells whether a write was refused.
-fn is_refused<W: Write>(writer: &mut W, text: &[u8]) -> bool
-    ensures { Takes result (W.contents writer.old) (W.contents writer.new) text.now }
+/// Writes a text, and tells what refused a write, if one was.
+fn write_all<W: Write>(writer: &mut W, text: &[u8]) -> Option<io::Error>
+    ensures { Takes (is_some result) (W.contents writer.old) (W.contents writer.new) text.now }
 {
     let mut rest = text;
     for _ in 0..u64::MAX {
         if rest.is_empty() {
-            return false;
+            return None;
         }
         match writer.write(rest) {
-            Ok(0) => return true,
+            Ok(0) => return Some(ErrorKind::WriteZero.into()),
             Ok(count) => rest = &rest[count..],
             Err(error) if error.kind() == ErrorKind::Interrupted => {}
-            Err(_) => return true,
+            Err(error) => return Some(error),
         }
     }
-    true
+    Some(ErrorKind::WriteZero.into())
 }

@@ -41,11 +41,14 @@ impl Reply {
             Reply::Stopped => {
                 output.line(&[PrintedWord::Number(number), PrintedWord::Text(b"done")])
             }
-            Reply::Failed(fault) => output.line(&[
-                PrintedWord::Number(number),
-                PrintedWord::Text(b"fault"),
-                PrintedWord::Number(u64::from(*fault)),
-            ]),
+            Reply::Failed(fault) => {
+                output.note(number, *fault);
+                output.line(&[
+                    PrintedWord::Number(number),
+                    PrintedWord::Text(b"fault"),
+                    PrintedWord::Number(u64::from(*fault)),
+                ])
+            }
         }
     }
 }

@@ -1,7 +1,7 @@
 //! What is told of a system that a file holds.
 
 ghost use Rattle.msgq_cli.specs.Outputs.{Prints};
-ghost use Rattle.msgq_cli.specs.Reports.{ok_text, report_text, system_text};
+ghost use Rattle.msgq_cli.specs.Reports.{migrated_text, ok_text, report_text, system_text};
 
 use crate::output::Output;
 use crate::printed_word::PrintedWord;
@@ -16,6 +16,17 @@ pub enum Report {
     Counts,
     /// The state of each queue, and the next id.
     Queues,
+}
+
+/// A report that is asked for.
+#[derive(Clone, Copy, Debug, PartialEq, Eq)]
+pub struct ReportRequest<'a> {
+    /// The file.
+    pub file: &'a str,
+    /// What is told.
+    pub report: Report,
+    /// Whether standard error tells how full the file is. On a terminal it does.
+    pub is_verbose: bool,
 }
 
 impl Report {
@@ -36,6 +47,17 @@ pub fn print_ok<W: Write + Drop>(system: &System, output: &mut Output<W>)
 {
     output.line(&[
         PrintedWord::Text(b"ok"),
+        PrintedWord::Number(system.queues() as u64),
+        PrintedWord::Number(system.messages() as u64),
+    ]);
+}
+
+/// Prints how many queues of an older file have come to a new one, and messages on them.
+pub fn print_migrated<W: Write + Drop>(system: &System, output: &mut Output<W>)
+    ensures { Prints output.old output.new (migrated_text system.now) }
+{
+    output.line(&[
+        PrintedWord::Text(b"migrated"),
         PrintedWord::Number(system.queues() as u64),
         PrintedWord::Number(system.messages() as u64),
     ]);

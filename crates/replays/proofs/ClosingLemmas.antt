@@ -1,28 +1,23 @@
 -- What is left of a replay: its answers are those of plain lists, and its file is that of their system.
-use Rattle.std.proofs.Common.{◌≡◌, ◌↔◌, refl, sym, ap, ◌∙◌, subst, ℕ, zero, suc, Bool, true, false, IfSome, IsTrue, List, [], ◌∷◌, ◌++◌, Option, Some, None, append-nil}
+use Rattle.std.proofs.Common.{◌≡◌, ◌↔◌, refl, sym, ap, ◌∙◌, subst, ℕ, zero, suc, ◌&&◌, not, Bool, true, false, true≢false, IsTrue, List, [], ◌∷◌, ◌++◌, Option, Some, None, append-nil}
 use Rattle.std.specs.List.{list_any}
 use Rattle.bucket_page.specs.Pseudokeys.{sha_key}
 use Rattle.bucket_page.specs.declared.pseudokey.ShaKey.{ShaKey}
-use Rattle.queue_model.specs.Journal.{after, part_of}
+use Rattle.queue_model.specs.Journal.{part_of}
 use Rattle.queue_model.specs.State.{State}
 use Rattle.queue_model.specs.declared.entry.Entry.{Entry}
 use Rattle.interleavings.specs.interleaving_core.Active.{ActiveView}
-use Rattle.interleavings.specs.interleaving_core.Closing.{IsBusy, has_one}
+use Rattle.interleavings.specs.interleaving_core.Closing.{IsBusy, IsFlushedTo, has_one}
 use Rattle.interleavings.specs.interleaving_core.Kernel.{KernelState, call_at}
 use Rattle.interleavings.specs.interleaving_core.Owing.{untold}
 use Rattle.interleavings.specs.interleaving_core.declared.fault.CloseFault.{CloseFault}
 use Rattle.interleavings.specs.interleaving_core.declared.fault.CloseFault.TheVariants.{Failed}
 use Rattle.interleavings.specs.Laws.{AnswersAsPlainLists as AnswersLed, ClosesRefine, EventsRefine}
-use Rattle.interleavings.specs.Refining.{Refines}
-use Rattle.interleavings.specs.Words.{restarted}
-use Rattle.msgq_cli.specs.Outputs.{OutputState}
-use Rattle.msgq_cli.specs.Scripts.{Parts}
-use Rattle.msgq_cli.specs.declared.ending.Ending.{Ending}
 use Rattle.schedules.specs.declared.event.Event.{Event}
 use Rattle.replays.specs.Events.{PlaysAll, ReplayState}
 use Rattle.replays.specs.Journal.{IsSoundReplay, entries_at}
-use Rattle.replays.specs.PlainLists.{AnswersAsPlainLists, HaveFileOf, IsLeftWell}
-use Rattle.replays.specs.Replays.{AreFlushed, IsClosedWell, IsOpenedFor, IsReplayed, ReplaysOn}
+use Rattle.replays.specs.PlainLists.{AnswersAsPlainLists, IsLeftWell}
+use Rattle.replays.specs.Replays.{IsClosedWell}
 use Rattle.replays.specs.Rounds.{MakesRounds}
 use Rattle.replays.proofs.LeadLemmas.{replay_keeps, replay_leads}
 
@@ -45,9 +40,9 @@ idle_closed k sound not_busy =
     no_calls k.seats (not_true (list_any has_one k.seats) (λ e. not_busy (record { sound = sound; call = e })))
 
 -- no step has failed, and it is not busy, so no seat has a call
-pub closed_well : {K : Type 0} (k : KernelState K) (left : Option (List (List ℕ))) → ((false ≡ true) ↔ IsBusy k) →
+pub closed_well : {K : Type 0} (k : KernelState K) (left : List (List ℕ)) → ((false ≡ true) ↔ IsBusy k) →
     ((◌≡◌ {A = Option CloseFault} None (Some Failed)) ↔ (k.failed ≡ true)) →
-    (IsTrue k.pool.honest → AreFlushed k.pool left) → IsClosedWell k left
+    (IsTrue k.pool.honest → IsFlushedTo k.pool left) → IsClosedWell k left
 closed_well k left busy failed flushed = record {
   sound = sound;
   idle = idle_closed k sound (λ is. let told : false ≡ true = busy.1 is in absurd cc);
@@ -58,10 +53,13 @@ closed_well k left busy failed flushed = record {
     sound = not_true k.failed
         (λ is. let told : ◌≡◌ {A = Option CloseFault} None (Some Failed) = failed.1 is in absurd cc)
 
--- what is so of what is there
-pub if_some : {X : Type 0} {P Q : X → Type 0} (o : Option X) → ((x : X) → P x → Q x) → IfSome o P → IfSome o Q
-if_some None weaker is = tt
-if_some (Some x) weaker is = weaker x is
+-- where no line is left and the output refused nothing, a failure alone keeps pages from being written
+pub only_failed : (over refused failed : Bool) → over ≡ true → refused ≡ false →
+    (over && not refused && not failed) ≡ false → failed ≡ true
+only_failed true false true is_over is_told away = refl
+only_failed true false false is_over is_told away = absurd (true≢false away)
+only_failed true true failed is_over is_told away = absurd (true≢false is_told)
+only_failed false refused failed is_over is_told away = absurd (true≢false (sym is_over))
 
 -- ---- what is left of a replay
 
@@ -75,37 +73,14 @@ module _ (leads : EventsRefine ShaKey) (words : List Event) (first played last :
     told = sound.told;
   }
 
-  module _ (closes : ClosesRefine ShaKey) (left : Option (List (List ℕ))) (well : IsClosedWell last.kernel left) where
-    file_by : (base : State) → Refines sha_key base first.kernel → (pages : Option (List (List ℕ))) →
-        AreFlushed last.kernel.pool pages →
-        HaveFileOf pages (restarted (after last.kernel.callers last.kernel.journal base))
-    file_by base led None never = absurd never
-    file_by base led (Some pages) flushed =
-        closes sha_key base pages last.kernel (replay_leads leads base words first played last plays goes led)
-        well.idle well.sound flushed
-
+  module _ (closes : ClosesRefine ShaKey) (left : List (List ℕ)) (well : IsClosedWell last.kernel left) where
     pub left_well : IsLeftWell first last left
     left_well = record {
       told = λ seat. sound.told seat
           ∙ ap (λ (es : List Entry). part_of seat (entries_at last.script.lines last.script.replies) ++ es)
           (ap (untold seat) (well.idle seat))
           ∙ append-nil (part_of seat (entries_at last.script.lines last.script.replies));
-      file = λ base led honest. file_by base led left
+      file = λ base led honest. closes sha_key base left last.kernel
+          (replay_leads leads base words first played last plays goes led) well.idle well.sound
           (well.flushed (subst IsTrue (sym (replay_keeps words first played last plays goes).honest) honest));
     }
-
--- ---- in a file
-
-pub replays_on : {script : Parts} {events : List Event} {content : List (List ℕ)} {honest : Bool} {first : ReplayState}
-    {left : Option (List (List ℕ))} {old new : OutputState} {ending : Ending} →
-    IsOpenedFor script content honest first → IsReplayed events first old new left ending → ReplaysOn old new ending
-replays_on {script} {events} {content} {honest} {first} {left} {old} {new} {ending} opened replayed = record {
-  script = script;
-  events = events;
-  content = content;
-  honest = honest;
-  first = first;
-  opened = opened;
-  left = left;
-  replayed = replayed;
-}

@@ -1,9 +1,11 @@
 -- As long as no step has failed a seat has a call only while a line of it is under way. So where no line is left the
 -- kernel is not busy.
-use Rattle.std.proofs.Common.{◌≡◌, ◌≢◌, ◌↔◌, ◌||◌, ◌&&◌, inl, inr, refl, sym, ap, ◌∙◌, subst, ℕ, zero, suc, ◌==◌, Bool, true, false, not, IsSome, List, [], ◌∷◌, Option, Some, None}
+use Rattle.std.proofs.Common.{◌≡◌, ◌≢◌, ◌↔◌, ◌||◌, ◌&&◌, inl, inr, refl, sym, ap, ◌∙◌, subst, ℕ, zero, suc, ◌==◌, Bool, true, false, not, IsSome, List, [], ◌∷◌, Option, Some, None, arith}
+use Rattle.std.specs.Bool.{then_some}
 use Rattle.std.specs.List.{list_all, list_any}
 use Rattle.std.specs.Option.{is_some}
 use Rattle.std.proofs.lemmas.Bool.{eqb-false, eqb-true}
+use Rattle.std.proofs.lemmas.Option.{none-some}
 use Rattle.bucket_page.specs.Pseudokeys.{sha_key}
 use Rattle.bucket_page.specs.declared.pseudokey.ShaKey.{ShaKey}
 use Rattle.queue_model.specs.declared.call.Call.{Call}
@@ -17,7 +19,7 @@ use Rattle.interleavings.specs.interleaving_core.Owing.{is_end, is_failure}
 use Rattle.interleavings.specs.interleaving_core.Past.{call_of}
 use Rattle.interleavings.specs.interleaving_core.declared.fault.StepFault.TheVariants as faults
 use Rattle.interleavings.specs.interleaving_core.declared.fault.Failure.{Failure}
-use Rattle.faults.specs.declared.TheConstants.{BUSY}
+use Rattle.faults.specs.declared.TheConstants.{BUSY, FAILED}
 use Rattle.interleavings.specs.interleaving_core.declared.step.Step.{Step}
 use Rattle.interleavings.specs.interleaving_core.declared.step.Step.TheVariants as steps
 use Rattle.msgq_cli.specs.declared.command.Command.{Command}
@@ -198,14 +200,27 @@ not_busy s sound over busy =
     let never : true ≡ false = sym busy.call ∙ idle in
     absurd cc
 
--- so `BUSY` is told exactly where a line is left
-pub busy_if_left : (s : ReplayState) (fault : Option ℕ) → IsSoundReplay s → MayEndWith (is_over s) s.kernel fault →
-    (fault ≡ Some BUSY) ↔ (is_over s ≡ false)
-busy_if_left s fault sound = by (is_over s) refl
+-- a failure is not that
+no_busy : (b : Bool) → then_some b FAILED ≡ Some BUSY → ⊥
+no_busy false is = none-some BUSY is
+no_busy true is = let same : 62 ≡ 63 = some_same is in absurd (omega (arith, same))
   where
-    by : (b : Bool) → is_over s ≡ b → MayEndWith b s.kernel fault → (fault ≡ Some BUSY) ↔ (b ≡ false)
-    by false is closes = ((λ told. refl), (λ left. closes))
-    by true is closes = (
+    some_same : {a b : ℕ} → ◌≡◌ {A = Option ℕ} (Some a) (Some b) → a ≡ b
+    some_same both = cc
+
+-- so `BUSY` is told exactly where a line is left
+pub busy_if_left : (s : ReplayState) (untold : Bool) (fault : Option ℕ) → IsSoundReplay s →
+    MayEndWith (is_over s) untold s.kernel fault → (fault ≡ Some BUSY) ↔ (is_over s ≡ false)
+busy_if_left s untold fault sound = by (is_over s) untold refl
+  where
+    by : (b refused : Bool) → is_over s ≡ b → MayEndWith b refused s.kernel fault →
+        (fault ≡ Some BUSY) ↔ (b ≡ false)
+    by false refused is closes = ((λ told. refl), (λ left. closes))
+    by true false is closes = (
       (λ told. absurd (not_busy s sound is (closes.busy.0 told))),
+      (λ never. absurd cc),
+    )
+    by true true is closes = (
+      (λ told. absurd (no_busy s.kernel.failed (sym closes ∙ told))),
       (λ never. absurd cc),
     )

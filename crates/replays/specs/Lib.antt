@@ -4,3 +4,4 @@ pub mod Rounds
 pub mod Journal
 pub mod PlainLists
 pub mod Replays
+pub mod Texts

@@ -1,6 +1,6 @@
 -- The answers of a replay are those of plain lists, and its file is left as that of their system.
 -- docs/SCRIPTS.md, "Schedules"; docs/QUEUES.md, "Journals".
-use Rattle.std.specs.Prelude.{ℕ, ◌≡◌, IsTrue, List, Option, Some, None}
+use Rattle.std.specs.Prelude.{ℕ, ◌≡◌, IsTrue, List}
 use Rattle.bucket_page.specs.Pseudokeys.{sha_key}
 use Rattle.interleavings.specs.interleaving_core.Kernel.{KernelState}
 use Rattle.interleavings.specs.Headline.{IsAsPlainLists}
@@ -14,19 +14,14 @@ pub record KeepsCallers {K : Type 0} (old new : KernelState K) : Type 0 where
   pub callers : new.callers ≡ old.callers
   pub honest : new.pool.honest ≡ old.pool.honest
 
--- the pages that are left are the file of a system
-abbrev pub HaveFileOf : Option (List (List ℕ)) → State → Type 0
-HaveFileOf None s = ⊥
-HaveFileOf (Some pages) s = IsFileOf sha_key pages s
-
 -- what is so where the kernel was closed with no fault
-pub record IsLeftWell (first last : ReplayState) (left : Option (List (List ℕ))) : Type 0 where
+pub record IsLeftWell (first last : ReplayState) (left : List (List ℕ)) : Type 0 where
   -- seat by seat its lines' answers are all that the journal has of it
   pub told : (seat : ℕ) → part_of seat last.kernel.journal ≡
       part_of seat (entries_at last.script.lines last.script.replies)
   -- an honest device has the file of the system after the journal
   pub file : (base : State) → Refines sha_key base first.kernel → IsTrue first.kernel.pool.honest →
-      HaveFileOf left (restarted (after last.kernel.callers last.kernel.journal base))
+      IsFileOf sha_key left (restarted (after last.kernel.callers last.kernel.journal base))
 
 -- whatever the schedule: the answers are those of plain lists asked one call at a time
 pub record AnswersAsPlainLists (first last : ReplayState) : Type 0 where

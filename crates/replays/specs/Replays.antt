@@ -1,6 +1,7 @@
 -- A script that is replayed by a schedule: how its kernel is opened, what is printed, how it ends. docs/SCRIPTS.md,
 -- "Runs" and "Schedules".
-use Rattle.std.specs.Prelude.{ℕ, zero, suc, ◌≡◌, ◌↔◌, ◌⊎◌, Bool, true, false, List, [], ◌∷◌, ◌++◌, IsTrue, Option, Some, None, if◌then◌else◌, length}
+use Rattle.std.specs.Prelude.{ℕ, zero, suc, ◌≡◌, ◌↔◌, ◌⊎◌, Bool, true, false, List, [], ◌∷◌, ◌++◌, ◌&&◌, not, IsTrue, Option, Some, None, if◌then◌else◌, length}
+use Rattle.std.specs.Bool.{then_some}
 use Rattle.std.specs.List.{list_any}
 use Rattle.faults.specs.declared.TheConstants.{BUSY, DEVICE, FAILED, NO_MEMORY}
 use Rattle.queue_model.specs.declared.caller.Caller.{Caller}
@@ -10,14 +11,13 @@ use Rattle.interleavings.specs.interleaving_core.Beginning.{IsOpened}
 use Rattle.interleavings.specs.interleaving_core.Closing.{IsBusy, IsFlushedTo}
 use Rattle.interleavings.specs.interleaving_core.Kernel.{KernelState, call_at}
 use Rattle.interleavings.specs.Laws.{RefinesFile}
-use Rattle.interleavings.specs.Words.{PoolState}
 use Rattle.msgq_cli.specs.Answers.{reply_text}
 use Rattle.msgq_cli.specs.Outputs.{OutputState, Prints}
 use Rattle.msgq_cli.specs.Runs.{is_fault}
 use Rattle.msgq_cli.specs.Scripts.{Parts, caller_of, greatest_seat}
 use Rattle.msgq_cli.specs.Refusals.{IsFaultAlone}
 use Rattle.msgq_cli.specs.declared.ending.Ending.{Ending}
-use Rattle.msgq_cli.specs.declared.ending.Ending.TheVariants.{Done, Faulty, WrongLine, WrongWord}
+use Rattle.msgq_cli.specs.declared.ending.Ending.TheVariants.{Done, Faulty, WrongWord}
 use Rattle.msgq_cli.specs.declared.line.Line.{Line}
 use Rattle.msgq_cli.specs.declared.line.SeatIds.{SeatIds}
 use Rattle.msgq_cli.specs.declared.reply.Reply.{Reply}
@@ -86,21 +86,22 @@ pub record ClosesWith {K : Type 0} (k : KernelState K) (fault : Option ℕ) : Ty
   pub busy : (fault ≡ Some BUSY) ↔ IsBusy k
   pub other : (number : ℕ) → fault ≡ Some number → (number ≡ DEVICE) ⊎ (number ≡ FAILED) ⊎ (number ≡ BUSY)
 
--- where a line is left that is `BUSY`, and else the kernel is closed
-abbrev pub MayEndWith : {K : Type 0} → Bool → KernelState K → Option ℕ → Type 0
-MayEndWith false k fault = fault ≡ Some BUSY
-MayEndWith true k fault = ClosesWith k fault
+-- where a line is left that is `BUSY`; else the kernel is closed. Where the output has refused a write it is let go,
+-- and a failure of a step alone is told
+abbrev pub MayEndWith : {K : Type 0} → (over refused : Bool) → KernelState K → Option ℕ → Type 0
+MayEndWith false refused k fault = fault ≡ Some BUSY
+MayEndWith true false k fault = ClosesWith k fault
+MayEndWith true true k fault = fault ≡ then_some k.failed FAILED
 
--- the pages that are left have the images of a pool, all of them written there
-abbrev pub AreFlushed : PoolState → Option (List (List ℕ)) → Type 0
-AreFlushed pool None = ⊥
-AreFlushed pool (Some pages) = IsFlushedTo pool pages
+-- pages are written at the end where no line is left, no step has failed, and the output has refused nothing
+abbrev pub may_write : {K : Type 0} → (over refused : Bool) → KernelState K → Bool
+may_write over refused k = over && not refused && not k.failed
 
 -- a kernel that was closed with no fault, and the pages that are left on its device
-pub record IsClosedWell {K : Type 0} (k : KernelState K) (left : Option (List (List ℕ))) : Type 0 where
+pub record IsClosedWell {K : Type 0} (k : KernelState K) (left : List (List ℕ)) : Type 0 where
   pub sound : k.failed ≡ false
   pub idle : (seat : ℕ) → call_at k.seats seat ≡ None
-  pub flushed : IsTrue k.pool.honest → AreFlushed k.pool left
+  pub flushed : IsTrue k.pool.honest → IsFlushedTo k.pool left
 
 -- a fault is printed after the replies, or none
 abbrev pub EndsWith : Option ℕ → OutputState → Ending → OutputState → Ending → Type 0
@@ -109,9 +110,10 @@ EndsWith (Some fault) told so_far new ending = IsFaultAlone fault told new endin
 
 -- ---- the whole of it
 
--- the words of a schedule were played, and then rounds; the replies were printed, and then a fault or none
-pub record IsReplayed (events : List Event) (first : ReplayState) (old new : OutputState)
-    (left : Option (List (List ℕ))) (ending : Ending) : Type 0 where
+-- the words of a schedule were played, and then rounds; the replies were printed and handed on, and only then the
+-- kernel was closed, or was let go; a fault was printed, or none
+pub record IsReplayed (events : List Event) (first : ReplayState) (old new : OutputState) (left : List (List ℕ))
+    (untold : Bool) (ending : Ending) : Type 0 where
   pub played : ReplayState
   pub plays : PlaysAll events first played
   pub last : ReplayState
@@ -120,33 +122,19 @@ pub record IsReplayed (events : List Event) (first : ReplayState) (old new : Out
   pub told : OutputState
   pub so_far : Ending
   pub tells : TellsReplies last old told so_far
+  -- the output refused a write, or the replies have come to the writer
+  pub untold_is : untold ≡ told.refused
+  pub handed : untold ≡ false → told.handed ≡ told.known
   pub fault : Option ℕ
-  pub closes : MayEndWith (is_over last) last.kernel fault
+  pub closes : MayEndWith (is_over last) untold last.kernel fault
   pub stuck : (fault ≡ Some BUSY) ↔ (is_over last ≡ false)
-  pub well : fault ≡ None → IsLeftWell first last left
+  -- what was told has happened
+  pub well : untold ≡ false → fault ≡ None → IsLeftWell first last left
+  -- what can't be told has not: the pages are those that the kernel's pool knew to be stored
+  pub unwritten : may_write (is_over last) untold last.kernel ≡ false → left ≡ last.kernel.pool.stored
   pub ends : EndsWith fault told so_far new ending
 
 -- what is told where there is no schedule
 abbrev pub IsScheduleRefused : ScheduleError → OutputState → OutputState → Ending → Type 0
 IsScheduleRefused (errors.WrongWord word) old new ending = (ending ≡ WrongWord word) × (new ≡ old)
 IsScheduleRefused errors.NoMemory old new ending = IsFaultAlone NO_MEMORY old new ending
-
--- the pages of a device were opened for a script, which was replayed, and these are left
-pub record ReplaysOn (old new : OutputState) (ending : Ending) : Type 0 where
-  pub script : Parts
-  pub events : List Event
-  pub content : List (List ℕ)
-  pub honest : Bool
-  pub first : ReplayState
-  pub opened : IsOpenedFor script content honest first
-  pub left : Option (List (List ℕ))
-  pub replayed : IsReplayed events first old new left ending
-
--- what is printed of a script and a schedule in files: a file was opened for the script, which was replayed; or
--- nothing, where a line or a word is wrong; or one fault alone
-abbrev pub ReplaysFile : OutputState → OutputState → Ending → Type 0
-ReplaysFile old new ending =
-    ReplaysOn old new ending
-    ⊎ ((line : ℕ) × (ending ≡ WrongLine line) × (new ≡ old))
-    ⊎ ((word : ℕ) × (ending ≡ WrongWord word) × (new ≡ old))
-    ⊎ ((fault : ℕ) × IsFaultAlone fault old new ending)

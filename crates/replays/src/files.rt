@@ -1,19 +1,13 @@
 //! Scripts replayed on files: the subcommand of the program.
 
-ghost use Rattle.std.specs.Prelude.{◌≡◌};
-ghost use Rattle.interleavings.specs.interleaving_core.Fault.{open_number_of};
-ghost use Rattle.msgq_cli.specs.Refusals.{IsFaultAlone};
-ghost use Rattle.replays.specs.Replays.{IsScheduleRefused, ReplaysFile};
-
-use crate::ending::run;
-use crate::opening::open;
+use crate::texts::{Texts, refuse_schedule, replay_on};
 use faults::BUSY;
-use interleavings::interleaving_core::OpenFault;
 use msgq_cli::{
-    Ending, Failure, Output, Stage, complain, complain_of, fail, leave_unopened, read_file,
-    read_script, refuse, unread,
+    Ending, Failure, Output, Plain, complain, complain_of, leave_unopened, read_file, read_script,
+    refuse, unread,
 };
-use schedules::{ScheduleError, read_schedule};
+use rollback_journal::open;
+use schedules::read_schedule;
 use std::fs::File;
 use std::io::Write;
 use std::rt::Files;
@@ -35,9 +29,7 @@ pub struct Sources<'a> {
 ///
 /// The script is read first, then the schedule: fault 20 or 60 alone where one can't be read, and
 /// nothing is run where one is wrong. Then the file is opened, and what a run that was cut off has
-/// left is undone: `fault N` alone where it is not.
-/// After the answers there is one more fault where a line is left that no seat can finish, or the
-/// file is not closed well.
+/// left is undone: `fault N` alone where it is not. Then it is as `replay_on` says.
 pub fn replay_file<R, W, E>(
     rt: &R,
     sources: Sources,
@@ -48,72 +40,96 @@ where
     R: Files<File = File> + AllocGlobal + Input,
     W: Write + Drop,
     E: Write,
-    ensures { ReplaysFile output.old output.new result }
 {
-    let text = match read_file(rt, sources.script) {
-        Ok(text) => text,
-        Err(error) => return unread(sources.script, &error, output, errors),
-    };
-    let script = match read_script(rt.alloc(), text.as_slice()) {
+    // a wrong text is told before the file is opened
+    let script = match script_text(rt, sources.script, output, errors) {
         Ok(script) => script,
-        Err(error) => return refuse(rt.alloc(), error, text.as_slice(), output, errors),
+        Err(ending) => return ending,
     };
-    let words = match read_file(rt, sources.schedule) {
-        Ok(words) => words,
-        Err(error) => return unread(sources.schedule, &error, output, errors),
+    let schedule = match schedule_text(rt, sources.schedule, output, errors) {
+        Ok(schedule) => schedule,
+        Err(ending) => return ending,
     };
-    let events = match read_schedule(rt.alloc(), words.as_slice()) {
-        Ok(events) => events,
-        Err(error) => return refuse_schedule(error, output, errors),
+    let device = match open(rt, sources.file) {
+        Ok(device) => device,
+        Err(error) => return leave_unopened(sources.file, error, output, errors),
     };
-    match rollback_journal::open(rt, sources.file) {
-        Ok(device) => match open(rt.alloc(), device, &script) {
-            Ok(replay) => {
-                let replayed = run(replay, events.as_slice(), output);
-                if let Some(failure) = replayed.failure {
-                    complain(sources.file, "a line failed", failure, errors);
-                }
-                complain_of_replay(sources.file, replayed.ending, errors);
-                replayed.ending
-            }
-            Err(fault) => leave_refused(sources.file, fault, output, errors),
-        },
-        Err(error) => leave_unopened(sources.file, error, output, errors),
+    let texts = Texts {
+        script: script.as_slice(),
+        schedule: schedule.as_slice(),
+    };
+    let replayed = replay_on(rt.alloc(), device, texts, output, errors);
+    if let Some(failure) = replayed.failure {
+        complain(sources.file, "a line failed", failure, errors);
     }
+    if replayed.is_untold {
+        complain_of_output(sources.file, output, errors);
+    }
+    complain_of_replay(sources.file, replayed.ending, errors);
+    replayed.ending
 }
 
-/// Ends a replay whose schedule is not read.
-fn refuse_schedule<W: Write + Drop, E: Write>(
-    error: ScheduleError,
+/// The text of a script that is in a file or comes by standard input, once it is known to be one.
+///
+/// # Errors
+///
+/// How the run ends where it can't be read or is wrong: that was told.
+pub fn script_text<R, W, E>(
+    rt: &R,
+    name: &str,
     output: &mut Output<W>,
     errors: &mut E,
-) -> Ending
-    ensures { IsScheduleRefused error output.old output.new result }
+) -> Result<Vec<u8>, Ending>
+where
+    R: Files<File = File> + AllocGlobal + Input,
+    W: Write + Drop,
+    E: Write,
 {
-    match error {
-        ScheduleError::WrongWord { word } => {
-            let _ = writeln!(errors, "schedule word {word}");
-            Ending::WrongWord(word)
-        }
-        ScheduleError::NoMemory => {
-            let ending = fail(Stage::Reading, faults::NO_MEMORY, output);
-            complain_of("the schedule", ending, errors);
-            ending
-        }
+    let text = match read_file(rt, name) {
+        Ok(text) => text,
+        Err(error) => return Err(unread(name, &error, output, errors)),
+    };
+    match read_script(rt.alloc(), text.as_slice()) {
+        Ok(_) => Ok(text),
+        Err(error) => Err(refuse(rt.alloc(), error, text.as_slice(), output, errors)),
     }
 }
 
-/// Ends a replay whose file is refused.
-fn leave_refused<W: Write + Drop, E: Write>(
+/// So of a schedule.
+fn schedule_text<R, W, E>(
+    rt: &R,
+    name: &str,
+    output: &mut Output<W>,
+    errors: &mut E,
+) -> Result<Vec<u8>, Ending>
+where
+    R: Files<File = File> + AllocGlobal + Input,
+    W: Write + Drop,
+    E: Write,
+{
+    let text = match read_file(rt, name) {
+        Ok(text) => text,
+        Err(error) => return Err(unread(name, &error, output, errors)),
+    };
+    match read_schedule(rt.alloc(), text.as_slice()) {
+        Ok(_) => Ok(text),
+        Err(error) => Err(refuse_schedule(error, output, errors)),
+    }
+}
+
+/// Says what refused the answers, so that nothing was written to the file.
+pub fn complain_of_output<W: Write + Drop, E: Write>(
     file: &str,
-    fault: OpenFault,
-    output: &mut Output<W>,
+    output: &Output<W>,
     errors: &mut E,
-) -> Ending
-    ensures { IsFaultAlone (open_number_of fault) output.old output.new result }
-{
-    complain(file, "it can't be opened", fault, errors);
-    fail(Stage::Opening, fault.number(), output)
+) {
+    if let Some(error) = output.refusal() {
+        let file = Plain(file);
+        let _ = writeln!(
+            errors,
+            "msgq: standard output: {error}; {file} is unchanged"
+        );
+    }
 }
 
 /// Says of a replay that ended by a fault that no line met what this was.

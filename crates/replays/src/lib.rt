@@ -11,10 +11,12 @@ mod printing;
 mod progress;
 mod replay;
 mod rounds;
+mod texts;
 
 pub use deed::Deed;
-pub use ending::{Replayed, run};
-pub use files::{Sources, replay_file};
-pub use opening::{FileKeys, open, open_kernel};
+pub use ending::{Ran, run, tell_end};
+pub use files::{Sources, complain_of_output, replay_file, script_text};
+pub use opening::{FileKeys, leave_refused, open, open_kernel};
 pub use progress::{Place, Progress};
 pub use replay::{MOST_STEPS, Replay};
+pub use texts::{Texts, replay_on};

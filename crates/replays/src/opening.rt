@@ -3,7 +3,8 @@
 ghost use Rattle.std.specs.Prelude.{◌≡◌, ◌≢◌, ◌≤◌, IfErr, IfOk, IsTrue, length};
 ghost use Rattle.bucket_page.specs.Pseudokeys.{sha_key};
 ghost use Rattle.interleavings.specs.interleaving_core.Beginning.{HasSystem, MayRefuse};
-ghost use Rattle.interleavings.specs.interleaving_core.Fault.{device_failed};
+ghost use Rattle.interleavings.specs.interleaving_core.Fault.{device_failed, open_number_of};
+ghost use Rattle.msgq_cli.specs.Refusals.{IsFaultAlone};
 ghost use Rattle.msgq_cli.specs.Scripts.{greatest_seat};
 ghost use Rattle.page_device.specs.Device.{HasRisen};
 ghost use Rattle.page_locks.specs.declared.lock_table.TheConstants.{MAX_SEATS};
@@ -15,10 +16,11 @@ use bucket_page::ShaKey;
 use interleavings::an_opened_kernel_refines;
 use interleavings::interleaving_core::{FRAMES_BESIDE, Kernel, OpenFault};
 use kept_keys::KeptKeys;
-use msgq_cli::{MOST_FRAMES, Script};
+use msgq_cli::{Ending, MOST_FRAMES, Output, Script, Stage, fail, print_fault};
 use page_device::PageDevice;
 use queue_model::{Caller, NoMemory};
 use std::alloc::Global;
+use std::io::Write;
 
 /// How the keys of a file are spread over its buckets: by digests, which are kept for their next
 /// use.
@@ -29,8 +31,8 @@ const FRAMES_A_SEAT: usize = 4;
 
 /// Opens the file of a device for the seats of a script, of which no line was begun. All memory for
 /// the seats and for the replies is taken here. The file is checked first, and refused by the first
-/// thing that is wrong with it. The kernel that is opened of an honest device refines the
-/// system whose file it has.
+/// thing that is wrong with it. Each refusal gives the device back, and nothing was written. The
+/// kernel that is opened of an honest device is led from the system whose file it has.
 ///
 /// # Errors
 ///
@@ -40,20 +42,24 @@ pub fn open<'a, D: PageDevice + Drop>(
     alloc: Global,
     device: D,
     script: &'a Script,
-) -> Result<Replay<'a, D>, OpenFault>
+) -> Result<Replay<'a, D>, (D, OpenFault)>
     ensures ok { IfOk result (IsOpenedFor script.now (D.content device) (D.is_honest device)) }
-    ensures refused { IsTrue (D.is_honest device) →
-        IfErr result (MayRefuse sha_key (D.content device)) }
-    ensures enough { IfErr result (λ fault. fault ≢ OpenFault.TooFewFrames) }
+    ensures refused { IsTrue (D.is_honest device) → IfErr result (λ refusal.
+        MayRefuse sha_key (D.content device) refusal.1) }
+    ensures enough { IfErr result (λ refusal. refusal.1 ≢ OpenFault.TooFewFrames) }
+    ensures err { IfErr result (λ refusal. (D.content refusal.0 ≡ D.content device)
+        × (D.is_honest refusal.0 ≡ D.is_honest device)) }
+    ensures cause { IfErr result (λ refusal. refusal.1 ≡ device_failed →
+        HasRisen (D.fault_count device) (D.fault_count refusal.0)) }
 {
     an_opened_kernel_refines::<FileKeys>();
     let seats = seats_of(script);
     let Ok(progress) = Progress::new(alloc, script.lines(), seats) else {
-        return Err(OpenFault::NoMemory);
+        return Err((device, OpenFault::NoMemory));
     };
     match open_kernel(alloc, device, script) {
         Ok(kernel) => Ok(Replay::new(kernel, progress)),
-        Err((_, fault)) => Err(fault),
+        Err(refusal) => Err(refusal),
     }
 }
 
@@ -92,6 +98,21 @@ pub fn open_kernel<D: PageDevice + Drop>(
     let frames = (device.pages() as usize).clamp(least, MOST_FRAMES);
     let keys = KeptKeys::new(ShaKey);
     Kernel::open(alloc, device, keys, callers.as_slice(), frames)
+}
+
+/// Ends a run whose file is refused: the number of what is wrong with it is printed alone.
+pub fn leave_refused<W: Write + Drop>(fault: OpenFault, output: &mut Output<W>) -> Ending
+    ensures { IsFaultAlone (open_number_of fault) output.old output.new result }
+{
+    match fault {
+        OpenFault::Wrong(wrong) => {
+            print_fault(wrong.number(), output);
+            Ending::Unopened(wrong)
+        }
+        OpenFault::NoMemory | OpenFault::TooFewFrames => {
+            fail(Stage::Opening, fault.number(), output)
+        }
+    }
 }
 
 /// How many seats a script has.

@@ -1,7 +1,8 @@
 -- The lines of a script run one after the other.
-use Rattle.std.proofs.Common.{◌≡◌, Bool, true, false, List, [], ◌∷◌, ◌++◌, Option, Some, if◌then◌else◌, refl, sym, ap, ◌∙◌, subst, append_assoc, append-nil, ◌||◌, length, length-append, arith}
+use Rattle.std.proofs.Common.{◌≡◌, Bool, true, false, ℕ, List, [], ◌∷◌, ◌++◌, Option, Some, if◌then◌else◌, refl, sym, ap, ◌∙◌, subst, append_assoc, append-nil, ◌||◌, length, arith}
 use Rattle.std.specs.List.{list_any}
-use Rattle.lone_kernel.specs.Words.{State}
+use Rattle.bucket_page.specs.declared.pseudokey.ShaKey.{ShaKey}
+use Rattle.lone_kernel.specs.Words.{KernelState, State}
 use Rattle.msgq_cli.specs.Answers.{reply_text}
 use Rattle.msgq_cli.specs.Outputs.{OutputState, Prints}
 use Rattle.msgq_cli.specs.Runs.{ending_of, is_fault, printed}
@@ -12,27 +13,37 @@ use Rattle.msgq_cli.specs.declared.line.Line.{Line}
 use Rattle.msgq_cli.specs.declared.line.SeatIds.{SeatIds}
 use Rattle.msgq_cli.specs.declared.reply.Reply.{Reply}
 use Rattle.msgq_cli.proofs.OutputLemmas.{Prints-nil, Prints-then}
-use Rattle.script_runs.specs.Runs.{AreReplied, IsPrinted, IsReplied, IsRun}
+use Rattle.script_runs.specs.Runs.{AreReplied, IsLeft, IsReplied, IsRight, IsRun, Standing, Stands, standing}
+use Rattle.script_runs.specs.Taking.{TakesCommand, TakesLines}
 
 -- one line more
-AreReplied-push : (ids : List SeatIds) (lines : List Line) (s t u : Option State) (replies : List Reply) (line : Line)
-    (reply : Reply)
-    → AreReplied ids lines s replies t → IsReplied line.seat (caller_of line.seat ids) line.command t reply u
-    → AreReplied ids (lines ++ line ∷ []) s (replies ++ reply ∷ []) u
-AreReplied-push ids [] s t u [] line reply same is =
-    (u, subst (λ v. IsReplied line.seat (caller_of line.seat ids) line.command v reply u) same is, refl)
-AreReplied-push ids [] s t u (r ∷ rs) line reply replied is = absurd replied
-AreReplied-push ids (l ∷ ls) s t u [] line reply replied is = absurd replied
-AreReplied-push ids (l ∷ ls) s t u (r ∷ rs) line reply (next, first, rest) is =
-    (next, first, AreReplied-push ids ls next t u rs line reply rest is)
+TakesLines-push : (lines : List Line) (a b c : KernelState ShaKey) (replies : List Reply) (line : Line) (reply : Reply)
+    → TakesLines lines replies a b → TakesCommand line.seat line.command reply b c
+    → TakesLines (lines ++ line ∷ []) (replies ++ reply ∷ []) a c
+TakesLines-push [] a b c [] line reply same takes =
+    (c, subst (λ (k : KernelState ShaKey). TakesCommand line.seat line.command reply k c) same takes, refl)
+TakesLines-push [] a b c (r ∷ rs) line reply taken takes = absurd taken
+TakesLines-push (l ∷ ls) a b c [] line reply taken takes = absurd taken
+TakesLines-push (l ∷ ls) a b c (r ∷ rs) line reply (next, first, rest) takes =
+    (next, first, TakesLines-push ls next b c rs line reply rest takes)
 
-as_many : (ids : List SeatIds) (lines : List Line) (s t : Option State) (replies : List Reply) →
-    AreReplied ids lines s replies t
+AreReplied-push : (ids : List SeatIds) (lines : List Line) (a b c : Standing) (replies : List Reply) (line : Line)
+    (reply : Reply)
+    → AreReplied ids lines a replies b → IsReplied line.seat (caller_of line.seat ids) line.command b reply c
+    → AreReplied ids (lines ++ line ∷ []) a (replies ++ reply ∷ []) c
+AreReplied-push ids [] a b c [] line reply same is =
+    (c, subst (λ v. IsReplied line.seat (caller_of line.seat ids) line.command v reply c) same is, refl)
+AreReplied-push ids [] a b c (r ∷ rs) line reply replied is = absurd replied
+AreReplied-push ids (l ∷ ls) a b c [] line reply replied is = absurd replied
+AreReplied-push ids (l ∷ ls) a b c (r ∷ rs) line reply (next, first, rest) is =
+    (next, first, AreReplied-push ids ls next b c rs line reply rest is)
+
+as_many : (lines : List Line) (a b : KernelState ShaKey) (replies : List Reply) → TakesLines lines replies a b
     → length replies ≡ length lines
-as_many ids [] s t [] replied = refl
-as_many ids [] s t (r ∷ rs) replied = absurd replied
-as_many ids (l ∷ ls) s t [] replied = absurd replied
-as_many ids (l ∷ ls) s t (r ∷ rs) (next, first, rest) = let same = as_many ids ls next t rs rest in omega arith
+as_many [] a b [] taken = refl
+as_many [] a b (r ∷ rs) taken = absurd taken
+as_many (l ∷ ls) a b [] taken = absurd taken
+as_many (l ∷ ls) a b (r ∷ rs) (next, first, rest) = let same = as_many ls next b rs rest in omega arith
 
 printed-push : (lines : List Line) (replies : List Reply) (line : Line) (reply : Reply) → length replies ≡ length lines
     → printed (lines ++ line ∷ []) (replies ++ reply ∷ []) ≡ printed lines replies ++ reply_text line.number reply
@@ -63,54 +74,49 @@ ending-push (r ∷ rs) reply = by_fault (is_fault r) (ending-push rs reply)
         both false = refl
     by_fault false same = same
 
--- nothing was printed yet
-pub IsPrinted-start : (ids : List SeatIds) (o : OutputState) → IsPrinted (record { ids = ids; lines = [] }) o o Done
-IsPrinted-start ids o = record { replies = []; as_many = refl; prints = Prints-nil o; ends = refl }
-
--- one line more was printed
-pub IsPrinted-push : (ids : List SeatIds) (lines : List Line) (a b c : OutputState) (before after : Ending)
-    (line : Line) (reply : Reply) → IsPrinted (record { ids = ids; lines = lines }) a b before →
-    Prints b c (reply_text line.number reply)
-    → after ≡ (if is_fault reply then Faulty else before)
-    → IsPrinted (record { ids = ids; lines = lines ++ line ∷ [] }) a c after
-IsPrinted-push ids lines a b c before after line reply told prints ends =
-    let same = told.as_many in
-    let longer = length-append told.replies (reply ∷ []) in
-    let longer_lines = length-append lines (line ∷ []) in
-    record {
-      replies = told.replies ++ reply ∷ [];
-      as_many = omega arith;
-      prints = subst (Prints a c) (sym (printed-push lines told.replies line reply same))
-          (Prints-then a b c _ _ told.prints prints);
-      ends = ends ∙ ap (λ e. if is_fault reply then Faulty else e) told.ends ∙ sym (ending-push told.replies reply);
-    }
-
 -- nothing was run yet
-pub IsRun-start : (ids : List SeatIds) (s : State) (H : Option State → Type 0) (o : OutputState) → H (Some s)
-    → IsRun (record { ids = ids; lines = [] }) s H o o Done
-IsRun-start ids s H o held =
-    record { replies = []; left = Some s; replied = refl; held = held; prints = Prints-nil o; ends = refl }
+pub IsRun-start : (ids : List SeatIds) (k : KernelState ShaKey) (o : OutputState)
+    → IsRun (record { ids = ids; lines = [] }) k k o o Done
+IsRun-start ids k o = record {
+  replies = [];
+  takes = refl;
+  prints = Prints-nil o;
+  ends = refl;
+  rules = λ s decided rests counted. record {
+    system = Some s;
+    decided = decided;
+    replied = refl;
+    stands = record { rests = rests; later = omega arith; counted = counted };
+  };
+}
 
--- one line more was served and its reply printed
-pub IsRun-push : (ids : List SeatIds) (lines : List Line) (s : State) (H I : Option State → Type 0)
-    (a b c : OutputState) (before after : Ending) (line : Line) (reply : Reply) →
-    IsRun (record { ids = ids; lines = lines }) s H a b before
-    → ((t : Option State) → H t →
-    (u : Option State) × IsReplied line.seat (caller_of line.seat ids) line.command t reply u × I u)
-    → Prints b c (reply_text line.number reply) → after ≡ (if is_fault reply then Faulty else before)
-    → IsRun (record { ids = ids; lines = lines ++ line ∷ [] }) s I a c after
-unfolding IsPrinted-push
-IsRun-push ids lines s H I a b c before after line reply run serves prints ends =
-    let (u, is, held) = serves run.left run.held in
-    let same = as_many ids lines (Some s) run.left run.replies run.replied in
-    let told : IsPrinted (record { ids = ids; lines = lines }) a b before =
-    record { replies = run.replies; as_many = same; prints = run.prints; ends = run.ends } in
-    let more = IsPrinted-push ids lines a b c before after line reply told prints ends in
-    record {
-      replies = run.replies ++ reply ∷ [];
-      left = u;
-      replied = AreReplied-push ids lines (Some s) run.left u run.replies line reply run.replied is;
-      held = held;
-      prints = more.prints;
-      ends = more.ends;
-    }
+-- one line more was run, and its reply printed
+module _ (ids : List SeatIds) (lines : List Line) (first mid last : KernelState ShaKey) (a b c : OutputState)
+    (before after : Ending) (line : Line) (reply : Reply) where
+  pub IsRun-push : IsRun (record { ids = ids; lines = lines }) first mid a b before
+      → TakesCommand line.seat line.command reply mid last
+      → ((was : ℕ) (s : Option State) (n : ℕ) → Stands was mid s n → IsLeft was last
+      (IsRight line.seat (caller_of line.seat ids) line.command (standing mid s n) reply))
+      → Prints b c (reply_text line.number reply) → after ≡ (if is_fault reply then Faulty else before)
+      → IsRun (record { ids = ids; lines = lines ++ line ∷ [] }) first last a c after
+  IsRun-push run takes serves prints ends =
+      let same = as_many lines first mid run.replies run.takes in
+      record {
+        replies = run.replies ++ reply ∷ [];
+        takes = TakesLines-push lines first mid last run.replies line reply run.takes takes;
+        prints = subst (Prints a c) (sym (printed-push lines run.replies line reply same))
+            (Prints-then a b c _ _ run.prints prints);
+        ends = ends ∙ ap (λ e. if is_fault reply then Faulty else e) run.ends
+            ∙ sym (ending-push run.replies reply);
+        rules = λ s decided rests counted.
+            let goes = run.rules s decided rests counted in
+            let left = serves first.pool.faults goes.system goes.decided goes.stands in
+            record {
+              system = left.system;
+              decided = left.decided;
+              replied = AreReplied-push ids lines (standing first (Some s) decided)
+                  (standing mid goes.system goes.decided) (standing last left.system left.decided) run.replies line
+                  reply goes.replied (record { takes = takes; right = left.is });
+              stands = left.stands;
+            };
+      }

@@ -1,5 +1,5 @@
 -- Files opened, run on and closed.
-use Rattle.std.proofs.Common.{◌≡◌, ◌≢◌, ◌⊎◌, inl, inr, true, false, List, [], ◌∷◌, ℕ, suc, ◌≤◌, refl, subst, slice_index_or, Option, Some, None, arith}
+use Rattle.std.proofs.Common.{◌≡◌, ◌≢◌, ◌⊎◌, inl, inr, Bool, true, false, true≢false, List, [], ◌∷◌, ℕ, suc, ◌≤◌, refl, sym, ap, ◌∙◌, subst, slice_index_or, Option, Some, None, Result, Ok, Err, arith}
 use Rattle.std.specs.List.{list_any}
 use Rattle.page_device.specs.Device.{HasRisen}
 use Rattle.page_device.specs.Fault.{number_of}
@@ -17,32 +17,27 @@ use Rattle.lone_kernel.specs.interleaving_core.declared.fault.OpenFault.{OpenFau
 use Rattle.lone_kernel.specs.interleaving_core.declared.fault.OpenFault.TheVariants.{NoMemory, TooFewFrames, Wrong}
 use Rattle.file_walk.specs.declared.fault.StructureFault.TheVariants as structure
 use Rattle.one_bucket_file.proofs.of_file_check.Today.{file_has_no_fault}
-use Rattle.msgq_cli.specs.record_file.Files.{MayNotFormat}
+use Rattle.one_bucket_file.specs.Files.{no_queues}
+use Rattle.msgq_cli.specs.record_file.Files.{IsNewFile, MayNotFormat}
 use Rattle.msgq_cli.specs.file_check.declared.fault.CheckFault.TheVariants.{Structure}
 use Rattle.msgq_cli.specs.file_check.Whole.{IsFileOf}
-use Rattle.msgq_cli.specs.Outputs.{OutputState}
-use Rattle.msgq_cli.specs.Refusals.{IsFaultAlone}
-use Rattle.msgq_cli.specs.Scripts.{Parts}
+use Rattle.msgq_cli.specs.Outputs.{OutputState, Prints}
+use Rattle.msgq_cli.specs.Refusals.{IsFaultAlone, IsRefused}
+use Rattle.msgq_cli.specs.Runs.{printed}
+use Rattle.msgq_cli.specs.Scripts.{Parts, Reads, script_of}
 use Rattle.msgq_cli.specs.declared.ending.Ending.{Ending}
-use Rattle.script_runs.specs.Runs.{IsRun, StandsOn}
-use Rattle.script_runs.specs.Serves.{IsKept, IsRunAndKept, RunsOn}
+use Rattle.msgq_cli.specs.declared.script.ScriptError.{ScriptError}
+use Rattle.msgq_cli.specs.declared.script.ScriptError.TheVariants as scripts
+use Rattle.replays.specs.Replays.{EndsWith, IsOpenedForSeats}
+use Rattle.replays.specs.Texts.{Effects}
+use Rattle.script_runs.specs.Runs.{GoesByRules, IsRun, Stands, standing}
+use Rattle.script_runs.specs.Serves.{EndsWell, IsRunNew, IsRunOn, RunsOn, RunsScriptOn, RunsTextOn}
+use Rattle.script_runs.specs.declared.serving.TheConstants.{MEMORY_PAGES}
 use Rattle.script_runs.proofs.CallLemmas.{risen_since}
 
 -- a kernel has failed or has not
 apart : {K : Type 0} (k : KernelState K) → k.failed ≡ false → k.failed ≡ true → ⊥
 apart k sound failed = absurd cc
-
--- a run of whose kernel less is said
-pub IsRun-weaker : (script : Parts) (s : State) (H I : Option State → Type 0) (old new : OutputState) (ending : Ending)
-    → ((t : Option State) → H t → I t) → IsRun script s H old new ending → IsRun script s I old new ending
-IsRun-weaker script s H I old new ending weaker run = record {
-  replies = run.replies;
-  left = run.left;
-  replied = run.replied;
-  held = weaker run.left run.held;
-  prints = run.prints;
-  ends = run.ends;
-}
 
 -- a device in memory does not fail
 pub never_fails : (old : ℕ) → HasRisen old 0 → ⊥
@@ -61,32 +56,45 @@ no_memory device.NoMemory may failed = refl
 -- ---- it is closed
 
 -- a kernel that has not failed holds a system, which its file has once that is written
-pub is_kept : {K : Type 0} → ClosesAKernel K → (was : ℕ) (k : KernelState K) (content : List (List ℕ)) →
-    k.failed ≡ false → IsFlushedTo k.pool content → (t : Option State) → StandsOn was k t → IsKept content t
-is_kept closes was k content sound flushed None stands = absurd (apart k sound stands.failed)
-is_kept closes was k content sound flushed (Some s) stands = closes sha_key s content k stands.0 flushed
+pub ends_kept : {K : Type 0} → ClosesAKernel K → (was n faults : ℕ) (k : KernelState K) (left : List (List ℕ))
+    (untold : Bool) → k.failed ≡ false → IsFlushedTo k.pool left → (s : Option State) → Stands was k s n →
+    EndsWell s left untold was faults None
+ends_kept closes was n faults k left untold sound flushed None stands = absurd (apart k sound stands.failed)
+ends_kept closes was n faults k left untold sound flushed (Some s) stands =
+    inl (record { sound = refl; file = λ _. closes sha_key s left k stands.rests flushed })
 
-pub holds_one : {K : Type 0} (was : ℕ) (k : KernelState K) → k.failed ≡ false → (t : Option State) →
-    StandsOn was k t → t ≢ None
-holds_one was k sound None stands = absurd (apart k sound stands.failed)
-holds_one was k sound (Some s) stands = λ none. cc
+-- it is let go, since the output refused a write
+pub ends_untold : {K : Type 0} (was n faults : ℕ) (k : KernelState K) (left : List (List ℕ)) (untold : Bool) →
+    k.failed ≡ false → untold ≡ true → (s : Option State) → Stands was k s n →
+    EndsWell s left untold was faults None
+ends_untold was n faults k left untold sound refused None stands = absurd (apart k sound stands.failed)
+ends_untold was n faults k left untold sound refused (Some s) stands =
+    inl (record { sound = refl; file = λ told. absurd (true≢false (sym refused ∙ told)) })
 
-pub holds_none : {K : Type 0} (was : ℕ) (k : KernelState K) → k.failed ≡ true → (t : Option State) →
-    StandsOn was k t → t ≡ None
-holds_none was k failed None stands = refl
-holds_none was k failed (Some s) stands = absurd (apart k stands.0.sound failed)
+-- or since a line has failed, as its device has
+pub ends_failed : {K : Type 0} (was n faults : ℕ) (k : KernelState K) (left : List (List ℕ)) (untold : Bool) →
+    k.failed ≡ true → faults ≡ k.pool.faults → (s : Option State) → Stands was k s n →
+    EndsWell s left untold was faults (Some 62)
+ends_failed was n faults k left untold failed same None stands =
+    record { told = refl; risen = subst (HasRisen was) (sym same) stands.risen }
+ends_failed was n faults k left untold failed same (Some s) stands = absurd (apart k stands.rests.sound failed)
 
--- one that has failed has done so since its device has
-pub has_risen : {K : Type 0} (first was : ℕ) (k : KernelState K) → k.failed ≡ true → first ≤ was →
-    (t : Option State) → StandsOn was k t → HasRisen first k.pool.faults
-has_risen first was k failed before None stands = risen_since first was k.pool.faults before stands.risen
-has_risen first was k failed before (Some s) stands = absurd (apart k stands.0.sound failed)
+-- the device has failed at the closing
+pub ends_unclosed : {K : Type 0} (was n faults number : ℕ) (k : KernelState K) (left : List (List ℕ))
+    (untold : Bool) → k.failed ≡ false → number ≡ 20 → HasRisen k.pool.faults faults → (s : Option State) →
+    Stands was k s n → EndsWell s left untold was faults (Some number)
+ends_unclosed was n faults number k left untold sound is risen None stands = absurd (apart k sound stands.failed)
+ends_unclosed was n faults number k left untold sound is risen (Some s) stands =
+    inr (record { told = ap Some is; risen = risen_since was k.pool.faults faults stands.later risen })
 
--- the count of faults has not fallen while lines were run
-pub has_grown : {K : Type 0} (first was : ℕ) (k : KernelState K) → first ≤ was → (t : Option State) →
-    StandsOn was k t → k.failed ≡ false → first ≤ k.pool.faults
-has_grown first was k before None stands sound = absurd (apart k sound stands.failed)
-has_grown first was k before (Some s) stands sound = let later = stands.1 in omega (arith, before, later)
+-- what has failed since a later moment has since an earlier one
+pub ends_since : (first was faults : ℕ) (left : List (List ℕ)) (untold : Bool) (fault : Option ℕ) → first ≤ was →
+    (s : Option State) → EndsWell s left untold was faults fault → EndsWell s left untold first faults fault
+ends_since first was faults left untold fault before None fails =
+    record { told = fails.told; risen = risen_since first was faults before fails.risen }
+ends_since first was faults left untold fault before (Some s) (inl kept) = inl kept
+ends_since first was faults left untold fault before (Some s) (inr fails) =
+    inr (record { told = fails.told; risen = risen_since first was faults before fails.risen })
 
 -- a kernel that has not failed is not closed well only where the device has failed
 pub is_device : {K : Type 0} (fault : CloseFault) (k : KernelState K) → k.failed ≡ false →
@@ -101,45 +109,100 @@ none_under_way [] idle = refl
 none_under_way (None ∷ seats) idle = none_under_way seats (λ place. idle (suc place))
 none_under_way (Some a ∷ seats) idle = absurd (let there = idle 0 in cc)
 
-pub is_free : {K : Type 0} (was : ℕ) (k : KernelState K) → IsBusy k → (t : Option State) → StandsOn was k t → ⊥
-is_free was k busy None stands = apart k busy.sound stands.failed
-is_free was k busy (Some s) stands =
-    let none = none_under_way k.seats (λ place. stands.0.idle (suc place)) in
+pub is_free : {K : Type 0} (was n : ℕ) (k : KernelState K) → IsBusy k → (t : Option State) → Stands was k t n → ⊥
+is_free was n k busy None stands = apart k busy.sound stands.failed
+is_free was n k busy (Some s) stands =
+    let none = none_under_way k.seats (λ place. stands.rests.idle (suc place)) in
     let some = busy.call in
     cc
 
--- the system of a file is there
-pub is_there : (content : List (List ℕ)) (t : Option State) → IsKept content t → t ≢ None
-is_there content None kept = absurd kept
-is_there content (Some s) kept = λ none. cc
+-- ---- a text
+
+-- the script is not read
+pub no_script : (text : List ℕ) (honest : Bool) (c : Effects) (ending : Ending) (error : ScriptError) →
+    Reads (Err error) (script_of text) → c.left ≡ c.content → c.untold ≡ false →
+    IsRefused error c.old c.new ending → RunsTextOn text honest c ending
+no_script text honest c ending (scripts.WrongLine line mistake) reads pages told refused =
+    inl (subst (λ (r : Result Parts ℕ). RunsScriptOn r honest c ending) (sym reads)
+    (refused.0, record { pages = pages; printed = refused.1; told = told }))
+no_script text honest c ending scripts.NoMemory reads pages told refused =
+    inr (record { pages = pages; alone = refused; told = told })
+
+-- it is, and is run
+pub runs_script : (text : List ℕ) (honest : Bool) (c : Effects) (ending : Ending) (script : Parts) →
+    script_of text ≡ Ok script → RunsOn script honest c ending → RunsTextOn text honest c ending
+runs_script text honest c ending script reads runs =
+    inl (subst (λ (r : Result Parts ℕ). RunsScriptOn r honest c ending) (sym reads) runs)
 
 -- ---- a new file in memory
 
 -- nothing but want of memory refuses it
-module _ (content : List (List ℕ)) (s : State) (file : IsFileOf sha_key content s) where
+module _ (content : List (List ℕ)) (file : IsFileOf sha_key content no_queues) where
   machine_alone : (fault : OpenFault) → MayRefuse sha_key content fault → fault ≢ TooFewFrames →
       (fault ≡ device_failed → HasRisen 0 0) → open_number_of fault ≡ 60
   machine_alone TooFewFrames may framed failed = absurd (framed refl)
   machine_alone NoMemory may framed failed = refl
   machine_alone (Wrong (Structure structure.Device)) may framed failed = absurd (never_fails 0 (failed refl))
   machine_alone (Wrong (Structure structure.NoMemory)) may framed failed = refl
-  machine_alone (Wrong fault) (inr wrong) framed failed = absurd (file_has_no_fault sha_key content s fault file wrong)
+  machine_alone (Wrong fault) (inr wrong) framed failed =
+      absurd (file_has_no_fault sha_key content no_queues fault file wrong)
   machine_alone (Wrong fault) (inl machine) framed failed = absurd machine
 
   -- a file in memory is run on from its system, or there is no memory for it
-  module _ (script : Parts) (after : List (List ℕ)) (old new : OutputState) (ending : Ending) where
-    closed_well : (t : State) → IsRunAndKept script t (IsKept after) 0 0 old new ending →
-        IsRun script t (λ left. left ≢ None) old new ending
-    closed_well t (inl run) =
-        IsRun-weaker script t (IsKept after) (λ left. left ≢ None) old new ending (is_there after) run
-    closed_well t (inr failed) = absurd (never_fails 0 failed.0)
+  module _ (new : IsNewFile MEMORY_PAGES content) (script : Parts) (c : Effects) (ending : Ending)
+      (its : c.content ≡ content) (none_before : c.was ≡ 0) (none : c.faults ≡ 0) where
+    sound_end : (s : Option State) (fault : Option ℕ) → EndsWell s c.left c.untold c.was c.faults fault →
+        (s ≢ None) × (fault ≡ None)
+    sound_end None fault fails = absurd (never_fails c.was (subst (HasRisen c.was) none fails.risen))
+    sound_end (Some s) fault (inl kept) = ((λ never. cc), kept.sound)
+    sound_end (Some s) fault (inr fails) = absurd (never_fails c.was (subst (HasRisen c.was) none fails.risen))
 
-    pub runs_in_memory : RunsOn script content (IsKept after) 0 0 old new ending →
-        IsRun script s (λ left. left ≢ None) old new ending ⊎ IsFaultAlone 60 old new ending
-    runs_in_memory (inl runs) =
-        let same : runs.system ≡ s = file.system.only runs.system runs.file.system.has in
-        inl (subst (λ (t : State). IsRun script t (λ left. left ≢ None) old new ending) same
-        (closed_well runs.system runs.run))
-    runs_in_memory (inr refused) =
-        inr (subst (λ (n : ℕ). IsFaultAlone n old new ending)
-        (machine_alone refused.fault refused.cause refused.framed refused.failed) refused.alone)
+    -- a run on it that ends with no fault
+    module _ (r : IsRunOn script true c ending) where
+      new_of : (s : State) → s ≡ no_queues →
+          (goes : GoesByRules script r.run.replies (standing r.first (Some s) 0) r.last) → goes.system ≢ None →
+          (o : OutputState) (e : Ending) → o ≡ r.told → e ≡ r.so_far → IsRunNew script c.old o e
+      new_of s same goes sound o e is_o is_e = record {
+        content = content;
+        file = new;
+        first = r.first;
+        opened = subst (λ (p : List (List ℕ)). IsOpenedForSeats script p true r.first) its r.opened;
+        last = r.last;
+        run = run_at;
+        goes = from.0;
+        sound = from.1;
+      }
+        where
+          run_at : IsRun script r.first r.last c.old o e
+          run_at = record {
+            replies = r.run.replies;
+            takes = r.run.takes;
+            prints = subst (λ (x : OutputState). Prints c.old x (printed script.lines r.run.replies)) (sym is_o)
+                r.run.prints;
+            ends = is_e ∙ r.run.ends;
+            rules = r.run.rules;
+          }
+
+          From : State → Type 0
+          From t = (g : GoesByRules script r.run.replies (standing r.first (Some t) 0) r.last) × (g.system ≢ None)
+
+          from : From no_queues
+          from = subst From same (goes, sound)
+
+      run_new : IsRunNew script c.old c.new ending
+      run_new =
+          let on = r.rules refl in
+          let same : on.system ≡ no_queues = file.system.only on.system
+          (subst (λ (p : List (List ℕ)). IsFileOf sha_key p on.system) its on.file).system.has in
+          let sound = sound_end on.goes.system r.fault on.ends in
+          let last : EndsWith None r.told r.so_far c.new ending =
+          subst (λ (f : Option ℕ). EndsWith f r.told r.so_far c.new ending) sound.1 r.ends in
+          new_of on.system same on.goes sound.0 c.new ending last.0 last.1
+
+    pub runs_in_memory : RunsOn script true c ending →
+        IsRunNew script c.old c.new ending ⊎ IsFaultAlone 60 c.old c.new ending
+    runs_in_memory (inl r) = inl (run_new r)
+    runs_in_memory (inr refused) = inr (subst (λ (n : ℕ). IsFaultAlone n c.old c.new ending)
+        (machine_alone refused.fault
+        (subst (λ (p : List (List ℕ)). MayRefuse sha_key p refused.fault) its (refused.cause refl)) refused.framed
+        (λ is. subst (λ (n : ℕ). HasRisen n 0) none_before (subst (HasRisen c.was) none (refused.failed is)))) refused.leaves.alone)

@@ -1,3 +1,4 @@
 pub mod Telling
+pub mod Taking
 pub mod Runs
 pub mod Serves

@@ -1,11 +1,8 @@
 //! Scripts run on files: the subcommand of the program.
 
-ghost use Rattle.script_runs.specs.Serves.{RunsFile};
-
-use crate::serving::run_on;
-use msgq_cli::{
-    Ending, Output, complain, complain_of, leave_unopened, read_file, read_script, refuse, unread,
-};
+use crate::serving::run_text_on;
+use msgq_cli::{Ending, Output, complain, complain_of, leave_unopened};
+use replays::{complain_of_output, script_text};
 use rollback_journal::open;
 use std::fs::File;
 use std::io::Write;
@@ -15,7 +12,7 @@ use std::rt::Files;
 ///
 /// The script is read first: fault 20 or 60 alone where it can't be read, and nothing is run where
 /// it is wrong. Then the file is opened, and what a run that was cut off has left is undone:
-/// `fault N` alone where it is not. A fault when it is closed is one more line.
+/// `fault N` alone where it is not. Then it is as `run_text_on` says.
 pub fn run_file<R, W, E>(
     rt: &R,
     file: &str,
@@ -27,25 +24,23 @@ where
     R: Files<File = File> + AllocGlobal + Input,
     W: Write + Drop,
     E: Write,
-    ensures { RunsFile output.old output.new result }
 {
-    let text = match read_file(rt, script) {
+    // a wrong text is told before the file is opened
+    let text = match script_text(rt, script, output, errors) {
         Ok(text) => text,
-        Err(error) => return unread(script, &error, output, errors),
+        Err(ending) => return ending,
     };
-    let script = match read_script(rt.alloc(), text.as_slice()) {
-        Ok(script) => script,
-        Err(error) => return refuse(rt.alloc(), error, text.as_slice(), output, errors),
+    let device = match open(rt, file) {
+        Ok(device) => device,
+        Err(error) => return leave_unopened(file, error, output, errors),
     };
-    match open(rt, file) {
-        Ok(device) => {
-            let ran = run_on(rt.alloc(), device, &script, output);
-            if let Some(failure) = ran.failure {
-                complain(file, "a line failed", failure, errors);
-            }
-            complain_of(file, ran.ending, errors);
-            ran.ending
-        }
-        Err(error) => leave_unopened(file, error, output, errors),
+    let ran = run_text_on(rt.alloc(), device, text.as_slice(), output, errors);
+    if let Some(failure) = ran.failure {
+        complain(file, "a line failed", failure, errors);
     }
+    if ran.is_untold {
+        complain_of_output(file, output, errors);
+    }
+    complain_of(file, ran.ending, errors);
+    ran.ending
 }

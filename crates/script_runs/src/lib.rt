@@ -10,5 +10,6 @@ mod serving;
 pub use files::run_file;
 pub use msgq_cli;
 pub use replays;
+pub use replays::Ran;
 pub use runs::run;
-pub use serving::{MEMORY_PAGES, Ran, run_on, serve, serve_text};
+pub use serving::{MEMORY_PAGES, run_on, run_text_on, serve, serve_text};

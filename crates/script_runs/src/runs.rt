@@ -1,16 +1,20 @@
 //! The lines of a script, made one after the other on a kernel.
 
-ghost use Rattle.std.specs.Prelude.{◌≡◌, ℕ, ◌≤◌, false, None, Option, Some};
+ghost use Rattle.std.specs.Prelude.{◌≡◌, ℕ, ◌≤◌, None, Option, Some};
 ghost use Rattle.bucket_page.specs.Pseudokeys.{sha_key};
+ghost use Rattle.bucket_page.specs.declared.pseudokey.ShaKey.{ShaKey};
 ghost use Rattle.lone_kernel.specs.Lone.{RestsOver, ServesOver};
-ghost use Rattle.lone_kernel.specs.Words.{Call, Caller, IsSeat, State, caller_at};
-ghost use Rattle.script_runs.specs.Runs.{AreSeated, IsAnswered, IsLeft, IsPrinted, IsReplied, IsRun, StandsOn};
+ghost use Rattle.lone_kernel.specs.Words.{Call, Caller, HasCall, IsSeat, KernelState, State, caller_at};
+ghost use Rattle.replays.specs.Events.{BeginsCall};
+ghost use Rattle.script_runs.specs.Runs.{AreSeated, HasDecided, IsLeft, IsRight, IsRun, Stands, standing};
+ghost use Rattle.script_runs.specs.Taking.{TakesCall, TakesCommand};
 ghost use Rattle.script_runs.specs.Telling.{is_waiting, reply_to};
 
 use lone_kernel::interleaving_core::{Kernel, Step};
 use lone_kernel::{
     a_call_begins_on_a_kernel_at_rest, a_call_that_waits_is_stopped, a_kernel_at_rest_is_stopped,
-    a_lone_drive_answers_by_the_rules, a_refusal_leaves_a_kernel_at_rest,
+    a_lone_drive_answers_by_the_rules, a_lone_step_answers_by_the_rules,
+    a_refusal_leaves_a_kernel_at_rest,
 };
 use msgq_cli::{Command, Ending, Output, Reply, Script};
 use page_device::PageDevice;
@@ -20,22 +24,21 @@ use std::io::Write;
 
 /// Runs the lines of a script one after the other, each at its seat, and prints what each is replied.
 ///
-/// Each call is answered by the rules (docs/QUEUES.md, "Calls") in the system that the lines before
-/// it left; before the first that would wait the system is stopped. A call that finds no room for
-/// a record is replied fault 50, one for which there is no memory 60, and one that comes behind as
-/// many as a session decides 61: the system is as it was. Where the device fails the line is replied
-/// 62, and so is each call after it. Where the output refuses a write the lines are run all the
-/// same.
+/// Whatever the device gives: a line is printed for each line of the script, with what the kernel
+/// told its seat. From a kernel at rest over a system each call is answered by the rules
+/// (docs/QUEUES.md, "Calls") in the system that the lines before it left; before the first that
+/// would wait the system is stopped. A call is replied fault 50 where at one of its steps a record
+/// had no room in the pages of this kernel, 60 where there is no memory, and 61 where it comes after
+/// as many answers as a session decides: the system is as it was. Where the device fails the line is
+/// replied 62, and so is each call after it. Where the output refuses a write the lines are run all
+/// the same.
 pub fn run<D: PageDevice + Drop, W: Write + Drop>(
     script: &Script,
     kernel: &mut Kernel<D, FileKeys>,
     output: &mut Output<W>,
 ) -> Ending
     requires { AreSeated script.now kernel.old.callers }
-    ensures served { (s : State) → RestsOver sha_key s kernel.old →
-        IsRun script.now s (StandsOn kernel.old.pool.faults kernel.new)
-        output.old output.new result }
-    ensures lines { IsPrinted script.now output.old output.new result }
+    ensures ran { IsRun script.now kernel.old kernel.new output.old output.new result }
     ensures honest { kernel.new.pool.honest ≡ kernel.old.pool.honest }
 {
     script.keeps_seats();
@@ -56,9 +59,10 @@ fn reply<D: PageDevice + Drop>(
     command: &Command,
 ) -> Reply
     requires { IsSeat kernel.old.locks seat }
-    ensures replied { (c : Caller) (was : ℕ) (s : Option State) →
-        caller_at kernel.old.callers seat ≡ Some c → StandsOn was kernel.old s →
-        IsLeft was kernel.new (IsReplied seat c command.now s result) }
+    ensures takes { TakesCommand seat command.now result kernel.old kernel.new }
+    ensures replied { (c : Caller) (was : ℕ) (s : Option State) (n : ℕ) →
+        caller_at kernel.old.callers seat ≡ Some c → Stands was kernel.old s n →
+        IsLeft was kernel.new (IsRight seat c command.now (standing kernel.old s n) result) }
     ensures callers { kernel.new.callers ≡ kernel.old.callers }
     ensures honest { kernel.new.pool.honest ≡ kernel.old.pool.honest }
 {
@@ -75,9 +79,11 @@ fn reply<D: PageDevice + Drop>(
 /// What a call of a seat is replied.
 fn call_at<D: PageDevice + Drop>(kernel: &mut Kernel<D, FileKeys>, seat: u8, call: &Call) -> Reply
     requires { IsSeat kernel.old.locks seat }
-    ensures replied { (c : Caller) (was : ℕ) (s : Option State) →
-        caller_at kernel.old.callers seat ≡ Some c → StandsOn was kernel.old s →
-        IsLeft was kernel.new (IsReplied seat c (Command.Call call.now) s result) }
+    ensures takes { TakesCall seat call.now result kernel.old kernel.new }
+    ensures replied { (c : Caller) (was : ℕ) (s : Option State) (n : ℕ) →
+        caller_at kernel.old.callers seat ≡ Some c → Stands was kernel.old s n →
+        IsLeft was kernel.new
+        (IsRight seat c (Command.Call call.now) (standing kernel.old s n) result) }
     ensures callers { kernel.new.callers ≡ kernel.old.callers }
     ensures honest { kernel.new.pool.honest ≡ kernel.old.pool.honest }
 {
@@ -94,13 +100,13 @@ fn begin<D: PageDevice + Drop>(
     call: &Call,
 ) -> Option<Reply>
     requires { IsSeat kernel.old.locks seat }
-    ensures away { (reply : Reply) (c : Caller) (was : ℕ) (s : Option State) →
-        result ≡ Some reply → StandsOn was kernel.old s →
-        IsLeft was kernel.new (IsReplied seat c (Command.Call call.now) s reply) }
+    ensures begins { BeginsCall seat call.now result kernel.old kernel.new }
+    ensures away { (reply : Reply) (c : Caller) (was : ℕ) (s : Option State) (n : ℕ) →
+        result ≡ Some reply → Stands was kernel.old s n → IsLeft was kernel.new
+        (IsRight seat c (Command.Call call.now) (standing kernel.old s n) reply) }
     ensures begun { result ≡ None → (c : Caller) (s : State) →
         caller_at kernel.old.callers seat ≡ Some c → RestsOver sha_key s kernel.old →
         ServesOver sha_key seat c call.now s kernel.new }
-    ensures sound { result ≡ None → kernel.old.failed ≡ false }
     ensures callers { kernel.new.callers ≡ kernel.old.callers }
     ensures pool { kernel.new.pool ≡ kernel.old.pool }
     ensures seats { kernel.new.locks ≡ kernel.old.locks }
@@ -121,13 +127,18 @@ fn begin<D: PageDevice + Drop>(
 /// driven on.
 fn conclude<D: PageDevice + Drop>(kernel: &mut Kernel<D, FileKeys>, seat: u8) -> Step
     requires { IsSeat kernel.old.locks seat }
-    ensures concluded { (c : Caller) (call : Call) (was : ℕ) (s : State) →
+    ensures takes { (call : Call) (before : KernelState ShaKey) →
+        HasCall seat call before kernel.old → TakesCall seat call (reply_to result) before kernel.new }
+    ensures concluded { (c : Caller) (call : Call) (was : ℕ) (s : State) (n : ℕ)
+        (before : KernelState ShaKey) → HasCall seat call before kernel.old →
         ServesOver sha_key seat c call s kernel.old → was ≤ kernel.old.pool.faults →
-        IsLeft was kernel.new (IsAnswered seat c call s (reply_to result)) }
+        HasDecided n kernel.old → IsLeft was kernel.new
+        (IsRight seat c (Command.Call call) (standing before (Some s) n) (reply_to result)) }
     ensures callers { kernel.new.callers ≡ kernel.old.callers }
     ensures honest { kernel.new.pool.honest ≡ kernel.old.pool.honest }
 {
     a_lone_drive_answers_by_the_rules::<FileKeys>();
+    a_lone_step_answers_by_the_rules::<FileKeys>();
     a_call_that_waits_is_stopped::<FileKeys>();
     let told = kernel.drive(seat);
     if !is_waiting(&told) {

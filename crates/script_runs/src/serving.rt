@@ -1,25 +1,20 @@
 //! Scripts run on the file of a device, and on a file in memory.
 
-ghost use Rattle.std.specs.Prelude.{◌≡◌, ℕ, ◌≤◌, IsTrue};
-ghost use Rattle.bucket_page.specs.Pseudokeys.{sha_key};
-ghost use Rattle.lone_kernel.specs.interleaving_core.Fault.{open_number_of};
-ghost use Rattle.lone_kernel.specs.Lone.{RestsOver};
+ghost use Rattle.std.specs.Prelude.{◌≡◌, ◌⊎◌, ℕ, true, IsTrue, Option};
 ghost use Rattle.lone_kernel.specs.Words.{State};
-ghost use Rattle.msgq_cli.specs.Refusals.{IsFaultAlone};
-ghost use Rattle.script_runs.specs.Runs.{AreSeated};
-ghost use Rattle.script_runs.specs.Serves.{IsKept, IsRunAndKept, PrintsRun, RunsInput, RunsOn, RunsText};
+ghost use Rattle.script_runs.specs.Runs.{Stands};
+ghost use Rattle.script_runs.specs.Serves.{EndsWell, RunsInput, RunsOn, RunsText, RunsTextOn};
 
 use crate::runs::run;
-use lone_kernel::interleaving_core::{Failure, Kernel, NotClosed, OpenFault};
+use lone_kernel::interleaving_core::{Kernel, NotClosed};
 use lone_kernel::{a_kernel_at_rest_closes_on_its_file, a_kernel_opens_at_rest};
 use msgq_cli::record_file::format;
 use msgq_cli::{
-    Ending, Output, Script, Stage, complain_of, fail, print_fault, read_script, read_text, refuse,
-    unread,
+    Ending, Output, Script, Stage, complain_of, fail, read_script, read_text, refuse, unread,
 };
 use one_bucket_file::a_new_file_has_no_queues;
 use page_device::{MemDevice, PageDevice};
-use replays::{FileKeys, open_kernel};
+use replays::{FileKeys, Ran, leave_refused, open_kernel, tell_end};
 use std::alloc::Global;
 use std::io::{Read, Write};
 
@@ -74,108 +69,108 @@ pub fn serve_text<W: Write + Drop, E: Write>(
     ending
 }
 
-/// What a run leaves.
-#[derive(Drop)]
-pub struct Ran<D> {
-    /// The device of its kernel.
-    pub device: D,
-    /// What failed a line, where one failed by a fault of the file.
-    pub failure: Option<Failure>,
-    /// How it ended.
-    pub ending: Ending,
+/// Runs a text as a script on the file of a device, and closes the file.
+///
+/// A wrong script runs nothing, and fault 60 alone stands where there is no memory to read it: then
+/// the device comes back as it was. Else it is as `run_on` says.
+pub fn run_text_on<D: PageDevice + Drop, W: Write + Drop, E: Write>(
+    alloc: Global,
+    device: D,
+    text: &[u8],
+    output: &mut Output<W>,
+    errors: &mut E,
+) -> Ran<D>
+    ensures served { RunsTextOn text.now (D.is_honest device)
+        (record {
+          content = D.content device;
+          left = D.content result.device;
+          was = D.fault_count device;
+          faults = D.fault_count result.device;
+          old = output.old;
+          new = output.new;
+          untold = result.is_untold;
+        }) result.ending }
+    ensures same { D.is_honest result.device ≡ D.is_honest device }
+{
+    match read_script(alloc, text) {
+        Ok(script) => run_on(alloc, device, &script, output),
+        Err(error) => Ran::unrun(device, refuse(alloc, error, text, output, errors)),
+    }
 }
 
-/// Runs a script on the file of a device, and closes the file.
+/// Runs a script on the file of a device, and closes the file once all answers were handed on.
 ///
 /// The file is checked first. Where the device is honest, it is that of one system, from which the
-/// script is run, and the file is then one of the system that it leaves; or the first thing that is
-/// wrong is told by its number alone. Fault 60 alone where there is no memory to open it. The device
-/// may fail when the file is opened, then fault 20 stands alone; while a line is run, which is then
-/// replied 62, as is each after it, and nothing is written when the file is closed, which fault 62
-/// after the answers tells; or when it is closed, then fault 20 stands after the answers.
+/// script is run; or the first thing that is wrong is told by its number alone. Fault 60 alone where
+/// there is no memory to open it. What is told has happened: the output took all answers, and the
+/// file is then one of the system that the script leaves. What can't be told did not: where the
+/// output refuses a write, the kernel is let go, and nothing is written. The device may fail when
+/// the file is opened, then fault 20 stands alone; while a line is run, which is then replied 62, as
+/// is each after it, and the kernel is let go, which fault 62 after the answers tells; or when it is
+/// closed, then fault 20 stands after the answers.
 ///
-/// Of any device: a line is printed for each line of the script, and one fault after them where
-/// the file is not closed well; or one fault alone. The device is as honest as it was.
+/// Of any device: a line is printed for each line of the script, with what its seat was told, and
+/// one fault after them where the file is not closed well; or one fault alone. The device is as
+/// honest as it was.
 pub fn run_on<D: PageDevice + Drop, W: Write + Drop>(
     alloc: Global,
     device: D,
     script: &Script,
     output: &mut Output<W>,
 ) -> Ran<D>
-    ensures served { IsTrue (D.is_honest device) → RunsOn script.now (D.content device)
-        (IsKept (D.content result.device)) (D.fault_count device) (D.fault_count result.device)
-        output.old output.new result.ending }
-    ensures lines { PrintsRun script.now output.old output.new result.ending }
+    ensures served { RunsOn script.now (D.is_honest device)
+        (record {
+          content = D.content device;
+          left = D.content result.device;
+          was = D.fault_count device;
+          faults = D.fault_count result.device;
+          old = output.old;
+          new = output.new;
+          untold = result.is_untold;
+        }) result.ending }
     ensures same { D.is_honest result.device ≡ D.is_honest device }
 {
     a_kernel_opens_at_rest::<FileKeys>();
     script.keeps_seats();
-    match open_kernel(alloc, device, script) {
-        Ok(kernel) => run_open(kernel, script, output),
-        Err((device, fault)) => Ran {
-            device,
-            failure: None,
-            ending: leave_unopened(fault, output),
-        },
+    let mut kernel = match open_kernel(alloc, device, script) {
+        Ok(kernel) => kernel,
+        Err((device, fault)) => return Ran::unrun(device, leave_refused(fault, output)),
+    };
+    let so_far = run(script, &mut kernel, output);
+    output.flush();
+    let is_untold = output.has_refused();
+    let failure = kernel.failure();
+    let (device, fault) = end_kernel(kernel, is_untold);
+    let ending = tell_end(fault, so_far, output);
+    Ran {
+        device,
+        failure,
+        is_untold,
+        ending,
     }
 }
 
-/// Runs a script on a kernel that was opened for it, and closes its file.
-fn run_open<D: PageDevice + Drop, W: Write + Drop>(
-    kernel: Kernel<D, FileKeys>,
-    script: &Script,
-    output: &mut Output<W>,
-) -> Ran<D>
-    requires { AreSeated script.now kernel.callers }
-    ensures served { (was : ℕ) (s : State) → RestsOver sha_key s kernel →
-        IsTrue kernel.pool.honest → was ≤ kernel.pool.faults →
-        IsRunAndKept script.now s (IsKept (D.content result.device))
-        was (D.fault_count result.device) output.old output.new result.ending }
-    ensures lines { PrintsRun script.now output.old output.new result.ending }
-    ensures same { D.is_honest result.device ≡ kernel.pool.honest }
+/// Closes the kernel of a run, or lets it go where a line has failed or the output refused a write,
+/// and tells why it was not closed well, if it was not.
+fn end_kernel<D: PageDevice + Drop>(kernel: Kernel<D, FileKeys>, is_untold: bool) -> (D, Option<u8>)
+    ensures ends { (was : ℕ) (s : Option State) (n : ℕ) → Stands was kernel s n →
+        IsTrue kernel.pool.honest → EndsWell s (D.content result.0) is_untold
+        was (D.fault_count result.0) result.1 }
+    ensures unwritten { (is_untold ≡ true) ⊎ (kernel.failed ≡ true) →
+        D.content result.0 ≡ kernel.pool.stored }
+    ensures same { D.is_honest result.0 ≡ kernel.pool.honest }
 {
     a_kernel_at_rest_closes_on_its_file::<FileKeys>();
-    let mut kernel = kernel;
-    let ending = run(script, &mut kernel, output);
-    let failure = kernel.failure();
     if kernel.has_failed() {
-        return Ran {
-            device: kernel.abandon().device,
-            failure,
-            ending: fail(Stage::Closing, faults::FAILED, output),
-        };
+        return (kernel.abandon().device, Some(faults::FAILED));
+    }
+    if is_untold {
+        return (kernel.abandon().device, None);
     }
     match kernel.close() {
-        Ok(closed) => Ran {
-            device: closed.device,
-            failure,
-            ending,
-        },
-        Err(NotClosed::Fault(closed, fault)) => Ran {
-            device: closed.device,
-            failure,
-            ending: fail(Stage::Closing, fault.number(), output),
-        },
+        Ok(closed) => (closed.device, None),
+        Err(NotClosed::Fault(closed, fault)) => (closed.device, Some(fault.number())),
         // a device that is not honest may leave a call that is never answered
-        Err(NotClosed::Busy(kernel)) => Ran {
-            device: kernel.abandon().device,
-            failure,
-            ending: fail(Stage::Closing, faults::FAILED, output),
-        },
-    }
-}
-
-/// Ends a run whose file is refused.
-fn leave_unopened<W: Write + Drop>(fault: OpenFault, output: &mut Output<W>) -> Ending
-    ensures { IsFaultAlone (open_number_of fault) output.old output.new result }
-{
-    match fault {
-        OpenFault::Wrong(wrong) => {
-            print_fault(wrong.number(), output);
-            Ending::Unopened(wrong)
-        }
-        OpenFault::NoMemory | OpenFault::TooFewFrames => {
-            fail(Stage::Opening, fault.number(), output)
-        }
+        Err(NotClosed::Busy(kernel)) => (kernel.abandon().device, Some(faults::FAILED)),
     }
 }

@@ -1,7 +1,6 @@
-use Rattle.std.specs.Prelude.{◌≡◌, replicate}
-use Rattle.machine_trials.specs.declared.seat.Seat.TheVariants.{Idle}
+use Rattle.std.specs.Prelude.{◌≡◌, replicate, None}
 use Rattle.machine_trials.proofs.trial.idle_seats.Given as goal
 
 -- those so far are idle
 abbrev pub invariant-loop : goal.invariant-loop
-invariant-loop l = l.seats.items ≡ replicate l.counter Idle
+invariant-loop l = l.seats.items ≡ replicate l.counter None

@@ -1,14 +1,14 @@
-use Rattle.std.proofs.Common.{◌≡◌, ◌∙◌, ap, subst, Bool, List, Option}
-use Rattle.std.specs.Option.{option_map}
+use Rattle.std.proofs.Common.{◌≡◌, ◌++◌, ◌∙◌, [], sym, ap, subst, append-nil, Bool, List, Option}
 use Rattle.bucket_page.specs.declared.pseudokey.ShaKey.{ShaKey}
 use Rattle.interleavings.specs.interleaving_core.Kernel.{KernelState}
 use Rattle.msgq_cli.specs.Outputs.{Prints}
 use Rattle.msgq_cli.specs.declared.line.Line.{Line}
 use Rattle.msgq_cli.specs.declared.reply.Reply.{Reply}
+use Rattle.msgq_cli.proofs.OutputLemmas.{Prints-then}
 use Rattle.replays.specs.Places.{ProgressState}
-use Rattle.replays.specs.Replays.{IsClosedWell, MayEndWith, ending_by, replies_text}
+use Rattle.replays.specs.Replays.{IsClosedWell, MayEndWith, ending_by, may_write, replies_text}
 use Rattle.replays.specs.Rounds.{is_over}
-use Rattle.replays.proofs.ClosingLemmas.{answers_plain, if_some, left_well}
+use Rattle.replays.proofs.ClosingLemmas.{answers_plain, left_well}
 use Rattle.replays.proofs.FreeLemmas.{busy_if_left}
 use Rattle.replays.proofs.LeadLemmas.{replay_keeps}
 use Rattle.replays.proofs.ending.run.Goals as goal
@@ -27,13 +27,16 @@ returns-clause-replayed g c =
     let replies : c.replies.result.now ≡ last.script.replies =
     c.replies.ensures ∙ ap (λ (s : ProgressState). s.replies) script in
     let old = c.args.output.now in
-    let told = c.print_replies-so_far.new.output in
-    let fault = c.close-device.result.1 in
-    let left = option_map g.D.PageDevice.content c.close-device.result.0 in
-    let closes : MayEndWith (is_over last) last.kernel fault =
-    subst (λ (over : Bool). MayEndWith over last.kernel fault) c.finish-is_over.ensures.over
-    (subst (λ (k : KernelState ShaKey). MayEndWith c.finish-is_over.result k fault) kernel
-    c.close-device.ensures.closes) in
+    let printed = c.print_replies-so_far.new.output in
+    let told = c.flush.new.self in
+    let untold = c.has_refused-is_untold.result in
+    let over = c.finish-is_over.result in
+    let fault = c.end_kernel-device.result.1 in
+    let left = g.D.PageDevice.content c.end_kernel-device.result.0 in
+    let closes : MayEndWith (is_over last) untold last.kernel fault =
+    subst (λ (b : Bool). MayEndWith b untold last.kernel fault) c.finish-is_over.ensures.over
+    (subst (λ (k : KernelState ShaKey). MayEndWith over untold k fault) kernel
+    c.end_kernel-device.ensures.closes) in
     record {
       played = c.play_all.new.self;
       plays = plays;
@@ -46,16 +49,23 @@ returns-clause-replayed g c =
       tells = record {
         prints = subst (λ (ls : List Line). Prints old told (replies_text ls last.script.replies)) lines
             (subst (λ (rs : List (Option Reply)). Prints old told (replies_text c.lines.result.now rs)) replies
-            c.print_replies-so_far.ensures.prints);
+            (subst (Prints old told) (append-nil (replies_text c.lines.result.now c.replies.result.now))
+            (Prints-then old printed told _ [] c.print_replies-so_far.ensures.prints c.flush.ensures.same)));
         ends = c.print_replies-so_far.ensures.ends ∙ ap ending_by replies;
       };
+      untold_is = c.has_refused-is_untold.ensures;
+      handed = λ taken. c.flush.ensures.handed (sym c.has_refused-is_untold.ensures ∙ taken);
       fault = fault;
       closes = closes;
-      stuck = busy_if_left last fault c.is_sound.ensures closes;
-      well = λ none. left_well c.events_refine.ensures words c.args.replay c.play_all.new.self last plays rounds
+      stuck = busy_if_left last untold fault c.is_sound.ensures closes;
+      well = λ taken none. left_well c.events_refine.ensures words c.args.replay c.play_all.new.self last plays rounds
           c.is_sound.ensures c.a_refining_kernel_closes_on_its_file.ensures left
-          (subst (λ (k : KernelState ShaKey). IsClosedWell k left) kernel (c.close-device.ensures.well none));
-      ends = c.end-ending.ensures;
+          (subst (λ (k : KernelState ShaKey). IsClosedWell k left) kernel (c.end_kernel-device.ensures.well taken none));
+      unwritten = λ away. subst (λ (k : KernelState ShaKey). left ≡ k.pool.stored) kernel
+          (c.end_kernel-device.ensures.unwritten
+          (ap (λ (k : KernelState ShaKey). may_write over untold k) kernel
+          ∙ ap (λ (b : Bool). may_write b untold last.kernel) c.finish-is_over.ensures.over ∙ away));
+      ends = c.tell_end-ending.ensures;
     }
 
 -- no event changes whether the device is honest
@@ -63,8 +73,6 @@ pub returns-clause-same : goal.returns-clause-same
 returns-clause-same g c =
     let last = c.finish-is_over.new.replay in
     let kernel : c.into_parts-kernel.result.0 ≡ last.kernel = c.into_parts-kernel.ensures.kernel in
-    if_some c.close-device.result.0
-    (λ d same. same ∙ ap (λ (k : KernelState ShaKey). k.pool.honest) kernel
+    c.end_kernel-device.ensures.same ∙ ap (λ (k : KernelState ShaKey). k.pool.honest) kernel
     ∙ (replay_keeps c.args.events.now c.args.replay c.play_all.new.self last c.play_all.ensures
-    c.finish-is_over.ensures.rounds).honest)
-    c.close-device.ensures.same
+    c.finish-is_over.ensures.rounds).honest

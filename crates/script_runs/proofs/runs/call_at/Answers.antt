@@ -1,19 +1,39 @@
-use Rattle.std.proofs.Common.{sym, ◌≤◌, subst}
-use Rattle.lone_kernel.specs.Words.{PoolState}
+use Rattle.std.proofs.Common.{inl, sym, subst, Option, Some}
+use Rattle.lone_kernel.specs.Words.{HasCall}
+use Rattle.msgq_cli.specs.declared.command.Command.TheVariants as command
 use Rattle.msgq_cli.specs.declared.reply.Reply.{Reply}
-use Rattle.script_runs.specs.Runs.{IsAnswered, IsLeft}
+use Rattle.replays.specs.Events.{BeginsCall}
+use Rattle.script_runs.specs.Runs.{IsLeft, IsRight, standing}
+use Rattle.script_runs.specs.Taking.{TakesCall}
 use Rattle.script_runs.proofs.CallLemmas.{goes_on}
 use Rattle.script_runs.proofs.runs.call_at.Goals as goal
 
+pub returns-in-Some-clause-takes : goal.returns-in-Some-clause-takes
+returns-in-Some-clause-takes g c =
+    inl (subst (λ (r : Option Reply). BeginsCall c.args.seat c.args.call.now r c.args.kernel.now c.begin.new.kernel)
+    c.in-Some.is c.begin.ensures.begins)
+
 pub returns-in-Some-clause-replied : goal.returns-in-Some-clause-replied
-returns-in-Some-clause-replied g c = λ who was s sits stands.
-    c.begin.ensures.away c.in-Some.reply who was s c.in-Some.is stands
+returns-in-Some-clause-replied g c = λ who was s n sits stands.
+    c.begin.ensures.away c.in-Some.reply who was s n c.in-Some.is stands
+
+-- its call has begun
+pub returns-clause-takes : goal.returns-clause-takes
+returns-clause-takes g c =
+    let has : HasCall c.args.seat c.args.call.now c.args.kernel.now c.begin.new.kernel =
+    subst (λ (r : Option Reply). BeginsCall c.args.seat c.args.call.now r c.args.kernel.now c.begin.new.kernel)
+    c.in_default.is c.begin.ensures.begins in
+    subst (λ (r : Reply). TakesCall c.args.seat c.args.call.now r c.args.kernel.now c.conclude.new.kernel)
+    (sym c.reply_to.ensures) (c.conclude.ensures.takes c.args.call.now c.args.kernel.now has)
 
 pub returns-clause-replied : goal.returns-clause-replied
-returns-clause-replied g c = λ who was s sits stands.
-    goes_on c.args.seat who c.args.call.now was c.reply_to.result c.args.kernel.now c.conclude.new.kernel s stands
-    (c.begin.ensures.sound c.in_default.is) (λ t rests before.
-    subst (λ (r : Reply). IsLeft was c.conclude.new.kernel (IsAnswered c.args.seat who c.args.call.now t r))
-    (sym c.reply_to.ensures) (c.conclude.ensures.concluded who c.args.call.now was t
-    (c.begin.ensures.begun c.in_default.is who t sits rests)
-    (subst (λ (p : PoolState). was ≤ p.faults) (sym c.begin.ensures.pool) before)))
+returns-clause-replied g c = λ who was s n sits stands.
+    let has : HasCall c.args.seat c.args.call.now c.args.kernel.now c.begin.new.kernel =
+    subst (λ (r : Option Reply). BeginsCall c.args.seat c.args.call.now r c.args.kernel.now c.begin.new.kernel)
+    c.in_default.is c.begin.ensures.begins in
+    goes_on c.args.seat who c.args.call.now was n c.reply_to.result c.args.kernel.now c.begin.new.kernel
+    c.conclude.new.kernel s stands has (λ t rests before counted.
+    subst (λ (r : Reply). IsLeft was c.conclude.new.kernel
+    (IsRight c.args.seat who (command.Call c.args.call.now) (standing c.args.kernel.now (Some t) n) r))
+    (sym c.reply_to.ensures) (c.conclude.ensures.concluded who c.args.call.now was t n c.args.kernel.now has
+    (c.begin.ensures.begun c.in_default.is who t sits rests) before counted))

@@ -1,16 +1,13 @@
-use Rattle.std.proofs.Common.{rules, ◌≡◌, ◌<◌, ◌++◌, ◌∷◌, [], length, take, take_all, get_or, ◌+◌, ap, ◌∙◌, refl, arith}
+use Rattle.std.proofs.Common.{rules, ◌≡◌, ◌<◌, ◌++◌, ◌∷◌, [], length, take, take_all, get_or, ◌+◌, ap, ◌∙◌, refl}
 use Rattle.std.proofs.lemmas.List.{take_more}
 use Rattle.msgq_cli.specs.Scripts.{caller_of}
-use Rattle.script_runs.specs.Runs.{StandsOn}
-use Rattle.script_runs.proofs.RunLemmas.{IsPrinted-start, IsPrinted-push, IsRun-start, IsRun-push}
+use Rattle.script_runs.proofs.RunLemmas.{IsRun-start, IsRun-push}
 use Rattle.script_runs.proofs.SeatLemmas.{Sits, sits}
 use Rattle.script_runs.proofs.runs.run.Goals as goal
 
 pub loop-line-init : goal.loop-line-init
 loop-line-init g c = record {
-  served = λ s rests. IsRun-start c.args.script.now.ids s (StandsOn c.args.kernel.now.pool.faults c.args.kernel.now)
-      c.args.output.now (rests, omega arith);
-  lines = IsPrinted-start c.args.script.now.ids c.args.output.now;
+  ran = IsRun-start c.args.script.now.ids c.args.kernel.now c.args.output.now;
   callers = refl;
   honest = refl;
 }
@@ -26,21 +23,16 @@ loop-line-preserved g c =
     let more : take (i + 1) lines ≡ take i lines ++ line ∷ [] =
     take_more lines i line below ∙ ap (λ l. take i lines ++ l ∷ []) same in
     let before = c.loop-line.invariant in
-    let was = c.args.kernel.now.pool.faults in
     let its : Sits c.args.script.now line c.loop-line.kernel =
     sits c.args.script.now i line c.loop-line.kernel c.keeps_seats.ensures c.is_whole.ensures
     (before.callers ∙ c.requires) (rw c.lines-line-items.ensures at below) (rw c.lines-line-items.ensures at same) in
     record {
-      served = λ s rests. rw more
-          (IsRun-push c.args.script.now.ids (take i lines) s (StandsOn was c.loop-line.kernel)
-          (StandsOn was c.reply-reply.new.kernel) c.args.output.now c.loop-line.output c.print.new.output
-          c.loop-line.ending c.after-ending.result line c.reply-reply.result (before.served s rests)
-          (λ t stands. let left = c.reply-reply.ensures.replied (caller_of line.seat c.args.script.now.ids) was t
-          its.caller stands in (left.left, left.is, left.stands)) c.print.ensures c.after-ending.ensures);
-      lines = rw more
-          (IsPrinted-push c.args.script.now.ids (take i lines) c.args.output.now c.loop-line.output c.print.new.output
-          c.loop-line.ending c.after-ending.result line c.reply-reply.result before.lines c.print.ensures
-          c.after-ending.ensures);
+      ran = rw more
+          (IsRun-push c.args.script.now.ids (take i lines) c.args.kernel.now c.loop-line.kernel
+          c.reply-reply.new.kernel c.args.output.now c.loop-line.output c.print.new.output c.loop-line.ending
+          c.after-ending.result line c.reply-reply.result before.ran c.reply-reply.ensures.takes
+          (λ was s n stands. c.reply-reply.ensures.replied (caller_of line.seat c.args.script.now.ids) was s n
+          its.caller stands) c.print.ensures c.after-ending.ensures);
       callers = c.reply-reply.ensures.callers ∙ before.callers;
       honest = c.reply-reply.ensures.honest ∙ before.honest;
     }
@@ -50,8 +42,7 @@ pub returns : goal.returns
 returns g c =
     let all = take_all c.loop-line.line-index c.lines-line-items.result.now (search rules) in
     record {
-      served = λ s rests. rw (all, c.lines-line-items.ensures) at (c.loop-line.invariant.served s rests);
-      lines = rw (all, c.lines-line-items.ensures) at c.loop-line.invariant.lines;
+      ran = rw (all, c.lines-line-items.ensures) at c.loop-line.invariant.ran;
       honest = c.loop-line.invariant.honest;
     }
 

@@ -1,20 +1,16 @@
 use Rattle.std.proofs.Common.{◌≡◌, take}
-use Rattle.bucket_page.specs.Pseudokeys.{sha_key}
 use Rattle.bucket_page.specs.declared.pseudokey.ShaKey.{ShaKey}
-use Rattle.lone_kernel.specs.Lone.{RestsOver}
-use Rattle.lone_kernel.specs.Words.{KernelState, State}
+use Rattle.lone_kernel.specs.Words.{KernelState}
 use Rattle.msgq_cli.specs.Outputs.{OutputState}
 use Rattle.msgq_cli.specs.Scripts.{Parts}
 use Rattle.msgq_cli.specs.declared.ending.Ending.{Ending}
-use Rattle.script_runs.specs.Runs.{IsPrinted, IsRun, StandsOn}
+use Rattle.script_runs.specs.Runs.{IsRun}
 use Rattle.script_runs.proofs.runs.run.Given as goal
 
 -- a script was run from what a kernel held, and its replies printed
 pub record IsRunning (old now : KernelState ShaKey) (script : Parts) (before after : OutputState) (ending : Ending)
     : Type 0 where
-  pub served : (s : State) → RestsOver sha_key s old →
-      IsRun script s (StandsOn old.pool.faults now) before after ending
-  pub lines : IsPrinted script before after ending
+  pub ran : IsRun script old now before after ending
   pub callers : now.callers ≡ old.callers
   pub honest : now.pool.honest ≡ old.pool.honest
 

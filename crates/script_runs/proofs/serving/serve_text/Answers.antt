@@ -7,5 +7,4 @@ pub returns : goal.returns
 returns g c =
     let new = c.in_default.ensures.ok refl in
     let file = c.a_new_file_has_no_queues.ensures _ _ _ new in
-    let runs = c.run_on-ending.ensures.served refl in
-    inl (rw c.in-Ok.ensures (runs_in_memory _ _ file.file _ _ _ _ _ runs))
+    inl (rw c.in-Ok.ensures (runs_in_memory _ file.file new _ _ _ refl refl refl c.run_on-ending.ensures.served))

@@ -1,0 +1,347 @@
+-- What is done on a kernel, as its pass and those of its seats know it.
+use Rattle.std.proofs.Common.{◌≡◌, ◌≢◌, ◌≤◌, ◌<◌, ℕ, zero, suc, ◌+◌, ◌-◌, Bool, true, false, IsTrue, ◌||◌, List, [], ◌∷◌, ◌++◌, length, Option, Some, None, refl, sym, ap, ◌∙◌, subst, arith, append-nil, length-append}
+use Rattle.std.specs.Prelude.{slice_index_or}
+use Rattle.interleaving_core.proofs.PlaceLemmas.{at_other, at_same, length-with_call}
+use Rattle.interleaving_core.proofs.TurnLemmas.{new_unanswered}
+use Rattle.interleaving_core.specs.Owing.{is_end, is_failure}
+use Rattle.interleaving_core.specs.declared.step.Step.TheVariants as steps
+use Rattle.interleaving_core.proofs.PartLemmas.{added_is_of}
+use Rattle.interleavings.specs.Laws.{BeginsRefine, RefusalsRefine, StepsRefine, StopsRefine}
+use Rattle.interleavings.specs.Words.{IsStep}
+use Rattle.page_locks.proofs.ChangeLemmas.{length-with_row}
+use Rattle.queue_model.specs.declared.entry.Entry.TheVariants.{Stopped}
+use Rattle.seat_passes.proofs.PartLemmas.{calls_append}
+use Rattle.seat_passes.specs.Rule.{IsChange, IsRight, moved}
+use Rattle.seat_passes.specs.Views.{calls_in, no_place, place_at}
+use Rattle.workers.proofs.EntryLemmas.{calls_below, calls_own, part_of_other, part_of_own}
+use Rattle.workers.specs.Entries.{seat_of}
+use Rattle.workers.specs.Held.{IsHeld, known_of, place_of, places_from}
+use Rattle.workers.specs.Origins.{Origin}
+use Rattle.workers.specs.Told.{HasBegun, IsTold, Rests, Sitter}
+use Rattle.workers.specs.Words.{ActiveView, Answer, BeginFault, Call, Desk, Entry, HasCall, RefinesFile, IsRefused, IsSeat, IsStopped, IsTurn, KernelState, Place, RecordKey, Step, answer_told, call_at, call_of, entry_of, told, untold, with_call}
+
+-- ---- places
+
+place_from : (k n m : ℕ) (seats : List (Option ActiveView)) → k + n ≡ m →
+    slice_index_or (places_from k seats) n no_place ≡ place_of m (slice_index_or seats n None)
+place_from k n m [] is = refl
+place_from k zero m (x ∷ xs) is = let same : k ≡ m = omega arith in ap (λ (j : ℕ). place_of j x) same
+place_from k (suc n) m (x ∷ xs) is = place_from (suc k) n m xs (omega arith)
+
+pub place_is : (seats : List (Option ActiveView)) (seat : ℕ) →
+    place_at (places_from 1 seats) seat ≡ place_of seat (call_at seats seat)
+place_is seats zero = refl
+place_is seats (suc n) = place_from 1 n (suc n) seats (omega arith)
+
+told_none : (seat : ℕ) (call : Option Call) → entry_of seat call None ≡ []
+told_none seat None = refl
+told_none seat (Some call) = refl
+
+-- ---- a step
+
+or_stays : (a b c : Bool) → c ≡ (a || b) → a ≡ true → c ≡ true
+or_stays true b c is on = is
+or_stays false b c is on = absurd cc
+
+or_true : (a b : Bool) → b ≡ true → (a || b) ≡ true
+or_true true b e = refl
+or_true false b e = e
+
+module _ {K : Type 0} (seat : ℕ) (did : Step) (old new : KernelState K) (t : IsTurn seat did old new) where
+  its_added : List Entry
+  its_added = t.run.added
+
+  change_by_turn : (told : List Entry) →
+      told ≡ entry_of seat (place_at (known_of old).places seat).call (answer_told did) →
+      IsChange seat_of seat told (known_of old) (known_of new)
+  change_by_turn told is =
+      let all = added_is_of seat (answer_told did) old new t.run in
+      record {
+        added = t.run.added;
+        journal = t.run.journal;
+        own = λ _. part_of_own seat t.run.added all;
+        others = λ other apart. part_of_other other seat t.run.added (λ same. apart (sym same)) all;
+        owed = λ _. ap (λ (p : Place Entry Call). p.owed ++ t.run.added) (place_is old.seats seat) ∙ t.run.owed
+            ∙ ap (λ (l : List Entry). l ++ untold seat (call_at new.seats seat))
+            (sym (is ∙ ap (λ (p : Place Entry Call). entry_of seat p.call (answer_told did)) (place_is old.seats seat)))
+            ∙ ap (λ (p : Place Entry Call). told ++ p.owed) (sym (place_is new.seats seat));
+        places = λ other apart. place_is new.seats other
+            ∙ ap (place_of other) (ap (λ (l : List (Option ActiveView)). call_at l other) t.run.seats
+            ∙ at_other old.seats seat other (call_at new.seats seat) apart)
+            ∙ sym (place_is old.seats other);
+        failed = or_stays old.failed (is_failure did) new.failed t.failed;
+        dealt = ap length t.run.seats ∙ length-with_call old.seats seat (call_at new.seats seat);
+      }
+
+  count_by_turn : calls_in seat_of new.journal + length old.journal
+      ≡ calls_in seat_of old.journal + length new.journal
+  count_by_turn =
+      let calls = ap (calls_in seat_of) t.run.journal ∙ calls_append seat_of old.journal t.run.added in
+      let many = ap length t.run.journal ∙ length-append old.journal t.run.added in
+      let own = calls_own seat t.run.added (added_is_of seat (answer_told did) old new t.run) in
+      omega arith
+
+  told_by_turn : (x : Sitter) (told : List Entry) → x.seat ≡ seat →
+      told ≡ entry_of seat (place_at (known_of old).places seat).call (answer_told did) →
+      IsRight seat_of (known_of old) x → IsTold did x (moved seat_of (known_of new) told x)
+  told_by_turn x told at is right =
+      let call : (place_at (known_of old).places seat).call ≡ x.place.call =
+      ap (λ (p : Place Entry Call). p.call) (ap (place_at (known_of old).places) (sym at) ∙ right.place) in
+      let was : call_of (call_at old.seats seat) ≡ x.place.call =
+      sym (ap (λ (p : Place Entry Call). p.call) (place_is old.seats seat)) ∙ call in
+      let now : place_at (known_of new).places x.seat ≡ place_of seat (call_at new.seats seat) =
+      ap (place_at (known_of new).places) at ∙ place_is new.seats seat in
+      record {
+        seat = refl;
+        list = ap (λ (l : List Entry). x.list ++ l) (is
+            ∙ ap (λ (c : Option Call). entry_of seat c (answer_told did)) call
+            ∙ ap (λ (s : ℕ). entry_of s x.place.call (answer_told did)) (sym at));
+        idle = λ idle. sym was ∙ ap call_of (t.idle.0 idle);
+        goes = λ e. ap (λ (p : Place Entry Call). p.call) now ∙ t.goes e ∙ was;
+        over = λ e. now ∙ ap (place_of seat) (t.over e);
+        failed = λ e. t.failed ∙ or_true old.failed (is_failure did) e;
+      }
+
+  pub counted_after : (count before after : ℕ) → count ≡ calls_in seat_of old.journal →
+      before ≡ length old.journal → after ≡ length new.journal →
+      count + (after - before) ≡ calls_in seat_of new.journal
+  counted_after count before after counted b a =
+      let sum = count_by_turn in
+      let many = ap length t.run.journal ∙ length-append old.journal t.run.added in
+      omega arith
+
+  pub change_at_desk : (at : ℕ) (d : Desk Entry Call) → d ≡ known_of old → at ≡ seat →
+      IsChange seat_of at (entry_of at (place_at d.places at).call (answer_told did)) d (known_of new)
+  change_at_desk at d known same =
+      subst (λ (b : Desk Entry Call).
+      IsChange seat_of at (entry_of at (place_at b.places at).call (answer_told did)) b (known_of new)) (sym known)
+      (subst (λ (s : ℕ). IsChange seat_of s (entry_of s (place_at (known_of old).places s).call (answer_told did))
+      (known_of old) (known_of new)) (sym same)
+      (change_by_turn (entry_of seat (place_at (known_of old).places seat).call (answer_told did)) refl))
+
+  pub told_at_desk : (d : Desk Entry Call) (x y : Sitter) → d ≡ known_of old → x.seat ≡ seat →
+      IsRight seat_of d x →
+      y ≡ moved seat_of (known_of new) (entry_of x.seat (place_at d.places x.seat).call (answer_told did)) x →
+      IsTold did x y
+  told_at_desk d x y known at right is =
+      subst (IsTold did x) (sym is)
+      (told_by_turn x (entry_of x.seat (place_at d.places x.seat).call (answer_told did)) at
+      (λ i. entry_of (at i) (place_at (known i).places (at i)).call (answer_told did))
+      (subst (λ (b : Desk Entry Call). IsRight seat_of b x) known right))
+
+  pub held_after : (of_key : K → RecordKey → ℕ) (o : Origin) (d d' : Desk Entry Call) (count n : ℕ) → StepsRefine K →
+      IsSeat old.locks seat → IsStep (of_key old.keys) seat did old new → IsHeld of_key o old d count →
+      d' ≡ known_of new → n ≡ calls_in seat_of new.journal → IsHeld of_key o new d' n
+  held_after of_key o d d' count n leads is step h known counted = record {
+    led = λ honest.
+        let was = h.led honest in record {
+          base = was.base;
+          file = was.file;
+          led = leads o.hash was.base seat did old new is was.led
+              (subst (λ (hash : RecordKey → ℕ). IsStep hash seat did old new) h.hash step);
+        };
+    hash = ap of_key t.run.rest.keys ∙ h.hash;
+    honest = t.run.rest.honest ∙ h.honest;
+    callers = t.run.rest.callers ∙ h.callers;
+    rows = ap length t.run.locks ∙ length-with_row old.locks seat _ ∙ h.rows;
+    seats = ap length t.run.seats ∙ length-with_call old.seats seat (call_at new.seats seat) ∙ h.seats;
+    known = known;
+    counted = counted;
+  }
+
+pub fits_after : (es : List Entry) (n m : ℕ) → n ≡ calls_in seat_of es → m ≡ length es →
+    m < 18446744073709551616 → n < 18446744073709551616
+fits_after es n m is many small = let below = calls_below es in omega arith
+
+-- ---- a call begins
+
+module _ {K : Type 0} (seat : ℕ) (call : Call) (old new : KernelState K) (h : HasCall seat call old new)
+    (begun : 1 ≤ seat) (within : seat ≤ length old.seats) where
+  seats_begun : new.seats ≡ with_call old.seats seat (Some h.active)
+  seats_begun = ap (λ (k : KernelState K). k.seats) h.is
+
+  call_begun : call_at new.seats seat ≡ Some h.active
+  call_begun = ap (λ (l : List (Option ActiveView)). call_at l seat) seats_begun
+      ∙ at_same old.seats seat (Some h.active) begun within
+
+  change_by_begin : IsChange seat_of seat [] (known_of old) (known_of new)
+  change_by_begin = record {
+    added = [];
+    journal = ap (λ (k : KernelState K). k.journal) h.is ∙ sym (append-nil old.journal);
+    own = λ _. refl;
+    others = λ other apart. refl;
+    owed = λ _. append-nil (place_at (known_of old).places seat).owed
+        ∙ ap (λ (p : Place Entry Call). p.owed) (place_is old.seats seat ∙ ap (place_of seat) h.may.free)
+        ∙ sym (ap (λ (p : Place Entry Call). p.owed) (place_is new.seats seat ∙ ap (place_of seat) call_begun)
+        ∙ ap (entry_of seat (Some h.active.machine.call))
+        (new_unanswered h.active.machine h.begun.begins.new));
+    places = λ other apart. place_is new.seats other
+        ∙ ap (place_of other) (ap (λ (l : List (Option ActiveView)). call_at l other) seats_begun
+        ∙ at_other old.seats seat other (Some h.active) apart)
+        ∙ sym (place_is old.seats other);
+    failed = λ e. ap (λ (k : KernelState K). k.failed) h.is ∙ e;
+    dealt = ap length seats_begun ∙ length-with_call old.seats seat (Some h.active);
+  }
+
+  begun_by : (x : Sitter) (told : List Entry) → x.seat ≡ seat → told ≡ [] →
+      HasBegun call x (moved seat_of (known_of new) told x)
+  begun_by x told at none = record {
+    seat = refl;
+    list = ap (λ (l : List Entry). x.list ++ l) none ∙ append-nil x.list;
+    under_way = ap (λ (p : Place Entry Call). p.call)
+        (ap (place_at (known_of new).places) at ∙ place_is new.seats seat ∙ ap (place_of seat) call_begun)
+        ∙ ap (λ (c : Call). Some c) h.begun.begins.call_is;
+  }
+
+  pub begun_at_desk : (at : ℕ) (d : Desk Entry Call) → d ≡ known_of old → at ≡ seat →
+      IsChange seat_of at (entry_of at (place_at d.places at).call None) d (known_of new)
+  begun_at_desk at d known same =
+      subst (λ (l : List Entry). IsChange seat_of at l d (known_of new))
+      (sym (told_none at (place_at d.places at).call))
+      (subst (λ (b : Desk Entry Call). IsChange seat_of at [] b (known_of new)) (sym known)
+      (subst (λ (s : ℕ). IsChange seat_of s [] (known_of old) (known_of new)) (sym same) change_by_begin))
+
+  pub has_begun : (d : Desk Entry Call) (x y : Sitter) → x.seat ≡ seat →
+      y ≡ moved seat_of (known_of new) (entry_of x.seat (place_at d.places x.seat).call None) x → HasBegun call x y
+  has_begun d x y at now =
+      subst (HasBegun call x) (sym now)
+      (begun_by x (entry_of x.seat (place_at d.places x.seat).call None) at
+      (told_none x.seat (place_at d.places x.seat).call))
+
+  pub held_at_begin : (of_key : K → RecordKey → ℕ) (o : Origin) (d d' : Desk Entry Call) (count : ℕ) → BeginsRefine K →
+      IsSeat old.locks seat → IsHeld of_key o old d count → d' ≡ known_of new →
+      IsHeld of_key o new d' count
+  held_at_begin of_key o d d' count leads is held known = record {
+    led = λ honest.
+        let was = held.led honest in record {
+          base = was.base;
+          file = was.file;
+          led = leads o.hash was.base seat call old new is was.led h;
+        };
+    hash = ap (λ (k : KernelState K). of_key k.keys) h.is ∙ held.hash;
+    honest = ap (λ (k : KernelState K). k.pool.honest) h.is ∙ held.honest;
+    callers = ap (λ (k : KernelState K). k.callers) h.is ∙ held.callers;
+    rows = ap (λ (k : KernelState K). length k.locks) h.is ∙ held.rows;
+    seats = ap length seats_begun ∙ length-with_call old.seats seat (Some h.active) ∙ held.seats;
+    known = known;
+    counted = held.counted ∙ sym (ap (λ (k : KernelState K). calls_in seat_of k.journal) h.is);
+  }
+
+-- ---- or is refused
+
+pub held_at_refusal : {K : Type 0} (of_key : K → RecordKey → ℕ) (o : Origin) (seat : ℕ) (call : Call)
+    (refusal : Call × BeginFault) (old new : KernelState K) (d d' : Desk Entry Call) (count : ℕ) → RefusalsRefine K →
+    IsRefused seat call refusal old new → IsHeld of_key o old d count → d' ≡ d → IsHeld of_key o new d' count
+held_at_refusal {K} of_key o seat call refusal old new d d' count leads refused h same = record {
+  led = λ honest.
+      let was = h.led honest in record {
+        base = was.base;
+        file = was.file;
+        led = leads o.hash was.base seat call refusal old new was.led refused;
+      };
+  hash = ap (λ (k : KernelState K). of_key k.keys) refused.same ∙ h.hash;
+  honest = ap (λ (k : KernelState K). k.pool.honest) refused.same ∙ h.honest;
+  callers = ap (λ (k : KernelState K). k.callers) refused.same ∙ h.callers;
+  rows = ap (λ (k : KernelState K). length k.locks) refused.same ∙ h.rows;
+  seats = ap (λ (k : KernelState K). length k.seats) refused.same ∙ h.seats;
+  known = same ∙ h.known ∙ sym (ap known_of refused.same);
+  counted = h.counted ∙ sym (ap (λ (k : KernelState K). calls_in seat_of k.journal) refused.same);
+}
+
+no_call : (at : Option ActiveView) → call_of at ≡ None → at ≡ None
+no_call None is = refl
+no_call (Some a) is = absurd cc
+
+case_bool : {P : Type 0} (b : Bool) → (b ≡ true → P) → (b ≡ false → P) → P
+case_bool true on off = on refl
+case_bool false on off = off refl
+
+-- a seat that rests is never busy
+pub never_busy : {K : Type 0} (of_key : K → RecordKey → ℕ) (o : Origin) (seat : ℕ) (old : KernelState K)
+    (d : Desk Entry Call) (count : ℕ) (x : Sitter) → IsHeld of_key o old d count → IsRight seat_of d x →
+    x.seat ≡ seat → Rests x → old.failed ≡ false → call_at old.seats seat ≢ None → ⊥
+never_busy {K} of_key o seat old d count x h right at rests sound busy =
+    let off : d.failed ≡ false = ap (λ (e : Desk Entry Call). e.failed) h.known ∙ sound in
+    let place : x.place ≡ no_place =
+    case_bool x.failed (λ on. let no : true ≡ false = sym (right.failed on) ∙ off in absurd cc) rests in
+    let known : place_at d.places x.seat ≡ place_of seat (call_at old.seats seat) =
+    ap (λ (e : Desk Entry Call). place_at e.places x.seat) h.known ∙ ap (place_at (known_of old).places) at
+    ∙ place_is old.seats seat in
+    busy (no_call (call_at old.seats seat)
+    (ap (λ (p : Place Entry Call). p.call) (sym known ∙ right.place ∙ place)))
+
+-- ---- a stop
+
+module _ {K : Type 0} (old new : KernelState K) (stops : IsStopped old new) where
+  at_stop : (b : Bool) → old.stopped ≡ b → IsChange seat_of 0 [] (known_of old) (known_of new)
+  at_stop true is =
+      subst (λ (k : KernelState K). IsChange seat_of 0 [] (known_of old) (known_of k)) (sym (stops.again is))
+      record {
+        added = [];
+        journal = sym (append-nil old.journal);
+        own = λ none. absurd (omega arith);
+        others = λ other apart. refl;
+        owed = λ none. absurd (omega arith);
+        places = λ other apart. refl;
+        failed = λ e. e;
+        dealt = refl;
+      }
+  at_stop false is =
+      subst (λ (k : KernelState K). IsChange seat_of 0 [] (known_of old) (known_of k)) (sym (stops.first is))
+      record {
+        added = Stopped ∷ [];
+        journal = refl;
+        own = λ none. absurd (omega arith);
+        others = λ other apart. refl;
+        owed = λ none. absurd (omega arith);
+        places = λ other apart. refl;
+        failed = λ e. e;
+        dealt = refl;
+      }
+
+  pub change_by_stop : IsChange seat_of 0 [] (known_of old) (known_of new)
+  change_by_stop = at_stop old.stopped refl
+
+  pub count_by_stop : (count : ℕ) → count ≡ calls_in seat_of old.journal → count ≡ calls_in seat_of new.journal
+  count_by_stop count is = by old.stopped refl
+    where
+      by : (b : Bool) → old.stopped ≡ b → count ≡ calls_in seat_of new.journal
+      by true e = is ∙ sym (ap (λ (k : KernelState K). calls_in seat_of k.journal) (stops.again e))
+      by false e =
+          let more = ap (λ (k : KernelState K). calls_in seat_of k.journal) (stops.first e)
+          ∙ calls_append seat_of old.journal (Stopped ∷ []) in
+          omega arith
+
+  pub held_at_stop : (of_key : K → RecordKey → ℕ) (o : Origin) (d d' : Desk Entry Call) (count n : ℕ) → StopsRefine K →
+      IsHeld of_key o old d count → d' ≡ known_of new → n ≡ calls_in seat_of new.journal → IsHeld of_key o new d' n
+  held_at_stop of_key o d d' count n leads h known counted = by old.stopped refl
+    where
+      led : IsTrue o.honest → RefinesFile o.hash o.content new
+      led honest = let was = h.led honest in record {
+        base = was.base;
+        file = was.file;
+        led = leads o.hash was.base old new was.led stops;
+      }
+
+      kept : of_key new.keys ≡ of_key old.keys → new.pool.honest ≡ old.pool.honest → new.callers ≡ old.callers →
+          length new.locks ≡ length old.locks → length new.seats ≡ length old.seats → IsHeld of_key o new d' n
+      kept keys honest callers locks seats = record {
+        led = led;
+        hash = keys ∙ h.hash;
+        honest = honest ∙ h.honest;
+        callers = callers ∙ h.callers;
+        rows = locks ∙ h.rows;
+        seats = seats ∙ h.seats;
+        known = known;
+        counted = counted;
+      }
+
+      by : (b : Bool) → old.stopped ≡ b → IsHeld of_key o new d' n
+      by true e = let same = stops.again e in kept
+          (ap (λ (k : KernelState K). of_key k.keys) same) (ap (λ (k : KernelState K). k.pool.honest) same)
+          (ap (λ (k : KernelState K). k.callers) same) (ap (λ (k : KernelState K). length k.locks) same)
+          (ap (λ (k : KernelState K). length k.seats) same)
+      by false e = let same = stops.first e in kept
+          (ap (λ (k : KernelState K). of_key k.keys) same) (ap (λ (k : KernelState K). k.pool.honest) same)
+          (ap (λ (k : KernelState K). k.callers) same) (ap (λ (k : KernelState K). length k.locks) same)
+          (ap (λ (k : KernelState K). length k.seats) same)

@@ -1,0 +1,103 @@
+-- A seat in a call, and after it.
+use Rattle.std.proofs.Common.{◌≡◌, ◌≤◌, ◌<◌, ℕ, Bool, true, false, List, [], ◌∷◌, ◌++◌, length, Option, Some, None, refl, sym, ap, ◌∙◌, subst, append-nil}
+use Rattle.interleaving_core.specs.Owing.{is_end, is_failure}
+use Rattle.interleaving_core.specs.declared.fault.StepFault.{StepFault}
+use Rattle.interleaving_core.specs.declared.fault.StepFault.TheVariants as faults
+use Rattle.interleaving_core.specs.declared.step.Step.TheVariants as steps
+use Rattle.queue_model.specs.declared.entry.Entry.TheVariants.{Decided}
+use Rattle.seat_passes.specs.Views.{no_place}
+use Rattle.workers.specs.Told.{HasBegun, IsSeated, IsTold, IsUnderWay, Rests, Sitter}
+use Rattle.workers.specs.Words.{Answer, Call, Entry, Step, answer_told, entry_of}
+
+told_nothing : (seat : ℕ) (call : Option Call) → entry_of seat call None ≡ []
+told_nothing seat None = refl
+told_nothing seat (Some call) = refl
+
+pub way_begins : (call : Call) (many number filled room : ℕ) (hand hand' : List Entry) (old inside x : Sitter) →
+    IsSeated many number hand inside → inside ≡ old → hand' ≡ hand → filled < room → HasBegun call inside x →
+    IsUnderWay call many number filled room hand' old x
+way_begins call many number filled room hand hand' old inside x s is same spare begun = record {
+  begun = rw s.number_is at s.begun;
+  within = subst (λ (n : ℕ). n ≤ many) s.number_is s.within;
+  was = sym (ap (λ (y : Sitter). y.seat) is) ∙ s.number_is;
+  seat = begun.seat ∙ s.number_is;
+  at_hand = same ∙ sym s.list_is ∙ ap (λ (y : Sitter). y.list) is;
+  list = begun.list ∙ ap (λ (y : Sitter). y.list) is;
+  spare = spare;
+  under_way = begun.under_way;
+}
+
+-- it rests again
+rests_after : (did : Step) (x y : Sitter) → IsTold did x y → (is_end did ≡ false → is_failure did ≡ true) → Rests y
+rests_after did x y t ends sound = by (is_end did) refl
+  where
+    by : (b : Bool) → is_end did ≡ b → y.place ≡ no_place
+    by true is = t.over is
+    by false is = let no : true ≡ false = sym (t.failed (ends is)) ∙ sound in absurd cc
+
+-- of the faults of steps that of the file alone leaves the call
+pub fault_ends : (fault : StepFault) → is_end (steps.Fault fault) ≡ false → is_failure (steps.Fault fault) ≡ true
+fault_ends (faults.File fault) stays = refl
+fault_ends faults.NoRoom stays = absurd cc
+
+module _ (call : Call) (many number filled room : ℕ) (hand : List Entry)
+    (old x : Sitter) (w : IsUnderWay call many number filled room hand old x) where
+  -- told no answer, it has the list that it had
+  same_list : (did : Step) (y : Sitter) → IsTold did x y → answer_told did ≡ None → y.list ≡ old.list
+  same_list did y t none =
+      t.list ∙ ap (λ (a : Option Answer). x.list ++ entry_of x.seat x.place.call a) none
+      ∙ ap (λ (l : List Entry). x.list ++ l) (told_nothing x.seat x.place.call) ∙ append-nil x.list ∙ w.list
+
+  pub way_goes : (did : Step) (y : Sitter) → IsTold did x y → is_end did ≡ false → answer_told did ≡ None →
+      IsUnderWay call many number filled room hand old y
+  way_goes did y t goes none = record {
+    begun = w.begun;
+    within = w.within;
+    was = w.was;
+    seat = t.seat ∙ w.seat;
+    at_hand = w.at_hand;
+    list = same_list did y t none;
+    spare = w.spare;
+    under_way = t.goes goes ∙ w.under_way;
+  }
+
+  pub same_seat : (did : Step) (y : Sitter) → IsTold did x y → y.seat ≡ old.seat
+  same_seat did y t = t.seat ∙ w.seat ∙ sym w.was
+
+  -- ---- it is answered
+
+  pub way_answered : (answer : Answer) (y : Sitter) → IsTold (steps.Answered answer) x y →
+      y.list ≡ old.list ++ Decided old.seat call answer ∷ []
+  way_answered answer y t =
+      t.list ∙ ap (λ (l : List Entry). l ++ entry_of x.seat x.place.call (Some answer)) w.list
+      ∙ ap (λ (c : Option Call). old.list ++ entry_of x.seat c (Some answer)) w.under_way
+      ∙ ap (λ (s : ℕ). old.list ++ Decided s call answer ∷ []) (w.seat ∙ sym w.was)
+
+  pub seated_answered : (hand' : List Entry) (answer : Answer) (y : Sitter) → IsTold (steps.Answered answer) x y →
+      hand' ≡ hand ++ Decided number call answer ∷ [] → IsSeated many number hand' y
+  seated_answered hand' answer y t pushed = record {
+    begun = rw (t.seat ∙ w.seat) w.begun;
+    within = rw (t.seat ∙ w.seat) w.within;
+    rests = λ _. t.over refl;
+    number_is = t.seat ∙ w.seat;
+    list_is = way_answered answer y t ∙ ap (λ (l : List Entry). l ++ Decided old.seat call answer ∷ []) (sym w.at_hand)
+        ∙ ap (λ (s : ℕ). hand ++ Decided s call answer ∷ []) w.was ∙ sym pushed;
+  }
+
+  -- ---- or does not go on
+
+  pub seated_faulted : (did : Step) (y : Sitter) → IsTold did x y → answer_told did ≡ None →
+      (is_end did ≡ false → is_failure did ≡ true) → IsSeated many number hand y
+  seated_faulted did y t none ends = record {
+    begun = rw (t.seat ∙ w.seat) w.begun;
+    within = rw (t.seat ∙ w.seat) w.within;
+    rests = rests_after did x y t ends;
+    number_is = t.seat ∙ w.seat;
+    list_is = same_list did y t none ∙ sym w.at_hand;
+  }
+
+  pub way_faulted : (did : Step) (y : Sitter) → IsTold did x y → answer_told did ≡ None → y.list ≡ old.list
+  way_faulted did y t none = same_list did y t none
+
+  pub never_idle : (y : Sitter) → IsTold steps.Idle x y → ⊥
+  never_idle y t = let no : ◌≡◌ {A = Option Call} (Some call) None = sym w.under_way ∙ t.idle refl in absurd cc

@@ -1,0 +1,11 @@
+-- The numbers of faults. docs/FAULTS.md.
+use Rattle.std.specs.Prelude.{ℕ}
+use Rattle.faults.specs.declared.TheConstants.{FAILED, NO_MEMORY, NO_ROOM, SESSION_FULL}
+use Rattle.workers.specs.declared.fault.Fault.{Fault}
+use Rattle.workers.specs.declared.fault.Fault.TheVariants as calls
+
+abbrev pub number_of : Fault → ℕ
+number_of calls.NoRoom = NO_ROOM
+number_of calls.NoMemory = NO_MEMORY
+number_of calls.SessionFull = SESSION_FULL
+number_of calls.Failed = FAILED

@@ -1,0 +1,32 @@
+-- What lies under the latch: a kernel, and what its pass knows of it.
+use Rattle.std.specs.Prelude.{ℕ, suc, ◌≡◌, IsTrue, List, [], ◌∷◌, Option, length}
+use Rattle.seat_passes.specs.Views.{calls_in}
+use Rattle.workers.specs.Entries.{seat_of}
+use Rattle.workers.specs.Origins.{Origin}
+use Rattle.workers.specs.Words.{ActiveView, Call, Desk, Entry, RefinesFile, KernelState, Place, RecordKey, call_of, untold}
+
+-- where a seat is
+abbrev pub place_of : ℕ → Option ActiveView → Place Entry Call
+place_of seat at = record { call = call_of at; owed = untold seat at }
+
+abbrev pub places_from : ℕ → List (Option ActiveView) → List (Place Entry Call)
+places_from seat [] = []
+places_from seat (at ∷ more) = place_of seat at ∷ places_from (suc seat) more
+
+-- what is known of a kernel, once each seat has its pass
+abbrev pub known_of : {K : Type 0} → KernelState K → Desk Entry Call
+known_of k = record { journal = k.journal; places = places_from 1 k.seats; failed = k.failed; dealt = length k.seats }
+
+-- a kernel that began from there, what its pass knows, and the number of its calls
+pub record IsHeld {K : Type 0} (of_key : K → RecordKey → ℕ) (o : Origin) (k : KernelState K) (d : Desk Entry Call)
+    (count : ℕ) : Type 0 where
+  -- of an honest device, its answers are those of plain lists
+  pub led : IsTrue o.honest → RefinesFile o.hash o.content k
+  pub hash : of_key k.keys ≡ o.hash
+  pub honest : k.pool.honest ≡ o.honest
+  -- each caller has a seat, and a row of locks
+  pub callers : k.callers ≡ o.callers
+  pub rows : length k.locks ≡ length o.callers
+  pub seats : length k.seats ≡ length o.callers
+  pub known : d ≡ known_of k
+  pub counted : count ≡ calls_in seat_of k.journal

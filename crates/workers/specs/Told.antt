@@ -1,0 +1,47 @@
+-- What a hold of the latch leaves of what a seat knows.
+use Rattle.std.specs.Prelude.{ℕ, ◌≡◌, ◌≤◌, ◌<◌, length, true, false, List, [], ◌∷◌, ◌++◌, Some, None}
+use Rattle.interleaving_core.specs.Owing.{is_end, is_failure}
+use Rattle.interleaving_core.specs.declared.step.Step.TheVariants as steps
+use Rattle.seat_passes.specs.Views.{no_place}
+use Rattle.workers.specs.Words.{Call, Entry, Sitting, Step, answer_told, entry_of}
+
+abbrev pub Sitter : Type 0
+Sitter = Sitting Entry Call
+
+-- between two calls: it has none, or knows that a step has failed
+abbrev pub Rests : Sitter → Type 0
+Rests x = x.failed ≡ false → x.place ≡ no_place
+
+-- a call begins
+pub record HasBegun (call : Call) (old new : Sitter) : Type 0 where
+  pub seat : new.seat ≡ old.seat
+  pub list : new.list ≡ old.list
+  pub under_way : new.place.call ≡ Some call
+
+-- a step of its call
+pub record IsTold (did : Step) (old new : Sitter) : Type 0 where
+  pub seat : new.seat ≡ old.seat
+  pub list : new.list ≡ old.list ++ entry_of old.seat old.place.call (answer_told did)
+  pub idle : did ≡ steps.Idle → old.place.call ≡ None
+  pub goes : is_end did ≡ false → new.place.call ≡ old.place.call
+  pub over : is_end did ≡ true → new.place ≡ no_place
+  pub failed : is_failure did ≡ true → new.failed ≡ true
+
+-- one of so many seats between two calls, with its list at hand
+pub record IsSeated (many number : ℕ) (hand : List Entry) (x : Sitter) : Type 0 where
+  pub begun : 1 ≤ x.seat
+  pub within : x.seat ≤ many
+  pub rests : Rests x
+  pub number_is : x.seat ≡ number
+  pub list_is : x.list ≡ hand
+
+-- a call is under way at a seat that was this before it, and there is room for its entry
+pub record IsUnderWay (call : Call) (many number filled room : ℕ) (hand : List Entry) (old x : Sitter) : Type 0 where
+  pub begun : 1 ≤ number
+  pub within : number ≤ many
+  pub was : old.seat ≡ number
+  pub seat : x.seat ≡ number
+  pub at_hand : hand ≡ old.list
+  pub list : x.list ≡ old.list
+  pub spare : filled < room
+  pub under_way : x.place.call ≡ Some call

@@ -1,0 +1,151 @@
+//! How a service ends.
+
+ghost use Rattle.std.specs.Prelude.{◌≡◌, ◌↔◌, true, length};
+ghost use Rattle.std.specs.List.{list_any};
+ghost use Rattle.workers.specs.Closing.{Each, IsBeside, IsEndedWith, IsToComeBack, sits_at};
+
+use crate::entries::{Own, Passes};
+use crate::gate::Gate;
+use crate::held::Held;
+use crate::naming::Base;
+use crate::seat::Seat;
+use crate::service::Service;
+use bucket_page::PseudoKey;
+use interleavings::interleaving_core::{CloseFault, Closed, NotClosed};
+use interleavings::{
+    a_refining_kernel_answers_as_plain_lists, a_refining_kernel_closes_on_its_file,
+};
+use page_device::PageDevice;
+use queue_model::Entry;
+use seat_passes::Room;
+use std::marker::PhantomData;
+use std::sync::{Condvar, Mutex};
+
+/// What is left of a service that was closed.
+#[derive(Drop)]
+pub struct Ended<D, N: Room + Base> {
+    /// The device.
+    pub device: D,
+    /// What was decided, in its order.
+    pub journal: Vec<Entry>,
+    /// The seats, with their lists.
+    pub seats: Vec<Seat<N>>,
+}
+
+/// What came of closing a service.
+#[derive(Drop)]
+pub enum Ending<D: PageDevice, K: PseudoKey, G: Gate, N: Room + Base> {
+    /// It is closed, and its device has the file of the system after the journal.
+    Closed(Ended<D, N>),
+    /// A step had failed (62), or a transfer failed (20). What was changed may be lost.
+    Fault(Ended<D, N>, CloseFault),
+    /// One of its seats is missing, and no step has failed (63). All of it comes back.
+    Missing(Service<D, K, G, N>, Vec<Seat<N>>),
+}
+
+impl<D: PageDevice + Drop, K: PseudoKey + Drop, G: Gate + Drop, N: Room + Base> Service<
+    D,
+    K,
+    G,
+    N,
+> {
+    /// Ends the service, where all of its seats come back: there is one journal, legal from the
+    /// system whose file the device had, of which each seat's list is its part.
+    pub fn close(self, seats: Vec<Seat<N>>) -> Ending<D, K, G, N>
+        ensures { IsEndedWith D.content N.origin seats.items result }
+    {
+        a_refining_kernel_answers_as_plain_lists::<K>();
+        a_refining_kernel_closes_on_its_file::<K>();
+        let Service {
+            gate,
+            latch,
+            freed,
+            decided,
+            gauge,
+            seats: many,
+        } = self;
+        let held = latch.into_inner();
+        let mut seats = seats;
+        if is_missing(held.kernel.has_failed(), seats.as_slice(), many) {
+            let service = Service {
+                gate,
+                latch: Mutex::new(held),
+                freed,
+                decided,
+                gauge,
+                seats: many,
+            };
+            return Ending::Missing(service, seats);
+        }
+        let Held {
+            kernel,
+            mut pass,
+            count: _,
+            sleepers: _,
+            room: _,
+        } = held;
+        compare_all(&gauge, &mut pass, &mut seats);
+        match kernel.close() {
+            Ok(Closed { device, journal }) => Ending::Closed(Ended {
+                device,
+                journal,
+                seats,
+            }),
+            Err(NotClosed::Fault(closed, fault)) => {
+                let Closed { device, journal } = closed;
+                let ended = Ended {
+                    device,
+                    journal,
+                    seats,
+                };
+                Ending::Fault(ended, fault)
+            }
+            Err(NotClosed::Busy(_)) => unreachable!(),
+        }
+    }
+}
+
+/// Whether no step has failed, and one of so many seats is not among these.
+fn is_missing<N: Room + Base>(failed: bool, seats: &[Seat<N>], many: u8) -> bool
+    requires { many ≡ length N.origin.callers }
+    ensures { (result ≡ true) ↔ IsToComeBack failed (length N.origin.callers) seats.now }
+{
+    if failed {
+        return false;
+    }
+    for place in 0..many {
+        if !has_seat(seats, place + 1) {
+            return true;
+        }
+    }
+    false
+}
+
+/// Whether a seat is among these.
+fn has_seat<N: Room + Base>(seats: &[Seat<N>], number: u8) -> bool
+    ensures { result ≡ list_any (sits_at number) seats.now }
+{
+    seats.iter().any(|seat| seat.number() == number)
+}
+
+/// Each of these seats is right beside the kernel.
+fn compare_all<N: Room + Base>(gauge: &Passes<N>, own: &mut Own<N>, seats: &mut Vec<Seat<N>>)
+    ensures beside { Each (IsBeside own.old) seats.old.items }
+    ensures own { own.new ≡ own.old }
+    ensures seats { seats.new.items ≡ seats.old.items }
+{
+    for place in 0..seats.len() {
+        seats[place].compare(gauge, own);
+    }
+}
+
+impl<N: Room + Base> Seat<N> {
+    /// It is right beside the kernel.
+    fn compare(&mut self, gauge: &Passes<N>, own: &mut Own<N>)
+        ensures beside { IsBeside own.old self.old }
+        ensures own { own.new ≡ own.old }
+        ensures seat { self.new ≡ self.old }
+    {
+        gauge.compare(own, &mut self.pass);
+    }
+}
