@@ -12,8 +12,10 @@ use script_runs::msgq_cli::{
 };
 use script_runs::replays::{Sources, replay_file};
 use script_runs::{run_file, serve};
+use std::fs::{File, OpenOptions};
 use std::io;
 use std::io::{BufWriter, Write};
+use std::os::fd::{AsRawFd, RawFd};
 use std::process::ExitCode;
 
 /// What faults of lines are told of, where a script is run without a file.
@@ -21,6 +23,9 @@ const MEMORY: &str = "the file in memory";
 
 fn main(rt: HostRuntime) -> ExitCode {
     let alloc = rt.alloc();
+    let _input = hold(&rt, 0);
+    let _output = hold(&rt, 1);
+    let _errors = hold(&rt, 2);
     let Ok(writer) = BufWriter::new(alloc, io::writer(&rt)) else {
         return without_memory(&rt);
     };
@@ -83,6 +88,21 @@ fn main(rt: HostRuntime) -> ExitCode {
         }
     }
     ExitCode::from(ending.status(output.has_refused()))
+}
+
+/// Takes the place of a standard stream that is closed, so that no file which is opened later gets
+/// its number, and is written or read as that stream. What is held can't be read as the input, nor
+/// written as the others.
+fn hold(rt: &HostRuntime, stream: RawFd) -> Option<File> {
+    let mut how = OpenOptions::new();
+    how.read(stream != 0);
+    how.write(stream == 0);
+    let file = how.open(rt, "/dev/null").ok()?;
+    if file.as_raw_fd() == stream {
+        Some(file)
+    } else {
+        None
+    }
 }
 
 /// The words of the command line.
