@@ -1,0 +1,10 @@
+use Rattle.bucket_page.specs.Pseudokeys.{number_key}
+use Rattle.workers.specs.Opening.{origin_of}
+use Rattle.workers_trials.proofs.waiting.a_receive_is_refused_once_the_system_is_stopped.Given as goal
+
+-- the name of the service that was prepared
+abbrev pub ghosts-stop_a_receiver-N-Room : goal.ghosts-stop_a_receiver-N-Room
+ghosts-stop_a_receiver-N-Room g a = record { table = a.prepared.table }
+
+abbrev pub ghosts-stop_a_receiver-N-Base : goal.ghosts-stop_a_receiver-N-Base
+ghosts-stop_a_receiver-N-Base g a = record { origin = origin_of (λ _. number_key) a.prepared }
