@@ -1,0 +1,29 @@
+//! Who answers calls.
+
+ghost use Rattle.std.specs.Prelude.{◌≡◌, None};
+ghost use Rattle.queue_model.specs.Rules.{outcome};
+ghost use Rattle.queue_model.specs.State.{State};
+ghost use Rattle.queue_model.specs.declared.caller.Caller.{Caller};
+ghost use Rattle.queue_commands.specs.Asking.{IsAsked};
+
+use queue_model::{Answer, Call};
+
+/// Who answers the calls of one caller, one after the other, as the rules of queues do in the
+/// system that the calls before have left.
+pub trait Answering {
+    /// The caller.
+    ghost caller: { Self → Caller };
+
+    /// The calls so far have left this system.
+    ghost stands: { Self → State → Type 0 };
+
+    /// Why a call was not answered.
+    ghost lacks: { Self → Type 0 };
+
+    /// What a call is answered that never waits in the system; none where something was lacking.
+    fn answer(&mut self, call: Call) -> Option<Answer>
+        ensures asked { (s : State) → stands self.old s →
+            (outcome (caller self.old) call s ≡ None → ⊥) →
+            IsAsked (caller self.old) call s (stands self.new) (lacks self.new) result }
+        ensures same { caller self.new ≡ caller self.old };
+}
