@@ -4,7 +4,7 @@ ghost use Rattle.std.specs.Prelude.{◌≡◌, length, IfOk, Ok};
 ghost use Rattle.queue_records.specs.declared.record.Record.TheVariants as records;
 ghost use Rattle.queue_records.specs.Range.{IsCounterInRange};
 ghost use Rattle.queue_records.specs.Reading.{Gives, counter_at, is_counter, reads_counter};
-ghost use Rattle.queue_records.specs.Records.{FitsCounter, Spells};
+ghost use Rattle.queue_records.specs.Records.{FitsCounter, SpellsRecord};
 ghost use Rattle.queue_records.specs.Spelling.{counter_bytes, counter_key};
 
 use crate::bad_record::BadRecord;

@@ -4,7 +4,7 @@ ghost use Rattle.std.specs.Prelude.{◌≡◌, ◌≤◌, ◌<◌, ◌^◌, leng
 ghost use Rattle.queue_records.specs.declared.record.Record.TheVariants as records;
 ghost use Rattle.queue_records.specs.Range.{IsMessageInRange};
 ghost use Rattle.queue_records.specs.Reading.{Gives, is_message, message_at, reads_message};
-ghost use Rattle.queue_records.specs.Records.{FitsMessage, Spells};
+ghost use Rattle.queue_records.specs.Records.{FitsMessage, SpellsRecord};
 ghost use Rattle.queue_records.specs.Spelling.{message_bytes, message_key};
 
 use crate::bad_record::BadRecord;

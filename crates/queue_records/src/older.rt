@@ -4,7 +4,7 @@ ghost use Rattle.std.specs.Prelude.{◌≡◌, ◌↔◌, ◌++◌, length, IfOk
 ghost use Rattle.queue_records.specs.declared.record.Record.TheVariants as records;
 ghost use Rattle.queue_records.specs.Older.{IsOlder, SpellsOlder, older_end, older_value_of};
 ghost use Rattle.queue_records.specs.Range.{IsInRange};
-ghost use Rattle.queue_records.specs.Records.{Spells};
+ghost use Rattle.queue_records.specs.Records.{SpellsRecord};
 ghost use Rattle.queue_records.specs.Spelling.{key_of};
 
 use crate::bad_record::BadRecord;

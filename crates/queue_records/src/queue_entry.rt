@@ -7,7 +7,7 @@ ghost use Rattle.queue_records.specs.declared.record.Record.TheVariants as recor
 ghost use Rattle.queue_records.specs.Fields.{given_key, key_flag, key_number};
 ghost use Rattle.queue_records.specs.Range.{IsQueueInRange};
 ghost use Rattle.queue_records.specs.Reading.{Gives, has_flag, has_limits, is_queue, queue_at, reads_queue};
-ghost use Rattle.queue_records.specs.Records.{FitsFour, FitsQueue, Spells};
+ghost use Rattle.queue_records.specs.Records.{FitsFour, FitsQueue, SpellsRecord};
 ghost use Rattle.queue_records.specs.Older.{older_queue_bytes};
 ghost use Rattle.queue_records.specs.Spelling.{queue_bytes, queue_key};
 

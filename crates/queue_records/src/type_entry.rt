@@ -4,7 +4,7 @@ ghost use Rattle.std.specs.Prelude.{◌≡◌, ◌<◌, ◌^◌, length, IfOk, O
 ghost use Rattle.queue_records.specs.declared.record.Record.TheVariants as records;
 ghost use Rattle.queue_records.specs.Range.{IsTypeInRange};
 ghost use Rattle.queue_records.specs.Reading.{Gives, is_type_entry, reads_type, type_at};
-ghost use Rattle.queue_records.specs.Records.{FitsType, Spells};
+ghost use Rattle.queue_records.specs.Records.{FitsType, SpellsRecord};
 ghost use Rattle.queue_records.specs.Spelling.{type_bytes, type_key};
 
 use crate::bad_record::BadRecord;
