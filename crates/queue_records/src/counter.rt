@@ -38,9 +38,10 @@ impl Counter {
 
     /// The Counter that a key and a value spell; it is refused exactly where they spell none.
     pub fn decode(key: &RecordKey, value: &[u8]) -> Result<Counter, BadRecord>
-        ensures ok { IfOk result (λ counter. Spells (records.Counter counter) key.now value.now) }
+        ensures ok { IfOk result (λ counter.
+            SpellsRecord (records.Counter counter) key.now value.now) }
         ensures only { (counter : Counter) →
-            Spells (records.Counter counter) key.now value.now → result ≡ Ok counter }
+            SpellsRecord (records.Counter counter) key.now value.now → result ≡ Ok counter }
     {
         read(key, value)
     }

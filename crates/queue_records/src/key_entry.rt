@@ -37,9 +37,9 @@ impl KeyEntry {
 
     /// The Key that a key and a value spell; it is refused exactly where they spell none.
     pub fn decode(key: &RecordKey, value: &[u8]) -> Result<KeyEntry, BadRecord>
-        ensures ok { IfOk result (λ entry. Spells (records.Key entry) key.now value.now) }
+        ensures ok { IfOk result (λ entry. SpellsRecord (records.Key entry) key.now value.now) }
         ensures only { (entry : KeyEntry) →
-            Spells (records.Key entry) key.now value.now → result ≡ Ok entry }
+            SpellsRecord (records.Key entry) key.now value.now → result ≡ Ok entry }
     {
         read(key, value)
     }

@@ -55,9 +55,10 @@ impl<'a> MessageEntry<'a> {
     /// The Message that a key and a value spell; it is refused exactly where they spell none. Its
     /// body is lent by the value.
     pub fn decode(key: &RecordKey, value: &'a [u8]) -> Result<MessageEntry<'a>, BadRecord>
-        ensures ok { IfOk result (λ message. Spells (records.Message message) key.now value.now) }
+        ensures ok { IfOk result (λ message.
+            SpellsRecord (records.Message message) key.now value.now) }
         ensures only { (message : MessageEntry) →
-            Spells (records.Message message) key.now value.now → result ≡ Ok message }
+            SpellsRecord (records.Message message) key.now value.now → result ≡ Ok message }
     {
         read(key, value)
     }

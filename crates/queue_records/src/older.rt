@@ -68,9 +68,10 @@ impl QueueEntry {
     /// none.
     pub fn decode_older(key: &RecordKey, value: &[u8]) -> Result<QueueEntry, BadRecord>
         ensures ok { IfOk result (λ queue.
-            Spells (records.Queue queue) key.now (value.now ++ older_end)) }
+            SpellsRecord (records.Queue queue) key.now (value.now ++ older_end)) }
         ensures only { (queue : QueueEntry) →
-            Spells (records.Queue queue) key.now (value.now ++ older_end) → result ≡ Ok queue }
+            SpellsRecord (records.Queue queue) key.now (value.now ++ older_end)
+            → result ≡ Ok queue }
     {
         if value.len() != OLDER_QUEUE_BYTES {
             return Err(BadRecord);

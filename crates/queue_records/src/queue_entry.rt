@@ -80,9 +80,9 @@ impl QueueEntry {
 
     /// The Queue that a key and a value spell; it is refused exactly where they spell none.
     pub fn decode(key: &RecordKey, value: &[u8]) -> Result<QueueEntry, BadRecord>
-        ensures ok { IfOk result (λ queue. Spells (records.Queue queue) key.now value.now) }
+        ensures ok { IfOk result (λ queue. SpellsRecord (records.Queue queue) key.now value.now) }
         ensures only { (queue : QueueEntry) →
-            Spells (records.Queue queue) key.now value.now → result ≡ Ok queue }
+            SpellsRecord (records.Queue queue) key.now value.now → result ≡ Ok queue }
     {
         read(key, value)
     }

@@ -49,9 +49,9 @@ impl TypeEntry {
 
     /// The Type that a key and a value spell; it is refused exactly where they spell none.
     pub fn decode(key: &RecordKey, value: &[u8]) -> Result<TypeEntry, BadRecord>
-        ensures ok { IfOk result (λ entry. Spells (records.Type entry) key.now value.now) }
+        ensures ok { IfOk result (λ entry. SpellsRecord (records.Type entry) key.now value.now) }
         ensures only { (entry : TypeEntry) →
-            Spells (records.Type entry) key.now value.now → result ≡ Ok entry }
+            SpellsRecord (records.Type entry) key.now value.now → result ≡ Ok entry }
     {
         read(key, value)
     }
