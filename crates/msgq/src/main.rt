@@ -121,7 +121,8 @@ fn tell(rt: &HostRuntime, text: Error) -> ExitCode {
     };
     let text = text.as_str();
     let why = text.strip_prefix("error: ").unwrap_or(text);
-    let _ = write!(rt.stderr(), "msgq: {why}");
+    let mut errors = rt.stderr();
+    let _ = write!(errors, "msgq: {why}");
     ExitCode::from(2)
 }
 

@@ -60,6 +60,7 @@ pub fn read_fullness<D: PageDevice>(device: &mut D) -> Option<Fullness> {
 }
 
 /// What fault 50 of a line says, of a file that is so full.
+#[derive(Clone, Copy)]
 pub(crate) struct NoRoom(pub Option<Fullness>);
 
 impl Display for NoRoom {

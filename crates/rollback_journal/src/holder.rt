@@ -55,15 +55,15 @@ fn node_of(alloc: Global, device: u64, inode: u64) -> Result<String, AllocError>
 /// The process that a line of the list says to hold the lock of this file. One that waits for it
 /// has an arrow behind its number.
 fn holder_in(line: &str, node: &str) -> Option<u32> {
-    let mut process = "";
+    let mut process = None;
     for word in line.split_ascii_whitespace() {
         if word == "->" {
             return None;
         }
         if word == node {
-            return process.parse().ok();
+            return process;
         }
-        process = word;
+        process = word.parse().ok();
     }
     None
 }
