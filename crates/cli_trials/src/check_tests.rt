@@ -4,7 +4,8 @@ use crate::file_tests::{changed, spoilt};
 use crate::run_tests::{FIRST, new_device};
 use crate::trial::{Screen, buffered, printed};
 use msgq_cli::{
-    Ending, Report, ReportRequest, Shown, advise, new_file, new_on, report_file, report_on,
+    Ending, Progress, Report, ReportRequest, Shown, advise, new_file, new_on, report_file,
+    report_on,
 };
 use page_device::{FaultyDevice, MemDevice, PageDevice};
 use std::fs;
@@ -64,8 +65,11 @@ fn a_terminal_shows_how_far_it_is(rt: HostRuntime) -> Result<(), Fail> {
     for is_terminal in [true, false] {
         let mut output = buffered(alloc)?;
         let mut screen = Screen::new(alloc, is_terminal);
-        let device = Shown::new(MemDevice::new(alloc), &mut screen);
-        let device = new_on(device, 5_120, &mut output).0.into_device();
+        let device = {
+            let progress = Progress::new(&mut screen);
+            let device = Shown::new(MemDevice::new(alloc), &progress);
+            new_on(device, 5_120, &mut output).0.into_device()
+        };
         let found = report_on(alloc, device, Report::Counts, &mut output, &mut screen).1;
         assert!(rt; found.is_ok());
         let said = String::from_utf8(screen.into_said())?;
