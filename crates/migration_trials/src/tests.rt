@@ -1,9 +1,12 @@
 //! The typed file becomes one of today's, and each change of it alone is refused with its number.
 
+ghost use Rattle.std.specs.Prelude.{◌≡◌, []};
+
 use crate::old_file::{PAGES, ROOT, WRITTEN, old_file, payload_of};
 use bucket_page::ShaKey;
 use file_check::{CheckFault, Checked, check};
-use migration::{Migrated, MigrationFault, migrate};
+use directory::{OLDER_LAYOUT, layouts_are_right};
+use migration::{Copied, CopyFault, Target, copy, migrated_pages};
 use page_device::{FaultyDevice, MemDevice, PAGE_BYTES, PAYLOAD_BYTES, PageDevice, seal};
 use queue_model::{Permissions, System};
 use record_file::format;
@@ -61,17 +64,26 @@ fn changed(rt: &impl Abort, alloc: Global, edit: Edit) -> Result<MemDevice, Fail
     Ok(device)
 }
 
-/// What becomes of a file; where a growth was refused it is migrated once more.
-fn migrates<O: PageDevice>(alloc: Global, old: O) -> Migrated<O, MemDevice> {
-    let Migrated { old, new, found } = migrate(alloc, old, MemDevice::new(alloc), ShaKey);
+/// What becomes of a file of version 1.
+fn migrate<O: PageDevice, N: PageDevice>(alloc: Global, old: O, device: N) -> Copied<O, N>
+    requires { N.content device ≡ [] }
+{
+    layouts_are_right();
+    let pages = migrated_pages(old.pages());
+    copy(alloc, &OLDER_LAYOUT, old, Target { device, pages }, ShaKey)
+}
+
+/// The same; where a growth was refused it is migrated once more.
+fn migrates<O: PageDevice>(alloc: Global, old: O) -> Copied<O, MemDevice> {
+    let Copied { old, new, found } = migrate(alloc, old, MemDevice::new(alloc));
     if number(&found) == faults::NO_MEMORY {
-        return migrate(alloc, old, MemDevice::new(alloc), ShaKey);
+        return migrate(alloc, old, MemDevice::new(alloc));
     }
-    Migrated { old, new, found }
+    Copied { old, new, found }
 }
 
 /// The number of what a migration came to, 0 where it answered.
-fn number(found: &Result<System, MigrationFault>) -> u8 {
+fn number(found: &Result<System, CopyFault>) -> u8 {
     match found {
         Ok(_) => 0,
         Err(fault) => fault.number(),
@@ -124,7 +136,7 @@ fn is_the_scripts(rt: &impl Abort, system: &System) {
 #[test]
 fn the_typed_file_becomes_one_of_todays(rt: HostRuntime) -> Result<(), Fail> {
     let alloc = rt.alloc();
-    let Migrated { old, new, found } = migrates(alloc, old_file(alloc)?);
+    let Copied { old, new, found } = migrates(alloc, old_file(alloc)?);
     assert_eq!(rt; number(&found), 0);
     if let Ok(system) = &found {
         is_the_scripts(&rt, system);
@@ -221,7 +233,7 @@ fn files_that_are_not_of_version_1_are_refused(rt: HostRuntime) -> Result<(), Fa
     assert_eq!(rt; number(&migrates(alloc, today).found), 42);
     let mut cut = MemDevice::new(alloc);
     for page in 0..PAGES {
-        let Migrated { old, new: _, found } = migrates(alloc, cut);
+        let Copied { old, new: _, found } = migrates(alloc, cut);
         assert_eq!(rt; number(&found), 22, "{page} pages");
         cut = old;
         cut.extend(&seal(page, &payload_of(page)))?;
@@ -238,7 +250,7 @@ fn each_transfer_of_the_old_file_fails_in_turn(rt: HostRuntime) -> Result<(), Fa
     let alloc = rt.alloc();
     for nth in 1..=u64::from(PAGES) + 2 {
         let old = FaultyDevice::new(old_file(alloc)?, nth);
-        let Migrated { old, new: _, found } = migrates(alloc, old);
+        let Copied { old, new: _, found } = migrates(alloc, old);
         let want = if nth <= u64::from(PAGES) { 20 } else { 0 };
         assert_eq!(rt; (old.faults(), number(&found)), (1, want), "{nth}");
         let mut old = old.into_inner();
@@ -257,7 +269,7 @@ fn a_transfer_of_the_new_file_fails(rt: HostRuntime) -> Result<(), Fail> {
         531, 532,
     ] {
         let new = FaultyDevice::new(MemDevice::new(alloc), nth);
-        let Migrated { old, new, found } = migrate(alloc, old_file(alloc)?, new, ShaKey);
+        let Copied { old, new, found } = migrate(alloc, old_file(alloc)?, new);
         let mut old = old;
         is_the_typed_file(&rt, &mut old)?;
         match number(&found) {

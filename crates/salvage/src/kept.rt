@@ -46,8 +46,7 @@ pub(crate) fn put_together(
         entries,
         messages,
         mut losses,
-        read: _,
-        pages: _,
+        ..
     } = found;
     let mut parts = parts_of(alloc, entries, &mut losses)?;
     add_messages(alloc, &mut parts, messages, &mut losses)?;
