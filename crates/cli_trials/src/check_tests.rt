@@ -162,10 +162,12 @@ const NOT_OF_QUEUES: &str =
 const PART: &str =
     "msgq: checked/queues: it can't be opened: it is cut: it has fewer pages than its \
     header says, or a part of one\n\
-    msgq: checked/queues: no command mends it: put a copy in its place\n";
+    msgq: checked/queues: no command mends it: put a copy in its place, or have 'msgq salvage' make a \
+    new file of what can be read\n";
 
 const CUT: &str = "msgq: checked/queues: it is wrong: the file is cut\n\
-    msgq: checked/queues: no command mends it: put a copy in its place\n";
+    msgq: checked/queues: no command mends it: put a copy in its place, or have 'msgq salvage' make a \
+    new file of what can be read\n";
 
 const EMPTY: &str = "msgq: checked/queues: it is wrong: the file is cut\n\
     msgq: checked/queues: it does not begin as a file of message queues does\n";

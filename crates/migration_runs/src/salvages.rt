@@ -192,7 +192,9 @@ where
             stage: Stage::Checking,
             fault: fault.number(),
         };
-        advise(rt, old, Ending::Failed(failure), errors);
+        if fault == SalvageFault::BadVersion {
+            advise(rt, old, Ending::Failed(failure), errors);
+        }
         return Stage::Checking;
     };
     match refusal {

@@ -47,7 +47,11 @@ where
             "it is of version 1: 'msgq migrate' makes a file of today's version of it"
         }
         Beginning::Other if is_version => "no command of this program reads its version",
-        Beginning::Older | Beginning::Other => "no command mends it: put a copy in its place",
+        Beginning::Older => "no command mends it: put a copy in its place",
+        Beginning::Other => {
+            "no command mends it: put a copy in its place, or have 'msgq salvage' make a new file of \
+            what can be read"
+        }
         Beginning::Unread => return,
     };
     let file = Plain(file);
