@@ -16,7 +16,7 @@ use msgq_cli::{
     create_file, fail, print_deed, print_unread, remove_made, warn_of_journal,
 };
 use page_device::{FileDevice, MAX_PAGES, PAGE_BYTES, PageDevice, SystemFile};
-use salvage::{Losses, Rescue, SalvageFault, Salvaged, salvage};
+use salvage::{Losses, Pages, Rescue, SalvageFault, Salvaged, salvage};
 use std::alloc::Global;
 use std::fs::{self, File, OpenOptions};
 use std::io::{self, ErrorKind, IsTerminal, Write};
@@ -140,7 +140,14 @@ fn print_rescue<W: Write + Drop>(rescue: &Rescue, output: &mut Output<W>)
         ++ unread_texts rescue.now.losses.unread.items) }
 {
     print_deed(Deed::Salvaged, &rescue.system, output);
-    for pages in &rescue.losses.unread {
+    print_pages(&rescue.losses.unread, output);
+}
+
+/// Prints a line for each run of pages.
+fn print_pages<W: Write + Drop>(unread: &[Pages], output: &mut Output<W>)
+    ensures { Prints output.old output.new (unread_texts unread.now) }
+{
+    for pages in unread {
         print_unread(pages.first, pages.last, output);
     }
 }
@@ -149,10 +156,22 @@ fn print_rescue<W: Write + Drop>(rescue: &Rescue, output: &mut Output<W>)
 fn tell_losses<E: Write>(file: &str, losses: &Losses, errors: &mut E) {
     let file = Plain(file);
     for (count, what) in [
-        (losses.wrong, "records are none of their kind, and were left out"),
-        (losses.twice, "records of queues and messages stand on a lower page too, which counts"),
-        (losses.beyond, "queues and messages are past the limits, and were left out"),
-        (losses.keyless, "queues have the key of another, and are private now"),
+        (
+            losses.wrong,
+            "records are none of their kind, and were left out",
+        ),
+        (
+            losses.twice,
+            "records of queues and messages stand on a lower page too, which counts",
+        ),
+        (
+            losses.beyond,
+            "queues and messages are past the limits, and were left out",
+        ),
+        (
+            losses.keyless,
+            "queues have the key of another, and are private now",
+        ),
     ] {
         if count > 0 {
             let _ = writeln!(errors, "msgq: {file}: {count} {what}");

@@ -10,7 +10,7 @@ use bucket_page::ShaKey;
 use directory::{LAYOUT, LEAST_PAGES, layouts_are_right};
 use migration::{Copied, Made, Target, copy, make};
 use page_device::{FaultyDevice, MAX_PAGES, MemDevice, PageDevice};
-use queue_model::{Applied, Answer, Body, Call, Caller, GetArguments, SendArguments, System};
+use queue_model::{Answer, Applied, Body, Call, Caller, GetArguments, SendArguments, System};
 use std::alloc::Global;
 use std::process::Abort;
 use std::test::Fail;
@@ -85,7 +85,10 @@ fn a_file_with_too_few_pages_is_refused(rt: HostRuntime) -> Result<(), Fail> {
     let system = five_messages(&rt, alloc)?;
     let device = MemDevice::new(alloc);
     let target = Target { device, pages: 300 };
-    let Made { device: mut file, made } = make(alloc, target, &ShaKey, &system);
+    let Made {
+        device: mut file,
+        made,
+    } = make(alloc, target, &ShaKey, &system);
     if made.is_err() || system.messages() < 5 {
         return Ok(());
     }
@@ -107,7 +110,10 @@ fn a_transfer_that_fails_is_told(rt: HostRuntime) -> Result<(), Fail> {
     for nth in [1, 130, 260] {
         let old = FaultyDevice::new(file, nth);
         let Copied { old, new: _, found } = copies(alloc, old, MemDevice::new(alloc), 300);
-        assert!(rt; number(&found) == 20 || number(&found) == faults::NO_MEMORY, "{nth}");
+        assert!(rt;
+            number(&found) == 20 || number(&found) == faults::NO_MEMORY,
+            "{nth}"
+        );
         file = old.into_inner();
     }
     Ok(())

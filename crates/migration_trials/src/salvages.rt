@@ -6,7 +6,7 @@ use bucket_page::ShaKey;
 use directory::{LEAST_PAGES, ROOT_PAGE};
 use migration::Target;
 use page_device::{MemDevice, PAGE_BYTES, PageDevice, Payload, seal, unseal};
-use salvage::{Losses, Pages, Rescue, Salvaged, SalvageFault, salvage};
+use salvage::{Losses, Pages, Rescue, SalvageFault, Salvaged, salvage};
 use std::alloc::Global;
 use std::process::Abort;
 use std::test::Fail;
@@ -19,12 +19,18 @@ fn file(alloc: Global) -> Result<MemDevice, Fail> {
 /// What is salvaged of a file; where a growth was refused once more.
 fn salvages(alloc: Global, file: MemDevice) -> Result<Rescue, SalvageFault> {
     let device = MemDevice::new(alloc);
-    let target = Target { device, pages: LEAST_PAGES };
+    let target = Target {
+        device,
+        pages: LEAST_PAGES,
+    };
     let Salvaged { old, new: _, found } = salvage(alloc, file, target, &ShaKey);
     match found {
         Err(fault) if fault.number() == faults::NO_MEMORY => {
             let device = MemDevice::new(alloc);
-            let target = Target { device, pages: LEAST_PAGES };
+            let target = Target {
+                device,
+                pages: LEAST_PAGES,
+            };
             salvage(alloc, old, target, &ShaKey).found
         }
         found => found,
@@ -33,8 +39,15 @@ fn salvages(alloc: Global, file: MemDevice) -> Result<Rescue, SalvageFault> {
 
 /// Nothing was left out but these pages.
 fn lacks_only(rt: &impl Abort, losses: &Losses, unread: &[Pages]) {
-    assert!(rt; losses.unread.as_slice() == unread, "{:?}", losses.unread.as_slice());
-    assert_eq!(rt; (losses.wrong, losses.twice, losses.beyond, losses.keyless), (0, 0, 0, 0));
+    assert!(rt;
+        losses.unread.as_slice() == unread,
+        "{:?}",
+        losses.unread.as_slice()
+    );
+    assert_eq!(rt;
+        (losses.wrong, losses.twice, losses.beyond, losses.keyless),
+        (0, 0, 0, 0)
+    );
     assert_eq!(rt; losses.made.len(), 0);
 }
 
@@ -65,7 +78,10 @@ fn what_stands_on_other_pages_is_salvaged(rt: HostRuntime) -> Result<(), Fail> {
             return Ok(());
         };
         is_the_scripts(&rt, &rescue.system);
-        let unread = [Pages { first: page, last: page }];
+        let unread = [Pages {
+            first: page,
+            last: page,
+        }];
         lacks_only(&rt, &rescue.losses, unread.as_slice());
     }
     Ok(())
@@ -86,7 +102,10 @@ fn pages_behind_the_end_are_told(rt: HostRuntime) -> Result<(), Fail> {
         return Ok(());
     };
     is_the_scripts(&rt, &rescue.system);
-    let unread = [Pages { first: 258, last: 259 }];
+    let unread = [Pages {
+        first: 258,
+        last: 259,
+    }];
     lacks_only(&rt, &rescue.losses, unread.as_slice());
     Ok(())
 }

@@ -12,7 +12,11 @@ use std::alloc::Global;
 use std::process::Abort;
 
 /// What becomes of a file of version 1.
-pub(crate) fn migrate<O: PageDevice, N: PageDevice>(alloc: Global, old: O, device: N) -> Copied<O, N>
+pub(crate) fn migrate<O: PageDevice, N: PageDevice>(
+    alloc: Global,
+    old: O,
+    device: N,
+) -> Copied<O, N>
     requires { N.content device ≡ [] }
 {
     layouts_are_right();

@@ -74,11 +74,21 @@ fn main(rt: HostRuntime) -> ExitCode {
         }
         Ok(Task::Migrate { old, new }) => {
             let size = Size::Migrated;
-            copy_file(&rt, CopyRequest { old, new, size }, &mut output, &mut errors)
+            copy_file(
+                &rt,
+                CopyRequest { old, new, size },
+                &mut output,
+                &mut errors,
+            )
         }
         Ok(Task::Copy { old, new, pages }) => {
             let size = Size::Pages(pages);
-            copy_file(&rt, CopyRequest { old, new, size }, &mut output, &mut errors)
+            copy_file(
+                &rt,
+                CopyRequest { old, new, size },
+                &mut output,
+                &mut errors,
+            )
         }
         Ok(Task::Salvage { old, new, pages }) => {
             let request = SalvageRequest { old, new, pages };

@@ -147,7 +147,8 @@ impl<D: PageDevice, E: Write> PageDevice for Shown<'_, '_, D, E> {
         if self.progress.tells(self.count, pages) {
             self.has_line = true;
             let written = self.count;
-            self.progress.show(format_args!("msgq: wrote {written} pages"));
+            self.progress
+                .show(format_args!("msgq: wrote {written} pages"));
         }
         self.device.write(page, bytes)
     }
