@@ -19,7 +19,7 @@ use page_device::{FileDevice, MAX_PAGES, PAGE_BYTES, PageDevice, SystemFile};
 use salvage::{Losses, Pages, Rescue, SalvageFault, Salvaged, salvage};
 use std::alloc::Global;
 use std::fs::{self, File, OpenOptions};
-use std::io::{self, ErrorKind, IsTerminal, Write};
+use std::io::{self, IsTerminal, Write};
 use std::rt::Files;
 
 /// A new file that is asked for, of what can be read of another.
@@ -59,13 +59,9 @@ where
         return fail(Stage::Making, faults::DEVICE, output);
     };
     warn_of_journal(rt, old, errors);
-    let device = match open_rest(rt, old) {
-        Ok(device) => device,
-        Err(error) => {
-            complain(old, "it can't be opened", &error, errors);
-            remove_made(rt, new, errors);
-            return fail(Stage::Opening, faults::DEVICE, output);
-        }
+    let Some(device) = open_rest(rt, old, errors) else {
+        remove_made(rt, new, errors);
+        return fail(Stage::Opening, faults::DEVICE, output);
     };
     let Ok((heard, refusal)) = Heard::new(rt.alloc(), SystemFile::new(made)) else {
         remove_made(rt, new, errors);
@@ -89,23 +85,37 @@ where
     }
 }
 
-/// Opens a file to read it alone, whatever its length is. Where it ends in the midst of a page, a
-/// read of that fails.
-fn open_rest<R>(rt: &R, file: &str) -> io::Result<FileDevice<SystemFile<File>>>
+/// Opens a file to read it alone, whatever its length is. Why one is not opened is said.
+fn open_rest<R, E>(rt: &R, file: &str, errors: &mut E) -> Option<FileDevice<SystemFile<File>>>
+where
+    R: Files<File = File>,
+    E: Write,
+{
+    match pages_of(rt, file) {
+        Ok(Some(device)) => return Some(device),
+        Ok(None) => complain(file, "it can't be opened", "it is no file", errors),
+        Err(error) => complain(file, "it can't be opened", &error, errors),
+    }
+    None
+}
+
+/// The pages of a file; none where this is no file. Where it ends in the midst of a page, a read of
+/// that fails.
+fn pages_of<R>(rt: &R, file: &str) -> io::Result<Option<FileDevice<SystemFile<File>>>>
 where
     R: Files<File = File>,
 {
     // A fifo would wait for a writer.
     let found = fs::metadata(rt, file)?;
     if !found.is_file() {
-        return Err(ErrorKind::Unsupported.into());
+        return Ok(None);
     }
     let mut how = OpenOptions::new();
     how.read(true);
     let opened = how.open(rt, file)?;
     let pages = found.len().div_ceil(PAGE_BYTES as u64);
     let pages = u32::try_from(pages).unwrap_or(MAX_PAGES).min(MAX_PAGES);
-    Ok(FileDevice::new(SystemFile::new(opened), pages))
+    Ok(Some(FileDevice::new(SystemFile::new(opened), pages)))
 }
 
 /// Makes the new file on a device, and shows on a terminal how far it is.
@@ -140,7 +150,7 @@ fn print_rescue<W: Write + Drop>(rescue: &Rescue, output: &mut Output<W>)
         ++ unread_texts rescue.now.losses.unread.items) }
 {
     print_deed(Deed::Salvaged, &rescue.system, output);
-    print_pages(&rescue.losses.unread, output);
+    print_pages(rescue.losses.unread.as_slice(), output);
 }
 
 /// Prints a line for each run of pages.
@@ -178,6 +188,7 @@ fn tell_losses<E: Write>(file: &str, losses: &Losses, errors: &mut E) {
         }
     }
     for id in &losses.made {
+        let id = *id;
         let _ = writeln!(
             errors,
             "msgq: {file}: the record of queue {id} is lost: it was made anew, of user 0, with mode \

@@ -6,7 +6,7 @@ ghost use Rattle.msgq_cli.specs.Progress.{device_of};
 
 use page_device::{DeviceFault, Page, PageDevice};
 use std::cell::RefCell;
-use std::fmt;
+use std::fmt::Display;
 use std::io::{IsTerminal, Write};
 
 /// A file of more pages is large.
@@ -43,7 +43,7 @@ impl<E: Write> Progress<'_, E> {
     }
 
     /// Writes the line anew.
-    fn show(&self, words: fmt::Arguments) {
+    fn show<D: Display + Drop>(&self, words: D) {
         if let Ok(mut errors) = self.errors.try_borrow_mut() {
             let _ = errors.write_all(CLEARED);
             let _ = errors.write_fmt(words);

@@ -53,9 +53,7 @@ pub(crate) fn gather<D: PageDevice>(alloc: Global, device: &mut D) -> Result<Fou
             SalvageFault::Unread
         });
     }
-    for page in pages..found.pages {
-        found.losses.lose_page(page)?;
-    }
+    found.lose_pages(pages)?;
     Ok(found)
 }
 
@@ -71,6 +69,14 @@ impl Found {
             read: 0,
             pages: 0,
         }
+    }
+
+    /// The pages that the header tells of, from this on, can't be read.
+    fn lose_pages(&mut self, first: u32) -> Result<(), NoMemory> {
+        for page in first..self.pages {
+            self.losses.lose_page(page)?;
+        }
+        Ok(())
     }
 
     /// Adds what stands on a page, or that it can't be read. A header of another version is refused.

@@ -10,5 +10,4 @@ mod salvaged;
 
 pub use fault::SalvageFault;
 pub use losses::{Losses, Pages};
-pub use migration;
 pub use salvaged::{Rescue, Salvaged, salvage};
