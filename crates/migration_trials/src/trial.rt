@@ -4,7 +4,7 @@ ghost use Rattle.std.specs.Prelude.{◌≡◌, []};
 
 use bucket_page::ShaKey;
 use directory::{OLDER_LAYOUT, layouts_are_right};
-use file_check::CheckFault;
+use file_check::{CheckFault, Checked, check};
 use migration::{Copied, CopyFault, Target, copy, migrated_pages};
 use page_device::{MemDevice, PageDevice};
 use queue_model::{Permissions, System};
@@ -38,6 +38,15 @@ pub(crate) fn number(found: &Result<System, CopyFault>) -> u8 {
     match found {
         Ok(_) => 0,
         Err(fault) => fault.number(),
+    }
+}
+
+/// What a check finds; where a growth was refused once more.
+pub(crate) fn checks<D: PageDevice>(alloc: Global, device: D) -> Checked<D> {
+    let Checked { device, found } = check(alloc, device, ShaKey);
+    match found {
+        Err(fault) if fault.number() == faults::NO_MEMORY => check(alloc, device, ShaKey),
+        found => Checked { device, found },
     }
 }
 

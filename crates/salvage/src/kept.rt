@@ -1,6 +1,6 @@
 //! What was found is put together as a system. What breaks a limit of systems is left out.
 
-ghost use Rattle.std.specs.Prelude.{◌≡◌, false, IfOk, IfSome};
+ghost use Rattle.std.specs.Prelude.{◌≡◌, ◌<◌, false, length, IfOk, IfSome};
 
 use crate::found::{Found, FoundMessage};
 use crate::losses::Losses;
@@ -27,6 +27,7 @@ struct Part {
 }
 
 /// What becomes of a message.
+#[derive(Clone, Copy, Debug, PartialEq, Eq)]
 enum Taking {
     Taken,
     Twice,
@@ -115,7 +116,9 @@ fn add_messages(
 }
 
 /// The place of the part of a queue, which is made where there is none; none past the limit.
-fn place_of(alloc: Global, parts: &mut Vec<Part>, id: u32) -> Result<Option<usize>, NoMemory> {
+fn place_of(alloc: Global, parts: &mut Vec<Part>, id: u32) -> Result<Option<usize>, NoMemory>
+    ensures { IfOk result (λ found. IfSome found (λ place. place < length parts.new.items)) }
+{
     match parts.binary_search_by_key(&id, |part| part.id) {
         Ok(place) => Ok(Some(place)),
         Err(_) if parts.len() >= MAX_QUEUES as usize => Ok(None),
