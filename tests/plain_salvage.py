@@ -43,10 +43,10 @@ def is_other_page(payload):
 def read(data):
     """The records that can be read, each with its key, in order; and the pages that can't."""
     records, unread, said = [], [], 0
-    pages = [data[at:at + PAGE] for at in range(0, len(data), PAGE)][:MOST]
+    pages = [data[at:at + PAGE] for at in range(0, len(data) - PAGE + 1, PAGE)][:MOST]
     for page, whole in enumerate(pages):
         payload = whole[:PAYLOAD]
-        if len(whole) < PAGE or whole != seal(page, payload):
+        if whole != seal(page, payload):
             unread.append(page)
         elif page == 0:
             said = header_pages(payload)

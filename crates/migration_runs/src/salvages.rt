@@ -99,8 +99,7 @@ where
     None
 }
 
-/// The pages of a file; none where this is no file. Where it ends in the midst of a page, a read of
-/// that fails.
+/// The whole pages of a file; none where this is no file.
 fn pages_of<R>(rt: &R, file: &str) -> io::Result<Option<FileDevice<SystemFile<File>>>>
 where
     R: Files<File = File>,
@@ -113,7 +112,7 @@ where
     let mut how = OpenOptions::new();
     how.read(true);
     let opened = how.open(rt, file)?;
-    let pages = found.len().div_ceil(PAGE_BYTES as u64);
+    let pages = found.len() / PAGE_BYTES as u64;
     let pages = u32::try_from(pages).unwrap_or(MAX_PAGES).min(MAX_PAGES);
     Ok(Some(FileDevice::new(SystemFile::new(opened), pages)))
 }
