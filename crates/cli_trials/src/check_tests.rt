@@ -4,8 +4,8 @@ use crate::file_tests::{changed, spoilt};
 use crate::run_tests::{FIRST, new_device};
 use crate::trial::{Screen, buffered, printed};
 use msgq_cli::{
-    Ending, Report, ReportRequest, Shown, advise, check_on, new_file, new_on, print_found,
-    report_file,
+    Ending, Progress, Report, ReportRequest, Shown, advise, check_on, new_file, new_on,
+    print_found, report_file,
 };
 use page_device::{FaultyDevice, MemDevice, PageDevice};
 use std::fs;
@@ -66,8 +66,11 @@ fn a_terminal_shows_how_far_it_is(rt: HostRuntime) -> Result<(), Fail> {
     for is_terminal in [true, false] {
         let mut output = buffered(alloc)?;
         let mut screen = Screen::new(alloc, is_terminal);
-        let device = Shown::new(MemDevice::new(alloc), &mut screen);
-        let device = new_on(device, 5_120, &mut output).0.into_device();
+        let device = {
+            let progress = Progress::new(&mut screen);
+            let device = Shown::new(MemDevice::new(alloc), &progress);
+            new_on(device, 5_120, &mut output).0.into_device()
+        };
         let found = check_on(alloc, device, &mut screen).1;
         assert!(rt; found.is_ok());
         let said = String::from_utf8(screen.into_said())?;
@@ -161,10 +164,12 @@ const NOT_OF_QUEUES: &str =
 const PART: &str =
     "msgq: checked/queues: it can't be opened (fault 22): its length is no multiple of 4096, the \
     bytes of a page\n\
-    msgq: checked/queues: no command mends it: put a copy in its place\n";
+    msgq: checked/queues: no command mends it: put a copy in its place, or have 'msgq salvage' make a \
+    new file of what can be read\n";
 
 const CUT: &str = "msgq: checked/queues: it is wrong (fault 22): the file is cut\n\
-    msgq: checked/queues: no command mends it: put a copy in its place\n";
+    msgq: checked/queues: no command mends it: put a copy in its place, or have 'msgq salvage' make a \
+    new file of what can be read\n";
 
 const EMPTY: &str = "msgq: checked/queues: it is wrong (fault 22): the file is cut\n\
     msgq: checked/queues: it is no file of message queues\n";

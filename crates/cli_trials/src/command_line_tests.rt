@@ -67,6 +67,11 @@ fn each_command_line_is_read_or_wrong(rt: HostRuntime) -> Result<(), Fail> {
     reads(&rt, "msgq stat q -v", tells(Report::Queues, true))?;
     let migrate = Task::Migrate { old: "q", new: "r" };
     reads(&rt, "msgq migrate q r", Some(migrate))?;
+    let (old, new, pages) = ("q", "r", 300);
+    let copy = Task::Copy { old, new, pages };
+    reads(&rt, "msgq copy q r 300", Some(copy))?;
+    let salvage = Task::Salvage { old, new, pages };
+    reads(&rt, "msgq salvage q r 300", Some(salvage))?;
     for line in [
         "msgq new q 257",
         "msgq new q 65537",
@@ -83,6 +88,10 @@ fn each_command_line_is_read_or_wrong(rt: HostRuntime) -> Result<(), Fail> {
         "msgq stat q q",
         "msgq migrate q",
         "msgq migrate q r 300",
+        "msgq copy q r",
+        "msgq copy q r 257",
+        "msgq salvage q r 65537",
+        "msgq salvage q 300",
         "msgq run -v q s",
         "msgq run --wait q s",
         "msgq run --wait -1 q s",

@@ -1,11 +1,11 @@
 //! Message queues (XSI, POSIX.1-2017) kept in one file: makes files, runs scripts of calls on
-//! them, checks them, and migrates older ones.
+//! them, checks them, and makes new ones of them.
 
 #![tactic(auto)]
 
 use clap::Error;
 use clap::error::ErrorKind;
-use migration_runs::migrate_file;
+use migration_runs::{CopyRequest, SalvageRequest, Size, copy_file, salvage_file};
 use script_runs::msgq_cli::{
     Output, Task, advise, complain, complain_of_lines, new_file, print_fault, read_command_line,
     report_file,
@@ -70,7 +70,28 @@ fn main(rt: HostRuntime) -> ExitCode {
             advise(&rt, file.path, ending, &mut errors);
             ending
         }
-        Ok(Task::Migrate { old, new }) => migrate_file(&rt, old, new, &mut output, &mut errors),
+        Ok(Task::Migrate { old, new }) => {
+            let size = Size::Migrated;
+            copy_file(
+                &rt,
+                CopyRequest { old, new, size },
+                &mut output,
+                &mut errors,
+            )
+        }
+        Ok(Task::Copy { old, new, pages }) => {
+            let size = Size::Pages(pages);
+            copy_file(
+                &rt,
+                CopyRequest { old, new, size },
+                &mut output,
+                &mut errors,
+            )
+        }
+        Ok(Task::Salvage { old, new, pages }) => {
+            let request = SalvageRequest { old, new, pages };
+            salvage_file(&rt, request, &mut output, &mut errors)
+        }
         Ok(Task::Report(request)) => {
             let ending = report_file(&rt, request, &mut output, &mut errors);
             advise(&rt, request.file, ending, &mut errors);

@@ -48,9 +48,14 @@ where
         }
         Beginning::Other if is_version => "no command of this program reads its version",
         Beginning::Other if fault == faults::BAD_HEADER => {
-            "it has more pages than its header says, or the header is wrong: put a copy in its place"
+            "it has more pages than its header says, or the header is wrong: put a copy in its place, \
+             or have 'msgq salvage' make a new file of what can be read"
         }
-        Beginning::Older | Beginning::Other => "no command mends it: put a copy in its place",
+        Beginning::Older => "no command mends it: put a copy in its place",
+        Beginning::Other => {
+            "no command mends it: put a copy in its place, or have 'msgq salvage' make a new file of \
+            what can be read"
+        }
         Beginning::Unread => return,
     };
     let file = Plain(file);

@@ -14,7 +14,7 @@ use crate::files::open_to_read;
 use crate::fullness::read_fullness;
 use crate::output::Output;
 use crate::plain::Plain;
-use crate::progress::Shown;
+use crate::progress::{Progress, Shown};
 use crate::refusals::fail;
 use crate::reply::print_fault;
 use crate::reports::{Report, ReportRequest};
@@ -111,7 +111,7 @@ fn trace_of<R: Files>(rt: &R, file: &str) -> Option<Trace> {
 }
 
 /// Says what a run that was cut off has left, and what the next one does.
-fn warn_of_journal<R, E>(rt: &R, file: &str, errors: &mut E)
+pub fn warn_of_journal<R, E>(rt: &R, file: &str, errors: &mut E)
 where
     R: Files<File = File> + AllocGlobal,
     E: Write,
@@ -146,7 +146,8 @@ pub fn check_on<D: PageDevice, E: Write + IsTerminal>(
     ensures honest { D.is_honest result.0 ≡ D.is_honest device }
     ensures cause { HasCheckCause (D.fault_count device) (D.fault_count result.0) result.1 }
 {
-    let Checked { device, found } = check(alloc, Shown::new(device, errors), ShaKey);
+    let progress = Progress::new(errors);
+    let Checked { device, found } = check(alloc, Shown::new(device, &progress), ShaKey);
     (device.into_device(), found)
 }
 

@@ -51,6 +51,24 @@ pub enum Task<'a> {
         /// Where the new one is made.
         new: &'a str,
     },
+    /// A new file of another size, with the same system.
+    Copy {
+        /// The file, which is only read.
+        old: &'a str,
+        /// Where the new one is made.
+        new: &'a str,
+        /// How many pages the new one has.
+        pages: u32,
+    },
+    /// A new file of what can be read of one that is wrong.
+    Salvage {
+        /// The file, which is only read.
+        old: &'a str,
+        /// Where the new one is made.
+        new: &'a str,
+        /// How many pages the new one has.
+        pages: u32,
+    },
     /// A report of the system that a file holds.
     Report(ReportRequest<'a>),
 }
@@ -74,6 +92,9 @@ const SCHEDULE: &str = "SCHEDULE";
 const VERBOSE: &str = "verbose";
 
 const WAIT: &str = "wait";
+
+/// What is said of PAGES.
+const SIZE: &str = "How many pages of 4,096 bytes it has: 258 to 65,536";
 
 /// After the help of the program.
 const ENDING: &str = "\
@@ -144,6 +165,28 @@ NEW that was made is removed.
 Exit status 0, 1 where a fault was printed or standard output refused a write, 2 where the
 command line is wrong.";
 
+/// After the help of `copy`.
+const COPY_PRINTS: &str = "\
+Reads OLD and makes NEW, a file of PAGES pages, more or fewer, with the same queues and messages:
+serials, moments, owners and the next id are those of OLD, which is not written.
+Prints 'copied QUEUES MESSAGES'; 'fault 20' where NEW exists or the system refuses to make it; else
+'fault N' for the first thing that is wrong with OLD, or 50 where PAGES are too few for what it
+holds: then the NEW that was made is removed.
+Exit status 0, 1 where a fault was printed or standard output refused a write, 2 where the
+command line is wrong.";
+
+/// After the help of `salvage`.
+const SALVAGE_PRINTS: &str = "\
+Reads OLD, a file that 'check' refuses, and makes NEW, a file of PAGES pages, of each message whose
+page has its digest and whose record is right, in queues with their ids, in order of serial. OLD is
+not written, and nothing is promised of what is missing in NEW.
+Prints 'salvaged QUEUES MESSAGES', and below it 'unread FIRST LAST' for pages of OLD that can't be
+read; standard error says what else was left out. 'fault 20' where NEW exists or the system refuses
+to make it, 21 or 22 where no page of OLD can be read, 42 where it is of another version, 50 where
+PAGES are too few: then the NEW that was made is removed.
+Exit status 0, 1 where a fault was printed or standard output refused a write, 2 where the
+command line is wrong.";
+
 /// What is wrong with two texts that would both be that of standard input.
 const ONE_INPUT: &str = "SCRIPT and SCHEDULE can't both be standard input";
 
@@ -199,10 +242,16 @@ pub fn read_command_line<'a>(alloc: Global, words: &'a [String]) -> Result<Task<
         }));
     }
     let word = arguments.get_str(PAGES).unwrap_or("");
-    match pages(word.as_bytes()) {
-        Some(pages) => Ok(Task::New { file, pages }),
-        None => Err(no_pages(alloc, word)?),
-    }
+    let Some(pages) = pages(word.as_bytes()) else {
+        return Err(no_pages(alloc, name, word)?);
+    };
+    let old = arguments.get_str(OLD).unwrap_or("");
+    let new = arguments.get_str(NEW).unwrap_or("");
+    Ok(match name {
+        "copy" => Task::Copy { old, new, pages },
+        "salvage" => Task::Salvage { old, new, pages },
+        _ => Task::New { file, pages },
+    })
 }
 
 /// The file that is changed, and how long its opening waits.
@@ -214,13 +263,17 @@ fn opening<'a>(arguments: &ArgMatches<'a>) -> Opening<'a> {
 }
 
 /// What is said of a word that is no number of pages.
-fn no_pages(alloc: Global, word: &str) -> Result<Error, AllocError> {
+fn no_pages(alloc: Global, name: &str, word: &str) -> Result<Error, AllocError> {
     let word = Plain(word);
     let why = format!(in alloc;
         "'{word}' is no PAGES, a decimal number from 258 to 65536, without a sign"
     )?;
-    let mut new = new_command(alloc)?.bin_name("msgq new")?;
-    new.error(ErrorKind::ValueValidation, why.as_str())
+    let mut command = match name {
+        "copy" => copy_command(alloc)?.bin_name("msgq copy")?,
+        "salvage" => salvage_command(alloc)?.bin_name("msgq salvage")?,
+        _ => new_command(alloc)?.bin_name("msgq new")?,
+    };
+    command.error(ErrorKind::ValueValidation, why.as_str())
 }
 
 /// The number of pages that a word asks for, where a file can have so many.
@@ -249,6 +302,8 @@ fn command<'a>(alloc: Global) -> Result<Command<'a>, AllocError> {
     )?;
     let stat = report_command(alloc, "stat", "Shows the queues of a file", STAT_PRINTS)?;
     let migrate = migrate_command(alloc)?;
+    let copy = copy_command(alloc)?;
+    let salvage = salvage_command(alloc)?;
     Command::new(alloc, "msgq")
         .version(VERSION)
         .about("Message queues (XSI, POSIX.1-2017) kept in one file")
@@ -258,12 +313,14 @@ fn command<'a>(alloc: Global) -> Result<Command<'a>, AllocError> {
         .subcommand(replay)?
         .subcommand(check)?
         .subcommand(stat)?
-        .subcommand(migrate)
+        .subcommand(migrate)?
+        .subcommand(copy)?
+        .subcommand(salvage)
 }
 
 /// `new FILE PAGES`.
 fn new_command<'a>(alloc: Global) -> Result<Command<'a>, AllocError> {
-    let pages = argument(alloc, PAGES).help("How many pages of 4,096 bytes it has: 258 to 65,536");
+    let pages = argument(alloc, PAGES).help(SIZE);
     Command::new(alloc, "new")
         .about("Makes a file of message queues")
         .after_help(NEW_PRINTS)
@@ -313,6 +370,28 @@ fn migrate_command<'a>(alloc: Global) -> Result<Command<'a>, AllocError> {
         .after_help(MIGRATE_PRINTS)
         .arg(argument(alloc, OLD).help("The file of version 1, which is not written"))?
         .arg(new)
+}
+
+/// `copy OLD NEW PAGES`.
+fn copy_command<'a>(alloc: Global) -> Result<Command<'a>, AllocError> {
+    let new = argument(alloc, NEW).help("Where the new file is made; there may be nothing");
+    Command::new(alloc, "copy")
+        .about("Makes a file of another size with the same queues")
+        .after_help(COPY_PRINTS)
+        .arg(argument(alloc, OLD).help("The file, which is not written"))?
+        .arg(new)?
+        .arg(argument(alloc, PAGES).help(SIZE))
+}
+
+/// `salvage OLD NEW PAGES`.
+fn salvage_command<'a>(alloc: Global) -> Result<Command<'a>, AllocError> {
+    let new = argument(alloc, NEW).help("Where the new file is made; there may be nothing");
+    Command::new(alloc, "salvage")
+        .about("Makes a file of what can be read of one that is wrong")
+        .after_help(SALVAGE_PRINTS)
+        .arg(argument(alloc, OLD).help("The file, which is not written"))?
+        .arg(new)?
+        .arg(argument(alloc, PAGES).help(SIZE))
 }
 
 /// A subcommand with the argument FILE, and the flag of a report.

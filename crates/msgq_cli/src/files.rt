@@ -10,7 +10,7 @@ use crate::ending::{Ending, Stage};
 use crate::heard::Heard;
 use crate::output::Output;
 use crate::plain::Plain;
-use crate::progress::Shown;
+use crate::progress::{Progress, Shown};
 use crate::refusals::{fail, read_text};
 use crate::reply::print_made;
 use directory::LEAST_PAGES;
@@ -69,9 +69,13 @@ where
         remove_made(rt, file, errors);
         return fail(Stage::Making, faults::NO_MEMORY, output);
     };
-    let device = Shown::new(FileDevice::new(heard, 0), &mut *errors);
-    let (device, ending) = new_on(device, pages, output);
-    let _ = device.into_device();
+    let ending = {
+        let progress = Progress::new(&mut *errors);
+        let device = Shown::new(FileDevice::new(heard, 0), &progress);
+        let (device, ending) = new_on(device, pages, output);
+        let _ = device.into_device();
+        ending
+    };
     if ending == Ending::Done {
         return ending;
     }

@@ -26,7 +26,7 @@ mod reports;
 mod script;
 
 pub use advice::advise;
-pub use checks::{check_on, print_found, report_file};
+pub use checks::{check_on, print_found, report_file, warn_of_journal};
 pub use command::{Command, DEFAULT_MODE};
 pub use command_line::{Task, read_command_line};
 pub use complaint::{
@@ -44,9 +44,9 @@ pub use line::{Line, SeatIds};
 pub use mistake::{Expected, Mistake, Optional};
 pub use output::Output;
 pub use plain::Plain;
-pub use progress::Shown;
+pub use progress::{Progress, Shown};
 pub use record_file;
 pub use refusals::{fail, read_text, refuse, unread};
 pub use reply::{Reply, print_fault, print_info, print_made};
-pub use reports::{Report, ReportRequest, print_migrated, print_ok, print_system};
+pub use reports::{Deed, Report, ReportRequest, print_deed, print_ok, print_system, print_unread};
 pub use script::{Script, ScriptError, read_script};
