@@ -13,9 +13,10 @@ pub record IsMadeOf (hash : RecordKey → ℕ) (pages : ℕ) (content : List (Li
   pub number : length content ≡ pages
 
 -- both are files of the system, as the check of either says; the older one has this layout
-pub record IsCopied (l : Layout) (hash : RecordKey → ℕ) (pages : ℕ) (old new : List (List ℕ)) (s : State) : Type 0 where
-  pub old : IsFileIn l hash old s
-  pub new : IsMadeOf hash pages new s
+pub record IsCopied (l : Layout) (hash : RecordKey → ℕ) (pages : ℕ) (old new : List (List ℕ))
+    (s : State) : Type 0 where
+  pub older : IsFileIn l hash old s
+  pub made : IsMadeOf hash pages new s
 
 -- what is told of the old file is the first thing that is wrong with it, unless the machine lacked something
 abbrev pub IsToldOfOld : Layout → (RecordKey → ℕ) → List (List ℕ) → CopyFault → Type 0
