@@ -49,7 +49,7 @@ pub fn salvage<O: PageDevice, N: PageDevice, K: PseudoKey>(
     ensures same { O.content result.old ≡ O.content old }
 {
     let mut old = old;
-    let Rescue { system, losses } = match rescue(alloc, &mut old) {
+    let Rescue { system, losses } = match make_rescue(alloc, &mut old) {
         Ok(rescue) => rescue,
         Err(fault) => {
             return Salvaged {
@@ -68,7 +68,7 @@ pub fn salvage<O: PageDevice, N: PageDevice, K: PseudoKey>(
 }
 
 /// What can be read of a file, as a system.
-fn rescue<D: PageDevice>(alloc: Global, device: &mut D) -> Result<Rescue, SalvageFault>
+fn make_rescue<D: PageDevice>(alloc: Global, device: &mut D) -> Result<Rescue, SalvageFault>
     ensures running { IfOk result (λ rescue. rescue.system.stopped ≡ false) }
     ensures same { D.content device.new ≡ D.content device.old }
 {
