@@ -35,6 +35,7 @@ fn a_file_is_copied_to_any_size(rt: HostRuntime) -> Result<(), Fail> {
     let alloc = rt.alloc();
     let mut file = migrates(alloc, old_file(alloc)?).new;
     for pages in [258, 300, 259] {
+        assert!(rt; LEAST_PAGES <= pages && pages <= MAX_PAGES);
         let Copied { old: _, new, found } = copies(alloc, file, MemDevice::new(alloc), pages);
         match &found {
             Ok(system) => is_the_scripts(&rt, system),
@@ -93,6 +94,7 @@ fn a_file_with_too_few_pages_is_refused(rt: HostRuntime) -> Result<(), Fail> {
         return Ok(());
     }
     for (pages, want) in [(258, 50), (259, 50), (300, 0)] {
+        assert!(rt; LEAST_PAGES <= pages && pages <= MAX_PAGES);
         let Copied { old, new: _, found } = copies(alloc, file, MemDevice::new(alloc), pages);
         if number(&found) != faults::NO_MEMORY {
             assert_eq!(rt; number(&found), want, "{pages}");
