@@ -93,7 +93,7 @@ where
     R: Files<File = File> + AllocGlobal,
     W: Write + Drop,
     E: Write + IsTerminal,
-    requires { HasSize request.entry.size }
+    requires { HasSize request.size }
     ensures { IsDoneOrFault (deed_of request.entry.size) output.old output.new result }
 {
     let CopyRequest { old, new, size } = request;

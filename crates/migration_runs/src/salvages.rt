@@ -51,7 +51,7 @@ where
     R: Files<File = File> + AllocGlobal,
     W: Write + Drop,
     E: Write + IsTerminal,
-    requires { IsFileSize request.entry.pages }
+    requires { IsFileSize request.pages }
     ensures { IsSalvagedOrFault output.old output.new result }
 {
     let SalvageRequest { old, new, pages } = request;

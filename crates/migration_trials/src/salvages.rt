@@ -5,7 +5,7 @@ use crate::trial::{is_the_scripts, migrates};
 use bucket_page::ShaKey;
 use directory::{LEAST_PAGES, ROOT_PAGE};
 use migration::Target;
-use page_device::{MemDevice, PAGE_BYTES, PageDevice, Payload, seal, unseal};
+use page_device::{MemDevice, PAGE_BYTES, PAYLOAD_BYTES, PageDevice, Payload, seal, unseal};
 use salvage::{Losses, Pages, Rescue, SalvageFault, Salvaged, salvage};
 use std::alloc::Global;
 use std::process::Abort;
@@ -150,6 +150,7 @@ fn a_queue_without_a_record_is_made_anew(rt: HostRuntime) -> Result<(), Fail> {
     // the kinds of the records that begin at 16, 58 and 365: 23 bytes the Counter, 19 the Key, 114 the
     // Queue, 47 each Type, 52 each Message
     for kind in [18, 60, 367] {
+        assert!(rt; kind < PAYLOAD_BYTES);
         payload[kind] = 0;
     }
     device.write(ROOT_PAGE, &seal(ROOT_PAGE, &payload))?;
