@@ -45,14 +45,13 @@ fn main(rt: HostRuntime) -> ExitCode {
     let ending = match task {
         Ok(Task::Serve) => {
             let ending = serve(alloc, &mut rt.reader(), &mut output, &mut errors);
-            complain_of_lines(MEMORY, &output, &mut errors);
+            complain_of_lines(MEMORY, None, &output, &mut errors);
             ending
         }
         Ok(Task::New { file, pages }) => new_file(&rt, file, pages, &mut output, &mut errors),
         Ok(Task::Run { file, script }) => {
             let ending = run_file(&rt, file, script, &mut output, &mut errors);
-            complain_of_lines(file, &output, &mut errors);
-            advise(&rt, file, ending, &mut errors);
+            advise(&rt, file.path, ending, &mut errors);
             ending
         }
         Ok(
@@ -68,8 +67,7 @@ fn main(rt: HostRuntime) -> ExitCode {
                 schedule,
             };
             let ending = replay_file(&rt, sources, &mut output, &mut errors);
-            complain_of_lines(file, &output, &mut errors);
-            advise(&rt, file, ending, &mut errors);
+            advise(&rt, file.path, ending, &mut errors);
             ending
         }
         Ok(Task::Migrate { old, new }) => migrate_file(&rt, old, new, &mut output, &mut errors),
@@ -112,10 +110,20 @@ fn words(rt: &HostRuntime) -> io::Result<Vec<String>> {
 
 /// Shows help or the version, or says what is wrong with the command line.
 fn tell(rt: &HostRuntime, text: Error) -> ExitCode {
-    match text.print(rt) {
-        Err(_) if !text.use_stderr() => ExitCode::FAILURE,
-        _ => ExitCode::from(u8::try_from(text.exit_code()).unwrap_or(2)),
+    if !text.use_stderr() {
+        return match text.print(rt) {
+            Ok(()) => ExitCode::SUCCESS,
+            Err(_) => ExitCode::FAILURE,
+        };
     }
+    let Ok(text) = text.to_string(rt.alloc()) else {
+        return without_memory(rt);
+    };
+    let text = text.as_str();
+    let why = text.strip_prefix("error: ").unwrap_or(text);
+    let mut errors = rt.stderr();
+    let _ = write!(errors, "msgq: {why}");
+    ExitCode::from(2)
 }
 
 /// Ends where there is no memory to begin with. A buffer of no byte takes none.

@@ -6,12 +6,15 @@ ghost use Rattle.msgq_cli.specs.Tasks.{HasPages, IsFileSize, ReadsInputOnce, pag
 use crate::files::STANDARD_INPUT;
 use crate::plain::Plain;
 use crate::reports::{Report, ReportRequest};
+use clap::builder::ValueParser;
 use clap::error::ErrorKind;
-use clap::{Arg, ArgAction, Command, Error};
+use clap::{Arg, ArgAction, ArgMatches, Command, Error};
 use directory::LEAST_PAGES;
 use page_device::MAX_PAGES;
+use rollback_journal::Opening;
 use script_words::number;
 use std::alloc::{AllocError, Global};
+use std::time::Duration;
 
 /// What the command line asks for.
 #[derive(Debug, Drop, PartialEq)]
@@ -28,14 +31,14 @@ pub enum Task<'a> {
     /// A script, on a file.
     Run {
         /// The file.
-        file: &'a str,
+        file: Opening<'a>,
         /// The script.
         script: &'a str,
     },
     /// A script, on a file, its lines beside one another by a schedule.
     Replay {
         /// The file.
-        file: &'a str,
+        file: Opening<'a>,
         /// The script.
         script: &'a str,
         /// The schedule.
@@ -69,6 +72,8 @@ const SCRIPT: &str = "SCRIPT";
 const SCHEDULE: &str = "SCHEDULE";
 
 const VERBOSE: &str = "verbose";
+
+const WAIT: &str = "wait";
 
 /// After the help of the program.
 const ENDING: &str = "\
@@ -155,8 +160,10 @@ pub fn read_command_line<'a>(alloc: Global, words: &'a [String]) -> Result<Task<
     };
     let file = arguments.get_str(FILE).unwrap_or("");
     if name == "run" {
-        let script = arguments.get_str(SCRIPT).unwrap_or("");
-        return Ok(Task::Run { file, script });
+        return Ok(Task::Run {
+            file: opening(arguments),
+            script: arguments.get_str(SCRIPT).unwrap_or(""),
+        });
     }
     if name == "replay" {
         let script = arguments.get_str(SCRIPT).unwrap_or("");
@@ -166,7 +173,7 @@ pub fn read_command_line<'a>(alloc: Global, words: &'a [String]) -> Result<Task<
             return Err(replay.error(ErrorKind::ValueValidation, ONE_INPUT)?);
         }
         return Ok(Task::Replay {
-            file,
+            file: opening(arguments),
             script,
             schedule,
         });
@@ -195,6 +202,14 @@ pub fn read_command_line<'a>(alloc: Global, words: &'a [String]) -> Result<Task<
     match pages(word.as_bytes()) {
         Some(pages) => Ok(Task::New { file, pages }),
         None => Err(no_pages(alloc, word)?),
+    }
+}
+
+/// The file that is changed, and how long its opening waits.
+fn opening<'a>(arguments: &ArgMatches<'a>) -> Opening<'a> {
+    Opening {
+        path: arguments.get_str(FILE).unwrap_or(""),
+        wait: Duration::from_secs(arguments.get_one(WAIT).unwrap_or(0)),
     }
 }
 
@@ -238,7 +253,6 @@ fn command<'a>(alloc: Global) -> Result<Command<'a>, AllocError> {
         .version(VERSION)
         .about("Message queues (XSI, POSIX.1-2017) kept in one file")
         .after_help(ENDING)
-        .disable_help_subcommand(true)
         .subcommand(new)?
         .subcommand(run)?
         .subcommand(replay)?
@@ -264,7 +278,8 @@ fn run_command<'a>(alloc: Global) -> Result<Command<'a>, AllocError> {
         .about("Runs a script on a file of message queues")
         .after_help(RUN_PRINTS)
         .arg(argument(alloc, FILE).help("The file"))?
-        .arg(script)
+        .arg(script)?
+        .arg(wait_argument(alloc))
 }
 
 /// `replay FILE SCRIPT SCHEDULE`.
@@ -276,7 +291,18 @@ fn replay_command<'a>(alloc: Global) -> Result<Command<'a>, AllocError> {
         .after_help(REPLAY_PRINTS)
         .arg(argument(alloc, FILE).help("The file"))?
         .arg(script)?
-        .arg(schedule)
+        .arg(schedule)?
+        .arg(wait_argument(alloc))
+}
+
+/// The option of a command that changes a file.
+fn wait_argument<'a>(alloc: Global) -> Arg<'a> {
+    Arg::new(alloc, WAIT)
+        .long(WAIT)
+        .value_name("SECONDS")
+        .action(ArgAction::Set)
+        .value_parser(ValueParser::unsigned(0, u64::from(u32::MAX)))
+        .help("Waits so long where another process uses the file; else that is fault 20 at once")
 }
 
 /// `migrate OLD NEW`.

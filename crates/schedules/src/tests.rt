@@ -51,6 +51,26 @@ fn each_wrong_word_is_named(rt: HostRuntime) -> Result<(), Fail> {
     Ok(())
 }
 
+/// What could stand in the place of a wrong word is told by what it begins with.
+#[test]
+fn what_could_stand_is_told(rt: HostRuntime) -> Result<(), Fail> {
+    for (word, wanted) in [
+        ("65:2", Expected::Word),
+        ("1?", Expected::Word),
+        ("1:0", Expected::Count),
+        ("1@decide", Expected::Kind),
+    ] {
+        let text = format!(in rt.alloc(); "stop\n{word} 1")?;
+        let found = word_at(rt.alloc(), text.as_bytes(), 2);
+        assert!(rt; found == Some(word.as_bytes()), "{word}");
+        assert!(rt; Expected::of(word.as_bytes()) == wanted, "{word}");
+    }
+    assert!(rt; word_at(rt.alloc(), b"stop", 2) == None);
+    let kinds = Expected::Kind.to_string(rt.alloc())?;
+    assert!(rt; kinds.as_str().ends_with(" LinkFree LowerDepth"));
+    Ok(())
+}
+
 #[test]
 fn each_word_is_read(rt: HostRuntime) -> Result<(), Fail> {
     let text = b"1 02:1000000\r\n\t3! 64@WriteOld\nstop 1@Grant";
