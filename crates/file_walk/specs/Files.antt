@@ -39,7 +39,7 @@ header_on content = header_at (payload_on content 0)
 unfoldable pub entries_in : Layout → List (List ℕ) → List ℕ
 entries_in l content =
     flat_map (λ (page : List ℕ). directory_entries (said_by page))
-      (take l.directory_pages (drop FIRST_DIRECTORY_PAGE content))
+    (take l.directory_pages (drop FIRST_DIRECTORY_PAGE content))
 
 -- the pages from the root on, by their numbers; nothing is asked of those below
 unfoldable pub pages_in : Layout → List (List ℕ) → List PageKind

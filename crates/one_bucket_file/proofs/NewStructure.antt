@@ -39,7 +39,7 @@ module _ (hash : RecordKey → ℕ) (pages : ℕ) (rs : List Pair) (content : Li
     first_entry =
         let f : List ℕ → List ℕ = λ page. directory_entries (said_by page) in
         let first = ap f (directory_page content 0 (omega arith))
-              ∙ ap directory_entries (first_says pages rs content it) in
+        ∙ ap directory_entries (first_says pages rs content it) in
         first_made f (directory_of content) (subst (λ n. 0 < n) (sym (directory_length content long)) (lit< tt))
         (subst (λ (es : List ℕ). 0 < length es) (sym first) (lit< tt))
         ∙ ap (λ (es : List ℕ). slice_index_or es 0 0) first

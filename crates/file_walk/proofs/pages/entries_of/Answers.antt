@@ -35,7 +35,7 @@ loop-page-preserved g c =
           (before.value is)
           (subst (λ pages. c.take_entries.new.entries.items
           ≡ take c.entries_at-most.result
-            (c.loop-page.entries.items ++ directory_entries (said_on pages c.loop-page.page)))
+          (c.loop-page.entries.items ++ directory_entries (said_on pages c.loop-page.page)))
           before.read.same (taken.ok.value (subst IsTrue (sym before.read.honesty) is)));
     }
 
