@@ -13,14 +13,14 @@ use std::time::Instant;
 use step_rules::Kind;
 
 /// Who calls.
-const CALLER: Caller = Caller {
+pub const CALLER: Caller = Caller {
     pid: 1,
     uid: 0,
     gid: 0,
 };
 
 /// Pages of the file.
-const PAGES: u32 = 352;
+pub const PAGES: u32 = 352;
 
 /// So many Receives are timed together.
 const BATCH: u32 = 16;

@@ -1,12 +1,14 @@
-//! Times of calls on a kernel, of a find, and of the digests that pages need. Without an argument
+//! Times of calls on a kernel and by threads, of a find, and of the digests that pages need. Without an argument
 //! each workload runs once and prints what never varies; with one it prints nanoseconds.
 #![tactic(auto)]
 
 mod calling;
 mod sealing;
+mod threads;
 
 use calling::{Called, Plan};
 use std::time::Instant;
+use threads::Many;
 
 /// How often a workload runs when it is timed.
 const ROUNDS: u32 = 20_000;
@@ -22,6 +24,7 @@ fn main(rt: HostRuntime) -> anyhow::Result<()> {
     seals(&rt)?;
     by_turns(&rt, 64)?;
     by_turns(&rt, 1024)?;
+    by_threads(&rt)?;
     receives(&rt)?;
     finds(&rt)
 }
@@ -51,6 +54,10 @@ fn once(rt: &HostRuntime) -> anyhow::Result<()> {
     println!(rt; "received: {received}")?;
     println!(rt; "steps of calls: {:?}", called.steps(0)?)?;
     println!(rt; "found: {}", called.finds(3))?;
+    for many in [Many::One, Many::Four] {
+        let (_, received) = threads::spent(rt, rt.alloc(), many, 3)?;
+        println!(rt; "received by threads: {received}")?;
+    }
     Ok(())
 }
 
@@ -76,6 +83,20 @@ fn by_turns(rt: &HostRuntime, bytes: usize) -> anyhow::Result<()> {
     let name = "a send or a receive";
     report(rt, name, 0, start, MESSAGES.saturating_mul(2))?;
     println!(rt; "steps of a send and of a receive: {:?}", called.steps(0)?)?;
+    Ok(())
+}
+
+/// Times the same of 64 bytes by one thread and by four, each on a queue of its own.
+fn by_threads(rt: &HostRuntime) -> anyhow::Result<()> {
+    for (many, name, rounds) in [
+        (Many::One, "one thread", MESSAGES),
+        (Many::Four, "four threads", MESSAGES / 4),
+    ] {
+        let (spent, received) = threads::spent(rt, rt.alloc(), many, rounds)?;
+        let calls = u128::from(received).saturating_mul(2);
+        let nanoseconds = spent.as_nanos().checked_div(calls).unwrap_or(0);
+        println!(rt; "a send or a receive by {name}: {nanoseconds} ns ({received} of them)")?;
+    }
     Ok(())
 }
 
