@@ -57,8 +57,8 @@ pub fn close<D: PageDevice + Drop, G: Gate + Drop, N: Room + Base>(
         (service, seats)
     };
     match service.close(seats) {
-        Ending::Closed(ended) => left(alloc, ended, None, faults, shown),
-        Ending::Fault(ended, fault) => left(alloc, ended, Some(fault), faults, shown),
+        Ending::Closed(ended) => remains(alloc, ended, None, faults, shown),
+        Ending::Fault(ended, fault) => remains(alloc, ended, Some(fault), faults, shown),
         Ending::Missing(_, _) => Err(Fail::from("no seat is missing")),
     }
 }
@@ -83,7 +83,7 @@ fn come_back<D: PageDevice + Drop, G: Gate + Drop, N: Room + Base>(
 }
 
 /// What is left of a service that was closed.
-fn left<D: PageDevice + Drop, N: Room + Base>(
+fn remains<D: PageDevice + Drop, N: Room + Base>(
     alloc: Global,
     ended: Ended<D, N>,
     fault: Option<CloseFault>,
