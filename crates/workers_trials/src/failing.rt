@@ -30,7 +30,7 @@ const MOST_TRANSFERS: u64 = 100_000;
 /// A device one of whose transfers fails.
 type Faulty = FaultyDevice<MemDevice>;
 
-/// 40 messages are received once all have been sent.
+/// 40 messages are received once all have been sent; each transfer fails in turn.
 #[test]
 fn calls_in_turn_are_answered_or_told_that_a_step_has_failed(rt: HostRuntime) -> Result<(), Fail> {
     let alloc = rt.alloc();
@@ -49,10 +49,12 @@ fn calls_in_turn_are_answered_or_told_that_a_step_has_failed(rt: HostRuntime) ->
             scripts,
             rounds: 1,
         },
+        1,
     )
 }
 
-/// 40 messages are received while they are sent.
+/// 40 messages are received while they are sent; each seventh transfer fails in turn, since each of
+/// these runs takes longer.
 #[test]
 fn calls_at_once_are_answered_or_told_that_a_step_has_failed(rt: HostRuntime) -> Result<(), Fail> {
     let alloc = rt.alloc();
@@ -72,6 +74,7 @@ fn calls_at_once_are_answered_or_told_that_a_step_has_failed(rt: HostRuntime) ->
             scripts,
             rounds: 1,
         },
+        7,
     )
 }
 
@@ -105,18 +108,22 @@ enum Run {
     Failed,
 }
 
-/// Plays a plan again and again, each time with the next transfer failed, until none is.
+/// Plays a plan again and again, each time with a later transfer failed, until none is: the first one
+/// and from there on each of so many.
 fn fail_each<R: Threads + Wait + Clock + Sync>(
     rt: &R,
     alloc: Global,
     plan: &Plan<'_>,
+    stride: u64,
 ) -> Result<(), Fail> {
     let mut file = new_file(alloc, 352)?;
-    for nth in 1..MOST_TRANSFERS {
+    let mut nth: u64 = 1;
+    for _ in 0..MOST_TRANSFERS {
         let device = FaultyDevice::new(copy_of(alloc, &mut file)?, nth);
         if fail(rt, alloc, device, plan)? == Run::Well {
             return Ok(());
         }
+        nth = nth.saturating_add(stride);
     }
     Err(Fail::from("each run has failed"))
 }
