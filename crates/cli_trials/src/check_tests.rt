@@ -4,7 +4,8 @@ use crate::file_tests::{changed, spoilt};
 use crate::run_tests::{FIRST, new_device};
 use crate::trial::{Screen, buffered, printed};
 use msgq_cli::{
-    Ending, Report, ReportRequest, Shown, advise, new_file, new_on, report_file, report_on,
+    Ending, Progress, Report, ReportRequest, Shown, advise, check_on, new_file, new_on,
+    print_found, report_file,
 };
 use page_device::{FaultyDevice, MemDevice, PageDevice};
 use std::fs;
@@ -23,7 +24,8 @@ fn tells<R: Abort + AllocGlobal, D: PageDevice + Drop>(
     let alloc = rt.alloc();
     let mut output = buffered(alloc)?;
     let mut screen = Screen::new(alloc, true);
-    let device = report_on(alloc, device, report, &mut output, &mut screen).0;
+    let (device, found) = check_on(alloc, device, &mut screen);
+    print_found(report, &found, &mut output);
     let told = String::from_utf8(printed(output))?;
     assert_eq!(rt; told.as_str(), wanted);
     assert!(rt; screen.into_said().is_empty());
@@ -64,9 +66,12 @@ fn a_terminal_shows_how_far_it_is(rt: HostRuntime) -> Result<(), Fail> {
     for is_terminal in [true, false] {
         let mut output = buffered(alloc)?;
         let mut screen = Screen::new(alloc, is_terminal);
-        let device = Shown::new(MemDevice::new(alloc), &mut screen);
-        let device = new_on(device, 5_120, &mut output).0.into_device();
-        let found = report_on(alloc, device, Report::Counts, &mut output, &mut screen).1;
+        let device = {
+            let progress = Progress::new(&mut screen);
+            let device = Shown::new(MemDevice::new(alloc), &progress);
+            new_on(device, 5_120, &mut output).0.into_device()
+        };
+        let found = check_on(alloc, device, &mut screen).1;
         assert!(rt; found.is_ok());
         let said = String::from_utf8(screen.into_said())?;
         for wanted in [
@@ -115,7 +120,8 @@ fn files_are_checked_and_told_why(rt: HostRuntime) -> Result<(), Fail> {
     let alloc = rt.alloc();
     let _ = fs::remove_dir_all(&rt, "checked");
     fs::create_dir(&rt, "checked")?;
-    let none = "msgq: checked/none: it can't be opened: No such file or directory (os error 2)\n";
+    let none = "msgq: checked/none: it can't be opened (fault 20): No such file or directory (os \
+        error 2)\n";
     is_told(&rt, "checked/none", "fault 20\n", none)?;
     let mut output = buffered(alloc)?;
     let mut screen = Screen::new(alloc, true);
@@ -150,18 +156,20 @@ const FULLNESS: &str = "msgq: checked/queues: 258 pages: 257 of the header and t
 
 /// What is said of a script in the place of a file, whose name has a line feed and an escape.
 const NOT_OF_QUEUES: &str =
-    "msgq: checked/first\\n\\u{1b}\u{e9}: it can't be opened: it is cut: it has \
-    fewer pages than its header says, or a part of one\n\
-    msgq: checked/first\\n\\u{1b}\u{e9}: it does not begin as a file of message queues does\n";
+    "msgq: checked/first\\n\\u{1b}\u{e9}: it can't be opened (fault 22): its length is no multiple \
+    of 4096, the bytes of a page\n\
+    msgq: checked/first\\n\\u{1b}\u{e9}: it is no file of message queues\n";
 
 /// And of a file that is cut.
 const PART: &str =
-    "msgq: checked/queues: it can't be opened: it is cut: it has fewer pages than its \
-    header says, or a part of one\n\
-    msgq: checked/queues: no command mends it: put a copy in its place\n";
+    "msgq: checked/queues: it can't be opened (fault 22): its length is no multiple of 4096, the \
+    bytes of a page\n\
+    msgq: checked/queues: no command mends it: put a copy in its place, or have 'msgq salvage' make a \
+    new file of what can be read\n";
 
-const CUT: &str = "msgq: checked/queues: it is wrong: the file is cut\n\
-    msgq: checked/queues: no command mends it: put a copy in its place\n";
+const CUT: &str = "msgq: checked/queues: it is wrong (fault 22): the file is cut\n\
+    msgq: checked/queues: no command mends it: put a copy in its place, or have 'msgq salvage' make a \
+    new file of what can be read\n";
 
-const EMPTY: &str = "msgq: checked/queues: it is wrong: the file is cut\n\
-    msgq: checked/queues: it does not begin as a file of message queues does\n";
+const EMPTY: &str = "msgq: checked/queues: it is wrong (fault 22): the file is cut\n\
+    msgq: checked/queues: it is no file of message queues\n";

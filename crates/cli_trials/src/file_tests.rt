@@ -7,13 +7,15 @@ use file_walk::StructureFault;
 use msgq_cli::file_check::CheckFault;
 use msgq_cli::{Ending, new_file};
 use page_device::{MemDevice, PAGE_BYTES, PageDevice, seal, unseal};
+use rollback_journal::Opening;
 use script_runs::run_file;
 use std::alloc::Global;
 use std::fs;
 use std::fs::File;
 use std::process::Abort;
-use std::rt::Files;
+use std::rt::{Clock, Files};
 use std::test::Fail;
+use std::time::Duration;
 
 /// How a run ends with whose file's structure this is wrong.
 fn broken(fault: StructureFault) -> Ending {
@@ -94,7 +96,7 @@ fn makes<R: Abort + AllocGlobal + Files<File = File>>(
 }
 
 /// Runs a script on a file, which has to print this and to say this on standard error.
-fn runs<R: Abort + AllocGlobal + Files<File = File> + Input>(
+fn runs<R: Abort + AllocGlobal + Files<File = File> + Input + Clock>(
     rt: &R,
     file: &str,
     script: &str,
@@ -103,7 +105,11 @@ fn runs<R: Abort + AllocGlobal + Files<File = File> + Input>(
 ) -> Result<(), Fail> {
     let mut output = buffered(rt.alloc())?;
     let mut said = Vec::new(rt.alloc());
-    let ended = run_file(rt, file, script, &mut output, &mut said);
+    let opening = Opening {
+        path: file,
+        wait: Duration::ZERO,
+    };
+    let ended = run_file(rt, opening, script, &mut output, &mut said);
     assert!(rt;
         (ended == Ending::Done) == errors.is_empty(),
         "{file} {script}"
@@ -123,9 +129,9 @@ fn files_are_made_and_run_on(rt: HostRuntime) -> Result<(), Fail> {
     let file = "made/queues";
     makes(&rt, file, "made 258\n", "")?;
     assert!(rt; fs::metadata(&rt, file)?.len() == 258 * 4096);
-    let there = "msgq: made/queues: it can't be made: File exists (os error 17)\n";
+    let there = "msgq: made/queues: it can't be made (fault 20): File exists (os error 17)\n";
     makes(&rt, file, "fault 20\n", there)?;
-    let nowhere = "msgq: : it can't be made: No such file or directory (os error 2)\n";
+    let nowhere = "msgq: : it can't be made (fault 20): No such file or directory (os error 2)\n";
     makes(&rt, "", "fault 20\n", nowhere)?;
     fs::write(&rt, "made/first", FIRST)?;
     fs::write(&rt, "made/second", "1 rcv 1 10 0\n")?;
@@ -140,22 +146,22 @@ const REFUSED: [(&str, &str, &str); 4] = [
     (
         "refused/none",
         "refused/none",
-        "msgq: refused/none: it can't be read: No such file or directory (os error 2)\n",
+        "msgq: refused/none: it can't be read (fault 20): No such file or directory (os error 2)\n",
     ),
     (
         "refused/none",
         "refused",
-        "msgq: refused: it can't be read: Is a directory (os error 21)\n",
+        "msgq: refused: it can't be read (fault 20): Is a directory (os error 21)\n",
     ),
     (
         "refused",
         "refused/first",
-        "msgq: refused: it can't be opened: Is a directory (os error 21)\n",
+        "msgq: refused: it can't be opened (fault 20): Is a directory (os error 21)\n",
     ),
     (
         "refused/none",
         "refused/first",
-        "msgq: refused/none: it can't be opened: No such file or directory (os error 2)\n",
+        "msgq: refused/none: it can't be opened (fault 20): No such file or directory (os error 2)\n",
     ),
 ];
 
@@ -169,7 +175,7 @@ fn what_the_system_does_not_open_is_told_why(rt: HostRuntime) -> Result<(), Fail
         runs(&rt, file, script, "fault 20\n", errors)?;
     }
     let wrong = "script line 2\n  not understood: go\n  could stand there: a command: get, snd, \
-        rcv, stat, set, rm or stop\n";
+        rcv, stat, set, rm or stop\n  in: refused/wrong\n";
     runs(&rt, "refused/none", "refused/wrong", "", wrong)?;
     fs::remove_dir_all(&rt, "refused")?;
     Ok(())

@@ -1,7 +1,7 @@
 //! Readers and writers that fail, and what is said of wrong scripts.
 
 use crate::trial::{Refusing, buffered, printed, unbuffered};
-use msgq_cli::{Ending, Failure, Reply, Stage, complain_of_lines, print_made};
+use msgq_cli::{Ending, Failure, Fullness, Reply, Stage, complain_of_lines, print_made};
 use script_runs::{serve, serve_text};
 use std::io;
 use std::io::{ErrorKind, Read};
@@ -42,7 +42,7 @@ fn a_reader_that_fails_runs_nothing(rt: HostRuntime) -> Result<(), Fail> {
         assert!(rt; printed(output).as_slice() == wanted.as_bytes(), "{wanted}");
         let named = errors
             .as_slice()
-            .starts_with(b"msgq: standard input: it can't be read: ");
+            .starts_with(b"msgq: standard input: it can't be read (fault ");
         assert!(rt; named, "{wanted}");
     }
     Ok(())
@@ -141,7 +141,13 @@ fn a_kind_of_fault_is_explained_once(rt: HostRuntime) -> Result<(), Fail> {
         Reply::Failed(fault).print(line, &mut output);
     }
     let mut errors = Vec::new(alloc);
-    complain_of_lines("q", &output, &mut errors);
+    let full = Fullness {
+        pages: 258,
+        buckets: 1,
+        free: 0,
+        depth: 0,
+    };
+    complain_of_lines("q", Some(full), &output, &mut errors);
     let said = String::from_utf8(errors)?;
     assert_eq!(rt; said.as_str(), EXPLAINED);
     Ok(())
@@ -149,9 +155,9 @@ fn a_kind_of_fault_is_explained_once(rt: HostRuntime) -> Result<(), Fail> {
 
 /// What is said of lines 4 to 12.
 const EXPLAINED: &str = "\
-msgq: q: line 4: there is no room for its records: take messages out, or go on in a larger file \
-('msgq check --verbose' tells how full one is); so one line more
-msgq: q: line 12: there was no memory for it, and nothing changed: it may be asked again
-msgq: q: line 5: a run makes at most 65536 calls: run the lines from here on by themselves; so 2 lines \
-more
+msgq: q: line 4 (fault 50): there is no room for its records: no page is free (258 of 258 are in use): \
+take messages out, or go on in a larger file; so one line more
+msgq: q: line 12 (fault 60): there was no memory for it, and nothing changed: it may be asked again
+msgq: q: line 5 (fault 61): a run makes at most 65536 calls: run the lines from here on by themselves; \
+so 2 lines more
 ";

@@ -8,8 +8,8 @@ use Rattle.file_pages.specs.declared.fault.FileFault.TheVariants as file
 use Rattle.page_device.specs.Fault as device
 use Rattle.migration.specs.declared.fault.MakingFault.{MakingFault}
 use Rattle.migration.specs.declared.fault.MakingFault.TheVariants as makings
-use Rattle.migration.specs.declared.fault.MigrationFault.{MigrationFault}
-use Rattle.migration.specs.declared.fault.MigrationFault.TheVariants as faults
+use Rattle.migration.specs.declared.fault.CopyFault.{CopyFault}
+use Rattle.migration.specs.declared.fault.CopyFault.TheVariants as faults
 
 -- the number that a program prints for what is wrong with a new file
 abbrev pub making_number_of : MakingFault → ℕ
@@ -21,7 +21,7 @@ making_number_of (makings.Wrong fault) = check.number_of fault
 making_number_of makings.Failed = FAILED
 
 -- and for a fault
-abbrev pub number_of : MigrationFault → ℕ
+abbrev pub number_of : CopyFault → ℕ
 number_of (faults.Old fault) = check.number_of fault
 number_of (faults.New fault) = making_number_of fault
 

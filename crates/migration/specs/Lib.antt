@@ -1,3 +1,3 @@
 pub mod Fault
 pub mod Writing
-pub mod Migrating
+pub mod Copying

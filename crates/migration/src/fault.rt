@@ -1,4 +1,4 @@
-//! Why a file does not become one of today's.
+//! Why a file does not become a new one.
 
 ghost use Rattle.std.specs.Prelude.{◌≡◌};
 ghost use Rattle.migration.specs.Fault.{making_number_of, number_of};
@@ -9,9 +9,9 @@ use file_pages::FileFault;
 use page_device::DeviceFault;
 use thiserror::Error;
 
-/// Why a file of version 1 does not become one of today's. Of the new device nothing is said then.
+/// Why a file does not become a new one. Of the new device nothing is said then.
 #[derive(Clone, Copy, Debug, PartialEq, Eq, Error)]
-pub enum MigrationFault {
+pub enum CopyFault {
     /// The first thing that is wrong with the old file; 42 where it is of another version.
     #[error(transparent)]
     Old(CheckFault),
@@ -43,14 +43,14 @@ pub enum MakingFault {
     Failed,
 }
 
-impl MigrationFault {
+impl CopyFault {
     /// The number that a program prints.
     pub fn number(self) -> u8
         ensures { result ≡ number_of self }
     {
         match self {
-            MigrationFault::Old(fault) => fault.number(),
-            MigrationFault::New(fault) => fault.number(),
+            CopyFault::Old(fault) => fault.number(),
+            CopyFault::New(fault) => fault.number(),
         }
     }
 }

@@ -1,10 +1,12 @@
-//! A file of version 1 becomes one of today's.
+//! A file becomes a new one of the same system: of version 1, or of another size.
 
 #![tactic(auto)]
 
+mod copied;
 mod fault;
-mod migrated;
+mod made;
 mod writer;
 
-pub use fault::{MakingFault, MigrationFault};
-pub use migrated::{Migrated, migrate};
+pub use copied::{Copied, copy, migrated_pages};
+pub use fault::{CopyFault, MakingFault};
+pub use made::{Made, Target, make};

@@ -1,8 +1,10 @@
-//! Files of version 1 that become new ones: the subcommand of the program.
+//! Files of which new ones are made: the subcommands `migrate`, `copy` and `salvage`.
 
 #![tactic(auto)]
 
-mod files;
+mod copies;
+mod salvages;
 
-pub use files::migrate_file;
+pub use copies::{CopyRequest, Size, copy_file};
 pub use msgq_cli;
+pub use salvages::{SalvageRequest, salvage_file};

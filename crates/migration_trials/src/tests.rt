@@ -1,11 +1,10 @@
 //! The typed file becomes one of today's, and each change of it alone is refused with its number.
 
 use crate::old_file::{PAGES, ROOT, WRITTEN, old_file, payload_of};
-use bucket_page::ShaKey;
-use file_check::{CheckFault, Checked, check};
-use migration::{Migrated, MigrationFault, migrate};
+use crate::trial::{checks, is_the_scripts, is_todays, migrate, migrates, number};
+use file_check::Checked;
+use migration::Copied;
 use page_device::{FaultyDevice, MemDevice, PAGE_BYTES, PAYLOAD_BYTES, PageDevice, seal};
-use queue_model::{Permissions, System};
 use record_file::format;
 use std::alloc::Global;
 use std::process::Abort;
@@ -61,82 +60,22 @@ fn changed(rt: &impl Abort, alloc: Global, edit: Edit) -> Result<MemDevice, Fail
     Ok(device)
 }
 
-/// What becomes of a file; where a growth was refused it is migrated once more.
-fn migrates<O: PageDevice>(alloc: Global, old: O) -> Migrated<O, MemDevice> {
-    let Migrated { old, new, found } = migrate(alloc, old, MemDevice::new(alloc), ShaKey);
-    if number(&found) == faults::NO_MEMORY {
-        return migrate(alloc, old, MemDevice::new(alloc), ShaKey);
-    }
-    Migrated { old, new, found }
-}
-
-/// The number of what a migration came to, 0 where it answered.
-fn number(found: &Result<System, MigrationFault>) -> u8 {
-    match found {
-        Ok(_) => 0,
-        Err(fault) => fault.number(),
-    }
-}
-
-/// A check found the system of the script.
-fn is_todays(rt: &impl Abort, found: &Result<System, CheckFault>) -> bool {
-    match found {
-        Ok(system) => {
-            is_the_scripts(rt, system);
-            true
-        }
-        Err(_) => false,
-    }
-}
-
-/// The system is that of the script, of user 0 of group 0 and mode 0666.
-fn is_the_scripts(rt: &impl Abort, system: &System) {
-    assert_eq!(rt;
-        (system.queues(), system.messages(), system.next_id()),
-        (1, 3, 2)
-    );
-    assert!(rt; system.queues() == 1);
-    let queue = system.queue(0);
-    assert_eq!(rt; (queue.id, queue.key, queue.qbytes), (1, Some(7), 16_384));
-    assert_eq!(rt; (queue.lspid, queue.lrpid), (1, 0));
-    assert_eq!(rt; (queue.stime, queue.rtime, queue.ctime), (4, 0, 1));
-    let owners = Permissions {
-        uid: 0,
-        gid: 0,
-        cuid: 0,
-        cgid: 0,
-        mode: 0o666,
-    };
-    assert_eq!(rt; queue.permissions, owners);
-    assert_eq!(rt; queue.next_serial, 4);
-    let rows: [(u64, i64, u8); 3] = [(1, 5, 0x61), (2, 2, 0x62), (3, 3, 0x63)];
-    for (place, (serial, mtype, byte)) in rows.iter().enumerate() {
-        assert!(rt; place < queue.messages.len());
-        let message = queue.messages.get(place);
-        assert_eq!(rt;
-            (message.serial, message.mtype, message.sender),
-            (*serial, *mtype, 1)
-        );
-        assert!(rt; message.bytes.as_slice() == [*byte].as_slice());
-    }
-}
-
 #[test]
 fn the_typed_file_becomes_one_of_todays(rt: HostRuntime) -> Result<(), Fail> {
     let alloc = rt.alloc();
-    let Migrated { old, new, found } = migrates(alloc, old_file(alloc)?);
+    let Copied { old, new, found } = migrates(alloc, old_file(alloc)?);
     assert_eq!(rt; number(&found), 0);
     if let Ok(system) = &found {
         is_the_scripts(&rt, system);
     }
     assert_eq!(rt; new.pages(), PAGES + 224);
     // The check of the new file gives the same system, and the old one is as it was.
-    let Checked { device: _, found } = check(alloc, new, ShaKey);
+    let Checked { device: _, found } = checks(alloc, new);
     assert!(rt; is_todays(&rt, &found));
     let mut old = old;
     is_the_typed_file(&rt, &mut old)?;
     // To today's check it is of another version.
-    let Checked { device: _, found } = check(alloc, old, ShaKey);
+    let Checked { device: _, found } = checks(alloc, old);
     let told = match found {
         Ok(_) => 0,
         Err(fault) => fault.number(),
@@ -221,7 +160,7 @@ fn files_that_are_not_of_version_1_are_refused(rt: HostRuntime) -> Result<(), Fa
     assert_eq!(rt; number(&migrates(alloc, today).found), 42);
     let mut cut = MemDevice::new(alloc);
     for page in 0..PAGES {
-        let Migrated { old, new: _, found } = migrates(alloc, cut);
+        let Copied { old, new: _, found } = migrates(alloc, cut);
         assert_eq!(rt; number(&found), 22, "{page} pages");
         cut = old;
         cut.extend(&seal(page, &payload_of(page)))?;
@@ -238,9 +177,12 @@ fn each_transfer_of_the_old_file_fails_in_turn(rt: HostRuntime) -> Result<(), Fa
     let alloc = rt.alloc();
     for nth in 1..=u64::from(PAGES) + 2 {
         let old = FaultyDevice::new(old_file(alloc)?, nth);
-        let Migrated { old, new: _, found } = migrates(alloc, old);
+        let Copied { old, new: _, found } = migrate(alloc, old, MemDevice::new(alloc));
         let want = if nth <= u64::from(PAGES) { 20 } else { 0 };
-        assert_eq!(rt; (old.faults(), number(&found)), (1, want), "{nth}");
+        match number(&found) {
+            faults::NO_MEMORY => {}
+            told => assert_eq!(rt; (old.faults(), told), (1, want), "{nth}"),
+        }
         let mut old = old.into_inner();
         is_the_typed_file(&rt, &mut old)?;
     }
@@ -257,15 +199,16 @@ fn a_transfer_of_the_new_file_fails(rt: HostRuntime) -> Result<(), Fail> {
         531, 532,
     ] {
         let new = FaultyDevice::new(MemDevice::new(alloc), nth);
-        let Migrated { old, new, found } = migrate(alloc, old_file(alloc)?, new, ShaKey);
+        let Copied { old, new, found } = migrate(alloc, old_file(alloc)?, new);
         let mut old = old;
         is_the_typed_file(&rt, &mut old)?;
         match number(&found) {
             0 => {
                 assert!(rt; nth > 261, "{nth}");
-                let Checked { device: _, found } = check(alloc, new.into_inner(), ShaKey);
+                let Checked { device: _, found } = checks(alloc, new.into_inner());
                 assert!(rt; is_todays(&rt, &found), "{nth}");
             }
+            faults::NO_MEMORY => {}
             told => assert_eq!(rt; (new.faults(), told), (1, 20), "{nth}"),
         }
     }

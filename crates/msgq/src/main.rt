@@ -1,11 +1,11 @@
 //! Message queues (XSI, POSIX.1-2017) kept in one file: makes files, runs scripts of calls on
-//! them, checks them, and migrates older ones.
+//! them, checks them, and makes new ones of them.
 
 #![tactic(auto)]
 
 use clap::Error;
 use clap::error::ErrorKind;
-use migration_runs::migrate_file;
+use migration_runs::{CopyRequest, SalvageRequest, Size, copy_file, salvage_file};
 use script_runs::msgq_cli::{
     Output, Task, advise, complain, complain_of_lines, new_file, print_fault, read_command_line,
     report_file,
@@ -45,14 +45,13 @@ fn main(rt: HostRuntime) -> ExitCode {
     let ending = match task {
         Ok(Task::Serve) => {
             let ending = serve(alloc, &mut rt.reader(), &mut output, &mut errors);
-            complain_of_lines(MEMORY, &output, &mut errors);
+            complain_of_lines(MEMORY, None, &output, &mut errors);
             ending
         }
         Ok(Task::New { file, pages }) => new_file(&rt, file, pages, &mut output, &mut errors),
         Ok(Task::Run { file, script }) => {
             let ending = run_file(&rt, file, script, &mut output, &mut errors);
-            complain_of_lines(file, &output, &mut errors);
-            advise(&rt, file, ending, &mut errors);
+            advise(&rt, file.path, ending, &mut errors);
             ending
         }
         Ok(
@@ -68,11 +67,31 @@ fn main(rt: HostRuntime) -> ExitCode {
                 schedule,
             };
             let ending = replay_file(&rt, sources, &mut output, &mut errors);
-            complain_of_lines(file, &output, &mut errors);
-            advise(&rt, file, ending, &mut errors);
+            advise(&rt, file.path, ending, &mut errors);
             ending
         }
-        Ok(Task::Migrate { old, new }) => migrate_file(&rt, old, new, &mut output, &mut errors),
+        Ok(Task::Migrate { old, new }) => {
+            let size = Size::Migrated;
+            copy_file(
+                &rt,
+                CopyRequest { old, new, size },
+                &mut output,
+                &mut errors,
+            )
+        }
+        Ok(Task::Copy { old, new, pages }) => {
+            let size = Size::Pages(pages);
+            copy_file(
+                &rt,
+                CopyRequest { old, new, size },
+                &mut output,
+                &mut errors,
+            )
+        }
+        Ok(Task::Salvage { old, new, pages }) => {
+            let request = SalvageRequest { old, new, pages };
+            salvage_file(&rt, request, &mut output, &mut errors)
+        }
         Ok(Task::Report(request)) => {
             let ending = report_file(&rt, request, &mut output, &mut errors);
             advise(&rt, request.file, ending, &mut errors);
@@ -112,10 +131,20 @@ fn words(rt: &HostRuntime) -> io::Result<Vec<String>> {
 
 /// Shows help or the version, or says what is wrong with the command line.
 fn tell(rt: &HostRuntime, text: Error) -> ExitCode {
-    match text.print(rt) {
-        Err(_) if !text.use_stderr() => ExitCode::FAILURE,
-        _ => ExitCode::from(u8::try_from(text.exit_code()).unwrap_or(2)),
+    if !text.use_stderr() {
+        return match text.print(rt) {
+            Ok(()) => ExitCode::SUCCESS,
+            Err(_) => ExitCode::FAILURE,
+        };
     }
+    let Ok(text) = text.to_string(rt.alloc()) else {
+        return without_memory(rt);
+    };
+    let text = text.as_str();
+    let why = text.strip_prefix("error: ").unwrap_or(text);
+    let mut errors = rt.stderr();
+    let _ = write!(errors, "msgq: {why}");
+    ExitCode::from(2)
 }
 
 /// Ends where there is no memory to begin with. A buffer of no byte takes none.

@@ -6,6 +6,8 @@ use Rattle.queue_model.specs.Rules.{info_of, messages_of}
 use Rattle.queue_model.specs.State.{State}
 use Rattle.queue_model.specs.declared.queue.Queue.{Queue}
 use Rattle.msgq_cli.specs.Answers.{info_text, line_of}
+use Rattle.msgq_cli.specs.declared.reports.Deed.{Deed}
+use Rattle.msgq_cli.specs.declared.reports.Deed.TheVariants.{Migrated, Copied, Salvaged}
 use Rattle.msgq_cli.specs.declared.reports.Report.{Report}
 use Rattle.msgq_cli.specs.declared.reports.Report.TheVariants.{Counts, Queues}
 
@@ -13,10 +15,20 @@ use Rattle.msgq_cli.specs.declared.reports.Report.TheVariants.{Counts, Queues}
 abbrev pub ok_text : State → List ℕ
 ok_text s = line_of (codes "ok" ∷ decimal (length s.queues) ∷ decimal (sum_by messages_of s.queues) ∷ [])
 
--- how many queues have come from an older file, and messages on them
-abbrev pub migrated_text : State → List ℕ
-migrated_text s =
-    line_of (codes "migrated" ∷ decimal (length s.queues) ∷ decimal (sum_by messages_of s.queues) ∷ [])
+-- what was done to make a new file
+abbrev pub word_of : Deed → List ℕ
+word_of Migrated = codes "migrated"
+word_of Copied = codes "copied"
+word_of Salvaged = codes "salvaged"
+
+-- and how many queues have come to it, and messages on them
+abbrev pub deed_text : Deed → State → List ℕ
+deed_text deed s =
+    line_of (word_of deed ∷ decimal (length s.queues) ∷ decimal (sum_by messages_of s.queues) ∷ [])
+
+-- the first and the last of pages that can't be read
+abbrev pub unread_text : ℕ → ℕ → List ℕ
+unread_text first last = line_of (codes "unread" ∷ decimal first ∷ decimal last ∷ [])
 
 -- the state of each queue, in order of id
 abbrev pub infos_text : List Queue → List ℕ

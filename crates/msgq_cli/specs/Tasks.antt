@@ -6,7 +6,7 @@ use Rattle.directory.specs.declared.layout.TheConstants.{LEAST_PAGES}
 use Rattle.script_words.specs.Numbers.{number_of}
 use Rattle.script_words.specs.Reading.{◌>>=◌}
 use Rattle.msgq_cli.specs.declared.command_line.Task.{Task}
-use Rattle.msgq_cli.specs.declared.command_line.Task.TheVariants.{Serve, New, Run, Replay, Migrate, Report}
+use Rattle.msgq_cli.specs.declared.command_line.Task.TheVariants.{Serve, New, Run, Replay, Migrate, Copy, Salvage, Report}
 
 -- a file can have so many pages
 pub record IsFileSize (pages : ℕ) : Type 0 where
@@ -27,6 +27,8 @@ HasPages (New file pages) = IsFileSize pages
 HasPages (Run file script) = ⊤
 HasPages (Replay file script schedule) = ⊤
 HasPages (Migrate old new) = ⊤
+HasPages (Copy old new pages) = IsFileSize pages
+HasPages (Salvage old new pages) = IsFileSize pages
 HasPages (Report request) = ⊤
 
 -- this names the text of standard input
@@ -40,4 +42,6 @@ ReadsInputOnce (New file pages) = ⊤
 ReadsInputOnce (Run file script) = ⊤
 ReadsInputOnce (Replay file script schedule) = (is_input script.now && is_input schedule.now) ≡ false
 ReadsInputOnce (Migrate old new) = ⊤
+ReadsInputOnce (Copy old new pages) = ⊤
+ReadsInputOnce (Salvage old new pages) = ⊤
 ReadsInputOnce (Report request) = ⊤

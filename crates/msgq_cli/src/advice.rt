@@ -42,12 +42,20 @@ where
     }
     let is_version = fault == faults::BAD_VERSION;
     let advice = match read_beginning(rt, file) {
-        Beginning::Foreign => "it does not begin as a file of message queues does",
+        Beginning::Foreign => "it is no file of message queues",
         Beginning::Older if is_version => {
             "it is of version 1: 'msgq migrate' makes a file of today's version of it"
         }
         Beginning::Other if is_version => "no command of this program reads its version",
-        Beginning::Older | Beginning::Other => "no command mends it: put a copy in its place",
+        Beginning::Other if fault == faults::BAD_HEADER => {
+            "it has more pages than its header says, or the header is wrong: put a copy in its place, \
+             or have 'msgq salvage' make a new file of what can be read"
+        }
+        Beginning::Older => "no command mends it: put a copy in its place",
+        Beginning::Other => {
+            "no command mends it: put a copy in its place, or have 'msgq salvage' make a new file of \
+            what can be read"
+        }
         Beginning::Unread => return,
     };
     let file = Plain(file);

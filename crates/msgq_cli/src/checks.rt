@@ -8,25 +8,33 @@ ghost use Rattle.file_check.specs.Whole.{IsFileOf, IsToldOf};
 ghost use Rattle.msgq_cli.specs.Checks.{IsReportOrFault, found_text};
 ghost use Rattle.msgq_cli.specs.Outputs.{Prints};
 
-use crate::complaint::complain;
+use crate::complaint::complain_of_fault;
 use crate::ending::{Ending, Failure, Stage};
 use crate::files::open_to_read;
+use crate::fullness::read_fullness;
 use crate::output::Output;
 use crate::plain::Plain;
-use crate::progress::Shown;
+use crate::progress::{Progress, Shown};
 use crate::refusals::fail;
 use crate::reply::print_fault;
 use crate::reports::{Report, ReportRequest};
 use bucket_page::ShaKey;
-use directory::{ROOT_PAGE, read_header};
 use file_check::{CheckFault, Checked, check};
-use page_device::{PAGE_BYTES, PageDevice, unseal};
+use page_device::PageDevice;
 use queue_model::System;
 use rollback_journal::look;
 use std::alloc::Global;
+use std::fs;
 use std::fs::File;
 use std::io::{IsTerminal, Write};
+use std::os::unix::fs::MetadataExt;
 use std::rt::Files;
+
+/// What is said where the check itself failed.
+const CANT: &str = "it can't be checked";
+
+/// Why a fault says nothing of a file.
+const CHANGED: &str = "it was changed while it was read, as by a run that ended: check it again";
 
 /// `check FILE` and `stat FILE`: checks a file, which is opened to be read alone, and prints a
 /// report of its system.
@@ -37,7 +45,8 @@ use std::rt::Files;
 ///
 /// `fault N` alone where the file is not opened, where something is wrong with it, or where the
 /// machine lacks something: a transfer fails (20), or there is no memory (60). Then it is said on
-/// standard error what and where.
+/// standard error what and where. A fault of a file that was changed since it was opened is told
+/// as 20, for its pages are not those of one moment.
 pub fn report_file<R, W, E>(
     rt: &R,
     request: ReportRequest,
@@ -56,59 +65,53 @@ where
         is_verbose,
     } = request;
     warn_of_journal(rt, file, errors);
+    let before = trace_of(rt, file);
     let device = match open_to_read(rt, file, errors) {
         Ok(device) => device,
         Err(fault) => return fail(Stage::Opening, fault.number(), output),
     };
-    let (device, found) = report_on(rt.alloc(), device, report, output, errors);
-    let fault = match found {
-        Ok(_) => {
-            if is_verbose || errors.is_terminal() {
-                tell_fullness(file, device, errors);
+    let (mut device, found) = check_on(rt.alloc(), device, errors);
+    if found.is_err() && trace_of(rt, file) != before {
+        complain_of_fault(file, CANT, faults::DEVICE, CHANGED, errors);
+        return fail(Stage::Checking, faults::DEVICE, output);
+    }
+    print_found(report, &found, output);
+    let Err(fault) = found else {
+        if is_verbose || errors.is_terminal() {
+            if let Some(fullness) = read_fullness(&mut device) {
+                fullness.tell(file, errors);
             }
-            return Ending::Done;
         }
-        Err(fault) => fault,
+        return Ending::Done;
     };
-    complain(file, what(fault), fault, errors);
+    let number = fault.number();
+    complain_of_fault(file, what(fault), number, fault, errors);
     Ending::Failed(Failure {
         stage: Stage::Checking,
-        fault: fault.number(),
+        fault: number,
     })
 }
 
-/// Says how many pages a file that is right has, how many of them are free, and the depth of its
-/// directory.
-fn tell_fullness<D: PageDevice + Drop, E: Write>(file: &str, device: D, errors: &mut E) {
-    let mut device = device;
-    let mut first = [0; PAGE_BYTES];
-    let Ok(()) = device.read(0, &mut first) else {
-        return;
-    };
-    let Ok(payload) = unseal(0, &first) else {
-        return;
-    };
-    let Ok(header) = read_header(&payload) else {
-        return;
-    };
-    // Each page from the root on is a bucket that is counted, or free.
-    let mut buckets = 0u32;
-    for count in header.counts.iter() {
-        buckets = buckets.saturating_add(*count);
-    }
-    let pages = header.pages;
-    let free = pages.saturating_sub(ROOT_PAGE).saturating_sub(buckets);
-    let depth = header.depth;
-    let file = Plain(file);
-    let _ = writeln!(
-        errors,
-        "msgq: {file}: {pages} pages: {ROOT_PAGE} of the header and the directory, {buckets} of \
-        records, {free} free; the directory has depth {depth}"
-    );
+/// What each change of a file changes: where it stands, its length, and when it was written last.
+#[derive(Clone, Copy, Debug, PartialEq, Eq)]
+struct Trace {
+    inode: u64,
+    bytes: u64,
+    written: (i64, i64),
+}
+
+/// The trace of a file now, where the system tells it.
+fn trace_of<R: Files>(rt: &R, file: &str) -> Option<Trace> {
+    let found = fs::metadata(rt, file).ok()?;
+    Some(Trace {
+        inode: found.ino(),
+        bytes: found.len(),
+        written: (found.mtime(), found.mtime_nsec()),
+    })
 }
 
 /// Says what a run that was cut off has left, and what the next one does.
-fn warn_of_journal<R, E>(rt: &R, file: &str, errors: &mut E)
+pub fn warn_of_journal<R, E>(rt: &R, file: &str, errors: &mut E)
 where
     R: Files<File = File> + AllocGlobal,
     E: Write,
@@ -124,41 +127,48 @@ where
     }
 }
 
-/// Checks the file of a device, and prints a report of the system that it holds, or `fault N`.
+/// Checks the file of a device: what is found is the system that it holds, or what is wrong.
 ///
-/// Where the device is honest the report is of the one system whose file its pages are, and a fault
-/// is the first thing that is wrong with them, unless a transfer failed or there was no memory.
-/// Nothing is written to the device. Where it is large and `errors` a terminal, that shows how far
-/// the check has come.
-pub fn report_on<D: PageDevice, W: Write + Drop, E: Write + IsTerminal>(
+/// Where the device is honest it is the one system whose file its pages are, and a fault is the
+/// first thing that is wrong with them, unless a transfer failed or there was no memory. Nothing is
+/// written to the device. Where it is large and `errors` a terminal, that shows how far the check
+/// has come.
+pub fn check_on<D: PageDevice, E: Write + IsTerminal>(
     alloc: Global,
     device: D,
-    report: Report,
-    output: &mut Output<W>,
     errors: &mut E,
 ) -> (D, Result<System, CheckFault>)
     ensures ok { IsTrue (D.is_honest device) →
         IfOk result.1 (IsFileOf sha_key (D.content device)) }
     ensures err { IsTrue (D.is_honest device) →
         IfErr result.1 (IsToldOf sha_key (D.content device)) }
-    ensures prints { Prints output.old output.new (found_text report result.1) }
     ensures same { D.content result.0 ≡ D.content device }
     ensures honest { D.is_honest result.0 ≡ D.is_honest device }
     ensures cause { HasCheckCause (D.fault_count device) (D.fault_count result.0) result.1 }
 {
-    let Checked { device, found } = check(alloc, Shown::new(device, errors), ShaKey);
-    let device = device.into_device();
-    match &found {
+    let progress = Progress::new(errors);
+    let Checked { device, found } = check(alloc, Shown::new(device, &progress), ShaKey);
+    (device.into_device(), found)
+}
+
+/// Prints a report of the system that a check found, or the number of what is wrong.
+pub fn print_found<W: Write + Drop>(
+    report: Report,
+    found: &Result<System, CheckFault>,
+    output: &mut Output<W>,
+)
+    ensures { Prints output.old output.new (found_text report found.now) }
+{
+    match found {
         Ok(system) => report.print(system, output),
         Err(fault) => print_fault(fault.number(), output),
     }
-    (device, found)
 }
 
 /// What a fault says of the check.
 fn what(fault: CheckFault) -> &'static str {
     match fault.number() {
-        faults::DEVICE | faults::NO_MEMORY => "it can't be checked",
+        faults::DEVICE | faults::NO_MEMORY => CANT,
         _ => "it is wrong",
     }
 }

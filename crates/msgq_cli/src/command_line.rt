@@ -6,12 +6,15 @@ ghost use Rattle.msgq_cli.specs.Tasks.{HasPages, IsFileSize, ReadsInputOnce, pag
 use crate::files::STANDARD_INPUT;
 use crate::plain::Plain;
 use crate::reports::{Report, ReportRequest};
+use clap::builder::ValueParser;
 use clap::error::ErrorKind;
-use clap::{Arg, ArgAction, Command, Error};
+use clap::{Arg, ArgAction, ArgMatches, Command, Error};
 use directory::LEAST_PAGES;
 use page_device::MAX_PAGES;
+use rollback_journal::Opening;
 use script_words::number;
 use std::alloc::{AllocError, Global};
+use std::time::Duration;
 
 /// What the command line asks for.
 #[derive(Debug, Drop, PartialEq)]
@@ -28,14 +31,14 @@ pub enum Task<'a> {
     /// A script, on a file.
     Run {
         /// The file.
-        file: &'a str,
+        file: Opening<'a>,
         /// The script.
         script: &'a str,
     },
     /// A script, on a file, its lines beside one another by a schedule.
     Replay {
         /// The file.
-        file: &'a str,
+        file: Opening<'a>,
         /// The script.
         script: &'a str,
         /// The schedule.
@@ -47,6 +50,24 @@ pub enum Task<'a> {
         old: &'a str,
         /// Where the new one is made.
         new: &'a str,
+    },
+    /// A new file of another size, with the same system.
+    Copy {
+        /// The file, which is only read.
+        old: &'a str,
+        /// Where the new one is made.
+        new: &'a str,
+        /// How many pages the new one has.
+        pages: u32,
+    },
+    /// A new file of what can be read of one that is wrong.
+    Salvage {
+        /// The file, which is only read.
+        old: &'a str,
+        /// Where the new one is made.
+        new: &'a str,
+        /// How many pages the new one has.
+        pages: u32,
     },
     /// A report of the system that a file holds.
     Report(ReportRequest<'a>),
@@ -69,6 +90,11 @@ const SCRIPT: &str = "SCRIPT";
 const SCHEDULE: &str = "SCHEDULE";
 
 const VERBOSE: &str = "verbose";
+
+const WAIT: &str = "wait";
+
+/// What is said of PAGES.
+const SIZE: &str = "How many pages of 4,096 bytes it has: 258 to 65,536";
 
 /// After the help of the program.
 const ENDING: &str = "\
@@ -139,6 +165,28 @@ NEW that was made is removed.
 Exit status 0, 1 where a fault was printed or standard output refused a write, 2 where the
 command line is wrong.";
 
+/// After the help of `copy`.
+const COPY_PRINTS: &str = "\
+Reads OLD and makes NEW, a file of PAGES pages, more or fewer, with the same queues and messages:
+serials, moments, owners and the next id are those of OLD, which is not written.
+Prints 'copied QUEUES MESSAGES'; 'fault 20' where NEW exists or the system refuses to make it; else
+'fault N' for the first thing that is wrong with OLD, or 50 where PAGES are too few for what it
+holds: then the NEW that was made is removed.
+Exit status 0, 1 where a fault was printed or standard output refused a write, 2 where the
+command line is wrong.";
+
+/// After the help of `salvage`.
+const SALVAGE_PRINTS: &str = "\
+Reads OLD, a file that 'check' refuses, and makes NEW, a file of PAGES pages, of each message whose
+page has its digest and whose record is right, in queues with their ids, in order of serial. OLD is
+not written, and nothing is promised of what is missing in NEW.
+Prints 'salvaged QUEUES MESSAGES', and below it 'unread FIRST LAST' for pages of OLD that can't be
+read; standard error says what else was left out. 'fault 20' where NEW exists or the system refuses
+to make it, 21 or 22 where no page of OLD can be read, 42 where it is of another version, 50 where
+PAGES are too few: then the NEW that was made is removed.
+Exit status 0, 1 where a fault was printed or standard output refused a write, 2 where the
+command line is wrong.";
+
 /// What is wrong with two texts that would both be that of standard input.
 const ONE_INPUT: &str = "SCRIPT and SCHEDULE can't both be standard input";
 
@@ -155,8 +203,10 @@ pub fn read_command_line<'a>(alloc: Global, words: &'a [String]) -> Result<Task<
     };
     let file = arguments.get_str(FILE).unwrap_or("");
     if name == "run" {
-        let script = arguments.get_str(SCRIPT).unwrap_or("");
-        return Ok(Task::Run { file, script });
+        return Ok(Task::Run {
+            file: opening(arguments),
+            script: arguments.get_str(SCRIPT).unwrap_or(""),
+        });
     }
     if name == "replay" {
         let script = arguments.get_str(SCRIPT).unwrap_or("");
@@ -166,7 +216,7 @@ pub fn read_command_line<'a>(alloc: Global, words: &'a [String]) -> Result<Task<
             return Err(replay.error(ErrorKind::ValueValidation, ONE_INPUT)?);
         }
         return Ok(Task::Replay {
-            file,
+            file: opening(arguments),
             script,
             schedule,
         });
@@ -192,20 +242,38 @@ pub fn read_command_line<'a>(alloc: Global, words: &'a [String]) -> Result<Task<
         }));
     }
     let word = arguments.get_str(PAGES).unwrap_or("");
-    match pages(word.as_bytes()) {
-        Some(pages) => Ok(Task::New { file, pages }),
-        None => Err(no_pages(alloc, word)?),
+    let Some(pages) = pages(word.as_bytes()) else {
+        return Err(no_pages(alloc, name, word)?);
+    };
+    let old = arguments.get_str(OLD).unwrap_or("");
+    let new = arguments.get_str(NEW).unwrap_or("");
+    Ok(match name {
+        "copy" => Task::Copy { old, new, pages },
+        "salvage" => Task::Salvage { old, new, pages },
+        _ => Task::New { file, pages },
+    })
+}
+
+/// The file that is changed, and how long its opening waits.
+fn opening<'a>(arguments: &ArgMatches<'a>) -> Opening<'a> {
+    Opening {
+        path: arguments.get_str(FILE).unwrap_or(""),
+        wait: Duration::from_secs(arguments.get_one(WAIT).unwrap_or(0)),
     }
 }
 
 /// What is said of a word that is no number of pages.
-fn no_pages(alloc: Global, word: &str) -> Result<Error, AllocError> {
+fn no_pages(alloc: Global, name: &str, word: &str) -> Result<Error, AllocError> {
     let word = Plain(word);
     let why = format!(in alloc;
         "'{word}' is no PAGES, a decimal number from 258 to 65536, without a sign"
     )?;
-    let mut new = new_command(alloc)?.bin_name("msgq new")?;
-    new.error(ErrorKind::ValueValidation, why.as_str())
+    let mut command = match name {
+        "copy" => copy_command(alloc)?.bin_name("msgq copy")?,
+        "salvage" => salvage_command(alloc)?.bin_name("msgq salvage")?,
+        _ => new_command(alloc)?.bin_name("msgq new")?,
+    };
+    command.error(ErrorKind::ValueValidation, why.as_str())
 }
 
 /// The number of pages that a word asks for, where a file can have so many.
@@ -234,22 +302,25 @@ fn command<'a>(alloc: Global) -> Result<Command<'a>, AllocError> {
     )?;
     let stat = report_command(alloc, "stat", "Shows the queues of a file", STAT_PRINTS)?;
     let migrate = migrate_command(alloc)?;
+    let copy = copy_command(alloc)?;
+    let salvage = salvage_command(alloc)?;
     Command::new(alloc, "msgq")
         .version(VERSION)
         .about("Message queues (XSI, POSIX.1-2017) kept in one file")
         .after_help(ENDING)
-        .disable_help_subcommand(true)
         .subcommand(new)?
         .subcommand(run)?
         .subcommand(replay)?
         .subcommand(check)?
         .subcommand(stat)?
-        .subcommand(migrate)
+        .subcommand(migrate)?
+        .subcommand(copy)?
+        .subcommand(salvage)
 }
 
 /// `new FILE PAGES`.
 fn new_command<'a>(alloc: Global) -> Result<Command<'a>, AllocError> {
-    let pages = argument(alloc, PAGES).help("How many pages of 4,096 bytes it has: 258 to 65,536");
+    let pages = argument(alloc, PAGES).help(SIZE);
     Command::new(alloc, "new")
         .about("Makes a file of message queues")
         .after_help(NEW_PRINTS)
@@ -264,7 +335,8 @@ fn run_command<'a>(alloc: Global) -> Result<Command<'a>, AllocError> {
         .about("Runs a script on a file of message queues")
         .after_help(RUN_PRINTS)
         .arg(argument(alloc, FILE).help("The file"))?
-        .arg(script)
+        .arg(script)?
+        .arg(wait_argument(alloc))
 }
 
 /// `replay FILE SCRIPT SCHEDULE`.
@@ -276,7 +348,18 @@ fn replay_command<'a>(alloc: Global) -> Result<Command<'a>, AllocError> {
         .after_help(REPLAY_PRINTS)
         .arg(argument(alloc, FILE).help("The file"))?
         .arg(script)?
-        .arg(schedule)
+        .arg(schedule)?
+        .arg(wait_argument(alloc))
+}
+
+/// The option of a command that changes a file.
+fn wait_argument<'a>(alloc: Global) -> Arg<'a> {
+    Arg::new(alloc, WAIT)
+        .long(WAIT)
+        .value_name("SECONDS")
+        .action(ArgAction::Set)
+        .value_parser(ValueParser::unsigned(0, u64::from(u32::MAX)))
+        .help("Waits so long where another process uses the file; else that is fault 20 at once")
 }
 
 /// `migrate OLD NEW`.
@@ -287,6 +370,28 @@ fn migrate_command<'a>(alloc: Global) -> Result<Command<'a>, AllocError> {
         .after_help(MIGRATE_PRINTS)
         .arg(argument(alloc, OLD).help("The file of version 1, which is not written"))?
         .arg(new)
+}
+
+/// `copy OLD NEW PAGES`.
+fn copy_command<'a>(alloc: Global) -> Result<Command<'a>, AllocError> {
+    let new = argument(alloc, NEW).help("Where the new file is made; there may be nothing");
+    Command::new(alloc, "copy")
+        .about("Makes a file of another size with the same queues")
+        .after_help(COPY_PRINTS)
+        .arg(argument(alloc, OLD).help("The file, which is not written"))?
+        .arg(new)?
+        .arg(argument(alloc, PAGES).help(SIZE))
+}
+
+/// `salvage OLD NEW PAGES`.
+fn salvage_command<'a>(alloc: Global) -> Result<Command<'a>, AllocError> {
+    let new = argument(alloc, NEW).help("Where the new file is made; there may be nothing");
+    Command::new(alloc, "salvage")
+        .about("Makes a file of what can be read of one that is wrong")
+        .after_help(SALVAGE_PRINTS)
+        .arg(argument(alloc, OLD).help("The file, which is not written"))?
+        .arg(new)?
+        .arg(argument(alloc, PAGES).help(SIZE))
 }
 
 /// A subcommand with the argument FILE, and the flag of a report.

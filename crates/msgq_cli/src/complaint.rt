@@ -1,12 +1,14 @@
 //! What standard error says of a run that does not go as it was asked. No claim
 //! rests on these words.
 
-use crate::ending::{Ending, Stage};
+use crate::ending::{Ending, Failure, Stage};
+use crate::fullness::{Fullness, NoRoom};
 use crate::line::text as text_of;
-use crate::line_faults::Met;
+use crate::line_faults::{LineFaults, Met};
 use crate::mistake::{Expected, Mistake, Optional};
 use crate::output::Output;
 use crate::plain::Plain;
+use rollback_journal::Refused;
 use script_words::words;
 use std::alloc::Global;
 use std::fmt::Display;
@@ -16,10 +18,6 @@ use std::io::Write;
 /// Of a longer word the beginning is shown.
 const MOST_SHOWN: usize = 64;
 
-/// What fault 50 of a line says.
-const NO_ROOM: &str = "there is no room for its records: take messages out, or go on in a larger \
-    file ('msgq check --verbose' tells how full one is)";
-
 /// What fault 60 of a line says.
 const NO_MEMORY: &str = "there was no memory for it, and nothing changed: it may be asked again";
 
@@ -27,32 +25,66 @@ const NO_MEMORY: &str = "there was no memory for it, and nothing changed: it may
 const SESSION_FULL: &str =
     "a run makes at most 65536 calls: run the lines from here on by themselves";
 
+/// What the next run does with a file that is not closed.
+const PUTS_BACK: &str = "it finds the file as before these lines or as after all of them, whole";
+
 /// `msgq: FILE: what: why`.
 pub fn complain<E: Write, D: Display + Drop>(file: &str, what: &str, why: D, errors: &mut E) {
     let file = Plain(file);
     let _ = writeln!(errors, "msgq: {file}: {what}: {why}");
 }
 
+/// `msgq: FILE: what (fault N): why`, where `fault N` is printed.
+pub fn complain_of_fault<E: Write, D: Display + Drop>(
+    file: &str,
+    what: &str,
+    fault: u8,
+    why: D,
+    errors: &mut E,
+) {
+    let file = Plain(file);
+    let _ = writeln!(errors, "msgq: {file}: {what} (fault {fault}): {why}");
+}
+
 /// Says of each kind of fault that lines were replied what it is and what can be done: of the first
-/// line that met it, and of how many more.
+/// line that met it, and of how many more. How full the file is, where that is known, is said where
+/// one had no room.
 pub fn complain_of_lines<W: Write + Drop, E: Write>(
     file: &str,
+    fullness: Option<Fullness>,
     output: &Output<W>,
     errors: &mut E,
 ) {
-    let faults = output.line_faults();
-    complain_of_kind(file, faults.no_room, NO_ROOM, errors);
-    complain_of_kind(file, faults.no_memory, NO_MEMORY, errors);
-    complain_of_kind(file, faults.session_full, SESSION_FULL, errors);
+    let LineFaults {
+        no_room,
+        no_memory,
+        session_full,
+    } = output.line_faults();
+    let room = NoRoom(fullness);
+    complain_of_kind(file, no_room, faults::NO_ROOM, room, errors);
+    complain_of_kind(file, no_memory, faults::NO_MEMORY, NO_MEMORY, errors);
+    complain_of_kind(
+        file,
+        session_full,
+        faults::SESSION_FULL,
+        SESSION_FULL,
+        errors,
+    );
 }
 
 /// Says of one kind of fault what it is, where a line met it.
-fn complain_of_kind<E: Write>(file: &str, met: Option<Met>, why: &str, errors: &mut E) {
+fn complain_of_kind<E: Write, D: Display + Drop>(
+    file: &str,
+    met: Option<Met>,
+    fault: u8,
+    why: D,
+    errors: &mut E,
+) {
     let Some(Met { first, more }) = met else {
         return;
     };
     let file = Plain(file);
-    let _ = write!(errors, "msgq: {file}: line {first}: {why}");
+    let _ = write!(errors, "msgq: {file}: line {first} (fault {fault}): {why}");
     let _ = match more {
         0 => writeln!(errors),
         1 => writeln!(errors, "; so one line more"),
@@ -63,10 +95,37 @@ fn complain_of_kind<E: Write>(file: &str, met: Option<Met>, why: &str, errors: &
 /// Says of a run on a file that ended by a fault that no line met what this was.
 pub fn complain_of<E: Write>(file: &str, ending: Ending, errors: &mut E) {
     match ending {
-        Ending::Failed(failure) => complain(file, what(failure.stage), why(failure.fault), errors),
-        Ending::Unopened(fault) => complain(file, what(Stage::Opening), fault, errors),
+        Ending::Failed(Failure { stage, fault }) => {
+            complain_of_fault(file, what(stage), fault, why(fault), errors)
+        }
+        Ending::Unopened(fault) => {
+            complain_of_fault(file, what(Stage::Opening), fault.number(), fault, errors)
+        }
         Ending::Done | Ending::Faulty | Ending::WrongLine(_) | Ending::WrongWord(_) => {}
     }
+}
+
+/// So of a run on a file of the system: in the system's words, where it refused a transfer.
+pub fn complain_of_refused<E: Write>(
+    file: &str,
+    ending: Ending,
+    refused: Option<Refused>,
+    errors: &mut E,
+) {
+    let (Some(Failure { stage, fault }), Some(refused)) = (ending.failure(), refused) else {
+        return complain_of(file, ending, errors);
+    };
+    if fault == faults::DEVICE {
+        complain_of_fault(file, what(stage), fault, refused, errors);
+        if stage == Stage::Closing {
+            complain(file, "the next run", PUTS_BACK, errors);
+        }
+        return;
+    }
+    if fault == faults::FAILED {
+        complain(file, "a transfer failed", refused, errors);
+    }
+    complain_of(file, ending, errors);
 }
 
 /// What could not be done.
@@ -84,7 +143,7 @@ fn what(stage: Stage) -> &'static str {
 pub(crate) fn why(fault: u8) -> &'static str {
     match fault {
         faults::DEVICE => "it is no file, or the system failed to read or write it",
-        faults::PAST_END => "it is cut: it has fewer pages than its header says, or a part of one",
+        faults::PAST_END => "its length is no multiple of 4096, the bytes of a page",
         faults::NO_MEMORY => "there is no memory",
         faults::FAILED => "a line failed before, so nothing was written",
         _ => "it has another form",
@@ -169,8 +228,9 @@ fn form(expected: Expected) -> &'static str {
     }
 }
 
-/// Shows a word. What a terminal could take for a command of its own is shown as `?`.
-fn print_word<E: Write>(word: &[u8], errors: &mut E) -> io::Result<()> {
+/// Shows a word that was not understood. What a terminal could take for a command of its own is shown
+/// as `?`.
+pub fn print_word<E: Write>(word: &[u8], errors: &mut E) -> io::Result<()> {
     errors.write_all(b"  not understood: ")?;
     for byte in word.iter().take(MOST_SHOWN) {
         let shown = if byte.is_ascii_graphic() { *byte } else { b'?' };

@@ -5,12 +5,12 @@ ghost use Rattle.page_device.specs.declared.page.TheConstants.{MAX_PAGES};
 ghost use Rattle.directory.specs.declared.layout.TheConstants.{LEAST_PAGES};
 ghost use Rattle.msgq_cli.specs.Refusals.{IsFaultAlone, IsMadeOrFault, Makes};
 
-use crate::complaint::{complain, complain_of, why};
+use crate::complaint::{complain, complain_of, complain_of_fault, why};
 use crate::ending::{Ending, Stage};
 use crate::heard::Heard;
 use crate::output::Output;
 use crate::plain::Plain;
-use crate::progress::Shown;
+use crate::progress::{Progress, Shown};
 use crate::refusals::{fail, read_text};
 use crate::reply::print_made;
 use directory::LEAST_PAGES;
@@ -27,6 +27,14 @@ pub const STANDARD_INPUT: &str = "-";
 
 /// A file that is run on has as many frames as pages, up to this number.
 pub const MOST_FRAMES: usize = 16_384;
+
+/// What is said of a file that can't be made, or opened.
+const CANT_BE_MADE: &str = "it can't be made";
+
+const CANT_BE_OPENED: &str = "it can't be opened";
+
+/// What can be done where a file is in use.
+const WAITS: &str = "'--wait SECONDS' waits until it is not";
 
 /// What is said where a new file would have the journal of another.
 const LEFT_BEHIND: &str =
@@ -61,14 +69,18 @@ where
         remove_made(rt, file, errors);
         return fail(Stage::Making, faults::NO_MEMORY, output);
     };
-    let device = Shown::new(FileDevice::new(heard, 0), &mut *errors);
-    let (device, ending) = new_on(device, pages, output);
-    let _ = device.into_device();
+    let ending = {
+        let progress = Progress::new(&mut *errors);
+        let device = Shown::new(FileDevice::new(heard, 0), &progress);
+        let (device, ending) = new_on(device, pages, output);
+        let _ = device.into_device();
+        ending
+    };
     if ending == Ending::Done {
         return ending;
     }
     match refusal.into_error() {
-        Some(error) => complain(file, "it can't be made", &error, errors),
+        Some(error) => complain_of_fault(file, CANT_BE_MADE, faults::DEVICE, &error, errors),
         None => complain_of(file, ending, errors),
     }
     remove_made(rt, file, errors);
@@ -84,7 +96,7 @@ where
     E: Write,
 {
     if let Ok(true) = is_left_behind(rt, file) {
-        complain(file, "it can't be made", LEFT_BEHIND, errors);
+        complain_of_fault(file, CANT_BE_MADE, faults::DEVICE, LEFT_BEHIND, errors);
         return None;
     }
     let mut how = OpenOptions::new();
@@ -92,12 +104,18 @@ where
     let made = match how.open(rt, file) {
         Ok(made) => made,
         Err(error) => {
-            complain(file, "it can't be made", &error, errors);
+            complain_of_fault(file, CANT_BE_MADE, faults::DEVICE, &error, errors);
             return None;
         }
     };
     if let Err(error) = sync_folder_of(rt, file) {
-        complain(file, "its name can't be kept", &error, errors);
+        complain_of_fault(
+            file,
+            "its name can't be kept",
+            faults::DEVICE,
+            &error,
+            errors,
+        );
         remove_made(rt, file, errors);
         return None;
     }
@@ -162,8 +180,18 @@ pub fn leave_unopened<W: Write + Drop, E: Write>(
 ) -> Ending
     ensures { (fault : ℕ) × IsFaultAlone fault output.old output.new result }
 {
-    let ending = fail(Stage::Opening, error.number(), output);
-    complain(file, "it can't be opened", error, errors);
+    let fault = error.number();
+    let ending = fail(Stage::Opening, fault, output);
+    match error {
+        OpenError::InUse(holder) => {
+            let file = Plain(file);
+            let _ = writeln!(
+                errors,
+                "msgq: {file}: it is in use by {holder} (fault {fault}): {WAITS}"
+            );
+        }
+        _ => complain_of_fault(file, CANT_BE_OPENED, fault, error, errors),
+    }
     ending
 }
 
@@ -192,18 +220,25 @@ where
     E: Write,
 {
     if is_no_file(rt, file) {
-        complain(file, "it can't be opened", "it is no file", errors);
+        complain_of_fault(
+            file,
+            CANT_BE_OPENED,
+            faults::DEVICE,
+            "it is no file",
+            errors,
+        );
         return Err(DeviceFault::Device);
     }
     let fault = match FileDevice::open_read_only(rt, file) {
         Ok(device) => return Ok(device),
         Err(fault) => fault,
     };
+    let number = fault.number();
     let mut how = OpenOptions::new();
     how.read(true);
     match how.open(rt, file) {
-        Ok(_) => complain(file, "it can't be opened", why(fault.number()), errors),
-        Err(error) => complain(file, "it can't be opened", &error, errors),
+        Ok(_) => complain_of_fault(file, CANT_BE_OPENED, number, why(number), errors),
+        Err(error) => complain_of_fault(file, CANT_BE_OPENED, number, &error, errors),
     }
     Err(fault)
 }

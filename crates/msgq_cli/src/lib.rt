@@ -10,6 +10,7 @@ mod command_line;
 mod complaint;
 mod ending;
 mod files;
+mod fullness;
 mod heard;
 mod line;
 mod line_faults;
@@ -25,24 +26,27 @@ mod reports;
 mod script;
 
 pub use advice::advise;
-pub use checks::{report_file, report_on};
+pub use checks::{check_on, print_found, report_file, warn_of_journal};
 pub use command::{Command, DEFAULT_MODE};
 pub use command_line::{Task, read_command_line};
-pub use complaint::{complain, complain_of, complain_of_lines};
+pub use complaint::{
+    complain, complain_of, complain_of_fault, complain_of_lines, complain_of_refused, print_word,
+};
 pub use ending::{Ending, Failure, Stage};
 pub use file_check;
 pub use files::{
     MOST_FRAMES, STANDARD_INPUT, create_file, leave_unopened, new_file, new_on, open_to_read,
     read_file, remove_made,
 };
+pub use fullness::{Fullness, read_fullness};
 pub use heard::{Heard, Refusal};
 pub use line::{Line, SeatIds};
 pub use mistake::{Expected, Mistake, Optional};
 pub use output::Output;
 pub use plain::Plain;
-pub use progress::Shown;
+pub use progress::{Progress, Shown};
 pub use record_file;
 pub use refusals::{fail, read_text, refuse, unread};
 pub use reply::{Reply, print_fault, print_info, print_made};
-pub use reports::{Report, ReportRequest, print_migrated, print_ok, print_system};
+pub use reports::{Deed, Report, ReportRequest, print_deed, print_ok, print_system, print_unread};
 pub use script::{Script, ScriptError, read_script};

@@ -77,6 +77,11 @@ impl<W: Write + Drop> Output<W> {
         self.writer.into_parts().0
     }
 
+    /// Whether a line had no room for its records.
+    pub fn has_lacked_room(&self) -> bool {
+        self.line_faults.no_room.is_some()
+    }
+
     /// The faults that lines were replied.
     pub(crate) fn line_faults(&self) -> LineFaults {
         self.line_faults

@@ -5,6 +5,8 @@ ghost use Rattle.std.specs.Prelude.{◌≡◌};
 ghost use Rattle.msgq_cli.specs.Progress.{device_of};
 
 use page_device::{DeviceFault, Page, PageDevice};
+use std::cell::RefCell;
+use std::fmt::Display;
 use std::io::{IsTerminal, Write};
 
 /// A file of more pages is large.
@@ -16,29 +18,78 @@ const STEP: u64 = 1_024;
 /// To the beginning of the line, which is cleared.
 const CLEARED: &[u8] = b"\r\x1b[K";
 
-/// A device that passes its transfers on to another, and shows how many pages were read or made.
+/// Where devices show how far they have come: a line of a terminal, which they share.
 #[derive(Drop)]
-pub struct Shown<'a, D: PageDevice, E: Write> {
-    device: D,
-    errors: &'a mut E,
+pub struct Progress<'a, E: Write> {
+    errors: RefCell<&'a mut E>,
     is_terminal: bool,
-    reads: u64,
+}
+
+impl<'a, E: Write + IsTerminal> Progress<'a, E> {
+    /// A line of this writer, where it is a terminal.
+    pub fn new(errors: &'a mut E) -> Progress<'a, E> {
+        let is_terminal = errors.is_terminal();
+        Progress {
+            errors: RefCell::new(errors),
+            is_terminal,
+        }
+    }
+}
+
+impl<E: Write> Progress<'_, E> {
+    /// Whether so many transfers of a device of so many pages are told.
+    fn tells(&self, count: u64, pages: u32) -> bool {
+        self.is_terminal && pages > MOST_UNSHOWN && count % STEP == 0
+    }
+
+    /// Writes the line anew.
+    fn show<D: Display + Drop>(&self, words: D) {
+        if let Ok(mut errors) = self.errors.try_borrow_mut() {
+            let _ = errors.write_all(CLEARED);
+            let _ = errors.write_fmt(words);
+        }
+    }
+
+    /// Clears the line.
+    fn clear(&self) {
+        if let Ok(mut errors) = self.errors.try_borrow_mut() {
+            let _ = errors.write_all(CLEARED);
+        }
+    }
+}
+
+/// What the pages of a device are gone through for.
+#[derive(Clone, Copy, Debug, PartialEq, Eq)]
+enum Phase {
+    /// They are read, each once, and then those of records again.
+    Read,
+    /// They are made, one behind the other.
+    Made,
+    /// Those that were made are written again, in any order.
+    Filled,
+}
+
+/// A device that passes its transfers on to another, and shows how many pages were read, made or
+/// written.
+#[derive(Drop)]
+pub struct Shown<'p, 'a, D: PageDevice, E: Write> {
+    device: D,
+    progress: &'p Progress<'a, E>,
+    phase: Phase,
+    count: u64,
     has_line: bool,
 }
 
-impl<'a, D: PageDevice, E: Write> Shown<'a, D, E> {
-    /// The transfers of a device, which are shown where it is large and this is a terminal.
-    pub fn new(device: D, errors: &'a mut E) -> Shown<'a, D, E>
-    where
-        E: IsTerminal,
+impl<'p, 'a, D: PageDevice, E: Write> Shown<'p, 'a, D, E> {
+    /// The transfers of a device, which are shown where it is large.
+    pub fn new(device: D, progress: &'p Progress<'a, E>) -> Shown<'p, 'a, D, E>
         ensures { device_of result ≡ device }
     {
-        let is_terminal = errors.is_terminal();
         Shown {
             device,
-            errors,
-            is_terminal,
-            reads: 0,
+            progress,
+            phase: Phase::Read,
+            count: 0,
             has_line: false,
         }
     }
@@ -49,19 +100,19 @@ impl<'a, D: PageDevice, E: Write> Shown<'a, D, E> {
     {
         let Shown {
             device,
-            errors,
-            is_terminal: _,
-            reads: _,
+            progress,
+            phase: _,
+            count: _,
             has_line,
         } = self;
         if has_line {
-            let _ = errors.write_all(CLEARED);
+            progress.clear();
         }
         device
     }
 }
 
-impl<D: PageDevice, E: Write> PageDevice for Shown<'_, D, E> {
+impl<D: PageDevice, E: Write> PageDevice for Shown<'_, '_, D, E> {
     ghost is_honest = { λ s. D.is_honest s.device };
 
     ghost content = { λ s. D.content s.device };
@@ -79,51 +130,58 @@ impl<D: PageDevice, E: Write> PageDevice for Shown<'_, D, E> {
     }
 
     fn read(&mut self, page: u32, into: &mut Page) -> Result<(), DeviceFault> {
-        self.reads = self.reads.saturating_add(1);
-        let pages = self.device.pages();
-        if self.is_terminal && is_step(self.reads, pages) {
-            self.has_line = true;
-            show_reads(self.reads, pages, &mut *self.errors);
+        if self.phase == Phase::Read {
+            let pages = self.device.pages();
+            self.count = self.count.saturating_add(1);
+            if self.progress.tells(self.count, pages) {
+                self.has_line = true;
+                show_reads(self.count, pages, self.progress);
+            }
         }
         self.device.read(page, into)
     }
 
     fn write(&mut self, page: u32, bytes: &Page) -> Result<(), DeviceFault> {
+        let pages = self.device.pages();
+        self.count = self.count.saturating_add(1);
+        if self.progress.tells(self.count, pages) {
+            self.has_line = true;
+            let written = self.count;
+            self.progress
+                .show(format_args!("msgq: wrote {written} pages"));
+        }
         self.device.write(page, bytes)
     }
 
     fn extend(&mut self, bytes: &Page) -> Result<(), DeviceFault> {
+        self.phase = Phase::Made;
         let pages = self.device.pages().saturating_add(1);
-        if self.is_terminal && is_step(u64::from(pages), pages) {
+        if self.progress.tells(u64::from(pages), pages) {
             self.has_line = true;
-            show_made(pages, &mut *self.errors);
+            self.progress.show(format_args!("msgq: made {pages} pages"));
         }
         self.device.extend(bytes)
     }
 
     fn sync(&mut self) -> Result<(), DeviceFault> {
+        self.count = 0;
+        self.phase = match self.phase {
+            Phase::Made => Phase::Filled,
+            Phase::Read | Phase::Filled => Phase::Read,
+        };
         self.device.sync()
     }
 }
 
-/// Whether so many transfers of a device of so many pages are told.
-fn is_step(count: u64, pages: u32) -> bool {
-    pages > MOST_UNSHOWN && count % STEP == 0
-}
-
-/// Shows how many pages were read. Each is read once, and then those of records again.
-fn show_reads<E: Write>(reads: u64, pages: u32, errors: &mut E) {
+/// Shows how many pages were read.
+fn show_reads<E: Write>(reads: u64, pages: u32, progress: &Progress<E>) {
     let again = reads.saturating_sub(u64::from(pages));
     let once = reads - again;
-    let _ = errors.write_all(CLEARED);
-    let _ = write!(errors, "msgq: checked {once} of {pages} pages");
     if again > 0 {
-        let _ = write!(errors, ", and {again} again for their records");
+        progress.show(format_args!(
+            "msgq: checked {once} of {pages} pages, and {again} again for their records"
+        ));
+    } else {
+        progress.show(format_args!("msgq: checked {once} of {pages} pages"));
     }
-}
-
-/// Shows how many pages were made.
-fn show_made<E: Write>(pages: u32, errors: &mut E) {
-    let _ = errors.write_all(CLEARED);
-    let _ = write!(errors, "msgq: made {pages} pages");
 }

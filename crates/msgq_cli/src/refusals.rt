@@ -4,7 +4,7 @@ ghost use Rattle.std.specs.Prelude.{◌≡◌, IfOk};
 ghost use Rattle.std.specs.IoError.{error_kind};
 ghost use Rattle.msgq_cli.specs.Refusals.{AreKnownAs, IsFaultAlone, IsRefused, read_fault_of};
 
-use crate::complaint::{complain, complain_of, complain_of_line};
+use crate::complaint::{complain_of, complain_of_fault, complain_of_line};
 use crate::ending::{Ending, Failure, Stage};
 use crate::output::Output;
 use crate::reply::print_fault;
@@ -54,8 +54,9 @@ pub fn unread<W: Write + Drop, E: Write>(
 ) -> Ending
     ensures { IsFaultAlone (read_fault_of (error_kind error.now)) output.old output.new result }
 {
-    complain(name, "it can't be read", error, errors);
-    fail(Stage::Reading, read_fault(error.kind()), output)
+    let fault = read_fault(error.kind());
+    complain_of_fault(name, "it can't be read", fault, error, errors);
+    fail(Stage::Reading, fault, output)
 }
 
 /// The number of an error of a reader: 60 for want of memory, and 20 else.

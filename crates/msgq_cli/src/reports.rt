@@ -1,7 +1,8 @@
 //! What is told of a system that a file holds.
 
+ghost use Rattle.std.specs.Prelude.{◌≡◌};
 ghost use Rattle.msgq_cli.specs.Outputs.{Prints};
-ghost use Rattle.msgq_cli.specs.Reports.{migrated_text, ok_text, report_text, system_text};
+ghost use Rattle.msgq_cli.specs.Reports.{deed_text, ok_text, report_text, system_text, unread_text, word_of};
 
 use crate::output::Output;
 use crate::printed_word::PrintedWord;
@@ -16,6 +17,30 @@ pub enum Report {
     Counts,
     /// The state of each queue, and the next id.
     Queues,
+}
+
+/// What was done with a file to make a new one.
+#[derive(Clone, Copy, Debug, PartialEq, Eq)]
+pub enum Deed {
+    /// An older version became today's.
+    Migrated,
+    /// It was copied, to another size maybe.
+    Copied,
+    /// What can be read of it was taken over.
+    Salvaged,
+}
+
+impl Deed {
+    /// The word that is printed.
+    fn word(self) -> &'static [u8]
+        ensures { result.now ≡ word_of self }
+    {
+        match self {
+            Deed::Migrated => b"migrated",
+            Deed::Copied => b"copied",
+            Deed::Salvaged => b"salvaged",
+        }
+    }
 }
 
 /// A report that is asked for.
@@ -52,14 +77,25 @@ pub fn print_ok<W: Write + Drop>(system: &System, output: &mut Output<W>)
     ]);
 }
 
-/// Prints how many queues of an older file have come to a new one, and messages on them.
-pub fn print_migrated<W: Write + Drop>(system: &System, output: &mut Output<W>)
-    ensures { Prints output.old output.new (migrated_text system.now) }
+/// Prints what was done, how many queues have come to a new file, and messages on them.
+pub fn print_deed<W: Write + Drop>(deed: Deed, system: &System, output: &mut Output<W>)
+    ensures { Prints output.old output.new (deed_text deed system.now) }
 {
     output.line(&[
-        PrintedWord::Text(b"migrated"),
+        PrintedWord::Text(deed.word()),
         PrintedWord::Number(system.queues() as u64),
         PrintedWord::Number(system.messages() as u64),
+    ]);
+}
+
+/// Prints the first and the last of pages that can't be read, and stand one behind the other.
+pub fn print_unread<W: Write + Drop>(first: u32, last: u32, output: &mut Output<W>)
+    ensures { Prints output.old output.new (unread_text first last) }
+{
+    output.line(&[
+        PrintedWord::Text(b"unread"),
+        PrintedWord::Number(u64::from(first)),
+        PrintedWord::Number(u64::from(last)),
     ]);
 }
 

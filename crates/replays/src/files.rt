@@ -1,23 +1,28 @@
 //! Scripts replayed on files: the subcommand of the program.
 
+use crate::ending::Ran;
 use crate::texts::{Texts, refuse_schedule, replay_on};
 use faults::BUSY;
 use msgq_cli::{
-    Ending, Failure, Output, Plain, complain, complain_of, leave_unopened, read_file, read_script,
-    refuse, unread,
+    Ending, Failure, Output, Plain, STANDARD_INPUT, complain, complain_of_fault, complain_of_lines,
+    complain_of_refused, leave_unopened, read_file, read_fullness, read_script, refuse, unread,
 };
-use rollback_journal::open;
+use rollback_journal::safe_device::SafeDevice;
+use rollback_journal::{Opening, SystemPair, open_in_turn};
 use schedules::read_schedule;
 use std::fs::File;
 use std::io::Write;
-use std::rt::Files;
+use std::rt::{Clock, Files};
+
+/// Why a replay is not closed.
+const LEFT: &str = "a line is left that no seat can finish";
 
 /// What a replay is made of, by their names. A script or a schedule of the name `-` is that of
 /// standard input.
 #[derive(Clone, Copy, Debug)]
 pub struct Sources<'a> {
     /// The file.
-    pub file: &'a str,
+    pub file: Opening<'a>,
     /// The script.
     pub script: &'a str,
     /// The schedule.
@@ -37,7 +42,7 @@ pub fn replay_file<R, W, E>(
     errors: &mut E,
 ) -> Ending
 where
-    R: Files<File = File> + AllocGlobal + Input,
+    R: Files<File = File> + AllocGlobal + Input + Clock,
     W: Write + Drop,
     E: Write,
 {
@@ -50,23 +55,61 @@ where
         Ok(schedule) => schedule,
         Err(ending) => return ending,
     };
-    let device = match open(rt, sources.file) {
+    let device = match open_in_turn(rt, sources.file) {
         Ok(device) => device,
-        Err(error) => return leave_unopened(sources.file, error, output, errors),
+        Err(error) => return leave_unopened(sources.file.path, error, output, errors),
     };
     let texts = Texts {
         script: script.as_slice(),
         schedule: schedule.as_slice(),
     };
     let replayed = replay_on(rt.alloc(), device, texts, output, errors);
-    if let Some(failure) = replayed.failure {
-        complain(sources.file, "a line failed", failure, errors);
+    complain_of_ran(sources.file.path, replayed, output, errors)
+}
+
+/// Says of a run or a replay of a file of the system what its lines met, what refused its answers, and
+/// what it ended by. Then the file is let go.
+pub fn complain_of_ran<W: Write + Drop, E: Write>(
+    file: &str,
+    ran: Ran<SafeDevice<SystemPair<File>>>,
+    output: &Output<W>,
+    errors: &mut E,
+) -> Ending {
+    let Ran {
+        mut device,
+        failure,
+        is_untold,
+        ending,
+    } = ran;
+    let fullness = if output.has_lacked_room() {
+        read_fullness(&mut device)
+    } else {
+        None
+    };
+    complain_of_lines(file, fullness, output, errors);
+    if let Some(failure) = failure {
+        complain_of_fault(file, "a line failed", faults::FAILED, failure, errors);
     }
-    if replayed.is_untold {
-        complain_of_output(sources.file, output, errors);
+    if is_untold {
+        complain_of_output(file, output, errors);
     }
-    complain_of_replay(sources.file, replayed.ending, errors);
-    replayed.ending
+    if is_busy(ending) {
+        complain_of_fault(file, "it is not closed", BUSY, LEFT, errors);
+    } else {
+        complain_of_refused(file, ending, device.into_pair().into_refused(), errors);
+    }
+    ending
+}
+
+/// Whether a line was left.
+fn is_busy(ending: Ending) -> bool {
+    matches!(
+        ending,
+        Ending::Failed(Failure {
+            stage: _,
+            fault: BUSY
+        })
+    )
 }
 
 /// The text of a script that is in a file or comes by standard input, once it is known to be one.
@@ -91,7 +134,10 @@ where
     };
     match read_script(rt.alloc(), text.as_slice()) {
         Ok(_) => Ok(text),
-        Err(error) => Err(refuse(rt.alloc(), error, text.as_slice(), output, errors)),
+        Err(error) => {
+            let ending = refuse(rt.alloc(), error, text.as_slice(), output, errors);
+            Err(name_text(name, ending, errors))
+        }
     }
 }
 
@@ -113,41 +159,34 @@ where
     };
     match read_schedule(rt.alloc(), text.as_slice()) {
         Ok(_) => Ok(text),
-        Err(error) => Err(refuse_schedule(error, output, errors)),
+        Err(error) => {
+            let ending = refuse_schedule(rt.alloc(), error, text.as_slice(), output, errors);
+            Err(name_text(name, ending, errors))
+        }
     }
 }
 
+/// Says below what is wrong in a text in which one it is.
+fn name_text<E: Write>(name: &str, ending: Ending, errors: &mut E) -> Ending {
+    if let Ending::WrongLine(_) | Ending::WrongWord(_) = ending {
+        let name = if name == STANDARD_INPUT {
+            "standard input"
+        } else {
+            name
+        };
+        let name = Plain(name);
+        let _ = writeln!(errors, "  in: {name}");
+    }
+    ending
+}
+
 /// Says what refused the answers, so that nothing was written to the file.
-pub fn complain_of_output<W: Write + Drop, E: Write>(
-    file: &str,
-    output: &Output<W>,
-    errors: &mut E,
-) {
+fn complain_of_output<W: Write + Drop, E: Write>(file: &str, output: &Output<W>, errors: &mut E) {
     if let Some(error) = output.refusal() {
         let file = Plain(file);
         let _ = writeln!(
             errors,
             "msgq: standard output: {error}; {file} is unchanged"
         );
-    }
-}
-
-/// Says of a replay that ended by a fault that no line met what this was.
-fn complain_of_replay<E: Write>(file: &str, ending: Ending, errors: &mut E) {
-    match ending {
-        Ending::Failed(
-            Failure {
-                stage: _,
-                fault: BUSY,
-            },
-        ) => {
-            complain(
-                file,
-                "it is not closed",
-                "a line is left that no seat can finish",
-                errors,
-            )
-        }
-        _ => complain_of(file, ending, errors),
     }
 }

@@ -15,7 +15,7 @@ mod texts;
 
 pub use deed::Deed;
 pub use ending::{Ran, run, tell_end};
-pub use files::{Sources, complain_of_output, replay_file, script_text};
+pub use files::{Sources, complain_of_ran, replay_file, script_text};
 pub use opening::{FileKeys, leave_refused, open, open_kernel};
 pub use progress::{Place, Progress};
 pub use replay::{MOST_STEPS, Replay};

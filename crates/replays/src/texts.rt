@@ -6,9 +6,9 @@ ghost use Rattle.replays.specs.Texts.{PlaysTexts};
 
 use crate::ending::{Ran, run};
 use crate::opening::{leave_refused, open};
-use msgq_cli::{Ending, Output, Stage, complain_of, fail, read_script, refuse};
+use msgq_cli::{Ending, Output, Stage, complain_of, fail, print_word, read_script, refuse};
 use page_device::PageDevice;
-use schedules::{ScheduleError, read_schedule};
+use schedules::{Expected, ScheduleError, read_schedule, word_at};
 use std::alloc::Global;
 use std::io::Write;
 
@@ -56,7 +56,10 @@ pub fn replay_on<D: PageDevice + Drop, W: Write + Drop, E: Write>(
     };
     let events = match read_schedule(alloc, texts.schedule) {
         Ok(events) => events,
-        Err(error) => return Ran::unrun(device, refuse_schedule(error, output, errors)),
+        Err(error) => {
+            let ending = refuse_schedule(alloc, error, texts.schedule, output, errors);
+            return Ran::unrun(device, ending);
+        }
     };
     match open(alloc, device, &script) {
         Ok(replay) => run(replay, events.as_slice(), output),
@@ -66,7 +69,9 @@ pub fn replay_on<D: PageDevice + Drop, W: Write + Drop, E: Write>(
 
 /// Ends a replay whose schedule is not read.
 pub(crate) fn refuse_schedule<W: Write + Drop, E: Write>(
+    alloc: Global,
     error: ScheduleError,
+    text: &[u8],
     output: &mut Output<W>,
     errors: &mut E,
 ) -> Ending
@@ -74,7 +79,7 @@ pub(crate) fn refuse_schedule<W: Write + Drop, E: Write>(
 {
     match error {
         ScheduleError::WrongWord { word } => {
-            let _ = writeln!(errors, "schedule word {word}");
+            complain_of_word(alloc, text, word, errors);
             Ending::WrongWord(word)
         }
         ScheduleError::NoMemory => {
@@ -83,4 +88,15 @@ pub(crate) fn refuse_schedule<W: Write + Drop, E: Write>(
             ending
         }
     }
+}
+
+/// `schedule word N`, and below it the word and what could stand there.
+fn complain_of_word<E: Write>(alloc: Global, text: &[u8], number: u64, errors: &mut E) {
+    let _ = writeln!(errors, "schedule word {number}");
+    let Some(word) = word_at(alloc, text, number) else {
+        return;
+    };
+    let _ = print_word(word, errors);
+    let expected = Expected::of(word);
+    let _ = writeln!(errors, "  could stand there: {expected}");
 }

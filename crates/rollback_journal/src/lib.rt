@@ -3,10 +3,13 @@
 
 #![tactic(auto)]
 
+mod holder;
 mod layout;
 mod opening;
+mod system_file;
 mod system_pair;
 
-pub use opening::{LeftOver, OpenError, is_left_behind, look, open};
+pub use holder::Holder;
+pub use opening::{LeftOver, OpenError, Opening, is_left_behind, look, open, open_in_turn};
 pub use safe_device;
-pub use system_pair::SystemPair;
+pub use system_pair::{Refused, SystemPair};

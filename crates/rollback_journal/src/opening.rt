@@ -1,13 +1,15 @@
 //! Files of the system opened with their journals.
 
-use crate::system_pair::SystemPair;
+use crate::holder::{Holder, holder_of};
+use crate::system_pair::{Refused, SystemPair};
 use safe_device::{PagePair, RecoveryFault, SafeDevice, recover};
 use std::alloc::AllocError;
-use std::fs;
 use std::fs::{File, Metadata, OpenOptions, Permissions, TryLockError};
 use std::io::{self, ErrorKind};
 use std::os::unix::fs::{MetadataExt, OpenOptionsExt, PermissionsExt, chown};
-use std::rt::Files;
+use std::rt::{Clock, Files};
+use std::time::{Duration, Instant};
+use std::{fs, thread};
 use thiserror::Error;
 
 /// What a journal's name has more than its file's.
@@ -16,21 +18,30 @@ const SUFFIX: &str = ".journal";
 /// A journal is made with this mode, before it has its file's.
 const OWNER_ALONE: u32 = 0o600;
 
+/// How many milliseconds an opening sleeps before it tries again.
+const NAP: u64 = 10;
+
+/// A file that is to be opened to change it.
+#[derive(Clone, Copy, Debug, PartialEq, Eq)]
+pub struct Opening<'a> {
+    /// Its name.
+    pub path: &'a str,
+    /// How long the opening waits where another process has it open to change it.
+    pub wait: Duration,
+}
+
 /// Why a file was not opened with its journal.
 #[derive(Debug, Drop, Error)]
 pub enum OpenError {
-    /// The system did not open the file, or failed to read it.
-    #[error("{0}")]
-    File(io::Error),
+    /// The system did not open or make one of the two, or failed to read or write it.
+    #[error(transparent)]
+    Refused(#[from] Refused),
     /// It is a fifo, a device or a socket.
     #[error("it is no file")]
     NoFile,
-    /// The system did not open or make the journal, or failed to read or write it.
-    #[error("its journal: {0}")]
-    Journal(io::Error),
     /// Another process has it open to change it.
-    #[error("another process uses it")]
-    InUse,
+    #[error("it is in use by {0}")]
+    InUse(Holder),
     /// The journal is of another file, or names pages that this one does not have.
     #[error("its journal is of another file: put the file or the journal that belongs there")]
     Foreign,
@@ -38,7 +49,7 @@ pub enum OpenError {
     #[error("its journal is of another version")]
     OtherVersion,
     /// It does not hold whole pages.
-    #[error("it is cut: it has a part of a page")]
+    #[error("its length is no multiple of 4096, the bytes of a page")]
     NotWhole,
     /// There is no memory.
     #[error("out of memory")]
@@ -68,13 +79,36 @@ impl OpenError {
             RecoveryFault::Failed(error) => match error.kind() {
                 ErrorKind::InvalidData => OpenError::Foreign,
                 ErrorKind::Unsupported => OpenError::OtherVersion,
-                _ => OpenError::Journal(error),
+                _ => OpenError::Refused(Refused::Journal(error)),
             },
         }
     }
 }
 
-/// Opens a file to change it, once what a session that was cut off has left is undone.
+/// Opens a file to change it as `open` does. Where another process has it open it is tried again until
+/// the time that the opening waits is over.
+pub fn open_in_turn<R>(rt: &R, opening: Opening) -> Result<SafeDevice<SystemPair<File>>, OpenError>
+where
+    R: Files<File = File> + AllocGlobal + Clock,
+{
+    let begun = Instant::now(rt).map_err(Refused::Clock)?;
+    for _ in 0..u64::MAX {
+        let opened = open(rt, opening.path);
+        let Err(OpenError::InUse(_)) = &opened else {
+            return opened;
+        };
+        let waited = begun.elapsed(rt).map_err(Refused::Clock)?;
+        let left = opening.wait.saturating_sub(waited);
+        if left.is_zero() {
+            return opened;
+        }
+        thread::sleep(rt, left.min(Duration::from_millis(NAP)));
+    }
+    Err(OpenError::InUse(Holder::Unknown))
+}
+
+/// Opens a file to change it, once what a session that was cut off has left is undone. Where another
+/// process has it open that is an error.
 ///
 /// Its journal stands beside it, and is made where there is none; who may not read the file may not
 /// read it. It is locked until the device is let go: no other process opens the file so meanwhile.
@@ -83,24 +117,24 @@ where
     R: Files<File = File> + AllocGlobal,
 {
     // A fifo would wait for a writer.
-    let found = fs::metadata(rt, path).map_err(OpenError::File)?;
+    let found = fs::metadata(rt, path).map_err(Refused::File)?;
     if !found.is_file() && !found.is_dir() {
         return Err(OpenError::NoFile);
     }
     let mut how = OpenOptions::new();
     how.read(true).write(true);
-    let file = how.open(rt, path).map_err(OpenError::File)?;
-    let journal = open_journal(rt, path, &file).map_err(OpenError::Journal)?;
+    let file = how.open(rt, path).map_err(Refused::File)?;
+    let journal = open_journal(rt, path, &file).map_err(Refused::Journal)?;
     match journal.try_lock() {
         Ok(()) => {}
-        Err(TryLockError::WouldBlock) => return Err(OpenError::InUse),
-        Err(TryLockError::Error(error)) => return Err(OpenError::Journal(error)),
+        Err(TryLockError::WouldBlock) => return Err(OpenError::InUse(holder_of(rt, &journal))),
+        Err(TryLockError::Error(error)) => return Err(Refused::Journal(error).into()),
     }
-    let mut pair = SystemPair::new(file, journal).map_err(OpenError::File)?;
+    let mut pair = SystemPair::new(file, journal).map_err(Refused::File)?;
     if let Err(fault) = recover(&mut pair) {
         return Err(OpenError::of_recovery(fault));
     }
-    if !pair.is_whole().map_err(OpenError::File)? {
+    if !pair.is_whole().map_err(Refused::File)? {
         return Err(OpenError::NotWhole);
     }
     Ok(SafeDevice::new(rt.alloc(), pair)?)
@@ -171,26 +205,51 @@ where
     R: Files<File = File> + AllocGlobal,
 {
     let name = journal_of(rt, path)?;
-    let mut how = OpenOptions::new();
-    how.read(true).write(true);
     match fs::symlink_metadata(rt, name.as_str()) {
-        Ok(found) => {
-            if !found.is_file() || !may_write(&found, &file.metadata()?) {
-                return Err(ErrorKind::PermissionDenied.into());
-            }
-            let journal = how.open(rt, name.as_str())?;
-            guard(rt, name.as_str(), &journal, &file.metadata()?)?;
-            Ok(journal)
-        }
+        Ok(found) => open_found(rt, name.as_str(), &found, file),
         Err(error) if error.kind() == ErrorKind::NotFound => {
-            how.create_new(true).mode(OWNER_ALONE);
-            let journal = how.open(rt, name.as_str())?;
-            guard(rt, name.as_str(), &journal, &file.metadata()?)?;
-            sync_folder_of(rt, name.as_str())?;
-            Ok(journal)
+            match make_journal(rt, name.as_str(), file) {
+                // Another process has made it meanwhile.
+                Err(error) if error.kind() == ErrorKind::AlreadyExists => {
+                    let found = fs::symlink_metadata(rt, name.as_str())?;
+                    open_found(rt, name.as_str(), &found, file)
+                }
+                made => made,
+            }
         }
         Err(error) => Err(error),
     }
+}
+
+/// The journal that was found.
+fn open_found<R>(rt: &R, name: &str, found: &Metadata, file: &File) -> io::Result<File>
+where
+    R: Files<File = File>,
+{
+    if !found.is_file() || !may_write(found, &file.metadata()?) {
+        return Err(ErrorKind::PermissionDenied.into());
+    }
+    let mut how = OpenOptions::new();
+    how.read(true).write(true);
+    let journal = how.open(rt, name)?;
+    guard(rt, name, &journal, &file.metadata()?)?;
+    Ok(journal)
+}
+
+/// A journal where there is none.
+fn make_journal<R>(rt: &R, name: &str, file: &File) -> io::Result<File>
+where
+    R: Files<File = File>,
+{
+    let mut how = OpenOptions::new();
+    how.read(true)
+        .write(true)
+        .create_new(true)
+        .mode(OWNER_ALONE);
+    let journal = how.open(rt, name)?;
+    guard(rt, name, &journal, &file.metadata()?)?;
+    sync_folder_of(rt, name)?;
+    Ok(journal)
 }
 
 /// Whether what stands at a journal's name was made by somebody who may write the file: its owner

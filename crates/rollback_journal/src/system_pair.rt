@@ -4,12 +4,14 @@ use crate::layout::{
     FoundHead, HEAD_BYTES, Head, IMAGE_BYTES, Sum, big_endian, chained, digest, image_at, page_at,
     read_head, spell_head, spell_image,
 };
+use crate::system_file::SystemFile;
 use byteorder::{BigEndian, ByteOrder};
 use safe_device::page_device::{DIGEST_BYTES, MAX_PAGES, PAGE_BYTES, Page};
 use safe_device::{FoundJournal, PageImage, PagePair};
 use std::fs::OpenFile;
 use std::io::{self, ErrorKind};
 use std::os::unix::fs::FileExt;
+use thiserror::Error;
 
 /// A file of the system and its journal, both open for reads and writes.
 ///
@@ -17,10 +19,24 @@ use std::os::unix::fs::FileExt;
 /// So the members say nothing, and what is promised of an honest pair is not promised of this one.
 #[derive(Drop)]
 pub struct SystemPair<F: Drop> {
-    file: F,
-    journal: F,
+    file: SystemFile<F>,
+    journal: SystemFile<F>,
     pages: u32,
     begun: Option<Begun>,
+}
+
+/// What the system said where it refused something of a file or its journal.
+#[derive(Debug, Drop, Error)]
+pub enum Refused {
+    /// Of the file.
+    #[error("{0}")]
+    File(io::Error),
+    /// Of its journal.
+    #[error("its journal: {0}")]
+    Journal(io::Error),
+    /// Of the clock by which an opening waits.
+    #[error("the clock: {0}")]
+    Clock(io::Error),
 }
 
 /// The journal of this session: how many images it holds, and the digest with which it ends.
@@ -33,7 +49,9 @@ struct Begun {
 impl<F: FileExt + OpenFile + Drop> SystemPair<F> {
     /// Two open files. One with more pages than there can be shows one too many.
     pub fn new(file: F, journal: F) -> io::Result<SystemPair<F>> {
-        let len = file.metadata()?.len();
+        let file = SystemFile::new(file);
+        let journal = SystemFile::new(journal);
+        let len = file.bytes()?;
         let pages = (len / PAGE_BYTES as u64).min(MAX_PAGES as u64 + 1) as u32;
         Ok(SystemPair {
             file,
@@ -45,14 +63,22 @@ impl<F: FileExt + OpenFile + Drop> SystemPair<F> {
 
     /// Whether the file holds whole pages.
     pub fn is_whole(&self) -> io::Result<bool> {
-        Ok(self.file.metadata()?.len() % PAGE_BYTES as u64 == 0)
+        Ok(self.file.bytes()? % PAGE_BYTES as u64 == 0)
+    }
+
+    /// What the system said where it refused a transfer last, if it refused one.
+    pub fn into_refused(self) -> Option<Refused> {
+        match self.journal.into_refusal() {
+            Some(error) => Some(Refused::Journal(error)),
+            None => Some(Refused::File(self.file.into_refusal()?)),
+        }
     }
 
     /// The digest of page 0, where there is one.
     fn page_zero(&self) -> io::Result<Sum> {
         let mut bytes = [0; PAGE_BYTES];
         if self.pages > 0 {
-            self.file.read_exact_at(&mut bytes, 0)?;
+            self.file.read(&mut bytes, 0)?;
         }
         Ok(digest(&bytes))
     }
@@ -65,7 +91,7 @@ impl<F: FileExt + OpenFile + Drop> SystemPair<F> {
         };
         let (bytes, sum) = spell_head(&head);
         self.journal.set_len(0)?;
-        self.journal.write_all_at(&bytes, 0)?;
+        self.journal.write(&bytes, 0)?;
         Ok(Begun { images: 0, sum })
     }
 
@@ -74,10 +100,9 @@ impl<F: FileExt + OpenFile + Drop> SystemPair<F> {
         let at = image_at(index);
         let mut number = [0; 4];
         let mut sum = [0; DIGEST_BYTES];
-        self.journal.read_exact_at(&mut number, at)?;
-        self.journal.read_exact_at(page, at + 4)?;
-        self.journal
-            .read_exact_at(&mut sum, at + 4 + PAGE_BYTES as u64)?;
+        self.journal.read(&mut number, at)?;
+        self.journal.read(page, at + 4)?;
+        self.journal.read(&mut sum, at + 4 + PAGE_BYTES as u64)?;
         Ok((number, sum))
     }
 
@@ -125,18 +150,18 @@ impl<F: FileExt + OpenFile + Drop> PagePair for SystemPair<F> {
     }
 
     fn load(&self, page: u32, into: &mut Page) -> io::Result<()> {
-        self.file.read_exact_at(into, page_at(page))
+        self.file.read(into, page_at(page))
     }
 
     fn store(&mut self, page: u32, bytes: &Page) -> io::Result<()> {
         if page >= self.pages {
             return Err(ErrorKind::UnexpectedEof.into());
         }
-        self.file.write_all_at(bytes, page_at(page))
+        self.file.write(bytes, page_at(page))
     }
 
     fn extend(&mut self, bytes: &Page) -> io::Result<()> {
-        self.file.write_all_at(bytes, page_at(self.pages))?;
+        self.file.write(bytes, page_at(self.pages))?;
         self.pages = self.pages.saturating_add(1);
         Ok(())
     }
@@ -148,16 +173,16 @@ impl<F: FileExt + OpenFile + Drop> PagePair for SystemPair<F> {
     }
 
     fn sync_file(&mut self) -> io::Result<()> {
-        self.file.sync_all()
+        self.file.sync()
     }
 
     fn find_journal(&self) -> io::Result<Option<FoundJournal>> {
-        let len = self.journal.metadata()?.len();
+        let len = self.journal.bytes()?;
         if len < HEAD_BYTES as u64 {
             return Ok(None);
         }
         let mut bytes = [0; HEAD_BYTES];
-        self.journal.read_exact_at(&mut bytes, 0)?;
+        self.journal.read(&mut bytes, 0)?;
         let (head, sum) = match read_head(&bytes) {
             FoundHead::Torn => return Ok(None),
             FoundHead::OtherVersion => {
@@ -192,7 +217,7 @@ impl<F: FileExt + OpenFile + Drop> PagePair for SystemPair<F> {
             let number = big_endian(image.page);
             begun.sum = chained(&begun.sum, &number, &image.bytes);
             let bytes = spell_image(&number, &image.bytes, &begun.sum);
-            self.journal.write_all_at(&bytes, image_at(begun.images))?;
+            self.journal.write(&bytes, image_at(begun.images))?;
             begun.images = begun.images.saturating_add(1);
         }
         self.begun = Some(begun);
@@ -205,6 +230,6 @@ impl<F: FileExt + OpenFile + Drop> PagePair for SystemPair<F> {
     }
 
     fn sync_journal(&mut self) -> io::Result<()> {
-        self.journal.sync_all()
+        self.journal.sync()
     }
 }

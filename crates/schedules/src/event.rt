@@ -4,8 +4,10 @@ ghost use Rattle.std.specs.Prelude.{◌≡◌};
 ghost use Rattle.std.specs.List.{position};
 ghost use Rattle.schedules.specs.Events.{count_of, digits_before, event_of, is_mark, seat_event_of};
 
-use crate::kinds::kind_named;
+use crate::kinds::{KINDS, kind_named};
 use script_words::{is_word, number, seat};
+use std::fmt;
+use std::fmt::{Display, Formatter};
 use step_rules::Kind;
 
 /// The greatest number of events that one word asks for.
@@ -37,6 +39,47 @@ pub enum Event {
     },
     /// `stop`: from here on no call waits.
     Stop,
+}
+
+/// What could stand in the place of a wrong word.
+#[derive(Clone, Copy, Debug, PartialEq, Eq)]
+pub enum Expected {
+    /// Any word.
+    Word,
+    /// Behind a seat and `:`, how often.
+    Count,
+    /// Behind a seat and `@`, a kind of step.
+    Kind,
+}
+
+impl Expected {
+    /// What could stand in the place of this word.
+    pub fn of(word: &[u8]) -> Expected {
+        let (digits, rest) = word.split_at(digits_before(word));
+        match rest {
+            [b':', ..] if seat(digits).is_some() => Expected::Count,
+            [b'@', ..] if seat(digits).is_some() => Expected::Kind,
+            _ => Expected::Word,
+        }
+    }
+}
+
+impl Display for Expected {
+    fn fmt<W: fmt::Write>(&self, f: &mut Formatter<W>) -> fmt::Result {
+        match self {
+            Expected::Word => f.write_str(
+                "SEAT, a number from 1 to 64, with :K, !, @KIND or nothing behind it; or stop",
+            ),
+            Expected::Count => f.write_str("SEAT:K, where K is a number from 1 to 1000000"),
+            Expected::Kind => {
+                f.write_str("SEAT@KIND, where KIND is one of")?;
+                for kind in &KINDS {
+                    write!(f, " {}", kind.name())?;
+                }
+                Ok(())
+            }
+        }
+    }
 }
 
 /// What a word asks for, if the grammar has it.

@@ -7,9 +7,9 @@ mod kinds;
 mod laws;
 mod schedule;
 
-pub use event::Event;
+pub use event::{Event, Expected};
 pub use laws::each_kind_has_a_name_of_its_own;
-pub use schedule::{ScheduleError, read_schedule};
+pub use schedule::{ScheduleError, read_schedule, word_at};
 
 #[cfg(test)]
 mod tests;

@@ -63,6 +63,14 @@ pub fn read_schedule(alloc: Global, bytes: &[u8]) -> Result<Vec<Event>, Schedule
     Ok(events)
 }
 
+/// The word of this number in a schedule; words count from 1.
+pub fn word_at(alloc: Global, bytes: &[u8], number: u64) -> Option<&[u8]> {
+    let words = schedule_words(alloc, bytes).ok()?;
+    words
+        .get(usize::try_from(number).ok()?.checked_sub(1)?)
+        .copied()
+}
+
 /// What stands between spaces, tabs and line ends, in order.
 fn schedule_words(alloc: Global, bytes: &[u8]) -> Result<Vec<&[u8]>, AllocError>
     ensures { IfOk result (λ words. texts words.items ≡ schedule_words bytes.now) }

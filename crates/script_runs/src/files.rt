@@ -1,12 +1,12 @@
 //! Scripts run on files: the subcommand of the program.
 
 use crate::serving::run_text_on;
-use msgq_cli::{Ending, Output, complain, complain_of, leave_unopened};
-use replays::{complain_of_output, script_text};
-use rollback_journal::open;
+use msgq_cli::{Ending, Output, leave_unopened};
+use replays::{complain_of_ran, script_text};
+use rollback_journal::{Opening, open_in_turn};
 use std::fs::File;
 use std::io::Write;
-use std::rt::Files;
+use std::rt::{Clock, Files};
 
 /// `run FILE SCRIPT`: runs the script of a file, or of standard input, on a file of message queues.
 ///
@@ -15,13 +15,13 @@ use std::rt::Files;
 /// `fault N` alone where it is not. Then it is as `run_text_on` says.
 pub fn run_file<R, W, E>(
     rt: &R,
-    file: &str,
+    file: Opening,
     script: &str,
     output: &mut Output<W>,
     errors: &mut E,
 ) -> Ending
 where
-    R: Files<File = File> + AllocGlobal + Input,
+    R: Files<File = File> + AllocGlobal + Input + Clock,
     W: Write + Drop,
     E: Write,
 {
@@ -30,17 +30,10 @@ where
         Ok(text) => text,
         Err(ending) => return ending,
     };
-    let device = match open(rt, file) {
+    let device = match open_in_turn(rt, file) {
         Ok(device) => device,
-        Err(error) => return leave_unopened(file, error, output, errors),
+        Err(error) => return leave_unopened(file.path, error, output, errors),
     };
     let ran = run_text_on(rt.alloc(), device, text.as_slice(), output, errors);
-    if let Some(failure) = ran.failure {
-        complain(file, "a line failed", failure, errors);
-    }
-    if ran.is_untold {
-        complain_of_output(file, output, errors);
-    }
-    complain_of(file, ran.ending, errors);
-    ran.ending
+    complain_of_ran(file.path, ran, output, errors)
 }

@@ -1,0 +1,196 @@
+//! The subcommands `migrate` and `copy`.
+
+ghost use Rattle.std.specs.Prelude.{◌≡◌, ◌≤◌, []};
+ghost use Rattle.directory.specs.Layouts.{IsLayout};
+ghost use Rattle.directory.specs.declared.layout.TheConstants.{LEAST_PAGES};
+ghost use Rattle.page_device.specs.declared.page.TheConstants.{MAX_PAGES};
+ghost use Rattle.migration_runs.specs.Printing.{HasSize, IsDoneOrFault, deed_of};
+
+use bucket_page::ShaKey;
+use directory::{LAYOUT, Layout, OLDER_LAYOUT, layouts_are_right};
+use migration::{Copied, CopyFault, Target, copy, migrated_pages};
+use msgq_cli::{
+    Deed, Ending, Failure, Heard, Output, Progress, Shown, Stage, advise, complain, create_file,
+    fail, open_to_read, print_deed, remove_made, warn_of_journal,
+};
+use page_device::{FileDevice, PageDevice, SystemFile};
+use queue_model::System;
+use std::alloc::Global;
+use std::fs::File;
+use std::io::{self, IsTerminal, Write};
+use std::rt::Files;
+
+/// What a new file is made of, and how many pages it gets.
+#[derive(Clone, Copy, Debug, PartialEq, Eq)]
+pub enum Size {
+    /// The old file is of version 1, and the new one has as many more as today's directory.
+    Migrated,
+    /// The old file is of today's version, and the new one has so many.
+    Pages(u32),
+}
+
+impl Size {
+    /// What is done.
+    fn deed(self) -> Deed
+        ensures { result ≡ deed_of self }
+    {
+        match self {
+            Size::Migrated => Deed::Migrated,
+            Size::Pages(_) => Deed::Copied,
+        }
+    }
+
+    /// The layout of the old file.
+    fn layout(self) -> Layout
+        ensures { IsLayout result }
+    {
+        layouts_are_right();
+        match self {
+            Size::Migrated => OLDER_LAYOUT,
+            Size::Pages(_) => LAYOUT,
+        }
+    }
+
+    /// Pages of the new file, where the old one has so many.
+    fn pages(self, old: u32) -> u32
+        requires { HasSize self }
+        ensures least { LEAST_PAGES ≤ result }
+        ensures most { result ≤ MAX_PAGES }
+    {
+        match self {
+            Size::Migrated => migrated_pages(old),
+            Size::Pages(pages) => pages,
+        }
+    }
+}
+
+/// A new file that is asked for.
+#[derive(Clone, Copy, Debug, PartialEq, Eq)]
+pub struct CopyRequest<'a> {
+    /// The old file, which is only read.
+    pub old: &'a str,
+    /// Where the new one is made.
+    pub new: &'a str,
+    /// How many pages it gets.
+    pub size: Size,
+}
+
+/// `migrate OLD NEW` and `copy OLD NEW PAGES`: makes a file of today's version of the system of
+/// another, where nothing may be yet, and prints `migrated QUEUES MESSAGES` or `copied QUEUES
+/// MESSAGES`. NEW and its name are on the disk then.
+///
+/// Fault 20 alone where the system refuses to make NEW. Then OLD is opened, to be read alone, and
+/// checked: `fault N` alone for the first thing that is wrong with it, and where NEW has no room for
+/// its records (50), a transfer of either fails (20), or there is no memory (60). The NEW that was
+/// made is then removed. How far it is is shown on a terminal.
+pub fn copy_file<R, W, E>(
+    rt: &R,
+    request: CopyRequest,
+    output: &mut Output<W>,
+    errors: &mut E,
+) -> Ending
+where
+    R: Files<File = File> + AllocGlobal,
+    W: Write + Drop,
+    E: Write + IsTerminal,
+    requires { HasSize request.size }
+    ensures { IsDoneOrFault (deed_of request.entry.size) output.old output.new result }
+{
+    let CopyRequest { old, new, size } = request;
+    let Some(made) = create_file(rt, new, errors) else {
+        return fail(Stage::Making, faults::DEVICE, output);
+    };
+    warn_of_journal(rt, old, errors);
+    let device = match open_to_read(rt, old, errors) {
+        Ok(device) => device,
+        Err(fault) => {
+            remove_made(rt, new, errors);
+            return fail(Stage::Opening, fault.number(), output);
+        }
+    };
+    let Ok((heard, refusal)) = Heard::new(rt.alloc(), SystemFile::new(made)) else {
+        remove_made(rt, new, errors);
+        return fail(Stage::Making, faults::NO_MEMORY, output);
+    };
+    let found = copy_on(rt.alloc(), size, device, FileDevice::new(heard, 0), errors);
+    match found {
+        Ok(system) => {
+            print_deed(size.deed(), &system, output);
+            Ending::Done
+        }
+        Err(fault) => {
+            let stage = explain(rt, request, fault, refusal.into_error(), errors);
+            remove_made(rt, new, errors);
+            fail(stage, fault.number(), output)
+        }
+    }
+}
+
+/// Makes the new file on a device, and shows on a terminal how far it is.
+fn copy_on<O, N, E>(
+    alloc: Global,
+    size: Size,
+    old: O,
+    new: N,
+    errors: &mut E,
+) -> Result<System, CopyFault>
+where
+    O: PageDevice + Drop,
+    N: PageDevice + Drop,
+    E: Write + IsTerminal,
+    requires size { HasSize size }
+    requires empty { N.content new ≡ [] }
+{
+    let progress = Progress::new(errors);
+    let target = Target {
+        pages: size.pages(old.pages()),
+        device: Shown::new(new, &progress),
+    };
+    let old = Shown::new(old, &progress);
+    let Copied { old, new, found } = copy(alloc, &size.layout(), old, target, ShaKey);
+    let _ = old.into_device();
+    let _ = new.into_device();
+    found
+}
+
+/// Says why a file did not become a new one, and tells what was being done.
+fn explain<R, E>(
+    rt: &R,
+    request: CopyRequest,
+    fault: CopyFault,
+    refusal: Option<io::Error>,
+    errors: &mut E,
+) -> Stage
+where
+    R: Files<File = File>,
+    E: Write,
+{
+    let CopyRequest { old, new, size } = request;
+    match (fault, refusal) {
+        (CopyFault::Old(fault), _) => {
+            let what = match size {
+                Size::Migrated => "it can't be migrated",
+                Size::Pages(_) => "it can't be copied",
+            };
+            if size == Size::Migrated && fault.number() == faults::BAD_VERSION {
+                complain(old, what, "it is not of version 1", errors);
+                return Stage::Checking;
+            }
+            complain(old, what, fault, errors);
+            let failure = Failure {
+                stage: Stage::Checking,
+                fault: fault.number(),
+            };
+            advise(rt, old, Ending::Failed(failure), errors);
+            Stage::Checking
+        }
+        (CopyFault::New(_), Some(error)) => {
+            complain(new, "it can't be made", &error, errors);
+            Stage::Making
+        }
+        (CopyFault::New(fault), None) => {
+            complain(new, "it can't be made", fault, errors);
+            Stage::Making
+        }
+    }
+}

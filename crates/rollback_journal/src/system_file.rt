@@ -1,0 +1,65 @@
+//! A file of the system, and what the system said of it.
+
+use std::cell::Cell;
+use std::fs::OpenFile;
+use std::io;
+use std::os::unix::fs::FileExt;
+
+/// A file of the system that keeps what was said where a transfer was refused last.
+#[derive(Drop)]
+pub struct SystemFile<F: Drop> {
+    file: F,
+    why: Cell<Option<io::Error>>,
+}
+
+impl<F: FileExt + OpenFile + Drop> SystemFile<F> {
+    /// An open file.
+    pub fn new(file: F) -> SystemFile<F> {
+        SystemFile {
+            file,
+            why: Cell::new(None),
+        }
+    }
+
+    /// What the system said last, if it refused a transfer.
+    pub fn into_refusal(self) -> Option<io::Error> {
+        self.why.into_inner()
+    }
+
+    /// How many bytes it has.
+    pub fn bytes(&self) -> io::Result<u64> {
+        Ok(self.heard(self.file.metadata())?.len())
+    }
+
+    /// Reads all these bytes, which begin there.
+    pub fn read(&self, into: &mut [u8], at: u64) -> io::Result<()> {
+        self.heard(self.file.read_exact_at(into, at))
+    }
+
+    /// Writes all these bytes, from there on.
+    pub fn write(&self, bytes: &[u8], at: u64) -> io::Result<()> {
+        self.heard(self.file.write_all_at(bytes, at))
+    }
+
+    /// Gives it so many bytes.
+    pub fn set_len(&self, bytes: u64) -> io::Result<()> {
+        self.heard(self.file.set_len(bytes))
+    }
+
+    /// Brings it to where it outlasts a crash.
+    pub fn sync(&self) -> io::Result<()> {
+        self.heard(self.file.sync_all())
+    }
+
+    /// What came of a transfer, which is kept where it was refused.
+    fn heard<T: Drop>(&self, came: io::Result<T>) -> io::Result<T> {
+        came.map_err(|error| {
+            let again = match error.raw_os_error() {
+                Some(code) => io::Error::from_raw_os_error(code),
+                None => error.kind().into(),
+            };
+            self.why.set(Some(again));
+            error
+        })
+    }
+}
