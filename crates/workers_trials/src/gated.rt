@@ -120,20 +120,21 @@ pub fn long(alloc: Global) -> Result<Call, Fail> {
 /// Seat 1 sends one message more, seat 2 receives from the other queue once that is held, and then
 /// seat 3 asks for the state of the queue.
 fn plan(alloc: Global, shown: &Shown) -> Result<Plan<'_>, Fail> {
+    let mut first = Vec::new(alloc);
+    first.push(Deed::Raise(&shown.watched))?;
+    first.push(Deed::Call(long(alloc)?))?;
+    let mut second = Vec::new(alloc);
+    second.push(Deed::Await(&shown.held))?;
+    second.push(Deed::Call(receive(2, 10)))?;
+    second.push(Deed::Raise(&shown.received))?;
+    let mut third = Vec::new(alloc);
+    third.push(Deed::Await(&shown.received))?;
+    third.push(Deed::Call(Call::Stat { id: 1 }))?;
+    third.push(Deed::Raise(&shown.told))?;
     let mut scripts = Vec::new(alloc);
-    for _ in 0..3 {
-        scripts.push(Vec::new(alloc))?;
-    }
-    if let [first, second, third] = scripts.as_mut_slice() {
-        first.push(Deed::Raise(&shown.watched))?;
-        first.push(Deed::Call(long(alloc)?))?;
-        second.push(Deed::Await(&shown.held))?;
-        second.push(Deed::Call(receive(2, 10)))?;
-        second.push(Deed::Raise(&shown.received))?;
-        third.push(Deed::Await(&shown.received))?;
-        third.push(Deed::Call(Call::Stat { id: 1 }))?;
-        third.push(Deed::Raise(&shown.told))?;
-    }
+    scripts.push(first)?;
+    scripts.push(second)?;
+    scripts.push(third)?;
     Ok(Plan {
         before: before(alloc)?,
         scripts,

@@ -54,14 +54,15 @@ pub fn calls(journal: &[Entry]) -> usize {
 /// the last of the part.
 pub fn is_part(journal: &[Entry], seat: u8, list: &[Entry], more: usize) -> bool {
     let mut left = more;
-    let mut rest = list.iter();
+    let mut told: usize = 0;
     for entry in journal {
         if is_of(entry, seat) {
-            match rest.next() {
+            match list.get(told) {
                 Some(its) => {
                     if its != entry {
                         return false;
                     }
+                    told = told.saturating_add(1);
                 }
                 None => match left.checked_sub(1) {
                     Some(fewer) => left = fewer,
@@ -70,18 +71,21 @@ pub fn is_part(journal: &[Entry], seat: u8, list: &[Entry], more: usize) -> bool
             }
         }
     }
-    rest.next().is_none()
+    told == list.len()
 }
 
 /// Whether a seat was told these answers, in their order.
 pub fn is_told(journal: &[Entry], seat: u8, answers: &[Answer]) -> bool {
-    let mut rest = answers.iter();
+    let mut told: usize = 0;
     for entry in journal {
-        if is_of(entry, seat) && answer_of(entry) != rest.next() {
-            return false;
+        if is_of(entry, seat) {
+            if answer_of(entry) != answers.get(told) {
+                return false;
+            }
+            told = told.saturating_add(1);
         }
     }
-    rest.next().is_none()
+    told == answers.len()
 }
 
 /// Whether an entry is one of a seat's calls.
