@@ -11,14 +11,18 @@ use crate::held::{Held, Sleepers};
 use crate::naming::Base;
 use crate::seat::Seat;
 use bucket_page::PseudoKey;
+use crossbeam_utils::Backoff;
 use interleavings::interleaving_core::Step;
 use page_device::PageDevice;
 use queue_model::{Answer, Call, Entry};
 use seat_passes::{GaugePass, Room};
 use std::alloc::Global;
 use std::marker::Model;
-use std::sync::{Condvar, Mutex, Wait};
+use std::sync::{Condvar, Mutex, MutexGuard, Wait};
 use step_rules::Kind;
+
+/// How often a thread looks for the latch before it sleeps.
+const LOOKS: u32 = 20;
 
 /// A kernel that threads share. One latch lies over it: each hold of it is the beginning of a call,
 /// one step, or the stop.
@@ -66,13 +70,14 @@ impl<D: PageDevice + Drop, K: PseudoKey + Drop, G: Gate, N: Room + Base> Service
         let Ok(draft) = Draft::of(alloc, &call) else {
             return Err(Fault::NoMemory);
         };
-        let mut held = self.latch.lock(rt);
+        let mut held = self.hold(rt);
         if let Err(fault) = held.begin(&self.gauge, &mut seat.pass, seat.number, call) {
             return Err(fault);
         }
         drop(held);
+        let patience = Backoff::new();
         for _ in rt.forever() {
-            let mut held = self.latch.lock(rt);
+            let mut held = self.hold(rt);
             match held.step(&self.gauge, &mut seat.pass, seat.number) {
                 Step::Moved(kind) => {
                     // no other kind gives a lock back, and the journal grows at a Decide alone
@@ -80,16 +85,11 @@ impl<D: PageDevice + Drop, K: PseudoKey + Drop, G: Gate, N: Room + Base> Service
                     let sleepers = held.wake(freed, kind == Kind::Decide);
                     drop(held);
                     self.rouse(sleepers);
+                    patience.reset();
                     self.gate.between(seat.number, kind);
                 }
-                Step::Blocked(_) => {
-                    held.note_blocked();
-                    drop(self.freed.wait(rt, held));
-                }
-                Step::Waiting => {
-                    held.note_waiting();
-                    drop(self.decided.wait(rt, held));
-                }
+                Step::Blocked(_) => self.await_lock(rt, held, &patience),
+                Step::Waiting => self.await_entry(rt, held, &patience),
                 Step::Answered(answer) => {
                     drop(held);
                     let number = seat.number;
@@ -110,7 +110,7 @@ impl<D: PageDevice + Drop, K: PseudoKey + Drop, G: Gate, N: Room + Base> Service
 
     /// From here on a call that would wait is refused `EINTR`, and so are those that wait.
     pub fn stop<R: Wait>(&self, rt: &R) {
-        let mut held = self.latch.lock(rt);
+        let mut held = self.hold(rt);
         held.stop(&self.gauge);
         let sleepers = held.wake(false, true);
         drop(held);
@@ -132,6 +132,50 @@ impl<D: PageDevice + Drop, K: PseudoKey + Drop, G: Gate, N: Room + Base> Service
         ensures knows { seat.new ≡ record seat.old { seen = result } }
     {
         self.gauge.look_from_seat(&mut seat.pass)
+    }
+
+    /// The latch, once it is free. It is free again soon, since a hold is short: so a thread looks for
+    /// it a while before it sleeps.
+    fn hold<R: Wait>(&self, rt: &R) -> MutexGuard<'_, Held<D, K, N>> {
+        let backoff = Backoff::new();
+        for _ in 0..LOOKS {
+            if let Some(held) = self.latch.try_lock() {
+                return held;
+            }
+            backoff.snooze();
+        }
+        self.latch.lock(rt)
+    }
+
+    /// A seat that is blocked lets others go on for a while, and then sleeps until a lock is given
+    /// back.
+    fn await_lock<R: Wait>(&self, rt: &R, held: MutexGuard<'_, Held<D, K, N>>, patience: &Backoff) {
+        let mut held = held;
+        if patience.is_completed() {
+            held.note_blocked();
+            drop(self.freed.wait(rt, held));
+        } else {
+            drop(held);
+            patience.snooze();
+        }
+    }
+
+    /// A seat whose call waits lets others go on for a while, and then sleeps until the journal has
+    /// grown.
+    fn await_entry<R: Wait>(
+        &self,
+        rt: &R,
+        held: MutexGuard<'_, Held<D, K, N>>,
+        patience: &Backoff,
+    ) {
+        let mut held = held;
+        if patience.is_completed() {
+            held.note_waiting();
+            drop(self.decided.wait(rt, held));
+        } else {
+            drop(held);
+            patience.snooze();
+        }
     }
 
     /// Wakes seats that sleep.

@@ -1,0 +1,62 @@
+//! A kernel whose seat 1 is stepped alone.
+
+use crate::files::kernel;
+use crate::gated::{before, long};
+use bucket_page::NumberKey;
+use page_device::MemDevice;
+use queue_model::Call;
+use std::alloc::Global;
+use std::test::Fail;
+use step_rules::Kind;
+use workers::interleavings::interleaving_core::{Kernel, Step};
+
+/// More steps than a Send makes.
+const MOST_STEPS: u32 = 10_000;
+
+/// A kernel of trials.
+type Alone = Kernel<MemDevice, NumberKey>;
+
+/// The kinds by which the Send that the gate holds moves on a kernel in the same state.
+pub fn moved_kinds(alloc: Global) -> Result<Vec<Kind>, Fail> {
+    let mut kernel = kernel(alloc, 352, 3)?;
+    for call in before(alloc)? {
+        begin(&mut kernel, call)?;
+        drive(&mut kernel)?;
+    }
+    begin(&mut kernel, long(alloc)?)?;
+    let mut kinds = Vec::new(alloc);
+    for _ in 0..MOST_STEPS {
+        match step(&mut kernel)? {
+            Step::Moved(kind) => kinds.push(kind)?,
+            _ => return Ok(kinds),
+        }
+    }
+    Err(Fail::from("it ends"))
+}
+
+/// A call begins at seat 1.
+fn begin(kernel: &mut Alone, call: Call) -> Result<(), Fail> {
+    if kernel.seats() == 0 || kernel.begin(1, call).is_err() {
+        return Err(Fail::from("it begins"));
+    }
+    Ok(())
+}
+
+/// A step of seat 1.
+fn step(kernel: &mut Alone) -> Result<Step, Fail> {
+    if kernel.seats() == 0 {
+        return Err(Fail::from("a seat"));
+    }
+    Ok(kernel.step(1))
+}
+
+/// Seat 1 is driven until it is answered.
+fn drive(kernel: &mut Alone) -> Result<(), Fail> {
+    if kernel.seats() == 0 {
+        return Err(Fail::from("a seat"));
+    }
+    match kernel.drive(1) {
+        Step::Answered(_) => Ok(()),
+        _ => Err(Fail::from("it is answered")),
+    }
+}

@@ -1,0 +1,127 @@
+//! The end of a service, and what is left of it.
+
+use crate::plain::{calls, is_part, replayed};
+use crate::playing::{Player, Shared};
+use bucket_page::NumberKey;
+use page_device::PageDevice;
+use queue_model::{Call, Entry};
+use std::alloc::Global;
+use std::test::Fail;
+use workers::interleavings::interleaving_core::CloseFault;
+use workers::{Base, Ended, Ending, Fault, Gate, GaugePass, Room, Seat};
+
+/// What is left of a service. The answers of its journal are those of plain lists, and each seat's
+/// list was its part, but for one entry where a step has failed.
+#[derive(Drop)]
+pub struct Left<D> {
+    /// Its device.
+    pub device: D,
+    /// What was decided.
+    pub journal: Vec<Entry>,
+    /// What each seat was told beside answers, from seat 1 on.
+    pub faults: Vec<Option<Fault>>,
+    /// How many calls a pass of no seat was shown once all threads had ended.
+    pub shown: u64,
+    /// Why it was not closed well.
+    pub fault: Option<CloseFault>,
+}
+
+/// How many calls a pass of no seat is shown.
+pub fn shown<D: PageDevice + Drop, G: Gate, N: Room + Base>(
+    service: &Shared<D, G, N>,
+    passes: Vec<GaugePass<Entry, Call, N>>,
+) -> u64 {
+    let mut passes = passes;
+    match passes.first_mut() {
+        Some(pass) => service.gauge(pass),
+        None => 0,
+    }
+}
+
+/// Closes a service whose threads have ended; where none was told a fault, first with a seat missing.
+pub fn close<D: PageDevice + Drop, G: Gate + Drop, N: Room + Base>(
+    alloc: Global,
+    service: Shared<D, G, N>,
+    players: Vec<Player<N>>,
+    shown: u64,
+) -> Result<Left<D>, Fail> {
+    let mut faults = Vec::new(alloc);
+    let mut seats = Vec::new(alloc);
+    for player in players {
+        faults.push(player.fault)?;
+        seats.push(player.seat)?;
+    }
+    let (service, seats) = if faults.iter().all(Option::is_none) {
+        come_back(service, seats)?
+    } else {
+        (service, seats)
+    };
+    match service.close(seats) {
+        Ending::Closed(ended) => remains(alloc, ended, None, faults, shown),
+        Ending::Fault(ended, fault) => remains(alloc, ended, Some(fault), faults, shown),
+        Ending::Missing(_, _) => Err(Fail::from("no seat is missing")),
+    }
+}
+
+/// Where a seat is missing, service and seats come back.
+fn come_back<D: PageDevice + Drop, G: Gate + Drop, N: Room + Base>(
+    service: Shared<D, G, N>,
+    seats: Vec<Seat<N>>,
+) -> Result<(Shared<D, G, N>, Vec<Seat<N>>), Fail> {
+    let mut seats = seats;
+    let Some(last) = seats.pop() else {
+        return Err(Fail::from("a service has seats"));
+    };
+    match service.close(seats) {
+        Ending::Missing(service, back) => {
+            let mut seats = back;
+            seats.push(last)?;
+            Ok((service, seats))
+        }
+        _ => Err(Fail::from("it is closed though a seat is missing")),
+    }
+}
+
+/// What is left of a service that was closed.
+fn remains<D: PageDevice + Drop, N: Room + Base>(
+    alloc: Global,
+    ended: Ended<D, N>,
+    fault: Option<CloseFault>,
+    faults: Vec<Option<Fault>>,
+    shown: u64,
+) -> Result<Left<D>, Fail> {
+    let Ended {
+        device,
+        journal,
+        seats,
+    } = ended;
+    have_parts(journal.as_slice(), seats.as_slice(), fault)?;
+    if shown != calls(journal.as_slice()) as u64 {
+        return Err(Fail::from("a pass is shown another number of calls"));
+    }
+    if replayed(alloc, journal.as_slice()).is_none() {
+        return Err(Fail::from("plain lists answer otherwise"));
+    }
+    Ok(Left {
+        device,
+        journal,
+        faults,
+        shown,
+        fault,
+    })
+}
+
+/// Each seat's list is its part of the journal; where a step has failed, but for one entry.
+fn have_parts<N: Room + Base>(
+    journal: &[Entry],
+    seats: &[Seat<N>],
+    fault: Option<CloseFault>,
+) -> Result<(), Fail> {
+    let more = usize::from(fault == Some(CloseFault::Failed));
+    for seat in seats {
+        if !is_part(journal, seat.number(), seat.list(), more) {
+            return Err(Fail::from("a seat's list is not its part of the journal"));
+        }
+    }
+    Ok(())
+}

@@ -1,0 +1,99 @@
+//! Many threads at once: what each was told is its part of the journal, which plain lists answer the
+//! same, and the file that is left is right.
+
+use crate::asks::{get, receive, send, set};
+use crate::files::{is_file_of, prepared};
+use crate::playing::{Deed, Plan, play};
+use queue_model::Call;
+use std::alloc::Global;
+use std::test::Fail;
+use workers::Open;
+
+/// How often each of eight seats calls.
+const CALLS: u32 = 2000;
+
+/// How often each of 64 seats sends and receives.
+const TURNS: u32 = 20;
+
+/// Seats 1 to 4 send messages of 0 to 1,000 bytes to queues 1 to 4, and seats 5 to 8 receive them.
+#[test]
+fn eight_seats_send_and_receive_on_four_queues(rt: HostRuntime) -> Result<(), Fail> {
+    let alloc = rt.alloc();
+    let mut scripts = Vec::new(alloc);
+    for queue in 1..5 {
+        scripts.push(sends(alloc, queue)?)?;
+    }
+    for queue in 1..5 {
+        scripts.push(receives(alloc, queue)?)?;
+    }
+    let plan = Plan {
+        before: queues(alloc, 4)?,
+        scripts,
+        rounds: 1,
+    };
+    let left = play(&rt, alloc, prepared(alloc, 352, 8)?, Open, &plan)?;
+    assert_eq!(rt; left.shown, 16_008);
+    assert!(rt; left.fault.is_none());
+    assert!(rt; is_file_of(alloc, left.device, left.journal.as_slice()));
+    Ok(())
+}
+
+/// Each seat sends a message to queue 1 and receives one, by turns.
+#[test]
+fn sixty_four_seats_send_and_receive_on_one_queue(rt: HostRuntime) -> Result<(), Fail> {
+    let alloc = rt.alloc();
+    let mut scripts = Vec::new(alloc);
+    for _ in 0..64 {
+        scripts.push(by_turns(alloc)?)?;
+    }
+    let plan = Plan {
+        before: queues(alloc, 1)?,
+        scripts,
+        rounds: 1,
+    };
+    let left = play(&rt, alloc, prepared(alloc, 352, 64)?, Open, &plan)?;
+    assert_eq!(rt; left.shown, 2562);
+    assert!(rt; left.fault.is_none());
+    assert!(rt; is_file_of(alloc, left.device, left.journal.as_slice()));
+    Ok(())
+}
+
+/// So many queues, each for some messages only.
+fn queues(alloc: Global, many: u32) -> Result<Vec<Call>, Fail> {
+    let mut calls = Vec::new(alloc);
+    for place in 0..many {
+        let queue = place.saturating_add(1);
+        calls.push(get(queue))?;
+        calls.push(set(queue, 5000))?;
+    }
+    Ok(calls)
+}
+
+fn sends(alloc: Global, queue: u32) -> Result<Vec<Deed<'static>>, Fail> {
+    let text = [b'a'; 1000];
+    let mut script = Vec::new(alloc);
+    for place in 0..CALLS {
+        let bytes = (place.wrapping_mul(313) % 1001) as usize;
+        let mtype = i64::from(place % 3) + 1;
+        let call = send(alloc, queue, mtype, text.get(..bytes).unwrap_or(b""))?;
+        script.push(Deed::Call(call))?;
+    }
+    Ok(script)
+}
+
+fn receives(alloc: Global, queue: u32) -> Result<Vec<Deed<'static>>, Fail> {
+    let mut script = Vec::new(alloc);
+    for _ in 0..CALLS {
+        script.push(Deed::Call(receive(queue, 1024)))?;
+    }
+    Ok(script)
+}
+
+fn by_turns(alloc: Global) -> Result<Vec<Deed<'static>>, Fail> {
+    let mut script = Vec::new(alloc);
+    for _ in 0..TURNS {
+        script.push(Deed::Call(send(alloc, 1, 1, b"ab")?))?;
+        script.push(Deed::Call(receive(1, 1024)))?;
+    }
+    Ok(script)
+}

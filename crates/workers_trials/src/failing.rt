@@ -1,0 +1,164 @@
+//! A device one of whose transfers fails while messages are sent and received.
+
+use crate::asks::{get, receive, send, set};
+use crate::closing::Left;
+use crate::files::{copy_of, is_file_of, new_file, open};
+use crate::playing::{Deed, Plan, play};
+use file_check::CheckFault;
+use page_device::{FaultyDevice, MemDevice, PageDevice};
+use queue_model::Call;
+use std::alloc::Global;
+use std::sync::Wait;
+use std::test::Fail;
+use std::thread::Threads;
+use std::time::Clock;
+use workers::interleavings::interleaving_core::{CloseFault, OpenFault};
+use workers::{Fault, Open};
+
+/// The frames of the pool: so few that pages come and go.
+const FRAMES: usize = 16;
+
+/// How many messages are sent and received.
+const MESSAGES: u32 = 40;
+
+/// The calls: two make the queue, and each message is sent and received.
+const ENTRIES: usize = 82;
+
+/// More transfers than one run makes.
+const MOST_TRANSFERS: u64 = 100_000;
+
+/// A device one of whose transfers fails.
+type Faulty = FaultyDevice<MemDevice>;
+
+/// 40 messages are received once all have been sent; each transfer fails in turn.
+#[test]
+fn calls_in_turn_are_answered_or_told_that_a_step_has_failed(rt: HostRuntime) -> Result<(), Fail> {
+    let alloc = rt.alloc();
+    let mut before = queue(alloc)?;
+    let mut scripts = Vec::new(alloc);
+    scripts.push(Vec::new(alloc))?;
+    scripts.push(receives(alloc)?)?;
+    for _ in 0..MESSAGES {
+        before.push(message(alloc)?)?;
+    }
+    fail_each(
+        &rt,
+        alloc,
+        &Plan {
+            before,
+            scripts,
+            rounds: 1,
+        },
+    )
+}
+
+/// 40 messages are received while they are sent.
+#[test]
+fn calls_at_once_are_answered_or_told_that_a_step_has_failed(rt: HostRuntime) -> Result<(), Fail> {
+    let alloc = rt.alloc();
+    let mut sends = Vec::new(alloc);
+    for _ in 0..MESSAGES {
+        sends.push(Deed::Call(message(alloc)?))?;
+    }
+    let mut scripts = Vec::new(alloc);
+    scripts.push(sends)?;
+    scripts.push(receives(alloc)?)?;
+    let before = queue(alloc)?;
+    fail_each(
+        &rt,
+        alloc,
+        &Plan {
+            before,
+            scripts,
+            rounds: 1,
+        },
+    )
+}
+
+/// A queue that may have as many bytes as any.
+fn queue(alloc: Global) -> Result<Vec<Call>, Fail> {
+    let mut calls = Vec::new(alloc);
+    calls.push(get(7))?;
+    calls.push(set(1, 65_536))?;
+    Ok(calls)
+}
+
+/// A message as long as any.
+fn message(alloc: Global) -> Result<Call, Fail> {
+    Ok(send(alloc, 1, 1, &[b'a'; 1024])?)
+}
+
+fn receives(alloc: Global) -> Result<Vec<Deed<'static>>, Fail> {
+    let mut script = Vec::new(alloc);
+    for _ in 0..MESSAGES {
+        script.push(Deed::Call(receive(1, 1024)))?;
+    }
+    Ok(script)
+}
+
+/// What comes of a run one of whose transfers is to fail.
+#[derive(Clone, Copy, Debug, PartialEq, Eq)]
+enum Run {
+    /// None failed.
+    Well,
+    /// One failed.
+    Failed,
+}
+
+/// Plays a plan again and again, each time with the next transfer failed, until none is.
+fn fail_each<R: Threads + Wait + Clock + Sync>(
+    rt: &R,
+    alloc: Global,
+    plan: &Plan<'_>,
+) -> Result<(), Fail> {
+    let mut file = new_file(alloc, 352)?;
+    let mut nth: u64 = 1;
+    for _ in 0..MOST_TRANSFERS {
+        let device = FaultyDevice::new(copy_of(alloc, &mut file)?, nth);
+        if fail(rt, alloc, device, plan)? == Run::Well {
+            return Ok(());
+        }
+        nth = nth.saturating_add(1);
+    }
+    Err(Fail::from("each run has failed"))
+}
+
+/// Plays a plan on a device one of whose transfers is to fail.
+fn fail<R: Threads + Wait + Clock + Sync>(
+    rt: &R,
+    alloc: Global,
+    device: Faulty,
+    plan: &Plan<'_>,
+) -> Result<Run, Fail> {
+    match open(alloc, device, 2, FRAMES) {
+        Ok(prepared) => run_of(alloc, play(rt, alloc, prepared, Open, plan)?),
+        Err((device, OpenFault::Wrong(_))) if device.faults() == 1 => Ok(Run::Failed),
+        Err((_, fault)) => Err(fault.into()),
+    }
+}
+
+/// What has come of a run. Where a step has failed, each call from there on was told so, also one that
+/// waited; else all are answered. A transfer that failed is told by then, but for one of the check before
+/// the first call, which is made once more.
+fn run_of(alloc: Global, left: Left<Faulty>) -> Result<Run, Fail> {
+    let Left {
+        device,
+        journal,
+        faults,
+        fault,
+        ..
+    } = left;
+    let failed = device.faults();
+    let entries = journal.len();
+    let is_right = match fault {
+        None => entries == ENTRIES && is_file_of(alloc, device.into_inner(), journal.as_slice()),
+        Some(CloseFault::Device) => failed == 1 && entries == ENTRIES,
+        Some(CloseFault::Failed) => failed == 1 && faults.last() == Some(&Some(Fault::Failed)),
+    };
+    if !is_right {
+        return Err(Fail::new(format_args!(
+            "{failed} transfers failed, the end is {fault:?}, {entries} calls are decided",
+        )));
+    }
+    Ok(if failed == 0 { Run::Well } else { Run::Failed })
+}

@@ -1,0 +1,45 @@
+//! The first script: a caller's four calls. That the gauge shows as many, and that a service one of
+//! whose seats is missing comes back, is tried wherever a service is closed.
+
+use crate::asks::{get, info, receive, received, send};
+use crate::files::prepared;
+use crate::plain::is_told;
+use crate::playing::{Plan, play};
+use queue_model::{Answer, Call};
+use std::alloc::Global;
+use std::test::Fail;
+use workers::Open;
+
+#[test]
+fn the_first_script_is_answered_and_counted(rt: HostRuntime) -> Result<(), Fail> {
+    let alloc = rt.alloc();
+    let plan = Plan {
+        before: script(alloc)?,
+        scripts: Vec::new(alloc),
+        rounds: 0,
+    };
+    let left = play(&rt, alloc, prepared(alloc, 258, 2)?, Open, &plan)?;
+    assert!(rt; is_told(left.journal.as_slice(), 1, answers(alloc)?.as_slice()));
+    assert_eq!(rt; left.shown, 4);
+    Ok(())
+}
+
+/// Its calls.
+fn script(alloc: Global) -> Result<Vec<Call>, Fail> {
+    let mut calls = Vec::new(alloc);
+    calls.push(get(7))?;
+    calls.push(send(alloc, 1, 5, b"a")?)?;
+    calls.push(receive(1, 1024))?;
+    calls.push(Call::Stat { id: 1 })?;
+    Ok(calls)
+}
+
+/// What they are answered.
+fn answers(alloc: Global) -> Result<Vec<Answer>, Fail> {
+    let mut answers = Vec::new(alloc);
+    answers.push(Answer::Id(1))?;
+    answers.push(Answer::Sent(1))?;
+    answers.push(received(alloc, 1, 1, 5, b"a")?)?;
+    answers.push(info(0, 0, 1, 1))?;
+    Ok(answers)
+}

@@ -1,0 +1,157 @@
+//! Two calls that run at once: a Receive is answered while a Send is held between two of its steps,
+//! and a Stat of the queue of that Send waits for it.
+
+use crate::alone::moved_kinds;
+use crate::asks::{get, info, receive, received, send};
+use crate::files::prepared;
+use crate::flag::{Flag, LOOKS};
+use crate::plain::is_told;
+use crate::playing::{Deed, Plan, play};
+use queue_model::{Answer, Call};
+use std::alloc::Global;
+use std::sync::{Mutex, Wait};
+use std::test::Fail;
+use std::time::Clock;
+use step_rules::Kind;
+use workers::Gate;
+
+/// How often the flag is looked at that is to stay down.
+const MORE_LOOKS: u32 = 1000;
+
+/// What the threads show one another.
+#[derive(Drop)]
+struct Shown {
+    /// The kinds of steps are to be noted, and the Send is to be held.
+    watched: Flag,
+    /// The Send is held after its WriteOld.
+    held: Flag,
+    /// The Receive is answered.
+    received: Flag,
+    /// The Stat is answered.
+    told: Flag,
+    /// The gate saw the Receive answered, and after that the Stat not answered.
+    in_order: Flag,
+}
+
+impl Shown {
+    fn new() -> Shown {
+        Shown {
+            watched: Flag::new(),
+            held: Flag::new(),
+            received: Flag::new(),
+            told: Flag::new(),
+            in_order: Flag::new(),
+        }
+    }
+}
+
+/// It holds seat 1 after a WriteOld, until a Receive was answered, and a while longer.
+#[derive(Drop)]
+struct Holds<'a, R: Wait + Clock> {
+    rt: &'a R,
+    shown: &'a Shown,
+    kinds: &'a Mutex<Vec<Kind>>,
+}
+
+impl<R: Wait + Clock> Gate for Holds<'_, R> {
+    fn between(&self, seat: u8, kind: Kind) {
+        let shown = self.shown;
+        if seat != 1 || !shown.watched.is_up() {
+            return;
+        }
+        let _ = self.kinds.lock(self.rt).push(kind);
+        if kind == Kind::WriteOld {
+            shown.held.raise();
+            if shown.received.comes_up(self.rt, LOOKS)
+                && !shown.told.comes_up(self.rt, MORE_LOOKS)
+            {
+                shown.in_order.raise();
+            }
+        }
+    }
+}
+
+#[test]
+fn a_receive_is_answered_while_a_send_is_held(rt: HostRuntime) -> Result<(), Fail> {
+    let alloc = rt.alloc();
+    let shown = Shown::new();
+    let kinds = Mutex::new(Vec::new(alloc));
+    let gate = Holds {
+        rt: &rt,
+        shown: &shown,
+        kinds: &kinds,
+    };
+    let plan = plan(alloc, &shown)?;
+    let left = play(&rt, alloc, prepared(alloc, 352, 3)?, gate, &plan)?;
+    assert!(rt; shown.in_order.is_up());
+    assert!(rt; is_told(left.journal.as_slice(), 1, answers(alloc)?.as_slice()));
+    assert!(rt;
+        is_told(
+            left.journal.as_slice(),
+            2,
+            &[received(alloc, 2, 1, 2, b"b")?]
+        )
+    );
+    assert!(rt; is_told(left.journal.as_slice(), 3, &[info(7, 7168, 0, 0)]));
+    assert!(rt; kinds.into_inner().as_slice() == moved_kinds(alloc)?.as_slice());
+    Ok(())
+}
+
+/// The calls that come before: two queues, and six messages of 1,024 bytes on the first. The next
+/// one splits the second bucket.
+pub fn before(alloc: Global) -> Result<Vec<Call>, Fail> {
+    let mut calls = Vec::new(alloc);
+    calls.push(get(7))?;
+    calls.push(get(9))?;
+    calls.push(send(alloc, 2, 2, b"a")?)?;
+    calls.push(send(alloc, 2, 2, b"b")?)?;
+    calls.push(receive(2, 1024))?;
+    for _ in 0..6 {
+        calls.push(long(alloc)?)?;
+    }
+    Ok(calls)
+}
+
+/// Each of those six, and the one that is held.
+pub fn long(alloc: Global) -> Result<Call, Fail> {
+    Ok(send(alloc, 1, 1, &[b'a'; 1024])?)
+}
+
+/// Seat 1 sends one message more, seat 2 receives from the other queue once that is held, and then
+/// seat 3 asks for the state of the queue.
+fn plan(alloc: Global, shown: &Shown) -> Result<Plan<'_>, Fail> {
+    let mut first = Vec::new(alloc);
+    first.push(Deed::Raise(&shown.watched))?;
+    first.push(Deed::Call(long(alloc)?))?;
+    let mut second = Vec::new(alloc);
+    second.push(Deed::Await(&shown.held))?;
+    second.push(Deed::Call(receive(2, 10)))?;
+    second.push(Deed::Raise(&shown.received))?;
+    let mut third = Vec::new(alloc);
+    third.push(Deed::Await(&shown.received))?;
+    third.push(Deed::Call(Call::Stat { id: 1 }))?;
+    third.push(Deed::Raise(&shown.told))?;
+    let mut scripts = Vec::new(alloc);
+    scripts.push(first)?;
+    scripts.push(second)?;
+    scripts.push(third)?;
+    Ok(Plan {
+        before: before(alloc)?,
+        scripts,
+        rounds: 1,
+    })
+}
+
+/// What seat 1 is answered.
+fn answers(alloc: Global) -> Result<Vec<Answer>, Fail> {
+    let mut answers = Vec::new(alloc);
+    answers.push(Answer::Id(1))?;
+    answers.push(Answer::Id(2))?;
+    answers.push(Answer::Sent(1))?;
+    answers.push(Answer::Sent(2))?;
+    answers.push(received(alloc, 1, 1, 2, b"a")?)?;
+    for serial in 1..8 {
+        answers.push(Answer::Sent(serial))?;
+    }
+    Ok(answers)
+}

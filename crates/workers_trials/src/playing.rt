@@ -1,0 +1,201 @@
+//! Seats of a service at their calls, each in a thread of its own.
+
+ghost use Rattle.std.specs.Prelude.{◌≡◌};
+ghost use Rattle.bucket_page.specs.Pseudokeys.{number_key};
+ghost use Rattle.workers.specs.Opening.{origin_of};
+
+use crate::closing::{Left, close, shown};
+use crate::flag::{Flag, LOOKS};
+use bucket_page::NumberKey;
+use page_device::PageDevice;
+use queue_model::Call;
+use std::alloc::Global;
+use std::marker::Brand;
+use std::sync::Wait;
+use std::test::Fail;
+use std::thread;
+use std::thread::Threads;
+use std::time::Clock;
+use workers::{Base, Fault, Gate, Prepared, Room, Seat, Service, Started};
+
+/// What a seat does next.
+#[derive(Drop)]
+pub enum Deed<'a> {
+    /// It makes a call, and waits for its answer.
+    Call(Call),
+    /// It stops the system.
+    Stop,
+    /// It waits for a flag to come up, but not for ever.
+    Await(&'a Flag),
+    /// It raises a flag.
+    Raise(&'a Flag),
+}
+
+/// What seats do.
+#[derive(Drop)]
+pub struct Plan<'a> {
+    /// The calls that seat 1 makes before the others begin.
+    pub before: Vec<Call>,
+    /// What each seat does in a thread of its own, from seat 1 on.
+    pub scripts: Vec<Vec<Deed<'a>>>,
+    /// How often, each time once all have done it.
+    pub rounds: u32,
+}
+
+/// A service of trials.
+pub type Shared<D, G, N> = Service<D, NumberKey, G, N>;
+
+/// A seat, and the fault that it was told: then it makes no more calls.
+#[derive(Drop)]
+pub struct Player<N: Room + Base> {
+    pub seat: Seat<N>,
+    pub fault: Option<Fault>,
+}
+
+/// Plays a plan on what was prepared, and closes the service.
+pub fn play<D: PageDevice + Drop + Send, G: Gate + Drop + Send + Sync, R>(
+    rt: &R,
+    alloc: Global,
+    prepared: Prepared<D, NumberKey>,
+    gate: G,
+    plan: &Plan<'_>,
+) -> Result<Left<D>, Fail>
+where
+    R: Threads + Wait + Clock + Sync,
+{
+    play_named::<D, G, Brand, R>(rt, alloc, prepared, gate, plan)
+}
+
+fn play_named<
+    D: PageDevice + Drop + Send,
+    G: Gate + Drop + Send + Sync,
+    N: Room + Base + Send + Sync,
+    R: Threads + Wait + Clock + Sync,
+>(
+    rt: &R,
+    alloc: Global,
+    prepared: Prepared<D, NumberKey>,
+    gate: G,
+    plan: &Plan<'_>,
+) -> Result<Left<D>, Fail>
+    requires table { prepared.table ≡ N.table }
+    requires origin { origin_of (λ _. number_key) prepared ≡ N.origin }
+{
+    let Ok(
+        Started {
+            service,
+            seats,
+            passes,
+        },
+    ) = prepared.start::<G, N>(gate)
+    else {
+        return Err(Fail::from("it starts"));
+    };
+    let players = play_rounds(rt, &service, seated(alloc, seats)?, plan)?;
+    let shown = shown(&service, passes);
+    close(alloc, service, players, shown)
+}
+
+/// A player for each seat.
+fn seated<N: Room + Base>(alloc: Global, seats: Vec<Seat<N>>) -> Result<Vec<Player<N>>, Fail> {
+    let mut players = Vec::new(alloc);
+    for seat in seats {
+        players.push(Player { seat, fault: None })?;
+    }
+    Ok(players)
+}
+
+/// The first makes the calls that come before, and all play each round.
+fn play_rounds<
+    D: PageDevice + Drop + Send,
+    G: Gate + Sync,
+    N: Room + Base + Send + Sync,
+    R: Threads + Wait + Clock + Sync,
+>(
+    rt: &R,
+    service: &Shared<D, G, N>,
+    players: Vec<Player<N>>,
+    plan: &Plan<'_>,
+) -> Result<Vec<Player<N>>, Fail> {
+    let mut players = players;
+    if let Some(first) = players.first_mut() {
+        for call in &plan.before {
+            first.call(rt, service, call);
+        }
+    }
+    for _ in 0..plan.rounds {
+        players = play_round(rt, service, players, plan)?;
+    }
+    Ok(players)
+}
+
+/// Each plays its script in a thread of its own.
+fn play_round<
+    D: PageDevice + Drop + Send,
+    G: Gate + Sync,
+    N: Room + Base + Send + Sync,
+    R: Threads + Wait + Clock + Sync,
+>(
+    rt: &R,
+    service: &Shared<D, G, N>,
+    players: Vec<Player<N>>,
+    plan: &Plan<'_>,
+) -> Result<Vec<Player<N>>, Fail> {
+    let scripts = plan.scripts.as_slice();
+    Ok(thread::map_vec(
+        rt,
+        players,
+        &|player| { play_script(rt, service, player, scripts) },
+    )?)
+}
+
+/// A seat plays the script of its number.
+fn play_script<D: PageDevice + Drop, G: Gate, N: Room + Base, R: Wait + Clock>(
+    rt: &R,
+    service: &Shared<D, G, N>,
+    player: Player<N>,
+    scripts: &[Vec<Deed<'_>>],
+) -> Player<N> {
+    let mut player = player;
+    let place = usize::from(player.seat.number()).saturating_sub(1);
+    if let Some(script) = scripts.get(place) {
+        for deed in script {
+            player.act(rt, service, deed);
+        }
+    }
+    player
+}
+
+impl<N: Room + Base> Player<N> {
+    /// It does one thing.
+    fn act<D: PageDevice + Drop, G: Gate, R: Wait + Clock>(
+        &mut self,
+        rt: &R,
+        service: &Shared<D, G, N>,
+        deed: &Deed<'_>,
+    ) {
+        match deed {
+            Deed::Call(call) => self.call(rt, service, call),
+            Deed::Stop => service.stop(rt),
+            Deed::Await(flag) => {
+                flag.comes_up(rt, LOOKS);
+            }
+            Deed::Raise(flag) => flag.raise(),
+        }
+    }
+
+    /// It makes a call, where it was told no fault.
+    fn call<D: PageDevice + Drop, G: Gate, R: Wait>(
+        &mut self,
+        rt: &R,
+        service: &Shared<D, G, N>,
+        call: &Call,
+    ) {
+        if self.fault.is_none() {
+            self.fault = match call.try_copy() {
+                Ok(call) => service.call(rt, &mut self.seat, call).err(),
+                Err(_) => Some(Fault::NoMemory),
+            };
+        }
+    }
+}

@@ -1,0 +1,82 @@
+//! Calls that wait in a thread of their own, and what ends their wait.
+
+use crate::asks::{get, receive, received, send};
+use crate::files::{new_file, prepared, prepared_on};
+use crate::plain::is_told;
+use crate::playing::{Deed, Plan, play};
+use page_device::MemDevice;
+use queue_model::{Answer, Errno};
+use std::alloc::Global;
+use std::test::Fail;
+use workers::Open;
+
+/// How often each is tried.
+const ROUNDS: u32 = 200;
+
+/// A plan of two seats with a queue: each does one thing, so often.
+fn each(
+    alloc: Global,
+    first: Deed<'static>,
+    second: Deed<'static>,
+    rounds: u32,
+) -> Result<Plan<'static>, Fail> {
+    let mut before = Vec::new(alloc);
+    before.push(get(7))?;
+    let mut scripts = Vec::new(alloc);
+    for deed in [first, second] {
+        let mut script = Vec::new(alloc);
+        script.push(deed)?;
+        scripts.push(script)?;
+    }
+    Ok(Plan {
+        before,
+        scripts,
+        rounds,
+    })
+}
+
+/// A Receive and a Send in threads of their own: whichever comes first, the message is received.
+#[test]
+fn a_receive_is_answered_once_its_message_is_sent(rt: HostRuntime) -> Result<(), Fail> {
+    let alloc = rt.alloc();
+    let sends = Deed::Call(send(alloc, 1, 3, b"ab")?);
+    let plan = each(alloc, Deed::Call(receive(1, 10)), sends, ROUNDS)?;
+    let left = play(&rt, alloc, prepared(alloc, 258, 2)?, Open, &plan)?;
+    let (first, second) = of_rounds(alloc)?;
+    assert!(rt; is_told(left.journal.as_slice(), 1, first.as_slice()));
+    assert!(rt; is_told(left.journal.as_slice(), 2, second.as_slice()));
+    Ok(())
+}
+
+/// What the two are answered.
+fn of_rounds(alloc: Global) -> Result<(Vec<Answer>, Vec<Answer>), Fail> {
+    let mut first = Vec::new(alloc);
+    let mut second = Vec::new(alloc);
+    first.push(Answer::Id(1))?;
+    for round in 0..ROUNDS {
+        let serial = u64::from(round) + 1;
+        first.push(received(alloc, serial, 2, 3, b"ab")?)?;
+        second.push(Answer::Sent(serial))?;
+    }
+    Ok((first, second))
+}
+
+/// A Receive of an empty queue and a stop: whichever comes first, the Receive is refused.
+#[test]
+fn a_receive_is_refused_once_the_system_is_stopped(rt: HostRuntime) -> Result<(), Fail> {
+    let alloc = rt.alloc();
+    let plan = each(alloc, Deed::Call(receive(1, 10)), Deed::Stop, 1)?;
+    let mut device = new_file(alloc, 258)?;
+    for _ in 0..ROUNDS {
+        let left = play(&rt, alloc, prepared_on(alloc, device, 2)?, Open, &plan)?;
+        assert!(rt;
+            is_told(
+                left.journal.as_slice(),
+                1,
+                &[Answer::Id(1), Answer::Refused(Errno::EINTR)]
+            )
+        );
+        device = left.device;
+    }
+    Ok(())
+}
