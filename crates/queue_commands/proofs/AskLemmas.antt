@@ -86,16 +86,25 @@ Asks c call s Stands Lacks came = (outcome c call s ≡ None → ⊥) → IsAske
 
 module _ (c : Caller) (moment : ℕ) (s : State) (Stands : State → Type 0) (Lacks : Type 0) (came : Option Answer)
   where
-    pub sends : (mtype : ℤ) (id : ℕ) (body : List ℕ) → Asks c (send_call moment mtype id body) s Stands Lacks came →
+    sent : (mtype : ℤ) (id : ℕ) (body : List ℕ) → Asks c (send_call moment mtype id body) s Stands Lacks came →
         Comes Stands Lacks (SendsOneAs c moment mtype id body s) (serial_in came)
-    sends mtype id body asks =
+    sent mtype id body asks =
         let gives = a_send_gives c (record { id = id; mtype = mtype; body = body; nowait = true; moment = moment }) s refl
         in
         serial_comes c (send_call moment mtype id body) s Stands Lacks gives came (asks (never_waits is_serial _ gives))
 
-    pub takes : (a : Receiving) (id : ℕ) → Asks c (receive_call moment a id) s Stands Lacks came →
+    -- of a copy of the body
+    pub sends : (mtype : ℤ) (id : ℕ) (body : List ℕ) (given : ℤ) (copy : List ℕ) → given ≡ mtype → copy ≡ body →
+        Asks c (send_call moment given id copy) s Stands Lacks came →
+        Comes Stands Lacks (SendsOneAs c moment mtype id body s) (serial_in came)
+    sends mtype id body given copy same kept asks =
+        subst (λ (t : ℤ). Comes Stands Lacks (SendsOneAs c moment t id body s) (serial_in came)) same
+        (subst (λ (b : List ℕ). Comes Stands Lacks (SendsOneAs c moment given id b s) (serial_in came)) kept
+        (sent given id copy asks))
+
+    taken : (a : Receiving) (id : ℕ) → Asks c (receive_call moment a id) s Stands Lacks came →
         Comes Stands Lacks (TakesAs c moment a id s) (message_in came)
-    takes a id asks =
+    taken a id asks =
         let gives = a_receive_gives c (record {
           id = id;
           size = a.size;
@@ -105,6 +114,13 @@ module _ (c : Caller) (moment : ℕ) (s : State) (Stands : State → Type 0) (La
           moment = moment;
         }) s refl in
         message_comes c (receive_call moment a id) s Stands Lacks gives came (asks (never_waits is_message _ gives))
+
+    pub takes : (a : Receiving) (id : ℕ) (given : ℤ) → given ≡ a.mtype →
+        Asks c (receive_call moment (record a { mtype = given }) id) s Stands Lacks came →
+        Comes Stands Lacks (TakesAs c moment a id s) (message_in came)
+    takes a id given same asks =
+        subst (λ (t : ℤ). Comes Stands Lacks (TakesAs c moment (record a { mtype = t }) id s) (message_in came)) same
+        (taken (record a { mtype = given }) id asks)
 
     pub sets : (a : Setting) (id qbytes : ℕ) → Asks c (set_call moment a id qbytes) s Stands Lacks came →
         Comes Stands Lacks (IsDone c (set_call moment a id qbytes) s) (done_in came)
