@@ -3,8 +3,13 @@
 
 #![tactic(auto)]
 
+mod input;
+mod shell;
+mod trouble;
+
 use clap::Error;
 use clap::error::ErrorKind;
+use command_words::read_command;
 use migration_runs::migrate_file;
 use script_runs::msgq_cli::{
     Output, Task, advise, complain, complain_of_lines, new_file, print_fault, read_command_line,
@@ -12,6 +17,7 @@ use script_runs::msgq_cli::{
 };
 use script_runs::replays::{Sources, replay_file};
 use script_runs::{run_file, serve};
+use shell::shell;
 use std::fs::{File, OpenOptions};
 use std::io;
 use std::io::{BufWriter, Write};
@@ -39,6 +45,12 @@ fn main(rt: HostRuntime) -> ExitCode {
             return ExitCode::from(2);
         }
     };
+    match read_command(alloc, words.as_slice()) {
+        Ok(Some(task)) => return ExitCode::from(shell(&rt, &task).number()),
+        Ok(None) => {}
+        Err(error) if error.kind() == ErrorKind::OutOfMemory => return without_memory(&rt),
+        Err(error) => return tell(&rt, error),
+    }
     let task = read_command_line(alloc, words.as_slice());
     // These two say themselves what became of their file.
     let is_run = matches!(&task, Ok(Task::Run { .. } | Task::Replay { .. }));

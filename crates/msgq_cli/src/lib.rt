@@ -27,7 +27,7 @@ mod script;
 pub use advice::advise;
 pub use checks::{report_file, report_on};
 pub use command::{Command, DEFAULT_MODE};
-pub use command_line::{Task, read_command_line};
+pub use command_line::{Task, pages, program, read_command_line};
 pub use complaint::{complain, complain_of, complain_of_lines};
 pub use ending::{Ending, Failure, Stage};
 pub use file_check;
