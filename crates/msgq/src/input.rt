@@ -1,5 +1,7 @@
 //! What a shell hands to `send`: the messages of standard input, and a file to make.
 
+ghost use Rattle.msgq_cli.specs.Tasks.{IsFileSize};
+
 use queue_commands::ExitStatus;
 use queue_model::{Body, MAX_BODY, MAX_MESSAGES, MAX_QBYTES};
 use rollback_journal::is_left_behind;
@@ -92,6 +94,7 @@ fn push(bodies: &mut Vec<Body>, bytes: Vec<u8>) -> Result<(), Unsent> {
 pub fn make_file<E>(rt: &HostRuntime, file: &str, pages: u32, errors: &mut E) -> bool
 where
     E: Write + IsTerminal,
+    requires pages { IsFileSize pages }
 {
     match fs::metadata(rt, file) {
         Err(error) if error.kind() == ErrorKind::NotFound => {}

@@ -1,8 +1,12 @@
 //! The commands of a shell.
 
+ghost use Rattle.std.specs.Prelude.{IfSome};
+ghost use Rattle.command_words.specs.Tasks.{HasPages};
+ghost use Rattle.msgq_cli.specs.Tasks.{IsFileSize};
+
 use crate::input::{bodies_of, make_file};
 use crate::trouble::{Errand, Trouble};
-use command_runs::{Look, Ran, look_on, run_on};
+use command_runs::{Form, Look, Ran, look_on, run_on};
 use command_words::{CallerIds, Deed, Patience, SendTask, ShellTask};
 use queue_commands::{Command, ExitStatus, Receiving, Request, Sending};
 use queue_model::Caller;
@@ -28,7 +32,9 @@ const MOST_TICKS: u32 = 100;
 const MOST_LOOKS: u64 = u64::MAX;
 
 /// Does what a command line asks for, and gives the exit status.
-pub fn shell(rt: &HostRuntime, task: &ShellTask<'_>) -> ExitStatus {
+pub fn shell(rt: &HostRuntime, task: &ShellTask<'_>) -> ExitStatus
+    requires pages { HasPages task.now }
+{
     let errand = Errand {
         file: task.file,
         queue: task.deed.queue(),
@@ -41,10 +47,11 @@ pub fn shell(rt: &HostRuntime, task: &ShellTask<'_>) -> ExitStatus {
             patience,
         } => run(rt, errand, Command::Receive(*receiving), *patience),
         Deed::Peek(receiving) => peek(rt, errand, *receiving),
-        Deed::List { queue, is_json: _ } => {
+        Deed::List { queue, is_json } => {
+            let form = if *is_json { Form::Json } else { Form::Table };
             let what = match queue {
-                Some(queue) => Look::Messages(*queue),
-                None => Look::Queues,
+                Some(queue) => Look::Messages(*queue, form),
+                None => Look::Queues(form),
             };
             look(rt, errand, &what)
         }
@@ -72,7 +79,9 @@ fn caller_of(rt: &HostRuntime, ids: CallerIds) -> Caller {
 }
 
 /// Sends standard input. Where it can't be one message, or one a line, nothing is opened.
-fn send(rt: &HostRuntime, errand: Errand<'_>, task: &SendTask) -> ExitStatus {
+fn send(rt: &HostRuntime, errand: Errand<'_>, task: &SendTask) -> ExitStatus
+    requires pages { IfSome task.now.pages IsFileSize }
+{
     let mut errors = rt.stderr();
     let bodies = match bodies_of(rt.alloc(), &mut rt.reader(), task.by_lines) {
         Ok(bodies) => bodies,

@@ -5,7 +5,7 @@ use interleaving_core::OpenFault;
 use queue_commands::{Command, ExitStatus, QueueName, Sending};
 use queue_model::{Caller, Errno, MAX_QBYTES};
 use rollback_journal::OpenError;
-use script_runs::msgq_cli::{Ending, Plain, advise, complain};
+use script_runs::msgq_cli::{Ending, Plain, advise};
 use std::io;
 use std::io::Write;
 
@@ -60,30 +60,34 @@ impl Trouble {
         command: Option<&Command>,
     ) -> ExitStatus {
         let mut errors = rt.stderr();
-        let file = errand.file;
-        match self {
-            Trouble::Clock(error) => {
-                complain("the clock", "it can't be read", error, &mut errors);
-            }
+        let file = Plain(errand.file);
+        let _ = match self {
+            Trouble::Clock(error) => writeln!(errors, "msgq: the clock can't be read: {error}"),
             Trouble::Unopened(error) => {
-                complain(file, "it can't be opened", error, &mut errors);
+                let fault = error.number();
+                writeln!(errors, "msgq: {file}: fault {fault}: it can't be opened: {error}")
             }
-            Trouble::Unshown(error) | Trouble::Undone(CommandError::Unprinted(error)) => {
-                complain("standard output", "it can't be written", error, &mut errors);
-                let file = Plain(file);
-                let _ = writeln!(errors, "msgq: {file}: nothing is changed");
+            Trouble::Unshown(error) => writeln!(errors, "msgq: standard output: {error}"),
+            Trouble::Undone(CommandError::Unprinted(error)) => {
+                writeln!(errors, "msgq: standard output: {error}; {file} is unchanged")
             }
             Trouble::Undone(CommandError::Refused(errno)) => {
-                tell_refusal(errand, *errno, command, &mut errors);
+                tell_refusal(errand, *errno, command, &mut errors)
             }
-            Trouble::Undone(error) => {
-                complain(file, "it is not done", error, &mut errors);
-                if let CommandError::Unopened(OpenFault::Wrong(fault)) = error {
-                    advise(rt, file, Ending::Unopened(*fault), &mut errors);
-                }
-            }
+            Trouble::Undone(error) => tell_fault(file, error, &mut errors),
+        };
+        if let Trouble::Undone(CommandError::Unopened(OpenFault::Wrong(fault))) = self {
+            advise(rt, errand.file, Ending::Unopened(*fault), &mut errors);
         }
         self.status()
+    }
+}
+
+/// `msgq: FILE: fault N: what: why`.
+fn tell_fault<E: Write>(file: Plain<'_>, error: &CommandError, errors: &mut E) -> io::Result<()> {
+    match error.number() {
+        Some(fault) => writeln!(errors, "msgq: {file}: fault {fault}: {error}"),
+        None => writeln!(errors, "msgq: {file}: {error}"),
     }
 }
 
@@ -93,15 +97,15 @@ fn tell_refusal<E: Write>(
     errno: Errno,
     command: Option<&Command>,
     errors: &mut E,
-) {
+) -> io::Result<()> {
     let file = Plain(errand.file);
     let name = errno.name();
     let why = why(errno, errand.queue, command);
-    let _ = match errand.queue {
+    match errand.queue {
         Some(QueueName::Key(key)) => writeln!(errors, "msgq: {file}: queue {key}: {name}: {why}"),
         Some(QueueName::Id(id)) => writeln!(errors, "msgq: {file}: queue @{id}: {name}: {why}"),
         None => writeln!(errors, "msgq: {file}: {name}: {why}"),
-    };
+    }
 }
 
 /// What a refusal says to who asked from a shell (docs/QUEUES.md, "Calls").
