@@ -7,10 +7,8 @@ use queue_model::{Body, MAX_BODY, MAX_MESSAGES, MAX_QBYTES};
 use rollback_journal::is_left_behind;
 use script_runs::msgq_cli::{Ending, Output, complain, new_file, read_text};
 use std::alloc::{AllocError, Global};
-use std::fs;
-use std::io;
 use std::io::{BufWriter, ErrorKind, IsTerminal, Read, Write};
-use std::process;
+use std::{fs, io, process};
 use thiserror::Error;
 
 /// Why standard input is not sent.

@@ -6,17 +6,14 @@ ghost use Rattle.msgq_cli.specs.Tasks.{IsFileSize};
 
 use crate::input::{bodies_of, make_file};
 use crate::trouble::{Errand, Trouble};
-use command_runs::{Form, Look, Ran, look_on, run_on};
+use command_runs::{CommandError, Form, Look, Ran, look_on, run_on};
 use command_words::{CallerIds, Deed, Patience, SendTask, ShellTask};
 use queue_commands::{Command, ExitStatus, Receiving, Request, Sending};
 use queue_model::Caller;
 use script_runs::msgq_cli::{complain, open_to_read};
-use std::fs;
-use std::io;
 use std::io::Write;
-use std::process;
-use std::thread;
 use std::time::{Duration, Instant, SystemTime, UNIX_EPOCH};
+use std::{fs, io, process, thread};
 
 /// So many seconds a command waits for its turn where another process changes FILE.
 const TURN: u64 = 10;
@@ -63,7 +60,12 @@ pub fn shell(rt: &HostRuntime, task: &ShellTask<'_>) -> ExitStatus
             run(rt, errand, command, Patience::None)
         }
         Deed::Remove(queue) => {
-            run(rt, errand, Command::Remove { queue: *queue }, Patience::None)
+            run(
+                rt,
+                errand,
+                Command::Remove { queue: *queue },
+                Patience::None,
+            )
         }
         Deed::Set(setting) => run(rt, errand, Command::Set(*setting), Patience::None),
     }
@@ -145,16 +147,11 @@ fn run(rt: &HostRuntime, errand: Errand<'_>, command: Command, patience: Patienc
 }
 
 /// Runs a command.
-fn run_once(
-    rt: &HostRuntime,
-    errand: Errand<'_>,
-    request: &mut Request,
-) -> Result<(), Trouble> {
+fn run_once(rt: &HostRuntime, errand: Errand<'_>, request: &mut Request) -> Result<(), Trouble> {
     request.moment = moment(rt).map_err(Trouble::Clock)?;
     let device = rollback_journal::open(rt, errand.file).map_err(Trouble::Unopened)?;
     let mut output = io::writer(rt);
-    let Ran { device: _, came } =
-        run_on(rt.alloc(), device, errand.caller, request, &mut output);
+    let Ran { device: _, came } = run_on(rt.alloc(), device, errand.caller, request, &mut output);
     came.map_err(Trouble::Undone)
 }
 
@@ -191,41 +188,52 @@ fn await_write(rt: &HostRuntime, file: &str, before: Option<Stamp>, left: Durati
 /// at again.
 fn look(rt: &HostRuntime, errand: Errand<'_>, what: &Look) -> ExitStatus {
     let mut errors = rt.stderr();
-    let alloc = rt.alloc();
     let start = match Instant::now(rt) {
         Ok(start) => start,
         Err(error) => return Trouble::Clock(error).tell(rt, errand, None),
     };
     for _ in 0..MOST_LOOKS {
-        let before = Stamp::of(rt, errand.file);
-        let was_under_way = is_under_way(rt, errand.file);
-        let Ok(device) = open_to_read(rt, errand.file, &mut errors) else {
+        let Some(sight) = look_once(rt, errand, what) else {
             return ExitStatus::Fault;
         };
-        let mut text = Vec::new(alloc);
-        let Ran { device: _, came } = look_on(alloc, device, errand.caller, what, &mut text);
-        let is_steady = !was_under_way
-            && !is_under_way(rt, errand.file)
-            && Stamp::of(rt, errand.file) == before;
-        let spent = start.elapsed(rt).unwrap_or(Duration::MAX);
-        if !is_steady && spent < Duration::from_secs(TURN) {
-            thread::sleep(rt, Duration::from_millis(TICK));
-            continue;
+        if !sight.is_steady {
+            let spent = start.elapsed(rt).unwrap_or(Duration::MAX);
+            if spent < Duration::from_secs(TURN) {
+                thread::sleep(rt, Duration::from_millis(TICK));
+                continue;
+            }
+            let why = "a run was cut off, or is under way";
+            complain(errand.file, "it is shown as it stands", why, &mut errors);
         }
-        if !is_steady {
-            complain(
-                errand.file,
-                "it is shown as it stands",
-                "a run was cut off, or is under way",
-                &mut errors,
-            );
-        }
-        return match came {
-            Ok(()) => show(rt, errand, text.as_slice()),
+        return match sight.text {
+            Ok(text) => show(rt, errand, text.as_slice()),
             Err(error) => Trouble::Undone(error).tell(rt, errand, None),
         };
     }
     ExitStatus::Fault
+}
+
+/// What was seen of FILE.
+struct Sight {
+    /// What is to be shown, or why nothing is.
+    text: Result<Vec<u8>, CommandError>,
+    /// Whether nothing tells that FILE was written while it was read.
+    is_steady: bool,
+}
+
+/// Looks at FILE. None where it is not opened, which was said.
+fn look_once(rt: &HostRuntime, errand: Errand<'_>, what: &Look) -> Option<Sight> {
+    let alloc = rt.alloc();
+    let before = Stamp::of(rt, errand.file);
+    let was_under_way = is_under_way(rt, errand.file);
+    let device = open_to_read(rt, errand.file, &mut rt.stderr()).ok()?;
+    let mut text = Vec::new(alloc);
+    let Ran { device: _, came } = look_on(alloc, device, errand.caller, what, &mut text);
+    let is_under_way = was_under_way || is_under_way(rt, errand.file);
+    Some(Sight {
+        text: came.map(|()| text),
+        is_steady: !is_under_way && Stamp::of(rt, errand.file) == before,
+    })
 }
 
 /// Prints what was looked at.
@@ -246,7 +254,10 @@ fn is_under_way(rt: &HostRuntime, file: &str) -> bool {
 /// The seconds of the clock since the beginning of 1970.
 fn moment(rt: &HostRuntime) -> io::Result<u64> {
     let now = SystemTime::now(rt)?;
-    Ok(now.duration_since(UNIX_EPOCH).map_or(0, |since| since.as_secs()))
+    Ok(
+        now.duration_since(UNIX_EPOCH)
+            .map_or(0, |since| since.as_secs()),
+    )
 }
 
 /// What tells that a file was written.

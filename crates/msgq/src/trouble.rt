@@ -65,11 +65,17 @@ impl Trouble {
             Trouble::Clock(error) => writeln!(errors, "msgq: the clock can't be read: {error}"),
             Trouble::Unopened(error) => {
                 let fault = error.number();
-                writeln!(errors, "msgq: {file}: fault {fault}: it can't be opened: {error}")
+                writeln!(
+                    errors,
+                    "msgq: {file}: fault {fault}: it can't be opened: {error}"
+                )
             }
             Trouble::Unshown(error) => writeln!(errors, "msgq: standard output: {error}"),
             Trouble::Undone(CommandError::Unprinted(error)) => {
-                writeln!(errors, "msgq: standard output: {error}; {file} is unchanged")
+                writeln!(
+                    errors,
+                    "msgq: standard output: {error}; {file} is unchanged"
+                )
             }
             Trouble::Undone(CommandError::Refused(errno)) => {
                 tell_refusal(errand, *errno, command, &mut errors)
