@@ -193,10 +193,10 @@ fn look(rt: &HostRuntime, errand: Errand<'_>, what: &Look) -> ExitStatus {
         Err(error) => return Trouble::Clock(error).tell(rt, errand, None),
     };
     for _ in 0..MOST_LOOKS {
-        let Some(sight) = look_once(rt, errand, what) else {
+        let Some(Sight { text, is_steady }) = look_once(rt, errand, what) else {
             return ExitStatus::Fault;
         };
-        if !sight.is_steady {
+        if !is_steady {
             let spent = start.elapsed(rt).unwrap_or(Duration::MAX);
             if spent < Duration::from_secs(TURN) {
                 thread::sleep(rt, Duration::from_millis(TICK));
@@ -205,7 +205,7 @@ fn look(rt: &HostRuntime, errand: Errand<'_>, what: &Look) -> ExitStatus {
             let why = "a run was cut off, or is under way";
             complain(errand.file, "it is shown as it stands", why, &mut errors);
         }
-        return match sight.text {
+        return match text {
             Ok(text) => show(rt, errand, text.as_slice()),
             Err(error) => Trouble::Undone(error).tell(rt, errand, None),
         };
