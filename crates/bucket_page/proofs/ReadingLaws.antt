@@ -13,7 +13,7 @@ use Rattle.directory.specs.fields.Numbers.{two, four, zeros, two_at, four_at}
 use Rattle.bucket_page.specs.Records.{Pair, record_bytes, pairs_of}
 use Rattle.directory.specs.Pages.{entries_at}
 use Rattle.bucket_page.specs.Spelling.{head_bytes, padded, link_bytes, Spells}
-use Rattle.bucket_page.specs.Reading.{kind_at, depth_at, record_count_at, used_at, area, after_area, head_at, bucket_in, page_in, bucket_fault, directory_fault, link_fault, fault_of, answer, reading}
+use Rattle.bucket_page.specs.Reading.{kind_at, local_depth_at, record_count_at, used_at, area, after_area, head_at, bucket_in, page_in, bucket_fault, directory_fault, link_fault, fault_of, answer, reading}
 use Rattle.directory.specs.fields.Numbers.{is_zero}
 use Rattle.directory.proofs.of_fields.Tests.{both_true}
 use Rattle.directory.proofs.of_fields.ZeroLaws.{zeros_at, zeros_of}
@@ -30,7 +30,7 @@ kind_first : (bytes : List ℕ) → 1 ≤ length bytes → bytes ≡ kind_at byt
 kind_first [] long = absurd (omega (arith, long))
 kind_first (a ∷ rest) long = refl
 
-head_first : (bytes : List ℕ) → 2 ≤ length bytes → bytes ≡ kind_at bytes ∷ depth_at bytes ∷ drop 2 bytes
+head_first : (bytes : List ℕ) → 2 ≤ length bytes → bytes ≡ kind_at bytes ∷ local_depth_at bytes ∷ drop 2 bytes
 head_first [] long = absurd (omega (arith, long))
 head_first (a ∷ []) long = absurd (omega (arith, long))
 head_first (a ∷ b ∷ rest) long = refl
@@ -47,7 +47,7 @@ head_takes bytes long all kind blank =
     ∙ ap (λ (xs : List ℕ). four (four_at 4 bytes) ++ xs) next in
     let count = two_takes 2 bytes (omega (arith, long)) all
     ∙ ap (λ (xs : List ℕ). two (two_at 2 bytes) ++ xs) pattern in
-    head_first bytes (omega (arith, long)) ∙ (λ i. kind i ∷ depth_at bytes ∷ count i)
+    head_first bytes (omega (arith, long)) ∙ (λ i. kind i ∷ local_depth_at bytes ∷ count i)
     ∙ sym (head_parts (head_at bytes) (drop 16 bytes))
 
 bucket_takes : (bytes : List ℕ) → length bytes ≡ PAYLOAD_BYTES → IsBytes bytes → kind_at bytes ≡ BUCKET
@@ -84,7 +84,7 @@ bucket_takes bytes long all kind passes =
         order = order.0;
       };
       spelled = front ∙ (λ i. head_bytes (record {
-        depth = depth_at bytes;
+        depth = local_depth_at bytes;
         count = sym records.2 i;
         pattern =
             four_at 4 bytes;

@@ -16,8 +16,8 @@ use Rattle.directory.specs.Pages.{entries_at, has_entries_padding}
 abbrev pub kind_at : List ℕ → ℕ
 kind_at bytes = slice_index bytes 0
 
-abbrev pub depth_at : List ℕ → ℕ
-depth_at bytes = slice_index bytes 1
+abbrev pub local_depth_at : List ℕ → ℕ
+local_depth_at bytes = slice_index bytes 1
 
 abbrev pub record_count_at : List ℕ → ℕ
 record_count_at bytes = two_at 2 bytes
@@ -34,7 +34,7 @@ after_area bytes = drop (used_at bytes) (drop HEAD_BYTES bytes)
 
 abbrev pub bucket_in : List ℕ → Bucket
 bucket_in bytes = record {
-  depth = depth_at bytes;
+  depth = local_depth_at bytes;
   pattern = four_at 4 bytes;
   next = four_at 8 bytes;
   records = pairs_of (record_count_at bytes) (area bytes);
@@ -45,7 +45,7 @@ records_in bytes = (bucket_in bytes).records
 
 abbrev pub head_at : List ℕ → Head
 head_at bytes = record {
-  depth = depth_at bytes;
+  depth = local_depth_at bytes;
   count = record_count_at bytes;
   pattern = four_at 4 bytes;
   next = four_at 8 bytes;
@@ -73,11 +73,11 @@ first_failed (t ∷ ts) = if t.0 then first_failed ts else Some t.1
 
 -- the depth is in range
 abbrev pub has_depth : List ℕ → Bool
-has_depth bytes = nat_le (depth_at bytes) GREATEST_DEPTH
+has_depth bytes = nat_le (local_depth_at bytes) GREATEST_DEPTH
 
 -- the pattern has no bit beyond the depth
 abbrev pub has_pattern : List ℕ → Bool
-has_pattern bytes = nat_lt (four_at 4 bytes) (2 ^ depth_at bytes)
+has_pattern bytes = nat_lt (four_at 4 bytes) (2 ^ local_depth_at bytes)
 
 -- the number of records fills the bytes of records, and those fit
 abbrev pub has_lengths : List ℕ → Bool

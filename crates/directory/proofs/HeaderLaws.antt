@@ -11,7 +11,7 @@ use Rattle.directory.specs.Layouts.{IsLayout, header_size, least_pages}
 use Rattle.directory.specs.declared.header.Header.{Header}
 use Rattle.directory.specs.declared.read.HeaderFault.{HeaderFault}
 use Rattle.fields.specs.Numbers.{four, four_at, numbers_bytes, numbers_of, zeros, is_zero}
-use Rattle.directory.specs.Spelling.{IsHeaderIn, Spells, SpellsIn, bytes_in}
+use Rattle.directory.specs.Spelling.{IsHeaderIn, SpellsHeader, SpellsIn, bytes_in}
 use Rattle.directory.specs.Reading.{kind_at, version_at, depth_at, pages_at, counts_area, counts_at, header_at, has_magic, has_range, has_padding, has_layout, fault_in, answer, reading, reading_in}
 use Rattle.fields.proofs.Tests.{both_true}
 use Rattle.fields.proofs.ZeroLaws.{drop-zeros, zeros-zeros, zeros_of, zeros_again}
@@ -155,7 +155,7 @@ spelled_in l h payload right it =
     ap (reading_in l) it.spelled ∙ (λ i. answer (fault i) (said.value i))
 
 -- in today's layout
-pub spelled_reads : (h : Header) (payload : List ℕ) → Spells h payload → reading payload ≡ Ok h
+pub spelled_reads : (h : Header) (payload : List ℕ) → SpellsHeader h payload → reading payload ≡ Ok h
 spelled_reads h payload it = spelled_in LAYOUT h payload is_today it
 
 -- ---- read, then spelled

@@ -45,5 +45,5 @@ header_bytes = bytes_in LAYOUT
 abbrev pub IsHeader : Header → Type 0
 IsHeader = IsHeaderIn LAYOUT
 
-abbrev pub Spells : Header → List ℕ → Type 0
-Spells = SpellsIn LAYOUT
+abbrev pub SpellsHeader : Header → List ℕ → Type 0
+SpellsHeader = SpellsIn LAYOUT

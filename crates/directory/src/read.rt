@@ -6,7 +6,7 @@ ghost use Rattle.directory.specs.Fault.{number_of};
 ghost use Rattle.fields.specs.Numbers.{numbers_of};
 ghost use Rattle.directory.specs.Layouts.{IsLayout};
 ghost use Rattle.directory.specs.Reading.{counts_at, header_at, has_layout, has_magic, has_padding, has_range, reading, reading_in};
-ghost use Rattle.directory.specs.Spelling.{Spells, SpellsIn};
+ghost use Rattle.directory.specs.Spelling.{SpellsHeader, SpellsIn};
 
 use crate::header::Header;
 use crate::layout::{
@@ -46,8 +46,8 @@ pub fn read_header(payload: &Payload) -> Result<Header, HeaderFault>
     // The first test that fails names the refusal.
     ensures value { result ≡ reading payload.now }
     // What is read is spelled so, and what is spelled so is read.
-    ensures ok { IfOk result (λ header. Spells header payload.now) }
-    ensures only { (header : Header) → Spells header payload.now → result ≡ Ok header }
+    ensures ok { IfOk result (λ header. SpellsHeader header payload.now) }
+    ensures only { (header : Header) → SpellsHeader header payload.now → result ≡ Ok header }
 {
     layouts_are_right();
     read_header_in(&LAYOUT, payload)

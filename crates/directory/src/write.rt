@@ -2,7 +2,7 @@
 
 ghost use Rattle.std.specs.Prelude.{◌≡◌, ◌≤◌, length};
 ghost use Rattle.page_device.specs.declared.page.TheConstants.{MAX_PAGES, PAYLOAD_BYTES};
-ghost use Rattle.directory.specs.Spelling.{Spells, header_bytes};
+ghost use Rattle.directory.specs.Spelling.{SpellsHeader, header_bytes};
 
 use crate::header::Header;
 use crate::layout::{COUNTS_BYTES, GREATEST_DEPTH, HEADER, LEAST_PAGES, MAGIC, VERSION};
@@ -14,7 +14,7 @@ pub fn write_header(header: &Header, payload: &mut Payload)
     requires depth { header.now.depth ≤ GREATEST_DEPTH }
     requires least { LEAST_PAGES ≤ header.now.pages }
     requires most { header.now.pages ≤ MAX_PAGES }
-    ensures { Spells header.now payload.new }
+    ensures { SpellsHeader header.now payload.new }
 {
     header.fits_bytes();
     write(payload, header);

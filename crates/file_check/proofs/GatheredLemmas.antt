@@ -13,7 +13,7 @@ use Rattle.queue_records.specs.declared.record.Record.TheVariants as records
 use Rattle.file_check.proofs.Names.{all_of, AreLinksOf, contains_head, contains_tail, contents_are_pairs, counter_of, find-Some, has_id, HasContents, HasSystem, Holds, image, image_agrees, in_flat_map, in_map, IsQuietFile, IsSystemOf, key_entry, key_of_queue, key_records, message_records, one_system, Queue, queue_entry, queue_records, QueueLinks, Quiet, record_of, type_records}
 use Rattle.file_check.specs.Gathered.{AreCounted, AreJustOf, AreLinksOfAll, IsOf}
 use Rattle.file_check.specs.Strays.{AreNeeded, AreNeededOn, IsNeeded}
-use Rattle.file_check.specs.Words.{Layout, Pair, Record, RecordKey, Spells, SpellsIn, State, Store, contents, held_in, pair, pairs_on, records_at}
+use Rattle.file_check.specs.Words.{Layout, Pair, Record, RecordKey, SpellsRecord, SpellsIn, State, Store, contents, held_in, pair, pairs_on, records_at}
 use Rattle.file_records.proofs.VersionLemmas.{held_some, some_held}
 use Rattle.file_records.specs.Versions.{today_in}
 use Rattle.file_check.proofs.CountLemmas.{count_more, named_each}
@@ -48,7 +48,7 @@ module _ (l : Layout) (hash : RecordKey → ℕ) (st : Store) (ns : List ℕ) (q
           value = value;
           found = subst (λ (k : RecordKey). held_in l st k ≡ Some value) named.keyed
               (held_some l st p.key p.value found);
-          spelled = subst (λ (k : RecordKey). Spells r k value) named.keyed named;
+          spelled = subst (λ (k : RecordKey). SpellsRecord r k value) named.keyed named;
         }
 
     -- what is held is a record of the system

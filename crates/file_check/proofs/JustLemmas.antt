@@ -18,20 +18,20 @@ use Rattle.file_check.specs.declared.fault.CheckFault.TheVariants as faults
 use Rattle.file_check.specs.Strays.{AreNeeded, IsFirstStray, IsNeeded, IsStrayIn}
 use Rattle.file_check.specs.Whole.{HasJust}
 use Rattle.file_records.proofs.VersionLemmas.{held_none, held_some}
-use Rattle.file_check.specs.Words.{CheckFault, Layout, Pair, Record, RecordKey, Spells, State, Store, bucket_at, contents, held_in, pairs_on, records_at}
+use Rattle.file_check.specs.Words.{CheckFault, Layout, Pair, Record, RecordKey, SpellsRecord, State, Store, bucket_at, contents, held_in, pairs_on, records_at}
 use Rattle.file_check.proofs.RecordLemmas.{stands_on}
 
 -- ---- exactly the records of a system
 
 -- a record that the system has at a key stands there
 has_each : (held : RecordKey → Option (List ℕ)) (s : State) → HasSystem held s → (key : RecordKey) (r : Record) →
-    record_of s key ≡ Some r → (value : List ℕ) × (held key ≡ Some value) × Spells r key value
+    record_of s key ≡ Some r → (value : List ℕ) × (held key ≡ Some value) × SpellsRecord r key value
 has_each held s has key r at =
     let in_image = (image_agrees s has.lawful key r).0 at in
     let stands : Holds held r = All-contains (Holds held) (image s) r has.stand in_image.0 in (
       stands.value,
       subst (λ (k : RecordKey). held k ≡ Some stands.value) in_image.1 stands.found,
-      subst (λ (k : RecordKey). Spells r k stands.value) in_image.1 stands.spelled,
+      subst (λ (k : RecordKey). SpellsRecord r k stands.value) in_image.1 stands.spelled,
     )
 
 module _ (l : Layout) (hash : RecordKey → ℕ) (st : Store) (ns : List ℕ) (quiet : IsQuietFile hash st ns) where

@@ -10,12 +10,12 @@ use Rattle.file_check.specs.declared.fault.CheckFault.TheVariants as faults
 use Rattle.file_check.specs.Fault.{IsOfMachineToo, of_walk}
 use Rattle.file_check.specs.Right.{IsFirstWrongThing, IsRightFile}
 use Rattle.file_check.specs.Strays.{IsFirstStray}
-use Rattle.file_check.specs.Words.{CheckFault, IsLayout, LAYOUT, Layout, Record, RecordKey, Spells, State, file_in, held_in}
+use Rattle.file_check.specs.Words.{CheckFault, IsLayout, LAYOUT, Layout, Record, RecordKey, SpellsRecord, State, file_in, held_in}
 
 -- at each key stands exactly the record that the system has there
 pub record HasJust (held : RecordKey → Option (List ℕ)) (s : State) : Type 0 where
   pub stand : (key : RecordKey) (r : Record) → record_of s key ≡ Some r →
-      (value : List ℕ) × (held key ≡ Some value) × Spells r key value
+      (value : List ℕ) × (held key ≡ Some value) × SpellsRecord r key value
   pub others : (key : RecordKey) → record_of s key ≡ None → held key ≡ None
 
 -- the file of a system in a layout

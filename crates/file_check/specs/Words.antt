@@ -14,5 +14,5 @@ pub use Rattle.hash_file.specs.Chain.{IsPlaced, chain, contents, pairs_on}
 pub use Rattle.positions.specs.Ranges.{Covers}
 pub use Rattle.queue_model.specs.State.{State}
 pub use Rattle.queue_records.specs.declared.record.Record.{Record}
-pub use Rattle.queue_records.specs.Records.{Spells}
+pub use Rattle.queue_records.specs.Records.{SpellsRecord}
 pub use Rattle.file_check.specs.declared.fault.CheckFault.{CheckFault}

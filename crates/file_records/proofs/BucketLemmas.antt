@@ -13,7 +13,7 @@ use Rattle.positions.proofs.RangeLaws.{covers_truncated}
 use Rattle.file_records.specs.Answers.{AnswersFor, entry_for}
 use Rattle.file_records.specs.Files.{HasRecords, IsRecord}
 use Rattle.file_records.specs.Versions.{found_in, held_in}
-use Rattle.file_records.specs.Words.{IsLayout, IsOfMachine, Layout, RecordKey, Spells, Store, WalkFault, bucket_at, contents, entry_at, file_in, lookup, payload_on, records_at}
+use Rattle.file_records.specs.Words.{IsLayout, IsOfMachine, Layout, RecordKey, SpellsRecord, Store, WalkFault, bucket_at, contents, entry_at, file_in, lookup, payload_on, records_at}
 use Rattle.file_records.proofs.PageLemmas.{looked_up, read_as, within}
 use Rattle.file_records.proofs.VersionLemmas.{found_back, held_is}
 
@@ -79,7 +79,7 @@ module _ (l : Layout) (laid : IsLayout l) (hash : RecordKey → ℕ) (content : 
             (sym (held_is l (file_in l content) key) ∙ held) in
             let r = looked_up (IsRecord l) key raw.0 (records_at (file_in l content) n) (h.spelled n on.0)
             (sym here ∙ raw.1) in
-            (r.0, subst (Spells r.0 key) raw.2 r.1);
+            (r.0, subst (SpellsRecord r.0 key) raw.2 r.1);
       }
 
   -- and it is no page past the end

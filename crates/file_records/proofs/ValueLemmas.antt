@@ -5,7 +5,7 @@ use Rattle.queue_records.specs.declared.record.Record.TheVariants as records
 use Rattle.queue_records.specs.Keys.{key_of_message}
 use Rattle.record_walk.specs.Held.{IsMessageAt, entry_with}
 use Rattle.file_records.specs.Answers.{AnswersFor, IsRecordAt, StandsAt}
-use Rattle.file_records.specs.Words.{Layout, RecordKey, Holds, Linked, MessageEntry, Record, Spells, key_of, linked_of}
+use Rattle.file_records.specs.Words.{Layout, RecordKey, Holds, Linked, MessageEntry, Record, SpellsRecord, key_of, linked_of}
 
 module _ (held : RecordKey → Option (List ℕ)) (key : RecordKey) where
   pub none_at : held key ≡ None → IsRecordAt held key None
@@ -17,40 +17,40 @@ module _ (held : RecordKey → Option (List ℕ)) (key : RecordKey) where
         absurd cc),
   )
 
-  pub some_at : (value : List ℕ) (found : Record) → held key ≡ Some value → Spells found key value →
-      ((r : Record) → Spells r key value → found ≡ r) → IsRecordAt held key (Some found)
+  pub some_at : (value : List ℕ) (found : Record) → held key ≡ Some value → SpellsRecord found key value →
+      ((r : Record) → SpellsRecord r key value → found ≡ r) → IsRecordAt held key (Some found)
   some_at value found is spelled only r keyed = (
     (λ e.
         let same : found ≡ r = cc in
         record {
           value = value;
           found = subst (λ (k : RecordKey). held k ≡ Some value) (sym keyed) is;
-          spelled = subst (λ (k : RecordKey). Spells r k value) (sym keyed)
-              (subst (λ (x : Record). Spells x key value) same spelled);
+          spelled = subst (λ (k : RecordKey). SpellsRecord r k value) (sym keyed)
+              (subst (λ (x : Record). SpellsRecord x key value) same spelled);
         }),
     (λ h.
         let there = subst (λ (k : RecordKey). held k ≡ Some h.value) keyed h.found in
         let both : ◌≡◌ {A = Option (List ℕ)} (Some h.value) (Some value) = sym there ∙ is in
         let same : h.value ≡ value = cc in
-        let so = subst (λ (k : RecordKey). Spells r k h.value) keyed h.spelled in
-        ap (λ (x : Record). Some x) (only r (subst (Spells r key) same so))),
+        let so = subst (λ (k : RecordKey). SpellsRecord r k h.value) keyed h.spelled in
+        ap (λ (x : Record). Some x) (only r (subst (SpellsRecord r key) same so))),
   )
 
   -- what is read at the key stands there
-  pub read_stands : (value : List ℕ) (found : Record) → held key ≡ Some value → Spells found key value →
+  pub read_stands : (value : List ℕ) (found : Record) → held key ≡ Some value → SpellsRecord found key value →
       StandsAt held key found
   read_stands value found is spelled = record {
     keyed = sym spelled.keyed;
     stands = record {
       value = value;
       found = subst (λ (k : RecordKey). held k ≡ Some value) spelled.keyed is;
-      spelled = subst (λ (k : RecordKey). Spells found k value) spelled.keyed spelled;
+      spelled = subst (λ (k : RecordKey). SpellsRecord found k value) spelled.keyed spelled;
     };
   }
 
 pub only_one : (key : RecordKey) (value : List ℕ) (found : Record) →
-    ((r : Record) → Spells r key value → ◌≡◌ {A = Result Record BadRecord} (Ok found) (Ok r)) → (r : Record) →
-    Spells r key value → found ≡ r
+    ((r : Record) → SpellsRecord r key value → ◌≡◌ {A = Result Record BadRecord} (Ok found) (Ok r)) → (r : Record) →
+    SpellsRecord r key value → found ≡ r
 only_one key value found only r spelled =
     let e : ◌≡◌ {A = Result Record BadRecord} (Ok found) (Ok r) = only r spelled in
     let same : found ≡ r = cc in

@@ -3,7 +3,7 @@ use Rattle.std.specs.Prelude.{◌≡◌, ◌↔◌, ℕ, ◌%◌, ◌^◌, List,
 use Rattle.bucket_page.specs.declared.page.PageKind.TheVariants as kinds
 use Rattle.page_device.specs.Sealed.{payload_of}
 use Rattle.file_records.specs.Versions.{found_in}
-use Rattle.file_records.specs.Words.{RecordKey, Bucket, Holds, Layout, Record, Spells, Store, entry_at, key_of, lookup, reading}
+use Rattle.file_records.specs.Words.{RecordKey, Bucket, Holds, Layout, Record, SpellsRecord, Store, entry_at, key_of, lookup, reading}
 
 -- the page that the directory names for a pseudokey
 abbrev pub entry_for : Store → ℕ → ℕ
@@ -14,7 +14,7 @@ pub record AnswersFor (l : Layout) (held : RecordKey → Option (List ℕ)) (key
   pub bucket : Bucket
   pub read : reading (payload_of page) ≡ Ok (kinds.Bucket bucket)
   pub value : found_in l key (lookup key bucket.records) ≡ held key
-  pub spelled : (value : List ℕ) → held key ≡ Some value → (r : Record) × Spells r key value
+  pub spelled : (value : List ℕ) → held key ≡ Some value → (r : Record) × SpellsRecord r key value
 
 -- of the records of this key, this one stands, or none
 abbrev pub IsRecordAt : (RecordKey → Option (List ℕ)) → RecordKey → Option Record → Type 0

@@ -3,7 +3,7 @@ use Rattle.std.specs.Prelude.{ℕ, ◌==◌, Bool, true, false, List, Option, So
 use Rattle.directory.specs.declared.layout.Layout.{Layout}
 use Rattle.directory.specs.declared.layout.TheConstants.{LAYOUT}
 use Rattle.queue_records.specs.Older.{as_today}
-use Rattle.file_records.specs.Words.{Record, RecordKey, Spells, Store, contents}
+use Rattle.file_records.specs.Words.{Record, RecordKey, SpellsRecord, Store, contents}
 
 -- whether values are today's
 abbrev pub is_today : Layout → Bool
@@ -19,7 +19,7 @@ today_in l key value = today_by (is_today l) key value
 
 -- key and value are those of this record
 abbrev pub SpellsIn : Layout → Record → RecordKey → List ℕ → Type 0
-SpellsIn l r key value = Spells r key (today_in l key value)
+SpellsIn l r key value = SpellsRecord r key (today_in l key value)
 
 abbrev pub found_by : Bool → RecordKey → Option (List ℕ) → Option (List ℕ)
 found_by today key None = None

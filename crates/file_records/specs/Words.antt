@@ -13,7 +13,7 @@ pub use Rattle.queue_records.specs.declared.record.Record.{Record}
 pub use Rattle.queue_records.specs.declared.counter.Counter.{Counter}
 pub use Rattle.queue_records.specs.declared.queue_entry.QueueEntry.{QueueEntry}
 pub use Rattle.queue_records.specs.declared.message_entry.MessageEntry.{MessageEntry}
-pub use Rattle.queue_records.specs.Records.{Spells}
+pub use Rattle.queue_records.specs.Records.{SpellsRecord}
 pub use Rattle.queue_records.specs.Spelling.{key_of}
 pub use Rattle.record_walk.specs.declared.fault.WalkFault.{WalkFault}
 pub use Rattle.record_walk.specs.declared.records.Linked.{Linked}

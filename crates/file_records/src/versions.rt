@@ -2,7 +2,7 @@
 
 ghost use Rattle.std.specs.Prelude.{◌≡◌, ◌↔◌, IfOk, IsTrue, Ok};
 ghost use Rattle.file_records.specs.Versions.{SpellsIn};
-ghost use Rattle.file_records.specs.Words.{Spells, key_of};
+ghost use Rattle.file_records.specs.Words.{SpellsRecord, key_of};
 
 use bucket_page::RecordKey;
 use directory::{LAYOUT, Layout};
@@ -38,7 +38,7 @@ pub fn is_spelled_in(layout: &Layout, wanted: &Record, value: &[u8]) -> bool
 
 /// Whether this is the value of a record.
 fn is_spelled(wanted: &Record, value: &[u8]) -> bool
-    ensures { IsTrue result ↔ Spells wanted.now (key_of wanted.now) value.now }
+    ensures { IsTrue result ↔ SpellsRecord wanted.now (key_of wanted.now) value.now }
 {
     if !wanted.is_in_range() {
         return false;

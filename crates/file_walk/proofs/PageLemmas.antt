@@ -13,7 +13,7 @@ use Rattle.bucket_page.specs.Reading.{reading, fault_of, page_in, answer}
 use Rattle.bucket_page.specs.Spelling.{Spells}
 use Rattle.file_walk.specs.declared.fault.StructureFault.{StructureFault}
 use Rattle.file_walk.specs.declared.fault.StructureFault.TheVariants as faults
-use Rattle.file_walk.specs.Files.{payload_on, said_by, said_on, header_on, entries_of}
+use Rattle.file_walk.specs.Files.{payload_on, said_by, said_on, header_on, directory_entries}
 use Rattle.file_walk.specs.declared.form.Form.{Form}
 use Rattle.file_walk.specs.Outlines.{shown, bare}
 use Rattle.file_walk.specs.Order.{IsCutIn, IsTooLongIn, is_directory, IsUnread, may_stand_in, after_reading, after_standing, depth_of, malformed_in, standing_in, IsRightPageIn, IsFaultIn, IsOfMachine, IsHeaderFaultIn}
@@ -210,5 +210,5 @@ module _ (l : Layout) (laid : IsLayout l) where
         (may_below n (kinds.Directory es) true below refl) (omega arith);
     value = λ is.
         taken
-        ∙ ap (λ p. take most (old ++ entries_of p)) (sym (said content n payload (h is) (kinds.Directory es) e));
+        ∙ ap (λ p. take most (old ++ directory_entries p)) (sym (said content n payload (h is) (kinds.Directory es) e));
   }

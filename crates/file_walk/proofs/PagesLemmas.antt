@@ -11,7 +11,7 @@ use Rattle.bucket_page.specs.declared.page.PageKind.TheVariants as kinds
 use Rattle.file_walk.specs.declared.fault.StructureFault.{StructureFault}
 use Rattle.file_walk.specs.declared.form.Form.{Form}
 use Rattle.file_walk.specs.declared.form.Form.TheVariants as forms
-use Rattle.file_walk.specs.Files.{said_by, said_on, entries_of, entries_in, pages_in}
+use Rattle.file_walk.specs.Files.{said_by, said_on, directory_entries, entries_in, pages_in}
 use Rattle.file_walk.specs.Outlines.{shown, bare}
 use Rattle.file_walk.proofs.KeptLemmas.{taken_again}
 use Rattle.file_walk.specs.Order.{AreRightIn, IsRightPageIn, IsFaultIn, IsFirstWrongIn, IsOfMachine}
@@ -30,7 +30,7 @@ pub record IsReadTo (l : Layout) {D : Type 0} (content : D → List (List ℕ)) 
 -- the entries of the directory pages before page n
 abbrev pub entries_before : List (List ℕ) → ℕ → List ℕ
 entries_before content n =
-    flat_map (λ (page : List ℕ). entries_of (said_by page))
+    flat_map (λ (page : List ℕ). directory_entries (said_by page))
     (take (n - FIRST_DIRECTORY_PAGE) (drop FIRST_DIRECTORY_PAGE content))
 
 module _ (l : Layout) (laid : IsLayout l) where
@@ -169,15 +169,15 @@ module _ (l : Layout) (laid : IsLayout l) where
   unfolding entries_in
   entries_all content =
       let pages : l.root_page - FIRST_DIRECTORY_PAGE ≡ l.directory_pages = omega (arith, laid.root) in
-      ap (λ (n : ℕ). flat_map (λ (page : List ℕ). entries_of (said_by page))
+      ap (λ (n : ℕ). flat_map (λ (page : List ℕ). directory_entries (said_by page))
       (take n (drop FIRST_DIRECTORY_PAGE content)))
       pages
 
   -- those of one page more
   pub entries_more : (content : List (List ℕ)) (n : ℕ) → FIRST_DIRECTORY_PAGE ≤ n → n < length content →
-      entries_before content (n + 1) ≡ entries_before content n ++ entries_of (said_on content n)
+      entries_before content (n + 1) ≡ entries_before content n ++ directory_entries (said_on content n)
   entries_more content n behind within =
-      let f : List ℕ → List ℕ = λ page. entries_of (said_by page) in
+      let f : List ℕ → List ℕ = λ page. directory_entries (said_by page) in
       let k : n + 1 - FIRST_DIRECTORY_PAGE ≡ (n - FIRST_DIRECTORY_PAGE) + 1 = omega arith in
       let place : FIRST_DIRECTORY_PAGE + (n - FIRST_DIRECTORY_PAGE) ≡ n = omega arith in
       let left : n - FIRST_DIRECTORY_PAGE < length (drop FIRST_DIRECTORY_PAGE content) = rw length-drop (omega arith) in
@@ -192,10 +192,10 @@ module _ (l : Layout) (laid : IsLayout l) where
   -- the entries of one page more are kept
   pub entries_kept : (content : List (List ℕ)) (n most : ℕ) (old new : List ℕ) → FIRST_DIRECTORY_PAGE ≤ n →
       n < length content → old ≡ take most (entries_before content n) →
-      new ≡ take most (old ++ entries_of (said_on content n)) → new ≡ take most (entries_before content (n + 1))
+      new ≡ take most (old ++ directory_entries (said_on content n)) → new ≡ take most (entries_before content (n + 1))
   entries_kept content n most old new behind within before taken =
-      taken ∙ ap (λ es. take most (es ++ entries_of (said_on content n))) before
-      ∙ taken_again most (entries_before content n) (entries_of (said_on content n))
+      taken ∙ ap (λ es. take most (es ++ directory_entries (said_on content n))) before
+      ∙ taken_again most (entries_before content n) (directory_entries (said_on content n))
       ∙ ap (take most) (sym (entries_more content n behind within))
 
   pub entries_counted : (most n a b : ℕ) → FIRST_DIRECTORY_PAGE ≤ n →

@@ -26,7 +26,7 @@ entries_length bytes = numbers_length PAGE_ENTRIES bytes
 by_kind : (a b c : Bool) (bucket : Bucket) (es : List ℕ) (link : ℕ) →
     is_directory (if a then kinds.Bucket bucket else if b then kinds.Directory es
     else if c then kinds.Tombstone link else kinds.Free link) ≡ true →
-    files.entries_of (if a then kinds.Bucket bucket else if b then kinds.Directory es
+    files.directory_entries (if a then kinds.Bucket bucket else if b then kinds.Directory es
     else if c then kinds.Tombstone link else kinds.Free link) ≡ es
 by_kind true b c bucket es link e = absurd cc
 by_kind false true c bucket es link e = refl
@@ -34,7 +34,7 @@ by_kind false false true bucket es link e = absurd cc
 by_kind false false false bucket es link e = absurd cc
 
 said_length : (page : List ℕ) → is_directory (said_by page) ≡ true
-    → length (files.entries_of (said_by page)) ≡ PAGE_ENTRIES
+    → length (files.directory_entries (said_by page)) ≡ PAGE_ENTRIES
 unfolding said_by
 said_length page e =
     let bytes : List ℕ = payload_of page in
@@ -73,7 +73,7 @@ module _ (l : Layout) (laid : IsLayout l) where
       → length (entries_in l content) ≡ l.directory_pages * PAGE_ENTRIES
   unfolding entries_in
   directory_length content long right =
-      pieces_length (λ (page : List ℕ). files.entries_of (said_by page)) PAGE_ENTRIES
+      pieces_length (λ (page : List ℕ). files.directory_entries (said_by page)) PAGE_ENTRIES
       (take l.directory_pages (drop FIRST_DIRECTORY_PAGE content)) each
       ∙ ap (λ n. n * PAGE_ENTRIES) number
     where
@@ -82,8 +82,8 @@ module _ (l : Layout) (laid : IsLayout l) where
           (rw length-drop (omega (arith, long, laid.root)))
 
       each : (i : ℕ) → i < length (take l.directory_pages (drop FIRST_DIRECTORY_PAGE content)) →
-          length (files.entries_of (said_by (slice_index_or (take l.directory_pages (drop FIRST_DIRECTORY_PAGE content))
-          i [])))
+          length (files.directory_entries (said_by
+          (slice_index_or (take l.directory_pages (drop FIRST_DIRECTORY_PAGE content)) i [])))
           ≡ PAGE_ENTRIES
       each i within =
           let few : i < l.directory_pages = subst (λ n. i < n) number within in
@@ -93,7 +93,7 @@ module _ (l : Layout) (laid : IsLayout l) where
           ∙ get_or-drop FIRST_DIRECTORY_PAGE content i [] in
           let below : FIRST_DIRECTORY_PAGE + i < l.root_page = omega (arith, few, laid.root) in
           let within : FIRST_DIRECTORY_PAGE + i < length content = omega (arith, few, long, laid.root) in
-          ap (λ page. length (files.entries_of (said_by page))) place
+          ap (λ page. length (files.directory_entries (said_by page))) place
           ∙ said_length (page_on content (FIRST_DIRECTORY_PAGE + i))
           (right_directory content (FIRST_DIRECTORY_PAGE + i) below
           (right (FIRST_DIRECTORY_PAGE + i) (omega arith) within))

@@ -27,9 +27,9 @@ abbrev pub said_on : List (List ℕ) → ℕ → PageKind
 said_on content n = said_by (page_on content n)
 
 -- the entries of a directory page
-abbrev pub entries_of : PageKind → List ℕ
-entries_of (kinds.Directory es) = es
-entries_of page = []
+abbrev pub directory_entries : PageKind → List ℕ
+directory_entries (kinds.Directory es) = es
+directory_entries page = []
 
 -- the header that page 0 says
 unfoldable pub header_on : List (List ℕ) → Header
@@ -38,7 +38,8 @@ header_on content = header_at (payload_on content 0)
 -- the entries of all directory pages, one page behind the other
 unfoldable pub entries_in : Layout → List (List ℕ) → List ℕ
 entries_in l content =
-    flat_map (λ (page : List ℕ). entries_of (said_by page)) (take l.directory_pages (drop FIRST_DIRECTORY_PAGE content))
+    flat_map (λ (page : List ℕ). directory_entries (said_by page))
+      (take l.directory_pages (drop FIRST_DIRECTORY_PAGE content))
 
 -- the pages from the root on, by their numbers; nothing is asked of those below
 unfoldable pub pages_in : Layout → List (List ℕ) → List PageKind

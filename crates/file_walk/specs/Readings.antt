@@ -8,7 +8,7 @@ use Rattle.directory.specs.Spelling.{IsHeaderIn}
 use Rattle.hash_file.specs.Store.{Store}
 use Rattle.file_walk.specs.declared.form.Form.{Form}
 use Rattle.file_walk.specs.declared.form.Form.TheVariants as forms
-use Rattle.file_walk.specs.Files.{page_on, payload_on, header_on, said_on, entries_of, entries_in, pages_in, file_in}
+use Rattle.file_walk.specs.Files.{page_on, payload_on, header_on, said_on, directory_entries, entries_in, pages_in, file_in}
 use Rattle.file_walk.specs.Outlines.{shown, bare, outlined}
 use Rattle.file_walk.specs.Order.{HasHeaderIn, IsRightPageIn, AreRightIn}
 
@@ -34,7 +34,7 @@ pub record TakesEntries (l : Layout) (honest : Bool) (content : List (List ℕ))
     (old new : List ℕ) : Type 0 where
   pub number : length new ≡ min most (length old + PAGE_ENTRIES)
   pub right : IsTrue honest → IsRightPageIn l content n
-  pub value : IsTrue honest → new ≡ take most (old ++ entries_of (said_on content n))
+  pub value : IsTrue honest → new ≡ take most (old ++ directory_entries (said_on content n))
 
 -- these are the entries of a directory of this depth
 pub record AreEntriesOf (l : Layout) (honest : Bool) (content : List (List ℕ)) (depth : ℕ) (es : List ℕ) : Type 0 where

@@ -2,7 +2,7 @@
 use Rattle.std.proofs.Common.{ℕ, zero, suc, ◌≡◌, ◌+◌, ◌-◌, ◌<◌, ◌≤◌, ◌^◌, ◌==◌, nat_lt, Bool, true, false, List, [], ◌∷◌, ◌++◌, length, replicate, slice_set, slice_index_or, if◌then◌else◌, refl, sym, ap, subst, ◌∙◌, inl, inr, lit≤, lit<, arith}
 use Rattle.bucket_page.specs.declared.page.PageKind.TheVariants as kinds
 use Rattle.hash_file.specs.Chain.{chain}
-use Rattle.file_walk.specs.Files.{entries_of, entries_in, entries_on, file_of, said_by}
+use Rattle.file_walk.specs.Files.{directory_entries, entries_in, entries_on, file_of, said_by}
 use Rattle.one_bucket_file.proofs.Names.{Contains, Covers, GREATEST_DEPTH, HasLayout, Header, IsFile, IsNew, IsPlaced, IsRightChain, IsRightStructure, IsSoundFile, LEAST_PAGES, LOCAL_DEPTHS, PageKind, Pair, Quiet, ROOT_PAGE, RecordKey, Store, append-nil, bucket_of, cases_eq, contains_head, entry_at, eq-eqb, flat_map, flat_map-cons, follower, free_behind, get_or-replicate, get_or_append_left, is_bucket, le-ltb, length-replicate, lt-ltb, ne_eqb, new_sound, page_at, pages_length, range_at, range_of, root_bucket, tiles_partition, times}
 use Rattle.one_bucket_file.proofs.AloneLemmas.{alone}
 use Rattle.one_bucket_file.proofs.NewLemmas.{first_says, free_at, has_pages, header_says, root_at}
@@ -37,8 +37,9 @@ module _ (hash : RecordKey → ℕ) (pages : ℕ) (rs : List Pair) (content : Li
     first_entry : entry_at (file_of content) 0 ≡ ROOT_PAGE
     unfolding entries_in
     first_entry =
-        let f : List ℕ → List ℕ = λ page. entries_of (said_by page) in
-        let first = ap f (directory_page content 0 (omega arith)) ∙ ap entries_of (first_says pages rs content it) in
+        let f : List ℕ → List ℕ = λ page. directory_entries (said_by page) in
+        let first = ap f (directory_page content 0 (omega arith))
+              ∙ ap directory_entries (first_says pages rs content it) in
         first_made f (directory_of content) (subst (λ n. 0 < n) (sym (directory_length content long)) (lit< tt))
         (subst (λ (es : List ℕ). 0 < length es) (sym first) (lit< tt))
         ∙ ap (λ (es : List ℕ). slice_index_or es 0 0) first

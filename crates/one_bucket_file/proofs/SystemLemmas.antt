@@ -3,7 +3,7 @@ use Rattle.std.proofs.Common.{ℕ, ◌≡◌, ◌≢◌, true, false, List, [], 
 use Rattle.bucket_page.specs.declared.page.PageKind.TheVariants as kinds
 use Rattle.file_check.specs.Records.{AreRightIn, AreRightRecords, IsRecord, IsRightRecord}
 use Rattle.file_check.specs.Whole.{IsFileOf}
-use Rattle.file_check.specs.Words.{IsPlaced, IsRightStructure, Pair, Record, RecordKey, Spells, State, bucket_at, contents, file_of, pairs_on, records_at}
+use Rattle.file_check.specs.Words.{IsPlaced, IsRightStructure, Pair, Record, RecordKey, SpellsRecord, State, bucket_at, contents, file_of, pairs_on, records_at}
 use Rattle.one_bucket_file.proofs.Names.{All, All-cons, All-nil, Contains, HasSystem, Holds, IsQuietFile, PageKind, Queue, Quiet, ROOT_PAGE, all_of, ascend, bucket_of, contains_cases, contains_head, contains_none, contents_are_pairs, find, find-Some, found_id, has_id, image, image_has, in_flat_map, in_map, key_of, key_of_queue, lookup, lookup_before, option_map, page_at, record_of, root_bucket, spelled, structure_sound, value_of}
 use Rattle.record_walk.proofs.OneSystem.{one_system}
 use Rattle.queue_model.specs.Lawful.{IsLawful}
@@ -71,7 +71,7 @@ module _ (hash : RecordKey → ℕ) (content : List (List ℕ)) (rs : List Pair)
         by_record None at e = absurd cc
         by_record (Some r) at e =
             let same : value_of r ≡ p.value = cc in
-            (r, subst (Spells r p.key) same (spelled t p.key r it.lawful it.fits at))
+            (r, subst (SpellsRecord r p.key) same (spelled t p.key r it.lawful it.fits at))
 
     right : AreRightRecords hash (file_of content) (ROOT_PAGE ∷ [])
     right =

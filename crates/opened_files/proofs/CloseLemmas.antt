@@ -10,7 +10,7 @@ use Rattle.buffer_pool.specs.Pool.{payloads_of}
 use Rattle.directory.specs.declared.layout.TheConstants.{FIRST_DIRECTORY_PAGE, ROOT_PAGE}
 use Rattle.directory.specs.Pages.{entries_at}
 use Rattle.directory.specs.Reading as header
-use Rattle.directory.specs.Spelling.{Spells as SpellsHeader}
+use Rattle.directory.specs.Spelling.{SpellsHeader}
 use Rattle.directory.proofs.HeaderLaws.{spelled_reads}
 use Rattle.bucket_page.specs.declared.record_key.RecordKey.{RecordKey}
 use Rattle.bucket_page.specs.declared.page.PageKind.{PageKind}
@@ -27,7 +27,7 @@ use Rattle.queue_model.specs.State.{State}
 use Rattle.queue_model.specs.declared.queue.Queue.{Queue}
 use Rattle.queue_model.proofs.ListLemmas.{find-Some}
 use Rattle.queue_records.specs.declared.record.Record.{Record}
-use Rattle.queue_records.specs.Records.{Spells as SpellsRecord}
+use Rattle.queue_records.specs.Records.{SpellsRecord}
 use Rattle.queue_records.specs.Spelling.{key_of, value_of}
 use Rattle.hash_file.specs.Store.{Store, bucket_at, is_bucket, page_at, range_of, records_at}
 use Rattle.hash_file.specs.Chain.{IsPlaced, chain, contents, pairs_on}

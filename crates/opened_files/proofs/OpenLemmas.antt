@@ -7,7 +7,7 @@ use Rattle.buffer_pool.specs.Pool.{payloads_of}
 use Rattle.directory.specs.declared.layout.TheConstants.{LEAST_PAGES}
 use Rattle.directory.specs.Pages.{IsDirectoryPage}
 use Rattle.directory.specs.Reading.{header_at}
-use Rattle.directory.specs.Spelling.{Spells as SpellsHeader}
+use Rattle.directory.specs.Spelling.{SpellsHeader}
 use Rattle.bucket_page.specs.declared.record_key.RecordKey.{RecordKey}
 use Rattle.bucket_page.specs.declared.page.PageKind.{PageKind}
 use Rattle.bucket_page.specs.declared.page.PageKind.TheVariants as kinds
@@ -22,7 +22,7 @@ use Rattle.page_locks.proofs.TableLemmas.{IsLawful-empty, row_of-empty}
 use Rattle.positions.proofs.MemberLaws.{contains_none}
 use Rattle.queue_model.specs.State.{State}
 use Rattle.queue_records.specs.declared.record.Record.{Record}
-use Rattle.queue_records.specs.Records.{Spells as SpellsRecord}
+use Rattle.queue_records.specs.Records.{SpellsRecord}
 use Rattle.queue_records.specs.Spelling.{value_of}
 use Rattle.hash_file.specs.Store.{Store}
 use Rattle.hash_file.specs.Chain.{contents}

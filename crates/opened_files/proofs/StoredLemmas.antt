@@ -21,7 +21,7 @@ use Rattle.hash_file.specs.Store.{Store, bucket_of, entry_at, is_bucket, page_at
 use Rattle.file_pages.specs.Files.{SpellsFile, entry_on, image, kind_on, store_of}
 unfoldable use Rattle.file_pages.specs.Files.{entries_of as listed_entries}
 use Rattle.file_pages.proofs.StoreLemmas.{entry_is, header_is, layout_is, length-listed, listed_at, page_is, pages_are}
-use Rattle.file_walk.specs.Files.{entries_of, entries_in, entries_on, file_layout, file_of, header_on, payload_on, said_by, said_on}
+use Rattle.file_walk.specs.Files.{directory_entries, entries_in, entries_on, file_layout, file_of, header_on, payload_on, said_by, said_on}
 use Rattle.file_walk.proofs.Today.{pages_at, pages_length}
 use Rattle.file_walk.proofs.SoundLemmas.{pieces_length}
 use Rattle.one_bucket_file.proofs.PageLemmas.{directory_length, directory_of, directory_page, page_low, page_past, said_is, says}
@@ -78,13 +78,13 @@ module _ (content : List (List ℕ)) (file : SpellsFile (payloads_of content)) w
 
   -- the entries of a page of the directory are those that its payload spells
   entries_said : (n : ℕ) → FIRST_DIRECTORY_PAGE ≤ n → n ≤ DIRECTORY_PAGES →
-      entries_of (said_on content n) ≡ entries_at (payload_on content n)
+      directory_entries (said_on content n) ≡ entries_at (payload_on content n)
   entries_said n behind within =
-      ap entries_of (says content n (kinds.Directory (entries_at (payload_on content n)))
+      ap directory_entries (says content n (kinds.Directory (entries_at (payload_on content n)))
       (spells_directory n behind within))
 
   abbrev pieces : List ℕ → List ℕ
-  pieces page = entries_of (said_by page)
+  pieces page = directory_entries (said_by page)
 
   piece_is : (j : ℕ) → j < DIRECTORY_PAGES →
       pieces (slice_index_or (directory_of content) j []) ≡ entries_at (payload_on content (FIRST_DIRECTORY_PAGE + j))

@@ -7,7 +7,7 @@ use Rattle.buffer_pool.specs.Pool.{PoolState}
 use Rattle.page_locks.specs.Table.{Table, row_of}
 use Rattle.queue_model.specs.State.{State}
 use Rattle.queue_records.specs.declared.record.Record.{Record}
-use Rattle.queue_records.specs.Records.{Spells}
+use Rattle.queue_records.specs.Records.{SpellsRecord}
 use Rattle.queue_records.specs.Spelling.{value_of}
 use Rattle.hash_file.specs.Chain.{contents}
 use Rattle.hash_file.specs.Change.{Quiet}
@@ -31,4 +31,4 @@ pub record IsFileAtRest (hash : RecordKey → ℕ) (s : State) (pool : PoolState
   pub filed : IsFiled s
   -- at each key stands the value of exactly the record that the system has there
   pub holds : (key : RecordKey) → contents (store_of pool.images) key ≡ option_map value_of (record_of s key)
-  pub spelled : (key : RecordKey) → IfSome (record_of s key) (λ (r : Record). Spells r key (value_of r))
+  pub spelled : (key : RecordKey) → IfSome (record_of s key) (λ (r : Record). SpellsRecord r key (value_of r))

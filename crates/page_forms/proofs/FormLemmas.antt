@@ -13,7 +13,7 @@ use Rattle.bucket_page.specs.directory.declared.header.Header.{Header}
 use Rattle.bucket_page.specs.directory.declared.read.HeaderFault.{HeaderFault}
 use Rattle.bucket_page.specs.directory.Pages.{SpellsDirectory}
 use Rattle.bucket_page.specs.directory.Reading.{header_at, fault_of as header_fault_of, answer as header_answer}
-use Rattle.bucket_page.specs.directory.Spelling.{Spells as SpellsHeader}
+use Rattle.bucket_page.specs.directory.Spelling.{SpellsHeader}
 use Rattle.bucket_page.proofs.of_directory.HeaderLaws.{spelled_reads as header_reads}
 use Rattle.page_forms.specs.Forms.{IsFreePage, IsHeaderPage, IsWell}
 

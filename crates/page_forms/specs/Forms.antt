@@ -5,7 +5,7 @@ use Rattle.bucket_page.specs.declared.page.PageKind.TheVariants as kinds
 use Rattle.bucket_page.specs.Reading.{page_in}
 use Rattle.bucket_page.specs.Spelling.{Spells, bytes_of}
 use Rattle.bucket_page.specs.directory.Reading.{header_at}
-use Rattle.bucket_page.specs.directory.Spelling.{Spells as SpellsHeader}
+use Rattle.bucket_page.specs.directory.Spelling.{SpellsHeader}
 
 -- the payload is a header's
 abbrev pub IsHeaderPage : List ℕ → Type 0

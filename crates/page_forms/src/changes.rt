@@ -11,7 +11,7 @@ ghost use Rattle.bucket_page.specs.Spelling.{Spells};
 ghost use Rattle.bucket_page.specs.directory.declared.layout.TheConstants.{DIRECTORY_PAGES, FIRST_DIRECTORY_PAGE, GREATEST_DEPTH, LEAST_PAGES};
 ghost use Rattle.bucket_page.specs.directory.Entries.{copied, entry_in, page_of, retargeted};
 ghost use Rattle.bucket_page.specs.directory.Pages.{IsDirectoryPage};
-ghost use Rattle.bucket_page.specs.directory.Spelling.{Spells as SpellsHeader};
+ghost use Rattle.bucket_page.specs.directory.Spelling.{SpellsHeader};
 
 use crate::file_page::FilePage;
 use bucket_page::directory::{Header, copy_upper, retarget, write_header};

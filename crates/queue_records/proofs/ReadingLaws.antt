@@ -11,7 +11,7 @@ use Rattle.bucket_page.proofs.of_fields.Tests.{both_true}
 use Rattle.queue_records.specs.declared.bad_record.BadRecord.{BadRecord}
 use Rattle.queue_records.specs.declared.record.Record.TheVariants as records
 use Rattle.queue_records.specs.Reading.{Gives, counter_at, key_at, queue_at, type_at, message_at, reads_counter, reads_key, reads_queue, reads_type, reads_message}
-use Rattle.queue_records.specs.Records.{Spells}
+use Rattle.queue_records.specs.Records.{SpellsRecord}
 use Rattle.queue_records.proofs.FieldLaws.{key_back, key_fits, serial_fits, type_fits, type_link_fits, two_then, four_then, eight_then, serial_then, type_then, type_link_then, ends, regrouped}
 use Rattle.queue_records.proofs.PartsLaws.{queue_joined, type_joined, message_joined}
 use Rattle.queue_records.proofs.RangeLaws.{counter_limits, key_limits, queue_limits, type_limits, message_limits}
@@ -33,7 +33,7 @@ first_byte [] long = absurd (omega (arith, long))
 first_byte (b ∷ rest) long = refl
 
 module _ (key : RecordKey) (value : List ℕ) (all : IsBytes value) where
-  pub counter_spells : reads_counter key value ≡ true → Spells (records.Counter (counter_at value)) key value
+  pub counter_spells : reads_counter key value ≡ true → SpellsRecord (records.Counter (counter_at value)) key value
   counter_spells h =
       let tests = both_true _ _ h in
       let others = both_true _ _ tests.1 in
@@ -47,7 +47,7 @@ module _ (key : RecordKey) (value : List ℕ) (all : IsBytes value) where
             ∙ sym (regrouped [] (four (four_at 0 value) ∷ four (four_at 4 value) ∷ []));
       }
 
-  pub key_spells : reads_key key value ≡ true → Spells (records.Key (key_at key value)) key value
+  pub key_spells : reads_key key value ≡ true → SpellsRecord (records.Key (key_at key value)) key value
   key_spells h =
       let tests = both_true _ _ h in
       let small = both_true _ _ tests.1 in
@@ -61,7 +61,7 @@ module _ (key : RecordKey) (value : List ℕ) (all : IsBytes value) where
             ∙ append-nil (four (four_at 0 value));
       }
 
-  pub queue_spells : reads_queue key value ≡ true → Spells (records.Queue (queue_at key value)) key value
+  pub queue_spells : reads_queue key value ≡ true → SpellsRecord (records.Queue (queue_at key value)) key value
   queue_spells h =
       let tests = both_true _ _ h in
       let flagged = both_true _ _ tests.1 in
@@ -110,7 +110,7 @@ module _ (key : RecordKey) (value : List ℕ) (all : IsBytes value) where
       }
 
   pub type_spells : key.number < 2 ^ 64 → reads_type key value ≡ true
-      → Spells (records.Type (type_at key value)) key value
+      → SpellsRecord (records.Type (type_at key value)) key value
   type_spells small h =
       let tests = both_true _ _ h in
       let others = both_true _ _ tests.1 in
@@ -132,7 +132,7 @@ module _ (key : RecordKey) (value : List ℕ) (all : IsBytes value) where
       }
 
   pub message_spells : key.number < 2 ^ 64 → reads_message key value ≡ true
-      → Spells (records.Message (message_at key value)) key value
+      → SpellsRecord (records.Message (message_at key value)) key value
   message_spells small h =
       let tests = both_true _ _ h in
       let others = both_true _ _ tests.1 in

@@ -17,7 +17,7 @@ use Rattle.queue_records.specs.declared.record.Record.TheVariants as records
 use Rattle.queue_records.specs.Fields.{key_flag, key_number, given_key, type_of, serial_number, type_link_number}
 use Rattle.queue_records.specs.Spelling.{key_key, queue_key, type_key, message_key}
 use Rattle.queue_records.specs.Reading.{Gives, is_counter, is_key, is_queue, is_type_entry, is_message, counter_at, key_at, has_flag, queue_at, type_at, message_at, reads_counter, reads_key, reads_queue, reads_type, reads_message}
-use Rattle.queue_records.specs.Records.{Spells}
+use Rattle.queue_records.specs.Records.{SpellsRecord}
 use Rattle.queue_records.proofs.FieldLaws.{key_again, key_small, key_passes, type_again, four_next, eight_next, serial_next, type_next, type_link_next, two_next, reaches, ends_at, regrouped}
 use Rattle.queue_records.proofs.PartsLaws.{queue_joined, type_joined, message_joined}
 use Rattle.queue_records.proofs.RangeLaws.{and_true, counter_limits, key_limits, queue_limits, type_limits, message_limits}
@@ -43,7 +43,7 @@ own_key : (a b : RecordKey) → a ≡ b → is_same a b ≡ true
 own_key a b same = rw same (same_self b)
 
 module _ (key : RecordKey) (value : List ℕ) where
-  pub counter_again : (c : Counter) → Spells (records.Counter c) key value
+  pub counter_again : (c : Counter) → SpellsRecord (records.Counter c) key value
       → (reads_counter key value ≡ true) × (counter_at value ≡ c)
   counter_again c is =
       let parts = is.spelled ∙ regrouped [] (four c.next_id ∷ four c.queues_alive ∷ []) in
@@ -55,7 +55,7 @@ module _ (key : RecordKey) (value : List ℕ) where
       let limits : is_counter (counter_at value) ≡ true = ap is_counter same ∙ (counter_limits c).1 is.in_range in
       (and_true _ _ (is_long _ _ long) (and_true _ _ (own_key _ _ is.keyed) limits), same)
 
-  pub key_entry_again : (k : KeyEntry) → Spells (records.Key k) key value
+  pub key_entry_again : (k : KeyEntry) → SpellsRecord (records.Key k) key value
       → (reads_key key value ≡ true) × (key_at key value ≡ k)
   key_entry_again k is =
       let below = is.in_range.id.below in
@@ -70,7 +70,7 @@ module _ (key : RecordKey) (value : List ℕ) where
       let others = and_true _ _ (lt-ltb _ _ (omega (arith, number, small))) (and_true _ _ own limits) in
       (and_true _ _ (is_long _ _ long) others, same)
 
-  pub queue_again : (q : QueueEntry) → Spells (records.Queue q) key value
+  pub queue_again : (q : QueueEntry) → SpellsRecord (records.Queue q) key value
       → (reads_queue key value ≡ true) × (queue_at key value ≡ q)
   queue_again q is =
       let fits = is.fits in
@@ -128,7 +128,7 @@ module _ (key : RecordKey) (value : List ℕ) where
       let own = own_key _ _ (is.keyed ∙ ap queue_key (sym same)) in
       (and_true _ _ (is_long _ _ long) (and_true _ _ flagged (and_true _ _ own limits)), same)
 
-  pub type_entry_again : (t : TypeEntry) → Spells (records.Type t) key value
+  pub type_entry_again : (t : TypeEntry) → SpellsRecord (records.Type t) key value
       → (reads_type key value ≡ true) × (type_at key value ≡ t)
   type_entry_again t is =
       let fits = is.fits in
@@ -154,7 +154,7 @@ module _ (key : RecordKey) (value : List ℕ) where
       let own = own_key _ _ (is.keyed ∙ ap type_key (sym same)) in
       (and_true _ _ (is_long _ _ long) (and_true _ _ own limits), same)
 
-  pub message_again : (m : MessageEntry) → Spells (records.Message m) key value
+  pub message_again : (m : MessageEntry) → SpellsRecord (records.Message m) key value
       → (reads_message key value ≡ true) × (message_at key value ≡ m)
   message_again m is =
       let fits = is.fits in

@@ -7,7 +7,7 @@ use Rattle.queue_records.specs.declared.queue_entry.QueueEntry.{QueueEntry}
 use Rattle.queue_records.specs.declared.record.Record.{Record}
 use Rattle.queue_records.specs.declared.record.Record.TheVariants as records
 use Rattle.queue_records.specs.Fields.{serial_number, type_link_number, key_flag, key_number}
-use Rattle.queue_records.specs.Records.{Spells}
+use Rattle.queue_records.specs.Records.{SpellsRecord}
 use Rattle.queue_records.specs.Spelling.{value_of}
 
 -- ---- read as one of today's
@@ -22,7 +22,7 @@ as_today key value = if key.kind == QUEUE then value ++ older_end else value
 
 -- the key and the older value are those of this record
 abbrev pub SpellsOlder : Record → RecordKey → List ℕ → Type 0
-SpellsOlder r key value = Spells r key (as_today key value)
+SpellsOlder r key value = SpellsRecord r key (as_today key value)
 
 -- ---- the one spelling
 

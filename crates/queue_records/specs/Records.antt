@@ -67,7 +67,7 @@ FitsFields (records.Message m) = FitsMessage m
 -- ---- the one spelling
 
 -- the key and the value are those of this record
-pub record Spells (r : Record) (key : RecordKey) (value : List ℕ) : Type 0 where
+pub record SpellsRecord (r : Record) (key : RecordKey) (value : List ℕ) : Type 0 where
   -- its numbers fit their fields
   pub fits : FitsFields r
   -- it keeps the limits of one record

@@ -42,8 +42,8 @@ key_of (records.Message m) = message_key m
 abbrev pub counter_bytes : Counter → List ℕ
 counter_bytes c = four c.next_id ++ four c.queues_alive
 
-abbrev pub key_bytes : KeyEntry → List ℕ
-key_bytes k = four k.id
+abbrev pub key_entry_bytes : KeyEntry → List ℕ
+key_entry_bytes k = four k.id
 
 abbrev pub queue_bytes : QueueEntry → List ℕ
 queue_bytes q =
@@ -69,7 +69,7 @@ message_bytes m =
 
 abbrev pub value_of : Record → List ℕ
 value_of (records.Counter c) = counter_bytes c
-value_of (records.Key k) = key_bytes k
+value_of (records.Key k) = key_entry_bytes k
 value_of (records.Queue q) = queue_bytes q
 value_of (records.Type t) = type_bytes t
 value_of (records.Message m) = message_bytes m

@@ -4,7 +4,7 @@ ghost use Rattle.std.specs.Prelude.{◌≡◌, length, IfOk, Ok};
 ghost use Rattle.queue_records.specs.declared.record.Record.TheVariants as records;
 ghost use Rattle.queue_records.specs.Range.{IsCounterInRange};
 ghost use Rattle.queue_records.specs.Reading.{Gives, counter_at, is_counter, reads_counter};
-ghost use Rattle.queue_records.specs.Records.{FitsCounter, Spells};
+ghost use Rattle.queue_records.specs.Records.{FitsCounter, SpellsRecord};
 ghost use Rattle.queue_records.specs.Spelling.{counter_bytes, counter_key};
 
 use crate::bad_record::BadRecord;
@@ -38,9 +38,10 @@ impl Counter {
 
     /// The Counter that a key and a value spell; it is refused exactly where they spell none.
     pub fn decode(key: &RecordKey, value: &[u8]) -> Result<Counter, BadRecord>
-        ensures ok { IfOk result (λ counter. Spells (records.Counter counter) key.now value.now) }
+        ensures ok { IfOk result (λ counter.
+            SpellsRecord (records.Counter counter) key.now value.now) }
         ensures only { (counter : Counter) →
-            Spells (records.Counter counter) key.now value.now → result ≡ Ok counter }
+            SpellsRecord (records.Counter counter) key.now value.now → result ≡ Ok counter }
     {
         read(key, value)
     }

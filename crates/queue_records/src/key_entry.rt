@@ -4,8 +4,8 @@ ghost use Rattle.std.specs.Prelude.{◌≡◌, length, IfOk, Ok};
 ghost use Rattle.queue_records.specs.declared.record.Record.TheVariants as records;
 ghost use Rattle.queue_records.specs.Range.{IsKeyInRange};
 ghost use Rattle.queue_records.specs.Reading.{Gives, is_key, key_at, reads_key};
-ghost use Rattle.queue_records.specs.Records.{FitsKey, Spells};
-ghost use Rattle.queue_records.specs.Spelling.{key_bytes, key_key};
+ghost use Rattle.queue_records.specs.Records.{FitsKey, SpellsRecord};
+ghost use Rattle.queue_records.specs.Spelling.{key_entry_bytes, key_key};
 
 use crate::bad_record::BadRecord;
 use crate::field::{four_fits, is_id};
@@ -37,9 +37,9 @@ impl KeyEntry {
 
     /// The Key that a key and a value spell; it is refused exactly where they spell none.
     pub fn decode(key: &RecordKey, value: &[u8]) -> Result<KeyEntry, BadRecord>
-        ensures ok { IfOk result (λ entry. Spells (records.Key entry) key.now value.now) }
+        ensures ok { IfOk result (λ entry. SpellsRecord (records.Key entry) key.now value.now) }
         ensures only { (entry : KeyEntry) →
-            Spells (records.Key entry) key.now value.now → result ≡ Ok entry }
+            SpellsRecord (records.Key entry) key.now value.now → result ≡ Ok entry }
     {
         read(key, value)
     }
@@ -61,7 +61,7 @@ impl KeyEntry {
     /// Makes the value that of this record.
     pub fn encode(&self, value: &mut Value)
         requires { IsKeyInRange self.now }
-        ensures { value.new ≡ key_bytes self.now }
+        ensures { value.new ≡ key_entry_bytes self.now }
     {
         value.clear();
         value.put_four(self.id);

@@ -4,7 +4,7 @@ ghost use Rattle.std.specs.Prelude.{◌≡◌, ◌≤◌, ◌<◌, ◌^◌, leng
 ghost use Rattle.queue_records.specs.declared.record.Record.TheVariants as records;
 ghost use Rattle.queue_records.specs.Range.{IsMessageInRange};
 ghost use Rattle.queue_records.specs.Reading.{Gives, is_message, message_at, reads_message};
-ghost use Rattle.queue_records.specs.Records.{FitsMessage, Spells};
+ghost use Rattle.queue_records.specs.Records.{FitsMessage, SpellsRecord};
 ghost use Rattle.queue_records.specs.Spelling.{message_bytes, message_key};
 
 use crate::bad_record::BadRecord;
@@ -55,9 +55,10 @@ impl<'a> MessageEntry<'a> {
     /// The Message that a key and a value spell; it is refused exactly where they spell none. Its
     /// body is lent by the value.
     pub fn decode(key: &RecordKey, value: &'a [u8]) -> Result<MessageEntry<'a>, BadRecord>
-        ensures ok { IfOk result (λ message. Spells (records.Message message) key.now value.now) }
+        ensures ok { IfOk result (λ message.
+            SpellsRecord (records.Message message) key.now value.now) }
         ensures only { (message : MessageEntry) →
-            Spells (records.Message message) key.now value.now → result ≡ Ok message }
+            SpellsRecord (records.Message message) key.now value.now → result ≡ Ok message }
     {
         read(key, value)
     }

@@ -4,7 +4,7 @@ ghost use Rattle.std.specs.Prelude.{◌≡◌, ◌↔◌, ◌++◌, length, IfOk
 ghost use Rattle.queue_records.specs.declared.record.Record.TheVariants as records;
 ghost use Rattle.queue_records.specs.Older.{IsOlder, SpellsOlder, older_end, older_value_of};
 ghost use Rattle.queue_records.specs.Range.{IsInRange};
-ghost use Rattle.queue_records.specs.Records.{Spells};
+ghost use Rattle.queue_records.specs.Records.{SpellsRecord};
 ghost use Rattle.queue_records.specs.Spelling.{key_of};
 
 use crate::bad_record::BadRecord;
@@ -68,9 +68,10 @@ impl QueueEntry {
     /// none.
     pub fn decode_older(key: &RecordKey, value: &[u8]) -> Result<QueueEntry, BadRecord>
         ensures ok { IfOk result (λ queue.
-            Spells (records.Queue queue) key.now (value.now ++ older_end)) }
+            SpellsRecord (records.Queue queue) key.now (value.now ++ older_end)) }
         ensures only { (queue : QueueEntry) →
-            Spells (records.Queue queue) key.now (value.now ++ older_end) → result ≡ Ok queue }
+            SpellsRecord (records.Queue queue) key.now (value.now ++ older_end)
+            → result ≡ Ok queue }
     {
         if value.len() != OLDER_QUEUE_BYTES {
             return Err(BadRecord);

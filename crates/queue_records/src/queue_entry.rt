@@ -7,7 +7,7 @@ ghost use Rattle.queue_records.specs.declared.record.Record.TheVariants as recor
 ghost use Rattle.queue_records.specs.Fields.{given_key, key_flag, key_number};
 ghost use Rattle.queue_records.specs.Range.{IsQueueInRange};
 ghost use Rattle.queue_records.specs.Reading.{Gives, has_flag, has_limits, is_queue, queue_at, reads_queue};
-ghost use Rattle.queue_records.specs.Records.{FitsFour, FitsQueue, Spells};
+ghost use Rattle.queue_records.specs.Records.{FitsFour, FitsQueue, SpellsRecord};
 ghost use Rattle.queue_records.specs.Older.{older_queue_bytes};
 ghost use Rattle.queue_records.specs.Spelling.{queue_bytes, queue_key};
 
@@ -80,9 +80,9 @@ impl QueueEntry {
 
     /// The Queue that a key and a value spell; it is refused exactly where they spell none.
     pub fn decode(key: &RecordKey, value: &[u8]) -> Result<QueueEntry, BadRecord>
-        ensures ok { IfOk result (λ queue. Spells (records.Queue queue) key.now value.now) }
+        ensures ok { IfOk result (λ queue. SpellsRecord (records.Queue queue) key.now value.now) }
         ensures only { (queue : QueueEntry) →
-            Spells (records.Queue queue) key.now value.now → result ≡ Ok queue }
+            SpellsRecord (records.Queue queue) key.now value.now → result ≡ Ok queue }
     {
         read(key, value)
     }

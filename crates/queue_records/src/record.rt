@@ -2,7 +2,7 @@
 
 ghost use Rattle.std.specs.Prelude.{◌≡◌, ◌↔◌, IsTrue, IfOk, Ok};
 ghost use Rattle.queue_records.specs.Range.{IsInRange};
-ghost use Rattle.queue_records.specs.Records.{FitsFields, Spells};
+ghost use Rattle.queue_records.specs.Records.{FitsFields, SpellsRecord};
 ghost use Rattle.queue_records.specs.Spelling.{key_of, value_of};
 
 use crate::bad_record::BadRecord;
@@ -72,8 +72,8 @@ impl<'a> Record<'a> {
 
     /// The record that a key and a value spell; 43 exactly where they spell none.
     pub fn decode(key: &RecordKey, value: &'a [u8]) -> Result<Record<'a>, BadRecord>
-        ensures ok { IfOk result (λ entry. Spells entry key.now value.now) }
-        ensures only { (entry : Record) → Spells entry key.now value.now → result ≡ Ok entry }
+        ensures ok { IfOk result (λ entry. SpellsRecord entry key.now value.now) }
+        ensures only { (entry : Record) → SpellsRecord entry key.now value.now → result ≡ Ok entry }
     {
         match key.kind {
             COUNTER => Ok(Record::Counter(Counter::decode(key, value)?)),
@@ -89,7 +89,7 @@ impl<'a> Record<'a> {
     pub fn encode(&self, value: &mut Value)
         requires { IsInRange self.now }
         ensures value { value.new ≡ value_of self.now }
-        ensures spells { Spells self.now (key_of self.now) value.new }
+        ensures spells { SpellsRecord self.now (key_of self.now) value.new }
     {
         self.fits();
         match self {

@@ -4,7 +4,7 @@ ghost use Rattle.std.specs.Prelude.{◌≡◌, ◌<◌, ◌^◌, length, IfOk, O
 ghost use Rattle.queue_records.specs.declared.record.Record.TheVariants as records;
 ghost use Rattle.queue_records.specs.Range.{IsTypeInRange};
 ghost use Rattle.queue_records.specs.Reading.{Gives, is_type_entry, reads_type, type_at};
-ghost use Rattle.queue_records.specs.Records.{FitsType, Spells};
+ghost use Rattle.queue_records.specs.Records.{FitsType, SpellsRecord};
 ghost use Rattle.queue_records.specs.Spelling.{type_bytes, type_key};
 
 use crate::bad_record::BadRecord;
@@ -49,9 +49,9 @@ impl TypeEntry {
 
     /// The Type that a key and a value spell; it is refused exactly where they spell none.
     pub fn decode(key: &RecordKey, value: &[u8]) -> Result<TypeEntry, BadRecord>
-        ensures ok { IfOk result (λ entry. Spells (records.Type entry) key.now value.now) }
+        ensures ok { IfOk result (λ entry. SpellsRecord (records.Type entry) key.now value.now) }
         ensures only { (entry : TypeEntry) →
-            Spells (records.Type entry) key.now value.now → result ≡ Ok entry }
+            SpellsRecord (records.Type entry) key.now value.now → result ≡ Ok entry }
     {
         read(key, value)
     }

@@ -8,7 +8,7 @@ use Rattle.queue_records.specs.declared.links.Links.TheVariants as kinds
 use Rattle.queue_records.specs.declared.record.Record.TheVariants as records
 use Rattle.queue_records.specs.Relinking.{IfLeads, linked, with_message_links, with_type_links}
 use Rattle.std.specs.Prelude.{unwrap_or}
-use Rattle.record_access.specs.Words.{RecordKey, Links, Record, Spells, AreLinksInRange, HasSuch, relinked, value_of, with_front}
+use Rattle.record_access.specs.Words.{RecordKey, Links, Record, SpellsRecord, AreLinksInRange, HasSuch, relinked, value_of, with_front}
 use Rattle.record_access.specs.Purposes.{FitLinks}
 use Rattle.record_access.specs.Accesses.{IsFrontOf}
 
@@ -89,7 +89,7 @@ set_or IsSo None old is was = was
 set_or IsSo (Some n) old is was = is
 
 pub relinked_spelled : (links : Links) (r : Record) (key : RecordKey) → AreLinksInRange links → FitLinks links →
-    Spells r key (value_of r) → Spells (relinked links r) key (value_of (relinked links r))
+    SpellsRecord r key (value_of r) → SpellsRecord (relinked links r) key (value_of (relinked links r))
 relinked_spelled (kinds.Message l) (records.Message m) key range fit spells = record {
   fits = record {
     serial = spells.fits.serial;

@@ -9,7 +9,7 @@ use Rattle.record_operation.specs.declared.operation.RecordOperation.TheVariants
 use Rattle.record_access.proofs.Names.{FileFault, RecordWrite, TurnsAt, WritesAsked, is_same, key_written_at, one_changed, operation_writes, value_after}
 use Rattle.record_access.proofs.RecordLemmas.{is_such, relinked_spelled}
 use Rattle.record_access.proofs.SuitLemmas.{IsReplacing, as_long, is_replace}
-use Rattle.record_access.specs.Words.{RecordKey, pair, Store, contents, with_front, Progress, Moved, WriteRecord, World, Turn, IsSoundWorld, RecordOperation, operation_found, operation_key, operation_turn, Record, Spells, relinked, value_of, Replace, Relink, Delete}
+use Rattle.record_access.specs.Words.{RecordKey, pair, Store, contents, with_front, Progress, Moved, WriteRecord, World, Turn, IsSoundWorld, RecordOperation, operation_found, operation_key, operation_turn, Record, SpellsRecord, relinked, value_of, Replace, Relink, Delete}
 use Rattle.record_access.specs.Purposes.{Purpose, ToFind, ToInsert, ToWrite, CanBeOn, StandsAt, made}
 use Rattle.record_access.specs.Readings.{IsReplace}
 use Rattle.record_access.specs.Accesses.{AccessView, Allows, IsFrontOf, IsOfKind, IsPrepared, Serves, access_key}
@@ -95,25 +95,25 @@ pub left_behind : (p : Purpose) (found : Option Record) (a : AccessView) (s : St
     IsSome (operation_found a.operation)) → ((key : RecordKey) → p ≡ ToFind key → ⊥) →
     value ≡ operation_writes a.operation a.bytes s →
     (value ≡ option_map value_of (made p found))
-    × IfSome (made p found) (λ (r : Record). Spells r (access_key a) (value_of r))
+    × IfSome (made p found) (λ (r : Record). SpellsRecord r (access_key a) (value_of r))
 left_behind (ToFind key) found a s value serves stands allows answered writes is = absurd (writes key refl)
 left_behind (ToInsert r) found a s value serves stands allows answered writes is = (
   is ∙ inserts_value r a.operation a.bytes s serves.kind ∙ ap Some serves.value,
-  subst (λ (k : RecordKey). Spells r k (value_of r)) (sym serves.key) serves.limits,
+  subst (λ (k : RecordKey). SpellsRecord r k (value_of r)) (sym serves.key) serves.limits,
 )
 left_behind (ToWrite (Replace r)) found a s value serves stands allows answered writes is = (
   is ∙ replaces_value a.operation a.bytes s (is_replace (ToWrite (Replace r)) a.operation tt serves.kind)
       ∙ ap Some (ap (λ (v : Option (List ℕ)). with_front a.bytes (unwrap_or v [])) stands.holds
       ∙ whole_front a.bytes (unwrap_or (option_map value_of found) []) (found_long r found allows.fits
       ∙ sym (ap length serves.value)) ∙ serves.value),
-  subst (λ (k : RecordKey). Spells r k (value_of r)) (sym serves.key) serves.limits,
+  subst (λ (k : RecordKey). SpellsRecord r k (value_of r)) (sym serves.key) serves.limits,
 )
 left_behind (ToWrite (Relink key links)) found a s value serves stands allows answered writes is =
     let it = is_such links found allows.fits.0 in
     let front : IsFrontOf links a.bytes it.entry =
     ready (operation_found a.operation) (answered serves.kind tt) allows.fits.1 it.entry it.is in
-    let spells : Spells it.entry (access_key a) (value_of it.entry) =
-    subst (λ (o : Option Record). IfSome o (λ (r : Record). Spells r (access_key a) (value_of r))) it.is
+    let spells : SpellsRecord it.entry (access_key a) (value_of it.entry) =
+    subst (λ (o : Option Record). IfSome o (λ (r : Record). SpellsRecord r (access_key a) (value_of r))) it.is
     stands.spelled in
     let after : option_map (relinked links) found ≡ Some (relinked links it.entry) =
     ap (option_map (relinked links)) it.is in (
@@ -121,7 +121,7 @@ left_behind (ToWrite (Relink key links)) found a s value serves stands allows an
           (is_replace (ToWrite (Relink key links)) a.operation tt serves.kind)
           ∙ ap Some (ap (λ (v : Option (List ℕ)). with_front a.bytes (unwrap_or v []))
           (stands.holds ∙ ap (option_map value_of) it.is) ∙ front.made) ∙ sym (ap (option_map value_of) after),
-      subst (λ (o : Option Record). IfSome o (λ (r : Record). Spells r (access_key a) (value_of r))) (sym after)
+      subst (λ (o : Option Record). IfSome o (λ (r : Record). SpellsRecord r (access_key a) (value_of r))) (sym after)
           (relinked_spelled links it.entry (access_key a) serves.limits.0 serves.limits.1 spells),
     )
   where

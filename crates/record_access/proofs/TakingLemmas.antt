@@ -10,7 +10,7 @@ use Rattle.record_access.proofs.AimLemmas.{same_parts}
 use Rattle.record_access.proofs.ReadLemmas.{some_of}
 use Rattle.record_access.proofs.RecordLemmas.{is_such}
 use Rattle.record_access.proofs.SuitLemmas.{value_is_of}
-use Rattle.record_access.specs.Words.{RecordKey, PoolState, IsReady, RecordOperation, operation_found, operation_key, Links, Record, Spells, HasSuch, linked_bytes, Replace, Relink, Delete, value_of}
+use Rattle.record_access.specs.Words.{RecordKey, PoolState, IsReady, RecordOperation, operation_found, operation_key, Links, Record, SpellsRecord, HasSuch, linked_bytes, Replace, Relink, Delete, value_of}
 use Rattle.record_access.specs.Purposes.{Purpose, ToFind, ToInsert, ToWrite}
 use Rattle.record_access.specs.Accesses.{AccessView, HasFound, HasValue, IsFrontOf, IsOfKind, IsPrepared, IsToldIn, Serves, answer_in, links_of}
 use Rattle.record_access.specs.AccessSteps.{SuitsAnswer, SuitsFound}
@@ -91,9 +91,9 @@ module _ (o : RecordOperation) (links : Option Links) (old_bytes bytes : List �
         let value : value_on pool page (operation_key o) ≡ option_map value_of found =
         ap (λ (n : ℕ). value_on pool n (operation_key o)) same.0 ∙ shown.holds in
         let it = value_is_of found bytes (sym value ∙ ok shown.sees.honest) in
-        let spells : Spells it.entry (operation_key o) bytes =
-        subst (λ (v : List ℕ). Spells it.entry (operation_key o) v) (sym it.value_is)
-        (subst (λ (f : Option Record). IfSome f (λ (r : Record). Spells r (operation_key o) (value_of r))) it.is
+        let spells : SpellsRecord it.entry (operation_key o) bytes =
+        subst (λ (v : List ℕ). SpellsRecord it.entry (operation_key o) v) (sym it.value_is)
+        (subst (λ (f : Option Record). IfSome f (λ (r : Record). SpellsRecord r (operation_key o) (value_of r))) it.is
         shown.spelled) in
         subst (λ (q : Purpose). SuitsRecord q new found × IsTold q new found) (sym is.1) (
           tt,
@@ -105,7 +105,7 @@ module _ (o : RecordOperation) (links : Option Links) (old_bytes bytes : List �
 
   pub value_fails : {X : Type 0} (fault : FileFault) → OnlyReads false pool pool' →
       ((r : Record) → SeesBucket page pool → value_on pool page (operation_key o) ≡ Some (value_of r) →
-      len ≡ length (value_of r) → Spells r (operation_key o) (value_of r) → IsDevicesFault pool pool' fault) →
+      len ≡ length (value_of r) → SpellsRecord r (operation_key o) (value_of r) → IsDevicesFault pool pool' fault) →
       Takes {X = X} (Err fault) pool pool' old new
   value_fails fault reads why = record {
     reads = reads;
@@ -127,7 +127,7 @@ module _ (o : RecordOperation) (links : Option Links) (old_bytes bytes : List �
     where
       by : (found : Option Record) → value_on pool page (operation_key o) ≡ option_map value_of found →
           SeesBucket page pool → Some len ≡ option_map length (option_map value_of found) →
-          IfSome found (λ (r : Record). Spells r (operation_key o) (value_of r)) →
+          IfSome found (λ (r : Record). SpellsRecord r (operation_key o) (value_of r)) →
           IsDevicesFault pool pool' fault
       by None value sees long spells = absurd cc
       by (Some r) value sees long spells = why r sees value (some_of len (length (value_of r)) long) spells

@@ -3,7 +3,7 @@
 use Rattle.std.specs.Prelude.{ℕ, ◌≡◌, ◌≤◌, Bool, true, false, not, ◌&&◌, List, [], length, Option, Some, None, IsSome, if◌then◌else◌, ⊤}
 use Rattle.record_operation.specs.declared.operation.RecordOperation.TheVariants as operations
 use Rattle.queue_records.specs.declared.layout.TheConstants.{MAX_VALUE_BYTES}
-use Rattle.record_access.specs.Words.{RecordKey, Lock, Store, with_front, Known, Turn, found_of, Tried, IsFull, RecordOperation, MayBeLent, TellsNone, has_searched, begun_delete, begun_find, begun_insert, begun_replace, operation_facts, operation_found, operation_key, operation_left, operation_locks, operation_pseudokey, operation_tried, operation_turn, Links, Record, Spells, HasSuch, relinked, key_of, value_of, Write, Replace, Relink, Delete}
+use Rattle.record_access.specs.Words.{RecordKey, Lock, Store, with_front, Known, Turn, found_of, Tried, IsFull, RecordOperation, MayBeLent, TellsNone, has_searched, begun_delete, begun_find, begun_insert, begun_replace, operation_facts, operation_found, operation_key, operation_left, operation_locks, operation_pseudokey, operation_tried, operation_turn, Links, Record, SpellsRecord, HasSuch, relinked, key_of, value_of, Write, Replace, Relink, Delete}
 use Rattle.record_access.specs.Purposes.{Purpose, ToFind, ToInsert, ToWrite, CanBeOn, KeepsLimits, aimed_at}
 
 pub record AccessView : Type 0 where
@@ -99,7 +99,7 @@ access_answer a = answer_in a.operation
 -- a value of this length stands at the key, and the record that it spells is this; or nothing stands there
 abbrev pub IsRecordOf : Option ℕ → RecordKey → List ℕ → Option Record → Type 0
 IsRecordOf None key bytes None = ⊤
-IsRecordOf (Some len) key bytes (Some r) = Spells r key bytes
+IsRecordOf (Some len) key bytes (Some r) = SpellsRecord r key bytes
 IsRecordOf len key bytes found = ⊥
 
 abbrev pub IsToldIn : Option (ℕ × Option ℕ) → RecordKey → List ℕ → Option Record → Type 0

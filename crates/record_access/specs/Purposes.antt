@@ -7,7 +7,7 @@ use Rattle.queue_records.specs.declared.links.Links.TheVariants as links
 use Rattle.queue_records.specs.declared.links.MessageLinks.{MessageLinks}
 use Rattle.queue_records.specs.declared.links.TypeLinks.{TypeLinks}
 use Rattle.queue_records.specs.Relinking.{IfLeads}
-use Rattle.record_access.specs.Words.{RecordKey, Store, contents, Progress, Moved, WriteRecord, Links, Record, FitsEight, Spells, AreLinksInRange, key_of, value_of, Write, Replace, Relink, Delete, CanBe, key_written, turned}
+use Rattle.record_access.specs.Words.{RecordKey, Store, contents, Progress, Moved, WriteRecord, Links, Record, FitsEight, SpellsRecord, AreLinksInRange, key_of, value_of, Write, Replace, Relink, Delete, CanBe, key_written, turned}
 
 pub data Purpose : Type 0 where
   -- what stands at the key is told
@@ -41,7 +41,7 @@ left_by did p found = if is_write did then made p found else found
 
 -- the key and the value of a record spell it
 abbrev pub IsSpelled : Record → Type 0
-IsSpelled r = Spells r (key_of r) (value_of r)
+IsSpelled r = SpellsRecord r (key_of r) (value_of r)
 
 pub record FitMessageLinks (l : MessageLinks) : Type 0 where
   pub previous : IfLeads l.previous FitsEight
@@ -72,7 +72,7 @@ KeepsLimits (ToWrite (Delete key)) = ⊤
 -- the file holds the value of this record there, or nothing where there is none
 pub record StandsAt (s : Store) (key : RecordKey) (found : Option Record) : Type 0 where
   pub holds : contents s key ≡ option_map value_of found
-  pub spelled : IfSome found (λ (r : Record). Spells r key (value_of r))
+  pub spelled : IfSome found (λ (r : Record). SpellsRecord r key (value_of r))
 
 -- the write can be carried out on it
 abbrev pub CanBeOn : Write → Option Record → Type 0

@@ -9,7 +9,7 @@ use Rattle.file_pages.specs.Reads.{OnlyReads}
 use Rattle.file_pages.specs.Writes.{IsBucketThere}
 use Rattle.hash_file.specs.Store.{records_at}
 use Rattle.record_operation.specs.declared.operation.RecordOperation.TheVariants as operations
-use Rattle.record_access.specs.Words.{RecordKey, RecordOperation, PoolState, store_of, operation_found, HasSuch, Record, Spells, value_of, Replace, Relink, Delete}
+use Rattle.record_access.specs.Words.{RecordKey, RecordOperation, PoolState, store_of, operation_found, HasSuch, Record, SpellsRecord, value_of, Replace, Relink, Delete}
 use Rattle.record_access.specs.Purposes.{CanBeOn, Purpose, ToFind, ToInsert, ToWrite}
 use Rattle.record_access.specs.Accesses.{AccessView, AllowsInsert, FitsWrite, HasFound, Serves, access_key}
 use Rattle.record_access.specs.AccessSteps.{SuitsFound}
@@ -30,7 +30,7 @@ pub record IsShown (page : ℕ) (len : Option ℕ) (pool : PoolState) (key : Rec
     pub sees : SeesBucket page pool
     pub holds : value_on pool page key ≡ option_map value_of found
     pub length_is : len ≡ option_map length (value_on pool page key)
-    pub spelled : IfSome found (λ (r : Record). Spells r key (value_of r))
+    pub spelled : IfSome found (λ (r : Record). SpellsRecord r key (value_of r))
 
 abbrev pub IsReplace : RecordOperation → Type 0
 IsReplace (operations.Replace r) = ⊤

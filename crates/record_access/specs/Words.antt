@@ -9,7 +9,7 @@ pub use Rattle.record_operation.specs.record_file.Writers.{Owns}
 pub use Rattle.hash_file.specs.Changes.{RecordWrite, Remove}
 pub use Rattle.queue_records.specs.declared.links.Links.{Links}
 pub use Rattle.queue_records.specs.declared.record.Record.{Record}
-pub use Rattle.queue_records.specs.Records.{FitsEight, Spells}
+pub use Rattle.queue_records.specs.Records.{FitsEight, SpellsRecord}
 pub use Rattle.queue_records.specs.Relinking.{AreLinksInRange, HasSuch, linked_bytes, relinked}
 pub use Rattle.queue_records.specs.Spelling.{key_of, value_of}
 pub use Rattle.xsi_inquiry.specs.declared.write.Write.{Write}

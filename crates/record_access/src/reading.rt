@@ -4,7 +4,7 @@ ghost use Rattle.std.specs.Prelude.{◌≡◌, ◌≤◌, Some, IsTrue, IfErr, I
 ghost use Rattle.file_pages.specs.Fault.{IsDevicesFault};
 ghost use Rattle.file_pages.specs.Reads.{OnlyReads};
 ghost use Rattle.queue_records.specs.declared.layout.TheConstants.{MAX_VALUE_BYTES};
-ghost use Rattle.record_access.specs.Words.{IsReady, Record, Spells, HasSuch, linked_bytes, value_of};
+ghost use Rattle.record_access.specs.Words.{IsReady, Record, SpellsRecord, HasSuch, linked_bytes, value_of};
 ghost use Rattle.record_access.specs.Accesses.{IsFrontOf};
 ghost use Rattle.record_access.specs.Readings.{SeesBucket, value_on};
 
@@ -29,10 +29,10 @@ pub(crate) fn read_value<D: PageDevice>(
     ensures len { length room.new ≡ MAX_VALUE_BYTES }
     ensures ok { IsTrue pool.old.honest →
         OnOk result (value_on pool.old page key.now ≡ Some (take len room.new)) }
-    ensures spelled { OnOk result ((r : Record) × Spells r key.now (take len room.new)) }
+    ensures spelled { OnOk result ((r : Record) × SpellsRecord r key.now (take len room.new)) }
     ensures fault { (r : Record) → SeesBucket page pool.old →
         value_on pool.old page key.now ≡ Some (value_of r) → len ≡ length (value_of r) →
-        Spells r key.now (value_of r) → IfErr result (IsDevicesFault pool.old pool.new) }
+        SpellsRecord r key.now (value_of r) → IfErr result (IsDevicesFault pool.old pool.new) }
 {
     let found = copy_value(pool, page, key, room)?;
     if found != Some(len) {

@@ -10,7 +10,7 @@ use Rattle.queue_records.specs.declared.layout.TheConstants.{MESSAGE}
 use Rattle.queue_records.specs.declared.record.Record.TheVariants as records
 use Rattle.record_walk.specs.Held.{Holds, linked_of}
 use Rattle.record_walk.specs.Systems.{AreQueueIds, AreQueuesOf, HasQueue, HasSystem, IsQueueOf, queue_in}
-use Rattle.record_walk.specs.Words.{Counter, IsLawfulQueue, Message, MessageEntry, Queue, QueueEntry, Record, RecordKey, Spells, State, counter_of, first_of, image, key_of, key_of_queue, key_records, message_entry, message_records, queue_entry, queue_records, serials, type_records}
+use Rattle.record_walk.specs.Words.{Counter, IsLawfulQueue, Message, MessageEntry, Queue, QueueEntry, Record, RecordKey, SpellsRecord, State, counter_of, first_of, image, key_of, key_of_queue, key_records, message_entry, message_records, queue_entry, queue_records, serials, type_records}
 use Rattle.record_walk.proofs.SystemLemmas.{system_is}
 use Rattle.record_walk.proofs.WalkLemmas.{IsWalkedTo, walked_all, walked_more, walked_none, walked_there}
 use Rattle.type_chains.specs.Fits.{HasFittingMessage, HasFittingNumbers, HasFittingQueue}
@@ -27,8 +27,8 @@ module _ (held : RecordKey → Option (List ℕ)) where
       let both : ◌≡◌ {A = Option (List ℕ)} (Some x.value) (Some y.value) = sym x.found ∙ ap held same ∙ y.found in
       let value : x.value ≡ y.value = cc in
       one_record a b (key_of b) y.value
-      (subst (λ (k : RecordKey). Spells a k y.value) same
-      (subst (λ (v : List ℕ). Spells a (key_of a) v) value x.spelled)) y.spelled
+      (subst (λ (k : RecordKey). SpellsRecord a k y.value) same
+      (subst (λ (v : List ℕ). SpellsRecord a (key_of a) v) value x.spelled)) y.spelled
 
   -- a queue of a system has its records
   pub has_queue : (s : State) → HasSystem held s → (q : Queue) → Contains s.queues q → HasQueue held q

@@ -2,13 +2,13 @@
 use Rattle.std.specs.Prelude.{◌≡◌, ℕ, ◌≤◌, Bool, List, Option, Some}
 use Rattle.std.specs.List.{AllZip}
 use Rattle.queue_records.specs.declared.record.Record.TheVariants as records
-use Rattle.record_walk.specs.Words.{RecordKey, Record, Spells, Message, MessageEntry, MessageLinks, Linked, key_of}
+use Rattle.record_walk.specs.Words.{RecordKey, Record, SpellsRecord, Message, MessageEntry, MessageLinks, Linked, key_of}
 
 -- the record stands at its key
 pub record Holds (held : RecordKey → Option (List ℕ)) (r : Record) : Type 0 where
   pub value : List ℕ
   pub found : held (key_of r) ≡ Some value
-  pub spelled : Spells r (key_of r) value
+  pub spelled : SpellsRecord r (key_of r) value
 
 -- a message as it stands on a queue, and its links
 abbrev pub linked_of : MessageEntry → Linked

@@ -11,7 +11,7 @@ pub use Rattle.queue_records.specs.declared.message_entry.MessageEntry.{MessageE
 pub use Rattle.queue_records.specs.declared.type_entry.TypeEntry.{TypeEntry}
 pub use Rattle.queue_records.specs.declared.key_entry.KeyEntry.{KeyEntry}
 pub use Rattle.queue_records.specs.Keys.{key_of_queue}
-pub use Rattle.queue_records.specs.Records.{Spells}
+pub use Rattle.queue_records.specs.Records.{SpellsRecord}
 pub use Rattle.queue_records.specs.Spelling.{key_of}
 pub use Rattle.type_chains.specs.Entries.{counter_of, key_entry, queue_entry, type_entry, message_entry, is_number, is_same_type}
 pub use Rattle.type_chains.specs.Image.{image, queue_records, key_records, type_records, message_records}

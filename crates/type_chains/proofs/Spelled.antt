@@ -12,7 +12,7 @@ use Rattle.queue_model.specs.Rules.{has_id, has_key}
 use Rattle.queue_model.specs.State.{State}
 use Rattle.queue_model.proofs.ListLemmas.{find-Some}
 use Rattle.queue_records.specs.declared.record.Record.{Record}
-use Rattle.queue_records.specs.Records.{FitsFour, FitsEight, FitsQueue, FitsType, FitsMessage, FitsFields, Spells}
+use Rattle.queue_records.specs.Records.{FitsFour, FitsEight, FitsQueue, FitsType, FitsMessage, FitsFields, SpellsRecord}
 use Rattle.queue_records.specs.Spelling.{value_of}
 use Rattle.type_chains.specs.Entries.{queue_entry, type_entry, message_entry, is_number, is_same_type}
 use Rattle.type_chains.specs.Fits.{HasFittingMessage, HasFittingQueue, HasFittingNumbers}
@@ -118,7 +118,7 @@ fit_fields s key r lawful fits at = holds_at s (λ (k : RecordKey) (x : Record).
 }) key r at
 
 pub spelled : (s : State) (key : RecordKey) (r : Record) → IsLawful s → HasFittingNumbers s → record_of s key ≡ Some r →
-    Spells r key (value_of r)
+    SpellsRecord r key (value_of r)
 spelled s key r lawful fits at = record {
   fits = fit_fields s key r lawful fits at;
   in_range = in_range s key r lawful at;

@@ -7,7 +7,7 @@ use Rattle.queue_model.specs.Lawful.{IsLawful}
 use Rattle.queue_model.specs.State.{State}
 use Rattle.queue_records.specs.declared.record.Record.{Record}
 use Rattle.queue_records.specs.Range.{IsInRange}
-use Rattle.queue_records.specs.Records.{Spells}
+use Rattle.queue_records.specs.Records.{SpellsRecord}
 use Rattle.queue_records.specs.Spelling.{key_of, value_of}
 use Rattle.type_chains.specs.Fits.{HasFittingNumbers}
 use Rattle.type_chains.specs.Image.{image, queue_records}
@@ -40,4 +40,4 @@ TellsQueue = (s : State) → IsLawful s → (p q : Queue) (a b : Record) →
 -- where its numbers fit their fields, each record of a lawful system is spelled by its key and its value
 abbrev pub AreSpelled : Type 0
 AreSpelled = (s : State) (key : RecordKey) (r : Record) → IsLawful s → HasFittingNumbers s →
-    record_of s key ≡ Some r → Spells r key (value_of r)
+    record_of s key ≡ Some r → SpellsRecord r key (value_of r)

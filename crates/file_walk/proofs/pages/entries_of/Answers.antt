@@ -4,7 +4,7 @@ use Rattle.std.proofs.Math.Nat.{min-zero}
 use Rattle.std.proofs.Math.Seq.{take-nil}
 use Rattle.std.proofs.lemmas.Result.{err_from_is_err_and}
 use Rattle.directory.specs.declared.layout.TheConstants.{FIRST_DIRECTORY_PAGE}
-use Rattle.file_walk.specs.Files.{entries_of, said_on}
+use Rattle.file_walk.specs.Files.{directory_entries, said_on}
 use Rattle.file_walk.specs.Order.{AreRightIn}
 use Rattle.file_walk.proofs.PagesLemmas.{read_none, read_more, entries_kept, entries_counted, entries_number, entries_whole, first_wrong}
 use Rattle.file_walk.proofs.pages.entries_of.Goals as goal
@@ -34,7 +34,8 @@ loop-page-preserved g c =
       value = λ is. entries_kept c.args.layout.now c.requires.layout _ _ _ _ _ c.loop-page.auto.page within
           (before.value is)
           (subst (λ pages. c.take_entries.new.entries.items
-          ≡ take c.entries_at-most.result (c.loop-page.entries.items ++ entries_of (said_on pages c.loop-page.page)))
+          ≡ take c.entries_at-most.result
+            (c.loop-page.entries.items ++ directory_entries (said_on pages c.loop-page.page)))
           before.read.same (taken.ok.value (subst IsTrue (sym before.read.honesty) is)));
     }
 

@@ -3,7 +3,7 @@ use Rattle.std.proofs.Common.{sym, ap, ◌∙◌, subst, not, length, List, ℕ,
 use Rattle.std.proofs.lemmas.Bool.{true≢false}
 use Rattle.std.specs.Option.{option_map}
 use Rattle.file_pages.proofs.ReadLemmas.{handed_on}
-use Rattle.record_access.specs.Words.{Spells}
+use Rattle.record_access.specs.Words.{SpellsRecord}
 use Rattle.record_access.proofs.ReadLemmas.{read_fails, read_whole, same_length, short_value}
 use Rattle.record_access.proofs.reading.read_value.Goals as goal
 
@@ -30,6 +30,6 @@ returns-in-Err-clause-fault g c = λ r sees holds len spells.
     let room = c.told-room in
     let whole = read_whole r c.args.len _ c.args.room.now c.copy_value.new.room holds len (omega (arith, short, room))
     (c.in_ok-found.ensures.ok sees.honest).copied in
-    let right = c.decode.ensures.only r (subst (λ (v : List ℕ). Spells r c.args.key.now v) (sym whole) spells) in
+    let right = c.decode.ensures.only r (subst (λ (v : List ℕ). SpellsRecord r c.args.key.now v) (sym whole) spells) in
     let both = sym right ∙ c.in-Err.is in
     absurd cc
