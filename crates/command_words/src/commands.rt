@@ -87,7 +87,7 @@ impl Verb {
     }
 
     /// Its name.
-    pub(crate) fn name(self) -> &'static str {
+    pub(crate) fn name<'a>(self) -> &'a str {
         match self {
             Verb::Send => "send",
             Verb::Receive => "receive",
@@ -100,7 +100,7 @@ impl Verb {
     }
 
     /// What it does, in a line.
-    fn about(self) -> &'static str {
+    fn about<'a>(self) -> &'a str {
         match self {
             Verb::Send => "Sends standard input as a message",
             Verb::Receive => "Receives a message, and prints its body",
@@ -261,7 +261,10 @@ fn set<'a>(alloc: Global, command: Command<'a>) -> Result<Command<'a>, AllocErro
         "As many bytes may its messages have together",
     );
     let group = ArgGroup::new(alloc, "what")
-        .args(&[QBYTES, OWNER, GROUP, MODE])?
+        .arg(QBYTES)?
+        .arg(OWNER)?
+        .arg(GROUP)?
+        .arg(MODE)?
         .required(true)
         .multiple(true);
     calls(alloc, command)?
