@@ -118,13 +118,13 @@ impl Verb {
             .about(self.about())
             .after_help(ENDING);
         match self {
-            Verb::Send => send(alloc, command),
-            Verb::Receive => receive(alloc, command),
-            Verb::Peek => calls(alloc, command)?.arg(selection(alloc)),
+            Verb::Send => ids(alloc, send(alloc, command)?),
+            Verb::Receive => ids(alloc, receive(alloc, command)?),
+            Verb::Peek => ids(alloc, places(alloc, command)?.arg(selection(alloc))?),
             Verb::List => list(alloc, command),
-            Verb::Make => make(alloc, command),
-            Verb::Remove => calls(alloc, command),
-            Verb::Set => set(alloc, command),
+            Verb::Make => ids(alloc, make(alloc, command)?),
+            Verb::Remove => ids(alloc, places(alloc, command)?),
+            Verb::Set => ids(alloc, set(alloc, command)?),
         }
     }
 }
@@ -169,14 +169,18 @@ fn send<'a>(alloc: Global, command: Command<'a>) -> Result<Command<'a>, AllocErr
         alloc,
         "Look again while there is no room, for so long or for ever",
     );
-    let nowait = flag(alloc, NOWAIT, "Do not, as where neither is said");
+    let nowait = flag(
+        alloc,
+        NOWAIT,
+        "Refuse where there is no room, as without --wait",
+    );
     let verbose = flag(
         alloc,
         VERBOSE,
         "Print the serial of each message, a line each",
     )
     .short('v');
-    calls(alloc, command)?
+    places(alloc, command)?
         .arg(mtype)?
         .arg(lines)?
         .arg(create)?
@@ -210,7 +214,7 @@ fn receive<'a>(alloc: Global, command: Command<'a>) -> Result<Command<'a>, Alloc
         alloc,
         "Look again while there is no message, for so long or for ever",
     );
-    calls(alloc, command)?
+    places(alloc, command)?
         .arg(selection(alloc))?
         .arg(size)?
         .arg(noerror)?
@@ -246,10 +250,7 @@ fn make<'a>(alloc: Global, command: Command<'a>) -> Result<Command<'a>, AllocErr
     command
         .arg(place(alloc, FILE, "The file"))?
         .arg(key)?
-        .arg(mode)?
-        .arg(pid(alloc))?
-        .arg(uid(alloc))?
-        .arg(gid(alloc))
+        .arg(mode)
 }
 
 /// `set FILE KEY`.
@@ -267,7 +268,7 @@ fn set<'a>(alloc: Global, command: Command<'a>) -> Result<Command<'a>, AllocErro
         .arg(MODE)?
         .required(true)
         .multiple(true);
-    calls(alloc, command)?
+    places(alloc, command)?
         .arg(qbytes)?
         .arg(value(alloc, OWNER, "N", "The user that owns it"))?
         .arg(value(alloc, GROUP, "N", "The group that owns it"))?
@@ -275,31 +276,20 @@ fn set<'a>(alloc: Global, command: Command<'a>) -> Result<Command<'a>, AllocErro
         .group(group)
 }
 
-/// A command that makes calls on a queue of a file.
-fn calls<'a>(alloc: Global, command: Command<'a>) -> Result<Command<'a>, AllocError> {
+/// A command on a queue of a file.
+fn places<'a>(alloc: Global, command: Command<'a>) -> Result<Command<'a>, AllocError> {
     command
         .arg(place(alloc, FILE, "The file"))?
-        .arg(place(alloc, KEY, "The queue"))?
-        .arg(pid(alloc))?
-        .arg(uid(alloc))?
-        .arg(gid(alloc))
+        .arg(place(alloc, KEY, "The queue"))
 }
 
-fn pid<'a>(alloc: Global) -> Arg<'a> {
-    value(
-        alloc,
-        PID,
-        "N",
-        "The process that calls; that of the command where none is given",
-    )
-}
-
-fn uid<'a>(alloc: Global) -> Arg<'a> {
-    value(alloc, UID, "N", "Its user; 0 where none is given")
-}
-
-fn gid<'a>(alloc: Global) -> Arg<'a> {
-    value(alloc, GID, "N", "Its group; 0 where none is given")
+/// A command that makes calls, of which it may say who makes them.
+fn ids<'a>(alloc: Global, command: Command<'a>) -> Result<Command<'a>, AllocError> {
+    let pid = "The process that calls; that of the command where none is given";
+    command
+        .arg(value(alloc, PID, "N", pid))?
+        .arg(value(alloc, UID, "N", "Its user; 0 where none is given"))?
+        .arg(value(alloc, GID, "N", "Its group; 0 where none is given"))
 }
 
 /// Which message a receive takes.
