@@ -1,0 +1,4 @@
+pub mod LineLemmas
+pub mod MakeLemmas
+pub mod PrintLemmas
+pub mod BesideLemmas

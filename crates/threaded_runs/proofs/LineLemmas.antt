@@ -1,0 +1,76 @@
+-- The lines of a seat, made one after the other.
+use Rattle.std.proofs.Common.{◌≡◌, ◌<◌, ◌≤◌, ℕ, zero, suc, ◌+◌, Bool, true, false, List, [], ◌∷◌, ◌++◌, Some, if◌then◌else◌, length, take, map, get_or, refl, sym, ap, ◌∙◌, subst, append-nil, append_assoc, length-append, arith}
+use Rattle.std.specs.Prelude.{filter}
+use Rattle.std.proofs.lemmas.List.{take_more}
+use Rattle.std.proofs.lemmas.List.Elements.{filter-append}
+use Rattle.msgq_cli.specs.declared.line.Line.{Line}
+use Rattle.msgq_cli.specs.declared.reply.Reply.{Reply}
+use Rattle.queue_model.specs.declared.entry.Entry.{Entry}
+use Rattle.replays.specs.Journal.{entry_at}
+use Rattle.threaded_runs.specs.Lines.{entries_to, is_line_of, lines_of, replies_to}
+
+-- ---- one line more
+
+pub own_more : (seat : ℕ) (lines : List Line) (line : Line) → is_line_of seat line ≡ true →
+    lines_of seat (lines ++ line ∷ []) ≡ lines_of seat lines ++ line ∷ []
+own_more seat lines line its =
+    filter-append (is_line_of seat) lines (line ∷ [])
+    ∙ ap (λ (b : Bool). lines_of seat lines ++ (if b then line ∷ [] else [])) its
+
+pub other_more : (seat : ℕ) (lines : List Line) (line : Line) → is_line_of seat line ≡ false →
+    lines_of seat (lines ++ line ∷ []) ≡ lines_of seat lines
+other_more seat lines line not_its =
+    filter-append (is_line_of seat) lines (line ∷ [])
+    ∙ ap (λ (b : Bool). lines_of seat lines ++ (if b then line ∷ [] else [])) not_its
+    ∙ append-nil (lines_of seat lines)
+
+pub entries_more : (lines : List Line) (replies : List Reply) (line : Line) (reply : Reply) →
+    length replies ≡ length lines →
+    entries_to (lines ++ line ∷ []) (replies ++ reply ∷ [])
+    ≡ entries_to lines replies ++ entry_at line (Some reply)
+entries_more [] [] line reply same = append-nil (entry_at line (Some reply))
+entries_more [] (r ∷ rs) line reply same = absurd (omega arith)
+entries_more (l ∷ ls) [] line reply same = absurd (omega arith)
+entries_more (l ∷ ls) (r ∷ rs) line reply same =
+    ap (λ (es : List Entry). entry_at l (Some r) ++ es) (entries_more ls rs line reply (omega arith))
+    ∙ sym (append_assoc (entry_at l (Some r)) (entries_to ls rs) (entry_at line (Some reply)))
+
+-- ---- the replies to all lines
+
+case_bool : {P : Type 0} (b : Bool) → (b ≡ true → P) → (b ≡ false → P) → P
+case_bool true on off = on refl
+case_bool false on off = off refl
+
+pub reply_more : (seat : ℕ) (lines : List Line) (replies : List Reply) (line : Line) (reply : Reply) →
+    length replies ≡ length lines → is_line_of seat line ≡ true →
+    replies_to seat (lines ++ line ∷ []) (replies ++ reply ∷ []) ≡ replies_to seat lines replies ++ reply ∷ []
+reply_more seat [] [] line reply same its = ap (λ (b : Bool). if b then reply ∷ [] else []) its
+reply_more seat [] (r ∷ rs) line reply same its = absurd (omega arith)
+reply_more seat (l ∷ ls) [] line reply same its = absurd (omega arith)
+reply_more seat (l ∷ ls) (r ∷ rs) line reply same its =
+    by (is_line_of seat l) (reply_more seat ls rs line reply (omega arith) its)
+  where
+    by : (b : Bool) →
+        replies_to seat (ls ++ line ∷ []) (rs ++ reply ∷ []) ≡ replies_to seat ls rs ++ reply ∷ [] →
+        (if b then r ∷ replies_to seat (ls ++ line ∷ []) (rs ++ reply ∷ [])
+        else replies_to seat (ls ++ line ∷ []) (rs ++ reply ∷ []))
+        ≡ (if b then r ∷ replies_to seat ls rs else replies_to seat ls rs) ++ reply ∷ []
+    by true more = ap (λ (l : List Reply). r ∷ l) more
+    by false more = more
+
+pub reply_other : (seat : ℕ) (lines : List Line) (replies : List Reply) (line : Line) (reply : Reply) →
+    length replies ≡ length lines → is_line_of seat line ≡ false →
+    replies_to seat (lines ++ line ∷ []) (replies ++ reply ∷ []) ≡ replies_to seat lines replies
+reply_other seat [] [] line reply same its = ap (λ (b : Bool). if b then reply ∷ [] else []) its
+reply_other seat [] (r ∷ rs) line reply same its = absurd (omega arith)
+reply_other seat (l ∷ ls) [] line reply same its = absurd (omega arith)
+reply_other seat (l ∷ ls) (r ∷ rs) line reply same its =
+    by (is_line_of seat l) (reply_other seat ls rs line reply (omega arith) its)
+  where
+    by : (b : Bool) →
+        replies_to seat (ls ++ line ∷ []) (rs ++ reply ∷ []) ≡ replies_to seat ls rs →
+        (if b then r ∷ replies_to seat (ls ++ line ∷ []) (rs ++ reply ∷ [])
+        else replies_to seat (ls ++ line ∷ []) (rs ++ reply ∷ []))
+        ≡ (if b then r ∷ replies_to seat ls rs else replies_to seat ls rs)
+    by true more = ap (λ (l : List Reply). r ∷ l) more
+    by false more = more
