@@ -1,7 +1,7 @@
 //! The threads of a script's seats.
 
-ghost use Rattle.threaded_runs.specs.Desks.{AreMade, AreStarted, IsFresh, IsMadeOf, IsStarted};
-ghost use Rattle.std.specs.List.{All};
+ghost use Rattle.std.specs.Prelude.{◌≡◌, IfErr, IfOk};
+ghost use Rattle.threaded_runs.specs.Desks.{AreMade, AreUntouched, IsFresh, IsMadeOf};
 
 use page_device::PageDevice;
 use queue_model::{Answer, Call, Entry};
@@ -55,13 +55,117 @@ impl<R: Threads + Wait + Sync> Crew for ThreadASeat<'_, R> {
         thread::scope(
             thread::scope_env(),
             self.rt,
-            move |scope| -> Vec<Desk<'s, N>>
-                requires { All IsFresh desks.items }
+            move |scope| -> Vec<Desk<N>>
+                requires { AreUntouched desks.items }
                 ensures { AreMade desks.entry.items result.items }
-            {
-                let works = start_all(scope, self, service, refused, desks);
-                end_all(self, works)
-            },
+            { make_in(scope, self, service, refused, desks) },
         )
     }
+}
+
+/// That the lines of a desk are made.
+#[derive(Drop)]
+struct Makes<'s, N: Room + Base> {
+    desk: Snapshot<Desk<'s, N>>,
+}
+
+impl<'s, N: Room + Base> Promise<Desk<'s, N>> for Makes<'s, N> {
+    ghost use Rattle.threaded_runs.specs.Desks.{IsMadeOf};
+
+    ghost kept_by = { λ p d. IsMadeOf p.desk.value d };
+}
+
+/// A desk that makes its lines in a thread, or for which none could be started.
+type Work<'s, N> = Result<PromisedHandle<Desk<'s, N>, Makes<'s, N>>, Desk<'s, N>>;
+
+/// Has each desk make its lines in a thread of this scope.
+fn make_in<
+    'e,
+    's: 'e,
+    E,
+    R: Threads + Wait + Sync,
+    D: PageDevice + Drop + Send,
+    N: Room + Base + Send + Sync,
+>(
+    scope: &'e Scope<'e, E>,
+    crew: &'e ThreadASeat<'e, R>,
+    service: &'e Shared<D, N>,
+    refused: &'e AtomicU64,
+    desks: Vec<Desk<'s, N>>,
+) -> Vec<Desk<'s, N>>
+    requires { AreUntouched desks.items }
+    ensures { AreMade desks.items result.items }
+{
+    let Ok(mut made) = Vec::with_capacity(crew.alloc, desks.len()) else {
+        return refuse_all(desks);
+    };
+    let Ok(mut works) = Vec::with_capacity(crew.alloc, desks.len()) else {
+        return refuse_all(desks);
+    };
+    for desk in desks {
+        works.push_reserved(start(scope, crew, service, refused, desk));
+    }
+    for work in works {
+        made.push_reserved(match work {
+            Ok(thread) => thread.join(crew.rt),
+            Err(desk) => desk,
+        });
+    }
+    made
+}
+
+/// Starts a thread in which a desk makes its lines. Where none can be started they are refused.
+fn start<
+    'e,
+    's: 'e,
+    E,
+    R: Threads + Wait + Sync,
+    D: PageDevice + Drop + Send,
+    N: Room + Base + Send + Sync,
+>(
+    scope: &'e Scope<'e, E>,
+    crew: &'e ThreadASeat<'e, R>,
+    service: &'e Shared<D, N>,
+    refused: &'e AtomicU64,
+    desk: Desk<'s, N>,
+) -> Work<'s, N>
+    requires { IsFresh desk }
+    ensures started { IfOk result (λ thread. thread.promise.desk.value ≡ desk) }
+    ensures refused { IfErr result (IsMadeOf desk) }
+{
+    let promise = Makes {
+        desk: Snapshot::of(&desk),
+    };
+    let number = u64::from(desk.number());
+    let work = move || -> Desk<N>
+        requires { IsFresh desk }
+        ensures { IsMadeOf desk.entry result }
+    {
+        let mut desk = desk;
+        if refused.load(SeqCst) == number {
+            desk.refuse();
+        } else {
+            desk.make(crew, service);
+        }
+        desk
+    };
+    match scope.spawn_with(promise, work) {
+        Ok(thread) => Ok(thread),
+        Err(SpawnError { value: work }) => {
+            refused.store(number, SeqCst);
+            Err(work())
+        }
+    }
+}
+
+/// No desk makes its lines.
+fn refuse_all<'s, N: Room + Base>(desks: Vec<Desk<'s, N>>) -> Vec<Desk<'s, N>>
+    requires { AreUntouched desks.items }
+    ensures { AreMade desks.items result.items }
+{
+    let mut desks = desks;
+    for place in 0..desks.len() {
+        desks[place].refuse();
+    }
+    desks
 }

@@ -3,15 +3,18 @@
 
 #![tactic(auto)]
 
+mod crew;
+
+use crate::crew::ThreadASeat;
 use clap::Error;
 use clap::error::ErrorKind;
 use migration_runs::migrate_file;
-use script_runs::msgq_cli::{
+use threaded_runs::script_runs::msgq_cli::{
     Output, Task, advise, complain, complain_of_lines, new_file, print_fault, read_command_line,
     report_file,
 };
-use script_runs::replays::{Sources, replay_file};
-use script_runs::{run_file, serve};
+use threaded_runs::script_runs::replays::{Sources, replay_file};
+use threaded_runs::{Names, run_file, serve};
 use std::fs::{File, OpenOptions};
 use std::io;
 use std::io::{BufWriter, Write};
@@ -44,13 +47,16 @@ fn main(rt: HostRuntime) -> ExitCode {
     let is_run = matches!(&task, Ok(Task::Run { .. } | Task::Replay { .. }));
     let ending = match task {
         Ok(Task::Serve) => {
-            let ending = serve(alloc, &mut rt.reader(), &mut output, &mut errors);
+            let crew = ThreadASeat::new(&rt, alloc);
+            let ending = serve(&crew, alloc, &mut rt.reader(), &mut output, &mut errors);
             complain_of_lines(MEMORY, &output, &mut errors);
             ending
         }
         Ok(Task::New { file, pages }) => new_file(&rt, file, pages, &mut output, &mut errors),
         Ok(Task::Run { file, script }) => {
-            let ending = run_file(&rt, file, script, &mut output, &mut errors);
+            let crew = ThreadASeat::new(&rt, alloc);
+            let names = Names { file, script };
+            let ending = run_file(&rt, &crew, names, &mut output, &mut errors);
             complain_of_lines(file, &output, &mut errors);
             advise(&rt, file, ending, &mut errors);
             ending

@@ -1,5 +1,5 @@
 -- The lines of a seat, made one after the other.
-use Rattle.std.proofs.Common.{◌≡◌, ◌<◌, ◌≤◌, ℕ, zero, suc, ◌+◌, Bool, true, false, List, [], ◌∷◌, ◌++◌, Some, if◌then◌else◌, length, take, map, get_or, refl, sym, ap, ◌∙◌, subst, append-nil, append_assoc, length-append, arith}
+use Rattle.std.proofs.Common.{◌≡◌, ◌≢◌, ◌<◌, ◌≤◌, ℕ, zero, suc, ◌+◌, Bool, true, false, List, [], ◌∷◌, ◌++◌, Some, if◌then◌else◌, length, take, map, get_or, refl, sym, ap, ◌∙◌, subst, append-nil, append_assoc, length-append, arith}
 use Rattle.std.specs.Prelude.{filter}
 use Rattle.std.proofs.lemmas.List.{take_more}
 use Rattle.std.proofs.lemmas.List.Elements.{filter-append}
@@ -37,10 +37,6 @@ entries_more (l ∷ ls) (r ∷ rs) line reply same =
 
 -- ---- the replies to all lines
 
-case_bool : {P : Type 0} (b : Bool) → (b ≡ true → P) → (b ≡ false → P) → P
-case_bool true on off = on refl
-case_bool false on off = off refl
-
 pub reply_more : (seat : ℕ) (lines : List Line) (replies : List Reply) (line : Line) (reply : Reply) →
     length replies ≡ length lines → is_line_of seat line ≡ true →
     replies_to seat (lines ++ line ∷ []) (replies ++ reply ∷ []) ≡ replies_to seat lines replies ++ reply ∷ []
@@ -73,4 +69,34 @@ reply_other seat (l ∷ ls) (r ∷ rs) line reply same its =
         else replies_to seat (ls ++ line ∷ []) (rs ++ reply ∷ []))
         ≡ (if b then r ∷ replies_to seat ls rs else replies_to seat ls rs)
     by true more = ap (λ (l : List Reply). r ∷ l) more
+    by false more = more
+
+-- ---- whose line it is
+
+pub is_its : (seat : ℕ) (line : Line) → line.seat ≡ seat → is_line_of seat line ≡ true
+is_its seat line at = grind arith
+
+pub not_its : (seat : ℕ) (line : Line) → line.seat ≢ seat → is_line_of seat line ≡ false
+not_its seat line apart = grind arith
+
+pub long_own : (seat : ℕ) (taken : List Line) (line : Line) → line.seat ≡ seat →
+    length (lines_of seat (taken ++ line ∷ [])) ≡ length (lines_of seat taken) + 1
+long_own seat taken line at =
+    ap length (own_more seat taken line (is_its seat line at)) ∙ length-append (lines_of seat taken) (line ∷ [])
+
+-- ---- of the lines before one of a seat fewer are its own
+
+pub room_at : (seat : ℕ) (lines : List Line) (i : ℕ) (line : Line) → i < length lines → get_or lines i line ≡ line →
+    line.seat ≡ seat → length (lines_of seat (take i lines)) < length (lines_of seat lines)
+room_at seat [] i line below is at = absurd (omega arith)
+room_at seat (l ∷ ls) zero line below is at =
+    let own : is_line_of seat l ≡ true = is_its seat l (ap (λ (x : Line). x.seat) is ∙ at) in
+    subst (λ (b : Bool). 0 < length (if b then l ∷ lines_of seat ls else lines_of seat ls)) (sym own) (omega arith)
+room_at seat (l ∷ ls) (suc i) line below is at =
+    by (is_line_of seat l) (room_at seat ls i line (omega arith) is at)
+  where
+    by : (b : Bool) → length (lines_of seat (take i ls)) < length (lines_of seat ls) →
+        length (if b then l ∷ lines_of seat (take i ls) else lines_of seat (take i ls))
+        < length (if b then l ∷ lines_of seat ls else lines_of seat ls)
+    by true more = omega arith
     by false more = more

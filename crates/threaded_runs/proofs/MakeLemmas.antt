@@ -1,54 +1,82 @@
--- A seat that makes its lines.
-use Rattle.std.proofs.Common.{◌≡◌, ◌<◌, ◌≤◌, ℕ, zero, suc, ◌+◌, Bool, true, false, List, [], ◌∷◌, ◌++◌, Some, if◌then◌else◌, length, refl, sym, ap, ◌∙◌, subst, append-nil, length-append, arith}
+-- A desk that makes its lines.
+use Rattle.std.proofs.Common.{◌≡◌, ◌<◌, ◌≤◌, ℕ, ◌+◌, true, false, List, [], ◌∷◌, ◌++◌, Some, length, take, get_or, refl, sym, ap, ◌∙◌, append-nil, length-append, arith}
 use Rattle.msgq_cli.specs.declared.line.Line.{Line}
 use Rattle.msgq_cli.specs.declared.reply.Reply.{Reply}
 use Rattle.queue_model.specs.declared.entry.Entry.{Entry}
 use Rattle.replays.specs.Journal.{entry_at}
-use Rattle.workers.specs.Told.{Sitter}
-use Rattle.threaded_runs.proofs.LineLemmas.{entries_more, other_more, own_more}
-use Rattle.threaded_runs.specs.Lines.{HasMade, LinesView, entries_to, is_line_of, lines_of}
+use Rattle.threaded_runs.proofs.LineLemmas.{entries_more, other_more, own_more, room_at}
+use Rattle.threaded_runs.specs.Desks.{DeskView, IsFresh, IsMadeOf}
+use Rattle.threaded_runs.specs.Lines.{HasMade, entries_to, is_line_of, lines_of}
 
--- these lines of a seat were made
-pub record IsMaking (seat : ℕ) (taken : List Line) (replies : List Reply) (first x : Sitter) : Type 0 where
-  pub made : HasMade (record { seat = seat; lines = taken; replies = replies }) x.list
-  pub same : x.seat ≡ first.seat
+-- of the lines of its script these were made
+pub record IsMaking (taken : List Line) (old d : DeskView) : Type 0 where
+  pub seat : d.lines.seat ≡ old.lines.seat
+  pub lines_are : d.lines.lines ≡ old.lines.lines
+  pub at_seat : d.sitter.seat ≡ d.lines.seat
+  pub all : length d.lines.replies ≡ length (lines_of old.lines.seat taken)
+  pub told : d.sitter.list ≡ entries_to (lines_of old.lines.seat taken) d.lines.replies
 
-pub making_starts : (seat : ℕ) (replies : List Reply) (x : Sitter) → replies ≡ [] → x.list ≡ [] →
-    IsMaking seat [] replies x x
-making_starts seat replies x none first = record {
-  made = record {
-    all = ap length none;
-    told = first ∙ sym (ap (entries_to []) none);
-  };
-  same = refl;
+pub making_starts : (d : DeskView) → IsFresh d → d.sitter.seat ≡ d.lines.seat → IsMaking [] d d
+making_starts d fresh at = record {
+  seat = refl;
+  lines_are = refl;
+  at_seat = at;
+  all = ap length fresh.unmade;
+  told = fresh.list ∙ sym (ap (entries_to []) fresh.unmade);
 }
 
-pub making_skips : (seat : ℕ) (taken : List Line) (replies : List Reply) (first x : Sitter) (line : Line) →
-    IsMaking seat taken replies first x → is_line_of seat line ≡ false →
-    IsMaking seat (taken ++ line ∷ []) replies first x
-making_skips seat taken replies first x line m other =
-    let own = other_more seat taken line other in record {
-      made = record {
-        all = m.made.all ∙ sym (ap length own);
-        told = m.made.told ∙ sym (ap (λ (l : List Line). entries_to l replies) own);
-      };
-      same = m.same;
+pub making_skips : (taken : List Line) (old d : DeskView) (line : Line) → IsMaking taken old d →
+    is_line_of old.lines.seat line ≡ false → IsMaking (taken ++ line ∷ []) old d
+making_skips taken old d line m other =
+    let own = other_more old.lines.seat taken line other in record {
+      seat = m.seat;
+      lines_are = m.lines_are;
+      at_seat = m.at_seat;
+      all = m.all ∙ sym (ap length own);
+      told = m.told ∙ sym (ap (λ (l : List Line). entries_to l d.lines.replies) own);
     }
 
-pub making_goes : (seat : ℕ) (taken : List Line) (replies : List Reply) (first x y : Sitter) (line : Line)
-    (reply : Reply) → IsMaking seat taken replies first x → is_line_of seat line ≡ true →
-    y.list ≡ x.list ++ entry_at line (Some reply) → y.seat ≡ x.seat →
-    IsMaking seat (taken ++ line ∷ []) (replies ++ reply ∷ []) first y
-making_goes seat taken replies first x y line reply m its told same =
-    let own = own_more seat taken line its in
-    let many = length-append replies (reply ∷ []) in
-    let lines = length-append (lines_of seat taken) (line ∷ []) in
-    let all = m.made.all in record {
+pub making_goes : (taken : List Line) (old d e : DeskView) (line : Line) (reply : Reply) → IsMaking taken old d →
+    is_line_of old.lines.seat line ≡ true → e.sitter.list ≡ d.sitter.list ++ entry_at line (Some reply) →
+    e.sitter.seat ≡ d.sitter.seat → e.lines ≡ record d.lines { replies = d.lines.replies ++ reply ∷ [] } →
+    IsMaking (taken ++ line ∷ []) old e
+making_goes taken old d e line reply m its told same lines =
+    let own = own_more old.lines.seat taken line its in
+    let replies : e.lines.replies ≡ d.lines.replies ++ reply ∷ [] = ap (λ v. v.replies) lines in
+    let number : e.lines.seat ≡ d.lines.seat = ap (λ v. v.seat) lines in
+    let more : List Line = lines_of old.lines.seat taken in
+    record {
+      seat = number ∙ m.seat;
+      lines_are = ap (λ v. v.lines) lines ∙ m.lines_are;
+      at_seat = same ∙ m.at_seat ∙ sym number;
+      all = ap length replies ∙ length-append d.lines.replies (reply ∷ []) ∙ ap (λ (n : ℕ). n + 1) m.all
+          ∙ sym (length-append more (line ∷ [])) ∙ sym (ap length own);
+      told = told ∙ ap (λ (l : List Entry). l ++ entry_at line (Some reply)) m.told
+          ∙ sym (entries_more more d.lines.replies line reply m.all)
+          ∙ sym (ap (λ (l : List Line). entries_to l (d.lines.replies ++ reply ∷ [])) own)
+          ∙ sym (ap (entries_to (lines_of old.lines.seat (taken ++ line ∷ []))) replies);
+    }
+
+-- there is room for the reply to a line that is its own
+pub making_room : (i : ℕ) (old d : DeskView) (line : Line) → IsMaking (take i old.lines.lines) old d →
+    i < length old.lines.lines → get_or old.lines.lines i line ≡ line → line.seat ≡ d.lines.seat →
+    length d.lines.replies < length (lines_of d.lines.seat d.lines.lines)
+making_room i old d line m below is at =
+    let fewer = room_at old.lines.seat old.lines.lines i line below is (at ∙ m.seat) in
+    let all = m.all in
+    let same = ap (λ (n : ℕ). length (lines_of n d.lines.lines)) m.seat
+        ∙ ap (λ (l : List Line). length (lines_of old.lines.seat l)) m.lines_are in
+    omega (arith, fewer, all, same)
+
+pub making_ends : (old d : DeskView) → IsMaking old.lines.lines old d → IsMadeOf old d
+making_ends old d m =
+    let same = ap (λ (n : ℕ). lines_of n d.lines.lines) m.seat
+        ∙ ap (λ (l : List Line). lines_of old.lines.seat l) m.lines_are in record {
+      seat = m.seat;
+      lines_are = m.lines_are;
+      at_seat = m.at_seat;
       made = record {
-        all = many ∙ ap (λ (n : ℕ). n + 1) all ∙ sym lines ∙ sym (ap length own);
-        told = told ∙ ap (λ (l : List Entry). l ++ entry_at line (Some reply)) m.made.told
-            ∙ sym (entries_more (lines_of seat taken) replies line reply all)
-            ∙ sym (ap (λ (l : List Line). entries_to l (replies ++ reply ∷ [])) own);
+        all = m.all ∙ sym (ap length same);
+        told = m.told ∙ sym (ap (λ (l : List Line). entries_to l d.lines.replies) same);
       };
-      same = same ∙ m.same;
     }

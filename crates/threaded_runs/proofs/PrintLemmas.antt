@@ -13,25 +13,26 @@ use Rattle.msgq_cli.specs.declared.ending.Ending.{Ending}
 use Rattle.msgq_cli.specs.declared.ending.Ending.TheVariants.{Done, Faulty}
 use Rattle.msgq_cli.specs.declared.line.Line.{Line}
 use Rattle.msgq_cli.specs.declared.reply.Reply.{Reply}
-use Rattle.threaded_runs.proofs.LineLemmas.{other_more, own_more, reply_more, reply_other}
-use Rattle.threaded_runs.specs.Lines.{LinesView, is_line_of, lines_of, replies_to}
-use Rattle.threaded_runs.specs.Making.{AreOfSeats, IsPrintedOf, at_place}
+use Rattle.threaded_runs.proofs.LineLemmas.{is_its, long_own, not_its, other_more, reply_more, reply_other, room_at}
+use Rattle.threaded_runs.specs.Desks.{DeskView, desk_at}
+use Rattle.threaded_runs.specs.Lines.{is_line_of, lines_of, replies_to}
+use Rattle.threaded_runs.specs.Printing.{AreOfSeats, IsPrintedOf}
 
 -- how many replies of the seat at a place were printed
 abbrev pub count_at : List ℕ → ℕ → ℕ
 count_at counts place = slice_index_or counts place 0
 
 -- the replies to these lines of a script were printed
-pub record ArePrinting (script : Parts) (taken : List Line) (seats : List LinesView) (counts : List ℕ)
+pub record ArePrinting (script : Parts) (taken : List Line) (desks : List DeskView) (counts : List ℕ)
     (old now : OutputState) (ending : Ending) : Type 0 where
   pub replies : List Reply
   pub as_many : length replies ≡ length taken
   pub prints : Prints old now (printed taken replies)
   pub ends : ending ≡ ending_of replies
-  pub many : length counts ≡ length seats
-  pub counted : (place : ℕ) → place < length seats → count_at counts place ≡ length (lines_of (place + 1) taken)
-  pub own : (place : ℕ) → place < length seats →
-      replies_to (place + 1) taken replies ≡ take (count_at counts place) (at_place seats place).replies
+  pub many : length counts ≡ length desks
+  pub counted : (place : ℕ) → place < length desks → count_at counts place ≡ length (lines_of (place + 1) taken)
+  pub own : (place : ℕ) → place < length desks →
+      replies_to (place + 1) taken replies ≡ take (count_at counts place) (desk_at desks place).lines.replies
 
 zero_at : (n place : ℕ) → count_at (replicate n 0) place ≡ 0
 zero_at zero place = refl
@@ -42,17 +43,17 @@ length_zeros : (n : ℕ) → length {A = ℕ} (replicate n 0) ≡ n
 length_zeros zero = refl
 length_zeros (suc n) = ap suc (length_zeros n)
 
-pub printing_starts : (script : Parts) (seats : List LinesView) (counts : List ℕ) (o : OutputState) →
-    counts ≡ replicate (length seats) 0 → ArePrinting script [] seats counts o o Done
-printing_starts script seats counts o none = record {
+pub printing_starts : (script : Parts) (desks : List DeskView) (counts : List ℕ) (o : OutputState) →
+    counts ≡ replicate (length desks) 0 → ArePrinting script [] desks counts o o Done
+printing_starts script desks counts o none = record {
   replies = [];
   as_many = refl;
   prints = Prints-nil o;
   ends = refl;
-  many = ap length none ∙ length_zeros (length seats);
-  counted = λ place below. ap (λ (l : List ℕ). count_at l place) none ∙ zero_at (length seats) place;
-  own = λ place below. sym (ap (λ (n : ℕ). take n (at_place seats place).replies)
-      (ap (λ (l : List ℕ). count_at l place) none ∙ zero_at (length seats) place));
+  many = ap length none ∙ length_zeros (length desks);
+  counted = λ place below. ap (λ (l : List ℕ). count_at l place) none ∙ zero_at (length desks) place;
+  own = λ place below. sym (ap (λ (n : ℕ). take n (desk_at desks place).lines.replies)
+      (ap (λ (l : List ℕ). count_at l place) none ∙ zero_at (length desks) place));
 }
 
 -- ---- one line more
@@ -88,22 +89,11 @@ ending_push replies reply =
     by true = refl
     by false = refl
 
-is_its : (seat : ℕ) (line : Line) → line.seat ≡ seat → is_line_of seat line ≡ true
-is_its seat line at = grind arith
-
-not_its : (seat : ℕ) (line : Line) → line.seat ≢ seat → is_line_of seat line ≡ false
-not_its seat line apart = grind arith
-
-long_own : (seat : ℕ) (taken : List Line) (line : Line) → line.seat ≡ seat →
-    length (lines_of seat (taken ++ line ∷ [])) ≡ length (lines_of seat taken) + 1
-long_own seat taken line at =
-    ap length (own_more seat taken line (is_its seat line at)) ∙ length-append (lines_of seat taken) (line ∷ [])
-
-module _ (script : Parts) (taken : List Line) (seats : List LinesView) (counts counts' : List ℕ)
+module _ (script : Parts) (taken : List Line) (desks : List DeskView) (counts counts' : List ℕ)
     (old now next : OutputState) (ending ending' : Ending) (line : Line) (reply : Reply) (place : ℕ)
-    (p : ArePrinting script taken seats counts old now ending) (at : line.seat ≡ place + 1)
-    (below : place < length seats) (room : count_at counts place < length (at_place seats place).replies)
-    (has : reply ≡ slice_index_or (at_place seats place).replies (count_at counts place) reply)
+    (p : ArePrinting script taken desks counts old now ending) (at : line.seat ≡ place + 1)
+    (below : place < length desks) (room : count_at counts place < length (desk_at desks place).lines.replies)
+    (has : reply ≡ slice_index_or (desk_at desks place).lines.replies (count_at counts place) reply)
     (counts_more : counts' ≡ slice_set counts place (count_at counts place + 1))
     (prints : Prints now next (reply_text line.number reply))
     (ends : ending' ≡ (if is_fault reply then Faulty else ending)) where
@@ -118,7 +108,7 @@ module _ (script : Parts) (taken : List Line) (seats : List LinesView) (counts c
   count_there other apart = ap (λ (l : List ℕ). count_at l other) counts_more
       ∙ get_or-set_other counts place other (count_at counts place + 1) 0 apart
 
-  counted_at : (other : ℕ) → other < length seats → (other ≡ place) ⊎ (other ≢ place) →
+  counted_at : (other : ℕ) → other < length desks → (other ≡ place) ⊎ (other ≢ place) →
       count_at counts' other ≡ length (lines_of (other + 1) (taken ++ line ∷ []))
   counted_at other few (inl same) =
       subst (λ (n : ℕ). count_at counts' n ≡ length (lines_of (n + 1) (taken ++ line ∷ []))) (sym same)
@@ -128,14 +118,14 @@ module _ (script : Parts) (taken : List Line) (seats : List LinesView) (counts c
       ∙ ap length (sym (other_more (other + 1) taken line
       (not_its (other + 1) line (λ same. apart (omega (arith, same, at))))))
 
-  own_at : (other : ℕ) → other < length seats → (other ≡ place) ⊎ (other ≢ place) →
+  own_at : (other : ℕ) → other < length desks → (other ≡ place) ⊎ (other ≢ place) →
       replies_to (other + 1) (taken ++ line ∷ []) (p.replies ++ reply ∷ [])
-      ≡ take (count_at counts' other) (at_place seats other).replies
+      ≡ take (count_at counts' other) (desk_at desks other).lines.replies
   own_at other few (inl same) =
-      let its : List Reply = (at_place seats place).replies in
+      let its : List Reply = (desk_at desks place).lines.replies in
       let k : ℕ = count_at counts place in
       subst (λ (n : ℕ). replies_to (n + 1) (taken ++ line ∷ []) (p.replies ++ reply ∷ [])
-      ≡ take (count_at counts' n) (at_place seats n).replies) (sym same)
+      ≡ take (count_at counts' n) (desk_at desks n).lines.replies) (sym same)
       (reply_more (place + 1) taken p.replies line reply p.as_many (is_its (place + 1) line at)
       ∙ ap (λ (l : List Reply). l ++ reply ∷ []) (p.own place below)
       ∙ ap (λ (r : Reply). take k its ++ r ∷ []) has
@@ -145,9 +135,9 @@ module _ (script : Parts) (taken : List Line) (seats : List LinesView) (counts c
       reply_other (other + 1) taken p.replies line reply p.as_many
       (not_its (other + 1) line (λ same. apart (omega (arith, same, at))))
       ∙ p.own other few
-      ∙ ap (λ (n : ℕ). take n (at_place seats other).replies) (sym (count_there other apart))
+      ∙ ap (λ (n : ℕ). take n (desk_at desks other).lines.replies) (sym (count_there other apart))
 
-  pub printing_goes : ArePrinting script (taken ++ line ∷ []) seats counts' old next ending'
+  pub printing_goes : ArePrinting script (taken ++ line ∷ []) desks counts' old next ending'
   printing_goes = record {
     replies = p.replies ++ reply ∷ [];
     as_many = length-append p.replies (reply ∷ []) ∙ ap (λ (n : ℕ). n + 1) p.as_many
@@ -163,27 +153,12 @@ module _ (script : Parts) (taken : List Line) (seats : List LinesView) (counts c
 
 -- ---- at a line there is a reply that was not printed yet
 
-room_at : (seat : ℕ) (lines : List Line) (i : ℕ) (line : Line) → i < length lines → get_or lines i line ≡ line →
-    line.seat ≡ seat → length (lines_of seat (take i lines)) < length (lines_of seat lines)
-room_at seat [] i line below is at = absurd (omega arith)
-room_at seat (l ∷ ls) zero line below is at =
-    let own : is_line_of seat l ≡ true = is_its seat l (ap (λ (x : Line). x.seat) is ∙ at) in
-    subst (λ (b : Bool). 0 < length (if b then l ∷ lines_of seat ls else lines_of seat ls)) (sym own) (omega arith)
-room_at seat (l ∷ ls) (suc i) line below is at =
-    by (is_line_of seat l) (room_at seat ls i line (omega arith) is at)
-  where
-    by : (b : Bool) → length (lines_of seat (take i ls)) < length (lines_of seat ls) →
-        length (if b then l ∷ lines_of seat (take i ls) else lines_of seat (take i ls))
-        < length (if b then l ∷ lines_of seat ls else lines_of seat ls)
-    by true more = omega arith
-    by false more = more
-
-pub room_for : (script : Parts) (seats : List LinesView) (counts : List ℕ) (old now : OutputState) (ending : Ending)
-    (i place : ℕ) (line : Line) → AreOfSeats script.lines seats →
-    ArePrinting script (take i script.lines) seats counts old now ending → i < length script.lines →
-    get_or script.lines i line ≡ line → line.seat ≡ place + 1 → place < length seats →
-    count_at counts place < length (at_place seats place).replies
-room_for script seats counts old now ending i place line all p below is at few =
+pub room_for : (script : Parts) (desks : List DeskView) (counts : List ℕ) (old now : OutputState) (ending : Ending)
+    (i place : ℕ) (line : Line) → AreOfSeats script.lines desks →
+    ArePrinting script (take i script.lines) desks counts old now ending → i < length script.lines →
+    get_or script.lines i line ≡ line → line.seat ≡ place + 1 → place < length desks →
+    count_at counts place < length (desk_at desks place).lines.replies
+room_for script desks counts old now ending i place line all p below is at few =
     let fewer = room_at (place + 1) script.lines i line below is at in
     let counted = p.counted place few in
     let many = (all.each place few).all in
@@ -191,15 +166,15 @@ room_for script seats counts old now ending i place line all p below is at few =
 
 -- ---- all lines
 
-pub printed_all : (script : Parts) (seats : List LinesView) (counts : List ℕ) (old now : OutputState)
-    (ending : Ending) → AreOfSeats script.lines seats → ArePrinting script script.lines seats counts old now ending →
-    IsPrintedOf script seats old now ending
-printed_all script seats counts old now ending all p = record {
+pub printed_all : (script : Parts) (desks : List DeskView) (counts : List ℕ) (old now : OutputState)
+    (ending : Ending) → AreOfSeats script.lines desks → ArePrinting script script.lines desks counts old now ending →
+    IsPrintedOf script desks old now ending
+printed_all script desks counts old now ending all p = record {
   replies = p.replies;
   as_many = p.as_many;
   prints = p.prints;
   ends = p.ends;
   own = λ place few. p.own place few
-      ∙ ap (λ (n : ℕ). take n (at_place seats place).replies) (p.counted place few ∙ sym (all.each place few).all)
-      ∙ take_all (length (at_place seats place).replies) (at_place seats place).replies (omega arith);
+      ∙ ap (λ (n : ℕ). take n (desk_at desks place).lines.replies) (p.counted place few ∙ sym (all.each place few).all)
+      ∙ take_all (length (desk_at desks place).lines.replies) (desk_at desks place).lines.replies (omega arith);
 }

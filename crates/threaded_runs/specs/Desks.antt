@@ -63,6 +63,10 @@ pub record IsFresh (d : DeskView) : Type 0 where
   pub list : d.sitter.list ≡ []
   pub unmade : d.lines.replies ≡ []
 
+-- so it is at each of these desks
+abbrev pub AreUntouched : List DeskView → Type 0
+AreUntouched desks = (place : ℕ) → place < length desks → IsFresh (desk_at desks place)
+
 -- its lines were made, or refused
 pub record IsMadeOf (old new : DeskView) : Type 0 where
   pub seat : new.lines.seat ≡ old.lines.seat

@@ -1,9 +1,9 @@
 //! Who makes the lines of all seats. This crate starts no thread and waits for none: the program
 //! does.
 
-ghost use Rattle.std.specs.Prelude.{◌≡◌, ◌∷◌, ◌++◌, [], All, IfOk, OnErr};
+ghost use Rattle.std.specs.Prelude.{◌≡◌, ◌∷◌, ◌++◌, [], IfOk, OnErr};
 ghost use Rattle.queue_model.specs.declared.entry.Entry.TheVariants.{Decided};
-ghost use Rattle.threaded_runs.specs.Desks.{AreMade, IsFresh};
+ghost use Rattle.threaded_runs.specs.Desks.{AreMade, AreUntouched};
 
 use crate::desk::Desk;
 use page_device::PageDevice;
@@ -43,6 +43,6 @@ pub trait Crew {
         gauge: Option<GaugePass<Entry, Call, N>>,
         desks: Vec<Desk<'s, N>>,
     ) -> Vec<Desk<'s, N>>
-        requires fresh { All IsFresh desks.items }
+        requires fresh { AreUntouched desks.items }
         ensures made { AreMade desks.items result.items };
 }

@@ -35,35 +35,32 @@ impl<'s, N: Room + Base> Desk<'s, N> {
     pub fn number(&self) -> u8
         ensures { result ≡ self.now.lines.seat }
     {
-        self.lines.seat
+        self.lines.seat()
     }
 
     /// Makes its lines one after the other.
-    pub fn make<C: Waiter, D: PageDevice + Drop>(self, waiter: &C, service: &Shared<D, N>) -> Desk<'s, N>
-        requires fresh { IsFresh self }
-        ensures made { IsMadeOf self result }
+    pub fn make<C: Waiter, D: PageDevice + Drop>(&mut self, waiter: &C, service: &Shared<D, N>)
+        requires fresh { IsFresh self.old }
+        ensures made { IsMadeOf self.old self.new }
     {
-        let Desk { mut seat, mut lines } = self;
-        for line in lines.lines {
-            if line.seat == lines.seat {
-                lines.replies.push_reserved(reply(waiter, service, &mut seat, line));
+        for line in self.lines.script() {
+            if line.seat == self.lines.seat() {
+                let reply = reply(waiter, service, &mut self.seat, line);
+                self.lines.push(reply);
             }
         }
-        Desk { seat, lines }
     }
 
     /// Makes none of its lines: each is replied 60.
-    pub fn refuse(self) -> Desk<'s, N>
-        requires fresh { IsFresh self }
-        ensures made { IsMadeOf self result }
+    pub fn refuse(&mut self)
+        requires fresh { IsFresh self.old }
+        ensures made { IsMadeOf self.old self.new }
     {
-        let Desk { seat, mut lines } = self;
-        for line in lines.lines {
-            if line.seat == lines.seat {
-                lines.replies.push_reserved(Reply::Failed(faults::NO_MEMORY));
+        for line in self.lines.script() {
+            if line.seat == self.lines.seat() {
+                self.lines.push(Reply::Failed(faults::NO_MEMORY));
             }
         }
-        Desk { seat, lines }
     }
 
     /// What the line behind so many of its lines was replied.
@@ -71,7 +68,7 @@ impl<'s, N: Room + Base> Desk<'s, N> {
         requires { place < length self.now.lines.replies }
         ensures { result.now ≡ slice_index_or self.now.lines.replies place result.now }
     {
-        &self.lines.replies[place]
+        &self.lines.replies()[place]
     }
 }
 

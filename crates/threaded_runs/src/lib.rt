@@ -17,5 +17,5 @@ pub use runs::run_on;
 pub use script_runs;
 pub use workers;
 
-
-
+#[cfg(test)]
+mod tests;

@@ -1,6 +1,7 @@
 //! The lines of one seat of a script.
 
-ghost use Rattle.std.specs.Prelude.{◌≡◌, [], IfOk};
+ghost use Rattle.std.specs.Prelude.{◌≡◌, ◌<◌, ◌∷◌, ◌++◌, [], IfOk, length};
+ghost use Rattle.threaded_runs.specs.Lines.{lines_of};
 
 use msgq_cli::{Line, Reply};
 use queue_model::NoMemory;
@@ -11,9 +12,9 @@ use std::marker::Model;
 /// the replies to all of them.
 #[derive(Drop)]
 pub(crate) struct SeatLines<'s> {
-    pub(crate) seat: u8,
-    pub(crate) lines: &'s [Line],
-    pub(crate) replies: Vec<Reply>,
+    seat: u8,
+    lines: &'s [Line],
+    replies: Vec<Reply>,
 }
 
 impl<'s> Model for SeatLines<'s> {
@@ -40,5 +41,34 @@ impl<'s> SeatLines<'s> {
             lines,
             replies: Vec::with_capacity(alloc, many)?,
         })
+    }
+
+    /// Their seat.
+    pub(crate) fn seat(&self) -> u8
+        ensures { result ≡ self.now.seat }
+    {
+        self.seat
+    }
+
+    /// All lines of the script.
+    pub(crate) fn script(&self) -> &'s [Line]
+        ensures { result.now ≡ self.now.lines }
+    {
+        self.lines
+    }
+
+    /// What those that were made were replied.
+    pub(crate) fn replies(&self) -> &[Reply]
+        ensures { result.now ≡ self.now.replies }
+    {
+        self.replies.as_slice()
+    }
+
+    /// The next of them is replied.
+    pub(crate) fn push(&mut self, reply: Reply)
+        requires { length self.old.replies < length (lines_of self.old.seat self.old.lines) }
+        ensures { self.new ≡ record self.old { replies = self.old.replies ++ reply ∷ [] } }
+    {
+        self.replies.push_reserved(reply);
     }
 }
