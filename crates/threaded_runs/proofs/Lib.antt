@@ -1,4 +1,6 @@
 pub mod LineLemmas
 pub mod MakeLemmas
 pub mod PrintLemmas
+pub mod PairLemmas
+pub mod EndLemmas
 pub mod BesideLemmas
