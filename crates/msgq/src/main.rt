@@ -17,7 +17,7 @@ use threaded_runs::script_runs::replays::{Sources, replay_file};
 use threaded_runs::{Names, run_file, serve};
 use std::fs::{File, OpenOptions};
 use std::io;
-use std::io::{BufWriter, Write};
+use std::io::{BufWriter, IsTerminal, Write};
 use std::os::fd::{AsRawFd, RawFd};
 use std::process::ExitCode;
 
@@ -47,14 +47,14 @@ fn main(rt: HostRuntime) -> ExitCode {
     let is_run = matches!(&task, Ok(Task::Run { .. } | Task::Replay { .. }));
     let ending = match task {
         Ok(Task::Serve) => {
-            let crew = ThreadASeat::new(&rt, alloc);
+            let crew = ThreadASeat::new(&rt, alloc, errors.is_terminal());
             let ending = serve(&crew, alloc, &mut rt.reader(), &mut output, &mut errors);
             complain_of_lines(MEMORY, &output, &mut errors);
             ending
         }
         Ok(Task::New { file, pages }) => new_file(&rt, file, pages, &mut output, &mut errors),
         Ok(Task::Run { file, script }) => {
-            let crew = ThreadASeat::new(&rt, alloc);
+            let crew = ThreadASeat::new(&rt, alloc, errors.is_terminal());
             let names = Names { file, script };
             let ending = run_file(&rt, &crew, names, &mut output, &mut errors);
             complain_of_lines(file, &output, &mut errors);

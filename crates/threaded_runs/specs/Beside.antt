@@ -1,5 +1,6 @@
 -- A script whose seats made their lines beside one another, on the file of a device. docs/SCRIPTS.md, "Runs".
 use Rattle.std.specs.Prelude.{ℕ, ◌≡◌, ◌≢◌, ◌⊎◌, ◌≤◌, ◌==◌, if◌then◌else◌, Bool, true, false, IsTrue, List, [], ◌++◌, length, Option, Some, None, Result, Ok, Err}
+use Rattle.std.specs.List.{list_all}
 use Rattle.faults.specs.declared.TheConstants.{DEVICE, FAILED, NO_MEMORY}
 use Rattle.bucket_page.specs.Pseudokeys.{sha_key}
 use Rattle.bucket_page.specs.declared.pseudokey.ShaKey.{ShaKey}
@@ -91,10 +92,14 @@ RunsFrom script o c ending = RunsBeside script o c ending ⊎ IsUnopened o.hones
 abbrev pub RunsBesideOn : Parts → (honest : Bool) → Effects → Ending → Type 0
 RunsBesideOn script honest c ending = RunsFrom script (origin_on script c.content honest) c ending
 
+-- all of its lines are of one seat
+abbrev pub is_of_one_seat : List Line → Bool
+is_of_one_seat lines = list_all (λ (line : Line). line.seat == greatest_seat lines) lines
+
 -- a script of one seat is run line by line
 abbrev pub RunsScriptOn : Parts → (honest : Bool) → Effects → Ending → Type 0
 RunsScriptOn script honest c ending =
-    if greatest_seat script.lines == 1 then RunsOn script honest c ending else RunsBesideOn script honest c ending
+    if is_of_one_seat script.lines then RunsOn script honest c ending else RunsBesideOn script honest c ending
 
 -- ---- on a new file in memory
 
@@ -109,7 +114,7 @@ pub record RunsNewBeside (script : Parts) (old new : OutputState) (ending : Endi
 -- a script of one seat is run line by line; there may be no memory to make the file
 abbrev pub RunsScriptNew : Parts → OutputState → OutputState → Ending → Type 0
 RunsScriptNew script old new ending =
-    if greatest_seat script.lines == 1 then RunsNew script old new ending
+    if is_of_one_seat script.lines then RunsNew script old new ending
     else (RunsNewBeside script old new ending ⊎ IsFaultAlone NO_MEMORY old new ending)
 
 -- a wrong script runs nothing

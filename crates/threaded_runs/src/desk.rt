@@ -38,6 +38,11 @@ impl<'s, N: Room + Base> Desk<'s, N> {
         self.lines.seat()
     }
 
+    /// How many lines its script has.
+    pub fn script_lines(&self) -> usize {
+        self.lines.script().len()
+    }
+
     /// Makes its lines one after the other.
     pub fn make<C: Waiter, D: PageDevice + Drop>(&mut self, waiter: &C, service: &Shared<D, N>)
         requires fresh { IsFresh self.old }

@@ -4,7 +4,7 @@ ghost use Rattle.std.specs.Prelude.{◌≡◌};
 ghost use Rattle.threaded_runs.specs.Beside.{RunsInputNew, RunsTextNew};
 
 use crate::crew::Crew;
-use crate::runs::run_on;
+use crate::runs::{is_of_one_seat, run_on};
 use msgq_cli::record_file::format;
 use msgq_cli::{
     Ending, Output, Stage, complain, complain_of, fail, leave_unopened, read_file, read_script,
@@ -106,7 +106,7 @@ fn serve_beside<C: Crew, W: Write + Drop, E: Write>(
         Ok(script) => script,
         Err(error) => return refuse(alloc, error, text, output, errors),
     };
-    if script.greatest_seat() == 1 {
+    if is_of_one_seat(&script) {
         return serve_text(alloc, text, output, errors);
     }
     let mut device = MemDevice::new(alloc);

@@ -3,7 +3,7 @@
 ghost use Rattle.std.specs.Prelude.{◌≡◌, ◌<◌, ◌≤◌, ℕ, [], length, map, slice_index_or, vec_capacity};
 ghost use Rattle.bucket_page.specs.Pseudokeys.{sha_key};
 ghost use Rattle.msgq_cli.specs.Scripts.{greatest_seat};
-ghost use Rattle.threaded_runs.specs.Beside.{HasEnded, RunsFrom, RunsScriptOn};
+ghost use Rattle.threaded_runs.specs.Beside.{HasEnded, RunsFrom, RunsScriptOn, is_of_one_seat};
 ghost use Rattle.threaded_runs.specs.Desks.{ArePaired, DeskView, IsPlanOf, lines_at};
 ghost use Rattle.seat_passes.specs.Views.{nobody};
 ghost use Rattle.workers.specs.Closing.{HasMissing};
@@ -37,7 +37,8 @@ use workers::{Base, Ended, Ending, Open, Prepared, Room, Seat, Started};
 /// system after it. Where a step has failed, or the output refused a write, nothing is written. Fault
 /// 62 stands after the replies where a step has failed, and 20 where the file can't be closed.
 ///
-/// A script of one seat is run as `script_runs::run_on` does: no other seat could end a wait.
+/// A script all of whose lines are of one seat is run as `script_runs::run_on` does, since nobody
+/// could end a wait.
 pub fn run_on<C: Crew, D: PageDevice + Drop + Send, W: Write + Drop>(
     crew: &C,
     alloc: Global,
@@ -56,7 +57,7 @@ pub fn run_on<C: Crew, D: PageDevice + Drop + Send, W: Write + Drop>(
           untold = result.is_untold;
         }) result.ending }
 {
-    if script.greatest_seat() == 1 {
+    if is_of_one_seat(script) {
         return script_runs::run_on(alloc, device, script, output);
     }
     let Ok(plan) = Plan::new(alloc, script) else {
@@ -66,6 +67,14 @@ pub fn run_on<C: Crew, D: PageDevice + Drop + Send, W: Write + Drop>(
         Ok(prepared) => run_prepared::<Brand, C, D, W>(crew, prepared, plan, output),
         Err((device, fault)) => Ran::unrun(device, leave_refused(fault, output)),
     }
+}
+
+/// Whether all lines of a script are of one seat.
+pub(crate) fn is_of_one_seat(script: &Script) -> bool
+    ensures { result ≡ is_of_one_seat script.now.lines }
+{
+    let seat = script.greatest_seat();
+    script.lines().iter().all(|line| line.seat == seat)
 }
 
 /// Runs a script on a file that was opened for its seats, on a service of this name.
