@@ -1,5 +1,5 @@
 -- Each seat has its lines at a desk.
-use Rattle.std.proofs.Common.{◌≡◌, ◌≢◌, ◌<◌, ◌≤◌, ℕ, zero, suc, ◌+◌, true, false, ⊥, inl, inr, ◌⊎◌, List, [], ◌∷◌, ◌++◌, length, map, refl, sym, ap, ◌∙◌, subst, length-append, arith}
+use Rattle.std.proofs.Common.{◌≡◌, ◌≢◌, ◌<◌, ◌≤◌, ℕ, zero, suc, ◌+◌, true, false, inl, inr, ◌⊎◌, List, [], ◌∷◌, ◌++◌, length, map, refl, sym, ap, ◌∙◌, subst, length-append, arith}
 use Rattle.std.specs.Prelude.{slice_index_or, ◌==◌}
 use Rattle.std.specs.List.{All, list_any}
 use Rattle.std.proofs.lemmas.Bool.{cases_eq}
@@ -15,7 +15,7 @@ use Rattle.threaded_runs.specs.Printing.{AreOfSeats}
 
 -- ---- seats that were told nothing
 
-newcomer : ℕ → Sitter
+abbrev newcomer : ℕ → Sitter
 newcomer seat = record { seat = seat; list = []; place = no_place; failed = false; seen = 0 }
 
 pub length-newcomers : (n : ℕ) → length (newcomers n) ≡ n
@@ -37,18 +37,19 @@ before_end (y ∷ ys) x d (suc place) below = before_end ys x d place (omega ari
 
 newcomer_at : (n place : ℕ) → place < n → slice_index_or (newcomers n) place nobody ≡ newcomer (suc place)
 newcomer_at zero place below = absurd (omega arith)
-newcomer_at (suc n) place below = by (cases_eq place n)
+newcomer_at (suc n) place below = by (cases_eq place n) (λ few. newcomer_at n place few)
   where
     by : (place ≡ n) ⊎ (place ≢ n) →
+        (place < n → slice_index_or (newcomers n) place nobody ≡ newcomer (suc place)) →
         slice_index_or (newcomers n ++ newcomer (suc n) ∷ []) place nobody ≡ newcomer (suc place)
-    by (inl same) =
+    by (inl same) before =
         let long = length-newcomers n in
         ap (λ (k : ℕ). slice_index_or (newcomers n ++ newcomer (suc n) ∷ []) k nobody) (same ∙ sym long)
         ∙ at_end (newcomers n) (newcomer (suc n)) nobody ∙ ap (λ (k : ℕ). newcomer (suc k)) (sym same)
-    by (inr apart) =
+    by (inr apart) before =
         let long = length-newcomers n in
         before_end (newcomers n) (newcomer (suc n)) nobody place (omega (arith, long, apart, below))
-        ∙ newcomer_at n place (omega (arith, apart, below))
+        ∙ before (omega (arith, apart, below))
 
 -- ---- desks
 
@@ -131,8 +132,8 @@ module _ (script : List Line) (many : ℕ) (lines : List LinesView) (desks : Lis
 
     pub all_back : HasMissing many (map (λ (d : DeskView). d.sitter) made) → ⊥
     all_back missing =
-        let few = missing.2.1 in
+        let few = missing.1 in
         let same = many_made in
         let there = any_at (missing.0 + 1) made missing.0 (omega (arith, few, same)) (sitter_at missing.0 few) in
-        let no : true ≡ false = sym there ∙ missing.2.2 in
+        let no : true ≡ false = sym there ∙ missing.2 in
         absurd cc

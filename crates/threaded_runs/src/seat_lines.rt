@@ -1,7 +1,7 @@
 //! The lines of one seat of a script.
 
-ghost use Rattle.std.specs.Prelude.{◌≡◌, ◌<◌, ◌∷◌, ◌++◌, [], IfOk, length};
-ghost use Rattle.threaded_runs.specs.Lines.{lines_of};
+ghost use Rattle.std.specs.Prelude.{◌≡◌, ◌<◌, ◌∷◌, ◌++◌, [], IfOk, filter, length};
+ghost use Rattle.threaded_runs.specs.Lines.{is_line_of, lines_of};
 
 use msgq_cli::{Line, Reply};
 use queue_model::NoMemory;
@@ -35,11 +35,10 @@ impl<'s> SeatLines<'s> {
         ensures lines { IfOk result (λ made. made.lines ≡ lines.now) }
         ensures replies { IfOk result (λ made. made.replies ≡ []) }
     {
-        let many = lines.iter().filter(|line| line.seat == seat).count();
         Ok(SeatLines {
             seat,
             lines,
-            replies: Vec::with_capacity(alloc, many)?,
+            replies: Vec::with_capacity(alloc, count(seat, lines))?,
         })
     }
 
@@ -71,4 +70,11 @@ impl<'s> SeatLines<'s> {
     {
         self.replies.push_reserved(reply);
     }
+}
+
+/// How many lines are of a seat.
+fn count(seat: u8, lines: &[Line]) -> usize
+    ensures { result ≡ length (filter (is_line_of seat) lines.now) }
+{
+    lines.iter().filter(|line| line.seat == seat).count()
 }
