@@ -117,15 +117,25 @@ impl<D: PageDevice + Drop, K: PseudoKey + Drop, G: Gate + Drop, N: Room + Base> 
             result.seats.items (D.content result.device) }
     {
         a_refining_kernel_answers_as_plain_lists::<K>();
+        let Service {
+            gate: _,
+            latch,
+            freed: _,
+            decided: _,
+            gauge,
+            seats: _,
+        } = self;
+        let held = latch.into_inner();
+        let mut seats = seats;
         let Held {
             kernel,
             mut pass,
             count: _,
             sleepers: _,
             room: _,
-        } = self.latch.into_inner();
-        let mut seats = seats;
-        compare_all(&self.gauge, &mut pass, &mut seats);
+        } = held;
+        compare_all(&gauge, &mut pass, &mut seats);
+        kernel.is_whole();
         let failure = kernel.failure();
         let Closed { device, journal } = kernel.abandon();
         Ended {
