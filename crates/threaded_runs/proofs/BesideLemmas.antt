@@ -63,7 +63,7 @@ module _ (script : Parts) (made : List DeskView) (many : length made ≡ greates
       (own place here))
 
   pub beside : (o : Origin) (c : Effects) (ending so_far : Ending) (fault : Option ℕ) (journal : List Entry)
-      (first told : OutputState) → IsPrintedOf script made c.old first so_far → Prints first told [] →
+      (first told : OutputState) → IsPrintedOf script.lines made c.old first so_far → Prints first told [] →
       c.untold ≡ told.refused → (told.refused ≡ false → told.handed ≡ told.known) →
       HasEnded o (sitters made) c.untold fault journal c.left → EndsWith fault told so_far c.new ending →
       RunsBeside script o c ending

@@ -1,7 +1,10 @@
 -- A desk that makes its lines.
 use Rattle.std.proofs.Common.{◌≡◌, ◌<◌, ◌≤◌, ℕ, ◌+◌, true, false, List, [], ◌∷◌, ◌++◌, Some, length, take, get_or, refl, sym, ap, ◌∙◌, append-nil, length-append, arith}
+use Rattle.msgq_cli.specs.declared.command.Command.{Command}
+use Rattle.msgq_cli.specs.declared.command.Command.TheVariants as commands
 use Rattle.msgq_cli.specs.declared.line.Line.{Line}
 use Rattle.msgq_cli.specs.declared.reply.Reply.{Reply}
+use Rattle.msgq_cli.specs.declared.reply.Reply.TheVariants.{Failed}
 use Rattle.queue_model.specs.declared.entry.Entry.{Entry}
 use Rattle.replays.specs.Journal.{entry_at}
 use Rattle.threaded_runs.proofs.LineLemmas.{entries_more, other_more, own_more, room_at}
@@ -58,14 +61,14 @@ making_goes taken old d e line reply m its told same lines =
     }
 
 -- there is room for the reply to a line that is its own
-pub making_room : (i : ℕ) (old d : DeskView) (line : Line) → IsMaking (take i old.lines.lines) old d →
-    i < length old.lines.lines → get_or old.lines.lines i line ≡ line → line.seat ≡ d.lines.seat →
+pub making_room : (lines : List Line) (i : ℕ) (old d : DeskView) (line : Line) → lines ≡ old.lines.lines →
+    IsMaking (take i lines) old d → i < length lines → get_or lines i line ≡ line → line.seat ≡ d.lines.seat →
     length d.lines.replies < length (lines_of d.lines.seat d.lines.lines)
-making_room i old d line m below is at =
-    let fewer = room_at old.lines.seat old.lines.lines i line below is (at ∙ m.seat) in
+making_room lines i old d line whole m below is at =
+    let fewer = room_at old.lines.seat lines i line below is (at ∙ m.seat) in
     let all = m.all in
     let same = ap (λ (n : ℕ). length (lines_of n d.lines.lines)) m.seat
-        ∙ ap (λ (l : List Line). length (lines_of old.lines.seat l)) m.lines_are in
+        ∙ ap (λ (l : List Line). length (lines_of old.lines.seat l)) (m.lines_are ∙ sym whole) in
     omega (arith, fewer, all, same)
 
 pub making_ends : (old d : DeskView) → IsMaking old.lines.lines old d → IsMadeOf old d
@@ -80,3 +83,13 @@ making_ends old d m =
         told = m.told ∙ sym (ap (λ (l : List Line). entries_to l d.lines.replies) same);
       };
     }
+
+-- ---- a fault
+
+-- a line that is replied a fault has no entry
+pub no_entry : (line : Line) (fault : ℕ) → entry_at line (Some (Failed fault)) ≡ []
+no_entry line fault = by line.command
+  where
+    by : (c : Command) → entry_at (record line { command = c }) (Some (Failed fault)) ≡ []
+    by commands.Stop = refl
+    by (commands.Call call) = refl

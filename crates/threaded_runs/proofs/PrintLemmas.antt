@@ -8,7 +8,6 @@ use Rattle.msgq_cli.proofs.OutputLemmas.{Prints-nil, Prints-then}
 use Rattle.msgq_cli.specs.Answers.{reply_text}
 use Rattle.msgq_cli.specs.Outputs.{OutputState, Prints}
 use Rattle.msgq_cli.specs.Runs.{ending_of, is_fault, printed}
-use Rattle.msgq_cli.specs.Scripts.{Parts}
 use Rattle.msgq_cli.specs.declared.ending.Ending.{Ending}
 use Rattle.msgq_cli.specs.declared.ending.Ending.TheVariants.{Done, Faulty}
 use Rattle.msgq_cli.specs.declared.line.Line.{Line}
@@ -23,7 +22,7 @@ abbrev pub count_at : List ℕ → ℕ → ℕ
 count_at counts place = slice_index_or counts place 0
 
 -- the replies to these lines of a script were printed
-pub record ArePrinting (script : Parts) (taken : List Line) (desks : List DeskView) (counts : List ℕ)
+pub record ArePrinting (taken : List Line) (desks : List DeskView) (counts : List ℕ)
     (old now : OutputState) (ending : Ending) : Type 0 where
   pub replies : List Reply
   pub as_many : length replies ≡ length taken
@@ -43,9 +42,9 @@ length_zeros : (n : ℕ) → length {A = ℕ} (replicate n 0) ≡ n
 length_zeros zero = refl
 length_zeros (suc n) = ap suc (length_zeros n)
 
-pub printing_starts : (script : Parts) (desks : List DeskView) (counts : List ℕ) (o : OutputState) →
-    counts ≡ replicate (length desks) 0 → ArePrinting script [] desks counts o o Done
-printing_starts script desks counts o none = record {
+pub printing_starts : (desks : List DeskView) (counts : List ℕ) (o : OutputState) →
+    counts ≡ replicate (length desks) 0 → ArePrinting [] desks counts o o Done
+printing_starts desks counts o none = record {
   replies = [];
   as_many = refl;
   prints = Prints-nil o;
@@ -89,9 +88,9 @@ ending_push replies reply =
     by true = refl
     by false = refl
 
-module _ (script : Parts) (taken : List Line) (desks : List DeskView) (counts counts' : List ℕ)
+module _ (taken : List Line) (desks : List DeskView) (counts counts' : List ℕ)
     (old now next : OutputState) (ending ending' : Ending) (line : Line) (reply : Reply) (place : ℕ)
-    (p : ArePrinting script taken desks counts old now ending) (at : line.seat ≡ place + 1)
+    (p : ArePrinting taken desks counts old now ending) (at : line.seat ≡ place + 1)
     (below : place < length desks) (room : count_at counts place < length (desk_at desks place).lines.replies)
     (has : reply ≡ slice_index_or (desk_at desks place).lines.replies (count_at counts place) reply)
     (counts_more : counts' ≡ slice_set counts place (count_at counts place + 1))
@@ -137,7 +136,7 @@ module _ (script : Parts) (taken : List Line) (desks : List DeskView) (counts co
       ∙ p.own other few
       ∙ ap (λ (n : ℕ). take n (desk_at desks other).lines.replies) (sym (count_there other apart))
 
-  pub printing_goes : ArePrinting script (taken ++ line ∷ []) desks counts' old next ending'
+  pub printing_goes : ArePrinting (taken ++ line ∷ []) desks counts' old next ending'
   printing_goes = record {
     replies = p.replies ++ reply ∷ [];
     as_many = length-append p.replies (reply ∷ []) ∙ ap (λ (n : ℕ). n + 1) p.as_many
@@ -153,23 +152,23 @@ module _ (script : Parts) (taken : List Line) (desks : List DeskView) (counts co
 
 -- ---- at a line there is a reply that was not printed yet
 
-pub room_for : (script : Parts) (desks : List DeskView) (counts : List ℕ) (old now : OutputState) (ending : Ending)
-    (i place : ℕ) (line : Line) → AreOfSeats script.lines desks →
-    ArePrinting script (take i script.lines) desks counts old now ending → i < length script.lines →
-    get_or script.lines i line ≡ line → line.seat ≡ place + 1 → place < length desks →
+pub room_for : (lines : List Line) (desks : List DeskView) (counts : List ℕ) (old now : OutputState) (ending : Ending)
+    (i place : ℕ) (line : Line) → AreOfSeats lines desks →
+    ArePrinting (take i lines) desks counts old now ending → i < length lines →
+    get_or lines i line ≡ line → line.seat ≡ place + 1 → place < length desks →
     count_at counts place < length (desk_at desks place).lines.replies
-room_for script desks counts old now ending i place line all p below is at few =
-    let fewer = room_at (place + 1) script.lines i line below is at in
+room_for lines desks counts old now ending i place line all p below is at few =
+    let fewer = room_at (place + 1) lines i line below is at in
     let counted = p.counted place few in
     let many = (all.each place few).all in
     omega arith
 
 -- ---- all lines
 
-pub printed_all : (script : Parts) (desks : List DeskView) (counts : List ℕ) (old now : OutputState)
-    (ending : Ending) → AreOfSeats script.lines desks → ArePrinting script script.lines desks counts old now ending →
-    IsPrintedOf script desks old now ending
-printed_all script desks counts old now ending all p = record {
+pub printed_all : (lines : List Line) (desks : List DeskView) (counts : List ℕ) (old now : OutputState)
+    (ending : Ending) → AreOfSeats lines desks → ArePrinting lines desks counts old now ending →
+    IsPrintedOf lines desks old now ending
+printed_all lines desks counts old now ending all p = record {
   replies = p.replies;
   as_many = p.as_many;
   prints = p.prints;

@@ -3,7 +3,6 @@ use Rattle.std.specs.Prelude.{ℕ, ◌≡◌, ◌+◌, ◌≤◌, ◌<◌, List,
 use Rattle.std.specs.List.{All}
 use Rattle.msgq_cli.specs.Outputs.{OutputState, Prints}
 use Rattle.msgq_cli.specs.Runs.{ending_of, printed}
-use Rattle.msgq_cli.specs.Scripts.{Parts}
 use Rattle.msgq_cli.specs.declared.ending.Ending.{Ending}
 use Rattle.msgq_cli.specs.declared.line.Line.{Line}
 use Rattle.msgq_cli.specs.declared.reply.Reply.{Reply}
@@ -22,11 +21,11 @@ pub record AreOfSeats (lines : List Line) (desks : List DeskView) : Type 0 where
   pub each : (place : ℕ) → place < length desks → HasAll lines place (desk_at desks place).lines
 
 -- a reply to each line was printed, in the order of the script; those to the lines of a seat are its replies, in order
-pub record IsPrintedOf (script : Parts) (desks : List DeskView) (old new : OutputState) (ending : Ending) : Type 0
+pub record IsPrintedOf (lines : List Line) (desks : List DeskView) (old new : OutputState) (ending : Ending) : Type 0
     where
   pub replies : List Reply
-  pub as_many : length replies ≡ length script.lines
+  pub as_many : length replies ≡ length lines
   pub own : (place : ℕ) → place < length desks →
-      replies_to (place + 1) script.lines replies ≡ (desk_at desks place).lines.replies
-  pub prints : Prints old new (printed script.lines replies)
+      replies_to (place + 1) lines replies ≡ (desk_at desks place).lines.replies
+  pub prints : Prints old new (printed lines replies)
   pub ends : ending ≡ ending_of replies

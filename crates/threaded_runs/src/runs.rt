@@ -115,7 +115,7 @@ fn run_prepared<N: Room + Base + Send + Sync, C: Crew, D: PageDevice + Drop + Se
     let Plan { script, seats, mut printed } = plan;
     let desks = at_desks(started.seats, seats, desks);
     let desks = crew.make_all(&started.service, gauge, desks);
-    let so_far = print_all(script, desks.as_slice(), printed.as_mut_slice(), output);
+    let so_far = print_all(script.lines(), desks.as_slice(), printed.as_mut_slice(), output);
     output.flush();
     let is_untold = output.has_refused();
     let (ended, fault) = end_service(started.service, seats_of(desks, back), is_untold);
