@@ -1,6 +1,7 @@
 //! A call under way at a seat, and what is kept for its entry in the journal.
 
-ghost use Rattle.std.specs.Prelude.{◌≡◌, ◌+◌, ◌≤◌, ◌++◌, IfErr, IfOk, IfSome, IsSome, Some, length, false, true, vec_capacity};
+ghost use Rattle.std.specs.Prelude.{◌≡◌, ◌+◌, ◌≤◌, ◌++◌, IfErr, IfOk, IfSome, IsSome, None, Some, length, false, true, vec_capacity};
+ghost use Rattle.std.specs.Option.{is_some};
 ghost use Rattle.xsi_calls.specs.CallSteps.{MakesCall};
 ghost use Rattle.xsi_calls.specs.Machine.{IsOver, answer_of_call, call_locks, conclusion_of};
 ghost use Rattle.interleaving_core.specs.Active.{BeginsAgain, HasBegun, HasRoomAs, IsDrafted, IsMarked, decided_by, draft_by, drafted, entries_by, is_waiting, told_at_end};
@@ -187,6 +188,28 @@ impl Active {
         ensures { result ≡ is_waiting (conclusion_of self.now.machine) }
     {
         matches!(self.machine.conclusion(), Some(Conclusion::Waits))
+    }
+
+    /// Whether it has come to an answer.
+    pub(crate) fn is_answered(&self) -> bool
+        ensures { result ≡ is_some (answer_of_call self.now.machine) }
+    {
+        self.machine.is_answered()
+    }
+
+    /// Its call, which has no answer yet: the copy that was kept for its entry.
+    pub(crate) fn into_call(self) -> Call
+        requires { answer_of_call self.machine ≡ None }
+        ensures { result ≡ self.machine.call }
+    {
+        let Active {
+            machine: _,
+            draft,
+            begun: _,
+            decided: _,
+            wait: _,
+        } = self;
+        draft.unwrap().call
     }
 
     /// The call that will wait, and has given its names back, begins anew. Where an entry since its

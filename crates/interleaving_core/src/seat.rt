@@ -4,6 +4,7 @@ ghost use Rattle.std.specs.Prelude.{◌≡◌, ◌+◌, ◌≤◌, IfErr, IfOk, 
 ghost use Rattle.interleaving_core.specs.Active.{ActiveView, HasBegunAt};
 ghost use Rattle.interleaving_core.specs.Closing.{has_one};
 ghost use Rattle.interleaving_core.specs.Kernel.{due_at, locks_of};
+ghost use Rattle.interleaving_core.specs.Renewing.{MayGiveBack};
 ghost use Rattle.interleaving_core.specs.Turn.{Turns};
 ghost use Rattle.interleaving_core.specs.Words.{IsOver, IsReady, IsSeat, row_of};
 
@@ -108,6 +109,24 @@ impl Seat {
         self.last = Some(Active::begin(alloc, caller, call, many)?);
         self.is_busy = true;
         Ok(())
+    }
+
+    /// Takes its call back, where that has no answer yet.
+    pub(crate) fn withdraw(&mut self) -> Option<Call>
+        ensures { MayGiveBack result self.old self.new }
+    {
+        if !self.is_busy {
+            return None;
+        }
+        let Some(active) = &self.last else {
+            return None;
+        };
+        if active.is_answered() {
+            return None;
+        }
+        self.is_busy = false;
+        let active = self.last.take().unwrap();
+        Some(active.into_call())
     }
 
     /// A step of its call, if it has one: none while that waits, and nothing has woken it. A call

@@ -1,0 +1,226 @@
+-- What is done with a kernel between calls leaves it whole.
+use Rattle.std.proofs.Common.{ℕ, zero, suc, ◌≡◌, ◌≢◌, ◌↔◌, ◌+◌, ◌-◌, ◌≤◌, ◌<◌, refl, sym, ap, ◌∙◌, subst, inl, inr, Bool, true, false, not, ◌&&◌, IsSome, List, [], ◌∷◌, Option, Some, None, length, slice_get, slice_index_or, slice_set, map, arith}
+use Rattle.std.specs.Prelude.{IsTrue, sum_by}
+use Rattle.std.specs.List.{list_any}
+use Rattle.std.specs.Option.{is_some}
+use Rattle.std.proofs.lemmas.Bool.{and_parts, cases_eq}
+use Rattle.std.proofs.lemmas.List.{set-get_or, set-set}
+use Rattle.std.proofs.lemmas.Option.{slice_get-get_or}
+use Rattle.std.proofs.lemmas.List.Sums.{sum_by-cons}
+use Rattle.page_locks.proofs.ChangeLemmas.{with_row-own}
+use Rattle.interleaving_core.specs.Words.{Call, Caller, Entry, IsReady, IsSeat, Lock, PoolState, Table, answer_of_call, call_locks, caller_at, row_of, with_row}
+use Rattle.interleaving_core.specs.Active.{ActiveView}
+use Rattle.interleaving_core.specs.Closing.{has_one}
+use Rattle.interleaving_core.specs.Kernel.{IsCallOf, IsWhole, KernelState, call_at, due_at, due_for_stop, entries_of, locks_of, with_call}
+use Rattle.interleaving_core.specs.Past.{KeepsJournal}
+use Rattle.interleaving_core.specs.Renewing.{GivesBack, HasNothing, IsResting, IsWithdrawn, HasNone, KeepsCall, MayGiveBack, Withdraws}
+use Rattle.interleaving_core.proofs.KernelLemmas.{as_many, its_row, seat_there, slot_here}
+use Rattle.interleaving_core.proofs.PlaceLemmas.{Seats, at_other, at_same, due_with, length-with_call, rows_with, stop_due, with_own, with_place}
+
+-- ---- a row of locks
+
+-- it is empty where it has no last lock
+pub empty_row : (row : List Lock) → slice_get row (length row - 1) ≡ None → row ≡ []
+empty_row [] none = refl
+empty_row (lock ∷ row) none =
+    absurd (some_none (sym (slice_get-get_or (lock ∷ row) (length (lock ∷ row) - 1) lock (omega arith)) ∙ none))
+  where
+    some_none : {x : Lock} → ◌≡◌ {A = Option Lock} (Some x) None → ⊥
+    some_none clash = cc
+
+none_last : (row : List Lock) → row ≡ [] → slice_get row (length row - 1) ≡ None
+none_last row is = ap (λ (ls : List Lock). slice_get ls (length ls - 1)) is
+
+-- ---- a call is taken back
+
+module _ {K : Type 0} (seat : ℕ) (old : KernelState K) (whole : IsWhole old) (is : IsSeat old.locks seat) where
+  within_there : seat ≤ length old.seats
+  within_there = seat_there old whole seat is
+
+  -- the seats without its call
+  abbrev without : KernelState K
+  without = record old { seats = with_call old.seats seat None }
+
+  pub withdrawn_whole : row_of old.locks seat ≡ [] → IsWhole without
+  withdrawn_whole free = record {
+    ready = whole.ready;
+    rows = sym (with_row-own old.locks seat) ∙ ap (with_row old.locks seat) free
+        ∙ ap (λ (t : Table). with_row t seat []) whole.rows ∙ rows_with old.seats seat None;
+    callers = whole.callers ∙ sym (length-with_call old.seats seat None);
+    fitting = whole.fitting;
+    calls = λ other. elim (cases_eq other seat) [
+      | inl e ↦ subst (λ (n : ℕ). IsCallOf (caller_at old.callers n) (call_at without.seats n)) (sym e)
+          (subst (IsCallOf (caller_at old.callers seat)) (sym (at_same old.seats seat None is.0 within_there)) tt)
+      | inr ne ↦ subst (IsCallOf (caller_at old.callers other)) (sym (at_other old.seats seat other None ne))
+          (whole.calls other)
+    ];
+    room = let all = due_with old.seats seat None is.0 within_there in let had = whole.room in omega (arith, all, had);
+    few = let all = due_with old.seats seat None is.0 within_there in let had = whole.few in omega (arith, all, had);
+    past = λ other. elim (cases_eq other seat) [
+      | inl e ↦ subst (λ (n : ℕ). KeepsJournal n old.journal (call_at without.seats n)) (sym e)
+          (subst (KeepsJournal seat old.journal) (sym (at_same old.seats seat None is.0 within_there)) tt)
+      | inr ne ↦ subst (KeepsJournal other old.journal) (sym (at_other old.seats seat other None ne))
+          (whole.past other)
+    ];
+    blamed = whole.blamed;
+    counted = whole.counted ∙ sym (length-with_call old.seats seat None);
+  }
+
+  -- what the seat gives back, the kernel does
+  module _ (free : row_of old.locks seat ≡ []) (slot left : Option ActiveView)
+      (at : slot ≡ slice_index_or old.seats (seat - 1) slot) where
+    here : slot ≡ call_at old.seats seat
+    here = slot_here old.seats seat slot is.0 within_there at
+
+    seats_are : (o : Option ActiveView) → left ≡ o → slice_set old.seats (seat - 1) left ≡ with_call old.seats seat o
+    seats_are o left_is = with_place old.seats seat left is.0 ∙ ap (with_call old.seats seat) left_is
+
+    back_whole : (back : Option Call) → MayGiveBack back slot left →
+        IsWhole (record old { seats = slice_set old.seats (seat - 1) left })
+    back_whole None kept =
+        subst (λ (x : Seats). IsWhole (record old { seats = x }))
+        (sym (seats_are (call_at old.seats seat) (kept.same ∙ here) ∙ with_own old.seats seat)) whole
+    back_whole (Some call) back =
+        subst (λ (x : Seats). IsWhole (record old { seats = x })) (sym (seats_are None back.none))
+        (withdrawn_whole free)
+
+    withdraws : (back : Option Call) → MayGiveBack back slot left →
+        Withdraws seat back old (record old { seats = slice_set old.seats (seat - 1) left })
+    withdraws None kept = record {
+      same = ap (λ (x : Seats). record old { seats = x })
+          (seats_are (call_at old.seats seat) (kept.same ∙ here) ∙ with_own old.seats seat);
+      none = λ a there nothing. kept.answered a (here ∙ there) nothing.unanswered;
+    }
+    withdraws (Some call) back = record {
+      active = back.active;
+      there = sym here ∙ back.there;
+      nothing = record {
+        free = sym (its_row old whole seat ∙ ap locks_of (sym here ∙ back.there)) ∙ free;
+        unanswered = back.unanswered;
+      };
+      call_is = back.call_is;
+      is = ap (λ (x : Seats). record old { seats = x }) (seats_are None back.none);
+    }
+
+  -- a seat that holds a lock gives none back
+  pub holds_some : is_some (slice_get (row_of old.locks seat) (length (row_of old.locks seat) - 1)) ≡ true →
+      Withdraws seat None old old
+  holds_some some = record {
+    same = refl;
+    none = λ a there nothing.
+        let empty : row_of old.locks seat ≡ [] =
+        its_row old whole seat ∙ ap locks_of there ∙ nothing.free in
+        let last = none_last (row_of old.locks seat) empty in
+        let clash : true ≡ false = sym some ∙ ap is_some last in
+        absurd cc;
+  }
+
+-- ---- at rest
+
+pub none_has : (seats : Seats) → list_any has_one seats ≡ false → (seat : ℕ) → call_at seats seat ≡ None
+none_has seats none zero = refl
+none_has [] none (suc place) = refl
+none_has (None ∷ xs) none (suc zero) = refl
+none_has (None ∷ xs) none (suc (suc place)) = none_has xs none (suc place)
+none_has (Some a ∷ xs) none (suc place) = absurd cc
+
+pub has_none : (seats : Seats) → ((seat : ℕ) → call_at seats seat ≡ None) → list_any has_one seats ≡ false
+has_none [] idle = refl
+has_none (None ∷ xs) idle = has_none xs (λ seat. by seat)
+  where
+    by : (seat : ℕ) → call_at xs seat ≡ None
+    by zero = refl
+    by (suc place) = idle (suc (suc place))
+has_none (Some a ∷ xs) idle = absurd (some_none (idle 1))
+  where
+    some_none : ◌≡◌ {A = Option ActiveView} (Some a) None → ⊥
+    some_none clash = cc
+
+none_due : (seats : Seats) → ((seat : ℕ) → call_at seats seat ≡ None) → sum_by due_at seats ≡ 0
+none_due [] idle = refl
+none_due (None ∷ xs) idle =
+    sum_by-cons due_at None xs ∙ ap (λ (n : ℕ). due_at None + n) (none_due xs (λ seat. by seat))
+  where
+    by : (seat : ℕ) → call_at xs seat ≡ None
+    by zero = refl
+    by (suc place) = idle (suc (suc place))
+none_due (Some a ∷ xs) idle = absurd (some_none (idle 1))
+  where
+    some_none : ◌≡◌ {A = Option ActiveView} (Some a) None → ⊥
+    some_none clash = cc
+
+pub rests : {K : Type 0} (s : KernelState K) → (b : Bool) →
+    b ≡ (not s.failed && not (list_any has_one s.seats)) → IsTrue b ↔ IsResting s
+rests s b is = (
+  λ yes_it. by s.failed (list_any has_one s.seats) refl refl (sym is ∙ yes_it),
+  λ rest. is ∙ ap (λ (x : Bool). not x && not (list_any has_one s.seats)) rest.sound
+      ∙ ap not (has_none s.seats rest.idle),
+)
+  where
+    by : (failed has : Bool) → s.failed ≡ failed → list_any has_one s.seats ≡ has →
+        (not s.failed && not (list_any has_one s.seats)) ≡ true → IsResting s
+    by failed has failed_is has_is both =
+        let parts = and_parts (not s.failed) (not (list_any has_one s.seats)) both in
+        record {
+          sound = none_of s.failed parts.0;
+          idle = none_has s.seats (none_of (list_any has_one s.seats) parts.1);
+        }
+      where
+        none_of : (x : Bool) → not x ≡ true → x ≡ false
+        none_of true clash = absurd cc
+        none_of false clash = refl
+
+pub renewed_whole : {K : Type 0} (old : KernelState K) (room : ℕ) → IsWhole old → IsResting old → 1 ≤ room →
+    IsWhole (record old { journal = []; room = room })
+renewed_whole {K} old room whole rest more = record {
+  ready = whole.ready;
+  rows = whole.rows;
+  callers = whole.callers;
+  fitting = whole.fitting;
+  calls = whole.calls;
+  room = let due = few in omega (arith, due, more);
+  few = let due = few in omega (arith, due);
+  past = λ seat. subst (KeepsJournal seat []) (sym (rest.idle seat)) tt;
+  blamed = whole.blamed;
+  counted = whole.counted;
+}
+  where
+    few : entries_of (record old { journal = []; room = room }) ≤ 1
+    few =
+        let none = none_due old.seats rest.idle in
+        let stop = stop_due old.stopped in
+        omega (arith, none, stop)
+
+-- ---- its pages
+
+-- frames enough, and no page is pinned
+pub still_ready : (old new : PoolState) → IsReady old → new.pins ≡ old.pins → new.frames ≡ old.frames → IsReady new
+still_ready old new ready pins frames = record {
+  rest = λ page. ap (λ (ps : List ℕ). slice_index_or ps page 0) pins ∙ ready.rest page;
+  frames = let least = ready.frames in omega (arith, least, frames);
+}
+
+pub pool_whole : {K : Type 0} (old : KernelState K) (pool : PoolState) → IsWhole old → pool.pins ≡ old.pool.pins →
+    pool.frames ≡ old.pool.frames → IsWhole (record old { pool = pool })
+pool_whole old pool whole pins frames = record {
+  ready = still_ready old.pool pool whole.ready pins frames;
+  rows = whole.rows;
+  callers = whole.callers;
+  fitting = whole.fitting;
+  calls = whole.calls;
+  room = whole.room;
+  few = whole.few;
+  past = whole.past;
+  blamed = whole.blamed;
+  counted = whole.counted;
+}
+
+-- a pin that is given back leaves the pins as they were
+pub unpinned : (pins : List ℕ) (page : ℕ) → slice_index_or pins page 0 ≡ 0 → (twice : List ℕ) (now : ℕ) →
+    twice ≡ slice_set pins page (slice_index_or pins page 0 + 1) → now ≡ slice_index_or pins page 0 + 1 →
+    slice_set twice page (now - 1) ≡ pins
+unpinned pins page none twice now once pinned =
+    let zero_now : now - 1 ≡ slice_index_or pins page 0 = omega (arith, pinned) in
+    ap (λ (ps : List ℕ). slice_set ps page (now - 1)) once
+    ∙ set-set pins page (slice_index_or pins page 0 + 1) (now - 1)
+    ∙ ap (slice_set pins page) zero_now ∙ set-get_or pins page 0
