@@ -4,7 +4,7 @@ use Rattle.std.specs.Prelude.{ℕ, ◌≡◌, Bool, true, false, IsTrue, List, [
 use Rattle.page_device.specs.Device.{HasRisen}
 use Rattle.page_device.specs.Sealed.{IsSealed, payload_of}
 use Rattle.buffer_pool.specs.Pool.{KeepsImages, MayNotPin, PoolHasCause, image_of}
-use Rattle.buffer_pool.specs.declared.fault.PoolFault.{PoolFault}
+pub use Rattle.buffer_pool.specs.declared.fault.PoolFault.{PoolFault}
 use Rattle.file_pages.specs.declared.fault.FileFault.TheVariants.{Pool}
 use Rattle.interleaving_core.specs.Words.{Call, Entry, PoolState, answer_of_call, call_locks}
 use Rattle.interleaving_core.specs.Active.{ActiveView}

@@ -12,4 +12,5 @@ pub mod OwedLemmas
 pub mod UnderWayLemmas
 pub mod RisenLemmas
 pub mod PlayedLemmas
+pub mod RenewLemmas
 pub use Rattle.interleaving_core.proofs as of_interleaving_core
