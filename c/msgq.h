@@ -63,7 +63,7 @@ struct msgq_change {
     int32_t mode;
 };
 
-/* Makes a file of so many pages of 4,096 bytes, 34 to 65,536, without queues. EEXIST where there is one of this name; EINVAL for
+/* Makes a file of so many pages of 4,096 bytes, 258 to 65,536, without queues. EEXIST where there is one of this name; EINVAL for
  * another number of pages. */
 int msgq_create(const char *path, uint32_t pages);
 

@@ -1,3 +1,4 @@
+/* A file of queues and its journal: opened, recovered, saved. */
 #include "pair.h"
 
 #include <errno.h>
@@ -247,7 +248,7 @@ void pair_close(struct pair *pair) {
 }
 
 int pair_read(const struct pair *pair, uint8_t **bytes, size_t *count) {
-    uint64_t size;
+    uint64_t size = 0;
     int wrong = size_of(pair->file, &size);
     if (wrong != 0)
         return wrong;
