@@ -337,8 +337,11 @@ int pair_save(const struct pair *pair, struct handle *session) {
     uint8_t *is_changed = calloc(pages, 1);
     if (is_changed == NULL)
         return ENOMEM;
-    /* What stands in it is no whole journal. */
-    int wrong = end_journal(pair->journal);
+    /* What stands in it, where it was opened so, is no whole journal. */
+    uint64_t torn = 0;
+    int wrong = size_of(pair->journal, &torn);
+    if (wrong == 0 && torn > 0)
+        wrong = end_journal(pair->journal);
     if (wrong == 0)
         wrong = journal_changes(pair, session, pages, is_changed, &some);
     if (wrong == 0 && some && (wrong = sync_file(pair->journal)) == 0

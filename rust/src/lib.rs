@@ -309,7 +309,11 @@ impl Queues {
 
     /// Saves, and lets go of the file. Where it can't be saved what has changed is lost.
     pub fn close(self) -> Result<(), Error> {
-        self.save()
+        // SAFETY: the file is open, and nobody else has it: so no call waits.
+        must(unsafe { raw::msgq_close(self.at) })?;
+        // It is gone.
+        std::mem::forget(self);
+        Ok(())
     }
 }
 

@@ -3,17 +3,21 @@ use Rattle.std.proofs.Common.{ℕ, zero, suc, ◌≡◌, ◌≢◌, ◌↔◌, �
 use Rattle.std.specs.Prelude.{IsTrue, sum_by}
 use Rattle.std.specs.List.{list_any}
 use Rattle.std.specs.Option.{is_some}
-use Rattle.std.proofs.lemmas.Bool.{and_parts, cases_eq}
+use Rattle.std.proofs.lemmas.Bool.{and_parts, cases_eq, true≢false}
 use Rattle.std.proofs.lemmas.List.{set-get_or, set-set}
-use Rattle.std.proofs.lemmas.Option.{slice_get-get_or}
+use Rattle.std.proofs.lemmas.Option.{get_or_from_slice_get, slice_get-get_or}
+use Rattle.buffer_pool.specs.Pool.{KeepsImages, image_of, pins_at}
+use Rattle.page_device.specs.Sealed.{IsSealed, payload_of}
 use Rattle.std.proofs.lemmas.List.Sums.{sum_by-cons}
 use Rattle.page_locks.proofs.ChangeLemmas.{with_row-own}
-use Rattle.interleaving_core.specs.Words.{Call, Caller, Entry, IsReady, IsSeat, Lock, PoolState, Table, answer_of_call, call_locks, caller_at, row_of, with_row}
-use Rattle.interleaving_core.specs.Active.{ActiveView}
+use Rattle.interleaving_core.specs.Words.{Call, CallView, Caller, Entry, IsReady, IsSeat, Lock, PoolState, Table, answer_of_call, call_locks, caller_at, row_of, with_row}
+use Rattle.interleaving_core.specs.Active.{ActiveView, IsDrafted}
 use Rattle.interleaving_core.specs.Closing.{has_one}
 use Rattle.interleaving_core.specs.Kernel.{IsCallOf, IsWhole, KernelState, call_at, due_at, due_for_stop, entries_of, locks_of, with_call}
 use Rattle.interleaving_core.specs.Past.{KeepsJournal}
-use Rattle.interleaving_core.specs.Renewing.{GivesBack, HasNothing, IsResting, IsWithdrawn, HasNone, KeepsCall, MayGiveBack, Withdraws}
+use Rattle.interleaving_core.specs.Renewing.{GivesBack, HasNone, HasNothing, IsRead, IsResting, IsWithdrawn, KeepsCall, MayGiveBack, Withdraws}
+use Rattle.interleaving_core.specs.declared.active.Draft.{Draft}
+use Rattle.interleaving_core.specs.declared.fault.Failure.{Failure}
 use Rattle.interleaving_core.proofs.KernelLemmas.{as_many, its_row, seat_there, slot_here}
 use Rattle.interleaving_core.proofs.PlaceLemmas.{Seats, at_other, at_same, due_with, length-with_call, rows_with, stop_due, with_own, with_place}
 
@@ -32,6 +36,40 @@ none_last : (row : List Lock) → row ≡ [] → slice_get row (length row - 1) 
 none_last row is = ap (λ (ls : List Lock). slice_get ls (length ls - 1)) is
 
 -- ---- a call is taken back
+
+pub none_by : {A : Type 0} (o : Option A) → is_some o ≡ false → o ≡ None
+none_by None is = refl
+none_by (Some a) is = absurd cc
+
+-- what is kept for its entry is there, and has a copy of it
+pub kept_for : (m : CallView) (d : Option Draft) → IsDrafted m d → answer_of_call m ≡ None → is_some d ≡ true
+kept_for m None kept none = absurd (true≢false (sym kept ∙ ap is_some none))
+kept_for m (Some d) kept none = refl
+
+pub its_copy : (m : CallView) (o : Option Draft) (d : Draft) → IsDrafted m o → o ≡ Some d → d.call ≡ m.call
+its_copy m None d kept is = absurd cc
+its_copy m (Some x) d kept is = let same : x ≡ d = cc in ap (λ (y : Draft). y.call) (sym same) ∙ kept.call
+
+pub keeps_none : (old new : Option ActiveView) → old ≡ None → new ≡ None → KeepsCall old new
+keeps_none old new before behind = record {
+  same = behind ∙ sym before;
+  answered = λ a there. absurd (none_some (sym before ∙ there));
+}
+  where
+    none_some : {a : ActiveView} → ◌≡◌ {A = Option ActiveView} None (Some a) → ⊥
+    none_some clash = cc
+
+pub keeps_answered : (a : ActiveView) (old new : Option ActiveView) → old ≡ Some a → new ≡ old →
+    is_some (answer_of_call a.machine) ≡ true → KeepsCall old new
+keeps_answered a old new there same answered = record {
+  same = same;
+  answered = λ b is none. by b (sym there ∙ is) none;
+}
+  where
+    by : (b : ActiveView) → ◌≡◌ {A = Option ActiveView} (Some a) (Some b) → answer_of_call b.machine ≡ None → ⊥
+    by b is none =
+        let same : a ≡ b = cc in
+        true≢false (sym answered ∙ ap (λ (x : ActiveView). is_some (answer_of_call x.machine)) same ∙ ap is_some none)
 
 module _ {K : Type 0} (seat : ℕ) (old : KernelState K) (whole : IsWhole old) (is : IsSeat old.locks seat) where
   within_there : seat ≤ length old.seats
@@ -152,14 +190,13 @@ none_due (Some a ∷ xs) idle = absurd (some_none (idle 1))
 pub rests : {K : Type 0} (s : KernelState K) → (b : Bool) →
     b ≡ (not s.failed && not (list_any has_one s.seats)) → IsTrue b ↔ IsResting s
 rests s b is = (
-  λ yes_it. by s.failed (list_any has_one s.seats) refl refl (sym is ∙ yes_it),
+  λ so. by (sym is ∙ so),
   λ rest. is ∙ ap (λ (x : Bool). not x && not (list_any has_one s.seats)) rest.sound
       ∙ ap not (has_none s.seats rest.idle),
 )
   where
-    by : (failed has : Bool) → s.failed ≡ failed → list_any has_one s.seats ≡ has →
-        (not s.failed && not (list_any has_one s.seats)) ≡ true → IsResting s
-    by failed has failed_is has_is both =
+    by : (not s.failed && not (list_any has_one s.seats)) ≡ true → IsResting s
+    by both =
         let parts = and_parts (not s.failed) (not (list_any has_one s.seats)) both in
         record {
           sound = none_of s.failed parts.0;
@@ -200,6 +237,21 @@ still_ready old new ready pins frames = record {
   frames = let least = ready.frames in omega (arith, least, frames);
 }
 
+pub failed_whole : {K : Type 0} (old : KernelState K) (failure : Failure) → IsWhole old →
+    IsWhole (record old { failed = true; failure = Some failure })
+failed_whole old failure whole = record {
+  ready = whole.ready;
+  rows = whole.rows;
+  callers = whole.callers;
+  fitting = whole.fitting;
+  calls = whole.calls;
+  room = whole.room;
+  few = whole.few;
+  past = whole.past;
+  blamed = refl;
+  counted = whole.counted;
+}
+
 pub pool_whole : {K : Type 0} (old : KernelState K) (pool : PoolState) → IsWhole old → pool.pins ≡ old.pool.pins →
     pool.frames ≡ old.pool.frames → IsWhole (record old { pool = pool })
 pool_whole old pool whole pins frames = record {
@@ -216,11 +268,50 @@ pool_whole old pool whole pins frames = record {
 }
 
 -- a pin that is given back leaves the pins as they were
-pub unpinned : (pins : List ℕ) (page : ℕ) → slice_index_or pins page 0 ≡ 0 → (twice : List ℕ) (now : ℕ) →
+pub unpinned : (pins : List ℕ) (page : ℕ) (twice : List ℕ) (now : ℕ) →
     twice ≡ slice_set pins page (slice_index_or pins page 0 + 1) → now ≡ slice_index_or pins page 0 + 1 →
     slice_set twice page (now - 1) ≡ pins
-unpinned pins page none twice now once pinned =
+unpinned pins page twice now once pinned =
     let zero_now : now - 1 ≡ slice_index_or pins page 0 = omega (arith, pinned) in
     ap (λ (ps : List ℕ). slice_set ps page (now - 1)) once
     ∙ set-set pins page (slice_index_or pins page 0 + 1) (now - 1)
     ∙ ap (slice_set pins page) zero_now ∙ set-get_or pins page 0
+
+-- a page is pinned, sealed, and its pin given back
+module _ {K : Type 0} (old : KernelState K) (whole : IsWhole old) (page frame : ℕ) (held back : PoolState)
+    (frame_is : frame ≡ page) (once : pins_at held page ≡ pins_at old.pool page + 1)
+    (pins : held.pins ≡ slice_set old.pool.pins page (pins_at old.pool page + 1))
+    (keeps : KeepsImages true old.pool held)
+    (back_is : back ≡ record held { pins = slice_set held.pins frame (pins_at held frame - 1) }) where
+  same_pins : back.pins ≡ old.pool.pins
+  same_pins = ap (λ (p : PoolState). p.pins) back_is
+      ∙ ap (λ (n : ℕ). slice_set held.pins n (pins_at held n - 1)) frame_is
+      ∙ unpinned old.pool.pins page held.pins (pins_at held page) pins once
+
+  still : KeepsImages true old.pool (record held { pins = slice_set held.pins frame (pins_at held frame - 1) })
+  still = record {
+    images = keeps.images;
+    pinned = keeps.pinned;
+    as_many = keeps.as_many;
+    frames = keeps.frames;
+    honest = keeps.honest;
+    seals = keeps.seals;
+  }
+
+  keeps_back : KeepsImages true old.pool back
+  keeps_back = subst (KeepsImages true old.pool) (sym back_is) still
+
+  pub read_whole : IsWhole (record old { pool = back })
+  read_whole = pool_whole old back whole same_pins keeps_back.frames
+
+  pub page_read : (bytes image : List ℕ) → slice_get held.images frame ≡ Some image → payload_of bytes ≡ image →
+      IsSealed page bytes → IsRead page bytes old (record old { pool = back })
+  page_read bytes image at payload sealed = record {
+    stay = record { is = refl; pins = same_pins; keeps = keeps_back };
+    is = record {
+      payload = payload ∙ sym (get_or_from_slice_get held.images frame image [] at)
+          ∙ ap (λ (n : ℕ). slice_index_or held.images n []) frame_is
+          ∙ sym (ap (λ (p : PoolState). image_of p page) back_is);
+      sealed = sealed;
+    };
+  }

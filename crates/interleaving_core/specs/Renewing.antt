@@ -90,7 +90,7 @@ pub record HasPages {K : Type 0} (old new : KernelState K) : Type 0 where
   pub written : IsFlushedTo old.pool new.pool.stored
   pub synced : IsTrue new.pool.synced
 
-pub record IsFlushed {K : Type 0} (old new : KernelState K) : Type 0 where
+pub record HasFlushed {K : Type 0} (old new : KernelState K) : Type 0 where
   pub stay : KeepsPages old new
   pub has : IsTrue old.pool.honest → HasPages old new
 
@@ -102,7 +102,7 @@ pub record FailsToFlush {K : Type 0} (told : CloseFault) (old new : KernelState 
   pub cause : HasRisen old.pool.faults new.pool.faults
 
 abbrev pub Flushes : {K : Type 0} → Result Unit CloseFault → (old new : KernelState K) → Type 0
-Flushes (Ok done) old new = IsFlushed old new
+Flushes (Ok done) old new = HasFlushed old new
 Flushes (Err told) old new = FailsToFlush told old new
 
 -- a page as it is written: the image of this number, sealed

@@ -8,7 +8,7 @@ use Rattle.concurrent_calls.specs.Together.{AreTogether, IsStillToCount, IsWell,
 use Rattle.concurrent_calls.specs.Words.{Records, StandsAt, counter_key, overlaid, owes_at, row_of}
 use Rattle.file_pages.specs.Files.{IsFilePool, SpellsFile}
 use Rattle.interleaving_core.proofs.PlaceLemmas.{at_other, at_same, length-with_call, seat_of_call}
-use Rattle.interleaving_core.specs.Renewing.{IsFailedBy, IsFlushed, IsRenewed, IsResting, IsWithdrawn, KeepsPages, PoolFault, failure_of_pool}
+use Rattle.interleaving_core.specs.Renewing.{IsFailedBy, HasFlushed, IsRenewed, IsResting, IsWithdrawn, KeepsPages, PoolFault, failure_of_pool}
 use Rattle.interleaving_core.specs.search_counts.Counting.{count_at}
 use Rattle.interleaving_core.specs.xsi_calls.Words.{Change, guard_of, kind_of, world}
 use Rattle.page_device.specs.Sealed.{IsSealed}

@@ -1,6 +1,6 @@
 -- Laws of kernels that refine a system and serve for long. Each is the contract of a function of renewing.rt.
 use Rattle.std.specs.Prelude.{ℕ, List}
-use Rattle.interleaving_core.specs.Renewing.{IsFailedBy, IsFlushed, IsRenewed, IsResting, IsWithdrawn, KeepsPages, PoolFault}
+use Rattle.interleaving_core.specs.Renewing.{IsFailedBy, HasFlushed, IsRenewed, IsResting, IsWithdrawn, KeepsPages, PoolFault}
 use Rattle.interleavings.specs.Words.{Call, Entry, IsFileOf, IsLawful, KernelState, RecordKey, State, after, restarted}
 use Rattle.interleavings.specs.Refining.{Refines}
 
@@ -33,7 +33,7 @@ pub record HasItsFile {K : Type 0} (hash : RecordKey → ℕ) (base : State) (k 
 -- by what Kernel::flush promises of an honest device, as that of a kernel which refines a system is
 abbrev pub FlushesRefine : Type 0 → Type 0
 FlushesRefine K = (hash : RecordKey → ℕ) (base : State) (old new : KernelState K) → Refines hash base old →
-    IsResting old → IsFlushed old new → HasItsFile hash base new
+    IsResting old → HasFlushed old new → HasItsFile hash base new
 
 -- by what both promise where they fail
 abbrev pub FailuresRefine : Type 0 → Type 0

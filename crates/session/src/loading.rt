@@ -1,13 +1,13 @@
 //! The pages of a file, from its bytes.
 
-ghost use Rattle.std.specs.Prelude.{◌≡◌, ◌/◌, IfOk, length};
+ghost use Rattle.std.specs.Prelude.{◌≡◌, ◌/◌, ◌++◌, ◌∷◌, [], IfOk, length};
 ghost use Rattle.session.specs.Session.{pages_in};
 ghost use Rattle.page_device.specs.declared.page.TheConstants.{PAGE_BYTES};
 
+use file_walk::StructureFault;
 use interleaving_core::OpenFault;
 use interleaving_core::file_check::CheckFault;
-use file_walk::StructureFault;
-use page_device::{DeviceFault, MemDevice, PAGE_BYTES};
+use page_device::{DeviceFault, MemDevice, PAGE_BYTES, PageDevice};
 use std::alloc::Global;
 
 /// The pages that these bytes are. Bytes that are not whole pages are those of a file that is cut,
