@@ -126,11 +126,7 @@ impl SetCall {
     pub(crate) fn call(&self) -> Call
         ensures { result ≡ set_of self.now }
     {
-        let mode = if self.has_mode {
-            Some(self.mode)
-        } else {
-            None
-        };
+        let mode = if self.has_mode { Some(self.mode) } else { None };
         Call::Set(SetArguments {
             id: self.id,
             qbytes: self.qbytes,

@@ -122,8 +122,7 @@ module _ (answers : AnswersLoneCalls ShaKey) (call : Call) (old first begun last
   pub told_waiting : did ≡ steps.Waiting → (back : Option Call) (new : SessionState) → Withdraws 1 back last new →
       (s : State) → Holds s old → Becomes call s (Err Waits) old new
   told_waiting is_d back new went s holds =
-      let waits = behind s holds steps.Waiting is_d in
-      (
+      let waits = behind s holds steps.Waiting is_d in (
         ap (λ (c : Option Caller). outcome_for c call s) its_caller ∙ waits.none,
         withdrawn call has.caller s last waits back new went,
       )
