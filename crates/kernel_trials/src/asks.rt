@@ -45,119 +45,42 @@ pub enum Asks {
     Remove(u32),
 }
 
-const GET: GetArguments = GetArguments {
-    key: None,
-    create: true,
-    excl: false,
-    mode: 0o666,
-    moment: 1,
-};
-
-const RECEIVE: ReceiveArguments = ReceiveArguments {
-    id: 0,
-    size: 1024,
-    mtype: 0,
-    nowait: false,
-    noerror: false,
-    moment: 3,
-};
-
-const SET: SetArguments = SetArguments {
-    id: 0,
-    qbytes: 0,
-    uid: None,
-    gid: None,
-    mode: None,
-    moment: 4,
-};
-
 impl Asks {
     /// The call.
     pub fn to_call(self, alloc: Global) -> Result<Call, Fail> {
         Ok(match self {
-            Asks::Get(key) => Call::Get(GetArguments {
-                key: Some(key),
-                ..GET
-            }),
-            Asks::GetMode(key, mode) => Call::Get(GetArguments {
-                key: Some(key),
-                mode,
-                ..GET
-            }),
-            Asks::GetNew(key) => Call::Get(GetArguments {
-                key: Some(key),
-                excl: true,
-                ..GET
-            }),
-            Asks::Find(key) => Call::Get(GetArguments {
-                key: Some(key),
-                create: false,
-                ..GET
-            }),
-            Asks::FindExcl(key) => Call::Get(GetArguments {
-                key: Some(key),
-                create: false,
-                excl: true,
-                ..GET
-            }),
-            Asks::Private => Call::Get(GET),
-            Asks::Send(id, mtype, text) => send(
-                id,
-                mtype,
-                Vec::from_slice(alloc, text.as_bytes())?,
-                false,
-            ),
-            Asks::SendNow(id, mtype, text) => send(
-                id,
-                mtype,
-                Vec::from_slice(alloc, text.as_bytes())?,
-                true,
-            ),
+            Asks::Get(key) => get(Some(key), true, false, 0o666),
+            Asks::GetMode(key, mode) => get(Some(key), true, false, mode),
+            Asks::GetNew(key) => get(Some(key), true, true, 0o666),
+            Asks::Find(key) => get(Some(key), false, false, 0o666),
+            Asks::FindExcl(key) => get(Some(key), false, true, 0o666),
+            Asks::Private => get(None, true, false, 0o666),
+            Asks::Send(id, mtype, text) => send(id, mtype, bytes_of(alloc, text)?, false),
+            Asks::SendNow(id, mtype, text) => send(id, mtype, bytes_of(alloc, text)?, true),
             Asks::SendLong(mtype, bytes) => send(1, mtype, letters(alloc, bytes)?, false),
-            Asks::Receive(id, mtype) => Call::Receive(ReceiveArguments {
-                id,
-                mtype,
-                ..RECEIVE
-            }),
-            Asks::ReceiveNow(id, mtype) => Call::Receive(ReceiveArguments {
-                id,
-                mtype,
-                nowait: true,
-                ..RECEIVE
-            }),
-            Asks::ReceiveShort(id, mtype, size) => Call::Receive(ReceiveArguments {
-                id,
-                mtype,
-                size,
-                ..RECEIVE
-            }),
-            Asks::ReceiveCut(id, mtype, size) => Call::Receive(ReceiveArguments {
-                id,
-                mtype,
-                size,
-                noerror: true,
-                ..RECEIVE
-            }),
+            Asks::Receive(id, mtype) => receive(id, mtype, 1024, false, false),
+            Asks::ReceiveNow(id, mtype) => receive(id, mtype, 1024, true, false),
+            Asks::ReceiveShort(id, mtype, size) => receive(id, mtype, size, false, false),
+            Asks::ReceiveCut(id, mtype, size) => receive(id, mtype, size, false, true),
             Asks::Stat(id) => Call::Stat { id },
-            Asks::Set(id, qbytes) => Call::Set(SetArguments { id, qbytes, ..SET }),
-            Asks::SetMode(id, qbytes, mode) => Call::Set(SetArguments {
-                id,
-                qbytes,
-                mode: Some(mode),
-                ..SET
-            }),
-            Asks::SetOwner(id, qbytes, uid) => Call::Set(SetArguments {
-                id,
-                qbytes,
-                uid: Some(uid),
-                ..SET
-            }),
+            Asks::Set(id, qbytes) => set(id, qbytes, None, None),
+            Asks::SetMode(id, qbytes, mode) => set(id, qbytes, None, Some(mode)),
+            Asks::SetOwner(id, qbytes, uid) => set(id, qbytes, Some(uid), None),
             Asks::Remove(id) => Call::Remove { id },
         })
     }
 }
 
-/// A Send.
+fn get(key: Option<u32>, create: bool, excl: bool, mode: u16) -> Call {
+    Call::Get(GetArguments {
+        key,
+        create,
+        excl,
+        mode,
+        moment: 1,
+    })
+}
+
 fn send(id: u32, mtype: i64, bytes: Vec<u8>, nowait: bool) -> Call {
     Call::Send(SendArguments {
         id,
@@ -166,6 +89,33 @@ fn send(id: u32, mtype: i64, bytes: Vec<u8>, nowait: bool) -> Call {
         nowait,
         moment: 2,
     })
+}
+
+fn receive(id: u32, mtype: i64, size: u32, nowait: bool, noerror: bool) -> Call {
+    Call::Receive(ReceiveArguments {
+        id,
+        size,
+        mtype,
+        nowait,
+        noerror,
+        moment: 3,
+    })
+}
+
+fn set(id: u32, qbytes: u32, uid: Option<u32>, mode: Option<u16>) -> Call {
+    Call::Set(SetArguments {
+        id,
+        qbytes,
+        uid,
+        gid: None,
+        mode,
+        moment: 4,
+    })
+}
+
+/// The bytes of a text.
+fn bytes_of(alloc: Global, text: &str) -> Result<Vec<u8>, Fail> {
+    Ok(Vec::from_slice(alloc, text.as_bytes())?)
 }
 
 /// So many letters.

@@ -1,13 +1,12 @@
 //! A kernel is closed, and its file opened anew.
 
-use crate::asks::Asks::{Get, Receive, Send};
+use crate::asks::Asks::{Get, Receive, Send, Stat};
 use crate::cases::close;
-use crate::rows::Row::{Begins, Calls, Drives};
+use crate::rows::Row::{Begins, Calls, Drives, IsBusy};
 use crate::rows::Want::{Id, Message, Sent};
-use crate::rows::{CALLERS, Row, begin, new_kernel, show};
+use crate::rows::{Row, new_kernel, open, show};
 use bucket_page::ShaKey;
-use interleaving_core::{BeginFault, Closed, Kernel, NotClosed, OpenFault};
-use queue_model::Call;
+use interleaving_core::{Closed, NotClosed, OpenFault};
 use std::process::Abort;
 use std::test::Fail;
 
@@ -27,7 +26,7 @@ fn what_was_left_is_found(rt: HostRuntime) -> Result<(), Fail> {
     show(&rt, &mut kernel, &LEFT)?;
     let Closed { device, journal } = close(&rt, kernel);
     assert!(rt; journal.len() == 2);
-    match Kernel::open(rt.alloc(), device, ShaKey, &CALLERS, 28) {
+    match open(rt.alloc(), device, ShaKey, 28) {
         Ok(mut kernel) => show(&rt, &mut kernel, &FOUND),
         Err((_, fault)) => Err(fault.into()),
     }
@@ -36,9 +35,7 @@ fn what_was_left_is_found(rt: HostRuntime) -> Result<(), Fail> {
 #[test]
 fn a_kernel_with_a_call_under_way_comes_back(rt: HostRuntime) -> Result<(), Fail> {
     let mut kernel = new_kernel(rt.alloc(), 352, ShaKey)?;
-    show(&rt, &mut kernel, &[Begins(1, Get(7))])?;
-    let busy = begin(&mut kernel, 1, Call::Stat { id: 1 });
-    assert!(rt; matches!(busy, Err((Call::Stat { id: 1 }, BeginFault::Busy))));
+    show(&rt, &mut kernel, &[Begins(1, Get(7)), IsBusy(1, Stat(1))])?;
     let Err(NotClosed::Busy(mut back)) = kernel.close() else {
         return Ok(assert!(rt; false));
     };
@@ -51,7 +48,7 @@ fn a_kernel_with_a_call_under_way_comes_back(rt: HostRuntime) -> Result<(), Fail
 fn there_are_as_many_frames_as_the_seats_need(rt: HostRuntime) -> Result<(), Fail> {
     let kernel = new_kernel(rt.alloc(), 352, ShaKey)?;
     let Closed { device, journal: _ } = close(&rt, kernel);
-    match Kernel::open(rt.alloc(), device, ShaKey, &CALLERS, 27) {
+    match open(rt.alloc(), device, ShaKey, 27) {
         Ok(_) => assert!(rt; false),
         Err((_, fault)) => assert!(rt; fault == OpenFault::TooFewFrames && fault.number() == 30),
     }

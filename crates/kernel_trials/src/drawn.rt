@@ -9,9 +9,10 @@ use crate::plain::is_that_of_lists;
 use crate::played::plays;
 use crate::rows::new_kernel;
 use bucket_page::NumberKey;
-use interleaving_core::{BeginFault, Closed, Step};
+use interleaving_core::{BeginFault, Kernel, Step};
 use interleavings::{Event, Outcome};
 use page_device::MemDevice;
+use queue_model::Entry;
 use std::alloc::Global;
 use std::process::Abort;
 use std::test::Fail;
@@ -83,61 +84,68 @@ impl Draws {
     }
 }
 
+/// Where a seat is in its calls: how many have begun, and whether none is asked or under way.
+#[derive(Clone, Copy)]
+struct Seat {
+    begun: usize,
+    is_idle: bool,
+}
+
 /// Where three seats are in their script, and what is drawn for them.
 #[derive(Drop)]
 struct Course {
     script: &'static Script,
     draws: Draws,
-    /// How many calls of each seat have begun, and whether the last one is under way.
-    begun: [usize; 3],
-    busy: [bool; 3],
+    seats: [Seat; 3],
 }
 
 impl Course {
     /// Events of seats that are drawn: steps, and the next call of a seat that has none under way.
     fn draw(&mut self, alloc: Global) -> Result<Vec<Event>, Fail> {
         let mut events = Vec::new(alloc);
-        let mut begins = [false; 3];
         for _ in 0..BATCH {
-            let drawn = self.draws.below_three();
-            let (place, seat) = (usize::from(drawn), drawn + 1);
-            if !self.busy[place] && !begins[place] {
-                if let Some(asks) = self.script[place].get(self.begun[place]) {
-                    events.push(Event::Begin(seat, asks.to_call(alloc)?))?;
-                    begins[place] = true;
-                }
+            let place = self.draws.below_three();
+            if let Some(asks) = self.ask(usize::from(place)) {
+                events.push(Event::Begin(place + 1, asks.to_call(alloc)?))?;
             }
-            events.push(Event::Step(seat))?;
+            events.push(Event::Step(place + 1))?;
         }
         Ok(events)
     }
 
+    /// The next call of a seat that has none, which is asked.
+    fn ask(&mut self, place: usize) -> Option<Asks> {
+        let seat = self.seats.get_mut(place)?;
+        if !seat.is_idle {
+            return None;
+        }
+        let asks = *self.script.get(place)?.get(seat.begun)?;
+        seat.is_idle = false;
+        Some(asks)
+    }
+
     /// Notes what came of an event of a seat. Whether anything moved; none where a step failed.
     fn note(&mut self, place: usize, outcome: &Outcome) -> Option<bool> {
+        let seat = self.seats.get_mut(place)?;
         match outcome {
-            Outcome::Begun => {
-                let begun = self.begun.get_mut(place)?;
-                *begun = begun.checked_add(1)?;
-                *self.busy.get_mut(place)? = true;
-                Some(true)
-            }
-            Outcome::Stepped(Step::Answered(_)) => {
-                *self.busy.get_mut(place)? = false;
-                Some(true)
-            }
-            Outcome::Stepped(Step::Moved(_)) => Some(true),
-            Outcome::Stepped(Step::Blocked(_) | Step::Waiting | Step::Idle) => Some(false),
+            Outcome::Begun => seat.begun = seat.begun.checked_add(1)?,
             // Without memory a call comes back, and begins with the next events.
-            Outcome::Refused(_, BeginFault::NoMemory) => Some(true),
-            _ => None,
+            Outcome::Refused(_, BeginFault::NoMemory) | Outcome::Stepped(Step::Answered(_)) => {
+                seat.is_idle = true;
+            }
+            Outcome::Stepped(Step::Moved(_)) => {}
+            Outcome::Stepped(Step::Blocked(_) | Step::Waiting | Step::Idle) => return Some(false),
+            _ => return None,
         }
+        Some(true)
     }
 
     /// Whether each seat has made its calls.
     fn is_over(&self) -> bool {
-        (0..3usize).all(|place| {
-            !self.busy[place] && self.begun[place] == self.script[place].len()
-        })
+        self.seats
+            .iter()
+            .zip(self.script)
+            .all(|(seat, calls)| seat.is_idle && seat.begun == calls.len())
     }
 }
 
@@ -155,33 +163,45 @@ fn places_of(alloc: Global, events: &[Event]) -> Result<Vec<usize>, Fail> {
     Ok(places)
 }
 
+/// Plays events that are drawn. Whether anything moved.
+fn moves(
+    rt: &(impl Abort + AllocGlobal),
+    kernel: &mut Kernel<MemDevice, NumberKey>,
+    course: &mut Course,
+) -> Result<bool, Fail> {
+    let events = course.draw(rt.alloc())?;
+    let places = places_of(rt.alloc(), &events)?;
+    let outcomes = plays(rt, kernel, events)?;
+    let mut has_moved = false;
+    for (place, outcome) in places.iter().zip(&outcomes) {
+        match course.note(*place, outcome) {
+            Some(moved) => has_moved = has_moved || moved,
+            None => panic!(rt; "{outcome:?}"),
+        }
+    }
+    Ok(has_moved)
+}
+
 /// Plays a script by what is drawn from a seed. Where nothing moves the system is stopped.
 fn play(
     rt: &(impl Abort + AllocGlobal),
     script: &'static Script,
     seed: u64,
-) -> Result<Closed<MemDevice>, Fail> {
+) -> Result<Vec<Entry>, Fail> {
     let mut kernel = new_kernel(rt.alloc(), 288, NumberKey)?;
+    let seat = Seat {
+        begun: 0,
+        is_idle: true,
+    };
     let mut course = Course {
         script,
         draws: Draws(seed),
-        begun: [0; 3],
-        busy: [false; 3],
+        seats: [seat; 3],
     };
     for _ in 0..MOST_BATCHES {
-        let events = course.draw(rt.alloc())?;
-        let places = places_of(rt.alloc(), &events)?;
-        let outcomes = plays(rt, &mut kernel, events)?;
-        let mut has_moved = false;
-        for (place, outcome) in places.iter().zip(&outcomes) {
-            let Some(moved) = course.note(*place, outcome) else {
-                panic!(rt; "seed {seed}: {outcome:?}");
-            };
-            has_moved = has_moved || moved;
-        }
-        if !has_moved {
+        if !moves(rt, &mut kernel, &mut course)? {
             if course.is_over() {
-                return Ok(close(rt, kernel));
+                return Ok(close(rt, kernel).journal);
             }
             kernel.stop();
         }
@@ -193,13 +213,11 @@ fn play(
 fn answers_are_those_of_plain_lists_in_whatever_order_is_drawn(
     rt: HostRuntime,
 ) -> Result<(), Fail> {
-    for script in SCRIPTS.iter() {
-        let first = play(&rt, script, 1)?;
-        assert!(rt; first.journal == play(&rt, script, 1)?.journal);
-        assert!(rt; is_that_of_lists(rt.alloc(), &first.journal));
-        for seed in 2..=4 {
-            let next = play(&rt, script, seed)?;
-            assert!(rt; is_that_of_lists(rt.alloc(), &next.journal), "seed {seed}");
+    for script in &SCRIPTS {
+        assert!(rt; play(&rt, script, 1)? == play(&rt, script, 1)?);
+        for seed in 1..=4 {
+            let journal = play(&rt, script, seed)?;
+            assert!(rt; is_that_of_lists(rt.alloc(), &journal), "seed {seed}");
         }
     }
     Ok(())

@@ -3,12 +3,11 @@
 use crate::asks::Asks;
 use crate::asks::Asks::{Get, Receive, Send, SendLong};
 use crate::cases::page_of;
-use crate::rows::{begin, step};
+use crate::rows::{begin, new_device, step};
 use bucket_page::NumberKey;
 use interleaving_core::{Closed, Kernel, NotClosed, Step};
 use page_device::{FaultyDevice, MemDevice, PageDevice};
 use queue_model::{Call, Caller, Entry};
-use record_file::format;
 use std::alloc::Global;
 use std::process::Abort;
 use std::test::Fail;
@@ -45,7 +44,7 @@ const CALLS: [Asks; 9] = [
 ];
 
 /// Where the fault is told.
-#[derive(Clone, Copy, Debug, PartialEq, Eq)]
+#[derive(Clone, Copy, PartialEq, Eq)]
 enum Told {
     Opening,
     /// By a call, and from then on.
@@ -96,66 +95,77 @@ fn fault_of(
     panic!(rt; "a call does not end")
 }
 
-/// Makes the calls on a kernel over a device, and closes it.
-fn runs(rt: &(impl Abort + AllocGlobal), device: FaultyDevice<MemDevice>) -> Result<Ran, Fail> {
-    let mut kernel = match Kernel::open(rt.alloc(), device, NumberKey, &SEAT, FRAMES) {
-        Ok(kernel) => kernel,
-        Err((device, fault)) => {
-            assert_eq!(rt; fault.number(), 20);
-            return Ok(Ran {
-                told: Told::Opening,
-                failed: device.faults() > 0,
-                journal: Vec::new(rt.alloc()),
-            });
-        }
-    };
+/// Makes the calls, and tells where the fault is told: from one that is told it on, each is.
+fn calls(
+    rt: &(impl Abort + AllocGlobal),
+    kernel: &mut Kernel<FaultyDevice<MemDevice>, NumberKey>,
+) -> Result<Told, Fail> {
     let mut told = Told::Never;
     for asks in CALLS {
-        let call = asks.to_call(rt.alloc())?;
-        match fault_of(rt, &mut kernel, call) {
+        match fault_of(rt, kernel, asks.to_call(rt.alloc())?) {
             Some(number) => {
-                assert_eq!(rt; number, 62);
+                assert!(rt; number == 62);
                 told = Told::Call;
             }
             None => assert!(rt; told == Told::Never),
         }
     }
-    let (Closed { device, journal }, told) = match kernel.close() {
+    Ok(told)
+}
+
+/// Closes a kernel whose calls were told this.
+fn closes(
+    rt: &impl Abort,
+    kernel: Kernel<FaultyDevice<MemDevice>, NumberKey>,
+    told: Told,
+) -> (Closed<FaultyDevice<MemDevice>>, Told) {
+    match kernel.close() {
         Ok(closed) => {
             assert!(rt; told == Told::Never);
             (closed, told)
         }
-        Err(NotClosed::Fault(closed, fault)) if told == Told::Never => {
-            assert_eq!(rt; fault.number(), 20);
-            (closed, Told::Closing)
-        }
         Err(NotClosed::Fault(closed, fault)) => {
-            assert_eq!(rt; fault.number(), 62);
+            let (number, told) = match told {
+                Told::Never => (20, Told::Closing),
+                told => (62, told),
+            };
+            assert!(rt; fault.number() == number);
             (closed, told)
         }
         Err(NotClosed::Busy(_)) => panic!(rt; "a call is under way"),
-    };
-    Ok(Ran {
-        told,
-        failed: device.faults() > 0,
-        journal,
-    })
+    }
 }
 
-/// A device with a new file.
-fn new_file(alloc: Global) -> Result<MemDevice, Fail> {
-    let mut device = MemDevice::new(alloc);
-    format(&mut device, PAGES)?;
-    Ok(device)
+/// Makes the calls on a kernel over a device, and closes it.
+fn runs(rt: &(impl Abort + AllocGlobal), device: FaultyDevice<MemDevice>) -> Result<Ran, Fail> {
+    match Kernel::open(rt.alloc(), device, NumberKey, &SEAT, FRAMES) {
+        Ok(mut kernel) => {
+            let told = calls(rt, &mut kernel)?;
+            let (Closed { device, journal }, told) = closes(rt, kernel, told);
+            Ok(Ran {
+                told,
+                failed: device.faults() > 0,
+                journal,
+            })
+        }
+        Err((device, fault)) => {
+            assert!(rt; fault.number() == 20);
+            Ok(Ran {
+                told: Told::Opening,
+                failed: device.faults() > 0,
+                journal: Vec::new(rt.alloc()),
+            })
+        }
+    }
 }
 
 #[test]
 fn each_transfer_fails_in_turn(rt: HostRuntime) -> Result<(), Fail> {
     let alloc = rt.alloc();
-    let mut file = new_file(alloc)?;
+    let mut file = new_device(alloc, PAGES)?;
     let whole = runs(&rt, faulty(alloc, &mut file, 0)?)?;
     assert!(rt; !whole.failed && whole.told == Told::Never);
-    assert_eq!(rt; whole.journal.len(), CALLS.len());
+    assert!(rt; whole.journal.len() == CALLS.len());
     let mut met: u64 = 0;
     let mut last = Told::Opening;
     for nth in 1..=MOST_TRANSFERS {
@@ -171,7 +181,7 @@ fn each_transfer_fails_in_turn(rt: HostRuntime) -> Result<(), Fail> {
         met = nth;
     }
     // opening reads each page, a call a few, and closing writes some: the last one is its sync
-    assert_eq!(rt; last, Told::Closing);
+    assert!(rt; last == Told::Closing);
     assert!(rt;
         met > u64::from(PAGES) && met < MOST_TRANSFERS,
         "{met} transfers"

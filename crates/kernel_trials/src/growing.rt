@@ -3,7 +3,8 @@
 
 use crate::asks::Asks::Receive;
 use crate::cases::close;
-use crate::rows::{CALLERS, Want, is_wanted, show};
+use crate::plain::caller_at;
+use crate::rows::{Want, is_wanted, new_device, open, show};
 use crate::scripts::FOUR_SENT;
 use bucket_page::NumberKey;
 use file_check::{Checked, check};
@@ -11,7 +12,6 @@ use interleaving_core::{BeginFault, Kernel};
 use interleavings::{Event, Outcome, are_of_seats, run};
 use page_device::MemDevice;
 use queue_model::{Answer, Applied, Call, Caller, Entry, System};
-use record_file::format;
 use std::alloc::Global;
 use std::process::Abort;
 use std::test::Fail;
@@ -21,11 +21,11 @@ const FRAMES: usize = 28;
 
 /// A kernel over the file of a device.
 fn opened(rt: &(impl Abort + AllocGlobal), device: MemDevice) -> Kernel<MemDevice, NumberKey> {
-    match Kernel::open(rt.alloc(), device, NumberKey, &CALLERS, FRAMES) {
+    match open(rt.alloc(), device, NumberKey, FRAMES) {
         Ok(kernel) => kernel,
         Err((device, fault)) => {
-            assert_eq!(rt; fault.number(), 60);
-            match Kernel::open(rt.alloc(), device, NumberKey, &CALLERS, FRAMES) {
+            assert!(rt; fault.number() == 60);
+            match open(rt.alloc(), device, NumberKey, FRAMES) {
                 Ok(kernel) => kernel,
                 Err((_, fault)) => panic!(rt; "{fault:?}"),
             }
@@ -59,20 +59,33 @@ fn played(
             },
             Err(_) => {}
         }
-        assert_eq!(rt; kernel.journal().len(), entries);
+        assert!(rt; kernel.journal().len() == entries);
     }
     panic!(rt; "there is no memory")
 }
 
+/// The second message is received.
+fn is_received(outcomes: &[Outcome]) -> bool {
+    match outcomes {
+        [Outcome::Begun, Outcome::Driven(told)] => is_wanted(told, Want::Message(2, 1, 2, "b")),
+        _ => false,
+    }
+}
+
 /// Makes a call on plain lists, as it was answered.
 fn follows(rt: &impl Abort, lists: &mut System, caller: Caller, call: &Call, answer: &Answer) {
-    let counts = (lists.queues(), lists.messages(), lists.next_id());
+    let counts = counts_of(lists);
     let mut became = lists.apply(caller, call);
     if became == Applied::NoMemory {
-        assert!(rt; (lists.queues(), lists.messages(), lists.next_id()) == counts);
+        assert!(rt; counts_of(lists) == counts);
         became = lists.apply(caller, call);
     }
     assert!(rt; matches!(&became, Applied::Answer(given) if given == answer));
+}
+
+/// How many queues and messages there are, and the next id.
+fn counts_of(lists: &System) -> (usize, usize, u32) {
+    (lists.queues(), lists.messages(), lists.next_id())
 }
 
 /// A copy of a call.
@@ -83,19 +96,29 @@ fn copied(rt: &impl Abort, call: &Call) -> Call {
     }
 }
 
-/// Plain lists after the calls of a journal.
-fn lists(rt: &(impl Abort + AllocGlobal), journal: &[Entry]) -> System {
+/// Makes the call of an entry on plain lists.
+fn makes(rt: &impl Abort, lists: &mut System, entry: &Entry) {
+    let Entry::Decided { seat, call, answer } = entry else {
+        panic!(rt; "the system was stopped");
+    };
+    let Some(caller) = caller_at(*seat) else {
+        panic!(rt; "there is no seat {seat}");
+    };
+    let copy = copied(rt, call);
+    assert!(rt; copy == *call);
+    follows(rt, lists, caller, &copy, answer);
+}
+
+/// Plain lists after the calls of a journal, and their copy.
+fn lists(rt: &(impl Abort + AllocGlobal), journal: &[Entry]) -> [System; 2] {
     let mut lists = System::empty(rt.alloc());
     for entry in journal {
-        let Entry::Decided { seat, call, answer } = entry else {
-            panic!(rt; "the system was stopped");
-        };
-        let caller = CALLERS[usize::from(*seat == 2)];
-        let copy = copied(rt, call);
-        assert!(rt; copy == *call);
-        follows(rt, &mut lists, caller, &copy, answer);
+        makes(rt, &mut lists, entry);
     }
-    lists
+    match (lists.try_copy(), lists.try_copy()) {
+        (Ok(copy), _) | (_, Ok(copy)) => [lists, copy],
+        _ => panic!(rt; "there is no memory"),
+    }
 }
 
 /// How many queues and messages the file of a device has.
@@ -113,29 +136,13 @@ fn counted(rt: &(impl Abort + AllocGlobal), device: MemDevice) -> (usize, usize)
 
 #[test]
 fn what_found_no_memory_is_answered_when_it_is_asked_again(rt: HostRuntime) -> Result<(), Fail> {
-    let mut device = MemDevice::new(rt.alloc());
-    format(&mut device, 258)?;
-    let mut kernel = opened(&rt, device);
+    let mut kernel = opened(&rt, new_device(rt.alloc(), 258)?);
     show(&rt, &mut kernel, &FOUR_SENT)?;
-    let outcomes = played(&rt, &mut kernel)?;
-    match outcomes.as_slice() {
-        [Outcome::Begun, Outcome::Driven(told)] => {
-            assert!(rt; is_wanted(told, Want::Message(2, 1, 2, "b")));
-        }
-        _ => panic!(rt; "{outcomes:?}"),
-    }
+    assert!(rt; is_received(&played(&rt, &mut kernel)?));
     let closed = close(&rt, kernel);
-    let lists = lists(&rt, &closed.journal);
-    let copy = match (lists.try_copy(), lists.try_copy()) {
-        (Ok(copy), _) | (_, Ok(copy)) => copy,
-        _ => panic!(rt; "there is no memory"),
-    };
-    for system in [&lists, &copy] {
-        assert_eq!(rt;
-            (system.queues(), system.messages(), system.next_id()),
-            (1, 3, 2)
-        );
+    for lists in &lists(&rt, &closed.journal) {
+        assert!(rt; counts_of(lists) == (1, 3, 2));
     }
-    assert_eq!(rt; counted(&rt, closed.device), (1, 3));
+    assert!(rt; counted(&rt, closed.device) == (1, 3));
     Ok(())
 }

@@ -3,10 +3,9 @@
 
 use crate::cases::Left::{Bytes, Header};
 use crate::cases::{Case, close, page_of, run};
-use crate::rows::CALLERS;
+use crate::rows::open;
 use crate::splitting::{FULL_BUCKET, SPLIT};
 use bucket_page::NumberKey;
-use interleaving_core::Kernel;
 use page_device::{MemDevice, PAGE_BYTES, PAYLOAD_BYTES, PageDevice, seal, unseal};
 use std::process::Abort;
 use std::test::Fail;
@@ -82,7 +81,7 @@ fn two_buckets(rt: &(impl Abort + AllocGlobal)) -> Result<MemDevice, Fail> {
 
 /// The number by which the file on a device is refused, 0 where it is opened; and the device.
 fn opens(rt: &(impl Abort + AllocGlobal), device: MemDevice) -> (MemDevice, u8) {
-    match Kernel::open(rt.alloc(), device, NumberKey, &CALLERS, PAGES as usize) {
+    match open(rt.alloc(), device, NumberKey, PAGES as usize) {
         Ok(kernel) => (close(rt, kernel).device, 0),
         Err((device, fault)) => (device, fault.number()),
     }

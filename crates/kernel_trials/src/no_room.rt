@@ -5,10 +5,9 @@ use crate::cases::Left::{Bytes, Entries, Header};
 use crate::cases::{Case, close, page_of, run, run_all};
 use crate::rows::Row::Calls;
 use crate::rows::Want::{Id, NoRoom, Received, Sent};
-use crate::rows::{CALLERS, Row, new_kernel, show};
+use crate::rows::{Row, new_kernel, open, show};
 use bucket_page::{ConstantKey, ShaKey};
 use file_check::{Checked, check};
-use interleaving_core::Kernel;
 use std::process::Abort;
 use std::test::Fail;
 
@@ -104,7 +103,7 @@ fn a_file_of_one_pseudokey_is_right_behind_each_call(rt: HostRuntime) -> Result<
         let Checked { device, found } = check(alloc, close(&rt, kernel).device, keys);
         let system = found?;
         assert!(rt; (system.queues(), system.messages()) == (1, messages));
-        kernel = match Kernel::open(alloc, device, keys, &CALLERS, 288) {
+        kernel = match open(alloc, device, keys, 288) {
             Ok(kernel) => kernel,
             Err((_, fault)) => return Err(fault.into()),
         };

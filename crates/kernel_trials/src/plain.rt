@@ -33,6 +33,6 @@ fn follows(system: &mut System, entry: &Entry) -> bool {
 }
 
 /// Who sits at a seat.
-fn caller_at(seat: u8) -> Option<Caller> {
+pub fn caller_at(seat: u8) -> Option<Caller> {
     CALLERS.get((seat as usize).checked_sub(1)?).copied()
 }

@@ -3,11 +3,11 @@
 
 use crate::cases::close;
 use crate::plain::is_that_of_lists;
-use crate::rows::Row::{Begins, Calls, Drives, Steps, Stops};
+use crate::rows::Row::{Begins, Calls, Drives, IsBusy, Steps, Stops};
 use crate::rows::{Row, Want, is_wanted, new_kernel};
 use crate::waiting::{REMOVED, SENT, STOPPED, WAITS};
 use bucket_page::{PseudoKey, ShaKey};
-use interleaving_core::Kernel;
+use interleaving_core::{BeginFault, Kernel};
 use interleavings::{Event, Outcome, are_of_seats, run};
 use page_device::MemDevice;
 use std::process::Abort;
@@ -25,41 +25,73 @@ pub fn plays<K: PseudoKey + Copy>(
     Ok(run(rt.alloc(), kernel, events)?)
 }
 
-/// Events, and what is wanted of the step that each comes to; nothing of one that makes no step.
+/// What is wanted of an event.
+#[derive(Clone, Copy)]
+pub enum Came {
+    Begun,
+    Busy,
+    Told(Want),
+    Stopped,
+}
+
+/// Events, and what is wanted of each.
 #[derive(Drop)]
-struct Plan {
-    events: Vec<Event>,
-    wants: Vec<Option<Want>>,
+pub struct Plan {
+    pub events: Vec<Event>,
+    pub wants: Vec<Came>,
 }
 
 impl Plan {
-    fn push(&mut self, event: Event, want: Option<Want>) -> Result<(), Fail> {
-        self.events.push(event)?;
-        self.wants.push(want)?;
-        Ok(())
+    /// The events of rows that go by no outcome.
+    pub fn of(rt: &(impl Abort + AllocGlobal), tables: &[&[Row]]) -> Result<Plan, Fail> {
+        let mut plan = Plan {
+            events: Vec::new(rt.alloc()),
+            wants: Vec::new(rt.alloc()),
+        };
+        for rows in tables {
+            for row in *rows {
+                plan.add(rt, *row)?;
+            }
+        }
+        Ok(plan)
     }
 
-    /// Adds the events of a row that goes by no outcome.
     fn add(&mut self, rt: &(impl Abort + AllocGlobal), row: Row) -> Result<(), Fail> {
-        match row {
-            Begins(seat, asks) => self.push(Event::Begin(seat, asks.to_call(rt.alloc())?), None),
-            Steps(seat, want) => self.push(Event::Step(seat), Some(want)),
-            Drives(seat, want) => self.push(Event::Drive(seat), Some(want)),
-            Calls(seat, asks, want) => {
-                self.push(Event::Begin(seat, asks.to_call(rt.alloc())?), None)?;
-                self.push(Event::Drive(seat), Some(want))
-            }
-            Stops => self.push(Event::Stop, None),
-            _ => panic!(rt; "a row that goes by what it meets"),
+        if let Begins(seat, asks) | IsBusy(seat, asks) | Calls(seat, asks, _) = row {
+            self.events
+                .push(Event::Begin(seat, asks.to_call(rt.alloc())?))?;
         }
+        let (event, came) = match row {
+            Begins(..) => return Ok(self.wants.push(Came::Begun)?),
+            IsBusy(..) => return Ok(self.wants.push(Came::Busy)?),
+            Calls(seat, _, want) => {
+                self.wants.push(Came::Begun)?;
+                (Event::Drive(seat), Came::Told(want))
+            }
+            Steps(seat, want) => (Event::Step(seat), Came::Told(want)),
+            Drives(seat, want) => (Event::Drive(seat), Came::Told(want)),
+            Stops => (Event::Stop, Came::Stopped),
+            _ => panic!(rt; "a row that goes by what it meets"),
+        };
+        self.events.push(event)?;
+        Ok(self.wants.push(came)?)
+    }
+}
+
+/// Each event came to what is wanted of it.
+pub fn came_to(rt: &impl Abort, outcomes: &[Outcome], wants: &[Came]) {
+    assert!(rt; outcomes.len() == wants.len());
+    for (outcome, want) in outcomes.iter().zip(wants) {
+        assert!(rt; is_come_to(outcome, *want), "{outcome:?}");
     }
 }
 
 /// Whether an event came to what is wanted of it.
-fn is_come_to(outcome: &Outcome, want: Option<Want>) -> bool {
-    match (outcome, want) {
-        (Outcome::Stepped(told) | Outcome::Driven(told), Some(want)) => is_wanted(told, want),
-        (Outcome::Begun | Outcome::Stopped, None) => true,
+fn is_come_to(outcome: &Outcome, came: Came) -> bool {
+    match (outcome, came) {
+        (Outcome::Stepped(told) | Outcome::Driven(told), Came::Told(want)) => is_wanted(told, want),
+        (Outcome::Begun, Came::Begun) | (Outcome::Stopped, Came::Stopped) => true,
+        (Outcome::Refused(_, fault), Came::Busy) => *fault == BeginFault::Busy,
         _ => false,
     }
 }
@@ -71,24 +103,12 @@ const PLAYED: [[&[Row]; 2]; 3] = [[&WAITS, &SENT], [&WAITS, &REMOVED], [&WAITS, 
 #[test]
 fn rows_are_played_as_events(rt: HostRuntime) -> Result<(), Fail> {
     for tables in PLAYED {
-        let mut plan = Plan {
-            events: Vec::new(rt.alloc()),
-            wants: Vec::new(rt.alloc()),
-        };
-        for rows in tables {
-            for row in rows {
-                plan.add(&rt, *row)?;
-            }
-        }
-        let Plan { events, wants } = plan;
+        let Plan { events, wants } = Plan::of(&rt, &tables)?;
         let mut kernel = new_kernel(rt.alloc(), 258, ShaKey)?;
         let outcomes = plays(&rt, &mut kernel, events)?;
-        assert_eq!(rt; outcomes.len(), wants.len());
-        for (outcome, want) in outcomes.iter().zip(&wants) {
-            assert!(rt; is_come_to(outcome, *want), "{outcome:?}");
-        }
+        came_to(&rt, &outcomes, &wants);
         let journal = close(&rt, kernel).journal;
-        assert_eq!(rt; journal.len(), 3);
+        assert!(rt; journal.len() == 3);
         assert!(rt; is_that_of_lists(rt.alloc(), &journal));
     }
     Ok(())

@@ -1,44 +1,24 @@
 //! Events played over a new file, from its opening to its closing.
 
-use crate::asks::Asks;
 use crate::asks::Asks::{Get, Receive, Send};
 use crate::drawn::{Draws, SCRIPTS, Script};
 use crate::plain::is_that_of_lists;
-use crate::playing::Act::{Begin, Drive, Step, Stop};
-use crate::playing::Came::{Begun, Refused, Stopped, Told};
-use crate::rows::Want::{Id, Received, Sent, Waiting};
-use crate::rows::{CALLERS, Want, is_wanted};
+use crate::played::{Plan, came_to};
+use crate::rows::Row::{Begins, Calls, Drives, IsBusy, Steps, Stops};
+use crate::rows::Want::{Id, Idle, Received, Refused, Sent, Waiting};
+use crate::rows::{CALLERS, Row, new_device};
 use bucket_page::NumberKey;
-use interleaving_core::{BeginFault, OpenFault};
+use interleaving_core::{OpenFault, Step};
 use interleavings::{EndFault, Event, Outcome, Played, are_of_seats, play_on};
 use page_device::MemDevice;
 use queue_model::{Entry, Errno};
-use record_file::format;
 use std::alloc::Global;
 use std::process::Abort;
 use std::test::Fail;
 
-/// An event of a table.
-#[derive(Clone, Copy)]
-enum Act {
-    Begin(u8, Asks),
-    Step(u8),
-    Drive(u8),
-    Stop,
-}
-
-/// What comes of it.
-#[derive(Clone, Copy)]
-enum Came {
-    Begun,
-    Refused(BeginFault),
-    Told(Want),
-    Stopped,
-}
-
 /// Events with what comes of each, and why the file is not closed well, if it is not.
 struct Table {
-    rows: &'static [(Act, Came)],
+    rows: &'static [Row],
     fault: Option<EndFault>,
 }
 
@@ -46,78 +26,65 @@ struct Table {
 const TABLES: [Table; 3] = [
     Table {
         rows: &[
-            (Begin(1, Get(7)), Begun),
-            (Drive(1), Told(Id(1))),
-            (Begin(2, Receive(1, 0)), Begun),
-            (Drive(2), Told(Waiting)),
-            (Begin(1, Send(1, 5, "a")), Begun),
-            (Drive(1), Told(Sent(1))),
-            (Drive(2), Told(Received(1))),
-            (Step(2), Told(Want::Idle)),
+            Calls(1, Get(7), Id(1)),
+            Calls(2, Receive(1, 0), Waiting),
+            Calls(1, Send(1, 5, "a"), Sent(1)),
+            Drives(2, Received(1)),
+            Steps(2, Idle),
         ],
         fault: None,
     },
     Table {
-        rows: &[
-            (Begin(1, Get(7)), Begun),
-            (Begin(1, Get(8)), Refused(BeginFault::Busy)),
-        ],
+        rows: &[Begins(1, Get(7)), IsBusy(1, Get(8))],
         fault: Some(EndFault::Busy),
     },
     Table {
         rows: &[
-            (Begin(1, Get(7)), Begun),
-            (Drive(1), Told(Id(1))),
-            (Begin(2, Receive(1, 0)), Begun),
-            (Drive(2), Told(Waiting)),
-            (Stop, Stopped),
-            (Drive(2), Told(Want::Refused(Errno::EINTR))),
-            (Stop, Stopped),
+            Calls(1, Get(7), Id(1)),
+            Calls(2, Receive(1, 0), Waiting),
+            Stops,
+            Drives(2, Refused(Errno::EINTR)),
+            Stops,
         ],
         fault: None,
     },
 ];
 
-/// The event of a row.
-fn event(alloc: Global, act: Act) -> Result<Event, Fail> {
-    Ok(match act {
-        Begin(seat, asks) => Event::Begin(seat, asks.to_call(alloc)?),
-        Step(seat) => Event::Step(seat),
-        Drive(seat) => Event::Drive(seat),
-        Stop => Event::Stop,
-    })
-}
-
-/// Whether this comes of an event.
-fn is_this(outcome: &Outcome, came: Came) -> bool {
-    match (outcome, came) {
-        (Outcome::Begun, Begun) | (Outcome::Stopped, Stopped) => true,
-        (Outcome::Refused(_, fault), Refused(wanted)) => *fault == wanted,
-        (Outcome::Stepped(step) | Outcome::Driven(step), Told(want)) => is_wanted(step, want),
-        _ => false,
-    }
-}
-
-/// A device with a new file.
-fn new_device(alloc: Global) -> Result<MemDevice, Fail> {
-    let mut device = MemDevice::new(alloc);
-    format(&mut device, 288)?;
-    Ok(device)
-}
-
-/// What events over the file of a device come to.
+/// What events over the file of a device, with so many frames, come to.
 fn played(
+    rt: &(impl Abort + AllocGlobal),
+    device: MemDevice,
+    frames: usize,
+    events: Vec<Event>,
+) -> Result<Played<MemDevice>, (MemDevice, OpenFault)> {
+    if !are_of_seats(events.as_slice(), CALLERS.len() as u8) {
+        panic!(rt; "an event is of no seat");
+    }
+    play_on(rt.alloc(), device, NumberKey, &CALLERS, frames, events)
+}
+
+/// What events come to over the file of a device, which is right.
+fn plays(
     rt: &(impl Abort + AllocGlobal),
     device: MemDevice,
     events: Vec<Event>,
 ) -> Result<Played<MemDevice>, Fail> {
-    if !are_of_seats(events.as_slice(), CALLERS.len() as u8) {
-        panic!(rt; "an event is of no seat");
-    }
-    match play_on(rt.alloc(), device, NumberKey, &CALLERS, 352, events) {
+    match played(rt, device, 352, events) {
         Ok(played) => Ok(played),
         Err((_, fault)) => Err(fault.into()),
     }
+}
+
+#[test]
+fn each_event_comes_to_what_its_row_says(rt: HostRuntime) -> Result<(), Fail> {
+    for Table { rows, fault } in &TABLES {
+        let Plan { events, wants } = Plan::of(&rt, &[*rows])?;
+        let played = plays(&rt, new_device(rt.alloc(), 288)?, events)?;
+        assert!(rt; played.fault == *fault);
+        came_to(&rt, &played.outcomes, &wants);
+        assert!(rt; is_that_of_lists(rt.alloc(), &played.journal));
+    }
+    Ok(())
 }
 
 /// How many answers seats were told.
@@ -127,8 +94,7 @@ fn answers(outcomes: &[Outcome]) -> usize {
         .filter(|outcome| {
             matches!(
                 outcome,
-                Outcome::Stepped(interleaving_core::Step::Answered(_))
-                    | Outcome::Driven(interleaving_core::Step::Answered(_))
+                Outcome::Stepped(Step::Answered(_)) | Outcome::Driven(Step::Answered(_))
             )
         })
         .count()
@@ -142,20 +108,17 @@ fn decided(journal: &[Entry]) -> usize {
         .count()
 }
 
-#[test]
-fn each_event_comes_to_what_its_row_says(rt: HostRuntime) -> Result<(), Fail> {
-    for table in &TABLES {
-        let mut events = Vec::with_capacity(rt.alloc(), table.rows.len())?;
-        for (act, _) in table.rows {
-            events.push(event(rt.alloc(), *act)?)?;
+/// Begins the next call of each seat that has one.
+fn push_calls(
+    alloc: Global,
+    events: &mut Vec<Event>,
+    script: &Script,
+    round: usize,
+) -> Result<(), Fail> {
+    for (seat, calls) in [1, 2, 3].iter().zip(script) {
+        if let Some(asks) = calls.get(round) {
+            events.push(Event::Begin(*seat, asks.to_call(alloc)?))?;
         }
-        let played = played(&rt, new_device(rt.alloc())?, events)?;
-        assert!(rt; played.fault == table.fault);
-        assert!(rt; played.outcomes.len() == table.rows.len());
-        for (place, (_, came)) in table.rows.iter().enumerate() {
-            assert!(rt; is_this(&played.outcomes[place], *came), "row {place}");
-        }
-        assert!(rt; is_that_of_lists(rt.alloc(), &played.journal));
     }
     Ok(())
 }
@@ -165,25 +128,37 @@ fn each_event_comes_to_what_its_row_says(rt: HostRuntime) -> Result<(), Fail> {
 fn drawn(alloc: Global, script: &Script, seed: u64) -> Result<Vec<Event>, Fail> {
     let mut draws = Draws(seed);
     let mut events = Vec::new(alloc);
-    for round in 0..5usize {
-        for (place, calls) in script.iter().enumerate() {
-            if let Some(asks) = calls.get(round) {
-                events.push(Event::Begin(place as u8 + 1, asks.to_call(alloc)?))?;
-            }
-        }
+    for round in 0..5 {
+        push_calls(alloc, &mut events, script, round)?;
         for _ in 0..200 {
             events.push(Event::Step(draws.below_three() + 1))?;
         }
         if round == 4 {
             events.push(Event::Stop)?;
         }
-        for _ in 0..2 {
-            for seat in 1..=3u8 {
-                events.push(Event::Drive(seat))?;
-            }
+        for seat in [1, 2, 3, 1, 2, 3] {
+            events.push(Event::Drive(seat))?;
         }
     }
     Ok(events)
+}
+
+/// What is drawn from a seed is answered as plain lists do, and the file is right behind it.
+fn is_answered(rt: &(impl Abort + AllocGlobal), script: &Script, seed: u64) -> Result<(), Fail> {
+    let events = drawn(rt.alloc(), script, seed)?;
+    let first = plays(rt, new_device(rt.alloc(), 288)?, events)?;
+    assert!(rt; first.fault.is_none(), "seed {seed}");
+    assert!(rt;
+        answers(&first.outcomes) == decided(&first.journal),
+        "seed {seed}"
+    );
+    assert!(rt; is_that_of_lists(rt.alloc(), &first.journal), "seed {seed}");
+    let again = plays(rt, first.device, Vec::new(rt.alloc()))?;
+    assert!(rt;
+        again.fault.is_none() && again.journal.is_empty(),
+        "seed {seed}"
+    );
+    Ok(())
 }
 
 #[test]
@@ -192,19 +167,7 @@ fn what_is_drawn_is_answered_as_plain_lists_do_and_stays_in_the_file(
 ) -> Result<(), Fail> {
     for script in &SCRIPTS {
         for seed in 1..=3 {
-            let events = drawn(rt.alloc(), script, seed)?;
-            let first = played(&rt, new_device(rt.alloc())?, events)?;
-            assert!(rt; first.fault.is_none(), "seed {seed}");
-            assert!(rt;
-                answers(&first.outcomes) == decided(&first.journal),
-                "seed {seed}"
-            );
-            assert!(rt; is_that_of_lists(rt.alloc(), &first.journal), "seed {seed}");
-            let again = played(&rt, first.device, Vec::new(rt.alloc()))?;
-            assert!(rt;
-                again.fault.is_none() && again.journal.is_empty(),
-                "seed {seed}"
-            );
+            is_answered(&rt, script, seed)?;
         }
     }
     Ok(())
@@ -212,19 +175,10 @@ fn what_is_drawn_is_answered_as_plain_lists_do_and_stays_in_the_file(
 
 #[test]
 fn a_device_without_a_file_comes_back(rt: HostRuntime) -> Result<(), Fail> {
-    let device = MemDevice::new(rt.alloc());
-    let events = Vec::new(rt.alloc());
-    let refused = play_on(rt.alloc(), device, NumberKey, &CALLERS, 28, events);
+    let refused = played(&rt, MemDevice::new(rt.alloc()), 28, Vec::new(rt.alloc()));
     assert!(rt; matches!(refused, Err((_, OpenFault::Wrong(_) | OpenFault::NoMemory))));
-    let device = new_device(rt.alloc())?;
-    let refused = play_on(
-        rt.alloc(),
-        device,
-        NumberKey,
-        &CALLERS,
-        27,
-        Vec::new(rt.alloc()),
-    );
+    let device = new_device(rt.alloc(), 288)?;
+    let refused = played(&rt, device, 27, Vec::new(rt.alloc()));
     assert!(rt; matches!(refused, Err((_, OpenFault::TooFewFrames))));
     Ok(())
 }

@@ -2,7 +2,7 @@
 
 use crate::asks::Asks;
 use bucket_page::PseudoKey;
-use interleaving_core::{BeginFault, Kernel, Step, StepFault};
+use interleaving_core::{BeginFault, Kernel, OpenFault, Step, StepFault};
 use page_device::{MemDevice, PageDevice};
 use queue_model::{Answer, Call, Caller, Errno, QueueInfo};
 use record_file::format;
@@ -48,6 +48,8 @@ pub const CALLERS: [Caller; 5] = [
 pub enum Row {
     /// A call begins.
     Begins(u8, Asks),
+    /// No call begins, since the seat has one under way.
+    IsBusy(u8, Asks),
     /// The next step comes to this.
     Steps(u8, Want),
     /// The next step of this kind is made.
@@ -87,15 +89,30 @@ pub enum Want {
     Refused(Errno),
 }
 
+/// A device with a new file of so many pages, from 258 to 352.
+pub fn new_device(alloc: Global, pages: u32) -> Result<MemDevice, Fail> {
+    let mut device = MemDevice::new(alloc);
+    format(&mut device, pages.clamp(258, 352))?;
+    Ok(device)
+}
+
+/// A kernel of five seats over the file of a device.
+pub fn open<D: PageDevice + Drop, K: PseudoKey + Copy>(
+    alloc: Global,
+    device: D,
+    keys: K,
+    frames: usize,
+) -> Result<Kernel<D, K>, (D, OpenFault)> {
+    Kernel::open(alloc, device, keys, &CALLERS, frames)
+}
+
 /// A kernel over a new file of so many pages, from 258 to 352.
 pub fn new_kernel<K: PseudoKey + Copy>(
     alloc: Global,
     pages: u32,
     keys: K,
 ) -> Result<Kernel<MemDevice, K>, Fail> {
-    let mut device = MemDevice::new(alloc);
-    format(&mut device, pages.clamp(258, 352))?;
-    match Kernel::open(alloc, device, keys, &CALLERS, 352) {
+    match open(alloc, new_device(alloc, pages)?, keys, 352) {
         Ok(kernel) => Ok(kernel),
         Err((_, fault)) => Err(fault.into()),
     }
@@ -122,6 +139,7 @@ fn does<K: PseudoKey + Copy>(
 ) -> Result<bool, Fail> {
     Ok(match row {
         Row::Begins(seat, asks) => begins(alloc, kernel, seat, asks)?,
+        Row::IsBusy(seat, asks) => is_busy(alloc, kernel, seat, asks)?,
         Row::Steps(seat, want) => is_wanted(&step(kernel, seat), want),
         Row::Reaches(seat, kind) => count(kernel, seat, kind, Want::Moved(kind)).is_some(),
         Row::Counts(seat, kind, many, want) => count(kernel, seat, kind, want) == Some(many),
@@ -155,6 +173,21 @@ pub fn begins<K: PseudoKey + Copy>(
             Ok(back == copy && begin(kernel, seat, back).is_ok())
         }
         Err(_) => Ok(false),
+    }
+}
+
+/// Whether a seat has a call under way, beside which another one comes back as it was.
+fn is_busy<K: PseudoKey + Copy>(
+    alloc: Global,
+    kernel: &mut Kernel<MemDevice, K>,
+    seat: u8,
+    asks: Asks,
+) -> Result<bool, Fail> {
+    let call = asks.to_call(alloc)?;
+    let copy = call.try_copy()?;
+    match begin(kernel, seat, call) {
+        Err((back, BeginFault::Busy)) => Ok(back == copy),
+        _ => Ok(false),
     }
 }
 

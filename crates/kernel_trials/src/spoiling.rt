@@ -3,7 +3,7 @@
 use crate::asks::Asks::Get;
 use crate::cases::run;
 use crate::malicious::TWO_BUCKETS;
-use crate::rows::{CALLERS, begin, step};
+use crate::rows::{begin, open, step};
 use bucket_page::NumberKey;
 use interleaving_core::{BeginFault, Kernel, NotClosed, Step};
 use page_device::{DeviceFault, MemDevice, Page, PageDevice};
@@ -62,6 +62,30 @@ impl PageDevice for SpoilingDevice {
 /// then to compare with the system.
 const READS_OF_OPENING: u32 = 292;
 
+/// A kernel over the file of two queues, whose pages are spoilt from now on.
+fn opened(rt: &(impl Abort + AllocGlobal)) -> Result<Kernel<SpoilingDevice, NumberKey>, Fail> {
+    let device = SpoilingDevice {
+        inner: run(rt, NumberKey, TWO_BUCKETS)?,
+        right: READS_OF_OPENING,
+    };
+    match open(rt.alloc(), device, NumberKey, 28) {
+        Ok(kernel) => Ok(kernel),
+        Err((_, fault)) => Err(fault.into()),
+    }
+}
+
+/// A call begins at each of the first two seats.
+fn begins(
+    rt: &(impl Abort + AllocGlobal),
+    kernel: &mut Kernel<SpoilingDevice, NumberKey>,
+) -> Result<(), Fail> {
+    for (seat, asks) in [(1, Get(7)), (2, Get(9))] {
+        let call = asks.to_call(rt.alloc())?;
+        assert!(rt; begin(kernel, seat, call).is_ok(), "seat {seat}");
+    }
+    Ok(())
+}
+
 /// Whether a step is told 62.
 fn is_failed(told: &Step) -> bool {
     match told {
@@ -80,37 +104,26 @@ fn fails(kernel: &mut Kernel<SpoilingDevice, NumberKey>, seat: u8) -> bool {
     false
 }
 
+/// Whether closing tells 62, and nothing was decided.
+fn is_closed_failed(kernel: Kernel<SpoilingDevice, NumberKey>) -> bool {
+    match kernel.close() {
+        Err(NotClosed::Fault(closed, fault)) => closed.journal.is_empty() && fault.number() == 62,
+        _ => false,
+    }
+}
+
 #[test]
 fn a_page_that_is_spoilt_behind_opening_fails_the_kernel(rt: HostRuntime) -> Result<(), Fail> {
-    let alloc = rt.alloc();
-    let device = SpoilingDevice {
-        inner: run(&rt, NumberKey, TWO_BUCKETS)?,
-        right: READS_OF_OPENING,
-    };
-    let call = Get(7).to_call(alloc)?;
-    let other = Get(9).to_call(alloc)?;
-    let late = Get(7).to_call(alloc)?;
-    let mut kernel = match Kernel::open(alloc, device, NumberKey, &CALLERS, 28) {
-        Ok(kernel) => kernel,
-        Err((_, fault)) => return Err(fault.into()),
-    };
-    assert!(rt; begin(&mut kernel, 1, call).is_ok());
-    assert!(rt; begin(&mut kernel, 2, other).is_ok());
+    let mut kernel = opened(&rt)?;
+    begins(&rt, &mut kernel)?;
     assert!(rt; fails(&mut kernel, 1));
     // from then on each is told 62, and nothing is written
     for seat in [2, 1] {
         assert!(rt; is_failed(&step(&mut kernel, seat)), "seat {seat}");
     }
+    let late = Get(7).to_call(rt.alloc())?;
     let begun = begin(&mut kernel, 3, late);
     assert!(rt; matches!(begun, Err((_, BeginFault::Failed))));
-    let Err(left) = kernel.close() else {
-        return Ok(assert!(rt; false));
-    };
-    match left {
-        NotClosed::Fault(closed, fault) => {
-            assert!(rt; closed.journal.is_empty() && fault.number() == 62);
-            Ok(())
-        }
-        NotClosed::Busy(_) => Ok(assert!(rt; false)),
-    }
+    assert!(rt; is_closed_failed(kernel));
+    Ok(())
 }
