@@ -18,6 +18,8 @@ mod files;
 #[cfg(test)]
 mod merges;
 #[cfg(test)]
+mod rows;
+#[cfg(test)]
 mod searches;
 #[cfg(test)]
 mod soundness;

@@ -1,6 +1,8 @@
 //! A merge over the 32 pages of a directory of depth 14, and each of its transfers failed.
 
-use crate::files::{delete, empty_file, insert, key};
+use crate::files::{delete, empty_file, key};
+use crate::rows::Row::{Covers, Deletes, Has, Inserts, Leaf};
+use crate::rows::{Row, show};
 use crate::soundness::{covers_once, is_in_place, pictured};
 use crate::trial::Trial;
 use bucket_page::NumberKey;
@@ -15,33 +17,27 @@ use step_rules::{Kind, Progress};
 const MOST_TRANSFERS: u64 = 500;
 
 /// Records 5 and 7 are left of eight: 5 on page 258, 7 on page 272, behind a directory of depth 14.
-fn two_halves(rt: &impl Abort, alloc: Global) -> Result<Trial<MemDevice, NumberKey>, Fail> {
-    let mut trial = empty_file(rt, alloc, NumberKey)?;
-    for (number, splits) in [(0, 0), (8192, 0), (16384, 0), (24576, 14)] {
-        assert_eq!(rt; insert(&mut trial, number), Some((IsPut, splits)));
-    }
-    let Some(seen) = pictured(alloc, &mut trial) else {
-        panic!(rt; "not sound");
-    };
-    assert_eq!(rt; seen.depth, 14);
-    assert_eq!(rt; seen.leaves.len(), 15);
-    assert!(rt;
-        seen.leaf(258)
-            .is_some_and(|leaf| leaf.depth == 1 && leaf.pattern == 1)
-    );
-    for (number, splits) in [(1, 0), (3, 0), (5, 0), (7, 1)] {
-        assert_eq!(rt; insert(&mut trial, number), Some((IsPut, splits)));
-    }
-    let Some(seen) = pictured(alloc, &mut trial) else {
-        panic!(rt; "not sound");
-    };
-    assert!(rt; seen.has(258, &[1, 5]) && seen.has(272, &[3, 7]));
-    for (number, page) in [(1, 258), (3, 272)] {
-        assert_eq!(rt;
-            delete(&mut trial, number, Kind::Tombstone),
-            Some(((page, Some(1060)), 0))
-        );
-    }
+const TWO_HALVES: [Row; 14] = [
+    Inserts(0, IsPut, 0),
+    Inserts(8192, IsPut, 0),
+    Inserts(16384, IsPut, 0),
+    Inserts(24576, IsPut, 14),
+    Covers(14, 15),
+    Leaf(258, 1, 1),
+    Inserts(1, IsPut, 0),
+    Inserts(3, IsPut, 0),
+    Inserts(5, IsPut, 0),
+    Inserts(7, IsPut, 1),
+    Has(258, &[1, 5]),
+    Has(272, &[3, 7]),
+    Deletes(1, (258, Some(1060)), Kind::Tombstone, 0),
+    Deletes(3, (272, Some(1060)), Kind::Tombstone, 0),
+];
+
+/// A trial of the file with these.
+fn two_halves(rt: &(impl Abort + AllocGlobal)) -> Result<Trial<MemDevice, NumberKey>, Fail> {
+    let mut trial = empty_file(rt, rt.alloc(), NumberKey)?;
+    show(rt, &mut trial, &TWO_HALVES);
     Ok(trial)
 }
 
@@ -62,7 +58,7 @@ fn is_merged<D: PageDevice + Drop>(alloc: Global, trial: &mut Trial<D, NumberKey
 
 #[test]
 fn a_merge_goes_through_the_directory(rt: HostRuntime) -> Result<(), Fail> {
-    let mut trial = two_halves(&rt, rt.alloc())?;
+    let mut trial = two_halves(&rt)?;
     assert_eq!(rt;
         delete(&mut trial, 7, Kind::Retarget),
         Some(((272, Some(1060)), 32))
@@ -99,10 +95,10 @@ fn delete_once_more<D: PageDevice + Drop>(trial: &mut Trial<D, NumberKey>) -> Op
 }
 
 /// The pages of a trial's file after the merge.
-fn merged(rt: &impl Abort, alloc: Global) -> Result<MemDevice, Fail> {
-    let mut trial = two_halves(rt, alloc)?;
+fn merged(rt: &(impl Abort + AllocGlobal)) -> Result<MemDevice, Fail> {
+    let mut trial = two_halves(rt)?;
     assert_eq!(rt; delete_once_more(&mut trial), Some(0));
-    assert!(rt; is_merged(alloc, &mut trial));
+    assert!(rt; is_merged(rt.alloc(), &mut trial));
     Ok(trial.close()?)
 }
 
@@ -122,23 +118,39 @@ fn are_same(one: &mut MemDevice, other: &mut MemDevice) -> Result<bool, DeviceFa
     Ok(true)
 }
 
+/// The delete on a copy of the pages, whose nth transfer fails. Whether one did; then its file is the one that is wanted.
+fn meets(
+    rt: &(impl Abort + AllocGlobal),
+    device: &mut MemDevice,
+    wanted: &mut MemDevice,
+    nth: u64,
+) -> Result<bool, Fail> {
+    let faulty = FaultyDevice::new(copy_of(rt.alloc(), device)?, nth);
+    let mut trial = Trial::open(rt.alloc(), faulty, 12, NumberKey)?;
+    let failed = delete_once_more(&mut trial);
+    assert!(rt; failed.is_some(), "transfer {nth}");
+    assert!(rt;
+        failed.map(u64::from) == Some(trial.faults()),
+        "transfer {nth}"
+    );
+    // Where none did, one of the closing would be the first.
+    if failed == Some(0) {
+        return Ok(false);
+    }
+    let mut left = trial.close()?.into_inner();
+    assert!(rt; are_same(&mut left, wanted)?, "transfer {nth}");
+    Ok(true)
+}
+
 #[test]
 fn each_transfer_of_a_merge_fails_in_turn(rt: HostRuntime) -> Result<(), Fail> {
-    let mut device = two_halves(&rt, rt.alloc())?.close()?;
-    let mut wanted = merged(&rt, rt.alloc())?;
+    let mut device = two_halves(&rt)?.close()?;
+    let mut wanted = merged(&rt)?;
     let mut met: u64 = 0;
     for nth in 1..=MOST_TRANSFERS {
-        let faulty = FaultyDevice::new(copy_of(rt.alloc(), &mut device)?, nth);
-        let mut trial = Trial::open(rt.alloc(), faulty, 12, NumberKey)?;
-        let failed = delete_once_more(&mut trial);
-        assert!(rt; failed.is_some(), "transfer {nth}");
-        if failed == Some(0) {
-            assert_eq!(rt; trial.faults(), 0, "transfer {nth}");
+        if !meets(&rt, &mut device, &mut wanted, nth)? {
             break;
         }
-        assert_eq!(rt; trial.faults(), 1, "transfer {nth}");
-        let mut left = trial.close()?.into_inner();
-        assert!(rt; are_same(&mut left, &mut wanted)?, "transfer {nth}");
         met = nth;
     }
     // the header, 32 pages of the directory, two buckets, and the free page behind them
