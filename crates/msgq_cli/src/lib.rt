@@ -12,6 +12,7 @@ mod ending;
 mod files;
 mod fullness;
 mod heard;
+mod help;
 mod line;
 mod line_faults;
 mod mistake;
