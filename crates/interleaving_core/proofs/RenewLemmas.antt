@@ -1,15 +1,20 @@
 -- What is done with a kernel between calls leaves it whole.
-use Rattle.std.proofs.Common.{ℕ, zero, suc, ◌≡◌, ◌≢◌, ◌↔◌, ◌+◌, ◌-◌, ◌≤◌, ◌<◌, refl, sym, ap, ◌∙◌, subst, inl, inr, Bool, true, false, not, ◌&&◌, IsSome, List, [], ◌∷◌, Option, Some, None, length, slice_get, slice_index_or, slice_set, map, option_map, arith}
-use Rattle.std.specs.Prelude.{IsTrue, sum_by}
+use Rattle.std.proofs.Common.{ℕ, zero, suc, ◌≡◌, ◌≢◌, ◌↔◌, ◌+◌, ◌-◌, ◌≤◌, ◌<◌, ◌++◌, refl, sym, ap, ◌∙◌, subst, inl, inr, Bool, true, false, not, ◌&&◌, IsSome, List, [], ◌∷◌, Option, Some, None, append-nil, drop, length, slice_get, slice_index_or, slice_set, map, option_map, take, arith}
+use Rattle.std.specs.Prelude.{Err, IsErrOf, IsTrue, Result, sum_by}
 use Rattle.std.specs.Bool.{then_some}
 use Rattle.std.specs.List.{All}
 use Rattle.std.specs.Option.{is_some}
-use Rattle.std.proofs.Math.ListN.{get_or-map}
+use Rattle.std.proofs.Math.ListN.{drop_of_length-le, get_or-map}
+use Rattle.std.proofs.Math.Seq.{take-length}
 use Rattle.std.proofs.lemmas.Bool.{and_parts, cases_eq, cases_lt, true≢false}
 use Rattle.std.proofs.lemmas.List.{get_or_past, length-map, set-get_or, set-set}
 use Rattle.std.proofs.lemmas.List.Elements.{All-get_or}
 use Rattle.std.proofs.lemmas.Option.{get_or_from_slice_get, slice_get-get_or}
-use Rattle.buffer_pool.specs.Pool.{KeepsImages, image_of, pins_at}
+use Rattle.buffer_pool.proofs.ImagesLemmas.{count_none}
+use Rattle.buffer_pool.specs.Pool.{IsCrowded, KeepsImages, MayNotPin, PoolHasCause, image_of, pins_at}
+use Rattle.buffer_pool.specs.declared.fault.PoolFault.TheVariants.{Device, TooFewFrames}
+use Rattle.buffer_pool.specs.declared.frame.Frame.{Frame}
+use Rattle.page_device.specs.declared.fault.DeviceFault.TheVariants as device
 use Rattle.page_device.specs.Sealed.{IsSealed, payload_of}
 use Rattle.std.proofs.lemmas.List.Sums.{sum_by-cons}
 use Rattle.page_locks.proofs.ChangeLemmas.{with_row-own}
@@ -19,7 +24,7 @@ use Rattle.interleaving_core.specs.Words.{Call, CallView, Caller, Entry, IsReady
 use Rattle.interleaving_core.specs.Active.{ActiveView, IsDrafted}
 use Rattle.interleaving_core.specs.Kernel.{IsCallOf, IsWhole, KernelState, call_at, due_at, locks_of, with_call}
 use Rattle.interleaving_core.specs.Past.{HasLooked, KeepsJournal, entry_of}
-use Rattle.interleaving_core.specs.Renewing.{GivesBack, HasNone, HasNothing, IsBetweenCalls, IsIdleOrWaits, IsNewWhileWaiting, IsRead, IsWaiting, IsWithdrawn, KeepsCall, MayGiveBack, Withdraws, looks_anew, outlasting}
+use Rattle.interleaving_core.specs.Renewing.{FailsToRead, GivesBack, HasNone, HasNothing, IsBetweenCalls, IsIdleOrWaits, IsNewWhileWaiting, IsRead, IsWaiting, IsWithdrawn, KeepsCall, MayGiveBack, PoolFault, Withdraws, failure_of_pool, looks_anew, outlasting}
 use Rattle.interleaving_core.specs.Waiting.{stays_waiting}
 use Rattle.interleaving_core.specs.declared.active.Draft.{Draft}
 use Rattle.interleaving_core.specs.declared.fault.Failure.{Failure}
@@ -50,36 +55,6 @@ new_has_nothing m new = record { free = new_holds_nothing m new; unanswered = ne
 pub none_by : {A : Type 0} (o : Option A) → is_some o ≡ false → o ≡ None
 none_by None is = refl
 none_by (Some a) is = absurd cc
-
--- what is kept for its entry is there, and has a copy of it
-pub kept_for : (m : CallView) (d : Option Draft) → IsDrafted m d → answer_of_call m ≡ None → is_some d ≡ true
-kept_for m None kept none = absurd (true≢false (sym kept ∙ ap is_some none))
-kept_for m (Some d) kept none = refl
-
-pub its_copy : (m : CallView) (o : Option Draft) (d : Draft) → IsDrafted m o → o ≡ Some d → d.call ≡ m.call
-its_copy m None d kept is = absurd cc
-its_copy m (Some x) d kept is = let same : x ≡ d = cc in ap (λ (y : Draft). y.call) (sym same) ∙ kept.call
-
-pub keeps_none : (old new : Option ActiveView) → old ≡ None → new ≡ None → KeepsCall old new
-keeps_none old new before behind = record {
-  same = behind ∙ sym before;
-  answered = λ a there. absurd (none_some (sym before ∙ there));
-}
-  where
-    none_some : {a : ActiveView} → ◌≡◌ {A = Option ActiveView} None (Some a) → ⊥
-    none_some clash = cc
-
-pub keeps_answered : (a : ActiveView) (old new : Option ActiveView) → old ≡ Some a → new ≡ old →
-    is_some (answer_of_call a.machine) ≡ true → KeepsCall old new
-keeps_answered a old new there same answered = record {
-  same = same;
-  answered = λ b is none. by b (sym there ∙ is) none;
-}
-  where
-    by : (b : ActiveView) → ◌≡◌ {A = Option ActiveView} (Some a) (Some b) → answer_of_call b.machine ≡ None → ⊥
-    by b is none =
-        let same : a ≡ b = cc in
-        true≢false (sym answered ∙ ap (λ (x : ActiveView). is_some (answer_of_call x.machine)) same ∙ ap is_some none)
 
 module _ {K : Type 0} (seat : ℕ) (old : KernelState K) (whole : IsWhole old) (is : IsSeat old.locks seat) where
   within_there : seat ≤ length old.seats
@@ -123,7 +98,7 @@ module _ {K : Type 0} (seat : ℕ) (old : KernelState K) (whole : IsWhole old) (
     seats_are : (o : Option ActiveView) → left ≡ o → slice_set old.seats (seat - 1) left ≡ with_call old.seats seat o
     seats_are o left_is = with_place old.seats seat left is.0 ∙ ap (with_call old.seats seat) left_is
 
-    back_whole : (back : Option Call) → MayGiveBack back slot left →
+    pub back_whole : (back : Option Call) → MayGiveBack back slot left →
         IsWhole (record old { seats = slice_set old.seats (seat - 1) left })
     back_whole None kept =
         subst (λ (x : Seats). IsWhole (record old { seats = x }))
@@ -132,7 +107,7 @@ module _ {K : Type 0} (seat : ℕ) (old : KernelState K) (whole : IsWhole old) (
         subst (λ (x : Seats). IsWhole (record old { seats = x })) (sym (seats_are None back.none))
         (withdrawn_whole free)
 
-    withdraws : (back : Option Call) → MayGiveBack back slot left →
+    pub withdraws : (back : Option Call) → MayGiveBack back slot left →
         Withdraws seat back old (record old { seats = slice_set old.seats (seat - 1) left })
     withdraws None kept = record {
       same = ap (λ (x : Seats). record old { seats = x })
@@ -176,6 +151,16 @@ module _ {K : Type 0} (seat : ℕ) (old : KernelState K) (whole : IsWhole old) (
         absurd cc;
   }
 
+-- one that has nothing comes back
+pub comes_back : {K : Type 0} (seat : ℕ) (back : Option Call) (old new : KernelState K) → Withdraws seat back old new →
+    (a : ActiveView) → call_at old.seats seat ≡ Some a → HasNothing a.machine → back ≡ Some a.machine.call
+comes_back seat None old new none a there nothing = absurd (none.none a there nothing)
+comes_back seat (Some call) old new went a there nothing =
+    ap (λ (c : Call). Some c) (went.call_is ∙ ap (λ (x : ActiveView). x.machine.call) (one (sym went.there ∙ there)))
+  where
+    one : ◌≡◌ {A = Option ActiveView} (Some went.active) (Some a) → went.active ≡ a
+    one same = cc
+
 -- ---- between calls
 
 pub waits_at : (seats : Seats) → All IsIdleOrWaits seats → (seat : ℕ) → IsIdleOrWaits (call_at seats seat)
@@ -185,49 +170,7 @@ waits_at seats all (suc place) = elim (cases_lt place (length seats)) [
   | inr past ↦ subst IsIdleOrWaits (sym (get_or_past seats place None past)) tt
 ]
 
-pub is_waiting_by : (a : ActiveView) (b : Bool) → b ≡ is_some a.wait → (IsSome a.wait → IsNew a.machine) →
-    IsTrue b ↔ IsWaiting a
-is_waiting_by a b is new = (
-  λ so. record { told = sym is ∙ so; new = new (sym is ∙ so) },
-  λ waits. is ∙ waits.told,
-)
-
-pub between : {K : Type 0} (s : KernelState K) (broken b : Bool) → broken ≡ s.failed →
-    (IsTrue b ↔ All IsIdleOrWaits s.seats) → IsTrue (not broken && b) ↔ IsBetweenCalls s
-between s broken b failed is = (
-  λ so.
-      let parts = and_parts (not broken) b so in
-      record { sound = sym failed ∙ none_of broken parts.0; seats = is.0 parts.1 },
-  λ rest. ap (λ (x : Bool). not x && b) (failed ∙ rest.sound) ∙ is.1 rest.seats,
-)
-  where
-    none_of : (x : Bool) → not x ≡ true → x ≡ false
-    none_of true clash = absurd cc
-    none_of false clash = refl
-
 -- ---- the journal is taken out
-
--- of a call: it is the same beside an empty one
-pub outlasts : (journal : List Entry) (a between : ActiveView) (waits : Bool) →
-    waits ≡ stays_waiting a.wait a.machine.call journal →
-    (waits ≡ true → between ≡ record a { wait = Some (length journal) }) → (waits ≡ false → between ≡ a) →
-    record between { begun = 0; decided = 0; wait = then_some waits 0 } ≡ outlasting journal a
-outlasts journal a between true is waits goes =
-    ap (λ (x : ActiveView). record x { begun = 0; decided = 0; wait = Some 0 }) (waits refl)
-    ∙ ap (λ (b : Bool). record a { begun = 0; decided = 0; wait = looks_anew b }) is
-outlasts journal a between false is waits goes =
-    ap (λ (x : ActiveView). record x { begun = 0; decided = 0; wait = None }) (goes refl)
-    ∙ ap (λ (b : Bool). record a { begun = 0; decided = 0; wait = looks_anew b }) is
-
--- it stays waiting only where it waits
-pub stays_some : (wait : Option ℕ) (call : Call) (journal : List Entry) → stays_waiting wait call journal ≡ true →
-    IsSome wait
-stays_some None call journal stays = absurd (true≢false (sym stays))
-stays_some (Some since) call journal stays = refl
-
-some_of : (b : Bool) → IsSome (then_some b 0) → b ≡ true
-some_of true some = refl
-some_of false some = absurd (true≢false (sym some))
 
 pub outlast_at : (journal : List Entry) (seats : Seats) (seat : ℕ) →
     call_at (map (option_map (outlasting journal)) seats) seat ≡ option_map (outlasting journal) (call_at seats seat)
@@ -302,6 +245,30 @@ renewed_whole {K} old room whole rest more = record {
     many : length (map (option_map (outlasting old.journal)) old.seats) ≡ length old.seats
     many = length-map old.seats (option_map (outlasting old.journal))
 
+-- the list of seats was lent whole, and came back whole
+lent : (goes : Option ActiveView → Option ActiveView) (xs ys zs : Seats) (n : ℕ) → ys ≡ xs → zs ≡ map goes ys →
+    n ≡ length xs → take n (zs ++ drop (length zs) xs) ≡ map goes xs
+lent goes xs ys zs n same is many =
+    let long : length zs ≡ length xs = ap length is ∙ length-map ys goes ∙ ap length same in
+    ap (λ (rest : Seats). take n (zs ++ rest)) (drop_of_length-le xs (omega (arith, long)))
+    ∙ ap (take n) (append-nil zs) ∙ ap (λ (m : ℕ). take m zs) (many ∙ sym long) ∙ take-length zs ∙ is
+    ∙ ap (map goes) same
+
+pub renewed_by : {K : Type 0} (old : KernelState K) (es left : List Entry) (ys zs : Seats) (n room : ℕ) →
+    IsWhole old → IsBetweenCalls old → es ≡ old.journal → left ≡ [] → ys ≡ old.seats →
+    zs ≡ map (option_map (outlasting es)) ys → n ≡ length old.seats → length old.seats + 1 ≤ room →
+    IsWhole (record old { seats = take n (zs ++ drop (length zs) old.seats); journal = left; room = room })
+renewed_by old es left ys zs n room whole rest same none lends is many more =
+    subst (λ (left : List Entry). IsWhole (record old {
+      seats = take n (zs ++ drop (length zs) old.seats);
+      journal = left;
+      room = room;
+    })) (sym none)
+    (subst (λ (x : Seats). IsWhole (record old { seats = x; journal = []; room = room }))
+    (sym (lent (option_map (outlasting old.journal)) old.seats ys zs n lends
+    (is ∙ ap (λ (js : List Entry). map (option_map (outlasting js)) ys) same) many))
+    (renewed_whole old room whole rest more))
+
 -- ---- its pages
 
 -- frames enough, and no page is pinned
@@ -309,21 +276,6 @@ pub still_ready : (old new : PoolState) → IsReady old → new.pins ≡ old.pin
 still_ready old new ready pins frames = record {
   rest = λ page. ap (λ (ps : List ℕ). slice_index_or ps page 0) pins ∙ ready.rest page;
   frames = let least = ready.frames in omega (arith, least, frames);
-}
-
-pub failed_whole : {K : Type 0} (old : KernelState K) (failure : Failure) → IsWhole old →
-    IsWhole (record old { failed = true; failure = Some failure })
-failed_whole old failure whole = record {
-  ready = whole.ready;
-  rows = whole.rows;
-  callers = whole.callers;
-  fitting = whole.fitting;
-  calls = whole.calls;
-  room = whole.room;
-  few = whole.few;
-  past = whole.past;
-  blamed = refl;
-  counted = whole.counted;
 }
 
 pub pool_whole : {K : Type 0} (old : KernelState K) (pool : PoolState) → IsWhole old → pool.pins ≡ old.pool.pins →
@@ -392,3 +344,28 @@ module _ {K : Type 0} (old : KernelState K) (whole : IsWhole old) (page frame : 
       sealed = sealed;
     };
   }
+
+-- or it did not come to a frame: it was there, and there were frames
+pub fails_to_read : {K : Type 0} (old new : KernelState K) (page : ℕ) (fault : PoolFault) (held : PoolState) →
+    IsWhole old → page < length old.pool.images →
+    new ≡ record old { pool = held; failed = true; failure = failure_of_pool fault } → held.pins ≡ old.pool.pins →
+    KeepsImages false old.pool held →
+    (IsErrOf {T = Frame} (Err fault) (Device device.PastEnd) → length old.pool.images ≤ page) →
+    (IsErrOf {T = Frame} (Err fault) TooFewFrames → IsCrowded page old.pool) →
+    PoolHasCause {T = Frame} (MayNotPin page old.pool) old.pool.faults held.faults (Err fault) →
+    FailsToRead page fault old new
+fails_to_read {K} old new page fault held whole within is pins keeps past crowded cause =
+    subst (FailsToRead page fault old) (sym is) (record {
+      by = record { is = refl; pins = pins; later = cause.later; keeps = keeps };
+      there = λ told. let beyond = past (ap of_frame told) in omega (arith, beyond, within);
+      room = λ told.
+          let all = (crowded (ap of_frame told)).all_pinned in
+          let none = count_none old.pool.pins whole.ready.rest in
+          let least = whole.ready.frames in
+          omega (arith, all, none, least);
+      told = cause.told;
+      failed = λ told. cause.failed (ap of_frame told);
+    })
+  where
+    of_frame : PoolFault → Result Frame PoolFault
+    of_frame fault = Err fault

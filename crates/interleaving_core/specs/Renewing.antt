@@ -5,7 +5,7 @@ use Rattle.std.specs.List.{All}
 use Rattle.page_device.specs.Device.{HasRisen}
 use Rattle.page_device.specs.Sealed.{IsSealed, payload_of}
 use Rattle.page_device.specs.declared.fault.DeviceFault.TheVariants as device
-use Rattle.buffer_pool.specs.Pool.{KeepsImages, MayNotPin, PoolHasCause, image_of}
+use Rattle.buffer_pool.specs.Pool.{KeepsImages, MayNotPin, image_of}
 pub use Rattle.buffer_pool.specs.declared.fault.PoolFault.{PoolFault}
 use Rattle.buffer_pool.specs.declared.fault.PoolFault.TheVariants.{Device, TooFewFrames}
 use Rattle.file_pages.specs.declared.fault.FileFault.TheVariants.{Pool}
@@ -155,12 +155,14 @@ pub record IsRead {K : Type 0} (page : ℕ) (bytes : List ℕ) (old new : Kernel
   pub stay : KeepsPages old new
   pub is : IsPage page bytes new.pool
 
--- the page did not come to a frame. It was there, and there were frames
+-- the page did not come to a frame
 pub record FailsToRead {K : Type 0} (page : ℕ) (fault : PoolFault) (old new : KernelState K) : Type 0 where
   pub by : IsFailedBy fault old new
+  -- it was there, and there were frames: so a transfer failed, or what the device has is no such page
   pub there : fault ≢ Device device.PastEnd
   pub room : fault ≢ TooFewFrames
-  pub cause : PoolHasCause {T = Unit {0}} (MayNotPin page old.pool) old.pool.faults new.pool.faults (Err fault)
+  pub told : MayNotPin page old.pool fault
+  pub failed : fault ≡ Device device.Device → HasRisen old.pool.faults new.pool.faults
 
 abbrev pub Reads : {K : Type 0} → ℕ → Result (List ℕ) PoolFault → (old new : KernelState K) → Type 0
 Reads page (Ok bytes) old new = IsRead page bytes old new

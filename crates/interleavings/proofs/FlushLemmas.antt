@@ -3,10 +3,13 @@ use Rattle.std.proofs.Common.{ℕ, zero, suc, ◌≡◌, ◌≤◌, ◌<◌, inl
 use Rattle.std.specs.List.{All}
 use Rattle.std.proofs.lemmas.Bool.{cases_eq}
 use Rattle.buffer_pool.specs.Pool.{KeepsImages}
+use Rattle.buffer_pool.specs.declared.fault.PoolFault.TheVariants.{Device, Malformed, NoMemory, TooFewFrames}
+use Rattle.page_device.specs.declared.fault.DeviceFault.TheVariants as device
 use Rattle.concurrent_calls.proofs.SeatLemmas.{well}
 use Rattle.concurrent_calls.specs.Laws.{AreTogetherIn, BeginTogether}
 use Rattle.concurrent_calls.specs.Together.{AreTogether, IsWell, Seats}
 use Rattle.concurrent_calls.specs.Words.{StandsAt}
+use Rattle.file_pages.proofs.ReadLemmas.{is_well}
 use Rattle.file_pages.specs.Files.{IsFilePool, SpellsFile}
 use Rattle.interleaving_core.proofs.PlaceLemmas.{at_other, at_same, length-with_call, seat_of_call, with_own}
 use Rattle.interleaving_core.proofs.RenewLemmas.{new_has_nothing, waits_at}
@@ -19,7 +22,7 @@ use Rattle.interleavings.proofs.LeadLemmas.{machine, others_same}
 use Rattle.interleavings.specs.Counting.{AreCounted, IsCounted, facts_of}
 use Rattle.interleavings.specs.Laws.{ClosesRefine}
 use Rattle.interleavings.specs.Refining.{Refines, calls_of}
-use Rattle.interleavings.specs.Renewing.{FlushesRefine, PagesRefine}
+use Rattle.interleavings.specs.Renewing.{FlushesRefine, PagesRefine, ReadsFailWithTheDevice}
 use Rattle.interleavings.specs.Words.{ActiveView, CallView, Caller, Entry, IsFileOf, KernelState, PoolState, RecordKey, State, Table, after, call_at, restarted, store_of, with_call}
 use Rattle.interleavings.proofs.RenewLemmas.{taken_back}
 
@@ -246,3 +249,18 @@ flushes_led begins K closes hash base old new led rest flushed =
           (subst (λ (es : List Entry). IsFileOf hash new.pool.stored (restarted (after old.callers es base)))
           (sym same_journal) file);
     }
+
+-- a page is read, unless a transfer fails: what the device has is the file
+pub reads_fail : (K : Type 0) → ReadsFailWithTheDevice K
+reads_fail K hash base page (Device device.Device) old new led rest within failed = failed.failed refl
+reads_fail K hash base page (Device device.BadDigest) old new led rest within failed =
+    let was = (led.together rest.sound).calls in
+    absurd (failed.told was.honest (was.file.sealed page within))
+reads_fail K hash base page (Device device.PastEnd) old new led rest within failed = absurd (failed.there refl)
+reads_fail K hash base page (Device device.DeviceFull) old new led rest within failed = absurd failed.told
+reads_fail K hash base page (Device device.NoMemory) old new led rest within failed = absurd failed.told
+reads_fail K hash base page Malformed old new led rest within failed =
+    let was = (led.together rest.sound).calls in
+    absurd (failed.told was.honest (is_well old.pool.images was.file.file page within))
+reads_fail K hash base page TooFewFrames old new led rest within failed = absurd (failed.room refl)
+reads_fail K hash base page NoMemory old new led rest within failed = absurd failed.told

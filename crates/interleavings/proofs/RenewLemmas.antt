@@ -159,19 +159,19 @@ module _ (journal : List Entry) (seats : List (Option ActiveView)) where
           sits seat b at ∙ ap (λ (x : ActiveView). Some x.machine.caller) same
 
 module _ {K : Type 0} (hash : RecordKey → ℕ) (s : State) (k : KernelState K) (room : ℕ) (was : AreCounted hash s k)
-    where
-  abbrev anew : KernelState K
-  anew = record k { seats = outlast k.journal k.seats; journal = []; room = room }
+  where
+    abbrev anew : KernelState K
+    anew = record k { seats = outlast k.journal k.seats; journal = []; room = room }
 
-  together_anew : AreTogetherIn hash s (calls_of anew.seats) k.pool k.locks was.calls.change
-  together_anew = subst (λ calls. AreTogetherIn hash s calls k.pool k.locks was.calls.change)
-      (sym (same_calls k.journal k.seats)) (record { together = was.calls; phase = refl })
+    together_anew : AreTogetherIn hash s (calls_of anew.seats) k.pool k.locks was.calls.change
+    together_anew = subst (λ calls. AreTogetherIn hash s calls k.pool k.locks was.calls.change)
+        (sym (same_calls k.journal k.seats)) (record { together = was.calls; phase = refl })
 
-  pub counted_anew : AreCounted hash s anew
-  counted_anew = (counted_in hash s anew was.calls.change together_anew was.phase
-      (λ seat some within. subst (λ calls. IsCounted seat (facts_of (calls seat)) (count_at k.searches.counts seat)
-      (world k.pool.images k.locks was.calls.change)) (sym (same_calls k.journal k.seats))
-      (was.counted seat some (subst (λ (n : ℕ). seat ≤ n) (many k.journal k.seats) within)))).all
+    pub counted_anew : AreCounted hash s anew
+    counted_anew = (counted_in hash s anew was.calls.change together_anew was.phase
+        (λ seat some within. subst (λ calls. IsCounted seat (facts_of (calls seat)) (count_at k.searches.counts seat)
+        (world k.pool.images k.locks was.calls.change)) (sym (same_calls k.journal k.seats))
+        (was.counted seat some (subst (λ (n : ℕ). seat ≤ n) (many k.journal k.seats) within)))).all
 
 pub renews_led : (K : Type 0) → RenewsRefine K
 renews_led K hash base taken old new led renewed =

@@ -1,6 +1,7 @@
 -- Laws of kernels that refine a system and serve for long. Each is the contract of a function of renewing.rt.
-use Rattle.std.specs.Prelude.{ℕ, List}
-use Rattle.interleaving_core.specs.Renewing.{HasFlushed, IsBetweenCalls, IsFailedBy, IsRenewed, IsWithdrawn, KeepsPages, PoolFault}
+use Rattle.std.specs.Prelude.{ℕ, ◌<◌, List, length}
+use Rattle.page_device.specs.Device.{HasRisen}
+use Rattle.interleaving_core.specs.Renewing.{FailsToRead, HasFlushed, IsBetweenCalls, IsFailedBy, IsRenewed, IsWithdrawn, KeepsPages, PoolFault}
 use Rattle.interleavings.specs.Words.{Call, Entry, IsFileOf, IsLawful, KernelState, RecordKey, State, after, restarted}
 use Rattle.interleavings.specs.Refining.{Refines}
 
@@ -24,6 +25,12 @@ RenewsRefine K = (hash : RecordKey → ℕ) (base : State) (taken : List Entry) 
 abbrev pub PagesRefine : Type 0 → Type 0
 PagesRefine K = (hash : RecordKey → ℕ) (base : State) (old new : KernelState K) → Refines hash base old →
     IsBetweenCalls old → KeepsPages old new → Refines hash base new
+
+-- such a page is read, unless a transfer fails
+abbrev pub ReadsFailWithTheDevice : Type 0 → Type 0
+ReadsFailWithTheDevice K = (hash : RecordKey → ℕ) (base : State) (page : ℕ) (fault : PoolFault)
+    (old new : KernelState K) → Refines hash base old → IsBetweenCalls old → page < length old.pool.images →
+    FailsToRead page fault old new → HasRisen old.pool.faults new.pool.faults
 
 -- the kernel refines the same system, and its device has the file of the system after the journal
 pub record HasItsFile {K : Type 0} (hash : RecordKey → ℕ) (base : State) (k : KernelState K) : Type 0 where

@@ -19,6 +19,7 @@ pub use laws::{
 };
 pub use playing::{EndFault, Played, play_on};
 pub use renewing::{
-    failures_refine, flushes_refine, pages_refine, renewals_refine, withdrawals_refine,
+    failures_refine, flushes_refine, pages_refine, reads_fail_with_the_device, renewals_refine,
+    withdrawals_refine,
 };
 pub use running::run;

@@ -1,7 +1,7 @@
 //! Laws of kernels that refine a system and serve for long. The functions do nothing; their
 //! contracts are the laws.
 
-ghost use Rattle.interleavings.specs.Renewing.{FailuresRefine, FlushesRefine, PagesRefine, RenewsRefine, WithdrawsRefine};
+ghost use Rattle.interleavings.specs.Renewing.{FailuresRefine, FlushesRefine, PagesRefine, ReadsFailWithTheDevice, RenewsRefine, WithdrawsRefine};
 
 use crate::laws::a_refining_kernel_closes_on_its_file;
 use concurrent_calls::calls_begin_together;
@@ -24,6 +24,11 @@ pub fn pages_refine<K>()
 {
     calls_begin_together();
 }
+
+/// A page is read, unless a transfer of the device fails: that has the pages of a file.
+pub fn reads_fail_with_the_device<K>()
+    ensures { ReadsFailWithTheDevice K }
+{}
 
 /// One that is flushed between calls still refines its system, and its device has the file of the
 /// system after the journal. The stop mark stands in no record.
