@@ -179,7 +179,8 @@ renews_led K hash base taken old new led renewed =
     ap (λ (es : List Entry). after old.callers es base) renewed.taken_is
     ∙ after-LeadsAlong old.callers old.journal base led.now led.leads in
     record {
-      led = subst (λ (s : State). Refines hash s new) (sym same) (subst (Refines hash led.now) (sym renewed.is) led_anew);
+      led = subst (λ (s : State). Refines hash s new) (sym same)
+          (subst (Refines hash led.now) (sym renewed.is) led_anew);
       lawful = λ lawful. subst IsLawful (sym same)
           (IsLawful-LeadsAlong old.callers old.journal base led.now lawful led.leads);
     }
