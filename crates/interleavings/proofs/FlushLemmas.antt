@@ -29,7 +29,7 @@ use Rattle.interleavings.proofs.RenewLemmas.{taken_back}
 -- ---- calls that wait are taken back, one by one
 
 -- the first so many seats have none
-cleared : ℕ → List (Option ActiveView) → List (Option ActiveView)
+abbrev cleared : ℕ → List (Option ActiveView) → List (Option ActiveView)
 cleared zero seats = seats
 cleared (suc n) seats = with_call (cleared n seats) (suc n) None
 

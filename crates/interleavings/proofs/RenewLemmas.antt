@@ -185,7 +185,8 @@ renews_led K hash base taken old new led renewed =
           (IsLawful-LeadsAlong old.callers old.journal base led.now lawful led.leads);
     }
   where
-    led_anew : Refines hash led.now (anew hash led.now old new.room)
+    led_anew : Refines hash led.now
+        (record old { seats = outlast old.journal old.seats; journal = []; room = new.room })
     led_anew = record {
       now = led.now;
       leads = refl;
