@@ -8,7 +8,7 @@ use Rattle.queue_model.specs.declared.answer.QueueInfo.{QueueInfo}
 use Rattle.queue_model.specs.declared.call.Call.{Call}
 use Rattle.queue_model.specs.declared.caller.Caller.{Caller}
 use Rattle.queue_model.specs.declared.message.Message.{Message}
-use Rattle.queue_commands.specs.Asking.{Asker, Asking, IsAnswered, IsAsked, Then}
+use Rattle.queue_commands.specs.Asking.{Asking, IsAnswered, IsAsked, Then}
 use Rattle.queue_commands.specs.Changing.{IsDone, set_call}
 use Rattle.queue_commands.specs.Coming.{Comes, Leaves, done_in, id_in, info_in, message_in, serial_in}
 use Rattle.queue_commands.specs.Receiving.{TakesAs, receive_call}
@@ -162,12 +162,12 @@ module _ {A B : Type 0} (first : Asking A) (next : A → State → Asking B) (La
 
 -- by each caller, from each system that stood first
 module _ {A B : Type 0} (first : Caller → State → Asking A) (next : Caller → A → State → Asking B)
-    (First Middle Stands : Asker → State → Type 0) (Lacked Lacks : Asker → Type 0) where
+    (First Middle Stands : Caller → State → Type 0) (Lacked Lacks : Caller → Type 0) where
   pub asks_both : (x : A) (came : Result B AskError) →
-      ((a : Asker) (s : State) → First a s → Comes (Middle a) (Lacked a) (first a.caller s) (Ok x)) →
-      ((a : Asker) (u : State) → Middle a u → Comes (Stands a) (Lacks a) (next a.caller x u) came) →
-      (a : Asker) (s : State) → First a s →
-      Comes (Stands a) (Lacks a) (Then (first a.caller s) (next a.caller)) came
+      ((a : Caller) (s : State) → First a s → Comes (Middle a) (Lacked a) (first a s) (Ok x)) →
+      ((a : Caller) (u : State) → Middle a u → Comes (Stands a) (Lacks a) (next a x u) came) →
+      (a : Caller) (s : State) → First a s →
+      Comes (Stands a) (Lacks a) (Then (first a s) (next a)) came
   asks_both x came finds asks a s stands =
-      goes_on (first a.caller s) (next a.caller) (Lacks a) x (Middle a) (Stands a) (Lacked a) came (finds a s stands)
+      goes_on (first a s) (next a) (Lacks a) x (Middle a) (Stands a) (Lacked a) came (finds a s stands)
       (asks a)

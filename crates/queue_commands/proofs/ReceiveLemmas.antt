@@ -8,7 +8,7 @@ use Rattle.queue_model.specs.declared.answer.Answer.TheVariants as answers
 use Rattle.queue_model.specs.declared.errno.Errno.{Errno}
 use Rattle.queue_model.specs.declared.errno.Errno.TheVariants.{ENOMSG}
 use Rattle.queue_model.specs.declared.message.Message.{Message}
-use Rattle.queue_commands.specs.Asking.{Asker, IsAnswered}
+use Rattle.queue_commands.specs.Asking.{IsAnswered}
 use Rattle.queue_commands.specs.Coming.{Comes}
 use Rattle.queue_commands.specs.Receiving.{AreTaken, IsRefusedAfter, IsTaken, TakesAllAs, shown_text, shown_texts}
 use Rattle.queue_commands.specs.declared.error.AskError.{AskError}
@@ -140,44 +140,44 @@ module _ (c : Caller) (call : Call) (s : State) where
 -- ---- by each caller, from each system that stood first
 
 -- so many messages were taken
-abbrev pub TakesOn : Call → Bool → ℕ → List ℕ → (First Stands : Asker → State → Type 0) → Type 0
+abbrev pub TakesOn : Call → Bool → ℕ → List ℕ → (First Stands : Caller → State → Type 0) → Type 0
 TakesOn call heads many text First Stands =
-    (a : Asker) (s : State) → First a s → Taken a.caller call heads many s text (Stands a)
+    (a : Caller) (s : State) → First a s → Taken a call heads many s text (Stands a)
 
 -- what comes of the Receive of one
-abbrev pub Takes : Call → (Before Stands : Asker → State → Type 0) → (Asker → Type 0) → Result Message AskError →
+abbrev pub Takes : Call → (Before Stands : Caller → State → Type 0) → (Caller → Type 0) → Result Message AskError →
     Type 0
-Takes call Before Stands Lacks came = (a : Asker) (u : State) → Before a u →
-    Comes (Stands a) (Lacks a) (IsAnswered answers.Received a.caller call u) came
+Takes call Before Stands Lacks came = (a : Caller) (u : State) → Before a u →
+    Comes (Stands a) (Lacks a) (IsAnswered answers.Received a call u) came
 
-pub TakesOn-none : (call : Call) (heads : Bool) (Stands : Asker → State → Type 0) →
+pub TakesOn-none : (call : Call) (heads : Bool) (Stands : Caller → State → Type 0) →
     TakesOn call heads 0 [] Stands Stands
-TakesOn-none call heads Stands a s stands = Taken-none a.caller call s heads (Stands a) stands
+TakesOn-none call heads Stands a s stands = Taken-none a call s heads (Stands a) stands
 
-module _ (call : Call) (text : List ℕ) (First Before Stands : Asker → State → Type 0) (Lacks : Asker → Type 0) where
+module _ (call : Call) (text : List ℕ) (First Before Stands : Caller → State → Type 0) (Lacks : Caller → Type 0) where
   pub TakesOn-push : (heads : Bool) (many : ℕ) (more : List ℕ) (m : Message) →
       TakesOn call heads many text First Before → Takes call Before Stands Lacks (Ok m) →
       more ≡ text ++ shown_text heads m → TakesOn call heads (many + 1) more First Stands
   TakesOn-push heads many more m before takes is a s first =
-      Taken-push a.caller call s heads many text more (Before a) (Stands a) (Lacks a) m (before a s first) (takes a) is
+      Taken-push a call s heads many text more (Before a) (Stands a) (Lacks a) m (before a s first) (takes a) is
 
   module _ (r : Receiving) (many : ℕ) where
     pub TakesOn-most : TakesOn call r.heads many text First Before → many ≡ r.most →
-        (a : Asker) (s : State) → First a s →
-        Comes (Before a) (Lacks a) (TakesAllAs a.caller call r s) (Ok text)
+        (a : Caller) (s : State) → First a s →
+        Comes (Before a) (Lacks a) (TakesAllAs a call r s) (Ok text)
     TakesOn-most before most a s first =
-        Taken-most a.caller call s r many text (Before a) (Stands a) (Lacks a) (before a s first) most
+        Taken-most a call s r many text (Before a) (Stands a) (Lacks a) (before a s first) most
 
     module _ (before : TakesOn call r.heads many text First Before) (below : many < r.most) where
       pub TakesOn-all : 0 < many → Takes call Before Stands Lacks (Err (errors.Refused ENOMSG)) →
-          (a : Asker) (s : State) → First a s →
-          Comes (Stands a) (Lacks a) (TakesAllAs a.caller call r s) (Ok text)
+          (a : Caller) (s : State) → First a s →
+          Comes (Stands a) (Lacks a) (TakesAllAs a call r s) (Ok text)
       TakesOn-all some takes a s first =
-          Taken-all a.caller call s r many text (Before a) (Stands a) (Lacks a) (before a s first) below some (takes a)
+          Taken-all a call s r many text (Before a) (Stands a) (Lacks a) (before a s first) below some (takes a)
 
       pub TakesOn-refused : (error : AskError) → (error ≡ errors.Refused ENOMSG → many ≡ 0) →
-          Takes call Before Stands Lacks (Err error) → (a : Asker) (s : State) → First a s →
-          Comes (Stands a) (Lacks a) (TakesAllAs a.caller call r s) (Err error)
+          Takes call Before Stands Lacks (Err error) → (a : Caller) (s : State) → First a s →
+          Comes (Stands a) (Lacks a) (TakesAllAs a call r s) (Err error)
       TakesOn-refused error only takes a s first =
-          Taken-refused a.caller call s r many text (Before a) (Stands a) (Lacks a) (before a s first) below error only
+          Taken-refused a call s r many text (Before a) (Stands a) (Lacks a) (before a s first) below error only
           (takes a)

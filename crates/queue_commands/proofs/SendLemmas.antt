@@ -6,7 +6,7 @@ use Rattle.queue_model.specs.State.{State}
 use Rattle.queue_model.specs.declared.call.Call.{Call}
 use Rattle.queue_model.specs.declared.caller.Caller.{Caller}
 use Rattle.queue_model.specs.declared.answer.Answer.TheVariants as answers
-use Rattle.queue_commands.specs.Asking.{Asker, IsAnswered}
+use Rattle.queue_commands.specs.Asking.{IsAnswered}
 use Rattle.queue_commands.specs.Coming.{Comes}
 use Rattle.queue_commands.specs.Sending.{AreSent, IsRefusedAtOne, SendsAllAs, serials_text, told_text}
 use Rattle.queue_commands.specs.declared.error.AskError.{AskError}
@@ -110,38 +110,38 @@ module _ (c : Caller) (call : List ℕ → Call) (tells : Bool) (s : State) wher
 -- ---- by each caller, from each system that stood first
 
 -- the bodies were sent
-abbrev pub SendsOn : (List ℕ → Call) → Bool → List (List ℕ) → List ℕ → (First Stands : Asker → State → Type 0) → Type 0
+abbrev pub SendsOn : (List ℕ → Call) → Bool → List (List ℕ) → List ℕ → (First Stands : Caller → State → Type 0) → Type 0
 SendsOn call tells bodies text First Stands =
-    (a : Asker) (s : State) → First a s → Sent a.caller call tells bodies s text (Stands a)
+    (a : Caller) (s : State) → First a s → Sent a call tells bodies s text (Stands a)
 
 -- what comes of the Send of one
-abbrev pub Sends : (List ℕ → Call) → List ℕ → (Before Stands : Asker → State → Type 0) → (Asker → Type 0) →
+abbrev pub Sends : (List ℕ → Call) → List ℕ → (Before Stands : Caller → State → Type 0) → (Caller → Type 0) →
     Result ℕ AskError → Type 0
-Sends call body Before Stands Lacks came = (a : Asker) (u : State) → Before a u →
-    Comes (Stands a) (Lacks a) (IsAnswered answers.Sent a.caller (call body) u) came
+Sends call body Before Stands Lacks came = (a : Caller) (u : State) → Before a u →
+    Comes (Stands a) (Lacks a) (IsAnswered answers.Sent a (call body) u) came
 
-pub SendsOn-none : (call : List ℕ → Call) (tells : Bool) (Stands : Asker → State → Type 0) →
+pub SendsOn-none : (call : List ℕ → Call) (tells : Bool) (Stands : Caller → State → Type 0) →
     SendsOn call tells [] [] Stands Stands
-SendsOn-none call tells Stands a s stands = Sent-none a.caller call tells s (Stands a) stands
+SendsOn-none call tells Stands a s stands = Sent-none a call tells s (Stands a) stands
 
 module _ (call : List ℕ → Call) (tells : Bool) (bodies : List (List ℕ)) (text : List ℕ)
-    (First Before Stands : Asker → State → Type 0) (Lacks : Asker → Type 0) where
+    (First Before Stands : Caller → State → Type 0) (Lacks : Caller → Type 0) where
   pub SendsOn-push : (body more : List ℕ) (serial : ℕ) → SendsOn call tells bodies text First Before →
       Sends call body Before Stands Lacks (Ok serial) → more ≡ text ++ told_text tells (serial ∷ []) →
       SendsOn call tells (bodies ++ body ∷ []) more First Stands
   SendsOn-push body more serial before sends is a s first =
-      Sent-push a.caller call tells s bodies text more (Before a) (Stands a) (Lacks a) body serial (before a s first)
+      Sent-push a call tells s bodies text more (Before a) (Stands a) (Lacks a) body serial (before a s first)
       (sends a) is
 
-  pub SendsOn-all : SendsOn call tells bodies text First Stands → (a : Asker) (s : State) → First a s →
-      Comes (Stands a) (Lacks a) (SendsAllAs a.caller call tells bodies s) (Ok text)
-  SendsOn-all before a s first = Sent-all a.caller call tells s bodies text (Stands a) (Lacks a) (before a s first)
+  pub SendsOn-all : SendsOn call tells bodies text First Stands → (a : Caller) (s : State) → First a s →
+      Comes (Stands a) (Lacks a) (SendsAllAs a call tells bodies s) (Ok text)
+  SendsOn-all before a s first = Sent-all a call tells s bodies text (Stands a) (Lacks a) (before a s first)
 
   pub SendsOn-refused : (place : ℕ) (error : AskError) → place < length bodies →
       SendsOn call tells (take place bodies) text First Before →
       Sends call (slice_index_or bodies place []) Before Stands Lacks (Err error) →
-      (a : Asker) (s : State) → First a s →
-      Comes (Stands a) (Lacks a) (SendsAllAs a.caller call tells bodies s) (Err error)
+      (a : Caller) (s : State) → First a s →
+      Comes (Stands a) (Lacks a) (SendsAllAs a call tells bodies s) (Err error)
   SendsOn-refused place error within before sends a s first =
-      Sent-refused a.caller call tells s bodies text place (Before a) (Stands a) (Lacks a) error within
+      Sent-refused a call tells s bodies text place (Before a) (Stands a) (Lacks a) error within
       (before a s first) (sends a)

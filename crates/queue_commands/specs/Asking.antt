@@ -12,11 +12,6 @@ use Rattle.queue_model.specs.declared.errno.Errno.{Errno}
 use Rattle.queue_lists.specs.declared.queue_name.QueueName.{QueueName}
 use Rattle.queue_lists.specs.declared.queue_name.QueueName.TheVariants.{Key, Id}
 
--- who calls, and how often what answers had failed before the first call
-pub record Asker : Type 0 where
-  pub caller : Caller
-  pub failures : ℕ
-
 -- what asking for a value may come to, and the system that it leaves
 abbrev pub Asking : Type 0 → Type 1
 Asking A = Result A Errno → State → Type 0

@@ -2,7 +2,8 @@
 
 ghost use Rattle.std.specs.Prelude.{◌≡◌, ℕ};
 ghost use Rattle.queue_model.specs.State.{State};
-ghost use Rattle.queue_commands.specs.Asking.{Asker, FindsAs};
+ghost use Rattle.queue_model.specs.declared.caller.Caller.{Caller};
+ghost use Rattle.queue_commands.specs.Asking.{FindsAs};
 ghost use Rattle.queue_commands.specs.Coming.{Comes, done_in, id_in, info_in, message_in, serial_in};
 
 use crate::answering::Answering;
@@ -19,9 +20,9 @@ pub(crate) fn find<A: Answering>(
     queue: QueueName,
     create: Option<u16>,
 ) -> Result<u32, AskError>
-    ensures { (a : Asker) (s : State) → A.stands answers.old a s →
-        Comes (A.stands answers.new a) (A.lacks answers.new a)
-        (FindsAs a.caller moment queue create s) result }
+    ensures { (c : Caller) (s : State) → A.stands answers.old c s →
+        Comes (A.stands answers.new c) (A.lacks answers.new c)
+        (FindsAs c moment queue create s) result }
 {
     match queue {
         QueueName::Id(id) => Ok(id),

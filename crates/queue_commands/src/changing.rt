@@ -2,7 +2,7 @@
 
 ghost use Rattle.std.specs.Prelude.{◌≡◌, ℕ, Option, length};
 ghost use Rattle.queue_model.specs.State.{State};
-ghost use Rattle.queue_commands.specs.Asking.{Asker};
+ghost use Rattle.queue_model.specs.declared.caller.Caller.{Caller};
 ghost use Rattle.queue_commands.specs.Changing.{LimitsAs, MakesAs, RemovesAs, SetsAs};
 ghost use Rattle.queue_commands.specs.Coming.{Comes};
 
@@ -22,9 +22,9 @@ pub(crate) fn make<A: Answering>(
     key: Option<u32>,
     mode: u16,
 ) -> Result<Text, AskError>
-    ensures { (a : Asker) (s : State) → A.stands answers.old a s →
-        Comes (A.stands answers.new a) (A.lacks answers.new a)
-        (MakesAs a.caller moment key mode s) result }
+    ensures { (c : Caller) (s : State) → A.stands answers.old c s →
+        Comes (A.stands answers.new c) (A.lacks answers.new c)
+        (MakesAs c moment key mode s) result }
 {
     let call = GetArguments {
         key,
@@ -47,9 +47,9 @@ pub(crate) fn remove<A: Answering>(
     moment: u64,
     queue: QueueName,
 ) -> Result<Text, AskError>
-    ensures { (a : Asker) (s : State) → A.stands answers.old a s →
-        Comes (A.stands answers.new a) (A.lacks answers.new a)
-        (RemovesAs a.caller moment queue s) result }
+    ensures { (c : Caller) (s : State) → A.stands answers.old c s →
+        Comes (A.stands answers.new c) (A.lacks answers.new c)
+        (RemovesAs c moment queue s) result }
 {
     let id = find(answers, moment, queue, None)?;
     done_in(alloc, answers.answer(Call::Remove { id }))
@@ -62,9 +62,9 @@ pub(crate) fn set<A: Answering>(
     moment: u64,
     setting: &Setting,
 ) -> Result<Text, AskError>
-    ensures { (a : Asker) (s : State) → A.stands answers.old a s →
-        Comes (A.stands answers.new a) (A.lacks answers.new a)
-        (SetsAs a.caller moment setting.now s) result }
+    ensures { (c : Caller) (s : State) → A.stands answers.old c s →
+        Comes (A.stands answers.new c) (A.lacks answers.new c)
+        (SetsAs c moment setting.now s) result }
 {
     let id = find(answers, moment, setting.queue, None)?;
     let qbytes = limit(answers, id, setting.qbytes)?;
@@ -81,9 +81,9 @@ pub(crate) fn set<A: Answering>(
 
 /// The limit that a queue is given; where none is, the one that it has.
 fn limit<A: Answering>(answers: &mut A, id: u32, given: Option<u32>) -> Result<u32, AskError>
-    ensures { (a : Asker) (s : State) → A.stands answers.old a s →
-        Comes (A.stands answers.new a) (A.lacks answers.new a)
-        (LimitsAs a.caller id given s) result }
+    ensures { (c : Caller) (s : State) → A.stands answers.old c s →
+        Comes (A.stands answers.new c) (A.lacks answers.new c)
+        (LimitsAs c id given s) result }
 {
     match given {
         Some(qbytes) => Ok(qbytes),

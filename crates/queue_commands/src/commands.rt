@@ -2,7 +2,7 @@
 
 ghost use Rattle.std.specs.Prelude.{◌≡◌, ℕ};
 ghost use Rattle.queue_model.specs.State.{State};
-ghost use Rattle.queue_commands.specs.Asking.{Asker};
+ghost use Rattle.queue_model.specs.declared.caller.Caller.{Caller};
 ghost use Rattle.queue_commands.specs.Coming.{Comes};
 ghost use Rattle.queue_commands.specs.Commands.{AsksAs};
 
@@ -27,9 +27,9 @@ pub fn ask<A: Answering>(
     answers: &mut A,
     request: &Request,
 ) -> Result<Text, AskError>
-    ensures { (a : Asker) (s : State) → A.stands answers.old a s →
-        Comes (A.stands answers.new a) (A.lacks answers.new a)
-        (AsksAs a.caller request.now s) result }
+    ensures { (c : Caller) (s : State) → A.stands answers.old c s →
+        Comes (A.stands answers.new c) (A.lacks answers.new c)
+        (AsksAs c request.now s) result }
 {
     let moment = request.moment;
     match &request.command {

@@ -17,7 +17,7 @@ pub struct PlainLists {
 impl Answering for PlainLists {
     ghost use Rattle.std.specs.Prelude.{◌≡◌, ⊤};
 
-    ghost stands = { λ p a s. (p.caller ≡ a.caller) × (p.system ≡ s) };
+    ghost stands = { λ p c s. (p.caller ≡ c) × (p.system ≡ s) };
 
     ghost lacks = { λ _ _. ⊤ };
 

@@ -2,7 +2,7 @@
 
 ghost use Rattle.std.specs.Prelude.{◌≡◌, ◌++◌, ℕ, OnOk, length};
 ghost use Rattle.queue_model.specs.State.{State};
-ghost use Rattle.queue_commands.specs.Asking.{Asker};
+ghost use Rattle.queue_model.specs.declared.caller.Caller.{Caller};
 ghost use Rattle.queue_commands.specs.Coming.{Comes};
 ghost use Rattle.queue_commands.specs.Receiving.{ReceivesAs, TakesAllAs, TakesAs, head_text, receive_call, shown_text};
 
@@ -22,9 +22,9 @@ pub(crate) fn receive<A: Answering>(
     moment: u64,
     receiving: &Receiving,
 ) -> Result<Text, AskError>
-    ensures { (a : Asker) (s : State) → A.stands answers.old a s →
-        Comes (A.stands answers.new a) (A.lacks answers.new a)
-        (ReceivesAs a.caller moment receiving.now s) result }
+    ensures { (c : Caller) (s : State) → A.stands answers.old c s →
+        Comes (A.stands answers.new c) (A.lacks answers.new c)
+        (ReceivesAs c moment receiving.now s) result }
 {
     let id = find(answers, moment, receiving.queue, None)?;
     take_all(alloc, answers, moment, receiving, id)
@@ -38,8 +38,8 @@ fn take_all<A: Answering>(
     receiving: &Receiving,
     id: u32,
 ) -> Result<Text, AskError>
-    ensures { (a : Asker) (s : State) → A.stands answers.old a s →
-        Comes (A.stands answers.new a) (A.lacks answers.new a) (TakesAllAs a.caller
+    ensures { (c : Caller) (s : State) → A.stands answers.old c s →
+        Comes (A.stands answers.new c) (A.lacks answers.new c) (TakesAllAs c
         (receive_call moment receiving.now id) receiving.now s) result }
 {
     let mut text = Text::new(alloc);
@@ -60,9 +60,9 @@ fn take<A: Answering>(
     receiving: &Receiving,
     id: u32,
 ) -> Result<Message, AskError>
-    ensures { (a : Asker) (s : State) → A.stands answers.old a s →
-        Comes (A.stands answers.new a) (A.lacks answers.new a)
-        (TakesAs a.caller moment receiving.now id s) result }
+    ensures { (c : Caller) (s : State) → A.stands answers.old c s →
+        Comes (A.stands answers.new c) (A.lacks answers.new c)
+        (TakesAs c moment receiving.now id s) result }
 {
     let call = ReceiveArguments {
         id,

@@ -2,7 +2,7 @@
 
 ghost use Rattle.std.specs.Prelude.{◌≡◌, ◌++◌, ◌∷◌, [], OnOk};
 ghost use Rattle.queue_model.specs.State.{State};
-ghost use Rattle.queue_commands.specs.Asking.{Asker};
+ghost use Rattle.queue_model.specs.declared.caller.Caller.{Caller};
 ghost use Rattle.queue_commands.specs.Coming.{Comes};
 ghost use Rattle.queue_commands.specs.Sending.{SendsAllAs, SendsAs, SendsOneAs, send_call, told_text};
 
@@ -22,9 +22,9 @@ pub(crate) fn send<A: Answering>(
     moment: u64,
     sending: &Sending,
 ) -> Result<Text, AskError>
-    ensures { (a : Asker) (s : State) → A.stands answers.old a s →
-        Comes (A.stands answers.new a) (A.lacks answers.new a)
-        (SendsAs a.caller moment sending.now s) result }
+    ensures { (c : Caller) (s : State) → A.stands answers.old c s →
+        Comes (A.stands answers.new c) (A.lacks answers.new c)
+        (SendsAs c moment sending.now s) result }
 {
     let id = find(answers, moment, sending.queue, sending.create)?;
     send_all(alloc, answers, moment, sending, id)
@@ -38,9 +38,9 @@ fn send_all<A: Answering>(
     sending: &Sending,
     id: u32,
 ) -> Result<Text, AskError>
-    ensures { (a : Asker) (s : State) → A.stands answers.old a s →
-        Comes (A.stands answers.new a) (A.lacks answers.new a)
-        (SendsAllAs a.caller (send_call moment sending.now.mtype id) sending.now.tells
+    ensures { (c : Caller) (s : State) → A.stands answers.old c s →
+        Comes (A.stands answers.new c) (A.lacks answers.new c)
+        (SendsAllAs c (send_call moment sending.now.mtype id) sending.now.tells
         sending.now.bodies.items s) result }
 {
     let mut text = Text::new(alloc);
@@ -59,9 +59,9 @@ fn send_one<A: Answering>(
     id: u32,
     body: &Body,
 ) -> Result<u64, AskError>
-    ensures { (a : Asker) (s : State) → A.stands answers.old a s →
-        Comes (A.stands answers.new a) (A.lacks answers.new a)
-        (SendsOneAs a.caller moment mtype id body.now s) result }
+    ensures { (c : Caller) (s : State) → A.stands answers.old c s →
+        Comes (A.stands answers.new c) (A.lacks answers.new c)
+        (SendsOneAs c moment mtype id body.now s) result }
 {
     let call = SendArguments {
         id,

@@ -19,5 +19,5 @@ returns g c =
     (asks_both (λ d. LimitsAs d id set.qbytes) (λ d qbytes. IsDone d (set_call moment set id qbytes))
     (stands c.find.new.answers) (stands c.limit.new.answers) (stands c.answer.new.self) (lacks c.limit.new.answers)
     (lacks c.answer.new.self) c.in_ok-qbytes.qbytes c.done_in.result c.in_ok-qbytes.ensures
-    (λ a v limited. rw c.done_in.ensures (sets a.caller moment v (stands c.answer.new.self a)
+    (λ a v limited. rw c.done_in.ensures (sets a moment v (stands c.answer.new.self a)
     (lacks c.answer.new.self a) c.answer.result set id c.in_ok-qbytes.qbytes (c.answer.ensures a v limited))))

@@ -10,5 +10,5 @@ returns g c = λ a s stands.
     let receiving = c.args.receiving.now in
     let fits : SFits w64 receiving.mtype = search rules in
     rw c.message_in.ensures (
-    takes a.caller c.args.moment s (g.A.Answering.stands c.answer.new.self a) (g.A.Answering.lacks c.answer.new.self a)
+    takes a c.args.moment s (g.A.Answering.stands c.answer.new.self a) (g.A.Answering.lacks c.answer.new.self a)
     c.answer.result receiving c.args.id _ (to_z-of_z w64 receiving.mtype fits) (c.answer.ensures a s stands))
