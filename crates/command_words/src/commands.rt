@@ -157,6 +157,22 @@ fn send<'a>(alloc: Global, command: Command<'a>) -> Result<Command<'a>, AllocErr
         LINES,
         "Send each line as a message, its line end included: all, or none",
     );
+    let verbose = flag(
+        alloc,
+        VERBOSE,
+        "Print the serial of each message, a line each",
+    )
+    .short('v');
+    let command = places(alloc, command)?
+        .arg(body)?
+        .arg(mtype)?
+        .arg(lines)?
+        .arg(verbose)?;
+    waits(alloc, creates(alloc, command)?)
+}
+
+/// What is made where it is not there.
+fn creates<'a>(alloc: Global, command: Command<'a>) -> Result<Command<'a>, AllocError> {
     let create = flag(alloc, CREATE, "Make the queue where KEY has none");
     let mode = value(
         alloc,
@@ -170,6 +186,14 @@ fn send<'a>(alloc: Global, command: Command<'a>) -> Result<Command<'a>, AllocErr
         "N",
         "Make FILE where there is none, of so many pages",
     );
+    command
+        .arg(create)?
+        .arg(mode.requires_arg(CREATE)?)?
+        .arg(pages.requires_arg(CREATE)?)
+}
+
+/// Whether a send looks again.
+fn waits<'a>(alloc: Global, command: Command<'a>) -> Result<Command<'a>, AllocError> {
     let wait = patience(
         alloc,
         "Look again while there is no room, for so long or for ever",
@@ -179,22 +203,7 @@ fn send<'a>(alloc: Global, command: Command<'a>) -> Result<Command<'a>, AllocErr
         NOWAIT,
         "Refuse where there is no room, as without --wait",
     );
-    let verbose = flag(
-        alloc,
-        VERBOSE,
-        "Print the serial of each message, a line each",
-    )
-    .short('v');
-    places(alloc, command)?
-        .arg(body)?
-        .arg(mtype)?
-        .arg(lines)?
-        .arg(create)?
-        .arg(mode.requires_arg(CREATE)?)?
-        .arg(pages.requires_arg(CREATE)?)?
-        .arg(wait)?
-        .arg(nowait.conflicts_with(WAIT)?)?
-        .arg(verbose)
+    command.arg(wait)?.arg(nowait.conflicts_with(WAIT)?)
 }
 
 /// `receive FILE KEY`.

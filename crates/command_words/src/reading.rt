@@ -14,6 +14,7 @@ use crate::values::{
     OWNER_ALONE, any_queue, ids, mode, mtype, names_input, new_key, number, pages, patience, queue,
 };
 use clap::{ArgMatches, Error};
+use input_messages::Framing;
 use queue_commands::{Receiving, Setting};
 use queue_model::{MAX_BODY, MAX_MESSAGES};
 use std::alloc::Global;
@@ -93,7 +94,11 @@ fn read_send<'a>(given: &ArgMatches<'a>) -> Result<SendTask, Mistake<'a>>
         create,
         pages: pages(given)?,
         mtype: mtype(given)?.unwrap_or(1),
-        by_lines: given.get_flag(LINES),
+        framing: if given.get_flag(LINES) {
+            Framing::Lines
+        } else {
+            Framing::Whole
+        },
         names_input: names_input(given)?,
         tells: given.get_flag(VERBOSE),
         patience: patience(given)?,

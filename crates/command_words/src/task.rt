@@ -1,5 +1,6 @@
 //! What a command line asks for.
 
+use input_messages::Framing;
 use queue_commands::{QueueName, Receiving, Setting};
 
 /// What a command line asks for.
@@ -69,8 +70,8 @@ pub struct SendTask {
     pub pages: Option<u32>,
     /// The type of each message.
     pub mtype: i64,
-    /// Whether each line is a message.
-    pub by_lines: bool,
+    /// Whether it is one message, or each of its lines is one.
+    pub framing: Framing,
     /// Whether standard input is named, so that it may be a terminal.
     pub names_input: bool,
     /// Whether the serial of each message is printed.

@@ -1,6 +1,7 @@
 //! Command lines that are read.
 
 use crate::{CallerIds, Deed, Patience, SendTask, ShellTask, queue_name, read_command};
+use input_messages::Framing;
 use queue_commands::{QueueName, Receiving, Setting};
 use std::process::Abort;
 use std::test::Fail;
@@ -79,7 +80,7 @@ fn command_lines_are_read(rt: HostRuntime) -> Result<(), Fail> {
         create: Some(0o640),
         pages: Some(300),
         mtype: 5,
-        by_lines: true,
+        framing: Framing::Lines,
         names_input: true,
         tells: true,
         patience: Patience::Endless,
@@ -95,7 +96,7 @@ fn command_lines_are_read(rt: HostRuntime) -> Result<(), Fail> {
         create: None,
         pages: None,
         mtype: 1,
-        by_lines: false,
+        framing: Framing::Whole,
         names_input: false,
         tells: false,
         patience: Patience::None,

@@ -2,89 +2,46 @@
 
 ghost use Rattle.msgq_cli.specs.Tasks.{IsFileSize};
 
+use input_messages::{Framing, Unsent, messages_of};
 use queue_commands::ExitStatus;
-use queue_model::{Body, MAX_BODY, MAX_MESSAGES, MAX_QBYTES};
+use queue_model::Body;
 use rollback_journal::is_left_behind;
-use script_runs::msgq_cli::{Ending, Output, complain, new_file, read_text};
-use std::alloc::{AllocError, Global};
-use std::io::{BufWriter, ErrorKind, IsTerminal, Read, Write};
-use std::{fs, io, process};
-use thiserror::Error;
+use script_runs::msgq_cli::{Ending, Output, complain, new_file};
+use std::io::{BufWriter, ErrorKind, IsTerminal, Write};
+use std::{fs, process};
 
-/// Why standard input is not sent.
-#[derive(Debug, Drop, Error)]
-pub enum Unsent {
-    /// It can't be read.
-    #[error("standard input can't be read: {0}")]
-    Unread(io::Error),
-    /// It is longer than a message may be.
-    #[error("standard input has more than 1024 bytes, as many as a message may have")]
-    LongInput,
-    /// The line of this number is longer than a message may be. Lines count from 1.
-    #[error("line {0} of standard input has more than 1024 bytes, as many as a message may have")]
-    LongLine(u64),
-    /// It has more than a queue may hold.
-    #[error("standard input has more than the 1024 lines or 65536 bytes that a queue may hold")]
-    TooMany,
-    /// There is no memory.
-    #[error("out of memory")]
-    NoMemory,
-}
+/// What is said of standard input that is a terminal.
+const TERMINAL: &str = "it is a terminal: hand the body by < or |, or say - to type it";
 
-impl From<AllocError> for Unsent {
-    fn from(_: AllocError) -> Unsent {
-        Unsent::NoMemory
+/// The messages of standard input. A terminal is read only where it is named. Where they can't be sent
+/// this is said, and what the command ends with is given.
+pub fn read_messages<E: Write>(
+    rt: &HostRuntime,
+    file: &str,
+    is_named: bool,
+    framing: Framing,
+    errors: &mut E,
+) -> Result<Vec<Body>, ExitStatus> {
+    if !is_named && rt.stdin().is_terminal() {
+        complain("standard input", "it is not read", TERMINAL, errors);
+        return Err(ExitStatus::WrongCommandLine);
     }
-}
-
-impl Unsent {
-    /// The exit status of a command that ends by it.
-    pub fn status(&self) -> ExitStatus {
-        match self {
-            Unsent::LongInput | Unsent::LongLine(_) | Unsent::TooMany => ExitStatus::Refused,
-            Unsent::Unread(_) | Unsent::NoMemory => ExitStatus::Fault,
+    match messages_of(rt.alloc(), &mut rt.reader(), framing) {
+        Ok(bodies) => Ok(bodies),
+        Err(unsent) => {
+            let status = status_of(&unsent);
+            complain(file, "nothing is sent", unsent, errors);
+            Err(status)
         }
     }
 }
 
-/// All that a reader gives as one message, or each of its lines as one, with its line end. No more
-/// is read than a queue may hold.
-pub fn bodies_of<R: Read>(
-    alloc: Global,
-    reader: &mut R,
-    by_lines: bool,
-) -> Result<Vec<Body>, Unsent> {
-    let most = if by_lines {
-        MAX_QBYTES as usize
-    } else {
-        MAX_BODY
-    };
-    let text = read_text(alloc, &mut reader.take(most as u64 + 1)).map_err(Unsent::Unread)?;
-    let mut bodies = Vec::new(alloc);
-    if !by_lines {
-        if text.len() > most {
-            return Err(Unsent::LongInput);
-        }
-        push(&mut bodies, text)?;
-        return Ok(bodies);
+/// The exit status of a command whose input is not sent.
+fn status_of(unsent: &Unsent) -> ExitStatus {
+    match unsent {
+        Unsent::LongInput | Unsent::LongLine(_) | Unsent::TooMany => ExitStatus::Refused,
+        Unsent::Unread(_) | Unsent::NoMemory => ExitStatus::Fault,
     }
-    let mut number = 0u64;
-    for line in text.split_inclusive(|&byte| byte == b'\n') {
-        number = number.saturating_add(1);
-        if line.len() > MAX_BODY {
-            return Err(Unsent::LongLine(number));
-        }
-        push(&mut bodies, Vec::from_slice(alloc, line)?)?;
-    }
-    if text.len() > most || number > u64::from(MAX_MESSAGES) {
-        return Err(Unsent::TooMany);
-    }
-    Ok(bodies)
-}
-
-/// Puts the bytes of a message last.
-fn push(bodies: &mut Vec<Body>, bytes: Vec<u8>) -> Result<(), Unsent> {
-    bodies.push(Body::new(bytes)).map_err(|_| Unsent::NoMemory)
 }
 
 /// Makes FILE of so many pages where there is none, and prints nothing of that. It gets its name

@@ -4,7 +4,7 @@ ghost use Rattle.std.specs.Prelude.{IfSome};
 ghost use Rattle.command_words.specs.Tasks.{HasPages};
 ghost use Rattle.msgq_cli.specs.Tasks.{IsFileSize};
 
-use crate::input::{bodies_of, make_file};
+use crate::input::{make_file, read_messages};
 use crate::trouble::{Errand, Trouble};
 use command_runs::{CommandError, Form, Look, Ran, look_on, run_on};
 use command_words::{CallerIds, Deed, Patience, SendTask, ShellTask};
@@ -12,7 +12,7 @@ use queue_commands::{Command, ExitStatus, Receiving, Request, Sending};
 use queue_model::Caller;
 use rollback_journal::{Opening, open_in_turn};
 use script_runs::msgq_cli::{complain, open_to_read};
-use std::io::{IsTerminal, Write};
+use std::io::Write;
 use std::time::{Duration, Instant, SystemTime, UNIX_EPOCH};
 use std::{fs, io, process, thread};
 
@@ -86,18 +86,10 @@ fn send(rt: &HostRuntime, errand: Errand<'_>, task: &SendTask) -> ExitStatus
     requires pages { IfSome task.now.pages IsFileSize }
 {
     let mut errors = rt.stderr();
-    if !task.names_input && rt.stdin().is_terminal() {
-        let why = "it is a terminal: hand the body by < or |, or say - to type it";
-        complain("standard input", "it is not read", why, &mut errors);
-        return ExitStatus::WrongCommandLine;
-    }
-    let bodies = match bodies_of(rt.alloc(), &mut rt.reader(), task.by_lines) {
+    let read = read_messages(rt, errand.file, task.names_input, task.framing, &mut errors);
+    let bodies = match read {
         Ok(bodies) => bodies,
-        Err(unsent) => {
-            let status = unsent.status();
-            complain(errand.file, "nothing is sent", unsent, &mut errors);
-            return status;
-        }
+        Err(status) => return status,
     };
     if let Some(pages) = task.pages {
         if !make_file(rt, errand.file, pages, &mut errors) {
