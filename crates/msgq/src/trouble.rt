@@ -102,11 +102,14 @@ fn tell_undone<E: Write>(
     if let Some(refused) = refused {
         complain(file, "a transfer failed", refused, errors);
     }
-    match error.number() {
-        Some(fault) => complain_of_fault(file, "nothing is done", fault, &error, errors),
-        None => {
+    match &error {
+        CommandError::Unprinted(why) => {
             let file = Plain(file);
-            let _ = writeln!(errors, "msgq: {error}; {file} is unchanged");
+            let _ = writeln!(errors, "msgq: standard output: {why}; {file} is unchanged");
+        }
+        _ => {
+            let fault = error.number().unwrap_or(faults::FAILED);
+            complain_of_fault(file, "nothing is done", fault, &error, errors);
         }
     }
 }

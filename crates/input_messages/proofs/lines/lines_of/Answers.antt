@@ -1,4 +1,5 @@
-use Rattle.std.proofs.Common.{◌≡◌, ◌≤◌, ◌<◌, ◌∙◌, List, ℕ, ap, sym, arith, nat_tests, length, take, drop}
+use Rattle.std.proofs.Common.{◌≡◌, ◌≤◌, ◌<◌, ◌∙◌, ℕ, ap, arith, length, take, drop}
+use Rattle.std.proofs.lemmas.Bool.Decides.{nat_tests}
 use Rattle.limits.specs.declared.TheConstants.{MAX_BODY}
 use Rattle.input_messages.proofs.LineLemmas.{none_are_first, one_more_is_first, all_are_put}
 use Rattle.input_messages.proofs.lines.lines_of.Goals as goal
@@ -18,7 +19,7 @@ loop-number-preserved c =
     let short : length c.split_at.result.0.now ≤ MAX_BODY = omega (arith, c.if-line-gt-MAX_BODY.false) in
     let line = c.split_at.ensures.front ∙ ap (λ (n : ℕ). take n c.loop-number.rest.now) c.first_line.ensures.value in
     let after = c.split_at.ensures.back ∙ ap (λ (n : ℕ). drop n c.loop-number.rest.now) c.first_line.ensures.value in
-    rw c.in-Ok-push.ensures.items (rw c.new.ensures (rw c.in_ok-from_slice.ensures.items (one_more_is_first
+    rw c.in-Ok.ensures.items (rw c.new.ensures (rw c.in_ok-from_slice.ensures.items (one_more_is_first
       c.args.text.now c.loop-number.rest.now c.split_at.result.1.now c.split_at.result.0.now c.loop-number.bodies.items
       c.loop-number.invariant some short line after)))
 
