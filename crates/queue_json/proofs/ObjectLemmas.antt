@@ -1,5 +1,5 @@
 -- Objects put together one by one, and how deep they nest.
-use Rattle.std.proofs.Common.{◌≡◌, ◌∙◌, ◌<◌, ◌≤◌, ◌+◌, ℕ, zero, suc, List, [], ◌∷◌, ◌++◌, Option, Some, None, arith, length, take, get_or, map, slice_index_or, refl, sym, ap}
+use Rattle.std.proofs.Common.{false, ℤ, pos, negsuc, ◌≡◌, ◌∙◌, ◌<◌, ◌≤◌, ◌+◌, ℕ, zero, suc, List, [], ◌∷◌, ◌++◌, Option, Some, None, arith, length, take, get_or, map, slice_index_or, refl, sym, ap}
 use Rattle.std.specs.Prelude.{slice_get}
 use Rattle.std.specs.Option.{option_map}
 use Rattle.std.proofs.lemmas.Int.{clamps}
@@ -8,10 +8,13 @@ use Rattle.queue_model.specs.Rules.{info_of}
 use Rattle.queue_model.specs.declared.answer.QueueInfo.{QueueInfo}
 use Rattle.queue_model.specs.declared.message.Message.{Message}
 use Rattle.queue_model.specs.declared.queue.Queue.{Queue}
+use Rattle.queue_model.specs.State.{State}
 use Rattle.serde_json.specs.Data.{Data, depth, items_depth}
+use Rattle.serde_json.specs.Find.{is_float, of_integer}
+use Rattle.serde_json.specs.Written.{has_float, items_have_float}
 use Rattle.serde_json.specs.View.{items_of, view}
 use Rattle.serde_json.specs.declared.value.Value.{Value}
-use Rattle.queue_json.specs.Json.{info_data, key_data, message_data, messages_data, queue_data, queues_data}
+use Rattle.queue_json.specs.Json.{IsPlain, info_data, key_data, message_data, messages_data, queue_data, queues_data}
 
 -- one value more
 views-push : (before after : List Value) (v : Value) (ds : List Data) (d : Data) → map view before ≡ ds →
@@ -50,7 +53,7 @@ push-message before after v ms place m below is first pushed seen =
     ∙ sym (map-append message_data (take place ms) (get_or ms place m ∷ []))
     ∙ ap (map message_data) (sym (take_more ms place m below))
 
--- ---- how deep
+-- ---- they have no float, and are not deep
 
 key_flat : (key : Option ℕ) → depth (key_data key) ≡ 0
 key_flat None = refl
@@ -72,3 +75,39 @@ messages_depth (m ∷ ms) =
     let rest = messages_depth ms in
     let first : depth (message_data m) ≡ 1 = refl in
     omega (arith, clamps, rest, first)
+
+key_whole : (key : Option ℕ) → has_float (key_data key) ≡ false
+key_whole None = refl
+key_whole (Some key) = refl
+
+type_whole : (t : ℤ) → is_float (of_integer t) ≡ false
+type_whole (pos n) = refl
+type_whole (negsuc n) = refl
+
+info_whole : (i : QueueInfo) → has_float (info_data i) ≡ false
+info_whole i = rw (key_whole i.key) refl
+
+message_whole : (m : Message) → has_float (message_data m) ≡ false
+message_whole m = rw (type_whole m.mtype) refl
+
+queues_whole : (queues : List Queue) → items_have_float (items_of (map queue_data queues)) ≡ false
+queues_whole [] = refl
+queues_whole (queue ∷ queues) = rw (info_whole (info_of queue)) (queues_whole queues)
+
+messages_whole : (ms : List Message) → items_have_float (items_of (map message_data ms)) ≡ false
+messages_whole [] = refl
+messages_whole (m ∷ ms) = rw (message_whole m) (messages_whole ms)
+
+pub queues_plain : (s : State) → IsPlain (queues_data s)
+queues_plain s =
+    let deep = queues_depth s.queues in
+    record { whole = rw (queues_whole s.queues) refl; flat = omega (arith, clamps, deep) }
+
+pub messages_plain : (i : QueueInfo) (ms : List Message) → IsPlain (messages_data i ms)
+messages_plain i ms =
+    let deep = messages_depth ms in
+    let queue = info_depth i in
+    record {
+      whole = rw (messages_whole ms, info_whole i) refl;
+      flat = omega (arith, clamps, deep, queue);
+    }

@@ -1,5 +1,5 @@
 -- What is shown of a system as JSON: objects whose members have POSIX's names. docs/SHELL.md, "JSON".
-use Rattle.std.specs.Prelude.{◌≡◌, ℕ, List, [], ◌∷◌, ◌++◌, length, map, codes, Option, None, Some}
+use Rattle.std.specs.Prelude.{◌≡◌, ◌≤◌, ℕ, false, List, [], ◌∷◌, ◌++◌, length, map, codes, Option, None, Some}
 use Rattle.std.specs.Str.Lossy.{utf8_lossy}
 use Rattle.hex.specs.Hex.{encode_lower}
 use Rattle.queue_model.specs.Rules.{info_of}
@@ -8,16 +8,21 @@ use Rattle.queue_model.specs.declared.answer.QueueInfo.{QueueInfo}
 use Rattle.queue_model.specs.declared.message.Message.{Message}
 use Rattle.queue_model.specs.declared.permissions.Permissions.{Permissions}
 use Rattle.queue_model.specs.declared.queue.Queue.{Queue}
-use Rattle.serde_json.specs.Data.{Data, Members, null, number, string, array, object, unsigned, no_members, member}
+use Rattle.serde_json.specs.Data.{Data, Members, depth, null, number, string, array, object, unsigned, no_members, member}
 use Rattle.serde_json.specs.Find.{of_integer}
-use Rattle.serde_json.specs.Read.{read}
+use Rattle.serde_json.specs.Read.{max_depth, read}
 use Rattle.serde_json.specs.View.{items_of}
+use Rattle.serde_json.specs.Written.{compact_text, has_float}
 
--- a line was put that reads as this
+-- its text with no space is put, and a line end (10); that text reads as this
 pub record PutsJson (d : Data) (old new : List ℕ) : Type 0 where
-  pub json : List ℕ
-  pub put : new ≡ old ++ json ++ 10 ∷ []
-  pub reads : read json ≡ Some d
+  pub put : new ≡ old ++ compact_text d ++ 10 ∷ []
+  pub reads : read (compact_text d) ≡ Some d
+
+-- it has no float, and nests no deeper than is read
+pub record IsPlain (d : Data) : Type 0 where
+  pub whole : has_float d ≡ false
+  pub flat : depth d ≤ max_depth
 
 -- the members of an object, in the order of their names
 abbrev pub named : List (List ℕ × Data) → Members
@@ -54,11 +59,19 @@ message_data m = object (named ((codes "length", count (length m.bytes)) ∷ (co
     ∷ (codes "mtext_hex", string (encode_lower m.bytes)) ∷ (codes "mtype", number (of_integer m.mtype))
     ∷ (codes "sender", count m.sender) ∷ (codes "serial", count m.serial) ∷ []))
 
+-- the object of these queues
+abbrev pub queues_of : List Data → Data
+queues_of queues = object (named ((codes "queues", array (items_of queues)) ∷ []))
+
 -- the queues of a system, in order of id
 abbrev pub queues_data : State → Data
-queues_data s = object (named ((codes "queues", array (items_of (map queue_data s.queues))) ∷ []))
+queues_data s = queues_of (map queue_data s.queues)
+
+-- the object of a queue and of these messages
+abbrev pub messages_of : Data → List Data → Data
+messages_of queue messages =
+    object (named ((codes "messages", array (items_of messages)) ∷ (codes "queue", queue) ∷ []))
 
 -- a queue and its messages, in the order in which they were sent
 abbrev pub messages_data : QueueInfo → List Message → Data
-messages_data i ms = object (named (
-    (codes "messages", array (items_of (map message_data ms))) ∷ (codes "queue", info_data i) ∷ []))
+messages_data i ms = messages_of (info_data i) (map message_data ms)
