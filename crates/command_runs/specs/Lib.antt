@@ -1,0 +1,4 @@
+pub mod Faults
+pub mod Sessions
+pub mod Running
+pub mod Looking
