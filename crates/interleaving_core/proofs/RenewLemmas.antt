@@ -1,12 +1,11 @@
 -- What is done with a kernel between calls leaves it whole.
-use Rattle.std.proofs.Common.{ℕ, zero, suc, ◌≡◌, ◌≢◌, ◌↔◌, ◌+◌, ◌-◌, ◌≤◌, ◌<◌, ◌++◌, refl, sym, ap, ◌∙◌, subst, inl, inr, Bool, true, false, not, ◌&&◌, IsSome, List, [], ◌∷◌, Option, Some, None, append-nil, drop, length, slice_get, slice_index_or, slice_set, map, option_map, take, arith}
-use Rattle.std.specs.Prelude.{Err, IsErrOf, IsTrue, Result, sum_by}
-use Rattle.std.specs.Bool.{then_some}
+use Rattle.std.proofs.Common.{ℕ, zero, suc, ◌≡◌, ◌+◌, ◌-◌, ◌≤◌, ◌<◌, ◌++◌, refl, sym, ap, ◌∙◌, subst, inl, inr, Bool, true, false, IsSome, List, [], ◌∷◌, Option, Some, None, append-nil, drop, length, slice_get, slice_index_or, slice_set, map, option_map, take, arith}
+use Rattle.std.specs.Prelude.{Err, IsErrOf, Result, sum_by}
 use Rattle.std.specs.List.{All}
 use Rattle.std.specs.Option.{is_some}
 use Rattle.std.proofs.Math.ListN.{drop_of_length-le, get_or-map}
 use Rattle.std.proofs.Math.Seq.{take-length}
-use Rattle.std.proofs.lemmas.Bool.{and_parts, cases_eq, cases_lt, true≢false}
+use Rattle.std.proofs.lemmas.Bool.{cases_eq, cases_lt}
 use Rattle.std.proofs.lemmas.List.{get_or_past, length-map, set-get_or, set-set}
 use Rattle.std.proofs.lemmas.List.Elements.{All-get_or}
 use Rattle.std.proofs.lemmas.Option.{get_or_from_slice_get, slice_get-get_or}
@@ -20,15 +19,13 @@ use Rattle.std.proofs.lemmas.List.Sums.{sum_by-cons}
 use Rattle.page_locks.proofs.ChangeLemmas.{with_row-own}
 use Rattle.xsi_calls.proofs.RowLemmas.{new_holds_nothing}
 use Rattle.xsi_calls.specs.Machine.{IsNew}
-use Rattle.interleaving_core.specs.Words.{Call, CallView, Caller, Entry, IsReady, IsSeat, Lock, PoolState, Table, answer_of_call, call_locks, caller_at, row_of, with_row}
-use Rattle.interleaving_core.specs.Active.{ActiveView, IsDrafted}
+use Rattle.interleaving_core.specs.Words.{Call, CallView, Caller, Entry, IsReady, IsSeat, Lock, PoolState, Table, call_locks, caller_at, row_of, with_row}
+use Rattle.interleaving_core.specs.Active.{ActiveView}
 use Rattle.interleaving_core.specs.Kernel.{IsCallOf, IsWhole, KernelState, call_at, due_at, locks_of, with_call}
 use Rattle.interleaving_core.specs.Past.{HasLooked, KeepsJournal, entry_of}
-use Rattle.interleaving_core.specs.Renewing.{FailsToRead, GivesBack, HasNone, HasNothing, IsBetweenCalls, IsIdleOrWaits, IsNewWhileWaiting, IsRead, IsWaiting, IsWithdrawn, KeepsCall, MayGiveBack, PoolFault, Withdraws, failure_of_pool, looks_anew, outlasting}
+use Rattle.interleaving_core.specs.Renewing.{FailsToRead, HasNothing, IsBetweenCalls, IsIdleOrWaits, IsNewWhileWaiting, IsRead, MayGiveBack, PoolFault, Withdraws, failure_of_pool, looks_anew, outlasting}
 use Rattle.interleaving_core.specs.Waiting.{stays_waiting}
-use Rattle.interleaving_core.specs.declared.active.Draft.{Draft}
-use Rattle.interleaving_core.specs.declared.fault.Failure.{Failure}
-use Rattle.interleaving_core.proofs.KernelLemmas.{as_many, its_row, seat_there, slot_here}
+use Rattle.interleaving_core.proofs.KernelLemmas.{its_row, seat_there, slot_here}
 use Rattle.interleaving_core.proofs.PlaceLemmas.{Seats, all_due, at_other, at_same, due_with, length-with_call, rows_with, stop_due, with_own, with_place}
 use Rattle.interleaving_core.proofs.TurnLemmas.{new_unanswered}
 
