@@ -21,7 +21,7 @@ use Rattle.xsi_calls.proofs.RowLemmas.{new_holds_nothing}
 use Rattle.xsi_calls.specs.Machine.{IsNew}
 use Rattle.interleaving_core.specs.Words.{Call, CallView, Caller, Entry, IsReady, IsSeat, Lock, PoolState, Table, call_locks, caller_at, row_of, with_row}
 use Rattle.interleaving_core.specs.Active.{ActiveView}
-use Rattle.interleaving_core.specs.Kernel.{IsCallOf, IsWhole, KernelState, call_at, due_at, locks_of, with_call}
+use Rattle.interleaving_core.specs.Kernel.{IsCallOf, IsWhole, KernelState, call_at, due_at, due_for_stop, locks_of, with_call}
 use Rattle.interleaving_core.specs.Past.{HasLooked, KeepsJournal, entry_of}
 use Rattle.interleaving_core.specs.Renewing.{FailsToRead, HasNothing, IsBetweenCalls, IsIdleOrWaits, IsNewWhileWaiting, IsRead, MayGiveBack, PoolFault, Withdraws, failure_of_pool, looks_anew, outlasting}
 use Rattle.interleaving_core.specs.Waiting.{stays_waiting}
@@ -214,8 +214,9 @@ outlast_call : (journal : List Entry) (caller : Option Caller) (at : Option Acti
 outlast_call journal caller None is = tt
 outlast_call journal caller (Some a) is = is
 
-pub renewed_whole : {K : Type 0} (old : KernelState K) (room : ℕ) → IsWhole old → IsBetweenCalls old →
-    length old.seats + 1 ≤ room →
+-- where there is memory for the entries that are due
+renewed_whole : {K : Type 0} (old : KernelState K) (room : ℕ) → IsWhole old → IsBetweenCalls old →
+    sum_by due_at old.seats + due_for_stop old.stopped ≤ room →
     IsWhole (record old { seats = map (option_map (outlasting old.journal)) old.seats; journal = []; room = room })
 renewed_whole {K} old room whole rest more = record {
   ready = whole.ready;
@@ -224,11 +225,7 @@ renewed_whole {K} old room whole rest more = record {
   fitting = whole.fitting;
   calls = λ seat. subst (IsCallOf (caller_at old.callers seat)) (sym (outlast_at old.journal old.seats seat))
       (outlast_call old.journal (caller_at old.callers seat) (call_at old.seats seat) (whole.calls seat));
-  room =
-      let same = outlast_due old.journal old.seats in
-      let due = all_due old.seats in
-      let stop = stop_due old.stopped in
-      omega (arith, same, due, stop, more);
+  room = let same = outlast_due old.journal old.seats in omega (arith, same, more);
   few =
       let same = outlast_due old.journal old.seats in
       let had = whole.few in
@@ -251,11 +248,12 @@ lent goes xs ys zs n same is many =
     ∙ ap (take n) (append-nil zs) ∙ ap (λ (m : ℕ). take m zs) (many ∙ sym long) ∙ take-length zs ∙ is
     ∙ ap (map goes) same
 
-pub renewed_by : {K : Type 0} (old : KernelState K) (es left : List Entry) (ys zs : Seats) (n room : ℕ) →
-    IsWhole old → IsBetweenCalls old → es ≡ old.journal → left ≡ [] → ys ≡ old.seats →
-    zs ≡ map (option_map (outlasting es)) ys → n ≡ length old.seats → length old.seats + 1 ≤ room →
+by_due : {K : Type 0} (old : KernelState K) (es left : List Entry) (ys zs : Seats) (n room : ℕ) → IsWhole old →
+    IsBetweenCalls old → es ≡ old.journal → left ≡ [] → ys ≡ old.seats →
+    zs ≡ map (option_map (outlasting es)) ys → n ≡ length old.seats →
+    sum_by due_at old.seats + due_for_stop old.stopped ≤ room →
     IsWhole (record old { seats = take n (zs ++ drop (length zs) old.seats); journal = left; room = room })
-renewed_by old es left ys zs n room whole rest same none lends is many more =
+by_due old es left ys zs n room whole rest same none lends is many more =
     subst (λ (left : List Entry). IsWhole (record old {
       seats = take n (zs ++ drop (length zs) old.seats);
       journal = left;
@@ -265,6 +263,25 @@ renewed_by old es left ys zs n room whole rest same none lends is many more =
     (sym (lent (option_map (outlasting old.journal)) old.seats ys zs n lends
     (is ∙ ap (λ (js : List Entry). map (option_map (outlasting js)) ys) same) many))
     (renewed_whole old room whole rest more))
+
+-- by an empty journal with room for an entry of each seat, and of a stop
+pub renewed_by : {K : Type 0} (old : KernelState K) (es left : List Entry) (ys zs : Seats) (n room : ℕ) →
+    IsWhole old → IsBetweenCalls old → es ≡ old.journal → left ≡ [] → ys ≡ old.seats →
+    zs ≡ map (option_map (outlasting es)) ys → n ≡ length old.seats → length old.seats + 1 ≤ room →
+    IsWhole (record old { seats = take n (zs ++ drop (length zs) old.seats); journal = left; room = room })
+renewed_by old es left ys zs n room whole rest same none lends is many more =
+    let due = all_due old.seats in
+    let stop = stop_due old.stopped in
+    by_due old es left ys zs n room whole rest same none lends is many (omega (arith, due, stop, more))
+
+-- or by its own, of which the entries are gone
+pub forgotten_by : {K : Type 0} (old : KernelState K) (es left : List Entry) (ys zs : Seats) (n room : ℕ) →
+    IsWhole old → IsBetweenCalls old → es ≡ old.journal → left ≡ [] → ys ≡ old.seats →
+    zs ≡ map (option_map (outlasting es)) ys → n ≡ length old.seats → old.room ≤ room →
+    IsWhole (record old { seats = take n (zs ++ drop (length zs) old.seats); journal = left; room = room })
+forgotten_by old es left ys zs n room whole rest same none lends is many more =
+    let had = whole.room in
+    by_due old es left ys zs n room whole rest same none lends is many (omega (arith, had, more))
 
 -- ---- its pages
 
