@@ -1,5 +1,5 @@
 -- A step of a seat with a call that waits, and was woken: its machine makes two steps.
-use Rattle.std.proofs.Common.{◌≡◌, ◌≢◌, refl, sym, ap, ◌∙◌, subst, ℕ, ◌≤◌, Bool, true, false, not, inl, inr, List, [], ◌++◌, Option, Some, None, append-nil, length, arith}
+use Rattle.std.proofs.Common.{◌≡◌, refl, sym, ap, ◌∙◌, subst, ℕ, Bool, true, false, not, inl, inr, List, [], ◌++◌, Option, Some, None, append-nil, length, arith}
 use Rattle.page_locks.proofs.ChangeLemmas.{with_row-own}
 use Rattle.file_pages.specs.declared.fault.FileFault.{FileFault}
 use Rattle.step_rules.specs.declared.progress.Progress.TheVariants as progress
