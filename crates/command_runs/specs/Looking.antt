@@ -1,8 +1,10 @@
 -- What is looked at of a file. docs/SHELL.md, "What a command asks" and "Tables".
-use Rattle.std.specs.Prelude.{◌≡◌, ◌⊎◌, ℕ, List, [], Option, None, Some, Unit, ⊤, Result, Ok, Err, position, slice_index_or}
+use Rattle.std.specs.Prelude.{◌≡◌, ◌⊎◌, ℕ, List, [], Option, None, Some, ⊤, Result, Ok, Err, position, slice_index_or}
 use Rattle.std.specs.Io.KnownBytes.{Appends}
 use Rattle.bucket_page.specs.Pseudokeys.{sha_key}
 use Rattle.lone_kernel.specs.Words.{Caller, IsFileOf, State}
+use Rattle.lone_kernel.specs.interleaving_core.file_check.declared.fault.CheckFault.{CheckFault}
+use Rattle.lone_kernel.specs.interleaving_core.declared.fault.OpenFault.TheVariants.{Wrong}
 use Rattle.queue_model.specs.declared.errno.Errno.TheVariants.{ENOENT}
 use Rattle.queue_model.specs.declared.queue.Queue.{Queue}
 use Rattle.queue_model.specs.Rules.{info_of}
@@ -11,9 +13,10 @@ use Rattle.queue_lists.specs.Naming.{is_named}
 use Rattle.queue_lists.specs.Tables.{messages_text, queues_text}
 use Rattle.queue_lists.specs.declared.queue_name.QueueName.{QueueName}
 use Rattle.queue_commands.specs.Commands.{AsksAs}
+use Rattle.command_runs.specs.Memory.{Pages}
 use Rattle.command_runs.specs.Running.{IsUnopened, Seen}
 use Rattle.command_runs.specs.declared.error.CommandError.{CommandError}
-use Rattle.command_runs.specs.declared.error.CommandError.TheVariants.{NoMemory, Refused, Unprinted}
+use Rattle.command_runs.specs.declared.error.CommandError.TheVariants.{NoMemory, Refused, Unopened, Unprinted}
 use Rattle.command_runs.specs.declared.looking.Look.{Look}
 use Rattle.command_runs.specs.declared.looking.Look.TheVariants.{Queues, Messages, Command}
 use Rattle.command_runs.specs.declared.looking.Form.{Form}
@@ -57,12 +60,17 @@ EndsLook c look s seen (Ok done) = (text : List ℕ) × TextIs c look s text × 
 EndsLook c look s seen (Err (Unprinted error)) = (text : List ℕ) × TextIs c look s text
 EndsLook c look s seen (Err error) = MayNotShow c look s error × (seen.new ≡ seen.old)
 
+-- of what the checker found; where it found something wrong nothing is printed
+abbrev pub LooksAt : Caller → Look → Result State CheckFault → Seen → Result Unit CommandError → Type 0
+LooksAt c look (Ok s) seen came = EndsLook c look s seen came
+LooksAt c look (Err fault) seen came = (came ≡ Err (Unopened (Wrong fault))) × (seen.new ≡ seen.old)
+
 -- the system of the file is looked at
-pub record LooksFrom (c : Caller) (look : Look) (content : List (List ℕ)) (seen : Seen)
+pub record LooksFrom (c : Caller) (look : Look) (content : Pages) (seen : Seen)
     (came : Result Unit CommandError) : Type 0 where
   pub system : State
   pub file : IsFileOf sha_key content system
   pub ends : EndsLook c look system seen came
 
-abbrev pub LooksOn : Caller → Look → List (List ℕ) → Seen → Result Unit CommandError → Type 0
+abbrev pub LooksOn : Caller → Look → Pages → Seen → Result Unit CommandError → Type 0
 LooksOn c look content seen came = LooksFrom c look content seen came ⊎ IsUnopened content seen came

@@ -1,8 +1,8 @@
 //! What is looked at of a file, which is not written.
 
-ghost use Rattle.std.specs.Prelude.{◌≡◌, IsTrue};
+ghost use Rattle.std.specs.Prelude.{◌≡◌, ℕ, IsTrue};
 ghost use Rattle.lone_kernel.specs.Words.{Caller};
-ghost use Rattle.command_runs.specs.Looking.{LooksOn, Shows};
+ghost use Rattle.command_runs.specs.Looking.{LooksAt, LooksOn, Shows};
 ghost use Rattle.command_runs.specs.Running.{seen};
 ghost use Rattle.command_runs.specs.declared.looking.Look.TheVariants.{Queues, Messages};
 
@@ -11,7 +11,7 @@ use crate::printing::deliver;
 use crate::running::Ran;
 use bucket_page::ShaKey;
 use lone_kernel::interleaving_core::OpenFault;
-use lone_kernel::interleaving_core::file_check::{Checked, check};
+use lone_kernel::interleaving_core::file_check::{CheckFault, Checked, check};
 use page_device::PageDevice;
 use queue_commands::queue_lists::{QueueName, Text, put_messages, put_queues};
 use queue_commands::{AskError, PlainLists, Request, ask};
@@ -54,14 +54,30 @@ pub fn look_on<D: PageDevice, W: Write>(
     ensures same { D.content result.device ≡ D.content device }
 {
     let Checked { device, found } = check(alloc, device, ShaKey);
-    let came = match found {
-        Ok(system) => match show(alloc, system, caller, look) {
-            Ok(text) => deliver(text.as_slice(), writer).map_err(CommandError::Unprinted),
-            Err(error) => Err(error),
-        },
-        Err(fault) => Err(CommandError::Unopened(OpenFault::Wrong(fault))),
-    };
+    let came = look_at(alloc, found, caller, look, writer);
     Ran { device, came }
+}
+
+/// Looks at what the checker found.
+fn look_at<W: Write>(
+    alloc: Global,
+    found: Result<System, CheckFault>,
+    caller: Caller,
+    look: &Look,
+    writer: &mut W,
+) -> Result<(), CommandError>
+    ensures { (was faults : ℕ) → LooksAt caller look.now found
+        (seen (W.contents writer.old) (W.contents writer.new) was faults) result }
+{
+    let system = match found {
+        Ok(system) => system,
+        Err(fault) => return Err(CommandError::Unopened(OpenFault::Wrong(fault))),
+    };
+    let text = show(alloc, system, caller, look)?;
+    match deliver(text.as_slice(), writer) {
+        Ok(()) => Ok(()),
+        Err(error) => Err(CommandError::Unprinted(error)),
+    }
 }
 
 /// What is shown of a system.
@@ -89,10 +105,15 @@ fn show_queues(alloc: Global, system: &System, form: Form) -> Result<Text, Comma
 {
     let mut text = Text::new(alloc);
     match form {
-        Form::Table => put_queues(&mut text, system)?,
-        Form::Json => put_queues_json(&mut text, alloc, system)?,
+        Form::Table => {
+            put_queues(&mut text, system)?;
+            Ok(text)
+        }
+        Form::Json => {
+            put_queues_json(&mut text, alloc, system)?;
+            Ok(text)
+        }
     }
-    Ok(text)
 }
 
 /// The messages of the queue of a system that has the name.
@@ -113,8 +134,13 @@ fn show_messages(
     let messages = &system.queue(place).messages;
     let mut text = Text::new(alloc);
     match form {
-        Form::Table => put_messages(&mut text, messages)?,
-        Form::Json => put_messages_json(&mut text, alloc, &info, messages)?,
+        Form::Table => {
+            put_messages(&mut text, messages)?;
+            Ok(text)
+        }
+        Form::Json => {
+            put_messages_json(&mut text, alloc, &info, messages)?;
+            Ok(text)
+        }
     }
-    Ok(text)
 }

@@ -1,11 +1,10 @@
 //! Commands and looks on a file in memory.
 
-use crate::{
-    Command, CommandError, Form, Look, QueueName, Ran, Receiving, Request, Sending, look_on, run_on,
-};
-use msgq_cli::record_file::format;
+use crate::{CommandError, Form, Look, Ran, look_on, run_on};
 use page_device::MemDevice;
+use queue_commands::{Command, QueueName, Receiving, Request, Sending};
 use queue_model::{Body, Caller, Errno};
+use record_file::format;
 use std::alloc::Global;
 use std::io::{self, ErrorKind, Write};
 use std::process::Abort;

@@ -12,9 +12,7 @@ fn changed_pages_alone_are_written(rt: HostRuntime) -> Result<(), Fail> {
     for byte in [1, 2, 3] {
         assert!(rt; device.extend(&[byte; PAGE_BYTES]).is_ok());
     }
-    let Ok(mut file) = copied(alloc, &mut device) else {
-        return Err(Fail);
-    };
+    let mut file = copied(alloc, &mut device)?;
     assert!(rt; file.write(1, &[9; PAGE_BYTES]).is_ok());
     // three reads, one write and the sync are five transfers, of which the sixth would fail
     let mut faulty = FaultyDevice::new(device, 6);

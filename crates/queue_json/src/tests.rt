@@ -54,7 +54,7 @@ fn queues_and_messages_are_objects(rt: HostRuntime) -> Result<(), Fail> {
         \"msg_qbytes\":16384,\"msg_qnum\":0,\"msg_rtime\":0,\"msg_stime\":0}]}\n";
     assert!(rt; text.as_slice() == wanted);
     let Some(info) = system.info(1) else {
-        return Err(Fail);
+        return Err(Fail::new("there is no second queue"));
     };
     let mut text = Text::new(alloc);
     put_messages_json(&mut text, alloc, &info, &system.queue(0).messages)?;

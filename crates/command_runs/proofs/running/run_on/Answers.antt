@@ -1,39 +1,29 @@
-use Rattle.std.proofs.Common.{inl, inr, refl, sym, subst, Bool, IsTrue, ◌∙◌, ap, ◌∷◌, [], arith}
-use Rattle.bucket_page.specs.Pseudokeys.{sha_key}
-use Rattle.lone_kernel.specs.Words.{PoolState}
-use Rattle.queue_commands.specs.Asking.{Asker}
+use Rattle.std.proofs.Common.{refl, subst, sym, IsTrue, Ok, Err}
+use Rattle.command_runs.specs.Memory.{AsksFile, Pages}
+use Rattle.command_runs.proofs.RunLemmas.{ends_as, undone_as}
 use Rattle.command_runs.proofs.running.run_on.Goals as goal
 
--- the kernel that was opened rests over the file's system
-pub returns-in-Ok : goal.returns-in-Ok
-returns-in-Ok g c = λ honest.
-    let opened = c.in-Ok.ensures.ok in
-    let has = c.in-Ok.ensures.file honest in
-    let rests = c.a_kernel_opens_at_rest.ensures sha_key _ _ _ _ _ c.in-Ok.kernel opened honest has.0 has.1
-    (omega arith) (omega arith) in
-    let asker : Asker =
-    record { caller = c.args.caller; failures = g.D.PageDevice.fault_count c.args.device } in
-    inl (record {
-      system = has.0;
-      file = has.1;
-      ends = c.run_open.ensures asker has.0 (rw c.new.ensures (record {
-        rests = rests;
-        seated = opened.callers;
-        honest = subst (λ (p : PoolState). IsTrue p.honest) (sym opened.pool) honest;
-        later = c.in-Ok.ensures.cause.0;
-      }));
-    })
+-- it was asked, and ended on the device
+pub returns-in-Ok-ask_file-clause-honest : goal.returns-in-Ok-ask_file-clause-honest
+returns-in-Ok-ask_file-clause-honest g c = λ honest.
+    let content = g.D.PageDevice.content in
+    let count = g.D.PageDevice.fault_count in
+    let output = g.W.Write.contents in
+    let asked = c.in-Ok-ask_file.asked in
+    ends_as c.args.caller (content c.args.device) (content c.end.result.device) (output c.args.writer.now)
+    (output c.end.new.writer) (count c.args.device) (count c.copied.new.device) (count c.end.result.device)
+    c.args.request.now c.copied.ensures.later asked c.end.result.came
+    (subst (λ (ps : Pages). AsksFile c.args.caller c.args.request.now ps (Ok asked)) (c.in-Ok.ensures.ok honest)
+    c.in-Ok-ask_file.ensures.asks) (c.end.ensures.honest (subst IsTrue (sym c.copied.ensures.honest) honest))
 
--- it was not opened
-pub returns-in-Err : goal.returns-in-Err
-returns-in-Err g c = λ honest. inr (
-  record {
-    fault = c.in-Err.fault;
-    told = refl;
-    framed = λ few. ?;
-    cause = c.in-Err.ensures.refused honest;
-    failed = c.in-Err.ensures.cause.1;
-    kept = refl;
-  },
-  c.in-Err.ensures.err.0,
-)
+-- nothing came of it
+pub returns-in-Err-ask_file-clause-honest : goal.returns-in-Err-ask_file-clause-honest
+returns-in-Err-ask_file-clause-honest g c = λ honest.
+    let content = g.D.PageDevice.content in
+    let count = g.D.PageDevice.fault_count in
+    let output = g.W.Write.contents c.args.writer.now in
+    let error = c.in-Err-ask_file.error in
+    undone_as c.args.caller (content c.args.device) (content c.copied.new.device) output output (count c.args.device) 0
+    (count c.copied.new.device) c.args.request.now error
+    (subst (λ (ps : Pages). AsksFile c.args.caller c.args.request.now ps (Err error)) (c.in-Ok.ensures.ok honest)
+    c.in-Err-ask_file.ensures.asks) refl
