@@ -142,153 +142,153 @@ pub(crate) fn program<'a>(alloc: Global) -> Result<Command<'a>, AllocError> {
 
 /// `send FILE KEY`.
 fn send<'a>(alloc: Global, command: Command<'a>) -> Result<Command<'a>, AllocError> {
-    let body = Arg::new(alloc, BODY).action(ArgAction::Set).help(
-        "- for standard input, which is the body also where this is left out; a terminal is not",
-    );
-    let mtype = value(
-        alloc,
-        TYPE,
-        "N",
-        "The type of the message, from 1 on; 1 where none is given",
-    )
-    .allow_negative_numbers(true);
-    let lines = flag(
-        alloc,
-        LINES,
-        "Send each line as a message, its line end included: all, or none",
-    );
-    let verbose = flag(
-        alloc,
-        VERBOSE,
-        "Print the serial of each message, a line each",
-    )
-    .short('v');
     let command = places(alloc, command)?
-        .arg(body)?
-        .arg(mtype)?
-        .arg(lines)?
-        .arg(verbose)?;
-    waits(alloc, creates(alloc, command)?)
+        .arg(body(alloc))?
+        .arg(sent_type(alloc))?
+        .arg(flag(
+            alloc,
+            LINES,
+            "Send each line as a message, its line end included: all, or none",
+        ))?
+        .arg(flag(
+            alloc,
+            VERBOSE,
+            "Print the serial of each message, a line each",
+        )
+        .short('v'))?;
+    let command = creates(alloc, command)?;
+    waits(alloc, command)
 }
 
-/// What is made where it is not there.
+/// The body that is sent.
+fn body<'a>(alloc: Global) -> Arg<'a> {
+    Arg::new(alloc, BODY).action(ArgAction::Set).help(
+        "- for standard input, which is the body also where this is left out; a terminal is not",
+    )
+}
+
+/// The type with which it is sent.
+fn sent_type<'a>(alloc: Global) -> Arg<'a> {
+    let help = "The type of the message, from 1 on; 1 where none is given";
+    value(alloc, TYPE, "N", help).allow_negative_numbers(true)
+}
+
+/// What a send makes where it is not there.
 fn creates<'a>(alloc: Global, command: Command<'a>) -> Result<Command<'a>, AllocError> {
-    let create = flag(alloc, CREATE, "Make the queue where KEY has none");
-    let mode = value(
-        alloc,
-        MODE,
-        "OOO",
-        "Its mode, three octal digits; 600 where none is given",
-    );
-    let pages = value(
-        alloc,
-        PAGES,
-        "N",
-        "Make FILE where there is none, of so many pages",
-    );
     command
-        .arg(create)?
-        .arg(mode.requires_arg(CREATE)?)?
-        .arg(pages.requires_arg(CREATE)?)
+        .arg(flag(alloc, CREATE, "Make the queue where KEY has none"))?
+        .arg(new_mode(alloc).requires_arg(CREATE)?)?
+        .arg(new_pages(alloc).requires_arg(CREATE)?)
+}
+
+/// The mode of a queue that is made.
+fn new_mode<'a>(alloc: Global) -> Arg<'a> {
+    let help = "Its mode, three octal digits; 600 where none is given";
+    value(alloc, MODE, "OOO", help)
+}
+
+/// The pages of a file that is made.
+fn new_pages<'a>(alloc: Global) -> Arg<'a> {
+    let help = "Make FILE where there is none, of so many pages";
+    value(alloc, PAGES, "N", help)
 }
 
 /// Whether a send looks again.
 fn waits<'a>(alloc: Global, command: Command<'a>) -> Result<Command<'a>, AllocError> {
-    let wait = patience(
-        alloc,
-        "Look again while there is no room, for so long or for ever",
-    );
     let nowait = flag(
         alloc,
         NOWAIT,
         "Refuse where there is no room, as without --wait",
     );
-    command.arg(wait)?.arg(nowait.conflicts_with(WAIT)?)
+    command.arg(nowait.conflicts_with(WAIT)?)?.arg(patience(
+        alloc,
+        "Look again while there is no room, for so long or for ever",
+    ))
 }
 
 /// `receive FILE KEY`.
 fn receive<'a>(alloc: Global, command: Command<'a>) -> Result<Command<'a>, AllocError> {
-    let size = value(
-        alloc,
-        SIZE,
-        "N",
-        "Refuse a message of more bytes; 1024 where none is given",
-    );
-    let noerror = flag(alloc, NOERROR, "Cut it in place of refusing it");
-    let header = flag(
-        alloc,
-        HEADER,
-        "Print serial, sender, type and length as a line before each body",
-    );
-    let all = flag(
-        alloc,
-        ALL,
-        "Receive each that its type selects, until there is none",
-    );
-    let wait = patience(
-        alloc,
-        "Look again while there is no message, for so long or for ever",
-    );
-    places(alloc, command)?
+    let command = places(alloc, command)?
         .arg(selection(alloc))?
-        .arg(size)?
-        .arg(noerror)?
-        .arg(header)?
-        .arg(all)?
-        .arg(wait)
+        .arg(value(
+            alloc,
+            SIZE,
+            "N",
+            "Refuse a message of more bytes; 1024 where none is given",
+        ))?
+        .arg(flag(alloc, NOERROR, "Cut it in place of refusing it"))?;
+    receives_more(alloc, command)
+}
+
+/// How many messages a receive takes, when, and what it prints before each.
+fn receives_more<'a>(alloc: Global, command: Command<'a>) -> Result<Command<'a>, AllocError> {
+    command
+        .arg(flag(
+            alloc,
+            HEADER,
+            "Print serial, sender, type and length as a line before each body",
+        ))?
+        .arg(flag(
+            alloc,
+            ALL,
+            "Receive each that its type selects, until there is none",
+        ))?
+        .arg(patience(
+            alloc,
+            "Look again while there is no message, for so long or for ever",
+        ))
 }
 
 /// `list FILE [KEY]`.
 fn list<'a>(alloc: Global, command: Command<'a>) -> Result<Command<'a>, AllocError> {
-    let queue = Arg::new(alloc, KEY)
-        .action(ArgAction::Set)
-        .help("The queue whose messages are listed");
     command
         .arg(place(alloc, FILE, "The file, which is not written"))?
-        .arg(queue)?
+        .arg(listed(alloc))?
         .arg(flag(alloc, JSON, "Print JSON in place of a table"))
+}
+
+/// The queue whose messages are listed.
+fn listed<'a>(alloc: Global) -> Arg<'a> {
+    Arg::new(alloc, KEY)
+        .action(ArgAction::Set)
+        .help("The queue whose messages are listed")
 }
 
 /// `make FILE KEY`.
 fn make<'a>(alloc: Global, command: Command<'a>) -> Result<Command<'a>, AllocError> {
-    let mode = value(
-        alloc,
-        MODE,
-        "OOO",
-        "Its mode, three octal digits; 600 where none is given",
-    );
-    let key = place(
-        alloc,
-        KEY,
-        "The key, which no queue may have yet; or private",
-    );
     command
         .arg(place(alloc, FILE, "The file"))?
-        .arg(key)?
-        .arg(mode)
+        .arg(place(
+            alloc,
+            KEY,
+            "The key, which no queue may have yet; or private",
+        ))?
+        .arg(new_mode(alloc))
 }
 
 /// `set FILE KEY`.
 fn set<'a>(alloc: Global, command: Command<'a>) -> Result<Command<'a>, AllocError> {
-    let qbytes = value(
-        alloc,
-        QBYTES,
-        "N",
-        "As many bytes may its messages have together",
-    );
+    let command = places(alloc, command)?
+        .arg(value(
+            alloc,
+            QBYTES,
+            "N",
+            "As many bytes may its messages have together",
+        ))?
+        .arg(value(alloc, OWNER, "N", "The user that owns it"))?
+        .arg(value(alloc, GROUP, "N", "The group that owns it"))?
+        .arg(value(alloc, MODE, "OOO", "Its mode, three octal digits"))?;
+    command.group(settings(alloc)?)
+}
+
+/// At least one of what is set is given.
+fn settings<'a>(alloc: Global) -> Result<ArgGroup<'a>, AllocError> {
     let group = ArgGroup::new(alloc, "what")
         .arg(QBYTES)?
         .arg(OWNER)?
         .arg(GROUP)?
-        .arg(MODE)?
-        .required(true)
-        .multiple(true);
-    places(alloc, command)?
-        .arg(qbytes)?
-        .arg(value(alloc, OWNER, "N", "The user that owns it"))?
-        .arg(value(alloc, GROUP, "N", "The group that owns it"))?
-        .arg(value(alloc, MODE, "OOO", "Its mode, three octal digits"))?
-        .group(group)
+        .arg(MODE)?;
+    Ok(group.required(true).multiple(true))
 }
 
 /// A command on a queue of a file.
