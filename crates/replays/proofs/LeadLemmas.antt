@@ -7,7 +7,8 @@ use Rattle.queue_model.specs.declared.call.Call.{Call}
 use Rattle.queue_model.specs.State.{State}
 use Rattle.interleavings.specs.interleaving_core.Beginning.{IsStopped}
 use Rattle.interleavings.specs.interleaving_core.Kernel.{KernelState}
-use Rattle.interleavings.specs.interleaving_core.Words.{IsSeat}
+use Rattle.interleavings.specs.interleaving_core.Owing.{KeepsRest}
+use Rattle.interleavings.specs.interleaving_core.Words.{IsSeat, PoolState, spared}
 use Rattle.interleavings.specs.Laws.{EventsRefine}
 use Rattle.interleavings.specs.Refining.{Refines}
 use Rattle.interleavings.specs.Runs.{Happens, IsOfSeat}
@@ -104,32 +105,38 @@ stop_may s t stops = inr (stopped s.kernel t.kernel stops.kernel)
 -- ---- what it leaves
 
 -- the same callers, over a device as honest
-same_keeps : (old new : KernelState ShaKey) → new.callers ≡ old.callers → new.pool.honest ≡ old.pool.honest →
-    KeepsCallers old new
-same_keeps old new callers honest = record { callers = callers; honest = honest }
+same_keeps : (old new : KernelState ShaKey) → new.callers ≡ old.callers → new.pool ≡ old.pool → KeepsCallers old new
+same_keeps old new callers pool = record {
+  callers = callers;
+  honest = ap (λ (p : PoolState). p.honest) pool;
+  stored = ap spared pool;
+}
+
+rest_keeps : (old new : KernelState ShaKey) → KeepsRest old new → KeepsCallers old new
+rest_keeps old new rest = record { callers = rest.callers; honest = rest.honest; stored = rest.stored }
 
 stop_keeps : (old new : KernelState ShaKey) → IsStopped old new → (b : Bool) → old.stopped ≡ b → KeepsCallers old new
 stop_keeps old new stops true is =
     let same = stops.again is in
     same_keeps old new (ap (λ (k : KernelState ShaKey). k.callers) same)
-    (ap (λ (k : KernelState ShaKey). k.pool.honest) same)
+    (ap (λ (k : KernelState ShaKey). k.pool) same)
 stop_keeps old new stops false is =
     let marked = stops.first is in
     same_keeps old new (ap (λ (k : KernelState ShaKey). k.callers) marked)
-    (ap (λ (k : KernelState ShaKey). k.pool.honest) marked)
+    (ap (λ (k : KernelState ShaKey). k.pool) marked)
 
 happens_keeps : (e : Event) (o : Outcome) (old new : KernelState ShaKey) → Happens sha_key e o old new →
     KeepsCallers old new
 happens_keeps (events.Begin seat call) outcomes.Begun old new has =
     same_keeps old new (ap (λ (k : KernelState ShaKey). k.callers) has.is)
-    (ap (λ (k : KernelState ShaKey). k.pool.honest) has.is)
+    (ap (λ (k : KernelState ShaKey). k.pool) has.is)
 happens_keeps (events.Begin seat call) (outcomes.Refused back fault) old new is =
     same_keeps old new (ap (λ (k : KernelState ShaKey). k.callers) is.same)
-    (ap (λ (k : KernelState ShaKey). k.pool.honest) is.same)
+    (ap (λ (k : KernelState ShaKey). k.pool) is.same)
 happens_keeps (events.Step seat) (outcomes.Stepped did) old new step =
-    same_keeps old new step.turn.run.rest.callers step.turn.run.rest.honest
+    rest_keeps old new step.turn.run.rest
 happens_keeps (events.Drive seat) (outcomes.Driven did) old new drives =
-    same_keeps old new drives.run.rest.callers drives.run.rest.honest
+    rest_keeps old new drives.run.rest
 happens_keeps events.Stop outcomes.Stopped old new stops = stop_keeps old new stops old.stopped refl
 happens_keeps _ _ old new never = absurd never
 
@@ -137,7 +144,11 @@ keeps_on : (first old new : KernelState ShaKey) → MayHappen old new → KeepsC
 keeps_on first old new (inl same) kept = subst (KeepsCallers first) (sym same) kept
 keeps_on first old new (inr it) kept =
     let next = happens_keeps it.event it.outcome old new it.happens in
-    record { callers = next.callers ∙ kept.callers; honest = next.honest ∙ kept.honest }
+    record {
+      callers = next.callers ∙ kept.callers;
+      honest = next.honest ∙ kept.honest;
+      stored = next.stored ∙ kept.stored;
+    }
 
 -- and as many seats
 pub seats_kept : (old new : KernelState ShaKey) → MayHappen old new → length new.locks ≡ length old.locks
@@ -178,7 +189,7 @@ pub replay_keeps : (words : List Word) (first played last : ReplayState) → Pla
     MakesRounds played last → KeepsCallers first.kernel last.kernel
 replay_keeps words first played last plays goes =
     throughout (KeepsCallers first.kernel) (keeps_on first.kernel) words first played last plays goes
-    (record { callers = refl; honest = refl })
+    (record { callers = refl; honest = refl; stored = refl })
 
 pub replay_leads : EventsRefine ShaKey → (base : State) (words : List Word) (first played last : ReplayState) →
     PlaysAll words first played → MakesRounds played last → Refines sha_key base first.kernel →

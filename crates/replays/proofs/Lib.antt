@@ -7,6 +7,7 @@ pub mod PlayLemmas
 pub mod LeadLemmas
 pub mod EntryLemmas
 pub mod TellLemmas
+pub mod TextLemmas
 pub mod FreeLemmas
 pub mod BeginLemmas
 pub mod SoundLemmas

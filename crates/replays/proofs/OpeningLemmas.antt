@@ -10,10 +10,13 @@ use Rattle.bucket_page.specs.declared.pseudokey.ShaKey.{ShaKey}
 use Rattle.queue_model.specs.declared.caller.Caller.{Caller}
 use Rattle.interleavings.specs.interleaving_core.Beginning.{HasSystem, IsOpened}
 use Rattle.interleavings.specs.interleaving_core.Kernel.{KernelState}
+use Rattle.interleavings.specs.interleaving_core.Words.{spared}
 use Rattle.interleavings.specs.interleaving_core.declared.fault.OpenFault.{OpenFault}
 use Rattle.interleavings.specs.interleaving_core.declared.fault.OpenFault.TheVariants.{TooFewFrames}
 use Rattle.interleavings.specs.Laws.{RefinesFile, OpensRefine}
+use Rattle.interleavings.proofs.of_interleaving_core.SparedLemmas.{stored_again}
 use Rattle.msgq_cli.specs.Scripts.{Parts, IsSound, caller_of, greatest_seat}
+use Rattle.msgq_cli.specs.declared.files.TheConstants.{MOST_FRAMES}
 use Rattle.msgq_cli.specs.declared.line.Line.{Line}
 use Rattle.msgq_cli.specs.declared.line.SeatIds.{SeatIds}
 use Rattle.script_words.specs.Numbers.{IsSeat}
@@ -53,18 +56,27 @@ never_too_few (Err refusal) frames least enough few =
 -- ---- a kernel that is opened for the seats
 
 pub opened_for : (script : Parts) (content : List (List ℕ)) (honest : Bool) (keys : ShaKey) (frames seats : ℕ)
-    (callers : List Caller) → seats ≡ greatest_seat script.lines → callers ≡ callers_of script.ids seats →
-    (k : KernelState ShaKey) → IsOpened keys content honest callers frames k →
+    (callers : List Caller) → (length content ≤ MOST_FRAMES → length content ≤ frames) →
+    seats ≡ greatest_seat script.lines → callers ≡ callers_of script.ids seats → (k : KernelState ShaKey) → IsOpened keys content honest callers frames k →
     IsOpenedForSeats script content honest k
-opened_for script content honest keys frames seats callers many are k opened =
+opened_for script content honest keys frames seats callers enough many are k opened =
     let same = are ∙ ap (callers_of script.ids) many in
     record {
       frames = frames;
+      enough = enough;
       with_keys = keys;
       opened = subst (λ (cs : List Caller). IsOpened keys content honest cs frames k) same opened;
       many = ap length opened.locks ∙ length-replicate (length callers) [] ∙ ap length same
           ∙ length-callers_of script.ids (greatest_seat script.lines);
     }
+
+-- and then it leaves what a file of at most so many pages had
+pub stored_before : (script : Parts) (content : List (List ℕ)) (honest : Bool) (first last : KernelState ShaKey) →
+    IsOpenedForSeats script content honest first → spared last.pool ≡ spared first.pool →
+    length content ≤ MOST_FRAMES → last.pool.stored ≡ content
+stored_before script content honest first last opened same few =
+    stored_again opened.with_keys content honest (callers_of script.ids (greatest_seat script.lines)) opened.frames
+    first last opened.opened same (opened.enough few)
 
 -- of an honest device it is led from the system of the file
 pub opened_led : OpensRefine ShaKey → (script : Parts) (content : List (List ℕ)) (honest : Bool) (seats : ℕ)

@@ -3,16 +3,18 @@
 use Rattle.std.specs.Prelude.{ℕ, ◌≡◌, IsTrue, List}
 use Rattle.bucket_page.specs.Pseudokeys.{sha_key}
 use Rattle.interleavings.specs.interleaving_core.Kernel.{KernelState}
+use Rattle.interleavings.specs.interleaving_core.Words.{spared}
 use Rattle.interleavings.specs.Headline.{IsAsPlainLists}
 use Rattle.interleavings.specs.Refining.{Refines}
 use Rattle.interleavings.specs.Words.{IsFileOf, IsLawful, State, after, part_of, restarted}
 use Rattle.replays.specs.Events.{ReplayState}
 use Rattle.replays.specs.Journal.{IsToldItsPart, entries_at}
 
--- the same callers, over a device as honest
+-- the same callers, over a device as honest; where there is a frame for each page it has what it had
 pub record KeepsCallers {K : Type 0} (old new : KernelState K) : Type 0 where
   pub callers : new.callers ≡ old.callers
   pub honest : new.pool.honest ≡ old.pool.honest
+  pub stored : spared new.pool ≡ spared old.pool
 
 -- what is so where the kernel was closed with no fault
 pub record IsLeftWell (first last : ReplayState) (left : List (List ℕ)) : Type 0 where

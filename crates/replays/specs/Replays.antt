@@ -1,6 +1,6 @@
 -- A script that is replayed by a schedule: how its kernel is opened, what is printed, how it ends. docs/SCRIPTS.md,
 -- "Runs" and "Schedules".
-use Rattle.std.specs.Prelude.{ℕ, zero, suc, ◌≡◌, ◌↔◌, ◌⊎◌, Bool, true, false, List, [], ◌∷◌, ◌++◌, ◌&&◌, not, IsTrue, Option, Some, None, if◌then◌else◌, length}
+use Rattle.std.specs.Prelude.{ℕ, zero, suc, ◌≡◌, ◌↔◌, ◌⊎◌, ◌≤◌, Bool, true, false, List, [], ◌∷◌, ◌++◌, ◌&&◌, not, IsTrue, Option, Some, None, if◌then◌else◌, length}
 use Rattle.std.specs.Bool.{then_some}
 use Rattle.std.specs.List.{list_any}
 use Rattle.faults.specs.declared.TheConstants.{BUSY, DEVICE, FAILED, NO_MEMORY}
@@ -16,6 +16,7 @@ use Rattle.msgq_cli.specs.Outputs.{OutputState, Prints}
 use Rattle.msgq_cli.specs.Runs.{is_fault}
 use Rattle.msgq_cli.specs.Scripts.{Parts, caller_of, greatest_seat}
 use Rattle.msgq_cli.specs.Refusals.{IsFaultAlone}
+use Rattle.msgq_cli.specs.declared.files.TheConstants.{MOST_FRAMES}
 use Rattle.msgq_cli.specs.declared.ending.Ending.{Ending}
 use Rattle.msgq_cli.specs.declared.ending.Ending.TheVariants.{Done, Faulty, WrongWord}
 use Rattle.msgq_cli.specs.declared.line.Line.{Line}
@@ -40,6 +41,8 @@ callers_of ids (suc n) = callers_of ids n ++ caller_of (suc n) ids ∷ []
 pub record IsOpenedForSeats (script : Parts) (content : List (List ℕ)) (honest : Bool) (k : KernelState ShaKey)
     : Type 0 where
   pub frames : ℕ
+  -- there is a frame for each page of a file of at most so many
+  pub enough : length content ≤ MOST_FRAMES → length content ≤ frames
   pub with_keys : ShaKey
   pub opened : IsOpened with_keys content honest (callers_of script.ids (greatest_seat script.lines)) frames k
   -- there are as many seats as the script has
@@ -132,6 +135,9 @@ pub record IsReplayed (events : List Event) (first : ReplayState) (old new : Out
   pub well : untold ≡ false → fault ≡ None → IsLeftWell first last left
   -- what can't be told has not: the pages are those that the kernel's pool knew to be stored
   pub unwritten : may_write (is_over last) untold last.kernel ≡ false → left ≡ last.kernel.pool.stored
+  -- which are those of before, where there is a frame for each
+  pub before : may_write (is_over last) untold last.kernel ≡ false →
+      length first.kernel.pool.stored ≤ first.kernel.pool.frames → left ≡ first.kernel.pool.stored
   pub ends : EndsWith fault told so_far new ending
 
 -- what is told where there is no schedule

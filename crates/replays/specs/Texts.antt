@@ -1,6 +1,6 @@
 -- What comes of a script and a schedule that are given as texts, on the pages of a device. docs/SCRIPTS.md, "Runs" and
 -- "Schedules".
-use Rattle.std.specs.Prelude.{ℕ, ◌≡◌, ◌≢◌, ◌⊎◌, Bool, false, IsTrue, List, Result, Ok, Err}
+use Rattle.std.specs.Prelude.{ℕ, ◌≡◌, ◌≢◌, ◌⊎◌, ◌≤◌, Bool, false, IsTrue, List, length, Result, Ok, Err}
 use Rattle.faults.specs.declared.TheConstants.{NO_MEMORY}
 use Rattle.bucket_page.specs.Pseudokeys.{sha_key}
 use Rattle.page_device.specs.Device.{HasRisen}
@@ -11,12 +11,14 @@ use Rattle.interleavings.specs.interleaving_core.declared.fault.OpenFault.TheVar
 use Rattle.msgq_cli.specs.Outputs.{OutputState}
 use Rattle.msgq_cli.specs.Refusals.{IsFaultAlone}
 use Rattle.msgq_cli.specs.Scripts.{Parts, script_of}
+use Rattle.msgq_cli.specs.declared.files.TheConstants.{MOST_FRAMES}
 use Rattle.msgq_cli.specs.declared.ending.Ending.{Ending}
 use Rattle.msgq_cli.specs.declared.ending.Ending.TheVariants.{WrongLine, WrongWord}
 use Rattle.schedules.specs.Schedules.{schedule_of}
 use Rattle.schedules.specs.declared.event.Event.{Event}
 use Rattle.replays.specs.Events.{ReplayState}
-use Rattle.replays.specs.Replays.{IsOpenedFor, IsReplayed}
+use Rattle.replays.specs.Replays.{IsOpenedFor, IsReplayed, may_write}
+use Rattle.replays.specs.Rounds.{is_over}
 
 -- ---- what is left
 
@@ -51,6 +53,9 @@ pub record IsPlayed (script : Parts) (events : List Event) (honest : Bool) (c : 
   pub first : ReplayState
   pub opened : IsOpenedFor script c.content honest first
   pub replayed : IsReplayed events first c.old c.new c.left c.untold ending
+  -- where nothing was to be written, a file of at most so many pages has what it had
+  pub before : may_write (is_over replayed.last) c.untold replayed.last.kernel ≡ false →
+      length c.content ≤ MOST_FRAMES → c.left ≡ c.content
 
 -- they are not opened: of an honest device that is the first thing that is wrong with the file, unless the machine
 -- lacked something or a transfer failed; and the number of that is printed

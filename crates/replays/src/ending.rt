@@ -56,7 +56,8 @@ impl<D: PageDevice> Ran<D> {
 /// over an honest device, the answers are those of plain lists asked one call at a time, and seat
 /// by seat the lines are replied its part of them. Where the output took all replies, and no fault
 /// is told after them, an honest device has the file of the system that the lists come to. Where
-/// the kernel is let go the device has what its pool knew to be stored. It is as honest as it was.
+/// the kernel is let go the device has what its pool knew to be stored, which is what it had before
+/// where there is a frame for each page. It is as honest as it was.
 pub fn run<D: PageDevice + Drop, W: Write + Drop>(
     replay: Replay<D>,
     events: &[Event],

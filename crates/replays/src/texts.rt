@@ -28,7 +28,8 @@ pub struct Texts<'a> {
 /// Then the file is opened for the script's seats: of an honest device that is the file of one
 /// system, from which the lines are run; or the number of the first thing that is wrong with it
 /// stands alone, or 20 where a transfer failed. What is printed, and what is left, is what `run`
-/// says. The device comes back, as honest as it was; nothing was written where nothing was run.
+/// says; where nothing is to be written a file of at most `MOST_FRAMES` pages is as it was before.
+/// The device comes back, as honest as it was; nothing was written where nothing was run.
 pub fn replay_on<D: PageDevice + Drop, W: Write + Drop, E: Write>(
     alloc: Global,
     device: D,

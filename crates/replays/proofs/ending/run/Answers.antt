@@ -1,5 +1,6 @@
-use Rattle.std.proofs.Common.{◌≡◌, ◌++◌, ◌∙◌, [], sym, ap, subst, append-nil, Bool, List, Option}
+use Rattle.std.proofs.Common.{◌≡◌, ◌++◌, ◌∙◌, [], sym, ap, subst, append-nil, Bool, false, List, Option}
 use Rattle.bucket_page.specs.declared.pseudokey.ShaKey.{ShaKey}
+use Rattle.interleavings.proofs.of_interleaving_core.SparedLemmas.{stored_kept}
 use Rattle.interleavings.specs.interleaving_core.Kernel.{KernelState}
 use Rattle.msgq_cli.specs.Outputs.{Prints}
 use Rattle.msgq_cli.specs.declared.line.Line.{Line}
@@ -37,6 +38,11 @@ returns-clause-replayed g c =
     subst (λ (b : Bool). MayEndWith b untold last.kernel fault) c.finish-is_over.ensures.over
     (subst (λ (k : KernelState ShaKey). MayEndWith over untold k fault) kernel
     c.end_kernel-device.ensures.closes) in
+    let unwritten : may_write (is_over last) untold last.kernel ≡ false → left ≡ last.kernel.pool.stored =
+    λ away. subst (λ (k : KernelState ShaKey). left ≡ k.pool.stored) kernel
+    (c.end_kernel-device.ensures.unwritten
+    (ap (λ (k : KernelState ShaKey). may_write over untold k) kernel
+    ∙ ap (λ (b : Bool). may_write b untold last.kernel) c.finish-is_over.ensures.over ∙ away)) in
     record {
       played = c.play_all.new.self;
       plays = plays;
@@ -61,10 +67,10 @@ returns-clause-replayed g c =
       well = λ taken none. left_well c.events_refine.ensures words c.args.replay c.play_all.new.self last plays rounds
           c.is_sound.ensures c.a_refining_kernel_closes_on_its_file.ensures left
           (subst (λ (k : KernelState ShaKey). IsClosedWell k left) kernel (c.end_kernel-device.ensures.well taken none));
-      unwritten = λ away. subst (λ (k : KernelState ShaKey). left ≡ k.pool.stored) kernel
-          (c.end_kernel-device.ensures.unwritten
-          (ap (λ (k : KernelState ShaKey). may_write over untold k) kernel
-          ∙ ap (λ (b : Bool). may_write b untold last.kernel) c.finish-is_over.ensures.over ∙ away));
+      unwritten = unwritten;
+      before = λ away roomy. unwritten away
+          ∙ stored_kept c.args.replay.kernel.pool last.kernel.pool
+          (replay_keeps words c.args.replay c.play_all.new.self last plays rounds).stored roomy;
       ends = c.tell_end-ending.ensures;
     }
 
