@@ -1,5 +1,5 @@
 -- The pages that a pool spares, before and after a change.
-use Rattle.std.proofs.Common.{◌≡◌, ◌∙◌, sym, refl, ℕ, ◌≤◌, Bool, true, false, List, length, Option, Some, None, arith}
+use Rattle.std.proofs.Common.{◌≡◌, ◌∙◌, refl, ℕ, ◌≤◌, Bool, true, false, List, length, Option, Some, None, arith}
 use Rattle.std.proofs.Common.{nat_le, if◌then◌else◌}
 use Rattle.std.proofs.lemmas.Bool.Decides.{nat_tests}
 use Rattle.buffer_pool.specs.Pool.{PoolState, spared}

@@ -95,8 +95,8 @@ pub record KeepsImages (succeeded : Bool) (old new : PoolState) : Type 0 where
   pub honest : new.honest ≡ old.honest
   pub seals : IsTrue old.honest → IsTrue succeeded → KeepsSeals old.stored new.stored
 
--- the pages that a pool spares until it is flushed: all that its device has, where there is a frame for each; unfoldable,
--- so that crates above see one word
+-- the pages that a pool spares until it is flushed: all that its device has, where there is a frame for each; it is
+-- unfoldable, so that crates above see one word
 unfoldable pub spared : PoolState → Option (List (List ℕ))
 spared s = if nat_le (length s.stored) s.frames then Some s.stored else None
 

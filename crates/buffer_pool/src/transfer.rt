@@ -57,8 +57,8 @@ pub fn bring_in<D: PageDevice>(
     ensures images { IsTrue (D.is_honest device.old) →
         images_of (D.content device.new) table.new ≡ images_of (D.content device.old) table.old }
     ensures pins { KeepsPins table.old table.new }
-    ensures device { KeepsDevice (length (D.content device.old) ≤ length table.old.pages) (is_ok result)
-        (D.is_honest device.old) (D.is_honest device.new)
+    ensures device { KeepsDevice (length (D.content device.old) ≤ length table.old.pages)
+        (is_ok result) (D.is_honest device.old) (D.is_honest device.new)
         (D.content device.old) (D.content device.new) }
     ensures cause { PoolHasCause (MayBeUnread (D.is_honest device.old) page
         (D.content device.old) (images_of (D.content device.old) table.old))
@@ -84,8 +84,8 @@ fn read_in<D: PageDevice>(device: &mut D, table: &mut Table, page: u32) -> Resul
     ensures images { IsTrue (D.is_honest device.old) →
         images_of (D.content device.new) table.new ≡ images_of (D.content device.old) table.old }
     ensures pins { KeepsPins table.old table.new }
-    ensures device { KeepsDevice (length (D.content device.old) ≤ length table.old.pages) (is_ok result)
-        (D.is_honest device.old) (D.is_honest device.new)
+    ensures device { KeepsDevice (length (D.content device.old) ≤ length table.old.pages)
+        (is_ok result) (D.is_honest device.old) (D.is_honest device.new)
         (D.content device.old) (D.content device.new) }
     ensures cause { PoolHasCause (MayBeUnread (D.is_honest device.old) page
         (D.content device.old) (images_of (D.content device.old) table.old))

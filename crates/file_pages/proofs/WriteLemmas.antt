@@ -131,9 +131,9 @@ only_writes ok s t v page right new ready pinned keeps is = subst (OnlyWrites ok
   honest = pinned.keeps.honest;
   later = pinned.later;
   stored = spared_is t (record t {
-      images = slice_set t.images right new;
-      pins = slice_set t.pins right (pins_at t right - 1);
-    }) refl refl ∙ pinned.stored;
+    images = slice_set t.images right new;
+    pins = slice_set t.pins right (pins_at t right - 1);
+  }) refl refl ∙ pinned.stored;
   file = λ honest done f.
       let same = written_is honest in
       record {

@@ -57,7 +57,8 @@ never_too_few (Err refusal) frames least enough few =
 
 pub opened_for : (script : Parts) (content : List (List ℕ)) (honest : Bool) (keys : ShaKey) (frames seats : ℕ)
     (callers : List Caller) → (length content ≤ MOST_FRAMES → length content ≤ frames) →
-    seats ≡ greatest_seat script.lines → callers ≡ callers_of script.ids seats → (k : KernelState ShaKey) → IsOpened keys content honest callers frames k →
+    seats ≡ greatest_seat script.lines → callers ≡ callers_of script.ids seats → (k : KernelState ShaKey) →
+    IsOpened keys content honest callers frames k →
     IsOpenedForSeats script content honest k
 opened_for script content honest keys frames seats callers enough many are k opened =
     let same = are ∙ ap (callers_of script.ids) many in

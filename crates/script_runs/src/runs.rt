@@ -5,6 +5,7 @@ ghost use Rattle.bucket_page.specs.Pseudokeys.{sha_key};
 ghost use Rattle.bucket_page.specs.declared.pseudokey.ShaKey.{ShaKey};
 ghost use Rattle.lone_kernel.specs.Lone.{RestsOver, ServesOver};
 ghost use Rattle.lone_kernel.specs.Words.{Call, Caller, HasCall, IsSeat, KernelState, State, caller_at};
+ghost use Rattle.lone_kernel.specs.interleaving_core.Words.{spared};
 ghost use Rattle.replays.specs.Events.{BeginsCall};
 ghost use Rattle.script_runs.specs.Runs.{AreSeated, HasDecided, IsLeft, IsRight, IsRun, Stands, standing};
 ghost use Rattle.script_runs.specs.Taking.{TakesCall, TakesCommand};
@@ -31,7 +32,7 @@ use std::io::Write;
 /// had no room in the pages of this kernel, 60 where there is no memory, and 61 where it comes after
 /// as many answers as a session decides: the system is as it was. Where the device fails the line is
 /// replied 62, and so is each call after it. Where the output refuses a write the lines are run all
-/// the same.
+/// the same. Where there is a frame for each page the device has what it had.
 pub fn run<D: PageDevice + Drop, W: Write + Drop>(
     script: &Script,
     kernel: &mut Kernel<D, FileKeys>,
@@ -40,6 +41,7 @@ pub fn run<D: PageDevice + Drop, W: Write + Drop>(
     requires { AreSeated script.now kernel.old.callers }
     ensures ran { IsRun script.now kernel.old kernel.new output.old output.new result }
     ensures honest { kernel.new.pool.honest ≡ kernel.old.pool.honest }
+    ensures stored { spared kernel.new.pool ≡ spared kernel.old.pool }
 {
     script.keeps_seats();
     let mut ending = Ending::Done;
@@ -65,6 +67,7 @@ fn reply<D: PageDevice + Drop>(
         IsLeft was kernel.new (IsRight seat c command.now (standing kernel.old s n) result) }
     ensures callers { kernel.new.callers ≡ kernel.old.callers }
     ensures honest { kernel.new.pool.honest ≡ kernel.old.pool.honest }
+    ensures stored { spared kernel.new.pool ≡ spared kernel.old.pool }
 {
     match command {
         Command::Call(call) => call_at(kernel, seat, call),
@@ -86,6 +89,7 @@ fn call_at<D: PageDevice + Drop>(kernel: &mut Kernel<D, FileKeys>, seat: u8, cal
         (IsRight seat c (Command.Call call.now) (standing kernel.old s n) result) }
     ensures callers { kernel.new.callers ≡ kernel.old.callers }
     ensures honest { kernel.new.pool.honest ≡ kernel.old.pool.honest }
+    ensures stored { spared kernel.new.pool ≡ spared kernel.old.pool }
 {
     if let Some(reply) = begin(kernel, seat, call) {
         return reply;
@@ -136,6 +140,7 @@ fn conclude<D: PageDevice + Drop>(kernel: &mut Kernel<D, FileKeys>, seat: u8) ->
         (IsRight seat c (Command.Call call) (standing before (Some s) n) (reply_to result)) }
     ensures callers { kernel.new.callers ≡ kernel.old.callers }
     ensures honest { kernel.new.pool.honest ≡ kernel.old.pool.honest }
+    ensures stored { spared kernel.new.pool ≡ spared kernel.old.pool }
 {
     a_lone_drive_answers_by_the_rules::<FileKeys>();
     a_lone_step_answers_by_the_rules::<FileKeys>();

@@ -1,5 +1,6 @@
-use Rattle.std.proofs.Common.{inl, sym, subst, Option, Some}
+use Rattle.std.proofs.Common.{inl, sym, ap, ◌∙◌, subst, Option, Some}
 use Rattle.lone_kernel.specs.Words.{HasCall}
+use Rattle.lone_kernel.specs.interleaving_core.Words.{spared}
 use Rattle.msgq_cli.specs.declared.command.Command.TheVariants as command
 use Rattle.msgq_cli.specs.declared.reply.Reply.{Reply}
 use Rattle.replays.specs.Events.{BeginsCall}
@@ -37,3 +38,9 @@ returns-clause-replied g c = λ who was s n sits stands.
     (IsRight c.args.seat who (command.Call c.args.call.now) (standing c.args.kernel.now (Some t) n) r))
     (sym c.reply_to.ensures) (c.conclude.ensures.concluded who c.args.call.now was t n c.args.kernel.now has
     (c.begin.ensures.begun c.in_default.is who t sits rests) before counted))
+
+pub returns-in-Some-clause-stored : goal.returns-in-Some-clause-stored
+returns-in-Some-clause-stored g c = ap spared c.begin.ensures.pool
+
+pub returns-clause-stored : goal.returns-clause-stored
+returns-clause-stored g c = c.conclude.ensures.stored ∙ ap spared c.begin.ensures.pool

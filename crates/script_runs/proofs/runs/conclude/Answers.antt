@@ -2,6 +2,7 @@ use Rattle.std.proofs.Common.{rules, refl, sym, ap, ◌∙◌, subst, inl, inr, 
 use Rattle.bucket_page.specs.Pseudokeys.{sha_key}
 use Rattle.lone_kernel.specs.Words.{IsDriven, IsSeat, PoolState, Step}
 use Rattle.lone_kernel.specs.interleaving_core.Owing.{untold}
+use Rattle.lone_kernel.specs.interleaving_core.Words.{spared}
 use Rattle.script_runs.specs.Runs.{HasDecided, stop}
 use Rattle.script_runs.specs.Telling.{is_waiting}
 use Rattle.script_runs.proofs.CallLemmas.{concludes, stopped_mark, stopped_pool, told_waiting, waits_over}
@@ -98,3 +99,10 @@ returns-clause-concluded g c = λ who call was s n before has serves so_far coun
       waits = subst (λ (d : Step). IsDriven sha_key seat d begun waiting) waits_is c.drive-told.ensures.driven;
       stops = c.stop.ensures;
     })) is again stopped_fresh c.drive.result ended c.drive.ensures.driven stands.unspent)
+
+-- a stop changes no page either
+pub returns-clause-stored : goal.returns-clause-stored
+returns-clause-stored g c =
+    c.drive.ensures.run.rest.stored
+    ∙ ap spared (stopped_pool c.drive-told.new.self c.stop.new.self c.stop.ensures)
+    ∙ c.drive-told.ensures.run.rest.stored

@@ -1,8 +1,9 @@
-use Rattle.std.proofs.Common.{refl, sym, subst}
+use Rattle.std.proofs.Common.{refl, sym, ap, subst}
 use Rattle.msgq_cli.specs.declared.command.Command.{Command}
 use Rattle.script_runs.specs.Runs.{IsLeft, IsRight, standing}
 use Rattle.script_runs.specs.Taking.{TakesCommand}
-use Rattle.script_runs.proofs.CallLemmas.{stops}
+use Rattle.lone_kernel.specs.interleaving_core.Words.{spared}
+use Rattle.script_runs.proofs.CallLemmas.{stopped_pool, stops}
 use Rattle.script_runs.proofs.runs.reply.Goals as goal
 
 pub returns-in-Call-clause-takes : goal.returns-in-Call-clause-takes
@@ -23,3 +24,6 @@ returns-in-Stop-clause-replied g c = λ who was s n sits stands.
 
 pub returns-in-Stop-clause-takes : goal.returns-in-Stop-clause-takes
 returns-in-Stop-clause-takes g c = rw c.in-Stop.is (refl, c.stop.ensures)
+
+pub returns-in-Stop-clause-stored : goal.returns-in-Stop-clause-stored
+returns-in-Stop-clause-stored g c = ap spared (stopped_pool c.args.kernel.now c.stop.new.self c.stop.ensures)

@@ -10,6 +10,7 @@ loop-line-init g c = record {
   ran = IsRun-start c.args.script.now.ids c.args.kernel.now c.args.output.now;
   callers = refl;
   honest = refl;
+  stored = refl;
 }
 
 -- the next line was made, and its reply printed
@@ -35,6 +36,7 @@ loop-line-preserved g c =
           its.caller stands) c.print.ensures c.after-ending.ensures);
       callers = c.reply-reply.ensures.callers ∙ before.callers;
       honest = c.reply-reply.ensures.honest ∙ before.honest;
+      stored = c.reply-reply.ensures.stored ∙ before.stored;
     }
 
 -- all lines were
@@ -44,6 +46,7 @@ returns g c =
     record {
       ran = rw (all, c.lines-line-items.ensures) at c.loop-line.invariant.ran;
       honest = c.loop-line.invariant.honest;
+      stored = c.loop-line.invariant.stored;
     }
 
 -- the next line's seat has a row of locks

@@ -1,6 +1,7 @@
 use Rattle.std.proofs.Common.{◌≡◌, take}
 use Rattle.bucket_page.specs.declared.pseudokey.ShaKey.{ShaKey}
 use Rattle.lone_kernel.specs.Words.{KernelState}
+use Rattle.lone_kernel.specs.interleaving_core.Words.{spared}
 use Rattle.msgq_cli.specs.Outputs.{OutputState}
 use Rattle.msgq_cli.specs.Scripts.{Parts}
 use Rattle.msgq_cli.specs.declared.ending.Ending.{Ending}
@@ -13,6 +14,7 @@ pub record IsRunning (old now : KernelState ShaKey) (script : Parts) (before aft
   pub ran : IsRun script old now before after ending
   pub callers : now.callers ≡ old.callers
   pub honest : now.pool.honest ≡ old.pool.honest
+  pub stored : spared now.pool ≡ spared old.pool
 
 -- the script up to the next line was
 abbrev pub invariant-loop-line : goal.invariant-loop-line

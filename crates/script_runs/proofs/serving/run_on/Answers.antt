@@ -5,7 +5,7 @@ use Rattle.msgq_cli.specs.Outputs.{Prints}
 use Rattle.msgq_cli.specs.Runs.{printed}
 use Rattle.msgq_cli.specs.Scripts.{greatest_seat}
 use Rattle.msgq_cli.proofs.OutputLemmas.{Prints-then}
-use Rattle.replays.proofs.OpeningLemmas.{greatest_within, length-callers_of}
+use Rattle.replays.proofs.OpeningLemmas.{greatest_within, length-callers_of, stored_before}
 use Rattle.script_runs.proofs.CallLemmas.{opened_decided}
 use Rattle.script_runs.proofs.ServeLemmas.{ends_since}
 use Rattle.script_runs.proofs.serving.run_on.Goals as goal
@@ -57,6 +57,8 @@ returns-clause-served g c =
                 (subst (λ (b : Bool). IsTrue b) (sym still) honest));
           };
       unwritten = c.end_kernel-device.ensures.unwritten;
+      before = λ away few. c.end_kernel-device.ensures.unwritten away
+          ∙ stored_before c.args.script.now _ _ first last for c.run-so_far.ensures.stored few;
     })
 
 -- it was not opened
