@@ -1,5 +1,5 @@
 -- What is told of a call that is made in a session.
-use Rattle.std.proofs.Common.{◌≡◌, ◌∷◌, [], ℕ, ◌≤◌, IsTrue, true, false, inl, inr, None, Some, Option, Ok, Err, length, refl, sym, ap, ◌∙◌, subst, arith}
+use Rattle.std.proofs.Common.{◌≡◌, ℕ, true, false, inl, inr, None, Some, Option, Ok, Err, length, refl, sym, ap, ◌∙◌, subst, arith}
 use Rattle.std.proofs.lemmas.List.{length-map}
 use Rattle.page_device.specs.Device.{HasRisen}
 use Rattle.bucket_page.specs.Pseudokeys.{sha_key}
@@ -15,7 +15,7 @@ use Rattle.lone_kernel.specs.interleaving_core.declared.fault.StepFault.TheVaria
 use Rattle.lone_kernel.specs.interleaving_core.declared.step.Step.TheVariants as steps
 use Rattle.queue_commands.specs.Asking.{IsAsked}
 use Rattle.command_runs.specs.Faults.{told}
-use Rattle.command_runs.specs.Sessions.{Lacks, LacksRoom, MayLack, MayNotBegin, SessionState, Stands}
+use Rattle.command_runs.specs.Sessions.{Lacks, MayLack, MayNotBegin, SessionState, Stands}
 use Rattle.command_runs.specs.declared.error.CallFault.{CallFault}
 use Rattle.command_runs.specs.declared.error.CallFault.TheVariants.{NotBegun, Failed}
 use Rattle.command_runs.specs.declared.session.TheConstants.{SEAT}

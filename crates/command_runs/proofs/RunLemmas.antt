@@ -1,5 +1,5 @@
 -- A command asked of a file in memory, and its end on the device.
-use Rattle.std.proofs.Common.{◌≡◌, ◌≢◌, ◌↔◌, ℕ, ◌≤◌, inl, inr, Bool, true, false, List, [], ◌∷◌, length, Option, Some, None, unwrap_or, Result, Ok, Err, refl, sym, ap, subst, slice_index_or, suc, arith}
+use Rattle.std.proofs.Common.{◌≡◌, ◌≢◌, ◌↔◌, ℕ, ◌≤◌, inl, inr, Bool, true, false, List, [], ◌∷◌, length, Option, Some, None, unwrap_or, Result, Ok, Err, refl, sym, ap, subst, slice_index_or, suc}
 use Rattle.std.specs.List.{list_any}
 use Rattle.page_device.specs.Device.{HasRisen}
 use Rattle.page_copies.proofs.CopyLemmas.{risen-since}
@@ -60,7 +60,8 @@ is_free k s rests busy =
 pub never_unclosed : {D : Type 0} (n : NotClosed D ShaKey) (k : KernelState ShaKey) (s : State) (content : D → Pages)
     (honest : D → Bool) → RestsOver sha_key s k → ((is_busy {D = D} {K = ShaKey} (Err n) ≡ true) ↔ IsBusy k) →
     ((fault_in {D = D} {K = ShaKey} (Err n) ≡ Some closes.Failed) ↔ (k.failed ≡ true)) →
-    OnDevice {D = D} {K = ShaKey} (λ d. IsReleased k (fault_in {D = D} {K = ShaKey} (Err n)) (content d) (honest d) 0) (Err n) → ⊥
+    OnDevice {D = D} {K = ShaKey}
+    (λ d. IsReleased k (fault_in {D = D} {K = ShaKey} (Err n)) (content d) (honest d) 0) (Err n) → ⊥
 never_unclosed (Busy kernel) k s content honest rests busy failed device = is_free k s rests (busy.0 refl)
 never_unclosed (Fault closed fault) k s content honest rests busy failed device =
     no_fault fault k rests.sound failed.0 device.cause

@@ -11,7 +11,6 @@ use Rattle.queue_model.specs.Rules.{info_of}
 use Rattle.queue_json.specs.Json.{PutsJson, messages_data, queues_data}
 use Rattle.queue_lists.specs.Naming.{is_named}
 use Rattle.queue_lists.specs.Tables.{messages_text, queues_text}
-use Rattle.queue_lists.specs.declared.queue_name.QueueName.{QueueName}
 use Rattle.queue_commands.specs.Commands.{AsksAs}
 use Rattle.command_runs.specs.Memory.{Pages}
 use Rattle.command_runs.specs.Running.{IsUnopened, Seen}

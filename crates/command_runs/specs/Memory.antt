@@ -9,7 +9,7 @@ use Rattle.lone_kernel.specs.interleaving_core.declared.fault.OpenFault.TheVaria
 use Rattle.queue_commands.specs.Asking.{Asking}
 use Rattle.queue_commands.specs.Commands.{AsksAs}
 use Rattle.queue_commands.specs.declared.request.Request.{Request}
-use Rattle.command_runs.specs.Sessions.{MayLack, MayNotBegin, MayFail}
+use Rattle.command_runs.specs.Sessions.{MayFail, MayNotBegin}
 use Rattle.command_runs.specs.declared.error.CallFault.{CallFault}
 use Rattle.command_runs.specs.declared.error.CallFault.TheVariants.{NotBegun, Failed, Lost}
 use Rattle.command_runs.specs.declared.error.CommandError.{CommandError}

@@ -19,12 +19,13 @@ pub enum CallFault {
     /// It failed, for want of room or by a fault of the file.
     #[error("a call failed: {0}")]
     Failed(StepFault),
-    /// It came to no answer, to which no file of a system leads.
+    /// It came to no answer, or its file to another number of pages. No call on the file of a
+    /// system does the first, and none is known that does the second.
     #[error("a call came to no answer")]
     Lost,
 }
 
-/// Why a command is not done. But where the file was not closed well nothing is written at its end.
+/// Why a command is not done. Unless its text was printed nothing is written.
 #[derive(Debug, Drop, Error)]
 pub enum CommandError {
     /// The file was not opened.
@@ -42,7 +43,7 @@ pub enum CommandError {
     /// The output refused the text.
     #[error("standard output can't be written: {0}")]
     Unprinted(io::Error),
-    /// The file was not closed well, after the text was printed.
+    /// The file was not written well, after the text was printed.
     #[error("it can't be closed: {0}")]
     Unclosed(CloseFault),
 }

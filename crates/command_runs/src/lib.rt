@@ -1,5 +1,5 @@
-//! Commands of a shell on the file of a device: each is run on a kernel of one caller, and its text
-//! is printed before the file is written; what is looked at alone is read and not written.
+//! Commands of a shell on the file of a device: each is asked of the file in memory, and its text
+//! is printed before the device is written; what is looked at alone is read and not written.
 
 #![tactic(auto)]
 

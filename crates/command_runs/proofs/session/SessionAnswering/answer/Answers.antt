@@ -1,4 +1,4 @@
-use Rattle.std.proofs.Common.{◌≡◌, ◌∙◌, ◌∷◌, [], sym, subst}
+use Rattle.std.proofs.Common.{◌∙◌, sym, subst}
 use Rattle.command_runs.proofs.AskLemmas.{answers_call, lacks_answer, lacks_begin}
 use Rattle.command_runs.specs.Sessions.{SessionState, Stands}
 use Rattle.command_runs.proofs.session.SessionAnswering.answer.Goals as goal
