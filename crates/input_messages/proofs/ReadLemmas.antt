@@ -34,10 +34,10 @@ pub limit_cuts : {X : Type 0} (inner reader : X) (remaining : X → Option (List
 limit_cuts inner reader remaining most limit old text same at none read =
     cuts (remaining reader) (subst (λ x. IfSome (option_map (take limit) (remaining x)) (λ (xs : List ℕ). text ≡ old ++ xs)) same read)
   where
-  cuts : (known : Option (List ℕ)) → IfSome (option_map (take limit) known) (λ (xs : List ℕ). text ≡ old ++ xs) →
-    IsCutAt most known text
-  cuts None is = tt
-  cuts (Some xs) is = is ∙ ap (λ (os : List ℕ). os ++ take limit xs) none ∙ ap (λ (n : ℕ). take n xs) at
+    cuts : (known : Option (List ℕ)) → IfSome (option_map (take limit) known) (λ (xs : List ℕ). text ≡ old ++ xs) →
+        IsCutAt most known text
+    cuts None is = tt
+    cuts (Some xs) is = is ∙ ap (λ (os : List ℕ). os ++ take limit xs) none ∙ ap (λ (n : ℕ). take n xs) at
 
 -- an error that is handed on is of what it was
 pub refused_on : {T : Type 0} (r : Result T Unsent) (error : Unsent) → IsErrAnd r (λ e. e ≡ error) → (framing : Framing) →
