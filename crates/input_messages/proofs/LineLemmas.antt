@@ -15,8 +15,8 @@ pub none_are_first : (text : List ℕ) → AreFirst text text []
 none_are_first text = record { goes_on = λ more are. are; short = All-nil IsShort }
 
 pub one_more_is_first : (text rest after line : List ℕ) (bodies : List (List ℕ)) → AreFirst text rest bodies →
-    0 < length rest → length line ≤ MAX_BODY → line ≡ take (first_line rest) rest → after ≡ drop (first_line rest) rest →
-    AreFirst text after (bodies ++ line ∷ [])
+    0 < length rest → length line ≤ MAX_BODY → line ≡ take (first_line rest) rest →
+    after ≡ drop (first_line rest) rest → AreFirst text after (bodies ++ line ∷ [])
 one_more_is_first text rest after line bodies first some short is_line is_rest = record {
   goes_on = λ more are. rw (append_assoc bodies (line ∷ []) more) (first.goes_on (line ∷ more)
       (record { some = some; first = is_line }, rw (← is_rest) are));

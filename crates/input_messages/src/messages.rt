@@ -19,8 +19,8 @@ pub enum Framing {
     Lines,
 }
 
-/// All that a reader gives as one message, or each of its lines as one. No more is read than a queue
-/// may hold, and a byte.
+/// All that a reader gives as one message, or each of its lines as one. No more is read than a
+/// queue may hold, and a byte.
 pub fn messages_of<R: Read>(
     alloc: Global,
     reader: &mut R,
@@ -44,7 +44,7 @@ pub fn messages_of<R: Read>(
 /// A text as one message.
 fn one_of(alloc: Global, text: Vec<u8>) -> Result<Vec<Body>, Unsent>
     ensures ok { IfOk result (λ bodies. bodies.items ≡ text.items ∷ []) }
-    ensures err { (framing : Framing) (known : Option (List ℕ)) → IfErr result (Refuses framing known) }
+    ensures err { (f : Framing) (known : Option (List ℕ)) → IfErr result (Refuses f known) }
 {
     let mut bodies = Vec::new(alloc);
     let Ok(()) = bodies.push(Body::new(text)) else {
@@ -63,7 +63,7 @@ fn read_up_to<R: Read>(
     ensures ok { IfOk result (λ text. MatchOption text
         (IfSome (R.remaining reader.old) (λ xs. most < length xs))
         (λ bytes. IsAllUpTo most (R.remaining reader.old) bytes.items)) }
-    ensures err { (framing : Framing) (known : Option (List ℕ)) → IfErr result (Refuses framing known) }
+    ensures err { (f : Framing) (known : Option (List ℕ)) → IfErr result (Refuses f known) }
 {
     let mut text = Vec::new(alloc);
     let mut limited = reader.take(most as u64 + 1);

@@ -13,8 +13,8 @@ use std::{fs, process};
 /// What is said of standard input that is a terminal.
 const TERMINAL: &str = "it is a terminal: hand the body by < or |, or say - to type it";
 
-/// The messages of standard input. A terminal is read only where it is named. Where they can't be sent
-/// this is said, and what the command ends with is given.
+/// The messages of standard input. A terminal is read only where it is named. Where they can't be
+/// sent this is said, and what the command ends with is given.
 pub fn read_messages<E: Write>(
     rt: &HostRuntime,
     file: &str,

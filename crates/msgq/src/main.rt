@@ -69,8 +69,8 @@ fn words(rt: &HostRuntime) -> io::Result<Vec<String>> {
     Ok(std::env::args(rt)?.collect(rt.alloc())?)
 }
 
-/// Shows help or the version, or says what is wrong with the command line, or that there was no memory
-/// to read it.
+/// Shows help or the version, or says what is wrong with the command line, or that there was no
+/// memory to read it.
 fn tell(rt: &HostRuntime, text: Error) -> ExitCode {
     if text.kind() == ErrorKind::OutOfMemory {
         return without_memory(rt);

@@ -20,8 +20,8 @@ loop-number-preserved c =
     let line = c.split_at.ensures.front ∙ ap (λ (n : ℕ). take n c.loop-number.rest.now) c.first_line.ensures.value in
     let after = c.split_at.ensures.back ∙ ap (λ (n : ℕ). drop n c.loop-number.rest.now) c.first_line.ensures.value in
     rw c.in-Ok.ensures.items (rw c.new.ensures (rw c.in_ok-from_slice.ensures.items (one_more_is_first
-      c.args.text.now c.loop-number.rest.now c.split_at.result.1.now c.split_at.result.0.now c.loop-number.bodies.items
-      c.loop-number.invariant some short line after)))
+    c.args.text.now c.loop-number.rest.now c.split_at.result.1.now c.split_at.result.0.now c.loop-number.bodies.items
+    c.loop-number.invariant some short line after)))
 
 pub returns-then-is_empty-2-clause-ok : goal.returns-then-is_empty-2-clause-ok
 returns-then-is_empty-2-clause-ok c =

@@ -8,6 +8,6 @@ returns-in-Ok-2-clause-ok g c =
     let text = c.read_to_end.new.buf.items in
     let few : length text ≤ c.args.most = omega (arith, c.if-len-most.false, c.len.ensures) in
     let read = limit_cuts c.take-limited.result.inner _ (λ r. g.R.Read.remaining r.now) c.args.most
-      c.take-limited.result.limit c.new-text.result.items text c.take-limited.ensures.inner c.take-limited.ensures.limit
-      c.new-text.ensures.items c.in-Ok.ensures.bytes in
+    c.take-limited.result.limit c.new-text.result.items text c.take-limited.ensures.inner c.take-limited.ensures.limit
+    c.new-text.ensures.items c.in-Ok.ensures.bytes in
     record { all = all_are_read c.args.most (g.R.Read.remaining c.args.reader.now) text read few; few = few }
