@@ -76,7 +76,8 @@ pub line_of_all : (text : List ℕ) → 0 < length text → IsFirstByte (is_byte
     → lines_of text ≡ take (length text) text ∷ lines_of (drop (length text) text)
 line_of_all text some none =
     taken_line text (length text) (length text) some (omega (arith, clamps))
-    (λ k before. not_true (get_or text k 0 == 10) (none k (omega arith) before)) (λ below. absurd (omega (arith, below)))
+    (λ k before. not_true (get_or text k 0 == 10) (none k (omega arith) before))
+    (λ below. absurd (omega (arith, below)))
 
 -- the reading goes on behind a line that adds to the script
 pub read_on : (n : ℕ) (s t : Parts) (line : List ℕ) (lines : List (List ℕ)) (whole : Result Parts ℕ)

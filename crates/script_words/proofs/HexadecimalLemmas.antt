@@ -35,7 +35,8 @@ no_digit c i (Some v) is large = absurd (omega (arith, large, small_digit c v is
 no_digit c i None is large = refl
 
 -- two digits make a byte
-pair : (a b i : ℕ) → value_of a < NO_DIGIT → value_of b < NO_DIGIT → pair_value a b i ≡ Ok (value_of a * 16 + value_of b)
+pair : (a b i : ℕ) → value_of a < NO_DIGIT → value_of b < NO_DIGIT
+    → pair_value a b i ≡ Ok (value_of a * 16 + value_of b)
 pair a b i high low =
     let first : value_at a i ≡ Ok (value_of a) = digit a i (hex_digit_value a) high in
     let second : value_at b (i + 1) ≡ Ok (value_of b) = digit b (i + 1) (hex_digit_value b) low in
@@ -64,10 +65,12 @@ IsReadTo-more word bytes i greatest high low before fits room first second = rec
       let high_small : value_of (slice_index word (2 * i)) < NO_DIGIT = omega (arith, clamps, small, first) in
       let low_small : value_of (slice_index word (2 * i + 1)) < NO_DIGIT = omega (arith, clamps, small, second) in
       let whole :
-      value_of (slice_index word (2 * i)) * 16 + value_of (slice_index word (2 * i + 1)) ≡ (high * 16 % 256 + low) % 256 =
+      value_of (slice_index word (2 * i)) * 16 + value_of (slice_index word (2 * i + 1))
+      ≡ (high * 16 % 256 + low) % 256 =
       omega (arith, high_small, low_small, first, second) in
       let so_far : greatest < NO_DIGIT = omega (arith, clamps, small) in
-      let byte = pair (slice_index word (2 * i)) (slice_index word (2 * i + 1)) (2 * i) high_small low_small ∙ ap Ok whole in
+      let byte = pair (slice_index word (2 * i)) (slice_index word (2 * i + 1)) (2 * i) high_small low_small
+      ∙ ap Ok whole in
       decode_step word bytes i _ fits room byte (before.right so_far);
   wrong = λ large. elim (cases_lt greatest NO_DIGIT) [
     | inl so_far ↦

@@ -38,7 +38,8 @@ first_part text end first =
 filled-cons : (part : List ℕ) (parts : List (List ℕ)) → filled (part ∷ parts) ≡ filled (part ∷ []) ++ filled parts
 filled-cons part parts = by_test (not (length part == 0)) (filled parts)
   where
-    by_test : (is_kept : Bool) (rest : List (List ℕ)) → cond is_kept (part ∷ rest) rest ≡ cond is_kept (part ∷ []) [] ++ rest
+    by_test : (is_kept : Bool) (rest : List (List ℕ))
+        → cond is_kept (part ∷ rest) rest ≡ cond is_kept (part ∷ []) [] ++ rest
     by_test true rest = refl
     by_test false rest = refl
 
@@ -62,5 +63,6 @@ pub AreWordsTo-all : (words more : List (Bor (List ℕ))) (rest text : List ℕ)
     → texts more ≡ texts words ++ filled (rest ∷ []) → AreWordsTo words rest text → texts more ≡ words_of text
 AreWordsTo-all words more rest text none kept are =
     let whole : take (length rest) rest ≡ rest = take_all (length rest) rest (omega arith) in
-    let fails = subst (λ l. All (λ byte. is_blank byte ≡ false) l) whole (no_blank rest (length rest) (omega arith) none) in
+    let before = no_blank rest (length rest) (omega arith) none in
+    let fails = subst (λ l. All (λ byte. is_blank byte ≡ false) l) whole before in
     kept ∙ sym (ap (λ l. texts words ++ filled l) (slice_split_none is_blank rest fails)) ∙ are

@@ -27,7 +27,8 @@ pub fn words(alloc: Global, text: &[u8]) -> Result<Vec<&[u8]>, AllocError>
 
 /// What stands before a blank is a word, unless it is empty.
 fn keep<'a>(words: &mut Vec<&'a [u8]>, part: &'a [u8]) -> Result<(), AllocError>
-    ensures { OnOk result (texts words.new.items ≡ texts words.old.items ++ filled (part.now ∷ [])) }
+    ensures { OnOk result
+        (texts words.new.items ≡ texts words.old.items ++ filled (part.now ∷ [])) }
 {
     if !part.is_empty() {
         words.push(part)?;

@@ -16,7 +16,8 @@ lines-preserved c =
     let long = c.split_at.ensures.back_len in
     let some = c.first_line_len.ensures.some in
     let count = c.lines.invariant.count in
-    let left : c.lines.number + 1 + length c.split_at.result.1.now ≤ length c.args.bytes.now = omega (arith, long, some, count) in
+    let left : c.lines.number + 1 + length c.split_at.result.1.now ≤ length c.args.bytes.now =
+    omega (arith, long, some, count) in
     let next = next_line (goal.at.lines-preserved c).After-add in
     record {
       goes_on = read_on (c.lines.number + 1) c.lines.script c.add.new.self c.split_at.result.0.now lines _
