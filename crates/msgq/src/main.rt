@@ -3,6 +3,8 @@
 
 #![tactic(auto)]
 
+mod stack;
+
 use clap::Error;
 use clap::error::ErrorKind;
 use migration_runs::{CopyRequest, SalvageRequest, Size, copy_file, salvage_file};
@@ -12,6 +14,7 @@ use script_runs::msgq_cli::{
 };
 use script_runs::replays::{Sources, replay_file};
 use script_runs::{run_file, serve};
+use stack::has_stack;
 use std::fs::{File, OpenOptions};
 use std::io;
 use std::io::{BufWriter, Write};
@@ -22,6 +25,15 @@ use std::process::ExitCode;
 const MEMORY: &str = "the file in memory";
 
 fn main(rt: HostRuntime) -> ExitCode {
+    if !has_stack(rt.alloc()) {
+        return without_memory(&rt);
+    }
+    act(rt)
+}
+
+/// Does what the command line asks for. What it takes of the stack is not taken by `main`.
+#[inline(never)]
+fn act(rt: HostRuntime) -> ExitCode {
     let alloc = rt.alloc();
     let _input = hold(&rt, 0);
     let _output = hold(&rt, 1);
