@@ -6,6 +6,7 @@
 mod fixed;
 mod input;
 mod shell;
+mod stack;
 mod trouble;
 
 use clap::Error;
@@ -14,6 +15,7 @@ use command_words::read_command;
 use fixed::fixed;
 use script_runs::msgq_cli::{Output, print_fault, read_command_line};
 use shell::shell;
+use stack::has_stack;
 use std::fs::{File, OpenOptions};
 use std::io;
 use std::io::{BufWriter, Write};
@@ -21,6 +23,15 @@ use std::os::fd::{AsRawFd, RawFd};
 use std::process::ExitCode;
 
 fn main(rt: HostRuntime) -> ExitCode {
+    if !has_stack(rt.alloc()) {
+        return without_memory(&rt);
+    }
+    act(rt)
+}
+
+/// Does what the command line asks for. What it takes of the stack is not taken by `main`.
+#[inline(never)]
+fn act(rt: HostRuntime) -> ExitCode {
     let alloc = rt.alloc();
     let _input = hold(&rt, 0);
     let _output = hold(&rt, 1);
