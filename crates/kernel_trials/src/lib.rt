@@ -32,8 +32,6 @@ mod playing;
 #[cfg(test)]
 mod racing;
 #[cfg(test)]
-mod renewing;
-#[cfg(test)]
 mod rows;
 #[cfg(test)]
 mod scripts;
