@@ -1,0 +1,129 @@
+-- A session over the pages of a file in memory: the system that it holds, and what its calls are answered.
+-- docs/QUEUES.md, "Calls"; docs/FORMAT.md, "Pages".
+use Rattle.std.specs.Prelude.{ℕ, ◌≡◌, ◌*◌, ◌<◌, true, List, Option, Some, None, Result, Ok, Err, drop, length, slice_index_or, take}
+use Rattle.bucket_page.specs.Pseudokeys.{sha_key}
+use Rattle.bucket_page.specs.declared.pseudokey.ShaKey.{ShaKey}
+use Rattle.page_device.specs.Device.{HasRisen}
+use Rattle.page_device.specs.declared.page.TheConstants.{PAGE_BYTES}
+use Rattle.file_pages.specs.Files.{listed}
+use Rattle.queue_model.specs.Journal.{caller_at, outcome_for}
+use Rattle.queue_model.specs.State.{State}
+use Rattle.queue_model.specs.declared.answer.Answer.{Answer}
+use Rattle.queue_model.specs.declared.call.Call.{Call}
+use Rattle.queue_model.specs.declared.caller.Caller.{Caller}
+use Rattle.interleaving_core.specs.Kernel.{KernelState}
+use Rattle.interleaving_core.specs.Renewing.{IsPage}
+use Rattle.one_bucket_file.specs.Files.{no_queues}
+use Rattle.interleaving_core.specs.declared.fault.BeginFault.{BeginFault}
+use Rattle.interleaving_core.specs.declared.fault.BeginFault.TheVariants as begins
+use Rattle.lone_kernel.specs.Lone.{RestsOver}
+use Rattle.lone_kernel.specs.Words.{FoundNoRoom, IsFileOf}
+use Rattle.session.specs.declared.unanswered.Unanswered.{Unanswered}
+use Rattle.session.specs.declared.unanswered.Unanswered.TheVariants.{Waits, NoRoom, NoMemory, Failed}
+
+abbrev pub SessionState : Type 0
+SessionState = KernelState ShaKey
+
+-- the file of the pages is at rest with this system, and no call is under way
+abbrev pub Holds : State → SessionState → Type 0
+Holds s k = RestsOver sha_key s k
+
+-- whose calls they are
+abbrev pub caller_of : SessionState → Option Caller
+caller_of k = caller_at k.callers 1
+
+-- how many pages the file has
+abbrev pub pages_of : SessionState → ℕ
+pages_of k = length k.pool.images
+
+-- ---- it is opened
+
+-- the first so many pages of these bytes
+abbrev pub pages_in : ℕ → List ℕ → List (List ℕ)
+pages_in many bytes = listed many (λ page. take PAGE_BYTES (drop (page * PAGE_BYTES) bytes))
+
+-- the pages are the file of a system, which the session holds for this caller
+pub record Opens (caller : Caller) (content : List (List ℕ)) (k : SessionState) : Type 0 where
+  pub system : State
+  pub file : IsFileOf sha_key content system
+  pub holds : Holds system k
+  pub sits : caller_of k ≡ Some caller
+  pub many : pages_of k ≡ length content
+
+-- or those of a new file, which has no queue
+pub record OpensNew (caller : Caller) (pages : ℕ) (k : SessionState) : Type 0 where
+  pub holds : Holds no_queues k
+  pub sits : caller_of k ≡ Some caller
+  pub many : pages_of k ≡ pages
+
+-- ---- its calls
+
+-- its journal may have been let go
+abbrev pub IsShortened : (old new : SessionState) → Type 0
+IsShortened old new = new ≡ record old { journal = new.journal; room = new.room }
+
+-- why a call is not answered that does not begin
+abbrev pub unanswered_by : BeginFault → Unanswered
+unanswered_by begins.Failed = Failed
+unanswered_by begins.Busy = NoMemory
+unanswered_by begins.SessionFull = NoMemory
+unanswered_by begins.NoMemory = NoMemory
+
+-- the rules have this answer, and the session holds the system after it
+pub record IsAnswered (call : Call) (s : State) (answer : Answer) (old new : SessionState) : Type 0 where
+  pub after : State
+  pub by_rules : outcome_for (caller_of old) call s ≡ Some (answer, after)
+  pub holds : Holds after new
+
+-- a record that the call was to insert had no room in the pages, and nothing has changed
+pub record LacksRoom (call : Call) (s : State) (old new : SessionState) : Type 0 where
+  pub caller : Caller
+  pub sits : caller_of old ≡ Some caller
+  pub found : FoundNoRoom sha_key 1 caller call s
+  pub holds : Holds s new
+
+-- the file has failed, as a transfer of its device did
+pub record HasFailed (old new : SessionState) : Type 0 where
+  pub failed : new.failed ≡ true
+  pub cause : HasRisen old.pool.faults new.pool.faults
+
+-- what a call comes to that is made of this system
+abbrev pub Becomes : Call → State → Result Answer Unanswered → (old new : SessionState) → Type 0
+Becomes call s (Ok answer) old new = IsAnswered call s answer old new
+-- the rules have no answer, and nothing has changed
+Becomes call s (Err Waits) old new = (outcome_for (caller_of old) call s ≡ None) × Holds s new
+Becomes call s (Err NoRoom) old new = LacksRoom call s old new
+-- nothing has changed
+Becomes call s (Err NoMemory) old new = Holds s new
+Becomes call s (Err Failed) old new = HasFailed old new
+
+pub record Calls (call : Call) (result : Result Answer Unanswered) (old new : SessionState) : Type 0 where
+  pub becomes : (s : State) → Holds s old → Becomes call s result old new
+  pub caller : caller_of new ≡ caller_of old
+
+-- it is stopped: from here on a call that would wait is refused
+pub record Stops (old new : SessionState) : Type 0 where
+  pub stops : (s : State) → Holds s old → Holds (record s { stopped = true }) new
+  pub caller : caller_of new ≡ caller_of old
+
+-- ---- its pages
+
+-- a page of the file of its system, or the file has failed
+abbrev pub PageBecomes : ℕ → State → Option (List ℕ) → (new : SessionState) → Type 0
+PageBecomes page s (Some bytes) new = IsPage page bytes new.pool × Holds s new
+PageBecomes page s None new = new.failed ≡ true
+
+pub record GivesPage (page : ℕ) (given : Option (List ℕ)) (old new : SessionState) : Type 0 where
+  pub becomes : (s : State) → Holds s old → PageBecomes page s given new
+  pub caller : caller_of new ≡ caller_of old
+  pub images : (s : State) → Holds s new → new.pool.images ≡ old.pool.images
+
+-- these are all of them
+pub record AreItsPages (content : List (List ℕ)) (k : SessionState) : Type 0 where
+  pub many : length content ≡ pages_of k
+  pub each : (page : ℕ) → page < length content → IsPage page (slice_index_or content page []) k.pool
+
+-- so they are the file of the system that it holds, which is not stopped for who opens it next
+abbrev pub PagesAreTheFile : Type 0
+PagesAreTheFile = (s : State) (k : SessionState) (content : List (List ℕ)) → Holds s k → AreItsPages content k →
+    IsFileOf sha_key content (record s { stopped = false })
