@@ -1,23 +1,17 @@
 -- A session over the pages of a file in memory: the system that it holds, and what its calls are answered.
 -- docs/QUEUES.md, "Calls"; docs/FORMAT.md, "Pages".
-use Rattle.std.specs.Prelude.{ℕ, ◌≡◌, ◌*◌, ◌<◌, true, List, Option, Some, None, Result, Ok, Err, drop, length, slice_index_or, take}
+use Rattle.std.specs.Prelude.{ℕ, ◌≡◌, ◌*◌, ◌<◌, true, List, [], Option, Some, None, Result, Ok, Err, drop, length, slice_index_or, take}
 use Rattle.bucket_page.specs.Pseudokeys.{sha_key}
 use Rattle.bucket_page.specs.declared.pseudokey.ShaKey.{ShaKey}
 use Rattle.page_device.specs.Device.{HasRisen}
 use Rattle.page_device.specs.declared.page.TheConstants.{PAGE_BYTES}
 use Rattle.file_pages.specs.Files.{listed}
-use Rattle.queue_model.specs.Journal.{caller_at, outcome_for}
-use Rattle.queue_model.specs.State.{State}
-use Rattle.queue_model.specs.declared.answer.Answer.{Answer}
-use Rattle.queue_model.specs.declared.call.Call.{Call}
-use Rattle.queue_model.specs.declared.caller.Caller.{Caller}
-use Rattle.interleaving_core.specs.Kernel.{KernelState}
-use Rattle.interleaving_core.specs.Renewing.{IsPage}
+use Rattle.queue_model.specs.Journal.{outcome_for}
 use Rattle.one_bucket_file.specs.Files.{no_queues}
-use Rattle.interleaving_core.specs.declared.fault.BeginFault.{BeginFault}
+use Rattle.interleaving_core.specs.Renewing.{IsPage}
 use Rattle.interleaving_core.specs.declared.fault.BeginFault.TheVariants as begins
 use Rattle.lone_kernel.specs.Lone.{RestsOver}
-use Rattle.lone_kernel.specs.Words.{FoundNoRoom, IsFileOf}
+use Rattle.lone_kernel.specs.Words.{Answer, BeginFault, Call, Caller, FoundNoRoom, IsFileOf, KernelState, State, caller_at, restarted}
 use Rattle.session.specs.declared.unanswered.Unanswered.{Unanswered}
 use Rattle.session.specs.declared.unanswered.Unanswered.TheVariants.{Waits, NoRoom, NoMemory, Failed}
 
@@ -58,9 +52,12 @@ pub record OpensNew (caller : Caller) (pages : ℕ) (k : SessionState) : Type 0 
 
 -- ---- its calls
 
--- its journal may have been let go
-abbrev pub IsShortened : (old new : SessionState) → Type 0
-IsShortened old new = new ≡ record old { journal = new.journal; room = new.room }
+-- its journal may have been let go: it holds what it held, and nothing else is changed but calls that wait
+pub record IsShortened (old new : SessionState) : Type 0 where
+  pub holds : (s : State) → Holds s old → Holds s new
+  pub pool : new.pool ≡ old.pool
+  pub callers : new.callers ≡ old.callers
+  pub locks : new.locks ≡ old.locks
 
 -- why a call is not answered that does not begin
 abbrev pub unanswered_by : BeginFault → Unanswered
@@ -108,15 +105,21 @@ pub record Stops (old new : SessionState) : Type 0 where
 
 -- ---- its pages
 
--- a page of the file of its system, or the file has failed
-abbrev pub PageBecomes : ℕ → State → Option (List ℕ) → (new : SessionState) → Type 0
-PageBecomes page s (Some bytes) new = IsPage page bytes new.pool × Holds s new
-PageBecomes page s None new = new.failed ≡ true
+-- a page of the file of its system, and the others are as they were
+pub record IsGiven (page : ℕ) (s : State) (bytes : List ℕ) (old new : SessionState) : Type 0 where
+  pub is : IsPage page bytes new.pool
+  pub holds : Holds s new
+  pub images : new.pool.images ≡ old.pool.images
+
+-- or the file has failed
+abbrev pub PageBecomes : ℕ → State → Option (List ℕ) → (old new : SessionState) → Type 0
+PageBecomes page s (Some bytes) old new = IsGiven page s bytes old new
+PageBecomes page s None old new = HasFailed old new
 
 pub record GivesPage (page : ℕ) (given : Option (List ℕ)) (old new : SessionState) : Type 0 where
-  pub becomes : (s : State) → Holds s old → PageBecomes page s given new
+  pub becomes : (s : State) → Holds s old → PageBecomes page s given old new
   pub caller : caller_of new ≡ caller_of old
-  pub images : (s : State) → Holds s new → new.pool.images ≡ old.pool.images
+  pub many : pages_of new ≡ pages_of old
 
 -- these are all of them
 pub record AreItsPages (content : List (List ℕ)) (k : SessionState) : Type 0 where
@@ -126,4 +129,4 @@ pub record AreItsPages (content : List (List ℕ)) (k : SessionState) : Type 0 w
 -- so they are the file of the system that it holds, which is not stopped for who opens it next
 abbrev pub PagesAreTheFile : Type 0
 PagesAreTheFile = (s : State) (k : SessionState) (content : List (List ℕ)) → Holds s k → AreItsPages content k →
-    IsFileOf sha_key content (record s { stopped = false })
+    IsFileOf sha_key content (restarted s)

@@ -119,7 +119,7 @@ impl Session {
         requires { page < pages_of self.old }
         ensures { GivesPage page result self.old self.new }
     {
-        if !self.kernel.is_at_rest() {
+        if !self.kernel.is_between_calls() {
             return None;
         }
         self.kernel.page(page).ok()
@@ -141,7 +141,7 @@ impl Session {
     fn shorten(&mut self)
         ensures { IsShortened self.old self.new }
     {
-        if self.kernel.journal().len() < LONG_JOURNAL || !self.kernel.is_at_rest() {
+        if self.kernel.journal().len() < LONG_JOURNAL || !self.kernel.is_between_calls() {
             return;
         }
         // Without memory for another it goes on with this one.
