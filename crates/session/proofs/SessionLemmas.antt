@@ -1,5 +1,5 @@
 -- What a session's call comes to, and that it keeps its seat.
-use Rattle.std.proofs.Common.{ℕ, ◌≡◌, ◌⊎◌, refl, sym, ap, ◌∙◌, subst, inl, inr, Bool, true, false, IsSome, List, [], Option, Some, None, Result, Ok, Err, map, option_map}
+use Rattle.std.proofs.Common.{ℕ, ◌≡◌, ◌⊎◌, refl, sym, ap, ◌∙◌, subst, inl, inr, Bool, true, false, IsSome, List, [], Option, Some, None, Result, Ok, Err, IfOk, IfErr, map, option_map}
 use Rattle.std.proofs.lemmas.Bool.{cases_eq}
 use Rattle.bucket_page.specs.Pseudokeys.{sha_key}
 use Rattle.bucket_page.specs.declared.pseudokey.ShaKey.{ShaKey}
@@ -42,6 +42,12 @@ renewed taken old new went = subst (IsShortened old) (sym went.is) (record {
   callers = refl;
   locks = refl;
 })
+
+-- without memory for another journal it goes on with its own
+pub shortened : {J F : Type 0} (entries : J → List Entry) (r : Result J F) (old new : SessionState) →
+    IfOk r (λ journal. IsRenewed (entries journal) old new) → IfErr r (λ _. new ≡ old) → IsShortened old new
+shortened entries (Ok journal) old new ok err = renewed (entries journal) old new ok
+shortened entries (Err fault) old new ok err = subst (IsShortened old) (sym err) (not_shortened old)
 
 -- ---- a call that waits is taken back
 
