@@ -10,3 +10,4 @@ pub mod KernelLemmas
 pub mod BeginLemmas
 pub mod RunLemmas
 pub mod DriveLemmas
+pub mod RenewLemmas

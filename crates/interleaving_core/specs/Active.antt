@@ -1,7 +1,7 @@
 -- A call under way at a seat, and what is kept for its entry in the journal. docs/QUEUES.md, "Journals".
 use Rattle.std.specs.Prelude.{ℕ, ◌≡◌, Bool, true, false, IsSome, List, [], ◌∷◌, Option, Some, None}
 use Rattle.queue_model.specs.declared.entry.Entry.TheVariants.{Decided}
-use Rattle.xsi_calls.specs.Machine.{Begins}
+use Rattle.xsi_calls.specs.Machine.{Begins, IsNew}
 use Rattle.xsi_calls.specs.declared.conclusion.Conclusion.{Conclusion}
 use Rattle.xsi_calls.specs.declared.conclusion.Conclusion.TheVariants as conclusions
 use Rattle.interleaving_core.specs.Words.{Answer, Call, CallView, Caller, Entry, Roomful, answer_of_call, conclusion_of}
@@ -35,6 +35,12 @@ pub record IsDraftOf (m : CallView) (d : Draft) : Type 0 where
 abbrev pub IsDrafted : CallView → Option Draft → Type 0
 IsDrafted m None = IsSome (answer_of_call m)
 IsDrafted m (Some d) = IsDraftOf m d
+
+-- what is always so of a call under way
+pub record IsKept (m : CallView) (draft : Option Draft) (wait : Option ℕ) : Type 0 where
+  pub drafted : IsDrafted m draft
+  -- once its seat was told that it waits, it has begun anew
+  pub waits : IsSome wait → IsNew m
 
 -- ---- its beginning
 

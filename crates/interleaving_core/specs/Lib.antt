@@ -10,6 +10,7 @@ pub mod Owing
 pub mod Driving
 pub mod Beginning
 pub mod Closing
+pub mod Renewing
 pub use Rattle.file_check.specs as file_check
 pub use Rattle.search_counts.specs as search_counts
 pub use Rattle.xsi_calls.specs as xsi_calls

@@ -1,9 +1,11 @@
 //! A call under way at a seat, and what is kept for its entry in the journal.
 
-ghost use Rattle.std.specs.Prelude.{◌≡◌, ◌+◌, ◌≤◌, ◌++◌, IfErr, IfOk, IfSome, IsSome, Some, length, false, true, vec_capacity};
+ghost use Rattle.std.specs.Prelude.{◌≡◌, ◌↔◌, ◌+◌, ◌≤◌, ◌++◌, IfErr, IfOk, IfSome, IsSome, IsTrue, None, Some, length, false, true, vec_capacity};
+ghost use Rattle.std.specs.Option.{is_some};
 ghost use Rattle.xsi_calls.specs.CallSteps.{MakesCall};
-ghost use Rattle.xsi_calls.specs.Machine.{IsOver, answer_of_call, call_locks, conclusion_of};
+ghost use Rattle.xsi_calls.specs.Machine.{IsNew, IsOver, answer_of_call, call_locks, conclusion_of};
 ghost use Rattle.interleaving_core.specs.Active.{BeginsAgain, HasBegun, HasRoomAs, IsDrafted, IsMarked, decided_by, draft_by, drafted, entries_by, is_waiting, told_at_end};
+ghost use Rattle.interleaving_core.specs.Renewing.{IsWaiting, outlasting};
 ghost use Rattle.interleaving_core.specs.Turn.{GoesAnew};
 ghost use Rattle.interleaving_core.specs.Waiting.{stays_waiting};
 ghost use Rattle.interleaving_core.specs.Words.{IsReady, IsSeat, row_of};
@@ -55,7 +57,7 @@ pub(crate) struct Active {
 }
 
 impl Model for Active {
-    ghost use Rattle.interleaving_core.specs.Active.{ActiveView, IsDrafted};
+    ghost use Rattle.interleaving_core.specs.Active.{ActiveView, IsKept};
 
     ghost Value = { ActiveView };
 
@@ -67,7 +69,7 @@ impl Model for Active {
       wait = a.wait;
     } };
 
-    ghost invariant = { λ a. IsDrafted a.machine a.draft };
+    ghost invariant = { λ a. IsKept a.machine a.draft a.wait };
 }
 
 impl Active {
@@ -187,6 +189,53 @@ impl Active {
         ensures { result ≡ is_waiting (conclusion_of self.now.machine) }
     {
         matches!(self.machine.conclusion(), Some(Conclusion::Waits))
+    }
+
+    /// Once its seat was told that it waits, it has begun anew.
+    pub(crate) fn is_new_while_waiting(&self)
+        ensures { IsSome self.now.wait → IsNew self.now.machine }
+    {
+        let _ = &self.wait;
+    }
+
+    /// Whether its seat was told that it waits.
+    pub(crate) fn is_waiting(&self) -> bool
+        ensures { IsTrue result ↔ IsWaiting self.now }
+    {
+        self.is_new_while_waiting();
+        self.wait.is_some()
+    }
+
+    /// The journal is taken out. Where nothing of it wakes the call, it waits on beside an empty one.
+    pub(crate) fn outlast(&mut self, journal: &[Entry])
+        ensures { self.new ≡ outlasting journal.now self.old }
+    {
+        let waits = self.stays_waiting(journal);
+        self.begun = 0;
+        self.decided = 0;
+        self.wait = waits.then_some(0);
+    }
+
+    /// Whether it has come to an answer.
+    pub(crate) fn is_answered(&self) -> bool
+        ensures { result ≡ is_some (answer_of_call self.now.machine) }
+    {
+        self.machine.is_answered()
+    }
+
+    /// Its call, which has no answer yet: the copy that was kept for its entry.
+    pub(crate) fn into_call(self) -> Call
+        requires { answer_of_call self.machine ≡ None }
+        ensures { result ≡ self.machine.call }
+    {
+        let Active {
+            machine: _,
+            draft,
+            begun: _,
+            decided: _,
+            wait: _,
+        } = self;
+        draft.unwrap().call
     }
 
     /// The call that will wait, and has given its names back, begins anew. Where an entry since its

@@ -92,7 +92,8 @@ impl StepFault {
 #[derive(Clone, Copy, Debug, PartialEq, Eq, Error)]
 #[error("a step of seat {seat}: {fault}")]
 pub struct Failure {
-    /// The seat whose step it was. Seats count from 1.
+    /// The seat whose step it was; 0 where it was none, but pages that were written or read between
+    /// calls. Seats count from 1.
     pub seat: u8,
     /// What it was.
     pub fault: FileFault,

@@ -14,6 +14,8 @@ ghost use Rattle.interleaving_core.specs.Owing.{IsMove, IsRun, IsTurn, answer_to
 ghost use Rattle.interleaving_core.specs.Turn.{TakesTurn};
 ghost use Rattle.interleaving_core.specs.Words.{IsSeat, caller_at};
 
+mod renewing;
+
 use crate::closing::{Closed, NotClosed};
 use crate::fault::{BeginFault, CloseFault, Failure, OpenFault, StepFault};
 use crate::opening::{copied, idle_seats, least_frames};

@@ -1,9 +1,10 @@
 //! A seat, and a step of it over the parts of a kernel.
 
-ghost use Rattle.std.specs.Prelude.{◌≡◌, ◌+◌, ◌≤◌, IfErr, IfOk, IfSome, None, Some, length, vec_capacity};
+ghost use Rattle.std.specs.Prelude.{◌≡◌, ◌↔◌, ◌+◌, ◌≤◌, IfErr, IfOk, IfSome, IsTrue, None, Some, length, option_map, vec_capacity};
 ghost use Rattle.interleaving_core.specs.Active.{ActiveView, HasBegunAt};
 ghost use Rattle.interleaving_core.specs.Closing.{has_one};
 ghost use Rattle.interleaving_core.specs.Kernel.{due_at, locks_of};
+ghost use Rattle.interleaving_core.specs.Renewing.{IsIdleOrWaits, IsNewWhileWaiting, MayGiveBack, outlasting};
 ghost use Rattle.interleaving_core.specs.Turn.{Turns};
 ghost use Rattle.interleaving_core.specs.Words.{IsOver, IsReady, IsSeat, row_of};
 
@@ -108,6 +109,62 @@ impl Seat {
         self.last = Some(Active::begin(alloc, caller, call, many)?);
         self.is_busy = true;
         Ok(())
+    }
+
+    /// A call of which it was told that it waits has begun anew.
+    pub(crate) fn is_new_while_waiting(&self)
+        ensures { IsNewWhileWaiting self.now }
+    {
+        if !self.is_busy {
+            return;
+        }
+        if let Some(active) = &self.last {
+            active.is_new_while_waiting();
+        }
+    }
+
+    /// Whether it has no call, or one of which it was told that it waits.
+    pub(crate) fn is_idle_or_waits(&self) -> bool
+        ensures { IsTrue result ↔ IsIdleOrWaits self.now }
+    {
+        if !self.is_busy {
+            return true;
+        }
+        match &self.last {
+            Some(active) => active.is_waiting(),
+            None => true,
+        }
+    }
+
+    /// The journal is taken out.
+    pub(crate) fn outlast(&mut self, journal: &[Entry])
+        ensures { self.new ≡ option_map (outlasting journal.now) self.old }
+    {
+        if !self.is_busy {
+            return;
+        }
+        let Some(active) = &mut self.last else {
+            return;
+        };
+        active.outlast(journal);
+    }
+
+    /// Takes its call back, where that has no answer yet.
+    pub(crate) fn withdraw(&mut self) -> Option<Call>
+        ensures { MayGiveBack result self.old self.new }
+    {
+        if !self.is_busy {
+            return None;
+        }
+        let Some(active) = &self.last else {
+            return None;
+        };
+        if active.is_answered() {
+            return None;
+        }
+        self.is_busy = false;
+        let active = self.last.take().unwrap();
+        Some(active.into_call())
     }
 
     /// A step of its call, if it has one: none while that waits, and nothing has woken it. A call

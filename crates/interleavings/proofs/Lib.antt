@@ -1,4 +1,5 @@
 pub mod EventLemmas
+pub mod FlushLemmas
 pub mod RunLemmas
 pub mod LeadLemmas
 pub mod CountLemmas
@@ -12,4 +13,5 @@ pub mod OwedLemmas
 pub mod UnderWayLemmas
 pub mod RisenLemmas
 pub mod PlayedLemmas
+pub mod RenewLemmas
 pub use Rattle.interleaving_core.proofs as of_interleaving_core

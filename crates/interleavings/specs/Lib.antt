@@ -7,4 +7,5 @@ pub mod Doing
 pub mod Ending
 pub mod Playing
 pub mod Laws
+pub mod Renewing
 pub use Rattle.interleaving_core.specs as interleaving_core

@@ -6,6 +6,7 @@
 mod event;
 mod laws;
 mod playing;
+mod renewing;
 mod running;
 
 pub use event::{Event, Outcome, are_of_seats};
@@ -17,4 +18,8 @@ pub use laws::{
     events_refine, refusals_refine, steps_refine, stops_refine, what_is_owed_is_the_rest,
 };
 pub use playing::{EndFault, Played, play_on};
+pub use renewing::{
+    failures_refine, flushes_refine, pages_refine, reads_fail_with_the_device, renewals_refine,
+    withdrawals_refine,
+};
 pub use running::run;
