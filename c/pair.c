@@ -201,22 +201,37 @@ static bool may_write(const struct stat *journal, const struct stat *file) {
         || (journal->st_gid == file->st_gid && (file->st_mode & 020) != 0) || (file->st_mode & 02) != 0;
 }
 
+/* Opens the journal that stands there; ENOENT where there is none. */
+static int find_journal(struct pair *pair, const char *name, const struct stat *file) {
+    struct stat found;
+    if (lstat(name, &found) != 0)
+        return errno;
+    if (!S_ISREG(found.st_mode) || !may_write(&found, file))
+        return EACCES;
+    pair->journal = open(name, O_RDWR | O_CLOEXEC | O_NOFOLLOW);
+    return pair->journal < 0 ? errno : guard(pair->journal, file);
+}
+
+/* Makes a journal; EEXIST where there is one. */
+static int make_journal(struct pair *pair, const char *name, const struct stat *file) {
+    pair->journal = open(name, O_RDWR | O_CLOEXEC | O_CREAT | O_EXCL, 0600);
+    if (pair->journal < 0)
+        return errno;
+    int wrong = guard(pair->journal, file);
+    return wrong != 0 ? wrong : sync_folder(name);
+}
+
 static int open_journal(struct pair *pair, const char *path) {
     char name[PATH_MAX + sizeof ".journal"];
-    struct stat file, found;
+    struct stat file;
     if (realpath(path, name) == NULL || fstat(pair->file, &file) != 0)
         return errno;
     strcat(name, ".journal");
-    bool is_there = lstat(name, &found) == 0;
-    if (!is_there && errno != ENOENT)
-        return errno;
-    if (is_there && (!S_ISREG(found.st_mode) || !may_write(&found, &file)))
-        return EACCES;
-    pair->journal = open(name, O_RDWR | O_CLOEXEC | O_NOFOLLOW | (is_there ? 0 : O_CREAT | O_EXCL), 0600);
-    if (pair->journal < 0)
-        return errno;
-    int wrong = guard(pair->journal, &file);
-    return wrong != 0 || is_there ? wrong : sync_folder(name);
+    int wrong = find_journal(pair, name, &file);
+    if (wrong == ENOENT && (wrong = make_journal(pair, name, &file)) == EEXIST)
+        /* Another process has made it meanwhile. */
+        wrong = find_journal(pair, name, &file);
+    return wrong;
 }
 
 int pair_open(struct pair *pair, const char *path) {

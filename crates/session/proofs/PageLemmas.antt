@@ -1,5 +1,5 @@
 -- A session is opened, and what its pages are.
-use Rattle.std.proofs.Common.{arith, ℕ, suc, ◌≡◌, ◌≢◌, ◌<◌, IsTrue, refl, sym, ap, ◌∙◌, subst, true, false, List, [], ◌∷◌, Option, Some, None, Result, Ok, Err, length, map, slice_index_or}
+use Rattle.std.proofs.Common.{arith, ℕ, suc, ◌≡◌, ◌≢◌, ◌<◌, IsTrue, refl, sym, ap, ◌∙◌, subst, true, false, List, [], ◌∷◌, Option, Some, None, Result, Ok, Err, IfOk, length, map, slice_index_or}
 use Rattle.std.specs.List.{All}
 use Rattle.std.proofs.lemmas.List.{ext_get_or, get_or-map, length-map}
 use Rattle.std.proofs.lemmas.List.Elements.{All-from_get_or}
@@ -18,7 +18,9 @@ use Rattle.hash_file.specs.Change.{Quiet}
 use Rattle.hash_file.specs.Chain.{contents}
 use Rattle.hash_file.specs.Sound.{IsExact}
 use Rattle.step_rules.specs.Sound.{IsSoundWorld}
+use Rattle.record_file.specs.Files.{IsNewFile}
 use Rattle.one_bucket_file.specs.Files.{no_queues}
+use Rattle.one_bucket_file.specs.Laws.{NewHasNoQueues}
 use Rattle.interleaving_core.specs.Beginning.{HasSystem, IsOpened}
 use Rattle.interleaving_core.specs.Renewing.{FailsToRead, IsBetweenCalls, IsIdleOrWaits, IsRead, KeepsPages, Reads}
 use Rattle.interleaving_core.specs.xsi_calls.Words.{world}
@@ -53,6 +55,13 @@ is_new caller pages content file as_many k opened = record {
   sits = opened.sits;
   many = opened.many ∙ as_many;
 }
+
+pub new_opened : {F : Type 0} (caller : Caller) (pages : ℕ) (content : List (List ℕ)) → NewHasNoQueues →
+    IsNewFile pages content → (r : Result SessionState F) → IfOk r (Opens caller content) →
+    IfOk r (OpensNew caller pages)
+new_opened caller pages content law new (Ok k) opened =
+    is_new caller pages content (law sha_key pages content new).file new.as_many k opened
+new_opened caller pages content law new (Err fault) opened = tt
 
 -- ---- a page is read
 
