@@ -20,7 +20,7 @@ use Rattle.interleaving_core.specs.declared.step.Step.TheVariants as steps
 use Rattle.lone_kernel.specs.Laws.{AnswersLoneCalls, RefusesAtRest, StandsBehind, StandsDriven, StopsAKernel}
 use Rattle.lone_kernel.specs.Lone.{WaitsOver}
 use Rattle.lone_kernel.specs.Words.{ActiveView, Answer, BeginFault, Call, Caller, HasCall, IsDriven, IsMove, IsRefused, IsSeat, IsStopped, IsWhole, State, Step, call_at, caller_at, with_call}
-use Rattle.session.specs.Session.{Becomes, Calls, Holds, IsShortened, SessionState, Stops, caller_of, unanswered_by}
+use Rattle.session.specs.Session.{Becomes, Calls, Holds, IsShortened, SessionState, Stops, came_of, caller_of, is_waiting, unanswered_by}
 use Rattle.session.specs.declared.unanswered.Unanswered.{Unanswered}
 use Rattle.session.specs.declared.unanswered.Unanswered.TheVariants.{Waits, NoRoom, NoMemory, Failed}
 
@@ -167,61 +167,55 @@ module _ (answers : AnswersLoneCalls ShaKey) (call : Call) (old first begun last
   behind s holds d is_d =
       subst (λ (x : Step). StandsBehind sha_key 1 has.caller call s x last) is_d (stands s holds).stands
 
-  pub told_answer : (answer : Answer) → did ≡ steps.Answered answer → Calls call (Ok answer) old last
-  told_answer answer is_d = record {
-    becomes = λ s holds.
-        let answered = behind s holds (steps.Answered answer) is_d in
-        record {
-          after = answered.after;
-          by_rules = ap (λ (c : Option Caller). outcome_for c call s) its_caller ∙ answered.by_rules;
-          holds = answered.rests;
-        };
-    caller = same_caller old last keeps;
-  }
-
-  pub told_waiting : did ≡ steps.Waiting → (back : Option Call) (new : SessionState) → Withdraws 1 back last new →
+  pub told_waiting : is_waiting did ≡ true → (back : Option Call) (new : SessionState) → Withdraws 1 back last new →
       Calls call (Err Waits) old new
-  told_waiting is_d back new went = record {
+  told_waiting waiting back new went = record {
     becomes = λ s holds.
-        let waits = behind s holds steps.Waiting is_d in
+        let waits = behind s holds steps.Waiting (is_it did waiting) in
         (
           ap (λ (c : Option Caller). outcome_for c call s) its_caller ∙ waits.none,
           withdrawn call has.caller s last waits back new went,
         );
     caller = same_caller old new (then_keeps old last new keeps (keeps_seat_back back last new went));
   }
-
-  pub told_no_room : did ≡ steps.Fault faults.NoRoom → Calls call (Err NoRoom) old last
-  told_no_room is_d = record {
-    becomes = λ s holds.
-        let none = behind s holds (steps.Fault faults.NoRoom) is_d in
-        record { caller = has.caller; sits = its_caller; found = none.0; holds = none.1 };
-    caller = same_caller old last keeps;
-  }
+    where
+      is_it : (d : Step) → is_waiting d ≡ true → d ≡ steps.Waiting
+      is_it (steps.Moved kind) is = absurd cc
+      is_it (steps.Blocked other) is = absurd cc
+      is_it steps.Waiting is = refl
+      is_it (steps.Answered answer) is = absurd cc
+      is_it steps.Idle is = absurd cc
+      is_it (steps.Fault fault) is = absurd cc
 
   faults_same : begun.pool.faults ≡ old.pool.faults
   faults_same = ap (λ (k : SessionState). k.pool.faults) has.is ∙ ap (λ (p : PoolState). p.faults) same.pool
 
-  pub told_else : ((answer : Answer) → did ≡ steps.Answered answer → ⊥) → (did ≡ steps.Waiting → ⊥) →
-      (did ≡ steps.Fault faults.NoRoom → ⊥) → Calls call (Err Failed) old last
-  told_else no_answer no_wait some_room = record {
-    becomes = λ s holds. by s holds did refl;
+  becomes_so : (s : State) → Holds s old → (d : Step) → did ≡ d → is_waiting d ≡ false → Becomes call s (came_of d) old last
+  becomes_so s holds (steps.Moved kind) is_d over =
+      absurd (subst (λ (x : Step). IsMove x → ⊥) is_d (stands s holds).rests tt)
+  becomes_so s holds (steps.Blocked other) is_d over = absurd (behind s holds (steps.Blocked other) is_d)
+  becomes_so s holds steps.Waiting is_d over = absurd cc
+  becomes_so s holds (steps.Answered answer) is_d over =
+      let answered = behind s holds (steps.Answered answer) is_d in
+      record {
+        after = answered.after;
+        by_rules = ap (λ (c : Option Caller). outcome_for c call s) its_caller ∙ answered.by_rules;
+        holds = answered.rests;
+      }
+  becomes_so s holds steps.Idle is_d over = absurd (behind s holds steps.Idle is_d)
+  becomes_so s holds (steps.Fault faults.NoRoom) is_d over =
+      let none = behind s holds (steps.Fault faults.NoRoom) is_d in
+      record { caller = has.caller; sits = its_caller; found = none.0; holds = none.1 }
+  becomes_so s holds (steps.Fault (faults.File fault)) is_d over = record {
+    failed = behind s holds (steps.Fault (faults.File fault)) is_d;
+    cause = subst (λ (n : ℕ). HasRisen n last.pool.faults) faults_same ((stands s holds).cause (ap is_failure is_d));
+  }
+
+  pub told_else : is_waiting did ≡ false → Calls call (came_of did) old last
+  told_else over = record {
+    becomes = λ s holds. becomes_so s holds did refl over;
     caller = same_caller old last keeps;
   }
-    where
-      by : (s : State) → Holds s old → (d : Step) → did ≡ d → Becomes call s (Err Failed) old last
-      by s holds (steps.Moved kind) is_d =
-          absurd (subst (λ (x : Step). IsMove x → ⊥) is_d (stands s holds).rests tt)
-      by s holds (steps.Blocked other) is_d = absurd (behind s holds (steps.Blocked other) is_d)
-      by s holds steps.Waiting is_d = absurd (no_wait is_d)
-      by s holds (steps.Answered answer) is_d = absurd (no_answer answer is_d)
-      by s holds steps.Idle is_d = absurd (behind s holds steps.Idle is_d)
-      by s holds (steps.Fault faults.NoRoom) is_d = absurd (some_room is_d)
-      by s holds (steps.Fault (faults.File fault)) is_d = record {
-        failed = behind s holds (steps.Fault (faults.File fault)) is_d;
-        cause = subst (λ (n : ℕ). HasRisen n last.pool.faults) faults_same
-            ((stands s holds).cause (ap is_failure is_d));
-      }
 
 -- ---- it is stopped
 

@@ -1,6 +1,6 @@
 -- A session over the pages of a file in memory: the system that it holds, and what its calls are answered.
 -- docs/QUEUES.md, "Calls"; docs/FORMAT.md, "Pages".
-use Rattle.std.specs.Prelude.{ℕ, ◌≡◌, ◌*◌, ◌<◌, true, List, [], Option, Some, None, Result, Ok, Err, drop, length, slice_index_or, take}
+use Rattle.std.specs.Prelude.{ℕ, ◌≡◌, ◌*◌, ◌<◌, Bool, true, false, List, [], Option, Some, None, Result, Ok, Err, drop, length, slice_index_or, take}
 use Rattle.bucket_page.specs.Pseudokeys.{sha_key}
 use Rattle.bucket_page.specs.declared.pseudokey.ShaKey.{ShaKey}
 use Rattle.page_device.specs.Device.{HasRisen}
@@ -10,8 +10,10 @@ use Rattle.queue_model.specs.Journal.{outcome_for}
 use Rattle.one_bucket_file.specs.Files.{no_queues}
 use Rattle.interleaving_core.specs.Renewing.{IsPage}
 use Rattle.interleaving_core.specs.declared.fault.BeginFault.TheVariants as begins
+use Rattle.interleaving_core.specs.declared.fault.StepFault.TheVariants as faults
+use Rattle.interleaving_core.specs.declared.step.Step.TheVariants as steps
 use Rattle.lone_kernel.specs.Lone.{RestsOver}
-use Rattle.lone_kernel.specs.Words.{Answer, BeginFault, Call, Caller, FoundNoRoom, IsFileOf, KernelState, State, caller_at, restarted}
+use Rattle.lone_kernel.specs.Words.{Answer, BeginFault, Call, Caller, FoundNoRoom, IsFileOf, KernelState, State, Step, caller_at, restarted}
 use Rattle.session.specs.declared.unanswered.Unanswered.{Unanswered}
 use Rattle.session.specs.declared.unanswered.Unanswered.TheVariants.{Waits, NoRoom, NoMemory, Failed}
 
@@ -65,6 +67,24 @@ unanswered_by begins.Failed = Failed
 unanswered_by begins.Busy = NoMemory
 unanswered_by begins.SessionFull = NoMemory
 unanswered_by begins.NoMemory = NoMemory
+
+abbrev pub is_waiting : Step → Bool
+is_waiting (steps.Moved kind) = false
+is_waiting (steps.Blocked other) = false
+is_waiting steps.Waiting = true
+is_waiting (steps.Answered answer) = false
+is_waiting steps.Idle = false
+is_waiting (steps.Fault fault) = false
+
+-- what a call comes to of which its seat was told this; one that is not over has failed
+abbrev pub came_of : Step → Result Answer Unanswered
+came_of (steps.Moved kind) = Err Failed
+came_of (steps.Blocked other) = Err Failed
+came_of steps.Waiting = Err Waits
+came_of (steps.Answered answer) = Ok answer
+came_of steps.Idle = Err Failed
+came_of (steps.Fault faults.NoRoom) = Err NoRoom
+came_of (steps.Fault (faults.File fault)) = Err Failed
 
 -- the rules have this answer, and the session holds the system after it
 pub record IsAnswered (call : Call) (s : State) (answer : Answer) (old new : SessionState) : Type 0 where

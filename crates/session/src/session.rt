@@ -6,9 +6,9 @@ ghost use Rattle.session.specs.Session.{Calls, GivesPage, IsShortened, Opens, Op
 ghost use Rattle.session.specs.Words.{CanHavePages};
 
 use crate::loading::loaded;
-use crate::unanswered::Unanswered;
+use crate::unanswered::{Unanswered, came_of, is_waiting};
 use bucket_page::ShaKey;
-use interleaving_core::{Kernel, OpenFault, Step, StepFault};
+use interleaving_core::{Kernel, OpenFault};
 use kept_keys::KeptKeys;
 use lone_kernel::{
     a_kernel_at_rest_is_stopped, a_kernel_opens_at_rest, a_lone_call_is_answered_by_the_rules,
@@ -88,15 +88,12 @@ impl Session {
         if let Err((_, fault)) = self.kernel.begin(SEAT, call) {
             return Err(Unanswered::of(fault));
         }
-        match self.kernel.drive(SEAT) {
-            Step::Answered(answer) => Ok(answer),
-            Step::Waiting => {
-                self.kernel.withdraw(SEAT);
-                Err(Unanswered::Waits)
-            }
-            Step::Fault(StepFault::NoRoom) => Err(Unanswered::NoRoom),
-            _ => Err(Unanswered::Failed),
+        let told = self.kernel.drive(SEAT);
+        if !is_waiting(&told) {
+            return came_of(told);
         }
+        self.kernel.withdraw(SEAT);
+        Err(Unanswered::Waits)
     }
 
     /// Stops the system: from here on a call that would wait is refused EINTR.

@@ -1,9 +1,10 @@
 //! Why a call is not answered.
 
 ghost use Rattle.std.specs.Prelude.{◌≡◌};
-ghost use Rattle.session.specs.Session.{unanswered_by};
+ghost use Rattle.session.specs.Session.{came_of, is_waiting, unanswered_by};
 
-use interleaving_core::BeginFault;
+use interleaving_core::{BeginFault, Step, StepFault};
+use queue_model::Answer;
 use thiserror::Error;
 
 /// Why a call is not answered now.
@@ -33,6 +34,28 @@ impl Unanswered {
             BeginFault::Busy | BeginFault::SessionFull | BeginFault::NoMemory => {
                 Unanswered::NoMemory
             }
+        }
+    }
+}
+
+/// Whether its seat was told that a call waits.
+pub(crate) fn is_waiting(told: &Step) -> bool
+    ensures { result ≡ is_waiting told.now }
+{
+    matches!(told, Step::Waiting)
+}
+
+/// What a call comes to of which its seat was told this. One that moves on, is blocked, or is not
+/// there is one on a file that holds no system.
+pub(crate) fn came_of(told: Step) -> Result<Answer, Unanswered>
+    ensures { result ≡ came_of told }
+{
+    match told {
+        Step::Answered(answer) => Ok(answer),
+        Step::Waiting => Err(Unanswered::Waits),
+        Step::Fault(StepFault::NoRoom) => Err(Unanswered::NoRoom),
+        Step::Moved(_) | Step::Blocked(_) | Step::Idle | Step::Fault(StepFault::File(_)) => {
+            Err(Unanswered::Failed)
         }
     }
 }
