@@ -170,6 +170,7 @@ read_then_written fine pool middle pool' reads writes = record {
   ready = writes.ready;
   honest = writes.honest ∙ reads.honest;
   later = omega (arith, reads.later, writes.later);
+  stored = writes.stored ∙ reads.stored;
   file = λ honest done file. writes.file (reads.honest ∙ honest) done (reads.file honest refl file);
 }
 

@@ -48,7 +48,13 @@ module _ (seat : ℕ) (key : RecordKey) (a : ApproachView) (pool pool' : PoolSta
       pub own_not_valid : (fault : FileFault) → (IsRange (seen_range sight) → ⊥) →
           MakesStep seat (Fault fault) (at_place Approaching) (at_place Approaching) pool pool' locks locks
       own_not_valid fault wrong = faulted seat key a pool locks Approaching fault pool'
-          (record { ready = reads.ready; honest = reads.honest; later = reads.later; file = λ honest fine. absurd cc })
+          (record {
+            ready = reads.ready;
+            honest = reads.honest;
+            later = reads.later;
+            stored = reads.stored;
+            file = λ honest fine. absurd cc;
+          })
           reads.images refl
           (λ hash change sees. absurd (wrong (subst IsRange
           (seen_shape (store_of pool.images) page sight (ok sees.honest)).range_is
@@ -153,7 +159,13 @@ module _ (seat : ℕ) (key : RecordKey) (a : ApproachView) (pool pool' : PoolSta
       pub buddy_is_itself : (fault : FileFault) → buddy ≡ o.page →
           MakesStep seat (Fault fault) (at_place (ReadBuddy o)) (at_place (ReadBuddy o)) pool pool' locks locks
       buddy_is_itself fault same = faulted seat key a pool locks (ReadBuddy o) fault pool'
-          (record { ready = reads.ready; honest = reads.honest; later = reads.later; file = λ honest fine. absurd cc })
+          (record {
+            ready = reads.ready;
+            honest = reads.honest;
+            later = reads.later;
+            stored = reads.stored;
+            file = λ honest fine. absurd cc;
+          })
           reads.images refl
           (λ hash change sees. absurd (not_itself hash change sees.honest sees.sound sees.known same))
 

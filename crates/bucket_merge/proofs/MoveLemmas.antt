@@ -20,6 +20,7 @@ nothing_written pool ready = record {
   ready = ready;
   honest = refl;
   later = omega arith;
+  stored = refl;
   file = λ honest fine file. file;
 }
 
@@ -28,6 +29,7 @@ nothing_read pool ready = record {
   ready = ready;
   honest = refl;
   later = omega arith;
+  stored = refl;
   images = λ honest. refl;
   file = λ honest fine file. file;
 }
@@ -37,6 +39,7 @@ read_only fine pool pool' reads = record {
   ready = reads.ready;
   honest = reads.honest;
   later = reads.later;
+  stored = reads.stored;
   file = reads.file;
 }
 

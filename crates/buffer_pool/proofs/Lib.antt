@@ -1,5 +1,7 @@
+pub mod FilledLemmas
 pub mod ImagesLemmas
 pub mod PoolLemmas
+pub mod SparedLemmas
 pub mod TableLemmas
 pub mod TransferLemmas
 pub use Rattle.page_forms.proofs as of_page_forms

@@ -52,7 +52,7 @@ length-without None places = refl
 length-without (Some m) places = length-set places m None
 
 -- how much a page that is pinned so often adds to the count
-abbrev one_if_pinned : ℕ → ℕ
+abbrev pub one_if_pinned : ℕ → ℕ
 one_if_pinned m = cond (is_pinned m) 1 0
 
 one_if_some : (x : ℕ) → 0 < x → one_if_pinned x ≡ 1
@@ -142,7 +142,7 @@ module _ (t : Held) (whole : IsWhole t) where
         still j some place = (place.0, stays_placed j place.0 place.1 (λ is. let no_pin = free j is in omega arith))
 
 -- so many different pages that are pinned are counted
-crowd : (n : ℕ) (pins : List ℕ) (page : ℕ → ℕ) → ((f : ℕ) → f < n → 0 < slice_index_or pins (page f) 0)
+pub crowd : (n : ℕ) (pins : List ℕ) (page : ℕ → ℕ) → ((f : ℕ) → f < n → 0 < slice_index_or pins (page f) 0)
     → ((f g : ℕ) → f < n → g < n → page f ≡ page g → f ≡ g) → n ≤ count_pinned pins
 crowd zero pins page all apart = omega arith
 crowd (suc n) pins page all apart =
@@ -168,7 +168,7 @@ crowd (suc n) pins page all apart =
     counted : (n a b x y : ℕ) → n ≤ a → a + x ≡ b + y → x ≡ 1 → y ≡ 0 → suc n ≤ b
     counted n a b x y rest sums one none = omega arith
 
-abbrev number_of : Option ℕ → ℕ
+abbrev pub number_of : Option ℕ → ℕ
 number_of None = 0
 number_of (Some page) = page
 

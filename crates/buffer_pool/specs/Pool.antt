@@ -1,6 +1,6 @@
 -- What a pool shows: the image of each page, and how often it is pinned.
 use Rattle.std.specs.Prelude.{◌≡◌, ℕ, ◌<◌, ◌≤◌, Bool, false, List, [], map, length, replicate, Option, Some, None}
-use Rattle.std.specs.Prelude.{IsTrue, Result, IsErrOf, IfErr, slice_index_or, ⊤}
+use Rattle.std.specs.Prelude.{IsTrue, Result, IsErrOf, IfErr, slice_index_or, nat_le, if◌then◌else◌, ⊤}
 use Rattle.page_device.specs.Pages.{first_pages}
 use Rattle.page_device.specs.Sealed.{payload_of, IsSealed}
 use Rattle.page_device.specs.Device.{HasRisen}
@@ -94,6 +94,16 @@ pub record KeepsImages (succeeded : Bool) (old new : PoolState) : Type 0 where
   pub frames : new.frames ≡ old.frames
   pub honest : new.honest ≡ old.honest
   pub seals : IsTrue old.honest → IsTrue succeeded → KeepsSeals old.stored new.stored
+
+-- the pages that a pool spares until it is flushed: all that its device has, where there is a frame for each; unfoldable,
+-- so that crates above see one word
+unfoldable pub spared : PoolState → Option (List (List ℕ))
+spared s = if nat_le (length s.stored) s.frames then Some s.stored else None
+
+-- nothing but frames has changed
+pub record KeepsStored (succeeded : Bool) (old new : PoolState) : Type 0 where
+  pub keeps : KeepsImages succeeded old new
+  pub stored : spared new ≡ spared old
 
 -- what a pool may tell, and that a failure of the device comes only where its count of faults rose
 pub record PoolHasCause {T : Type 0} (MayTell : PoolFault → Type 0) (old new : ℕ)

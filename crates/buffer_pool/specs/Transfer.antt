@@ -28,10 +28,13 @@ pub record KeepsPins (old new : Held) : Type 0 where
   pub places : length new.places ≡ length old.places
   pub frames : length new.pages ≡ length old.pages
 
--- a device is as honest as it was, and where that is so and the call succeeded its seals are whole
-pub record KeepsDevice (succeeded was_honest is_honest : Bool) (old new : List (List ℕ)) : Type 0 where
+-- a device is as honest as it was, and where that is so and the call succeeded its seals are whole; where nothing needs
+-- to be written it has the same pages
+pub record KeepsDevice (Spares : Type 0) (succeeded was_honest is_honest : Bool) (old new : List (List ℕ))
+    : Type 0 where
   pub honest : is_honest ≡ was_honest
   pub seals : IsTrue was_honest → IsTrue succeeded → KeepsSeals old new
+  pub spared : Spares → new ≡ old
 
 -- each frame has what the device has, and an honest device was synced
 pub record AreWritten (honest is_synced : Bool) (t : Held) : Type 0 where

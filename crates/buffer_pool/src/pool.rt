@@ -1,7 +1,7 @@
 //! Pools: the images of a device's pages, in frames.
 ghost use Rattle.std.specs.Prelude.{◌≡◌, ◌↔◌, ◌+◌, ◌-◌, ◌^◌, ◌<◌, ◌≤◌, length, is_ok, Some, IsTrue, IfOk, IfErr, IsErrAnd, IsErrOf, OnOk, slice_get, slice_set, if◌then◌else◌};
 ghost use Rattle.page_device.specs.declared.fault.DeviceFault.TheVariants.{PastEnd};
-ghost use Rattle.buffer_pool.specs.Pool.{pins_at, opened, IsAtRest, payloads_of, IsCrowded, KeepsImages, PoolHasCause, MayNotOpen, MayNotPin, MayNotFlush};
+ghost use Rattle.buffer_pool.specs.Pool.{pins_at, opened, IsAtRest, payloads_of, IsCrowded, KeepsImages, KeepsStored, PoolHasCause, MayNotOpen, MayNotPin, MayNotFlush};
 ghost use Rattle.std.specs.Borrow.{sem};
 ghost use Rattle.buffer_pool.specs.Lending.{LendsImage};
 
@@ -78,7 +78,7 @@ impl<D: PageDevice> Pool<D> {
     }
 
     /// Pins a page, so that it stays in its frame. Where it has none it is read, and its digest and
-    /// its payload are tested.
+    /// its payload are tested. A pool with a frame for each page writes nothing here.
     #[tactic(auto, using(crate::proofs::ImagesLemmas::images_length))]
     pub fn pin(&mut self, page: u32) -> Result<Frame, PoolFault>
         requires { pins_at self.old page + 1 < 2 ^ 32 }
@@ -88,7 +88,7 @@ impl<D: PageDevice> Pool<D> {
             then slice_set self.old.pins page (pins_at self.old page + 1) else self.old.pins) }
         ensures past { IsErrOf result (PoolFault.Device PastEnd) ↔ (length self.old.images ≤ page) }
         ensures crowded { IsErrOf result PoolFault.TooFewFrames ↔ IsCrowded page self.old }
-        ensures keeps { KeepsImages (is_ok result) self.old self.new }
+        ensures keeps { KeepsStored (is_ok result) self.old self.new }
         ensures cause { PoolHasCause (MayNotPin page self.old)
             self.old.faults self.new.faults result }
     {

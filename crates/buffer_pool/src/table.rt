@@ -1,6 +1,6 @@
 //! The frames of a pool: which page each holds, and how often each page is pinned.
 ghost use Rattle.std.specs.Prelude.{◌≡◌, ◌+◌, ◌-◌, ◌^◌, ◌<◌, length, replicate, ℕ, true, false, Some, None, IsSome, IfOk};
-ghost use Rattle.buffer_pool.specs.Table.{place_of, pins_of, page_of, is_changed, payload_in, count_pinned, no_pages, with_pins, moved_in, cleaned_at, without, IsWhole, IsFree, IsTaken};
+ghost use Rattle.buffer_pool.specs.Table.{place_of, pins_of, page_of, is_changed, payload_in, count_pinned, no_pages, with_pins, moved_in, cleaned_at, without, IsWhole, IsFree, IsNext, IsTaken};
 ghost use Rattle.std.specs.Borrow.{sem};
 ghost use Rattle.page_forms.specs.Forms.{blank_page};
 ghost use Rattle.buffer_pool.specs.Lending.{LendsPayload};
@@ -15,6 +15,8 @@ pub struct Table {
     places: Vec<Option<usize>>,
     pins: Vec<u32>,
     pinned: usize,
+    /// The frames below this one hold pages, and no other does.
+    filled: usize,
     pages: Vec<Option<u32>>,
     changed: Vec<bool>,
     payloads: Vec<FilePage>,
@@ -37,7 +39,7 @@ impl Model for Table {
       payloads = t.payloads.items;
     } };
 
-    ghost invariant = { λ t. IsKept t.pinned t.used.items (record {
+    ghost invariant = { λ t. IsKept t.pinned t.filled t.used.items (record {
       places = t.places.items;
       pins = t.pins.items;
       pages = t.pages.items;
@@ -55,6 +57,7 @@ impl Table {
             places: copies(alloc, None, pages)?,
             pins: copies(alloc, 0, pages)?,
             pinned: 0,
+            filled: 0,
             pages: copies(alloc, None, frames)?,
             changed: copies(alloc, false, frames)?,
             payloads: blanks(alloc, frames)?,
@@ -149,9 +152,23 @@ impl Table {
         let _ = &self.pinned;
     }
 
-    /// A frame that holds no page, or one that is not pinned: the first one that was not used since
-    /// the hand went by.
+    /// The first frame that holds no page. Where each holds one, a frame whose page is not pinned:
+    /// the first one that was not used since the hand went by.
     pub fn free_frame(&mut self) -> usize
+        requires { count_pinned self.old.pins < length self.old.pages }
+        ensures free { IsFree self.old result }
+        ensures next { IsNext self.old.pages result }
+        ensures within { result < length self.old.pages }
+        ensures same { self.new ≡ self.old }
+    {
+        if self.filled < self.pages.len() {
+            return self.filled;
+        }
+        self.unused_frame()
+    }
+
+    /// A frame whose page is not pinned: the first one that was not used since the hand went by.
+    fn unused_frame(&mut self) -> usize
         requires { count_pinned self.old.pins < length self.old.pages }
         ensures free { IsFree self.old result }
         ensures within { result < length self.old.pages }
@@ -221,6 +238,7 @@ impl Table {
     pub fn move_in(&mut self, frame: usize, page: u32, payload: FilePage)
         requires frame { frame < length self.old.pages }
         requires free { IsFree self.old frame }
+        requires next { IsNext self.old.pages frame }
         requires page { page < length self.old.places }
         requires outside { place_of self.old page ≡ None }
         ensures { self.new ≡ moved_in frame page payload self.old }
@@ -231,6 +249,9 @@ impl Table {
         self.changed[frame] = false;
         self.used[frame] = true;
         self.payloads[frame] = payload;
+        if frame == self.filled {
+            self.filled += 1;
+        }
     }
 
     /// The frame of a page that is in one.

@@ -1,8 +1,8 @@
 //! Pages between a device and the frames.
-ghost use Rattle.std.specs.Prelude.{◌≡◌, ◌<◌, length, is_ok, None, IsSome, IsTrue, OnOk};
+ghost use Rattle.std.specs.Prelude.{◌≡◌, ◌<◌, ◌≤◌, length, is_ok, None, IsSome, IsTrue, OnOk};
 ghost use Rattle.page_device.specs.Device.{HasCause, MayOnlyFail};
 ghost use Rattle.buffer_pool.specs.Pool.{IsSoundPool, IsClean, PoolHasCause, images_of};
-ghost use Rattle.buffer_pool.specs.Table.{place_of, count_pinned};
+ghost use Rattle.buffer_pool.specs.Table.{place_of, page_of, count_pinned};
 ghost use Rattle.buffer_pool.specs.Transfer.{AreWritten, KeepsDevice, KeepsPages, KeepsPins, MayBeUnread};
 
 use crate::fault::PoolFault;
@@ -23,7 +23,8 @@ pub fn write_back<D: PageDevice>(
     ensures images { images_of (D.content device.new) table.new ≡
         images_of (D.content device.old) table.old }
     ensures pages { KeepsPages table.old table.new }
-    ensures device { KeepsDevice (is_ok result) (D.is_honest device.old) (D.is_honest device.new)
+    ensures device { KeepsDevice (page_of table.old frame ≡ None) (is_ok result)
+        (D.is_honest device.old) (D.is_honest device.new)
         (D.content device.old) (D.content device.new) }
     ensures cause { HasCause MayOnlyFail
         (D.fault_count device.old) (D.fault_count device.new) result }
@@ -56,7 +57,8 @@ pub fn bring_in<D: PageDevice>(
     ensures images { IsTrue (D.is_honest device.old) →
         images_of (D.content device.new) table.new ≡ images_of (D.content device.old) table.old }
     ensures pins { KeepsPins table.old table.new }
-    ensures device { KeepsDevice (is_ok result) (D.is_honest device.old) (D.is_honest device.new)
+    ensures device { KeepsDevice (length (D.content device.old) ≤ length table.old.pages) (is_ok result)
+        (D.is_honest device.old) (D.is_honest device.new)
         (D.content device.old) (D.content device.new) }
     ensures cause { PoolHasCause (MayBeUnread (D.is_honest device.old) page
         (D.content device.old) (images_of (D.content device.old) table.old))
@@ -69,8 +71,9 @@ pub fn bring_in<D: PageDevice>(
     read_in(device, table, page)
 }
 
-/// Brings in a page that is in no frame. It stands apart from `bring_in`, so that a pin of a page
-/// that is in one sets up no room for the page's bytes.
+/// Brings in a page that is in no frame. Where there is a frame for each page of the device one is
+/// empty, and nothing is written. It stands apart from `bring_in`, so that a pin of a page that is
+/// in one sets up no room for the page's bytes.
 fn read_in<D: PageDevice>(device: &mut D, table: &mut Table, page: u32) -> Result<(), PoolFault>
     requires sound { IsSoundPool (D.content device.old) (D.is_honest device.old) table.old }
     requires page { page < length table.old.places }
@@ -81,7 +84,8 @@ fn read_in<D: PageDevice>(device: &mut D, table: &mut Table, page: u32) -> Resul
     ensures images { IsTrue (D.is_honest device.old) →
         images_of (D.content device.new) table.new ≡ images_of (D.content device.old) table.old }
     ensures pins { KeepsPins table.old table.new }
-    ensures device { KeepsDevice (is_ok result) (D.is_honest device.old) (D.is_honest device.new)
+    ensures device { KeepsDevice (length (D.content device.old) ≤ length table.old.pages) (is_ok result)
+        (D.is_honest device.old) (D.is_honest device.new)
         (D.content device.old) (D.content device.new) }
     ensures cause { PoolHasCause (MayBeUnread (D.is_honest device.old) page
         (D.content device.old) (images_of (D.content device.old) table.old))
@@ -108,7 +112,8 @@ pub fn write_all<D: PageDevice>(device: &mut D, table: &mut Table) -> Result<(),
     ensures images { images_of (D.content device.new) table.new ≡
         images_of (D.content device.old) table.old }
     ensures pages { KeepsPages table.old table.new }
-    ensures device { KeepsDevice (is_ok result) (D.is_honest device.old) (D.is_honest device.new)
+    ensures device { KeepsDevice (⊥) (is_ok result)
+        (D.is_honest device.old) (D.is_honest device.new)
         (D.content device.old) (D.content device.new) }
     ensures cause { HasCause MayOnlyFail
         (D.fault_count device.old) (D.fault_count device.new) result }

@@ -24,6 +24,7 @@ module _ (hash : RecordKey → ℕ) (seat : ℕ) (p : Plan) (did : Progress File
     ready = ready;
     honest = refl;
     later = omega arith;
+    stored = refl;
     file = λ honest fine' was. was;
   })
 

@@ -325,6 +325,7 @@ module _ (hash : RecordKey → ℕ) (seat : ℕ) (call : Call) (i : AnyInquiry) 
         ready = makes.writes.ready;
         honest = makes.writes.honest;
         later = makes.writes.later;
+        stored = makes.writes.stored;
         file = λ honest done file. absurd (true≢false (sym done));
       };
       aim = record {

@@ -25,7 +25,13 @@ use Rattle.call_questions.proofs.OwnLemmas.{own_more}
 
 -- nothing was read or written
 pub writes_none : (pool : PoolState) → IsReady pool → OnlyWrites true pool pool
-writes_none pool ready = record { ready = ready; honest = refl; later = omega arith; file = λ honest done file. file }
+writes_none pool ready = record {
+  ready = ready;
+  honest = refl;
+  later = omega arith;
+  stored = refl;
+  file = λ honest done file. file;
+}
 
 module _ (hash : RecordKey → ℕ) (seat : ℕ) (call : Call) (i : AnyInquiry) (room : Roomful) (searches : ℕ)
     (pool : PoolState) (ready : IsReady pool) (locks : Table) where

@@ -24,6 +24,7 @@ module _ (hash : RecordKey → ℕ) (seat : ℕ) (p : Plan) (did : Progress File
     ready = ready;
     honest = refl;
     later = omega arith;
+    stored = refl;
     file = λ honest fine' was. was;
   })
 
@@ -33,6 +34,7 @@ module _ (hash : RecordKey → ℕ) (seat : ℕ) (p : Plan) (did : Progress File
     ready = writes.ready;
     honest = writes.honest;
     later = writes.later;
+    stored = writes.stored;
     file = λ honest fine was. absurd (true≢false (sym fine));
   })
 

@@ -2,6 +2,7 @@
 use Rattle.std.proofs.Common.{◌≡◌, refl, ◌∙◌, sym, ap, subst, ℕ, zero, suc, ◌-◌, ◌<◌, ◌≤◌, List, [], Bool, true, IsTrue, Option, Some}
 use Rattle.std.proofs.Common.{length, arith, slice_get, slice_set, Result, Ok, Err, IsErr, IsErrAnd, IsErrOf, IfErr, IfOk, ◌⊎◌, inl, inr}
 use Rattle.file_pages.proofs.Names.{Bucket, DIRECTORY_PAGES, Device, HasRisen, IsBucketPage, IsCrowded, IsWell, KeepsSeals, Malformed, MayNotPin, NoMemory, PageKind, PoolFault, PoolState, ROOT_PAGE, RecordKey, Spells, TooFewFrames, bucket_again, bucket_in, bucket_of, cases_lt, count_none, directory_well, entries_at, get_or_from_slice_get, is_bucket, lookup, page_at, page_in, page_is, pins_at, records_in, rest_again}
+use Rattle.buffer_pool.proofs.SparedLemmas.{spared_is}
 use Rattle.page_device.specs.declared.fault.DeviceFault.TheVariants as device
 use Rattle.bucket_page.specs.declared.page.PageKind.TheVariants as kinds
 use Rattle.file_pages.specs.declared.fault.FileFault.{FileFault}
@@ -30,6 +31,7 @@ only_reads ok s t u page right ready pinned is = subst (OnlyReads ok s) (sym is)
   };
   honest = pinned.keeps.honest;
   later = pinned.later;
+  stored = spared_is t (record t { pins = slice_set t.pins right (pins_at t right - 1) }) refl refl ∙ pinned.stored;
   images = pinned.keeps.images;
   file = λ honest done f. file_kept s (record t { pins = slice_set t.pins right (pins_at t right - 1) })
       (pinned.keeps.images honest) (pinned.keeps.seals honest refl) f;
@@ -160,6 +162,7 @@ reads_on ok s t u first next = record {
   ready = next.ready;
   honest = next.honest ∙ first.honest;
   later = omega (arith, first.later, next.later);
+  stored = next.stored ∙ first.stored;
   images = λ honest. next.images (first.honest ∙ honest) ∙ first.images honest;
   file = λ honest done f. next.file (first.honest ∙ honest) done (first.file honest refl f);
 }

@@ -5,6 +5,7 @@ use Rattle.std.proofs.lemmas.Bool.{cases_eq}
 use Rattle.std.proofs.lemmas.List.{get_or-set_same, get_or-set_other, length-set}
 use Rattle.buffer_pool.specs.Pool.{PoolState, pins_at}
 use Rattle.buffer_pool.proofs.ImagesLemmas.{rest_again}
+use Rattle.buffer_pool.proofs.SparedLemmas.{spared_is}
 use Rattle.bucket_page.specs.declared.page.PageKind.{PageKind}
 use Rattle.bucket_page.specs.declared.page.PageKind.TheVariants as kinds
 use Rattle.bucket_page.specs.Reading.{page_in}
@@ -20,6 +21,7 @@ use Rattle.file_pages.specs.Files.{listed, image, kind_on, entry_on, entries_of,
 use Rattle.file_pages.specs.Pinning.{IsPinned}
 use Rattle.file_pages.specs.Reads.{OnlyReads}
 use Rattle.file_pages.specs.Writes.{OnlyWrites}
+use Rattle.file_pages.proofs.ReadLemmas.{only_reads}
 use Rattle.file_pages.proofs.StoreLemmas.{listed_same, listed_set, kind_is}
 
 -- ---- the file where one image is new
@@ -128,6 +130,10 @@ only_writes ok s t v page right new ready pinned keeps is = subst (OnlyWrites ok
   };
   honest = pinned.keeps.honest;
   later = pinned.later;
+  stored = spared_is t (record t {
+      images = slice_set t.images right new;
+      pins = slice_set t.pins right (pins_at t right - 1);
+    }) refl refl ∙ pinned.stored;
   file = λ honest done f.
       let same = written_is honest in
       record {
@@ -154,6 +160,7 @@ writes_on ok s t u first next = record {
   ready = next.ready;
   honest = next.honest ∙ first.honest;
   later = omega (arith, first.later, next.later);
+  stored = next.stored ∙ first.stored;
   file = λ honest done f. next.file (first.honest ∙ honest) done (first.file honest refl f);
 }
 
@@ -163,5 +170,11 @@ fails_to_write s t reads = record {
   ready = reads.ready;
   honest = reads.honest;
   later = reads.later;
+  stored = reads.stored;
   file = λ honest done f. absurd cc;
 }
+
+-- so is what looks at a page, gives it back and writes nothing
+pub gives_back : (s t v : PoolState) (page right : ℕ) → IsReady s → IsPinned page s t right
+    → v ≡ record t { pins = slice_set t.pins right (pins_at t right - 1) } → OnlyWrites false s v
+gives_back s t v page right ready pinned is = fails_to_write s v (only_reads false s t v page right ready pinned is)

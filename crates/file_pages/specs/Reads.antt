@@ -1,7 +1,7 @@
 -- What a read of a file's page leaves, and what it says.
 use Rattle.std.specs.Prelude.{◌≡◌, ℕ, ◌≤◌, Bool, true, IsTrue, List, [], ◌++◌, Option, length, take, drop, unwrap_or, ⊤}
 use Rattle.std.specs.Option.{option_map}
-use Rattle.buffer_pool.specs.Pool.{PoolState}
+use Rattle.buffer_pool.specs.Pool.{PoolState, spared}
 use Rattle.bucket_page.specs.declared.record_key.RecordKey.{RecordKey}
 use Rattle.bucket_page.specs.declared.page.PageKind.{PageKind}
 use Rattle.bucket_page.specs.declared.page.PageKind.TheVariants as kinds
@@ -14,11 +14,13 @@ use Rattle.file_pages.specs.declared.sight.BucketSight.{BucketSight}
 use Rattle.file_pages.specs.declared.sight.Sight.{Sight}
 use Rattle.file_pages.specs.declared.sight.Sight.TheVariants.{Covering, Naming}
 
--- nothing but frames has changed, and the count of faults has not fallen
+-- nothing but frames has changed, and the count of faults has not fallen; where there is a frame for each page the
+-- device has what it had
 pub record OnlyReads (succeeded : Bool) (old new : PoolState) : Type 0 where
   pub ready : IsReady new
   pub honest : new.honest ≡ old.honest
   pub later : old.faults ≤ new.faults
+  pub stored : spared new ≡ spared old
   pub images : IsTrue old.honest → new.images ≡ old.images
   pub file : IsTrue old.honest → IsTrue succeeded → IsFilePool old → IsFilePool new
 

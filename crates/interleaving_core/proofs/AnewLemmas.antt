@@ -1,5 +1,5 @@
 -- A step of a seat with a call that waits, and was woken: its machine makes two steps.
-use Rattle.std.proofs.Common.{◌≡◌, ◌≢◌, refl, sym, ap, ◌∙◌, subst, ℕ, ◌≤◌, Bool, true, false, not, inl, inr, List, [], ◌++◌, Option, Some, None, append-nil, length, arith}
+use Rattle.std.proofs.Common.{◌≡◌, refl, sym, ap, ◌∙◌, subst, ℕ, Bool, true, false, not, inl, inr, List, [], ◌++◌, Option, Some, None, append-nil, length, arith}
 use Rattle.page_locks.proofs.ChangeLemmas.{with_row-own}
 use Rattle.file_pages.specs.declared.fault.FileFault.{FileFault}
 use Rattle.step_rules.specs.declared.progress.Progress.TheVariants as progress
@@ -151,6 +151,7 @@ module _ (seat : ℕ) (did : Step) (a again : ActiveView) (left : Option ActiveV
     ready = λ ready. last.ready (first.ready ready);
     honest = last.honest ∙ first.honest;
     later = let was = first.later in let is = last.later in omega (arith, was, is);
+    stored = last.stored ∙ first.stored;
     row = λ row. last.row (row ∙ sym held);
     caller = λ c same. last.caller c (first.caller c same);
     call = λ some. last.call some ∙ same_call;

@@ -240,6 +240,7 @@ module _ {K : Type 0} (seat : ℕ) (did : Step) (left : Option ActiveView) (old 
         stopped = stopped;
         honest = does.honest;
         later = does.later;
+        stored = does.stored;
       };
     }
 

@@ -8,7 +8,7 @@ use Rattle.std.proofs.lemmas.List.Elements.{filter-append}
 use Rattle.std.proofs.lemmas.List.Folds.{list_any-append}
 use Rattle.queue_model.specs.Journal.{is_of, part_of}
 use Rattle.interleaving_core.specs.Active.{ActiveView, BeginsAgain, HasBegun}
-use Rattle.interleaving_core.specs.Past.{HasLooked, IsOfJournal, KeepsJournal, untold}
+use Rattle.interleaving_core.specs.Past.{HasLooked, IsOfJournal, KeepsJournal}
 use Rattle.interleaving_core.specs.Waiting.{is_woken, queue_on, stays_waiting, wakes}
 use Rattle.interleaving_core.specs.Words.{Call, Caller, Entry, answer_of_call}
 use Rattle.interleaving_core.specs.Past.{entry_of}

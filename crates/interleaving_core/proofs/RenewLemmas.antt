@@ -1,12 +1,11 @@
 -- What is done with a kernel between calls leaves it whole.
-use Rattle.std.proofs.Common.{ℕ, zero, suc, ◌≡◌, ◌≢◌, ◌↔◌, ◌+◌, ◌-◌, ◌≤◌, ◌<◌, ◌++◌, refl, sym, ap, ◌∙◌, subst, inl, inr, Bool, true, false, not, ◌&&◌, IsSome, List, [], ◌∷◌, Option, Some, None, append-nil, drop, length, slice_get, slice_index_or, slice_set, map, option_map, take, arith}
-use Rattle.std.specs.Prelude.{Err, IsErrOf, IsTrue, Result, sum_by}
-use Rattle.std.specs.Bool.{then_some}
+use Rattle.std.proofs.Common.{ℕ, zero, suc, ◌≡◌, ◌+◌, ◌-◌, ◌≤◌, ◌<◌, ◌++◌, refl, sym, ap, ◌∙◌, subst, inl, inr, Bool, true, false, IsSome, List, [], ◌∷◌, Option, Some, None, append-nil, drop, length, slice_get, slice_index_or, slice_set, map, option_map, take, arith}
+use Rattle.std.specs.Prelude.{Err, IsErrOf, Result, sum_by}
 use Rattle.std.specs.List.{All}
 use Rattle.std.specs.Option.{is_some}
 use Rattle.std.proofs.Math.ListN.{drop_of_length-le, get_or-map}
 use Rattle.std.proofs.Math.Seq.{take-length}
-use Rattle.std.proofs.lemmas.Bool.{and_parts, cases_eq, cases_lt, true≢false}
+use Rattle.std.proofs.lemmas.Bool.{cases_eq, cases_lt}
 use Rattle.std.proofs.lemmas.List.{get_or_past, length-map, set-get_or, set-set}
 use Rattle.std.proofs.lemmas.List.Elements.{All-get_or}
 use Rattle.std.proofs.lemmas.Option.{get_or_from_slice_get, slice_get-get_or}
@@ -20,15 +19,13 @@ use Rattle.std.proofs.lemmas.List.Sums.{sum_by-cons}
 use Rattle.page_locks.proofs.ChangeLemmas.{with_row-own}
 use Rattle.xsi_calls.proofs.RowLemmas.{new_holds_nothing}
 use Rattle.xsi_calls.specs.Machine.{IsNew}
-use Rattle.interleaving_core.specs.Words.{Call, CallView, Caller, Entry, IsReady, IsSeat, Lock, PoolState, Table, answer_of_call, call_locks, caller_at, row_of, with_row}
-use Rattle.interleaving_core.specs.Active.{ActiveView, IsDrafted}
-use Rattle.interleaving_core.specs.Kernel.{IsCallOf, IsWhole, KernelState, call_at, due_at, locks_of, with_call}
+use Rattle.interleaving_core.specs.Words.{Call, CallView, Caller, Entry, IsReady, IsSeat, Lock, PoolState, Table, call_locks, caller_at, row_of, with_row}
+use Rattle.interleaving_core.specs.Active.{ActiveView}
+use Rattle.interleaving_core.specs.Kernel.{IsCallOf, IsWhole, KernelState, call_at, due_at, due_for_stop, locks_of, with_call}
 use Rattle.interleaving_core.specs.Past.{HasLooked, KeepsJournal, entry_of}
-use Rattle.interleaving_core.specs.Renewing.{FailsToRead, GivesBack, HasNone, HasNothing, IsBetweenCalls, IsIdleOrWaits, IsNewWhileWaiting, IsRead, IsWaiting, IsWithdrawn, KeepsCall, MayGiveBack, PoolFault, Withdraws, failure_of_pool, looks_anew, outlasting}
+use Rattle.interleaving_core.specs.Renewing.{FailsToRead, HasNothing, IsBetweenCalls, IsIdleOrWaits, IsNewWhileWaiting, IsRead, MayGiveBack, PoolFault, Withdraws, failure_of_pool, looks_anew, outlasting}
 use Rattle.interleaving_core.specs.Waiting.{stays_waiting}
-use Rattle.interleaving_core.specs.declared.active.Draft.{Draft}
-use Rattle.interleaving_core.specs.declared.fault.Failure.{Failure}
-use Rattle.interleaving_core.proofs.KernelLemmas.{as_many, its_row, seat_there, slot_here}
+use Rattle.interleaving_core.proofs.KernelLemmas.{its_row, seat_there, slot_here}
 use Rattle.interleaving_core.proofs.PlaceLemmas.{Seats, all_due, at_other, at_same, due_with, length-with_call, rows_with, stop_due, with_own, with_place}
 use Rattle.interleaving_core.proofs.TurnLemmas.{new_unanswered}
 
@@ -217,8 +214,9 @@ outlast_call : (journal : List Entry) (caller : Option Caller) (at : Option Acti
 outlast_call journal caller None is = tt
 outlast_call journal caller (Some a) is = is
 
-pub renewed_whole : {K : Type 0} (old : KernelState K) (room : ℕ) → IsWhole old → IsBetweenCalls old →
-    length old.seats + 1 ≤ room →
+-- where there is memory for the entries that are due
+renewed_whole : {K : Type 0} (old : KernelState K) (room : ℕ) → IsWhole old → IsBetweenCalls old →
+    sum_by due_at old.seats + due_for_stop old.stopped ≤ room →
     IsWhole (record old { seats = map (option_map (outlasting old.journal)) old.seats; journal = []; room = room })
 renewed_whole {K} old room whole rest more = record {
   ready = whole.ready;
@@ -227,11 +225,7 @@ renewed_whole {K} old room whole rest more = record {
   fitting = whole.fitting;
   calls = λ seat. subst (IsCallOf (caller_at old.callers seat)) (sym (outlast_at old.journal old.seats seat))
       (outlast_call old.journal (caller_at old.callers seat) (call_at old.seats seat) (whole.calls seat));
-  room =
-      let same = outlast_due old.journal old.seats in
-      let due = all_due old.seats in
-      let stop = stop_due old.stopped in
-      omega (arith, same, due, stop, more);
+  room = let same = outlast_due old.journal old.seats in omega (arith, same, more);
   few =
       let same = outlast_due old.journal old.seats in
       let had = whole.few in
@@ -254,11 +248,12 @@ lent goes xs ys zs n same is many =
     ∙ ap (take n) (append-nil zs) ∙ ap (λ (m : ℕ). take m zs) (many ∙ sym long) ∙ take-length zs ∙ is
     ∙ ap (map goes) same
 
-pub renewed_by : {K : Type 0} (old : KernelState K) (es left : List Entry) (ys zs : Seats) (n room : ℕ) →
-    IsWhole old → IsBetweenCalls old → es ≡ old.journal → left ≡ [] → ys ≡ old.seats →
-    zs ≡ map (option_map (outlasting es)) ys → n ≡ length old.seats → length old.seats + 1 ≤ room →
+by_due : {K : Type 0} (old : KernelState K) (es left : List Entry) (ys zs : Seats) (n room : ℕ) → IsWhole old →
+    IsBetweenCalls old → es ≡ old.journal → left ≡ [] → ys ≡ old.seats →
+    zs ≡ map (option_map (outlasting es)) ys → n ≡ length old.seats →
+    sum_by due_at old.seats + due_for_stop old.stopped ≤ room →
     IsWhole (record old { seats = take n (zs ++ drop (length zs) old.seats); journal = left; room = room })
-renewed_by old es left ys zs n room whole rest same none lends is many more =
+by_due old es left ys zs n room whole rest same none lends is many more =
     subst (λ (left : List Entry). IsWhole (record old {
       seats = take n (zs ++ drop (length zs) old.seats);
       journal = left;
@@ -268,6 +263,25 @@ renewed_by old es left ys zs n room whole rest same none lends is many more =
     (sym (lent (option_map (outlasting old.journal)) old.seats ys zs n lends
     (is ∙ ap (λ (js : List Entry). map (option_map (outlasting js)) ys) same) many))
     (renewed_whole old room whole rest more))
+
+-- by an empty journal with room for an entry of each seat, and of a stop
+pub renewed_by : {K : Type 0} (old : KernelState K) (es left : List Entry) (ys zs : Seats) (n room : ℕ) →
+    IsWhole old → IsBetweenCalls old → es ≡ old.journal → left ≡ [] → ys ≡ old.seats →
+    zs ≡ map (option_map (outlasting es)) ys → n ≡ length old.seats → length old.seats + 1 ≤ room →
+    IsWhole (record old { seats = take n (zs ++ drop (length zs) old.seats); journal = left; room = room })
+renewed_by old es left ys zs n room whole rest same none lends is many more =
+    let due = all_due old.seats in
+    let stop = stop_due old.stopped in
+    by_due old es left ys zs n room whole rest same none lends is many (omega (arith, due, stop, more))
+
+-- or by its own, of which the entries are gone
+pub forgotten_by : {K : Type 0} (old : KernelState K) (es left : List Entry) (ys zs : Seats) (n room : ℕ) →
+    IsWhole old → IsBetweenCalls old → es ≡ old.journal → left ≡ [] → ys ≡ old.seats →
+    zs ≡ map (option_map (outlasting es)) ys → n ≡ length old.seats → old.room ≤ room →
+    IsWhole (record old { seats = take n (zs ++ drop (length zs) old.seats); journal = left; room = room })
+forgotten_by old es left ys zs n room whole rest same none lends is many more =
+    let had = whole.room in
+    by_due old es left ys zs n room whole rest same none lends is many (omega (arith, had, more))
 
 -- ---- its pages
 

@@ -11,7 +11,7 @@ use Rattle.xsi_calls.specs.Machine.{IsNew, answer_by, conclusion_at}
 use Rattle.xsi_calls.specs.declared.conclusion.Conclusion.{Conclusion}
 use Rattle.xsi_calls.specs.declared.conclusion.Conclusion.TheVariants as conclusions
 use Rattle.xsi_calls.specs.Stages.{Stage}
-use Rattle.interleaving_core.specs.Words.{Answer, Call, CallView, Caller, Entry, IsOver, IsReady, PoolState, Progress, RecordKey, Roomful, Table, answer_of_call, call_locks, conclusion_of, row_of, with_row}
+use Rattle.interleaving_core.specs.Words.{Answer, Call, CallView, Caller, Entry, IsOver, IsReady, PoolState, Progress, RecordKey, Roomful, Table, answer_of_call, call_locks, conclusion_of, row_of, spared, with_row}
 use Rattle.queue_model.specs.Journal.{part_of}
 use Rattle.interleaving_core.specs.Active.{ActiveView, BeginsAgain, IsDrafted, decided_by, draft_by, drafted, entries_by, is_waiting}
 use Rattle.interleaving_core.specs.Kernel.{IsCallOf, due_at, locks_of}
@@ -31,6 +31,7 @@ pub record Does (seat : ℕ) (did : Step) (at left : Option ActiveView) (pool po
   pub ready : IsReady pool → IsReady pool'
   pub honest : pool'.honest ≡ pool.honest
   pub later : pool.faults ≤ pool'.faults
+  pub stored : spared pool' ≡ spared pool
   pub row : row_of locks seat ≡ locks_of at → locks' ≡ with_row locks seat (locks_of left)
   pub caller : (c : Option Caller) → IsCallOf c at → IsCallOf c left
   pub call : IsSome (call_of left) → call_of left ≡ call_of at
@@ -283,6 +284,7 @@ call_does hash seat stopped did a left pool pool' locks locks' journal journal' 
       ready = λ ready. t.makes.writes.ready;
       honest = t.makes.writes.honest;
       later = t.makes.writes.later;
+      stored = t.makes.writes.stored;
       row = λ row. t.makes.row ∙ ap (with_row locks seat) (sym leaves.locks);
       caller = λ c same. leaves.caller c (same ∙ ap (λ (y : Caller). Some y) (sym keeps.caller));
       call = λ some. leaves.call some ∙ ap (λ (y : Call). Some y) keeps.call;
@@ -312,6 +314,7 @@ idle_does seat did left pool pool' locks locks' journal journal' t = record {
   ready = λ ready. subst IsReady (sym t.same_pool) ready;
   honest = ap (λ (p : PoolState). p.honest) t.same_pool;
   later = let same = ap (λ (p : PoolState). p.faults) t.same_pool in omega (arith, same);
+  stored = ap spared t.same_pool;
   row = λ row. t.same_locks ∙ sym (with_row-own locks seat) ∙ ap (with_row locks seat) row
       ∙ ap (λ (x : Option ActiveView). with_row locks seat (locks_of x)) (sym t.left_is);
   caller = λ c same. subst (IsCallOf c) (sym t.left_is) tt;
@@ -336,6 +339,7 @@ waits_does seat did a left pool pool' locks locks' journal journal' stays t = re
   ready = λ ready. subst IsReady (sym t.same_pool) ready;
   honest = ap (λ (p : PoolState). p.honest) t.same_pool;
   later = let same = ap (λ (p : PoolState). p.faults) t.same_pool in omega (arith, same);
+  stored = ap spared t.same_pool;
   row = λ row. t.same_locks ∙ sym (with_row-own locks seat) ∙ ap (with_row locks seat) row
       ∙ ap (λ (x : Option ActiveView). with_row locks seat (locks_of x)) (sym t.left_is);
   caller = λ c same. subst (IsCallOf c) (sym t.left_is) same;

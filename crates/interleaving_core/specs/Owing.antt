@@ -5,7 +5,7 @@ use Rattle.file_pages.specs.declared.fault.FileFault.TheVariants.{Failed}
 use Rattle.queue_model.specs.Journal.{part_of}
 use Rattle.step_rules.specs.declared.kind.Kind.TheVariants.{Decide}
 pub use Rattle.interleaving_core.specs.Past.{call_of, entry_of, untold}
-use Rattle.interleaving_core.specs.Words.{Answer, Entry, with_row}
+use Rattle.interleaving_core.specs.Words.{Answer, Entry, spared, with_row}
 use Rattle.interleaving_core.specs.Active.{ActiveView}
 use Rattle.interleaving_core.specs.Waiting.{is_woken}
 use Rattle.interleaving_core.specs.declared.fault.Failure.{Failure}
@@ -75,13 +75,14 @@ abbrev pub told_of_failure : Option ActiveView → Step
 told_of_failure None = steps.Idle
 told_of_failure (Some a) = failed
 
--- what no step changes
+-- what no step changes; nor, where there is a frame for each page, what the device has
 pub record KeepsRest {K : Type 0} (old new : KernelState K) : Type 0 where
   pub keys : new.keys ≡ old.keys
   pub callers : new.callers ≡ old.callers
   pub stopped : new.stopped ≡ old.stopped
   pub honest : new.pool.honest ≡ old.pool.honest
   pub later : old.pool.faults ≤ new.pool.faults
+  pub stored : spared new.pool ≡ spared old.pool
 
 -- steps of one seat, in which it was told this answer, or none
 pub record IsRun {K : Type 0} (seat : ℕ) (answer : Option Answer) (old new : KernelState K) : Type 0 where

@@ -1,6 +1,6 @@
 -- What is done with a kernel between calls, so that it serves for long: a call is taken back, the journal is taken out,
 -- and the pages are written or read. docs/STEPS.md, "Calls"; docs/QUEUES.md, "Journals".
-use Rattle.std.specs.Prelude.{ℕ, ◌≡◌, ◌≢◌, ◌≤◌, Bool, true, false, if◌then◌else◌, IsSome, IsTrue, List, [], Option, Some, None, Result, Ok, Err, map, option_map, ⊤}
+use Rattle.std.specs.Prelude.{ℕ, ◌≡◌, ◌≢◌, ◌≤◌, Bool, true, false, IsSome, IsTrue, List, [], Option, Some, None, Result, Ok, Err, map, option_map, ⊤}
 use Rattle.std.specs.List.{All}
 use Rattle.page_device.specs.Device.{HasRisen}
 use Rattle.page_device.specs.Sealed.{IsSealed, payload_of}

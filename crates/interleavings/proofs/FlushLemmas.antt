@@ -29,7 +29,7 @@ use Rattle.interleavings.proofs.RenewLemmas.{taken_back}
 -- ---- calls that wait are taken back, one by one
 
 -- the first so many seats have none
-cleared : ℕ → List (Option ActiveView) → List (Option ActiveView)
+abbrev cleared : ℕ → List (Option ActiveView) → List (Option ActiveView)
 cleared zero seats = seats
 cleared (suc n) seats = with_call (cleared n seats) (suc n) None
 
@@ -176,8 +176,8 @@ module _ (hash : RecordKey → ℕ) (s : State) (seats : Seats) (old new : PoolS
 
 -- and the calls that wait begin again, one by one
 module _ (begins : BeginTogether) (hash : RecordKey → ℕ) (s : State) (seats : List (Option ActiveView))
-    (old new : PoolState) (locks : Table) (change : Change) (before : AreTogetherIn hash s (calls_of seats) old locks change)
-    (all : All IsIdleOrWaits seats) where
+    (old new : PoolState) (locks : Table) (change : Change)
+    (before : AreTogetherIn hash s (calls_of seats) old locks change) (all : All IsIdleOrWaits seats) where
   next_begun : (n : ℕ) (o : Option ActiveView) → call_at (cleared n seats) (suc n) ≡ o → suc n ≤ length seats →
       AreTogetherIn hash s (calls_of (cleared (suc n) seats)) new locks change →
       AreTogetherIn hash s (calls_of (cleared n seats)) new locks change
@@ -191,7 +191,8 @@ module _ (begins : BeginTogether) (hash : RecordKey → ℕ) (s : State) (seats 
       a.machine at (before.together.calls (suc n)) in
       let begun = begins hash (suc n) a.machine.caller a.machine.call s a.machine (calls_of (cleared (suc n) seats))
       (calls_of (cleared n seats)) new locks t.together
-      (ap machine (none_next n seats within)) fits.caller_fits fits.call_fits (record { caller_is = refl; call_is = refl; new = waits.new })
+      (ap machine (none_next n seats within)) fits.caller_fits fits.call_fits
+      (record { caller_is = refl; call_is = refl; new = waits.new })
       (ap machine there) (λ other apart. ap machine (sym (at_other (cleared n seats) (suc n) other None apart))) in
       record { together = begun.together; phase = begun.phase ∙ t.phase }
 
@@ -226,8 +227,8 @@ module _ (begins : BeginTogether) {K : Type 0} (hash : RecordKey → ℕ) (base 
     seated = led.seated;
     sits = led.sits;
     together = λ sound. (counted_in hash led.now (record old { pool = new.pool }) was.calls.change together_still
-        was.phase (λ seat some within. subst (λ (is : List (List ℕ)). IsCounted seat (facts_of (calls_of old.seats seat))
-        (count_at old.searches.counts seat) (world is old.locks was.calls.change))
+        was.phase (λ seat some within. subst (λ (is : List (List ℕ)). IsCounted seat
+        (facts_of (calls_of old.seats seat)) (count_at old.searches.counts seat) (world is old.locks was.calls.change))
         (sym (kept.keeps.images was.calls.honest)) (was.counted seat some within))).all;
   }
 

@@ -179,12 +179,14 @@ renews_led K hash base taken old new led renewed =
     ap (λ (es : List Entry). after old.callers es base) renewed.taken_is
     ∙ after-LeadsAlong old.callers old.journal base led.now led.leads in
     record {
-      led = subst (λ (s : State). Refines hash s new) (sym same) (subst (Refines hash led.now) (sym renewed.is) led_anew);
+      led = subst (λ (s : State). Refines hash s new) (sym same)
+          (subst (Refines hash led.now) (sym renewed.is) led_anew);
       lawful = λ lawful. subst IsLawful (sym same)
           (IsLawful-LeadsAlong old.callers old.journal base led.now lawful led.leads);
     }
   where
-    led_anew : Refines hash led.now (anew hash led.now old new.room)
+    led_anew : Refines hash led.now
+        (record old { seats = outlast old.journal old.seats; journal = []; room = new.room })
     led_anew = record {
       now = led.now;
       leads = refl;

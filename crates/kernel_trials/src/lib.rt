@@ -32,6 +32,8 @@ mod playing;
 #[cfg(test)]
 mod racing;
 #[cfg(test)]
+mod renewing;
+#[cfg(test)]
 mod rows;
 #[cfg(test)]
 mod scripts;

@@ -6,12 +6,13 @@ ghost use Rattle.directory.specs.declared.layout.TheConstants.{LEAST_PAGES};
 ghost use Rattle.page_device.specs.declared.page.TheConstants.{MAX_PAGES};
 ghost use Rattle.migration_runs.specs.Printing.{HasSize, IsDoneOrFault, deed_of};
 
+use crate::unmade::complain_of_unmade;
 use bucket_page::ShaKey;
 use directory::{LAYOUT, Layout, OLDER_LAYOUT, layouts_are_right};
-use migration::{Copied, CopyFault, Target, copy, migrated_pages};
+use migration::{Copied, CopyFault, MakingFault, Target, copy, migrated_pages};
 use msgq_cli::{
-    Deed, Ending, Failure, Heard, Output, Progress, Shown, Stage, advise, complain, create_file,
-    fail, open_to_read, print_deed, remove_made, warn_of_journal,
+    Deed, Ending, Failure, Heard, Output, Progress, Shown, Stage, advise, complain_of_fault,
+    create_file, fail, open_to_read, print_deed, remove_made, warn_of_journal,
 };
 use page_device::{FileDevice, PageDevice, SystemFile};
 use queue_model::System;
@@ -109,6 +110,7 @@ where
         }
     };
     let Ok((heard, refusal)) = Heard::new(rt.alloc(), SystemFile::new(made)) else {
+        complain_of_unmade(new, MakingFault::NoMemory, None, errors);
         remove_made(rt, new, errors);
         return fail(Stage::Making, faults::NO_MEMORY, output);
     };
@@ -166,31 +168,25 @@ where
     E: Write,
 {
     let CopyRequest { old, new, size } = request;
-    match (fault, refusal) {
-        (CopyFault::Old(fault), _) => {
-            let what = match size {
-                Size::Migrated => "it can't be migrated",
-                Size::Pages(_) => "it can't be copied",
-            };
-            if size == Size::Migrated && fault.number() == faults::BAD_VERSION {
-                complain(old, what, "it is not of version 1", errors);
-                return Stage::Checking;
-            }
-            complain(old, what, fault, errors);
-            let failure = Failure {
-                stage: Stage::Checking,
-                fault: fault.number(),
-            };
-            advise(rt, old, Ending::Failed(failure), errors);
-            Stage::Checking
+    let fault = match fault {
+        CopyFault::Old(fault) => fault,
+        CopyFault::New(fault) => return complain_of_unmade(new, fault, refusal, errors),
+    };
+    let number = fault.number();
+    let stage = Stage::Checking;
+    match size {
+        Size::Migrated if number == faults::BAD_VERSION => {
+            let why = "it is not of version 1";
+            complain_of_fault(old, "it can't be migrated", number, why, errors);
+            return stage;
         }
-        (CopyFault::New(_), Some(error)) => {
-            complain(new, "it can't be made", &error, errors);
-            Stage::Making
-        }
-        (CopyFault::New(fault), None) => {
-            complain(new, "it can't be made", fault, errors);
-            Stage::Making
-        }
+        Size::Migrated => complain_of_fault(old, "it can't be migrated", number, fault, errors),
+        Size::Pages(_) => complain_of_fault(old, "it can't be copied", number, fault, errors),
     }
+    let failure = Failure {
+        stage,
+        fault: number,
+    };
+    advise(rt, old, Ending::Failed(failure), errors);
+    stage
 }

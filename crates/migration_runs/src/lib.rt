@@ -4,6 +4,7 @@
 
 mod copies;
 mod salvages;
+mod unmade;
 
 pub use copies::{CopyRequest, Size, copy_file};
 pub use msgq_cli;

@@ -9,10 +9,11 @@ ghost use Rattle.msgq_cli.specs.Tasks.{IsFileSize};
 ghost use Rattle.msgq_cli.specs.declared.reports.Deed.TheVariants as deeds;
 ghost use Rattle.migration_runs.specs.Printing.{IsSalvagedOrFault, unread_texts};
 
+use crate::unmade::complain_of_unmade;
 use bucket_page::ShaKey;
-use migration::Target;
+use migration::{MakingFault, Target};
 use msgq_cli::{
-    Deed, Ending, Failure, Heard, Output, Plain, Progress, Shown, Stage, advise, complain,
+    Deed, Ending, Failure, Heard, Output, Plain, Progress, Shown, Stage, advise, complain_of_fault,
     create_file, fail, print_deed, print_unread, remove_made, warn_of_journal,
 };
 use page_device::{FileDevice, MAX_PAGES, PAGE_BYTES, PageDevice, SystemFile};
@@ -64,6 +65,7 @@ where
         return fail(Stage::Opening, faults::DEVICE, output);
     };
     let Ok((heard, refusal)) = Heard::new(rt.alloc(), SystemFile::new(made)) else {
+        complain_of_unmade(new, MakingFault::NoMemory, None, errors);
         remove_made(rt, new, errors);
         return fail(Stage::Making, faults::NO_MEMORY, output);
     };
@@ -91,10 +93,11 @@ where
     R: Files<File = File>,
     E: Write,
 {
+    let what = "it can't be opened";
     match pages_of(rt, file) {
         Ok(Some(device)) => return Some(device),
-        Ok(None) => complain(file, "it can't be opened", "it is no file", errors),
-        Err(error) => complain(file, "it can't be opened", &error, errors),
+        Ok(None) => complain_of_fault(file, what, faults::DEVICE, "it is no file", errors),
+        Err(error) => complain_of_fault(file, what, faults::DEVICE, &error, errors),
     }
     None
 }
@@ -215,20 +218,17 @@ where
     E: Write,
 {
     let SalvageRequest { old, new, pages: _ } = request;
-    let SalvageFault::New(fault) = fault else {
-        complain(old, "nothing can be salvaged", fault, errors);
+    if let SalvageFault::New(fault) = fault {
+        return complain_of_unmade(new, fault, refusal, errors);
+    }
+    let number = fault.number();
+    complain_of_fault(old, "nothing can be salvaged", number, fault, errors);
+    if fault == SalvageFault::BadVersion {
         let failure = Failure {
             stage: Stage::Checking,
-            fault: fault.number(),
+            fault: number,
         };
-        if fault == SalvageFault::BadVersion {
-            advise(rt, old, Ending::Failed(failure), errors);
-        }
-        return Stage::Checking;
-    };
-    match refusal {
-        Some(error) => complain(new, "it can't be made", &error, errors),
-        None => complain(new, "it can't be made", fault, errors),
+        advise(rt, old, Ending::Failed(failure), errors);
     }
-    Stage::Making
+    Stage::Checking
 }

@@ -3,110 +3,50 @@
 
 #![tactic(auto)]
 
+mod fixed;
+mod input;
+mod shell;
+mod trouble;
+
 use clap::Error;
 use clap::error::ErrorKind;
-use migration_runs::{CopyRequest, SalvageRequest, Size, copy_file, salvage_file};
-use script_runs::msgq_cli::{
-    Output, Task, advise, complain, complain_of_lines, new_file, print_fault, read_command_line,
-    report_file,
-};
-use script_runs::replays::{Sources, replay_file};
-use script_runs::{run_file, serve};
+use command_words::read_command;
+use fixed::fixed;
+use script_runs::msgq_cli::{Output, print_fault, read_command_line};
+use shell::shell;
 use std::fs::{File, OpenOptions};
 use std::io;
 use std::io::{BufWriter, Write};
 use std::os::fd::{AsRawFd, RawFd};
 use std::process::ExitCode;
 
-/// What faults of lines are told of, where a script is run without a file.
-const MEMORY: &str = "the file in memory";
-
 fn main(rt: HostRuntime) -> ExitCode {
     let alloc = rt.alloc();
     let _input = hold(&rt, 0);
     let _output = hold(&rt, 1);
     let _errors = hold(&rt, 2);
-    let Ok(writer) = BufWriter::new(alloc, io::writer(&rt)) else {
-        return without_memory(&rt);
-    };
-    let mut output = Output::new(writer);
-    let mut errors = rt.stderr();
     let words = match words(&rt) {
         Ok(words) => words,
         Err(error) if error.kind() == io::ErrorKind::OutOfMemory => return without_memory(&rt),
         Err(_) => {
-            let _ = writeln!(errors, "msgq: a word of the command line is not UTF-8");
+            let _ = writeln!(rt.stderr(), "msgq: a word of the command line is not UTF-8");
             return ExitCode::from(2);
         }
     };
-    let task = read_command_line(alloc, words.as_slice());
-    // These two say themselves what became of their file.
-    let is_run = matches!(&task, Ok(Task::Run { .. } | Task::Replay { .. }));
-    let ending = match task {
-        Ok(Task::Serve) => {
-            let ending = serve(alloc, &mut rt.reader(), &mut output, &mut errors);
-            complain_of_lines(MEMORY, None, &output, &mut errors);
-            ending
-        }
-        Ok(Task::New { file, pages }) => new_file(&rt, file, pages, &mut output, &mut errors),
-        Ok(Task::Run { file, script }) => {
-            let ending = run_file(&rt, file, script, &mut output, &mut errors);
-            advise(&rt, file.path, ending, &mut errors);
-            ending
-        }
-        Ok(
-            Task::Replay {
-                file,
-                script,
-                schedule,
-            },
-        ) => {
-            let sources = Sources {
-                file,
-                script,
-                schedule,
-            };
-            let ending = replay_file(&rt, sources, &mut output, &mut errors);
-            advise(&rt, file.path, ending, &mut errors);
-            ending
-        }
-        Ok(Task::Migrate { old, new }) => {
-            let size = Size::Migrated;
-            copy_file(
-                &rt,
-                CopyRequest { old, new, size },
-                &mut output,
-                &mut errors,
-            )
-        }
-        Ok(Task::Copy { old, new, pages }) => {
-            let size = Size::Pages(pages);
-            copy_file(
-                &rt,
-                CopyRequest { old, new, size },
-                &mut output,
-                &mut errors,
-            )
-        }
-        Ok(Task::Salvage { old, new, pages }) => {
-            let request = SalvageRequest { old, new, pages };
-            salvage_file(&rt, request, &mut output, &mut errors)
-        }
-        Ok(Task::Report(request)) => {
-            let ending = report_file(&rt, request, &mut output, &mut errors);
-            advise(&rt, request.file, ending, &mut errors);
-            ending
-        }
-        Err(error) if error.kind() == ErrorKind::OutOfMemory => return without_memory(&rt),
+    match read_command(alloc, words.as_slice()) {
+        Ok(Some(task)) => return ExitCode::from(shell(&rt, &task).number()),
+        Ok(None) => {}
+        Err(error) => return tell(&rt, error),
+    }
+    let task = match read_command_line(alloc, words.as_slice()) {
+        Ok(task) => task,
         Err(error) => return tell(&rt, error),
     };
-    output.flush();
-    if let Some(error) = output.refusal() {
-        if !is_run {
-            complain("standard output", "it can't be written", error, &mut errors);
-        }
-    }
-    ExitCode::from(ending.status(output.has_refused()))
+    let Ok(writer) = BufWriter::new(alloc, io::writer(&rt)) else {
+        return without_memory(&rt);
+    };
+    let mut output = Output::new(writer);
+    ExitCode::from(fixed(&rt, task, &mut output, &mut rt.stderr()))
 }
 
 /// Takes the place of a standard stream that is closed, so that no file which is opened later gets
@@ -129,8 +69,12 @@ fn words(rt: &HostRuntime) -> io::Result<Vec<String>> {
     Ok(std::env::args(rt)?.collect(rt.alloc())?)
 }
 
-/// Shows help or the version, or says what is wrong with the command line.
+/// Shows help or the version, or says what is wrong with the command line, or that there was no memory
+/// to read it.
 fn tell(rt: &HostRuntime, text: Error) -> ExitCode {
+    if text.kind() == ErrorKind::OutOfMemory {
+        return without_memory(rt);
+    }
     if !text.use_stderr() {
         return match text.print(rt) {
             Ok(()) => ExitCode::SUCCESS,

@@ -1,3 +1,4 @@
+pub mod LineLemmas
 pub mod OutputLemmas
 pub mod ReportLemmas
 pub mod ScriptLemmas

@@ -3,7 +3,7 @@ use Rattle.std.proofs.Common.{◌≡◌, ℕ, Bool, true, false, List, [], ◌�
 use Rattle.std.proofs.lemmas.List.{take_rest, take_more, map-append}
 use Rattle.std.proofs.KnownBytes.{Appends-nil, Appends-trans, Appends-kept}
 use Rattle.std.specs.Io.KnownBytes.{Appends, Keeps}
-use Rattle.hex.specs.Hex.{encode_with}
+use Rattle.hex.specs.Hex.{encode_with, encode_lower, lower_digits}
 use Rattle.msgq_cli.specs.Answers.{line_of}
 use Rattle.msgq_cli.specs.Outputs.{OutputState, Takes, Prints, PrintsOn}
 
@@ -101,20 +101,34 @@ encode-append digits [] ys = refl
 encode-append digits (x ∷ xs) ys =
     ap (λ l. slice_index digits (x / 16) ∷ slice_index digits (x % 16) ∷ l) (encode-append digits xs ys)
 
--- no digits of no bytes
-pub Prints-no_digits : (o : OutputState) (digits : List ℕ) → Prints o o (encode_with digits [])
-unfolding encode_with
-Prints-no_digits o digits = Prints-nil o
+-- the digits of the beginning of some bytes are printed, and the rest is left
+pub record IsSpelling (old now : OutputState) (bytes rest : List ℕ) : Type 0 where
+  pub spelled : List ℕ
+  pub parts : bytes ≡ spelled ++ rest
+  pub prints : Prints old now (encode_lower spelled)
 
--- the digits of one byte more
-pub Prints-digits : (a b c : OutputState) (digits bytes : List ℕ) (i : ℕ) (d : ℕ) → i < length bytes
-    → Prints a b (encode_with digits (take i bytes)) → Prints b c (encode_with digits (get_or bytes i d ∷ []))
-    → Prints a c (encode_with digits (take (i + 1) bytes))
-Prints-digits a b c digits bytes i d below before more =
-    subst (Prints a c)
-    (sym (ap (λ l. encode_with digits l) (take_more bytes i d below)
-    ∙ encode-append digits (take i bytes) (get_or bytes i d ∷ [])))
-    (Prints-then a b c _ _ before more)
+-- none is printed yet
+pub IsSpelling-none : (o : OutputState) (bytes rest : List ℕ) → rest ≡ bytes → IsSpelling o o bytes rest
+unfolding encode_with
+IsSpelling-none o bytes rest all = record { spelled = []; parts = sym all; prints = Prints-nil o }
+
+-- those of a block more
+pub IsSpelling-more : (old mid new : OutputState) (bytes rest block after : List ℕ) → IsSpelling old mid bytes rest
+    → rest ≡ block ++ after → Prints mid new (encode_lower block) → IsSpelling old new bytes after
+IsSpelling-more old mid new bytes rest block after before cut more = record {
+  spelled = before.spelled ++ block;
+  parts = before.parts ∙ ap (λ l. before.spelled ++ l) cut ∙ sym (append_assoc before.spelled block after);
+  prints =
+      subst (Prints old new) (sym (encode-append lower_digits before.spelled block))
+      (Prints-then old mid new _ _ before.prints more);
+}
+
+-- none is left
+pub IsSpelling-all : (old new : OutputState) (bytes rest : List ℕ) → IsSpelling old new bytes rest → rest ≡ []
+    → Prints old new (encode_lower bytes)
+IsSpelling-all old new bytes rest spells none =
+    subst (λ l. Prints old new (encode_lower l))
+    (sym (spells.parts ∙ ap (λ l. spells.spelled ++ l) none ∙ append-nil spells.spelled)) spells.prints
 
 -- words with a space (32) before each
 abbrev pub spaced : List (List ℕ) → List ℕ

@@ -1,7 +1,9 @@
 -- Lines taken off a text one by one.
-use Rattle.std.proofs.Common.{◌≡◌, ℕ, zero, suc, ◌<◌, ◌+◌, min, ◌==◌, Bool, true, false, cond, List, [], ◌∷◌, ◌++◌, length, get_or, Some, None, Result, Err, refl, sym, arith}
+use Rattle.std.proofs.Common.{◌≡◌, ℕ, zero, suc, ◌<◌, ◌+◌, min, ◌==◌, Bool, true, false, cond, List, [], ◌∷◌, ◌++◌, length, take, drop, get_or, Some, None, Result, Err, refl, sym, ap, ◌∙◌, arith, take-append-drop, length-take}
 use Rattle.std.proofs.lemmas.List.{length-append}
+use Rattle.std.proofs.lemmas.Int.{clamps}
 use Rattle.std.specs.List.{onto_first}
+use Rattle.memchr.specs.Find.{IsFirstByte, is_byte}
 use Rattle.msgq_cli.specs.Lines.{lines_of}
 use Rattle.msgq_cli.specs.Scripts.{Parts, with_line, script_from}
 
@@ -45,12 +47,38 @@ first_line (b ∷ y) t i ends = by_end (b == 10) refl i ends (first_line y t)
           at = λ below. ends.at (omega arith);
         }))
 
+-- what is taken up to the first LF, or of the whole text, is the first line
+pub taken_line : (text : List ℕ) (i n : ℕ) → 0 < length text → n ≡ min (i + 1) (length text)
+    → ((k : ℕ) → k < i → (get_or text k 0 == 10) ≡ false) → (i < length text → (get_or text i 0 == 10) ≡ true)
+    → lines_of text ≡ take n text ∷ lines_of (drop n text)
+taken_line text i n some is before at =
+    let parts : take n text ++ drop n text ≡ text = take-append-drop n text in
+    let line = first_line (take n text) (drop n text) i (record {
+      long = rw parts (omega (arith, clamps, is, length-take n text));
+      some = rw parts some;
+      before = rw parts before;
+      at = rw parts at;
+    }) in
+    ap lines_of (sym parts) ∙ line
+
+not_true : (b : Bool) → ¬ (b ≡ true) → b ≡ false
+not_true true fails = absurd (fails refl)
+not_true false fails = refl
+
+pub line_to : (text : List ℕ) (end : ℕ) → IsFirstByte (is_byte 10) text (Some end)
+    → lines_of text ≡ take (end + 1) text ∷ lines_of (drop (end + 1) text)
+line_to text end first =
+    let below = first.0.high in
+    taken_line text end (end + 1) (omega (arith, below)) (omega (arith, clamps, below))
+    (λ k before. not_true (get_or text k 0 == 10) (first.0.before k (omega arith) before)) (λ _. first.1)
+
+pub line_of_all : (text : List ℕ) → 0 < length text → IsFirstByte (is_byte 10) text None
+    → lines_of text ≡ take (length text) text ∷ lines_of (drop (length text) text)
+line_of_all text some none =
+    taken_line text (length text) (length text) some (omega (arith, clamps))
+    (λ k before. not_true (get_or text k 0 == 10) (none k (omega arith) before)) (λ below. absurd (omega (arith, below)))
+
 -- the reading goes on behind a line that adds to the script
 pub read_on : (n : ℕ) (s t : Parts) (line : List ℕ) (lines : List (List ℕ)) (whole : Result Parts ℕ)
     → script_from n s (line ∷ lines) ≡ whole → with_line n s line ≡ Some t → script_from (n + 1) t lines ≡ whole
 read_on n s t line lines whole goes adds = rw adds at goes
-
--- the reading ends at a wrong line
-pub read_ends : (n : ℕ) (s : Parts) (line : List ℕ) (lines : List (List ℕ)) (whole : Result Parts ℕ)
-    → script_from n s (line ∷ lines) ≡ whole → with_line n s line ≡ None → whole ≡ Err n
-read_ends n s line lines whole goes wrong = sym (rw wrong at goes)

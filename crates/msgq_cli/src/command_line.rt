@@ -110,7 +110,7 @@ pub fn read_command_line<'a>(alloc: Global, words: &'a [String]) -> Result<Task<
     ensures pages { IfOk result HasPages }
     ensures input { IfOk result ReadsInputOnce }
 {
-    let matches = command(alloc)?.try_get_matches_from(words)?;
+    let matches = program(alloc)?.try_get_matches_from(words)?;
     let Some((name, arguments)) = matches.subcommand() else {
         return Ok(Task::Serve);
     };
@@ -190,7 +190,7 @@ fn no_pages(alloc: Global, name: &str, word: &str) -> Result<Error, AllocError> 
 }
 
 /// The number of pages that a word asks for, where a file can have so many.
-fn pages(word: &[u8]) -> Option<u32>
+pub fn pages(word: &[u8]) -> Option<u32>
     ensures value { result ≡ pages_of word.now }
     ensures within { IfSome result IsFileSize }
 {
@@ -202,8 +202,8 @@ fn pages(word: &[u8]) -> Option<u32>
     }
 }
 
-/// What the command line may say.
-fn command<'a>(alloc: Global) -> Result<Command<'a>, AllocError> {
+/// What the command line may say, to which more commands can be added.
+pub fn program<'a>(alloc: Global) -> Result<Command<'a>, AllocError> {
     let new = new_command(alloc)?;
     let run = run_command(alloc)?;
     let replay = replay_command(alloc)?;

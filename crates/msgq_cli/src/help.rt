@@ -13,8 +13,11 @@ Exit status:
   1  a fault was printed, or standard output refused a write
   2  the command line, the script or the schedule is wrong, and nothing was run; standard error says
      what is wrong
+  3  of send, receive and peek: there is no message, or no room
+  4  of send to set: any other refusal, which standard error names
 
-Scripts and schedules: docs/SCRIPTS.md, with examples in examples/. Faults: docs/FAULTS.md.";
+Scripts and schedules: docs/SCRIPTS.md, with examples in examples/. Commands from a shell, send to
+set: docs/SHELL.md. Faults: docs/FAULTS.md.";
 
 /// After the help of `new`.
 pub(crate) const NEW_PRINTS: &str = "\

@@ -29,7 +29,7 @@ mod script;
 pub use advice::advise;
 pub use checks::{check_on, print_found, report_file, warn_of_journal};
 pub use command::{Command, DEFAULT_MODE};
-pub use command_line::{Task, read_command_line};
+pub use command_line::{Task, pages, program, read_command_line};
 pub use complaint::{
     complain, complain_of, complain_of_fault, complain_of_lines, complain_of_refused, print_word,
 };

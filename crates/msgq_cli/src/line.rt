@@ -1,7 +1,7 @@
 //! The lines of a script, each by itself.
 
-ghost use Rattle.std.specs.Prelude.{◌≡◌, IfOk, nat_lt};
-ghost use Rattle.std.specs.List.{list_all};
+ghost use Rattle.std.specs.Prelude.{◌≡◌, IfOk, max, nat_lt};
+ghost use Rattle.std.specs.List.{fold, list_all};
 ghost use Rattle.std.specs.Option.{option_copied};
 ghost use Rattle.msgq_cli.specs.Lines.{HasSeat, text_of, ids_of, worded, content_of};
 ghost use Rattle.msgq_cli.specs.Unread.{IsRead};
@@ -71,11 +71,19 @@ pub(crate) fn text(line: &[u8]) -> Option<&[u8]>
     }
 }
 
-/// Whether all bytes are below 128.
+/// Whether all bytes are below 128. All are looked at, so that sixteen are tested at a time.
 fn is_ascii(text: &[u8]) -> bool
     ensures { result ≡ list_all (λ byte. nat_lt byte 128) text.now }
 {
-    text.iter().all(|byte| *byte < 128)
+    greatest(text) < 128
+}
+
+/// The greatest byte, or 0.
+fn greatest(text: &[u8]) -> u8
+    ensures { result ≡ fold (λ greatest byte. max greatest byte) 0 text.now }
+{
+    text.iter()
+        .fold(0, |greatest: u8, byte| greatest.max(*byte))
 }
 
 /// What the words of a line say.

@@ -11,6 +11,9 @@ use crate::output::Output;
 use itoa::Buffer;
 use std::io::Write;
 
+/// How many bytes of a body are spelled at a time.
+const BLOCK: usize = 32;
+
 /// A word of a printed line.
 #[derive(Clone, Copy)]
 pub(crate) enum PrintedWord<'a> {
@@ -76,14 +79,15 @@ impl<W: Write + Drop> Output<W> {
         self.digits(body);
     }
 
-    /// Prints two hexadecimal digits for each byte.
+    /// Prints two hexadecimal digits for each byte, those of a block at a time.
     fn digits(&mut self, bytes: &[u8])
         ensures { Prints self.old self.new (encode_lower bytes.now) }
     {
-        for byte in bytes {
-            let mut digits = [0; 2];
-            hex::encode_to_slice([*byte], &mut digits).unwrap();
-            self.put(&digits);
+        let mut room = [0; 2 * BLOCK];
+        for block in bytes.chunks(BLOCK) {
+            let digits = &mut room[..2 * block.len()];
+            hex::encode_to_slice(block, digits).unwrap();
+            self.put(digits);
         }
     }
 

@@ -1,14 +1,16 @@
 //! Scripts.
 
-ghost use Rattle.std.specs.Prelude.{◌≡◌, OnOk, IsErrOf, None, Some};
+ghost use Rattle.std.specs.Prelude.{◌≡◌, ◌<◌, ◌≤◌, ◌∷◌, length, take, drop, OnOk, IsErrOf, None, Some};
 ghost use Rattle.std.specs.List.{list_any, find};
 ghost use Rattle.std.specs.Option.{option_copied};
+ghost use Rattle.msgq_cli.specs.Lines.{lines_of};
 ghost use Rattle.msgq_cli.specs.Scripts.{empty_script, with_line, script_of, Reads, IsSound};
 ghost use Rattle.msgq_cli.specs.declared.mistake.Mistake.{Mistake};
 ghost use Rattle.msgq_cli.specs.Scripts.{caller_of, is_of_seat, greatest_seat};
 
 use crate::line::{Content, Line, SeatIds, read_content};
 use crate::mistake::{Mistake, Unread};
+use memchr::memchr;
 use queue_model::Caller;
 use std::alloc::Global;
 use std::marker::Model;
@@ -53,7 +55,9 @@ pub fn read_script(alloc: Global, bytes: &[u8]) -> Result<Script, ScriptError>
 {
     let mut script = Script::empty(alloc);
     let mut number = 0;
-    for line in bytes.split_inclusive(|&byte| byte == b'\n') {
+    let mut rest = bytes;
+    'lines: while !rest.is_empty() {
+        let (line, after) = rest.split_at(first_line_len(rest));
         number += 1;
         match script.add(alloc, number, line) {
             Ok(()) => {}
@@ -65,8 +69,22 @@ pub fn read_script(alloc: Global, bytes: &[u8]) -> Result<Script, ScriptError>
             }
             Err(Unread::NoMemory) => return Err(ScriptError::NoMemory),
         }
+        rest = after;
     }
     Ok(script)
+}
+
+/// How many bytes the first line of a text has, with its LF.
+fn first_line_len(text: &[u8]) -> usize
+    requires { 0 < length text.now }
+    ensures some { 0 < result }
+    ensures within { result ≤ length text.now }
+    ensures first { lines_of text.now ≡ take result text.now ∷ lines_of (drop result text.now) }
+{
+    match memchr(b'\n', text) {
+        Some(end) => end + 1,
+        None => text.len(),
+    }
 }
 
 impl Script {

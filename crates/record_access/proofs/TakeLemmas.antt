@@ -291,6 +291,7 @@ module _ {X : Type 0} (hash : RecordKey → ℕ) (seat : ℕ) (did : Progress Fi
       ready = t.reads.ready;
       honest = t.reads.honest ∙ op.writes.writes.honest;
       later = omega (arith, op.writes.writes.later, t.reads.later);
+      stored = t.reads.stored ∙ op.writes.writes.stored;
       file = λ honest done f. t.reads.file (honest_on honest) (subst IsTrue (sym well) refl)
           (op.writes.writes.file honest done f);
     };
@@ -333,6 +334,7 @@ module _ {X : Type 0} (hash : RecordKey → ℕ) (seat : ℕ) (did : Progress Fi
       ready = t.reads.ready;
       honest = t.reads.honest ∙ op.writes.writes.honest;
       later = omega (arith, op.writes.writes.later, t.reads.later);
+      stored = t.reads.stored ∙ op.writes.writes.stored;
       file = λ honest done f. absurd cc;
     };
     aim = record {

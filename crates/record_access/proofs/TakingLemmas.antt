@@ -229,4 +229,11 @@ module _ (o : RecordOperation) (links : Links) (old_bytes : List ℕ) (written :
 -- where nothing was read
 pub unread : (pool : PoolState) → IsReady pool → OnlyReads false pool pool
 unread pool ready =
-    record { ready = ready; honest = refl; later = omega arith; images = λ honest. refl; file = λ honest done f. f }
+    record {
+      ready = ready;
+      honest = refl;
+      later = omega arith;
+      stored = refl;
+      images = λ honest. refl;
+      file = λ honest done f. f;
+    }

@@ -20,13 +20,20 @@ use Rattle.record_file.proofs.WriteLemmas.{held_here, there, wrote}
 
 -- a read is as good as a write that changed nothing, and may come before one
 pub only_writes : (ok : Bool) (s t : PoolState) → OnlyReads ok s t → OnlyWrites ok s t
-only_writes ok s t r = record { ready = r.ready; honest = r.honest; later = r.later; file = r.file }
+only_writes ok s t r = record {
+  ready = r.ready;
+  honest = r.honest;
+  later = r.later;
+  stored = r.stored;
+  file = r.file;
+}
 
 pub writes_behind : (ok : Bool) (s t u : PoolState) → OnlyReads true s t → OnlyWrites ok t u → OnlyWrites ok s u
 writes_behind ok s t u r w = record {
   ready = w.ready;
   honest = w.honest ∙ r.honest;
   later = omega (arith, r.later, w.later);
+  stored = w.stored ∙ r.stored;
   file = λ honest done f. w.file (r.honest ∙ honest) done (r.file honest refl f);
 }
 

@@ -92,6 +92,7 @@ module _ (hash : RecordKey → ℕ) (seat : ℕ) (key : RecordKey) (k bytes : �
             ready = reads.ready;
             honest = reads.honest;
             later = reads.later;
+            stored = reads.stored;
             images = reads.images;
             file = λ honest fine. absurd cc;
           }))

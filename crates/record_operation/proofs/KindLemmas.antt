@@ -38,7 +38,13 @@ module _ (hash : RecordKey → ℕ) (seat : ℕ) (bytes : List ℕ) (did : Progr
       Makes (Find f) (Find f')
   find_makes f f' reads aim row progress step answer = record {
     writes = record {
-      writes = record { ready = reads.ready; honest = reads.honest; later = reads.later; file = reads.file };
+      writes = record {
+        ready = reads.ready;
+        honest = reads.honest;
+        later = reads.later;
+        stored = reads.stored;
+        file = reads.file;
+      };
       spares = reads.images;
     };
     aim = record {

@@ -2,11 +2,12 @@
 
 use crate::holder::{Holder, holder_of};
 use crate::system_pair::{Refused, SystemPair};
+use safe_device::page_device::{PAGE_BYTES, unseal};
 use safe_device::{PagePair, RecoveryFault, SafeDevice, recover};
 use std::alloc::AllocError;
 use std::fs::{File, Metadata, OpenOptions, Permissions, TryLockError};
 use std::io::{self, ErrorKind};
-use std::os::unix::fs::{MetadataExt, OpenOptionsExt, PermissionsExt, chown};
+use std::os::unix::fs::{FileExt, MetadataExt, OpenOptionsExt, PermissionsExt, chown};
 use std::rt::{Clock, Files};
 use std::time::{Duration, Instant};
 use std::{fs, thread};
@@ -51,6 +52,12 @@ pub enum OpenError {
     /// It does not hold whole pages.
     #[error("its length is no multiple of 4096, the bytes of a page")]
     NotWhole,
+    /// It has no page, and no journal stands beside it.
+    #[error("the file is cut")]
+    NoPage,
+    /// Its page 0 is none, and no journal stands beside it.
+    #[error("page 0 has a wrong digest")]
+    BadDigest,
     /// There is no memory.
     #[error("out of memory")]
     NoMemory,
@@ -66,7 +73,8 @@ impl OpenError {
     /// The number that a program prints.
     pub fn number(&self) -> u8 {
         match self {
-            OpenError::NotWhole => faults::PAST_END,
+            OpenError::NotWhole | OpenError::NoPage => faults::PAST_END,
+            OpenError::BadDigest => faults::BAD_DIGEST,
             OpenError::NoMemory => faults::NO_MEMORY,
             _ => faults::DEVICE,
         }
@@ -110,8 +118,9 @@ where
 /// Opens a file to change it, once what a session that was cut off has left is undone. Where another
 /// process has it open that is an error.
 ///
-/// Its journal stands beside it, and is made where there is none; who may not read the file may not
-/// read it. It is locked until the device is let go: no other process opens the file so meanwhile.
+/// Its journal stands beside it; who may not read the file may not read it. Where there is none it is
+/// made, but not beside a file that does not begin with a sealed page: that is refused. It is locked
+/// until the device is let go: no other process opens the file so meanwhile.
 pub fn open<R>(rt: &R, path: &str) -> Result<SafeDevice<SystemPair<File>>, OpenError>
 where
     R: Files<File = File> + AllocGlobal,
@@ -124,7 +133,7 @@ where
     let mut how = OpenOptions::new();
     how.read(true).write(true);
     let file = how.open(rt, path).map_err(Refused::File)?;
-    let journal = open_journal(rt, path, &file).map_err(Refused::Journal)?;
+    let journal = open_journal(rt, path, &file)?;
     match journal.try_lock() {
         Ok(()) => {}
         Err(TryLockError::WouldBlock) => return Err(OpenError::InUse(holder_of(rt, &journal))),
@@ -199,24 +208,55 @@ fn journal_of<R: Files + AllocGlobal>(rt: &R, path: &str) -> io::Result<String> 
     Ok(name)
 }
 
-/// The journal of a file, which is made where there is none.
-fn open_journal<R>(rt: &R, path: &str, file: &File) -> io::Result<File>
+/// The journal of a file, which is made where there is none and the file begins with a page.
+fn open_journal<R>(rt: &R, path: &str, file: &File) -> Result<File, OpenError>
 where
     R: Files<File = File> + AllocGlobal,
 {
-    let name = journal_of(rt, path)?;
-    match fs::symlink_metadata(rt, name.as_str()) {
-        Ok(found) => open_found(rt, name.as_str(), &found, file),
-        Err(error) if error.kind() == ErrorKind::NotFound => {
-            match make_journal(rt, name.as_str(), file) {
-                // Another process has made it meanwhile.
-                Err(error) if error.kind() == ErrorKind::AlreadyExists => {
-                    let found = fs::symlink_metadata(rt, name.as_str())?;
-                    open_found(rt, name.as_str(), &found, file)
-                }
-                made => made,
-            }
+    let name = journal_of(rt, path).map_err(Refused::Journal)?;
+    if let Some(journal) = find_journal(rt, name.as_str(), file).map_err(Refused::Journal)? {
+        return Ok(journal);
+    }
+    let tested = test_beginning(file);
+    if tested.is_ok() {
+        match make_journal(rt, name.as_str(), file) {
+            Err(error) if error.kind() == ErrorKind::AlreadyExists => {}
+            made => return Ok(made.map_err(Refused::Journal)?),
         }
+    }
+    // Another process may have made it meanwhile, and may be writing page 0.
+    if let Some(journal) = find_journal(rt, name.as_str(), file).map_err(Refused::Journal)? {
+        return Ok(journal);
+    }
+    tested?;
+    Err(Refused::Journal(ErrorKind::NotFound.into()).into())
+}
+
+/// Tests that a file has whole pages, and that page 0 is sealed.
+fn test_beginning(file: &File) -> Result<(), OpenError> {
+    let bytes = file.metadata().map_err(Refused::File)?.len();
+    if bytes % PAGE_BYTES as u64 != 0 {
+        return Err(OpenError::NotWhole);
+    }
+    if bytes == 0 {
+        return Err(OpenError::NoPage);
+    }
+    let mut page = [0; PAGE_BYTES];
+    file.read_exact_at(&mut page, 0).map_err(Refused::File)?;
+    match unseal(0, &page) {
+        Ok(_) => Ok(()),
+        Err(_) => Err(OpenError::BadDigest),
+    }
+}
+
+/// The journal of a file, where there is one.
+fn find_journal<R>(rt: &R, name: &str, file: &File) -> io::Result<Option<File>>
+where
+    R: Files<File = File>,
+{
+    match fs::symlink_metadata(rt, name) {
+        Ok(found) => Ok(Some(open_found(rt, name, &found, file)?)),
+        Err(error) if error.kind() == ErrorKind::NotFound => Ok(None),
         Err(error) => Err(error),
     }
 }

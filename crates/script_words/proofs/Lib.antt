@@ -1,1 +1,3 @@
+pub mod HexadecimalLemmas
 pub mod NumberLemmas
+pub mod WordLemmas

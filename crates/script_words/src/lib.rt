@@ -3,6 +3,7 @@
 
 #![tactic(auto)]
 
+mod hexadecimal;
 mod numbers;
 mod refusal;
 mod split;

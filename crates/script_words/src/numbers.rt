@@ -7,9 +7,9 @@ ghost use Rattle.script_words.specs.Numbers.{number_of, without_minus, signed_of
 ghost use Rattle.script_words.specs.Numbers.{key_of, octal_of, mode_of, body_of};
 ghost use Rattle.script_words.specs.Reading.{Gives};
 
+use crate::hexadecimal::spelled;
 use crate::refusal::Refusal;
 use crate::split::is_word;
-use hex::FromHexError;
 use queue_model::Body;
 use std::alloc::Global;
 use std::str;
@@ -113,9 +113,5 @@ pub fn body(alloc: Global, word: &[u8]) -> Result<Body, Refusal>
     if word.is_empty() {
         return Err(Refusal::Wrong);
     }
-    match hex::decode(alloc, word) {
-        Ok(bytes) => Ok(Body::new(bytes)),
-        Err(FromHexError::OutOfMemory) => Err(Refusal::NoMemory),
-        Err(_) => Err(Refusal::Wrong),
-    }
+    spelled(alloc, word)
 }

@@ -6,12 +6,13 @@ use Rattle.std.proofs.lemmas.Bool.{cases_lt, eqb-true}
 use Rattle.interleaving_core.specs.Closing.{IsBusy, has_one}
 use Rattle.interleaving_core.specs.declared.fault.CloseFault.{CloseFault}
 use Rattle.interleaving_core.specs.declared.fault.CloseFault.TheVariants as closes
+use Rattle.interleaving_core.specs.declared.fault.Failure.{Failure}
 use Rattle.interleavings.specs.Laws.{AnswersAsPlainLists, ClosesRefine}
 use Rattle.interleavings.specs.Words.{IsLawful}
 use Rattle.seat_passes.specs.Views.{calls_in, no_place, nobody, place_at}
 use Rattle.workers.proofs.EntryLemmas.{part_is}
 use Rattle.workers.proofs.HeldLemmas.{place_is}
-use Rattle.workers.specs.Closing.{Each, HasItsPart, HasMissing, HasMostOfItsPart, IsBeside, IsClosed, IsFailed, IsFaulted, IsSound, IsToComeBack, sits_at}
+use Rattle.workers.specs.Closing.{Each, HasItsPart, HasMissing, HasMostOfItsPart, IsBeside, IsClosed, IsFailed, IsFaulted, IsLetGo, IsSound, IsToComeBack, IsUnwritten, sits_at}
 use Rattle.workers.specs.Entries.{seat_of}
 use Rattle.workers.specs.Held.{IsHeld, known_of, place_of}
 use Rattle.workers.specs.Origins.{IsJournalOf, LeavesFile, Origin}
@@ -170,24 +171,44 @@ module _ {K : Type 0} (of_key : K → RecordKey → ℕ) (o : Origin) (k : Kerne
     shown = subst (λ (e : Desk Entry Call). x.seen ≤ calls_in seat_of e.journal) h.known b.right.seen;
   }
 
-  pub is_failed : AnswersAsPlainLists K → (seats : List Sitter) (journal : List Entry) → journal ≡ k.journal →
-      seats ≡ given → IsFailed o given journal seats
-  is_failed plain seats journal is same =
-      subst (λ (l : List Entry). IsFailed o given l seats) (sym is)
-      (subst (IsFailed o given k.journal) (sym same)
+  pub is_failed : AnswersAsPlainLists K → (seats : List Sitter) (journal : List Entry) (content : List (List ℕ)) →
+      journal ≡ k.journal → seats ≡ given → content ≡ k.pool.stored → IsFailed K o given journal seats content
+  is_failed plain seats journal content is same stored =
+      subst (λ (l : List Entry). IsFailed K o given l seats content) (sym is)
+      (subst (λ (l : List Sitter). IsFailed K o given k.journal l content) (sym same)
       record {
         plain = journal_is of_key o k d count plain h;
         parts = λ place below. most_of_it (slice_index_or given place nobody) (each place below);
         same = refl;
+        unwritten = record { kernel = k; refines = h.led; journal_is = refl; stored = stored };
       })
 
   -- whichever it was
-  pub is_faulted : AnswersAsPlainLists K → (fault : CloseFault) (seats : List Sitter) (journal : List Entry) →
-      journal ≡ k.journal → seats ≡ given → (fault ≡ closes.Device → k.failed ≡ false) →
-      (k.failed ≡ false → HasMissing (length o.callers) given → ⊥) → IsFaulted fault o given journal seats
-  is_faulted plain closes.Device seats journal is same sound all =
+  pub is_faulted : AnswersAsPlainLists K → (fault : CloseFault) (seats : List Sitter) (journal : List Entry)
+      (content : List (List ℕ)) → journal ≡ k.journal → seats ≡ given →
+      (fault ≡ closes.Failed → content ≡ k.pool.stored) → (fault ≡ closes.Device → k.failed ≡ false) →
+      (k.failed ≡ false → HasMissing (length o.callers) given → ⊥) →
+      IsFaulted K fault o given journal seats content
+  is_faulted plain closes.Device seats journal content is same stored sound all =
       is_sound (sound refl) (all (sound refl)) plain seats journal is same
-  is_faulted plain closes.Failed seats journal is same sound all = is_failed plain seats journal is same
+  is_faulted plain closes.Failed seats journal content is same stored sound all =
+      is_failed plain seats journal content is same (stored refl)
+
+  -- ---- where it is let go
+
+  pub is_let_go : AnswersAsPlainLists K → (failure : Option Failure) (seats : List Sitter) (journal : List Entry)
+      (content : List (List ℕ)) → (failure ≡ None → k.failed ≡ false) → journal ≡ k.journal → seats ≡ given →
+      content ≡ k.pool.stored → IsLetGo K o given failure journal seats content
+  is_let_go plain failure seats journal content sound is same stored = record {
+    failed = is_failed plain seats journal content is same stored;
+    exact = λ none.
+        subst (λ (l : List Sitter). Each (HasItsPart journal) l) (sym same)
+        (λ place below.
+        subst (λ (l : List Entry). HasItsPart l (slice_index_or given place nobody)) (sym is)
+        (subst (λ (e : Desk Entry Call). HasItsPart e.journal (slice_index_or given place nobody)) h.known
+        (its_part d (slice_index_or given place nobody) (each place below)
+        (ap (λ (e : Desk Entry Call). e.failed) h.known ∙ sound none))));
+  }
 
 -- the failure that a kernel tells is that of a step exactly where one has failed
 pub sound_by : (fault : CloseFault) (told : Option CloseFault) (failed : Bool) → told ≡ Some fault →

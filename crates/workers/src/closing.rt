@@ -2,7 +2,7 @@
 
 ghost use Rattle.std.specs.Prelude.{◌≡◌, ◌↔◌, true, length};
 ghost use Rattle.std.specs.List.{list_any};
-ghost use Rattle.workers.specs.Closing.{Each, IsBeside, IsEndedWith, IsToComeBack, sits_at};
+ghost use Rattle.workers.specs.Closing.{Each, IsBeside, IsEndedWith, IsLetGo, IsToComeBack, sits_at};
 
 use crate::entries::{Own, Passes};
 use crate::gate::Gate;
@@ -11,7 +11,7 @@ use crate::naming::Base;
 use crate::seat::Seat;
 use crate::service::Service;
 use bucket_page::PseudoKey;
-use interleavings::interleaving_core::{CloseFault, Closed, NotClosed};
+use interleavings::interleaving_core::{CloseFault, Closed, Failure, NotClosed};
 use interleavings::{
     a_refining_kernel_answers_as_plain_lists, a_refining_kernel_closes_on_its_file,
 };
@@ -30,6 +30,8 @@ pub struct Ended<D, N: Room + Base> {
     pub journal: Vec<Entry>,
     /// The seats, with their lists.
     pub seats: Vec<Seat<N>>,
+    /// What failed a step, where one has failed.
+    pub failure: Option<Failure>,
 }
 
 /// What came of closing a service.
@@ -85,11 +87,13 @@ impl<D: PageDevice + Drop, K: PseudoKey + Drop, G: Gate + Drop, N: Room + Base> 
             room: _,
         } = held;
         compare_all(&gauge, &mut pass, &mut seats);
+        let failure = kernel.failure();
         match kernel.close() {
             Ok(Closed { device, journal }) => Ending::Closed(Ended {
                 device,
                 journal,
                 seats,
+                failure,
             }),
             Err(NotClosed::Fault(closed, fault)) => {
                 let Closed { device, journal } = closed;
@@ -97,10 +101,48 @@ impl<D: PageDevice + Drop, K: PseudoKey + Drop, G: Gate + Drop, N: Room + Base> 
                     device,
                     journal,
                     seats,
+                    failure,
                 };
                 Ending::Fault(ended, fault)
             }
             Err(NotClosed::Busy(_)) => unreachable!(),
+        }
+    }
+
+    /// Lets the service go, with the seats that come back: nothing is written. There is one journal,
+    /// legal from the system whose file the device had; each seat's list is its part of it, or where a
+    /// step has failed lacks one entry.
+    pub fn abandon(self, seats: Vec<Seat<N>>) -> Ended<D, N>
+        ensures { IsLetGo K N.origin seats.items result.failure result.journal.items
+            result.seats.items (D.content result.device) }
+    {
+        a_refining_kernel_answers_as_plain_lists::<K>();
+        let Service {
+            gate: _,
+            latch,
+            freed: _,
+            decided: _,
+            gauge,
+            seats: _,
+        } = self;
+        let held = latch.into_inner();
+        let mut seats = seats;
+        let Held {
+            kernel,
+            mut pass,
+            count: _,
+            sleepers: _,
+            room: _,
+        } = held;
+        compare_all(&gauge, &mut pass, &mut seats);
+        kernel.is_whole();
+        let failure = kernel.failure();
+        let Closed { device, journal } = kernel.abandon();
+        Ended {
+            device,
+            journal,
+            seats,
+            failure,
         }
     }
 }

@@ -104,6 +104,14 @@ impl<D: PageDevice + Drop, K: PseudoKey + Drop> Prepared<D, K> {
         })
     }
 
+    /// The device, as it was before the file was opened.
+    pub fn abandon(self) -> D
+        ensures content { D.content result ≡ self.content }
+        ensures honest { D.is_honest result ≡ self.honest }
+    {
+        self.kernel.abandon().device
+    }
+
     /// The service by this name, with one seat a caller.
     ///
     /// # Errors

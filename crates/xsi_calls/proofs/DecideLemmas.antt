@@ -244,6 +244,7 @@ module _ (hash : RecordKey → ℕ) (seat : ℕ) (stopped : Bool) (caller : Call
       ready = writes.ready;
       honest = writes.honest;
       later = writes.later;
+      stored = writes.stored;
       file = λ honest done file. absurd cc;
     };
     aim = record {

@@ -191,6 +191,7 @@ module _ (hash : RecordKey → ℕ) (seat : ℕ) (caller : Caller) (call : Call)
               ready = first.ready;
               honest = first.honest;
               later = first.later;
+              stored = first.stored;
               file = λ honest done file. first.file honest refl file;
             };
             aim = record {

@@ -98,6 +98,7 @@ faulted pool pool' writes = record {
   ready = writes.ready;
   honest = writes.honest;
   later = writes.later;
+  stored = writes.stored;
   file = λ honest none. absurd cc;
 }
 

@@ -61,6 +61,17 @@ impl<D: PageDevice + Drop, K: PseudoKey + Drop> Kernel<D, K> {
         Ok(mem::replace(&mut self.journal, journal))
     }
 
+    /// Lets the journal go, for who needs it no more: as `renew`, but its memory stays for the next
+    /// entries, so none is wanted.
+    pub fn forget(&mut self)
+        requires { IsBetweenCalls self.old }
+        ensures renewed { IsRenewed self.old.journal self.old self.new }
+        ensures room { self.new.room ≡ self.old.room }
+    {
+        outlast(self.seats.as_mut_slice(), self.journal.as_slice());
+        self.journal.clear();
+    }
+
     /// How many pages the file has.
     pub fn pages(&self) -> u32
         ensures { result ≡ length self.now.pool.images }

@@ -1,14 +1,15 @@
 -- The payload that was read is what the device has of the page, also after another page was written back.
-use Rattle.std.proofs.Common.{◌≡◌, ◌∙◌, refl, sym, ap, subst, rules, [], IsTrue, length, ◌<◌, None, slice_index_or}
+use Rattle.std.proofs.Common.{◌≡◌, ◌∙◌, refl, sym, ap, subst, rules, ℕ, List, [], IsTrue, Option, length, ◌<◌, None, slice_index_or}
 use Rattle.std.proofs.lemmas.Option.{get_or_from_slice_get}
 use Rattle.page_device.specs.Sealed.{payload_of, IsSealed}
 use Rattle.page_forms.specs.Forms.{IsWell}
-use Rattle.buffer_pool.specs.Table.{place_of}
+use Rattle.buffer_pool.specs.Table.{Held, IsNext, place_of}
 use Rattle.std.proofs.lemmas.List.{length-set}
+use Rattle.buffer_pool.proofs.FilledLemmas.{roomy_is_empty}
 use Rattle.buffer_pool.proofs.TableLemmas.{some_if_placed, length-places}
 use Rattle.buffer_pool.proofs.ImagesLemmas.{image_outside, stored_outside}
 use Rattle.buffer_pool.proofs.PoolLemmas.{IsSoundPool-moved_in, images-moved_in, stays-moved_in}
-use Rattle.buffer_pool.proofs.TransferLemmas.{handed_on, no_page, stays_with}
+use Rattle.buffer_pool.proofs.TransferLemmas.{handed_on, no_page, not_ok, stays_with}
 use Rattle.buffer_pool.specs.declared.fault.PoolFault.TheVariants.{Device}
 use Rattle.buffer_pool.specs.Pool.{PoolHasCause, images_of}
 use Rattle.buffer_pool.specs.Transfer.{MayBeUnread}
@@ -84,6 +85,37 @@ returns-clause-images g c = λ is.
     (search rules) (search rules)
     on_device outside c.in_ok-write_back.ensures.ok (still_there g c) honest
     ∙ c.write_back.ensures.images ∙ rw (c.free_frame-frame.ensures.same, c.read.ensures.same) refl)
+
+pub move_in-requires-clause-next : goal.move_in-requires-clause-next
+move_in-requires-clause-next g c =
+    subst (λ (pages : List (Option ℕ)). IsNext pages c.free_frame-frame.result)
+    (sym (c.write_back.ensures.pages.pages ∙ ap (λ (t : Held). t.pages) c.free_frame-frame.ensures.same))
+    c.free_frame-frame.ensures.next
+
+-- where there is a frame for each page, that of the page is empty, so nothing was written
+pub returns-clause-device : goal.returns-clause-device
+returns-clause-device g c = record {
+  honest = c.write_back.ensures.device.honest ∙ c.read.ensures.honest;
+  seals = λ is _ n was.
+      let honest = rw (← c.read.ensures.honest) at is in
+      c.in_ok-write_back.ensures.device.seals honest refl n
+      (subst (λ (s : List (List ℕ)). IsSealed n (slice_index_or s n [])) (sym c.read.ensures.same) was);
+  spared = λ roomy. c.write_back.ensures.device.spared
+      (roomy_is_empty _ _ c.args.table.now c.requires.sound c.free_frame-frame.result c.args.page
+      c.free_frame-frame.ensures.next c.requires.page c.requires.outside roomy _ c.free_frame-frame.ensures.same)
+      ∙ c.read.ensures.same;
+}
+
+pub returns-in_err-write_back-clause-device : goal.returns-in_err-write_back-clause-device
+returns-in_err-write_back-clause-device g c =
+    rw (not_ok c.from_residual-in_err-write_back.result c.from_residual-in_err-write_back.ensures.0) (record {
+      honest = c.write_back.ensures.device.honest ∙ c.read.ensures.honest;
+      seals = λ is good. absurd cc;
+      spared = λ roomy. c.write_back.ensures.device.spared
+          (roomy_is_empty _ _ c.args.table.now c.requires.sound c.free_frame-frame.result c.args.page
+          c.free_frame-frame.ensures.next c.requires.page c.requires.outside roomy _ c.free_frame-frame.ensures.same)
+          ∙ c.read.ensures.same;
+    })
 
 pub returns-clause-ok : goal.returns-clause-ok
 returns-clause-ok g c =

@@ -4,7 +4,7 @@ use Rattle.std.proofs.lemmas.List.{get_or-set_same}
 use Rattle.page_device.specs.Device.{HasCause, MayOnlyFail}
 use Rattle.page_device.specs.Sealed.{payload_of}
 use Rattle.buffer_pool.proofs.PoolLemmas.{IsSoundPool-failed, IsSoundPool-cleaned, images-written, page_within}
-use Rattle.buffer_pool.proofs.TransferLemmas.{handed_on, only_fails, seals_written}
+use Rattle.buffer_pool.proofs.TransferLemmas.{handed_on, not_ok, only_fails, seals_written}
 use Rattle.buffer_pool.proofs.transfer.write_back.Goals as goal
 
 pub returns-in_err-write-clause-sound : goal.returns-in_err-write-clause-sound
@@ -26,6 +26,14 @@ returns-in_err-write-clause-cause g c =
     handed_on c.from_residual.result c.in_err-write.field-0.0 c.from_residual.ensures.1 (HasCause MayOnlyFail _ _)
     (only_fails c.in_err-write.field-0.0 _ _ _ c.in-Some.page c.in_err-write.ensures.cause
     c.in_err-write.ensures.past within)
+
+pub returns-in_err-write-clause-device : goal.returns-in_err-write-clause-device
+returns-in_err-write-clause-device g c =
+    rw (not_ok c.from_residual.result c.from_residual.ensures.0) (record {
+      honest = c.write.ensures.honest;
+      seals = λ is good. absurd cc;
+      spared = λ none. let here = sym c.page.ensures ∙ c.in-Some.is in absurd cc;
+    })
 
 pub returns-clause-sound : goal.returns-clause-sound
 returns-clause-sound g c =
@@ -49,4 +57,5 @@ returns-clause-device g c = record {
       let here = sym c.page.ensures ∙ c.in-Some.is in
       let within = page_within _ _ _ c.requires.sound c.args.frame c.in-Some.page here in
       rw (c.in_ok-write.ensures.ok is) (seals_written _ c.in-Some.page _ within c.seal-sealed.ensures.sealed);
+  spared = λ none. let here = sym c.page.ensures ∙ c.in-Some.is in absurd cc;
 }

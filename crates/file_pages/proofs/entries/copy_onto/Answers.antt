@@ -4,7 +4,7 @@ use Rattle.directory.specs.Pages.{IsDirectoryPage}
 use Rattle.file_pages.specs.Files.{image}
 use Rattle.file_pages.proofs.EntryLemmas.{copied_set, directory_file}
 use Rattle.file_pages.proofs.ReadLemmas.{handed_on, image_was}
-use Rattle.file_pages.proofs.WriteLemmas.{only_writes, written_store}
+use Rattle.file_pages.proofs.WriteLemmas.{gives_back, only_writes, written_store}
 use Rattle.file_pages.proofs.entries.copy_onto.Given as given
 use Rattle.file_pages.proofs.entries.copy_onto.Goals as goal
 
@@ -27,6 +27,11 @@ was : (g : given.Over) (c : goal.After-unpin-2 g) → IsTrue c.args.pool.now.hon
     → image c.args.pool.now.images c.args.page ≡ c.image_mut.result.now
 was g c honest = image_was c.args.pool.now c.pin.new.pool _ c.in_ok-frame.frame c.image_mut.result.now
     c.in_ok-frame.ensures.ok c.image_mut.ensures.value honest
+
+pub returns-then-not-is_directory-clause-writes : goal.returns-then-not-is_directory-clause-writes
+returns-then-not-is_directory-clause-writes g c =
+    gives_back c.args.pool.now c.pin.new.pool c.unpin.new.self _ c.in_ok-frame.frame c.requires.ready
+    c.in_ok-frame.ensures.ok c.unpin.ensures
 
 pub returns-clause-writes : goal.returns-clause-writes
 returns-clause-writes g c =

@@ -17,6 +17,7 @@ returns-in-Ok-clause-ok g c =
       within = not_past (length c.args.pool.now.images) c.args.page (λ past. let clash = e.past.1 past in absurd cc);
       once = e.ok.1;
       pins = e.pins;
-      keeps = e.keeps;
+      keeps = e.keeps.keeps;
+      stored = e.keeps.stored;
       later = e.cause.later;
     }

@@ -10,7 +10,7 @@ use Rattle.file_pages.proofs.RecordLemmas.{bucket_there, bucket_was, keeps_file,
 use Rattle.bucket_page.specs.Changes.{Changes, inserted}
 use Rattle.bucket_page.specs.Reading.{records_in}
 use Rattle.file_pages.proofs.RecordLemmas.{put_fits}
-use Rattle.file_pages.proofs.WriteLemmas.{only_writes, written_store}
+use Rattle.file_pages.proofs.WriteLemmas.{gives_back, only_writes, written_store}
 use Rattle.file_pages.proofs.records.put_record.Given as given
 use Rattle.file_pages.proofs.records.put_record.Goals as goal
 
@@ -50,6 +50,11 @@ made g c =
     (same g c) (c.if-not-takes.ensures.room refl) in
     put_fits c.put.result c.put.ensures.ok (λ failed. let more =
     c.put.ensures.full.0 failed in absurd (omega (arith, room, more)))
+
+pub returns-then-not-takes-clause-writes : goal.returns-then-not-takes-clause-writes
+returns-then-not-takes-clause-writes g c =
+    gives_back c.args.pool.now c.pin.new.pool c.unpin.new.self _ c.in_ok-frame.frame c.requires.ready
+    c.in_ok-frame.ensures.ok c.unpin.ensures
 
 pub returns-clause-writes : goal.returns-clause-writes
 returns-clause-writes g c =

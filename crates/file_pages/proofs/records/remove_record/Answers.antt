@@ -6,7 +6,7 @@ use Rattle.bucket_page.specs.Bucket.{Bucket}
 use Rattle.hash_file.specs.Changes.{Remove}
 use Rattle.file_pages.proofs.ReadLemmas.{handed_on}
 use Rattle.file_pages.proofs.RecordLemmas.{bucket_there, bucket_was, keeps_file, record_written, there_within}
-use Rattle.file_pages.proofs.WriteLemmas.{only_writes, written_store}
+use Rattle.file_pages.proofs.WriteLemmas.{gives_back, only_writes, written_store}
 use Rattle.file_pages.proofs.records.remove_record.Given as given
 use Rattle.file_pages.proofs.records.remove_record.Goals as goal
 
@@ -34,6 +34,11 @@ same g c = let one = c.image.ensures in let other = c.image_mut.ensures.value in
 
 bucket : (g : given.Over) (c : goal.After-unpin-2 g) → IsBucketPage c.image_mut.result.now
 bucket g c = subst IsBucketPage (same g c) (c.if-not-has_record.ensures.bucket refl)
+
+pub returns-then-not-has_record-clause-writes : goal.returns-then-not-has_record-clause-writes
+returns-then-not-has_record-clause-writes g c =
+    gives_back c.args.pool.now c.pin.new.pool c.unpin.new.self _ c.in_ok-frame.frame c.requires.ready
+    c.in_ok-frame.ensures.ok c.unpin.ensures
 
 pub returns-clause-writes : goal.returns-clause-writes
 returns-clause-writes g c =

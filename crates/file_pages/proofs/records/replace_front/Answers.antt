@@ -9,7 +9,7 @@ use Rattle.hash_file.specs.Store.{records_at}
 use Rattle.file_pages.specs.Files.{store_of}
 use Rattle.file_pages.proofs.ReadLemmas.{handed_on}
 use Rattle.file_pages.proofs.RecordLemmas.{bucket_there, bucket_was, keeps_file, record_written, there_within}
-use Rattle.file_pages.proofs.WriteLemmas.{only_writes, written_store}
+use Rattle.file_pages.proofs.WriteLemmas.{gives_back, only_writes, written_store}
 use Rattle.file_pages.proofs.records.replace_front.Given as given
 use Rattle.file_pages.proofs.records.replace_front.Goals as goal
 
@@ -52,6 +52,11 @@ was g c honest =
     (bucket_was c.args.pool.now c.pin.new.pool _ c.in_ok-frame.frame c.image_mut.result.now c.replace_front.new.self
     c.in_ok-frame.ensures.ok c.image_mut.ensures.value
     c.if-page-lt-ROOT_PAGE.false (bucket g c) honest)
+
+pub returns-then-not-has_front-clause-writes : goal.returns-then-not-has_front-clause-writes
+returns-then-not-has_front-clause-writes g c =
+    gives_back c.args.pool.now c.pin.new.pool c.unpin.new.self _ c.in_ok-frame.frame c.requires.ready
+    c.in_ok-frame.ensures.ok c.unpin.ensures
 
 pub returns-clause-writes : goal.returns-clause-writes
 returns-clause-writes g c =

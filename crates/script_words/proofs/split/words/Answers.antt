@@ -1,15 +1,14 @@
-use Rattle.std.proofs.Common.{rules, tests, not, ◌==◌, length}
-use Rattle.std.proofs.lemmas.Iterator.Consumers.{map_from_collect, YieldsList-at, YieldsList-from_filter}
-use Rattle.std.proofs.lemmas.Iterator.Splits.{YieldsList-from_slice_split}
-use Rattle.script_words.specs.Words.{is_blank}
+use Rattle.script_words.proofs.WordLemmas.{AreWordsTo-more, AreWordsTo-all}
 use Rattle.script_words.proofs.split.words.Goals as goal
 
--- the parts between blanks, without the empty ones
+pub blanks-preserved : goal.blanks-preserved
+blanks-preserved c =
+    let cut = c.split_at.ensures in
+    let kept = rw cut.front at c.in_ok-keep.ensures in
+    AreWordsTo-more c.blanks.words.items c.keep.new.words.items c.blanks.rest.now c.split_at.result.1.now
+    c.args.text.now c.in-Some.end c.in-Some.ensures kept cut.back c.blanks.invariant
+
 pub returns : goal.returns
 returns c =
-    map_from_collect _ c.collect.ensures.ran
-    (YieldsList-from_filter _ (λ word. not (length word == 0))
-    (YieldsList-at c.filter.ensures.source
-    (YieldsList-from_slice_split _ is_blank c.args.text.now c.split.ensures.rest c.split.ensures.done
-    c.split.ensures.closure (λ x b q k. search (rules, tests))))
-    c.filter.ensures.closure (λ x b q k. search (rules, tests)))
+    AreWordsTo-all c.blanks.words.items c.keep-2.new.words.items c.blanks.rest.now c.args.text.now c.in_default.ensures
+    c.in_ok-keep-2.ensures c.blanks.invariant

@@ -6,6 +6,7 @@ use Rattle.buffer_pool.proofs.TransferLemmas.{handed_on, not_ok, pin_told}
 use Rattle.buffer_pool.proofs.TableLemmas.{some_place}
 use Rattle.buffer_pool.proofs.ImagesLemmas.{images_length}
 use Rattle.buffer_pool.proofs.PoolLemmas.{IsSoundPool-with_pins, pinned_kept}
+use Rattle.buffer_pool.proofs.SparedLemmas.{spared_kept}
 use Rattle.buffer_pool.proofs.pool.Pool.pin.Goals as goal
 
 pub invariant_of-self-2 : goal.invariant_of-self-2
@@ -18,12 +19,15 @@ returns-clause-keeps g c =
     let brought = c.bring_in.ensures in
     let stored = sym brought.sound.as_many ∙ brought.pins.places ∙ c.self.invariant.as_many in
     rw (← c.self.view_is, c.pin.ensures) (record {
-      images = λ is. brought.images is;
-      pinned = pinned_kept _ _ _ _ _ _ c.self.invariant brought.sound brought.pins;
-      as_many = images_length _ c.bring_in.new.table ∙ stored ∙ sym (images_length _ c.self.inside.table);
-      frames = brought.pins.frames;
-      honest = brought.device.honest;
-      seals = λ is _. c.in_ok-bring_in.ensures.device.seals is refl;
+      keeps = record {
+        images = λ is. brought.images is;
+        pinned = pinned_kept _ _ _ _ _ _ c.self.invariant brought.sound brought.pins;
+        as_many = images_length _ c.bring_in.new.table ∙ stored ∙ sym (images_length _ c.self.inside.table);
+        frames = brought.pins.frames;
+        honest = brought.device.honest;
+        seals = λ is _. c.in_ok-bring_in.ensures.device.seals is refl;
+      };
+      stored = spared_kept _ _ brought.pins.frames stored brought.device.spared;
     })
 
 pub returns-in_err-bring_in-clause-keeps : goal.returns-in_err-bring_in-clause-keeps
@@ -31,12 +35,15 @@ returns-in_err-bring_in-clause-keeps g c =
     let brought = c.bring_in.ensures in
     let stored = sym brought.sound.as_many ∙ brought.pins.places ∙ c.self.invariant.as_many in
     rw (← c.self.view_is, not_ok c.from_residual.result c.from_residual.ensures.0) (record {
-      images = λ is. brought.images is;
-      pinned = pinned_kept _ _ _ _ _ _ c.self.invariant brought.sound brought.pins;
-      as_many = images_length _ c.bring_in.new.table ∙ stored ∙ sym (images_length _ c.self.inside.table);
-      frames = brought.pins.frames;
-      honest = brought.device.honest;
-      seals = λ is good. absurd cc;
+      keeps = record {
+        images = λ is. brought.images is;
+        pinned = pinned_kept _ _ _ _ _ _ c.self.invariant brought.sound brought.pins;
+        as_many = images_length _ c.bring_in.new.table ∙ stored ∙ sym (images_length _ c.self.inside.table);
+        frames = brought.pins.frames;
+        honest = brought.device.honest;
+        seals = λ is good. absurd cc;
+      };
+      stored = spared_kept _ _ brought.pins.frames stored brought.device.spared;
     })
 
 pub returns-in_err-bring_in-clause-cause : goal.returns-in_err-bring_in-clause-cause

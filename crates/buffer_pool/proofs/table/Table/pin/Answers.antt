@@ -18,4 +18,5 @@ invariant_of-self c =
       whole = IsWhole-with_pins _ kept.whole c.args.page _ place;
       even_used = kept.even_used;
       counted = ap (λ n. n + 1) kept.counted ∙ sym first;
+      holding = kept.holding;
     }

@@ -1,8 +1,9 @@
 -- Nobody has a call, or a lock.
-use Rattle.std.proofs.Common.{◌≡◌, ◌∙◌, refl, ap, ◌≤◌, length, vec_capacity, arith}
+use Rattle.std.proofs.Common.{◌≡◌, ◌∙◌, refl, sym, ap, subst, ◌≤◌, length, vec_capacity, arith}
 use Rattle.std.proofs.lemmas.Bool.Decides.{nat_tests}
 use Rattle.std.proofs.lemmas.Grind.{common_steps}
-use Rattle.buffer_pool.specs.Pool.{PoolState}
+use Rattle.buffer_pool.specs.Pool.{PoolState, opened}
+use Rattle.interleaving_core.specs.Kernel.{AreFittingCallers}
 use Rattle.interleaving_core.proofs.BeginLemmas.{opened_whole}
 use Rattle.interleaving_core.proofs.kernel.Kernel.open.Goals as goal
 
@@ -18,3 +19,24 @@ invariant_of-result g c =
     c.in-Ok-new.ensures c.in-Ok-idle_seats.ensures (ap length c.in-Ok-copied.ensures.same)
     c.in-Ok-copied.ensures.fitting (c.in-Ok-reserve.ensures.items ∙ c.new-journal.ensures.items) refl memory refl
     c.in-Ok-new-2.ensures
+
+-- the check has changed no page
+pub returns-in-Ok-open-clause-ok : goal.returns-in-Ok-open-clause-ok
+returns-in-Ok-open-clause-ok g c =
+    let made = c.in-Ok-open.ensures.ok in
+    let checked = c.check-device.ensures in
+    let synced = sym (ap (λ (s : PoolState). s.synced) made) in
+    let faults = sym (ap (λ (s : PoolState). s.faults) made) in
+    record {
+      keys = refl;
+      pool = made ∙ (λ j. opened c.args.frames (checked.same j) (checked.honest j) (synced j) (faults j));
+      locks = c.in-Ok-new.ensures;
+      callers = c.in-Ok-copied.ensures.same;
+      fitting = subst AreFittingCallers c.in-Ok-copied.ensures.same c.in-Ok-copied.ensures.fitting;
+      seats = c.in-Ok-idle_seats.ensures;
+      journal = c.in-Ok-reserve.ensures.items ∙ c.new-journal.ensures.items;
+      stopped = refl;
+      failed = refl;
+      failure = refl;
+      searches = c.in-Ok-new-2.ensures;
+    }

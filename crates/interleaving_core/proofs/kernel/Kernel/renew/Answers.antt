@@ -22,7 +22,8 @@ invariant_of-self g c =
       failure = c.self.inside.failure;
       searches = c.self.inside.searches;
     } in
-    let rest : IsBetweenCalls old = subst (λ (k : KernelState g.row.K.Denot). IsBetweenCalls k) (sym c.self.view_is) c.requires in
+    let rest : IsBetweenCalls old =
+    subst (λ (k : KernelState g.row.K.Denot). IsBetweenCalls k) (sym c.self.view_is) c.requires in
     let none : c.replace.new.dest.items ≡ [] = search (rules) in
     let memory : length old.seats + 1 ≤ vec_capacity c.replace.new.dest = grind (arith, common_steps) in
     renewed_by old c.as_slice.result.now c.replace.new.dest.items c.as_mut_slice.result.now c.outlast.new.seats

@@ -1,15 +1,22 @@
-use Rattle.std.proofs.Common.{rules, ◌<◌, length}
-use Rattle.msgq_cli.proofs.OutputLemmas.{Prints-no_digits, Prints-digits}
+use Rattle.std.proofs.Common.{◌∙◌, rules}
+use Rattle.std.proofs.lemmas.List.{nil_from_length}
+use Rattle.msgq_cli.proofs.OutputLemmas.{IsSpelling-none, IsSpelling-more, IsSpelling-all}
 use Rattle.msgq_cli.proofs.output.Output.digits.Goals as goal
 
-pub loop-byte-init : goal.loop-byte-init
-loop-byte-init g c = Prints-no_digits _ _
+pub loop-block-init : goal.loop-block-init
+loop-block-init g c = (search rules, tt, search rules, IsSpelling-none _ _ _ (search rules))
 
-pub loop-byte-preserved : goal.loop-byte-preserved
-loop-byte-preserved g c =
-    let i = c.loop-byte.byte-index in
-    let below : i < length c.args.bytes.now = search rules in
+pub loop-block-preserved : goal.loop-block-preserved
+loop-block-preserved g c =
+    let steps = c.in-Some.ensures.steps in
     let written = rw c.unwrap.ensures at c.encode_to_slice.ensures.written in
-    let pair = rw written at c.put.ensures in
-    Prints-digits c.args.self.now c.loop-byte.self c.put.new.self _ c.args.bytes.now i 0 below
-    c.loop-byte.invariant pair
+    let block = rw written at c.put.ensures in (
+      search rules,
+      tt,
+      steps.0 ∙ c.loop-block.invariant.2,
+      IsSpelling-more _ _ _ _ _ _ _ c.loop-block.invariant.3 steps.1.0 block,
+    )
+
+pub returns : goal.returns
+returns g c =
+    IsSpelling-all _ _ _ _ c.loop-block.invariant.3 (nil_from_length _ c.in-None.ensures.steps.1.0)

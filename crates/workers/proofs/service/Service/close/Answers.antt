@@ -1,4 +1,4 @@
-use Rattle.std.proofs.Common.{◌≡◌, false, length, refl, sym, ap, ◌∙◌, subst, Err, Ok}
+use Rattle.std.proofs.Common.{◌≡◌, false, length, refl, sym, ap, ◌∙◌, subst, Err, Ok, Some}
 use Rattle.interleaving_core.specs.Closing.{fault_in, is_busy, journal_in}
 use Rattle.workers.specs.Closing.{HasMissing}
 use Rattle.workers.proofs.CloseLemmas.{all_came, is_closed, is_faulted, not_busy, sound_at_end, sound_by}
@@ -18,9 +18,13 @@ returns-in-Ok g c =
 pub returns-in-Err-Fault : goal.returns-in-Err-Fault
 returns-in-Err-Fault g c =
     is_faulted _ _ _ _ _ _ c.held.invariant c.compare_all.ensures.beside
-    c.a_refining_kernel_answers_as_plain_lists.ensures _ _ _
+    c.a_refining_kernel_answers_as_plain_lists.ensures _ _ _ _
     (ap (λ e. journal_in (Err e)) (sym c.in-Err-Fault.field-0-is) ∙ c.in-Err-Fault.ensures.journal)
     c.compare_all.ensures.seats
+    (λ failed.
+    let released = rw c.in-Err-Fault.field-0-is at c.in-Err-Fault.ensures.device in
+    released.unwritten
+    (c.in-Err-Fault.ensures.failed.0 (ap (λ e. fault_in (Err e)) c.in-Err-Fault.field-0-is ∙ ap Some failed)))
     (sound_by _ _ _ (ap (λ e. fault_in (Err e)) c.in-Err-Fault.field-0-is) c.in-Err-Fault.ensures.failed)
     (λ sound. subst (λ l. HasMissing (length g.N.Base.origin.callers) l → ⊥) c.as_slice.ensures.value
     (all_came _ _ _ _ _ c.is_missing.ensures c.if-is_missing.false c.has_failed.ensures sound))

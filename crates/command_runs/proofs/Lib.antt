@@ -1,0 +1,3 @@
+pub mod AskLemmas
+pub mod RunLemmas
+pub mod LookLemmas

@@ -1,0 +1,13 @@
+-- What the checker found is looked at.
+use Rattle.command_runs.proofs.LookLemmas.{looks_on}
+use Rattle.command_runs.specs.Running.{seen}
+use Rattle.command_runs.proofs.looking.look_on.Goals as goal
+
+pub returns-clause-honest : goal.returns-clause-honest
+returns-clause-honest g c = λ honest.
+    let was = g.D.PageDevice.fault_count c.args.device in
+    let now = g.D.PageDevice.fault_count c.check-device.result.device in
+    looks_on c.args.caller c.args.look.now (g.D.PageDevice.content c.args.device)
+    (seen (g.W.Write.contents c.args.writer.now) (g.W.Write.contents c.look_at-came.new.writer) was now)
+    c.check-device.result.found c.look_at-came.result (c.check-device.ensures.ok honest) (c.check-device.ensures.err honest)
+    c.check-device.ensures.cause (c.look_at-came.ensures was now)

@@ -1,0 +1,5 @@
+pub mod Faults
+pub mod Sessions
+pub mod Memory
+pub mod Running
+pub mod Looking

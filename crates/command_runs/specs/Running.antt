@@ -1,0 +1,85 @@
+-- What a command comes to that is run on the file of a device. docs/SHELL.md, "What a command asks".
+use Rattle.std.specs.Prelude.{◌≡◌, ◌≢◌, ◌⊎◌, ℕ, List, Option, ⊤, Result, Ok, Err}
+use Rattle.std.specs.Io.KnownBytes.{Appends}
+use Rattle.page_device.specs.Device.{HasRisen}
+use Rattle.bucket_page.specs.Pseudokeys.{sha_key}
+use Rattle.lone_kernel.specs.Words.{Caller, IsFileOf, State, restarted}
+use Rattle.lone_kernel.specs.interleaving_core.Beginning.{MayRefuse}
+use Rattle.lone_kernel.specs.interleaving_core.Fault.{device_failed}
+use Rattle.lone_kernel.specs.interleaving_core.declared.fault.CloseFault.TheVariants as closes
+use Rattle.lone_kernel.specs.interleaving_core.declared.fault.OpenFault.{OpenFault}
+use Rattle.lone_kernel.specs.interleaving_core.declared.fault.OpenFault.TheVariants.{TooFewFrames}
+use Rattle.queue_commands.specs.Asking.{Asking}
+use Rattle.queue_commands.specs.Commands.{AsksAs}
+use Rattle.queue_commands.specs.declared.request.Request.{Request}
+use Rattle.command_runs.specs.Memory.{MayNotDo, Pages}
+use Rattle.command_runs.specs.declared.error.CommandError.{CommandError}
+use Rattle.command_runs.specs.declared.error.CommandError.TheVariants.{Unclosed, Unopened, Unprinted}
+use Rattle.command_runs.specs.declared.running.Asked.{Asked}
+
+-- what the output holds before and after, and how often the device had failed, and has
+pub record Seen : Type 0 where
+  pub old : Option (List ℕ)
+  pub new : Option (List ℕ)
+  pub was : ℕ
+  pub faults : ℕ
+
+abbrev pub seen : Option (List ℕ) → Option (List ℕ) → ℕ → ℕ → Seen
+seen old new was faults = record { old = old; new = new; was = was; faults = faults }
+
+-- the text of a command was printed
+pub record IsPrinted (Is : Asking (List ℕ)) (seen : Seen) (Holds : State → Type 0) : Type 0 where
+  pub text : List ℕ
+  pub system : State
+  pub is : Is (Ok text) system
+  pub printed : Appends seen.old seen.new text
+  pub held : Holds system
+
+-- how a command ends on the file of a device that had these pages, and what its pages are then
+abbrev pub EndsAs : Caller → Asking (List ℕ) → (content left : Pages) → Seen → Result Unit CommandError → Type 0
+-- the text is printed, and the file is one of the system that the command leaves
+EndsAs c Is content left seen (Ok done) = IsPrinted Is seen (λ t. IsFileOf sha_key left (restarted t))
+-- the text was to be printed, and the output refused it
+EndsAs c Is content left seen (Err (Unprinted error)) = (text : List ℕ) × (t : State) × Is (Ok text) t
+-- the text is printed, and then the device failed
+EndsAs c Is content left seen (Err (Unclosed closes.Device)) =
+    HasRisen seen.was seen.faults × IsPrinted Is seen (λ t. ⊤)
+-- nothing is printed
+EndsAs c Is content left seen (Err error) = MayNotDo c Is content error × (seen.new ≡ seen.old)
+
+-- unless the text was printed the device has what it had
+abbrev pub IsUnwritten : (content left : Pages) → Result Unit CommandError → Type 0
+IsUnwritten content left (Ok done) = ⊤
+IsUnwritten content left (Err (Unclosed fault)) = ⊤
+IsUnwritten content left (Err error) = left ≡ content
+
+-- ---- the end of a command that was asked
+
+-- its text is printed, and then its file is on the device; unless the output refused it, or the device failed
+abbrev pub EndsWith : Asked → (left : Pages) → Seen → Result Unit CommandError → Type 0
+EndsWith asked left seen (Ok done) = Appends seen.old seen.new asked.text × (left ≡ asked.file)
+EndsWith asked left seen (Err (Unprinted error)) = ⊤
+EndsWith asked left seen (Err (Unclosed closes.Device)) =
+    HasRisen seen.was seen.faults × Appends seen.old seen.new asked.text
+EndsWith asked left seen (Err error) = ⊥
+
+-- ---- a command on a file
+
+-- a file is refused by the first thing that is wrong with it, unless there is no memory or the device failed
+pub record IsUnopened (content : Pages) (seen : Seen) (came : Result Unit CommandError) : Type 0 where
+  pub fault : OpenFault
+  pub told : came ≡ Err (Unopened fault)
+  pub framed : fault ≢ TooFewFrames
+  pub cause : MayRefuse sha_key content fault
+  pub failed : fault ≡ device_failed → HasRisen seen.was seen.faults
+  pub kept : seen.new ≡ seen.old
+
+-- it is run from the one system whose file it is
+pub record RunsFrom (c : Caller) (r : Request) (content left : Pages) (seen : Seen) (came : Result Unit CommandError)
+    : Type 0 where
+  pub system : State
+  pub file : IsFileOf sha_key content system
+  pub ends : EndsAs c (AsksAs c r system) content left seen came
+
+abbrev pub RunsOn : Caller → Request → Pages → Pages → Seen → Result Unit CommandError → Type 0
+RunsOn c r content left seen came = RunsFrom c r content left seen came ⊎ IsUnopened content seen came

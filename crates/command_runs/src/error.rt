@@ -1,0 +1,109 @@
+//! Why a command is not done.
+
+ghost use Rattle.std.specs.Prelude.{◌≡◌};
+ghost use Rattle.command_runs.specs.Faults.{call_number_of, exit_of, number_of, of_asking};
+
+use faults::NoMemory;
+use lone_kernel::interleaving_core::{BeginFault, CloseFault, OpenFault, StepFault};
+use queue_commands::{AskError, ExitStatus};
+use queue_model::Errno;
+use std::io;
+use thiserror::Error;
+
+/// Why a call was not answered.
+#[derive(Clone, Copy, Debug, PartialEq, Eq, Error)]
+pub enum CallFault {
+    /// It did not begin.
+    #[error("a call does not begin: {0}")]
+    NotBegun(BeginFault),
+    /// It failed, for want of room or by a fault of the file.
+    #[error("a call failed: {0}")]
+    Failed(StepFault),
+    /// It came to no answer, to which no file of a system leads.
+    #[error("a call came to no answer")]
+    Lost,
+}
+
+/// Why a command is not done. But where the file was not closed well nothing is written at its end.
+#[derive(Debug, Drop, Error)]
+pub enum CommandError {
+    /// The file was not opened.
+    #[error("it can't be opened: {0}")]
+    Unopened(OpenFault),
+    /// The system refused one of its calls.
+    #[error("{}", .0.name())]
+    Refused(Errno),
+    /// One of its calls was not answered.
+    #[error("{0}")]
+    Unanswered(CallFault),
+    /// There was no memory for a body or for the text that is printed.
+    #[error("out of memory")]
+    NoMemory,
+    /// The output refused the text.
+    #[error("standard output can't be written: {0}")]
+    Unprinted(io::Error),
+    /// The file was not closed well, after the text was printed.
+    #[error("it can't be closed: {0}")]
+    Unclosed(CloseFault),
+}
+
+impl CallFault {
+    /// The number that a program prints (docs/FAULTS.md).
+    pub fn number(self) -> u8
+        ensures { result ≡ call_number_of self }
+    {
+        match self {
+            CallFault::NotBegun(fault) => fault.number(),
+            CallFault::Failed(fault) => fault.number(),
+            CallFault::Lost => faults::FAILED,
+        }
+    }
+}
+
+impl From<NoMemory> for CommandError {
+    ghost use Rattle.std.specs.Prelude.{◌≡◌};
+    ghost use Rattle.command_runs.specs.declared.error.CommandError.TheVariants as errors;
+
+    ghost from_gives = { λ _ error. error ≡ errors.NoMemory };
+
+    fn from(_: NoMemory) -> CommandError {
+        CommandError::NoMemory
+    }
+}
+
+impl CommandError {
+    /// The number of its fault (docs/FAULTS.md). A call that was refused has none, nor has an
+    /// output that refused the text.
+    pub fn number(&self) -> Option<u8>
+        ensures { result ≡ number_of self.now }
+    {
+        match self {
+            CommandError::Unopened(fault) => Some(fault.number()),
+            CommandError::Unanswered(fault) => Some(fault.number()),
+            CommandError::NoMemory => Some(faults::NO_MEMORY),
+            CommandError::Unclosed(fault) => Some(fault.number()),
+            CommandError::Refused(_) | CommandError::Unprinted(_) => None,
+        }
+    }
+
+    /// The exit status of a program whose command ends so (docs/SHELL.md, "Exit status").
+    pub fn status(&self) -> ExitStatus
+        ensures { result ≡ exit_of self.now }
+    {
+        match self {
+            CommandError::Refused(errno) => ExitStatus::of_refusal(*errno),
+            _ => ExitStatus::Fault,
+        }
+    }
+
+    /// Of why a command came to no text, and why its call was not answered, where one was not.
+    pub(crate) fn of_asking(error: AskError, fault: Option<CallFault>) -> CommandError
+        ensures { result ≡ of_asking error fault }
+    {
+        match error {
+            AskError::Refused(errno) => CommandError::Refused(errno),
+            AskError::Unanswered => CommandError::Unanswered(fault.unwrap_or(CallFault::Lost)),
+            AskError::NoMemory => CommandError::NoMemory,
+        }
+    }
+}

@@ -1,0 +1,146 @@
+//! What is looked at of a file, which is not written.
+
+ghost use Rattle.std.specs.Prelude.{◌≡◌, ℕ, IsTrue};
+ghost use Rattle.lone_kernel.specs.Words.{Caller};
+ghost use Rattle.command_runs.specs.Looking.{LooksAt, LooksOn, Shows};
+ghost use Rattle.command_runs.specs.Running.{seen};
+ghost use Rattle.command_runs.specs.declared.looking.Look.TheVariants.{Queues, Messages};
+
+use crate::error::CommandError;
+use crate::printing::deliver;
+use crate::running::Ran;
+use bucket_page::ShaKey;
+use lone_kernel::interleaving_core::OpenFault;
+use lone_kernel::interleaving_core::file_check::{CheckFault, Checked, check};
+use page_device::PageDevice;
+use queue_commands::queue_lists::{QueueName, Text, put_messages, put_queues};
+use queue_commands::{AskError, PlainLists, Request, ask};
+use queue_json::{put_messages_json, put_queues_json};
+use queue_model::{Caller, Errno, System};
+use std::alloc::Global;
+use std::io::Write;
+
+/// In which form it is shown.
+#[derive(Clone, Copy, Debug, PartialEq, Eq)]
+pub enum Form {
+    /// A table with headings.
+    Table,
+    /// One JSON object.
+    Json,
+}
+
+/// What is looked at.
+#[derive(Debug, Drop)]
+pub enum Look {
+    /// The queues.
+    Queues(Form),
+    /// The messages of a queue.
+    Messages(QueueName, Form),
+    /// What a command would print, which is asked of the system on plain lists.
+    Command(Request),
+}
+
+/// Looks at the file of a device, and prints what is shown. The device is as it was.
+pub fn look_on<D: PageDevice, W: Write>(
+    alloc: Global,
+    device: D,
+    caller: Caller,
+    look: &Look,
+    writer: &mut W,
+) -> Ran<D>
+    ensures honest { IsTrue (D.is_honest device) → LooksOn caller look.now (D.content device)
+        (seen (W.contents writer.old) (W.contents writer.new)
+        (D.fault_count device) (D.fault_count result.device)) result.came }
+    ensures same { D.content result.device ≡ D.content device }
+{
+    let Checked { device, found } = check(alloc, device, ShaKey);
+    let came = look_at(alloc, found, caller, look, writer);
+    Ran { device, came }
+}
+
+/// Looks at what the checker found.
+fn look_at<W: Write>(
+    alloc: Global,
+    found: Result<System, CheckFault>,
+    caller: Caller,
+    look: &Look,
+    writer: &mut W,
+) -> Result<(), CommandError>
+    ensures { (was faults : ℕ) → LooksAt caller look.now found
+        (seen (W.contents writer.old) (W.contents writer.new) was faults) result }
+{
+    let system = match found {
+        Ok(system) => system,
+        Err(fault) => return Err(CommandError::Unopened(OpenFault::Wrong(fault))),
+    };
+    let text = show(alloc, system, caller, look)?;
+    match deliver(text.as_slice(), writer) {
+        Ok(()) => Ok(()),
+        Err(error) => Err(CommandError::Unprinted(error)),
+    }
+}
+
+/// What is shown of a system.
+fn show(alloc: Global, system: System, caller: Caller, look: &Look) -> Result<Text, CommandError>
+    ensures { Shows caller look.now system result }
+{
+    match look {
+        Look::Queues(form) => show_queues(alloc, &system, *form),
+        Look::Messages(name, form) => show_messages(alloc, &system, *name, *form),
+        Look::Command(request) => {
+            let mut lists = PlainLists { system, caller };
+            match ask(alloc, &mut lists, request) {
+                Ok(text) => Ok(text),
+                Err(AskError::Refused(errno)) => Err(CommandError::Refused(errno)),
+                // plain lists lack nothing but memory
+                Err(AskError::Unanswered | AskError::NoMemory) => Err(CommandError::NoMemory),
+            }
+        }
+    }
+}
+
+/// The queues of a system.
+fn show_queues(alloc: Global, system: &System, form: Form) -> Result<Text, CommandError>
+    ensures { (c : Caller) → Shows c (Queues form) system.now result }
+{
+    let mut text = Text::new(alloc);
+    match form {
+        Form::Table => {
+            put_queues(&mut text, system)?;
+            Ok(text)
+        }
+        Form::Json => {
+            put_queues_json(&mut text, alloc, system)?;
+            Ok(text)
+        }
+    }
+}
+
+/// The messages of the queue of a system that has the name.
+fn show_messages(
+    alloc: Global,
+    system: &System,
+    name: QueueName,
+    form: Form,
+) -> Result<Text, CommandError>
+    ensures { (c : Caller) → Shows c (Messages name form) system.now result }
+{
+    let Some(place) = name.place_in(system) else {
+        return Err(CommandError::Refused(Errno::ENOENT));
+    };
+    let Some(info) = system.info(place) else {
+        return Err(CommandError::Refused(Errno::ENOENT));
+    };
+    let messages = &system.queue(place).messages;
+    let mut text = Text::new(alloc);
+    match form {
+        Form::Table => {
+            put_messages(&mut text, messages)?;
+            Ok(text)
+        }
+        Form::Json => {
+            put_messages_json(&mut text, alloc, &info, messages)?;
+            Ok(text)
+        }
+    }
+}

@@ -1,0 +1,86 @@
+//! The fixed commands: scripts, and files that are made, checked and made anew.
+
+ghost use Rattle.msgq_cli.specs.Tasks.{HasPages};
+
+use migration_runs::{CopyRequest, SalvageRequest, Size, copy_file, salvage_file};
+use script_runs::msgq_cli::{
+    Ending, Output, Task, advise, complain, complain_of_lines, new_file, report_file,
+};
+use script_runs::replays::{Sources, replay_file};
+use script_runs::{run_file, serve};
+use std::io::{IsTerminal, Write};
+
+/// What faults of lines are told of, where a script is run without a file.
+const MEMORY: &str = "the file in memory";
+
+/// Does what a command line asks for, and gives the exit status.
+pub fn fixed<W, E>(rt: &HostRuntime, task: Task<'_>, output: &mut Output<W>, errors: &mut E) -> u8
+where
+    W: Write + Drop,
+    E: Write + IsTerminal,
+    requires pages { HasPages task }
+{
+    // These two say themselves what became of their file.
+    let is_run = matches!(&task, Task::Run { .. } | Task::Replay { .. });
+    let ending = perform(rt, task, output, errors);
+    output.flush();
+    if let Some(error) = output.refusal() {
+        if !is_run {
+            complain("standard output", "it can't be written", error, errors);
+        }
+    }
+    ending.status(output.has_refused())
+}
+
+/// Does what a command line asks for. Standard error is told what can be done with a file that is
+/// refused.
+fn perform<W, E>(rt: &HostRuntime, task: Task<'_>, output: &mut Output<W>, errors: &mut E) -> Ending
+where
+    W: Write + Drop,
+    E: Write + IsTerminal,
+    requires pages { HasPages task }
+{
+    let (file, ending) = match task {
+        Task::Serve => return serve_input(rt, output, errors),
+        Task::New { file, pages } => return new_file(rt, file, pages, output, errors),
+        Task::Migrate { old, new } => {
+            let size = Size::Migrated;
+            return copy_file(rt, CopyRequest { old, new, size }, output, errors);
+        }
+        Task::Copy { old, new, pages } => {
+            let size = Size::Pages(pages);
+            return copy_file(rt, CopyRequest { old, new, size }, output, errors);
+        }
+        Task::Salvage { old, new, pages } => {
+            let request = SalvageRequest { old, new, pages };
+            return salvage_file(rt, request, output, errors);
+        }
+        Task::Run { file, script } => (file.path, run_file(rt, file, script, output, errors)),
+        Task::Replay {
+            file,
+            script,
+            schedule,
+        } => {
+            let sources = Sources {
+                file,
+                script,
+                schedule,
+            };
+            (file.path, replay_file(rt, sources, output, errors))
+        }
+        Task::Report(request) => (request.file, report_file(rt, request, output, errors)),
+    };
+    advise(rt, file, ending, errors);
+    ending
+}
+
+/// Runs the script of standard input on a file in memory.
+fn serve_input<W, E>(rt: &HostRuntime, output: &mut Output<W>, errors: &mut E) -> Ending
+where
+    W: Write + Drop,
+    E: Write,
+{
+    let ending = serve(rt.alloc(), &mut rt.reader(), output, errors);
+    complain_of_lines(MEMORY, None, output, errors);
+    ending
+}

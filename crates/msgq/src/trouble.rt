@@ -1,0 +1,181 @@
+//! Why a command of a shell is not done, and what is said of that.
+
+use command_runs::CommandError;
+use interleaving_core::OpenFault;
+use queue_commands::{Command, ExitStatus, QueueName, Sending};
+use queue_model::{Caller, Errno, MAX_QBYTES};
+use rollback_journal::{OpenError, Refused};
+use script_runs::msgq_cli::{
+    Ending, Failure, Plain, Stage, advise, complain, complain_of_fault, complain_of_refused,
+};
+use std::io;
+use std::io::Write;
+
+/// On which file and queue a command makes its calls, and for whom.
+#[derive(Clone, Copy)]
+pub struct Errand<'a> {
+    /// The file.
+    pub file: &'a str,
+    /// The queue, where one is named.
+    pub queue: Option<QueueName>,
+    /// Who calls.
+    pub caller: Caller,
+}
+
+/// Why a command is not done.
+#[derive(Drop)]
+pub enum Trouble {
+    /// The clock can't be read.
+    Clock(io::Error),
+    /// FILE is not opened with its journal.
+    Unopened(OpenError),
+    /// The command is not done on FILE; and what the system said where it refused a transfer.
+    Undone(CommandError, Option<Refused>),
+    /// Standard output refused what was looked at.
+    Unshown(io::Error),
+}
+
+impl Trouble {
+    /// Whether there is no message, or no room.
+    pub fn is_not_now(&self) -> bool {
+        self.status() == ExitStatus::NotNow
+    }
+
+    /// The exit status of a command that ends by it.
+    pub fn status(&self) -> ExitStatus {
+        match self {
+            Trouble::Undone(error, _) => error.status(),
+            Trouble::Clock(_) | Trouble::Unopened(_) | Trouble::Unshown(_) => ExitStatus::Fault,
+        }
+    }
+
+    /// Says it on standard error, and gives the exit status.
+    pub fn tell(
+        self,
+        rt: &HostRuntime,
+        errand: Errand<'_>,
+        command: Option<&Command>,
+    ) -> ExitStatus {
+        let status = self.status();
+        let mut errors = rt.stderr();
+        match self {
+            Trouble::Clock(error) => {
+                complain("the clock", "it can't be read", &error, &mut errors);
+            }
+            Trouble::Unopened(error) => {
+                let fault = error.number();
+                let what = "it can't be opened";
+                complain_of_fault(errand.file, what, fault, &error, &mut errors);
+            }
+            Trouble::Unshown(error) => {
+                complain(
+                    "standard output",
+                    "it can't be written",
+                    &error,
+                    &mut errors,
+                );
+            }
+            Trouble::Undone(CommandError::Refused(errno), _) => {
+                tell_refusal(errand, errno, command, &mut errors);
+            }
+            Trouble::Undone(error, refused) => {
+                tell_undone(rt, errand.file, error, refused, &mut errors);
+            }
+        }
+        status
+    }
+}
+
+/// What is said where no refusal of a call is why a command is not done.
+fn tell_undone<E: Write>(
+    rt: &HostRuntime,
+    file: &str,
+    error: CommandError,
+    refused: Option<Refused>,
+    errors: &mut E,
+) {
+    if let Some(ending) = ending_of(&error) {
+        complain_of_refused(file, ending, refused, errors);
+        advise(rt, file, ending, errors);
+        return;
+    }
+    if let Some(refused) = refused {
+        complain(file, "a transfer failed", refused, errors);
+    }
+    match &error {
+        CommandError::Unprinted(why) => {
+            let file = Plain(file);
+            let _ = writeln!(errors, "msgq: standard output: {why}; {file} is unchanged");
+        }
+        _ => {
+            let fault = error.number().unwrap_or(faults::FAILED);
+            complain_of_fault(file, "nothing is done", fault, &error, errors);
+        }
+    }
+}
+
+/// How a run on a file would have ended that is not opened, or not closed, for this.
+fn ending_of(error: &CommandError) -> Option<Ending> {
+    let (stage, fault) = match error {
+        CommandError::Unopened(OpenFault::Wrong(fault)) => return Some(Ending::Unopened(*fault)),
+        CommandError::Unopened(fault) => (Stage::Opening, fault.number()),
+        CommandError::Unclosed(fault) => (Stage::Closing, fault.number()),
+        _ => return None,
+    };
+    Some(Ending::Failed(Failure { stage, fault }))
+}
+
+/// `msgq: FILE: queue N: NAME: why`.
+fn tell_refusal<E: Write>(
+    errand: Errand<'_>,
+    errno: Errno,
+    command: Option<&Command>,
+    errors: &mut E,
+) {
+    let file = Plain(errand.file);
+    let name = errno.name();
+    let why = why(errno, errand.queue, command);
+    let _ = match errand.queue {
+        Some(QueueName::Key(key)) => writeln!(errors, "msgq: {file}: queue {key}: {name}: {why}"),
+        Some(QueueName::Id(id)) => writeln!(errors, "msgq: {file}: queue @{id}: {name}: {why}"),
+        None => writeln!(errors, "msgq: {file}: {name}: {why}"),
+    };
+}
+
+/// What a refusal says to who asked from a shell (docs/QUEUES.md, "Calls").
+fn why(errno: Errno, queue: Option<QueueName>, command: Option<&Command>) -> &'static str {
+    match errno {
+        Errno::E2BIG => "the message is longer than --size, and --noerror is not given; it stays",
+        Errno::EAGAIN => "there is no room on it",
+        Errno::EEXIST => "the key has a queue",
+        Errno::EIDRM => "it was removed",
+        Errno::EINTR => "the call would wait",
+        Errno::EINVAL => match command {
+            Some(Command::Send(Sending { mtype, .. })) if *mtype < 1 => {
+                "the type of a message is at least 1"
+            }
+            Some(Command::Set(setting)) if setting.qbytes.unwrap_or(0) > MAX_QBYTES => {
+                "a limit is at most 65536 bytes"
+            }
+            _ => "no queue ever had this id",
+        },
+        Errno::ENOENT => match (queue, command) {
+            (Some(QueueName::Id(_)), _) => "no queue has this id",
+            (_, Some(Command::Send(_))) => "no queue has this key, and --create is not given",
+            _ => "no queue has this key",
+        },
+        Errno::ENOMSG => "there is no message that the type selects",
+        Errno::ENOSPC => "256 queues are alive, or no id is left",
+        Errno::EACCES => match command {
+            Some(Command::Send(_)) => "its mode does not let the caller write",
+            _ => "its mode does not let the caller read",
+        },
+        Errno::EPERM => match command {
+            Some(Command::Set(setting)) if setting.qbytes.is_some() => {
+                "the caller is neither its owner, its creator nor user 0, or raises the limit and \
+                is not user 0"
+            }
+            _ => "the caller is neither its owner, its creator nor user 0",
+        },
+    }
+}

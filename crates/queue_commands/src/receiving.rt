@@ -1,0 +1,100 @@
+//! Messages are received.
+
+ghost use Rattle.std.specs.Prelude.{◌≡◌, ◌++◌, ℕ, OnOk, length};
+ghost use Rattle.queue_model.specs.State.{State};
+ghost use Rattle.queue_model.specs.declared.caller.Caller.{Caller};
+ghost use Rattle.queue_commands.specs.Coming.{Comes};
+ghost use Rattle.queue_commands.specs.Receiving.{ReceivesAs, TakesAllAs, TakesAs, head_text, receive_call, shown_text};
+
+use crate::answering::Answering;
+use crate::asking::{find, message_in};
+use crate::error::AskError;
+use crate::request::Receiving;
+use faults::NoMemory;
+use queue_lists::Text;
+use queue_model::{Call, Errno, Message, ReceiveArguments};
+use std::alloc::Global;
+
+/// Receives messages, and gives the text of them.
+pub(crate) fn receive<A: Answering>(
+    alloc: Global,
+    answers: &mut A,
+    moment: u64,
+    receiving: &Receiving,
+) -> Result<Text, AskError>
+    ensures { (c : Caller) (s : State) → A.stands answers.old c s →
+        Comes (A.stands answers.new c) (A.lacks answers.new c)
+        (ReceivesAs c moment receiving.now s) result }
+{
+    let id = find(answers, moment, receiving.queue, None)?;
+    take_all(alloc, answers, moment, receiving, id)
+}
+
+/// Receives messages from a queue, as many as may be or until none is left, and gives their text.
+fn take_all<A: Answering>(
+    alloc: Global,
+    answers: &mut A,
+    moment: u64,
+    receiving: &Receiving,
+    id: u32,
+) -> Result<Text, AskError>
+    ensures { (c : Caller) (s : State) → A.stands answers.old c s →
+        Comes (A.stands answers.new c) (A.lacks answers.new c) (TakesAllAs c
+        (receive_call moment receiving.now id) receiving.now s) result }
+{
+    let mut text = Text::new(alloc);
+    for taken in 0..receiving.most {
+        match take(answers, moment, receiving, id) {
+            Ok(message) => put_message(&mut text, receiving.heads, &message)?,
+            Err(AskError::Refused(Errno::ENOMSG)) if 0 < taken => return Ok(text),
+            Err(error) => return Err(error),
+        }
+    }
+    Ok(text)
+}
+
+/// Receives one message.
+fn take<A: Answering>(
+    answers: &mut A,
+    moment: u64,
+    receiving: &Receiving,
+    id: u32,
+) -> Result<Message, AskError>
+    ensures { (c : Caller) (s : State) → A.stands answers.old c s →
+        Comes (A.stands answers.new c) (A.lacks answers.new c)
+        (TakesAs c moment receiving.now id s) result }
+{
+    let call = ReceiveArguments {
+        id,
+        size: receiving.size,
+        mtype: receiving.mtype,
+        nowait: true,
+        noerror: receiving.noerror,
+        moment,
+    };
+    message_in(answers.answer(Call::Receive(call)))
+}
+
+/// Puts a message last: its bytes as they are, behind a line that tells of it where it has one.
+fn put_message(text: &mut Text, heads: bool, message: &Message) -> Result<(), NoMemory>
+    ensures { OnOk result (text.new ≡ text.old ++ shown_text heads message.now) }
+{
+    if heads {
+        put_head(text, message)?;
+    }
+    text.put(message.bytes.as_slice())
+}
+
+/// Puts serial, sender, type and length of a message last, as a line.
+fn put_head(text: &mut Text, message: &Message) -> Result<(), NoMemory>
+    ensures { OnOk result (text.new ≡ text.old ++ head_text message.now) }
+{
+    text.put_number(message.serial)?;
+    text.put(b" ")?;
+    text.put_number(u64::from(message.sender))?;
+    text.put(b" ")?;
+    text.put_signed(message.mtype)?;
+    text.put(b" ")?;
+    text.put_number(message.bytes.len() as u64)?;
+    text.put(b"\n")
+}
