@@ -1,6 +1,7 @@
 -- A session is opened, and what its pages are.
-use Rattle.std.proofs.Common.{arith, ℕ, suc, ◌≡◌, ◌≢◌, ◌<◌, IsTrue, refl, sym, ap, ◌∙◌, subst, true, false, List, [], ◌∷◌, Option, Some, None, Result, Ok, Err, IfOk, length, map, slice_index_or}
-use Rattle.std.specs.List.{All}
+use Rattle.std.proofs.Common.{arith, ℕ, suc, ◌≡◌, ◌≢◌, ◌<◌, IsTrue, refl, sym, ap, ◌∙◌, subst, true, false, List, [], ◌∷◌, Option, Some, None, Result, Ok, Err, IfOk, OnOk, length, map, slice_index_or}
+use Rattle.std.specs.Result.{is_err, result_ok}
+use Rattle.std.proofs.lemmas.Bool.{true≢false}
 use Rattle.std.proofs.lemmas.List.{ext_get_or, get_or-map, length-map}
 use Rattle.std.proofs.lemmas.List.Elements.{All-from_get_or}
 use Rattle.bucket_page.specs.Pseudokeys.{sha_key}
@@ -9,7 +10,7 @@ use Rattle.page_device.specs.Device.{HasRisen}
 use Rattle.page_device.specs.Sealed.{payload_of}
 use Rattle.page_device.specs.declared.fault.DeviceFault.TheVariants as device
 use Rattle.page_locks.specs.Table.{Table}
-use Rattle.buffer_pool.specs.Pool.{KeepsImages, MayNotPin, PoolHasCause, PoolState, payloads_of}
+use Rattle.buffer_pool.specs.Pool.{KeepsImages, MayNotPin, PoolState, payloads_of}
 use Rattle.buffer_pool.specs.declared.fault.PoolFault.{PoolFault}
 use Rattle.buffer_pool.specs.declared.fault.PoolFault.TheVariants as pools
 use Rattle.file_pages.specs.Files.{IsFilePool, SpellsFile, store_of}
@@ -55,6 +56,11 @@ is_new caller pages content file as_many k opened = record {
   sits = opened.sits;
   many = opened.many ∙ as_many;
 }
+
+-- the file was made
+pub made : {T F : Type 0} (r : Result T F) (P : Type 0) → false ≡ is_err r → OnOk r P → P
+made (Ok done) P fine is = is
+made (Err fault) P fine is = absurd cc
 
 pub new_opened : {F : Type 0} (caller : Caller) (pages : ℕ) (content : List (List ℕ)) → NewHasNoQueues →
     IsNewFile pages content → (r : Result SessionState F) → IfOk r (Opens caller content) →
@@ -106,25 +112,27 @@ still_holds s old new kept holds = subst (Holds s) (sym kept.is) (record {
 -- a page of it is there, sealed and well formed; so what fails it is a transfer
 device_failed : (pool : PoolState) (page : ℕ) (fault : PoolFault) (faults : ℕ) → IsTrue pool.honest →
     IsFilePool pool → page < length pool.images → fault ≢ pools.Device device.PastEnd → fault ≢ pools.TooFewFrames →
-    PoolHasCause {T = Unit {0}} (MayNotPin page pool) pool.faults faults (Err fault) → HasRisen pool.faults faults
-device_failed pool page (pools.Device device.Device) faults honest file within there room cause = cause.failed refl
-device_failed pool page (pools.Device device.BadDigest) faults honest file within there room cause =
-    absurd (cause.told honest (file.sealed page within))
-device_failed pool page (pools.Device device.PastEnd) faults honest file within there room cause = absurd (there refl)
-device_failed pool page (pools.Device device.DeviceFull) faults honest file within there room cause =
-    absurd cause.told
-device_failed pool page (pools.Device device.NoMemory) faults honest file within there room cause = absurd cause.told
-device_failed pool page pools.Malformed faults honest file within there room cause =
-    absurd (cause.told honest (is_well pool.images file.file page within))
-device_failed pool page pools.TooFewFrames faults honest file within there room cause = absurd (room refl)
-device_failed pool page pools.NoMemory faults honest file within there room cause = absurd cause.told
+    MayNotPin page pool fault → (fault ≡ pools.Device device.Device → HasRisen pool.faults faults) →
+    HasRisen pool.faults faults
+device_failed pool page (pools.Device device.Device) faults honest file within there room told failed = failed refl
+device_failed pool page (pools.Device device.BadDigest) faults honest file within there room told failed =
+    absurd (told honest (file.sealed page within))
+device_failed pool page (pools.Device device.PastEnd) faults honest file within there room told failed =
+    absurd (there refl)
+device_failed pool page (pools.Device device.DeviceFull) faults honest file within there room told failed =
+    absurd told
+device_failed pool page (pools.Device device.NoMemory) faults honest file within there room told failed = absurd told
+device_failed pool page pools.Malformed faults honest file within there room told failed =
+    absurd (told honest (is_well pool.images file.file page within))
+device_failed pool page pools.TooFewFrames faults honest file within there room told failed = absurd (room refl)
+device_failed pool page pools.NoMemory faults honest file within there room told failed = absurd told
 
 risen : (s : State) (page : ℕ) (fault : PoolFault) (old new : SessionState) → page < pages_of old → Holds s old →
     FailsToRead page fault old new → HasFailed old new
 risen s page fault old new within holds fails = record {
   failed = ap (λ (k : SessionState). k.failed) fails.by.is;
   cause = device_failed old.pool page fault new.pool.faults holds.file.honest holds.file.file within fails.there
-      fails.room fails.cause;
+      fails.room fails.told fails.failed;
 }
 
 pub page_kept : (page : ℕ) (r : Result (List ℕ) PoolFault) (old new : SessionState) → Reads page r old new → KeepsSeat old new
@@ -138,12 +146,8 @@ as_many : (page : ℕ) (r : Result (List ℕ) PoolFault) (old new : SessionState
 as_many page (Ok bytes) old new read = read.stay.keeps.as_many
 as_many page (Err fault) old new fails = fails.by.keeps.as_many
 
-abbrev pub given_by : Result (List ℕ) PoolFault → Option (List ℕ)
-given_by (Ok bytes) = Some bytes
-given_by (Err fault) = None
-
 becomes : (page : ℕ) (r : Result (List ℕ) PoolFault) (old new : SessionState) → page < pages_of old → Reads page r old new →
-    (s : State) → Holds s old → PageBecomes page s (given_by r) old new
+    (s : State) → Holds s old → PageBecomes page s (result_ok r) old new
 becomes page (Ok bytes) old new within read s holds = record {
   is = read.is;
   holds = still_holds s old new read.stay holds;
@@ -152,7 +156,7 @@ becomes page (Ok bytes) old new within read s holds = record {
 becomes page (Err fault) old new within fails s holds = risen s page fault old new within holds fails
 
 pub is_given : (page : ℕ) (r : Result (List ℕ) PoolFault) (old new : SessionState) → page < pages_of old →
-    Reads page r old new → GivesPage page (given_by r) old new
+    Reads page r old new → GivesPage page (result_ok r) old new
 is_given page r old new within read = record {
   becomes = becomes page r old new within read;
   caller = same_caller old new (page_kept page r old new read);
@@ -160,9 +164,9 @@ is_given page r old new within read = record {
 }
 
 -- a session that is not between calls holds no system
-pub none_given : (page : ℕ) (k : SessionState) → (IsBetweenCalls k → ⊥) → GivesPage page None k k
+pub none_given : (page : ℕ) (k : SessionState) → (IsBetweenCalls k → IsTrue false) → GivesPage page None k k
 none_given page k busy = record {
-  becomes = λ s holds. absurd (busy (is_between s k holds));
+  becomes = λ s holds. absurd (true≢false (sym (busy (is_between s k holds))));
   caller = refl;
   many = refl;
 }

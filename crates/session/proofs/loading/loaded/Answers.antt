@@ -1,5 +1,5 @@
-use Rattle.std.proofs.Common.{arith, ℕ, ◌≡◌, ◌+◌, ◌-◌, ◌*◌, ◌++◌, ◌∷◌, [], ap, ◌∙◌, List, take, drop}
-use Rattle.session.specs.Session.{pages_in}
+use Rattle.std.proofs.Common.{arith, ℕ, ◌≡◌, ◌+◌, ◌-◌, ◌*◌, ◌++◌, ◌∷◌, [], ap, ◌∙◌, take, drop}
+use Rattle.session.proofs.LoadLemmas.{one_more}
 use Rattle.session.proofs.loading.loaded.Goals as goal
 
 -- one page more
@@ -7,6 +7,5 @@ pub loop-page-preserved : goal.loop-page-preserved
 loop-page-preserved c =
     let at = c.loop-page.page * 4096 in
     let many : at + 4096 - at ≡ 4096 = omega arith in
-    c.in_default.ensures
-    ∙ ap (λ (n : ℕ). c.loop-page.device ++ take n (drop at c.args.bytes.now) ∷ []) many
-    ∙ ap (λ (pages : List (List ℕ)). pages ++ take 4096 (drop at c.args.bytes.now) ∷ []) c.loop-page.invariant
+    one_more c.args.bytes.now c.loop-page.page c.loop-page.device c.add.new.device c.loop-page.invariant
+    (c.in_default.ensures ∙ ap (λ (n : ℕ). c.loop-page.device ++ take n (drop at c.args.bytes.now) ∷ []) many)
