@@ -28,8 +28,8 @@ not_in : (Is : SessionState → Type 0) (code : ℕ) (after : KeptSession) → I
     HasOpened Is code after
 not_in Is code after number none = record {
   kept = λ (done : code ≡ 0).
-    let least : 20 ≤ code = number.least in
-    absurd (omega arith);
+      let least : 20 ≤ code = number.least in
+      absurd (omega arith);
   refused = λ _. none;
   fault = λ _. number;
 }

@@ -174,38 +174,38 @@ none_given page k busy = record {
 -- ---- all of its pages
 
 module _ (s : State) (k : SessionState) (content : List (List ℕ)) (holds : Holds s k) (its : AreItsPages content k)
-    where
-  -- as where these pages were the device's
-  abbrev stored : SessionState
-  stored = record k { pool = record k.pool { stored = content } }
+  where
+    -- as where these pages were the device's
+    abbrev stored : SessionState
+    stored = record k { pool = record k.pool { stored = content } }
 
-  rests : Holds s stored
-  rests = record {
-    file = record {
-      honest = holds.file.honest;
+    rests : Holds s stored
+    rests = record {
       file = record {
-        file = holds.file.file.file;
-        sealed = λ n within. (its.each n (subst (λ (m : ℕ). n < m) (sym its.many) within)).sealed;
+        honest = holds.file.honest;
+        file = record {
+          file = holds.file.file.file;
+          sealed = λ n within. (its.each n (subst (λ (m : ℕ). n < m) (sym its.many) within)).sealed;
+        };
+        sound = holds.file.sound;
+        exact = holds.file.exact;
+        free = holds.file.free;
+        filed = holds.file.filed;
+        holds = holds.file.holds;
+        spelled = holds.file.spelled;
       };
-      sound = holds.file.sound;
-      exact = holds.file.exact;
-      free = holds.file.free;
-      filed = holds.file.filed;
-      holds = holds.file.holds;
-      spelled = holds.file.spelled;
-    };
-    idle = holds.idle;
-    sound = holds.sound;
-    mark = holds.mark;
-  }
+      idle = holds.idle;
+      sound = holds.sound;
+      mark = holds.mark;
+    }
 
-  flushed : IsFlushedTo stored.pool content
-  flushed = record {
-    images = ext_get_or [] (payloads_of content) k.pool.images (length-map content payload_of ∙ its.many) (λ n within.
-        let below : n < length content = subst (λ (m : ℕ). n < m) (length-map content payload_of) within in
-        get_or-map payload_of content n [] [] below ∙ (its.each n below).payload);
-    seals = λ n sealed. sealed;
-  }
+    flushed : IsFlushedTo stored.pool content
+    flushed = record {
+      images = ext_get_or [] (payloads_of content) k.pool.images (length-map content payload_of ∙ its.many) (λ n within.
+          let below : n < length content = subst (λ (m : ℕ). n < m) (length-map content payload_of) within in
+          get_or-map payload_of content n [] [] below ∙ (its.each n below).payload);
+      seals = λ n sealed. sealed;
+    }
 
 pub are_the_file : ClosesAKernel ShaKey → PagesAreTheFile
 are_the_file closes s k content holds its =

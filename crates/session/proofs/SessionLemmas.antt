@@ -151,71 +151,70 @@ module _ (refuses : RefusesAtRest ShaKey) (call : Call) (refusal : Call × Begin
 module _ (answers : AnswersLoneCalls ShaKey) (call : Call) (old first begun last : SessionState)
     (same : IsShortened old first) (whole : IsWhole first) (is : IsSeat first.locks 1) (has : HasCall 1 call first begun)
     (did : Step) (driven : IsDriven sha_key 1 did begun last) (told : Option Answer) (run : IsRun 1 told begun last)
-    where
-  its_caller : caller_of old ≡ Some has.caller
-  its_caller = ap (λ (cs : List Caller). caller_at cs 1) (sym same.callers) ∙ has.sits
+  where
+    its_caller : caller_of old ≡ Some has.caller
+    its_caller = ap (λ (cs : List Caller). caller_at cs 1) (sym same.callers) ∙ has.sits
 
-  keeps : KeepsSeat old last
-  keeps = then_keeps old first last (keeps_seat_shortened old first same) (then_keeps first begun last
-      (keeps_seat_begun call first begun has) (keeps_seat_run told begun last run))
+    keeps : KeepsSeat old last
+    keeps = then_keeps old first last (keeps_seat_shortened old first same) (then_keeps first begun last
+        (keeps_seat_begun call first begun has) (keeps_seat_run told begun last run))
 
-  stands : (s : State) → Holds s old → StandsDriven sha_key 1 has.caller call s did begun last driven
-  stands s holds = answers sha_key 1 has.caller call s did first begun last whole (same.holds s holds) is has.sits
-      has driven
+    stands : (s : State) → Holds s old → StandsDriven sha_key 1 has.caller call s did begun last driven
+    stands s holds = answers sha_key 1 has.caller call s did first begun last whole (same.holds s holds) is has.sits
+        has driven
 
-  behind : (s : State) → Holds s old → (d : Step) → did ≡ d → StandsBehind sha_key 1 has.caller call s d last
-  behind s holds d is_d =
-      subst (λ (x : Step). StandsBehind sha_key 1 has.caller call s x last) is_d (stands s holds).stands
+    behind : (s : State) → Holds s old → (d : Step) → did ≡ d → StandsBehind sha_key 1 has.caller call s d last
+    behind s holds d is_d =
+        subst (λ (x : Step). StandsBehind sha_key 1 has.caller call s x last) is_d (stands s holds).stands
 
-  pub told_waiting : is_waiting did ≡ true → (back : Option Call) (new : SessionState) → Withdraws 1 back last new →
-      Calls call (Err Waits) old new
-  told_waiting waiting back new went = record {
-    becomes = λ s holds.
-        let waits = behind s holds steps.Waiting (is_it did waiting) in
-        (
-          ap (λ (c : Option Caller). outcome_for c call s) its_caller ∙ waits.none,
-          withdrawn call has.caller s last waits back new went,
-        );
-    caller = same_caller old new (then_keeps old last new keeps (keeps_seat_back back last new went));
-  }
-    where
-      is_it : (d : Step) → is_waiting d ≡ true → d ≡ steps.Waiting
-      is_it (steps.Moved kind) is = absurd cc
-      is_it (steps.Blocked other) is = absurd cc
-      is_it steps.Waiting is = refl
-      is_it (steps.Answered answer) is = absurd cc
-      is_it steps.Idle is = absurd cc
-      is_it (steps.Fault fault) is = absurd cc
+    pub told_waiting : is_waiting did ≡ true → (back : Option Call) (new : SessionState) → Withdraws 1 back last new →
+        Calls call (Err Waits) old new
+    told_waiting waiting back new went = record {
+      becomes = λ s holds.
+          let waits = behind s holds steps.Waiting (is_it did waiting) in (
+            ap (λ (c : Option Caller). outcome_for c call s) its_caller ∙ waits.none,
+            withdrawn call has.caller s last waits back new went,
+          );
+      caller = same_caller old new (then_keeps old last new keeps (keeps_seat_back back last new went));
+    }
+      where
+        is_it : (d : Step) → is_waiting d ≡ true → d ≡ steps.Waiting
+        is_it (steps.Moved kind) is = absurd cc
+        is_it (steps.Blocked other) is = absurd cc
+        is_it steps.Waiting is = refl
+        is_it (steps.Answered answer) is = absurd cc
+        is_it steps.Idle is = absurd cc
+        is_it (steps.Fault fault) is = absurd cc
 
-  faults_same : begun.pool.faults ≡ old.pool.faults
-  faults_same = ap (λ (k : SessionState). k.pool.faults) has.is ∙ ap (λ (p : PoolState). p.faults) same.pool
+    faults_same : begun.pool.faults ≡ old.pool.faults
+    faults_same = ap (λ (k : SessionState). k.pool.faults) has.is ∙ ap (λ (p : PoolState). p.faults) same.pool
 
-  becomes_so : (s : State) → Holds s old → (d : Step) → did ≡ d → is_waiting d ≡ false → Becomes call s (came_of d) old last
-  becomes_so s holds (steps.Moved kind) is_d over =
-      absurd (subst (λ (x : Step). IsMove x → ⊥) is_d (stands s holds).rests tt)
-  becomes_so s holds (steps.Blocked other) is_d over = absurd (behind s holds (steps.Blocked other) is_d)
-  becomes_so s holds steps.Waiting is_d over = absurd cc
-  becomes_so s holds (steps.Answered answer) is_d over =
-      let answered = behind s holds (steps.Answered answer) is_d in
-      record {
-        after = answered.after;
-        by_rules = ap (λ (c : Option Caller). outcome_for c call s) its_caller ∙ answered.by_rules;
-        holds = answered.rests;
-      }
-  becomes_so s holds steps.Idle is_d over = absurd (behind s holds steps.Idle is_d)
-  becomes_so s holds (steps.Fault faults.NoRoom) is_d over =
-      let none = behind s holds (steps.Fault faults.NoRoom) is_d in
-      record { caller = has.caller; sits = its_caller; found = none.0; holds = none.1 }
-  becomes_so s holds (steps.Fault (faults.File fault)) is_d over = record {
-    failed = behind s holds (steps.Fault (faults.File fault)) is_d;
-    cause = subst (λ (n : ℕ). HasRisen n last.pool.faults) faults_same ((stands s holds).cause (ap is_failure is_d));
-  }
+    becomes_so : (s : State) → Holds s old → (d : Step) → did ≡ d → is_waiting d ≡ false → Becomes call s (came_of d) old last
+    becomes_so s holds (steps.Moved kind) is_d over =
+        absurd (subst (λ (x : Step). IsMove x → ⊥) is_d (stands s holds).rests tt)
+    becomes_so s holds (steps.Blocked other) is_d over = absurd (behind s holds (steps.Blocked other) is_d)
+    becomes_so s holds steps.Waiting is_d over = absurd cc
+    becomes_so s holds (steps.Answered answer) is_d over =
+        let answered = behind s holds (steps.Answered answer) is_d in
+        record {
+          after = answered.after;
+          by_rules = ap (λ (c : Option Caller). outcome_for c call s) its_caller ∙ answered.by_rules;
+          holds = answered.rests;
+        }
+    becomes_so s holds steps.Idle is_d over = absurd (behind s holds steps.Idle is_d)
+    becomes_so s holds (steps.Fault faults.NoRoom) is_d over =
+        let none = behind s holds (steps.Fault faults.NoRoom) is_d in
+        record { caller = has.caller; sits = its_caller; found = none.0; holds = none.1 }
+    becomes_so s holds (steps.Fault (faults.File fault)) is_d over = record {
+      failed = behind s holds (steps.Fault (faults.File fault)) is_d;
+      cause = subst (λ (n : ℕ). HasRisen n last.pool.faults) faults_same ((stands s holds).cause (ap is_failure is_d));
+    }
 
-  pub told_else : is_waiting did ≡ false → Calls call (came_of did) old last
-  told_else over = record {
-    becomes = λ s holds. becomes_so s holds did refl over;
-    caller = same_caller old last keeps;
-  }
+    pub told_else : is_waiting did ≡ false → Calls call (came_of did) old last
+    told_else over = record {
+      becomes = λ s holds. becomes_so s holds did refl over;
+      caller = same_caller old last keeps;
+    }
 
 -- ---- it is stopped
 

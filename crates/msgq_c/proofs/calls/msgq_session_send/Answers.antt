@@ -7,7 +7,7 @@ use Rattle.msgq_c.proofs.calls.msgq_session_send.Goals as goal
 pub returns : goal.returns
 returns c =
     let call_is : c.call.result ≡ send_of c.args.call.now c.args.body.now =
-        c.call.ensures ∙ ap (send_of c.args.call.now) (c.new.ensures ∙ c.in-Ok.ensures.items) in
+    c.call.ensures ∙ ap (send_of c.args.call.now) (c.new.ensures ∙ c.in-Ok.ensures.items) in
     rw (← call_is) (served _ _ _ _ _ _ c.in-Some.ensures c.code_of.ensures (λ answer is. tt))
 
 -- there is no memory for the bytes
