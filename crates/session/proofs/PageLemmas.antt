@@ -135,7 +135,8 @@ risen s page fault old new within holds fails = record {
       fails.room fails.told fails.failed;
 }
 
-pub page_kept : (page : ℕ) (r : Result (List ℕ) PoolFault) (old new : SessionState) → Reads page r old new → KeepsSeat old new
+pub page_kept : (page : ℕ) (r : Result (List ℕ) PoolFault) (old new : SessionState) → Reads page r old new →
+    KeepsSeat old new
 page_kept page (Ok bytes) old new read =
     subst (KeepsSeat old) (sym read.stay.is) (record { callers = refl; seat = λ is. is })
 page_kept page (Err fault) old new fails =
@@ -146,8 +147,8 @@ as_many : (page : ℕ) (r : Result (List ℕ) PoolFault) (old new : SessionState
 as_many page (Ok bytes) old new read = read.stay.keeps.as_many
 as_many page (Err fault) old new fails = fails.by.keeps.as_many
 
-becomes : (page : ℕ) (r : Result (List ℕ) PoolFault) (old new : SessionState) → page < pages_of old → Reads page r old new →
-    (s : State) → Holds s old → PageBecomes page s (result_ok r) old new
+becomes : (page : ℕ) (r : Result (List ℕ) PoolFault) (old new : SessionState) → page < pages_of old →
+    Reads page r old new → (s : State) → Holds s old → PageBecomes page s (result_ok r) old new
 becomes page (Ok bytes) old new within read s holds = record {
   is = read.is;
   holds = still_holds s old new read.stay holds;
@@ -209,4 +210,5 @@ module _ (s : State) (k : SessionState) (content : List (List ℕ)) (holds : Hol
 
 pub are_the_file : ClosesAKernel ShaKey → PagesAreTheFile
 are_the_file closes s k content holds its =
-    closes sha_key s content (stored s k content holds its) (rests s k content holds its) (flushed s k content holds its)
+    closes sha_key s content (stored s k content holds its) (rests s k content holds its)
+    (flushed s k content holds its)

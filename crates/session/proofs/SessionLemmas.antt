@@ -149,7 +149,8 @@ module _ (refuses : RefusesAtRest ShaKey) (call : Call) (refusal : Call × Begin
 
 -- it is driven
 module _ (answers : AnswersLoneCalls ShaKey) (call : Call) (old first begun last : SessionState)
-    (same : IsShortened old first) (whole : IsWhole first) (is : IsSeat first.locks 1) (has : HasCall 1 call first begun)
+    (same : IsShortened old first) (whole : IsWhole first) (is : IsSeat first.locks 1)
+    (has : HasCall 1 call first begun)
     (did : Step) (driven : IsDriven sha_key 1 did begun last) (told : Option Answer) (run : IsRun 1 told begun last)
   where
     its_caller : caller_of old ≡ Some has.caller
@@ -189,7 +190,8 @@ module _ (answers : AnswersLoneCalls ShaKey) (call : Call) (old first begun last
     faults_same : begun.pool.faults ≡ old.pool.faults
     faults_same = ap (λ (k : SessionState). k.pool.faults) has.is ∙ ap (λ (p : PoolState). p.faults) same.pool
 
-    becomes_so : (s : State) → Holds s old → (d : Step) → did ≡ d → is_waiting d ≡ false → Becomes call s (came_of d) old last
+    becomes_so : (s : State) → Holds s old → (d : Step) → did ≡ d → is_waiting d ≡ false →
+        Becomes call s (came_of d) old last
     becomes_so s holds (steps.Moved kind) is_d over =
         absurd (subst (λ (x : Step). IsMove x → ⊥) is_d (stands s holds).rests tt)
     becomes_so s holds (steps.Blocked other) is_d over = absurd (behind s holds (steps.Blocked other) is_d)
