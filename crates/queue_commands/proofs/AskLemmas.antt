@@ -47,7 +47,8 @@ module _ (c : Caller) (call : Call) (s : State) (Stands : State → Type 0) (Lac
   serial_comes gives (Some answers.Done) (t, is, stands) = other_kind is_serial _ t gives is refl
   serial_comes gives (Some (answers.Refused e)) (t, is, stands) = record { system = t; is = is; stands = stands }
 
-  pub message_comes : Gives is_message (outcome c call s) → (came : Option Answer) → IsAsked c call s Stands Lacks came →
+  pub message_comes : Gives is_message (outcome c call s) → (came : Option Answer) →
+      IsAsked c call s Stands Lacks came →
       Comes Stands Lacks (IsAnswered answers.Received c call s) (message_in came)
   message_comes gives None lacks = lacks
   message_comes gives (Some (answers.Id id)) (t, is, stands) = other_kind is_message _ t gives is refl
@@ -89,8 +90,8 @@ module _ (c : Caller) (moment : ℕ) (s : State) (Stands : State → Type 0) (La
     sent : (mtype : ℤ) (id : ℕ) (body : List ℕ) → Asks c (send_call moment mtype id body) s Stands Lacks came →
         Comes Stands Lacks (SendsOneAs c moment mtype id body s) (serial_in came)
     sent mtype id body asks =
-        let gives = a_send_gives c (record { id = id; mtype = mtype; body = body; nowait = true; moment = moment }) s refl
-        in
+        let gives =
+        a_send_gives c (record { id = id; mtype = mtype; body = body; nowait = true; moment = moment }) s refl in
         serial_comes c (send_call moment mtype id body) s Stands Lacks gives came (asks (never_waits is_serial _ gives))
 
     -- of a copy of the body

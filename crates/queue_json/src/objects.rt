@@ -134,7 +134,8 @@ fn permissions_object(alloc: Global, permissions: Permissions) -> Result<Value, 
     Ok(value)
 }
 
-/// A message: its bytes as a text, in which what is no UTF-8 is replaced, and in hexadecimal digits.
+/// A message: its bytes as a text, in which what is no UTF-8 is replaced, and in hexadecimal
+/// digits.
 fn message_object(alloc: Global, message: &Message) -> Result<Value, NoMemory>
     ensures { IfOk result (λ value. view value ≡ message_data message.now) }
 {

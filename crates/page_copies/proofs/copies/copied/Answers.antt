@@ -1,5 +1,5 @@
 -- One page more was read.
-use Rattle.std.proofs.Common.{rules, ◌≡◌, ◌∙◌, ◌<◌, ◌++◌, ◌∷◌, [], ap, sym, subst, length, slice_get, Some, IsTrue, refl, ℕ, List}
+use Rattle.std.proofs.Common.{rules, ◌≡◌, ◌∙◌, ◌<◌, ◌++◌, ◌∷◌, [], ap, sym, subst, length, slice_get, Some, IsTrue, refl}
 use Rattle.page_copies.proofs.CopyLemmas.{Pages, read-more}
 use Rattle.page_copies.proofs.copies.copied.Goals as goal
 
