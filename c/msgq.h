@@ -1,8 +1,6 @@
 /* XSI message queues in one file: msgget, msgsnd, msgrcv and msgctl between the threads of a process, kept in a file from
  * one process to the next.
  *
- * Not accepted by the checker yet: what is called proved here is what the contracts of crates/session say.
- *
  * What each call is answered is proved: it is what the rules of queues say (docs/QUEUES.md), one call at a time, in the order in
  * which they come to the lock. What is proved speaks of memory: the file is read into it when it is opened, and written from it
  * by msgq_save. This part, the lock, the waits and the files, is tested.
