@@ -1,0 +1,29 @@
+/* A file of queues and its journal (docs/FORMAT.md, "The journal"). Each function gives 0 or the number of an error. */
+#ifndef MSGQ_PAIR_H
+#define MSGQ_PAIR_H
+
+#include "session.h"
+
+struct pair {
+    int file, journal;
+};
+
+/* Opens both, locks the journal and undoes what a save that was cut off has left. EBUSY where another has them. */
+int pair_open(struct pair *pair, const char *path);
+
+/* The bytes of the file, which are the caller's to free. */
+int pair_read(const struct pair *pair, uint8_t **bytes, size_t *count);
+
+/* Writes the pages of a session that differ from those of the file. */
+int pair_save(const struct pair *pair, struct handle *session);
+
+void pair_close(struct pair *pair);
+
+/* Makes a file of the pages of a session. EEXIST where there is one. */
+int pair_make(const char *path, struct handle *session);
+
+/* Reads or writes all of so many bytes at a place. EBADMSG where the file ends before. */
+int read_at(int file, void *bytes, size_t count, uint64_t at);
+int write_at(int file, const void *bytes, size_t count, uint64_t at);
+
+#endif

@@ -1,0 +1,90 @@
+/* The functions of crates/msgq_c. Their contracts are proved; who calls them sees to it that a handle is zeros or as the last
+ * call left it, and in one call at a time. */
+#ifndef MSGQ_SESSION_H
+#define MSGQ_SESSION_H
+
+#include <stdbool.h>
+#include <stddef.h>
+#include <stdint.h>
+
+#define PAGE_BYTES 4096
+#define DIGEST_BYTES 32
+
+enum {
+    DONE = 0,
+    NO_ROOM = 50,
+    NO_MEMORY = 60,
+    FAILED = 62,
+    WAITS = 100,
+    NO_SESSION = 101,
+    IN_USE = 102,
+    NO_PAGE = 103,
+};
+
+struct handle {
+    void *at;
+    bool is_open;
+};
+
+struct owner {
+    uint32_t pid, uid, gid;
+};
+
+struct get_call {
+    uint32_t key;
+    bool has_key, create, excl;
+    uint16_t mode;
+    uint64_t moment;
+};
+
+struct send_call {
+    int64_t mtype;
+    uint64_t moment;
+    uint32_t id;
+    bool nowait;
+};
+
+struct receive_call {
+    int64_t mtype;
+    uint64_t moment;
+    uint32_t id;
+    bool nowait, noerror;
+};
+
+struct set_call {
+    uint64_t moment;
+    uint32_t id, qbytes, uid, gid;
+    uint16_t mode;
+    bool has_uid, has_gid, has_mode;
+};
+
+struct got {
+    uint64_t serial;
+    int64_t mtype;
+    size_t length;
+    uint32_t sender;
+};
+
+struct info {
+    uint64_t stime, rtime, ctime;
+    uint32_t id, key, qnum, cbytes, qbytes, lspid, lrpid, uid, gid, cuid, cgid;
+    uint16_t mode;
+    bool has_key;
+};
+
+uint32_t msgq_session_open(struct handle *, const struct owner *, const uint8_t *bytes, size_t count);
+uint32_t msgq_session_create(struct handle *, const struct owner *, uint32_t pages);
+uint32_t msgq_session_get(struct handle *, const struct get_call *, uint32_t *id);
+uint32_t msgq_session_send(struct handle *, const struct send_call *, const uint8_t *body, size_t length);
+uint32_t msgq_session_receive(struct handle *, const struct receive_call *, uint8_t *room, size_t size, struct got *);
+uint32_t msgq_session_stat(struct handle *, uint32_t id, struct info *);
+uint32_t msgq_session_set(struct handle *, const struct set_call *);
+uint32_t msgq_session_remove(struct handle *, uint32_t id);
+uint32_t msgq_session_stop(struct handle *);
+uint32_t msgq_session_pages(struct handle *, uint32_t *pages);
+uint32_t msgq_session_page(struct handle *, uint32_t page, uint8_t *into);
+uint32_t msgq_session_close(struct handle *);
+size_t msgq_session_handle_size(void);
+void msgq_session_digest(const uint8_t *bytes, size_t count, uint8_t *into);
+
+#endif

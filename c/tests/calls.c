@@ -1,0 +1,179 @@
+/* Each call and each refusal once; what is expected stands in docs/QUEUES.md and in msgq.h. */
+#include "../msgq.h"
+
+#include <errno.h>
+#include <fcntl.h>
+#include <pthread.h>
+#include <stdio.h>
+#include <string.h>
+#include <sys/wait.h>
+#include <unistd.h>
+
+static int passed, failed;
+
+static void is(long long found, long long expected, const char *what) {
+    if (found == expected) {
+        passed++;
+        return;
+    }
+    failed++;
+    fprintf(stderr, "%s: %lld, not %lld\n", what, found, expected);
+}
+
+static const struct timespec SOON = {0, 20000000}, NOW = {0, 0};
+
+static void refusals(msgq *queues, uint32_t id) {
+    uint8_t room[MSGQ_MAX_BODY + 1] = {0};
+    uint32_t other;
+    struct msgq_info info;
+    struct msgq_change change = {.qbytes = 65537, .uid = -1, .gid = -1, .mode = -1};
+    is(msgq_get(queues, 5, 0, &other), ENOENT, "a key without a queue");
+    is(msgq_get(queues, 7, MSGQ_CREATE | MSGQ_EXCLUSIVE | 0600, &other), EEXIST, "a key that has one");
+    is(msgq_get(queues, (int64_t)1 << 32, MSGQ_CREATE, &other), EINVAL, "a key that is none");
+    is(msgq_get(queues, 7, 1 << 20, &other), EINVAL, "a flag that is none");
+    is(msgq_send(queues, id, 0, "x", 1, 0, NULL), EINVAL, "a type below 1");
+    is(msgq_send(queues, id, 1, room, sizeof room, 0, NULL), EINVAL, "a body that is too long");
+    is(msgq_send(queues, 99, 1, "x", 1, 0, NULL), EINVAL, "an id that was never given");
+    is(msgq_send(queues, id, 1, NULL, 1, 0, NULL), EINVAL, "no body");
+    is(msgq_receive(queues, id, 0, room, sizeof room, MSGQ_NOWAIT, NULL, NULL), ENOMSG, "no message");
+    is(msgq_receive(queues, id, 0, room, sizeof room, 0, &SOON, NULL), ETIMEDOUT, "a wait that ends");
+    is(msgq_receive(queues, id, 0, room, sizeof room, 0, &NOW, NULL), ETIMEDOUT, "a wait of no time");
+    is(msgq_set(queues, id, &change), EINVAL, "qbytes above the limit");
+    is(msgq_stat(queues, 0, &info), EINVAL, "id 0");
+    is(msgq_stat(queues, id, NULL), EINVAL, "no room for what is known");
+    is(msgq_stat(NULL, id, &info), EINVAL, "no queues");
+}
+
+static void a_message_comes_and_goes(msgq *queues, uint32_t id) {
+    char room[8] = "";
+    struct msgq_message got;
+    struct msgq_info info;
+    is(msgq_send(queues, id, 3, "third", 5, 0, NULL), 0, "send");
+    is(msgq_send(queues, id, 2, "second", 6, 0, NULL), 0, "send");
+    is(msgq_send(queues, id, 4, NULL, 0, 0, NULL), 0, "send of no byte");
+    is(msgq_stat(queues, id, &info), 0, "stat");
+    is(info.qnum, 3, "qnum");
+    is(info.cbytes, 11, "cbytes");
+    is(info.qbytes, 16384, "qbytes");
+    is(info.key, 7, "key");
+    is(info.mode, 0600, "mode");
+    is(info.lspid, getpid(), "lspid");
+    is(info.uid, geteuid(), "uid");
+    is(msgq_receive(queues, id, -3, room, 3, 0, NULL, &got), E2BIG, "a message that is too long");
+    is(msgq_receive(queues, id, -3, room, 3, MSGQ_NOERROR, NULL, &got), 0, "one that is cut");
+    is(got.length, 3, "its length");
+    is(memcmp(room, "sec", 3), 0, "its bytes");
+    is(got.serial, 2, "its serial");
+    is(got.type, 2, "its type");
+    is(msgq_receive(queues, id, 3, room, sizeof room, 0, NULL, &got), 0, "one of a type");
+    is(memcmp(room, "third", 5), 0, "its bytes");
+    is(got.sender, getpid(), "its sender");
+    is(msgq_receive(queues, id, 0, NULL, 0, 0, NULL, NULL), 0, "one of no byte");
+}
+
+static void lists(msgq *queues, uint32_t id) {
+    uint32_t first, second, found;
+    struct msgq_change change = {.qbytes = 4, .uid = -1, .gid = -1, .mode = 0640};
+    struct msgq_info info;
+    is(msgq_get(queues, MSGQ_PRIVATE, 0600, &first), 0, "a private queue");
+    is(msgq_get(queues, MSGQ_PRIVATE, 0600, &second), 0, "another");
+    is(msgq_stat(queues, second, &info), 0, "stat of a private queue");
+    is(info.key, MSGQ_PRIVATE, "its key");
+    is(msgq_remove(queues, first), 0, "remove");
+    is(msgq_stat(queues, first, &info), EIDRM, "a queue that was removed");
+    is(msgq_list(queues, 0, &found), 0, "the first queue");
+    is(found, id, "its id");
+    is(msgq_list(queues, id, &found), 0, "the next queue");
+    is(found, second, "its id");
+    is(msgq_list(queues, second, &found), ENOENT, "no queue behind it");
+    is(msgq_set(queues, second, &change), 0, "set");
+    is(msgq_stat(queues, second, &info), 0, "stat");
+    is(info.qbytes, 4, "qbytes");
+    is(info.mode, 0640, "mode");
+    is(msgq_send(queues, second, 1, "12345", 5, MSGQ_NOWAIT, NULL), EAGAIN, "no room");
+    is(msgq_send(queues, second, 1, "12345", 5, 0, &SOON), ETIMEDOUT, "a wait for room that ends");
+}
+
+static void *waits(void *with) {
+    char room[1];
+    return (void *)(size_t)msgq_receive(with, 1, 0, room, sizeof room, 0, NULL, NULL);
+}
+
+/* Waits until a receiver sleeps: the file can't be closed then. */
+static void closing_is_refused(msgq *queues) {
+    int told = 0;
+    for (int n = 0; n < 1000 && told != EBUSY; n++) {
+        struct timespec pause = {0, 1000000};
+        nanosleep(&pause, NULL);
+        told = msgq_abandon(queues);
+        if (told == 0)
+            break;
+    }
+    is(told, EBUSY, "a close while a call waits");
+}
+
+static void a_stop_ends_waits(msgq *queues) {
+    pthread_t thread;
+    void *told;
+    pthread_create(&thread, NULL, waits, queues);
+    closing_is_refused(queues);
+    is(msgq_stop(queues), 0, "stop");
+    pthread_join(thread, &told);
+    is((long long)(size_t)told, EINTR, "a wait that is stopped");
+}
+
+static void a_child_is_refused(msgq *queues) {
+    int status = -1;
+    pid_t child = fork();
+    if (child == 0) {
+        uint32_t id;
+        _exit(msgq_get(queues, 7, 0, &id) == ENOTSUP && msgq_close(queues) == ENOTSUP ? 0 : 1);
+    }
+    waitpid(child, &status, 0);
+    is(status, 0, "the child of a fork");
+}
+
+static void files(const char *path, const char *other) {
+    msgq *queues, *again;
+    int file = open(other, O_RDWR | O_CREAT, 0600);
+    is(write(file, "no pages", 8), 8, "a file that is none");
+    close(file);
+    is(msgq_open(other, &queues), EBADMSG, "a file that is cut");
+    is(msgq_last_fault(), 22, "its fault");
+    is(msgq_open("/", &queues), EISDIR, "a folder");
+    is(msgq_open("no such file", &queues), ENOENT, "no file");
+    is(msgq_create(path, 352), EEXIST, "a file that is there");
+    is(msgq_create(other, 3), EINVAL, "too few pages");
+    is(msgq_open(path, &queues), 0, "open");
+    is(msgq_open(path, &again), EBUSY, "a file that is open");
+    is(msgq_close(queues), 0, "close");
+}
+
+int main(int argc, char **argv) {
+    msgq *queues;
+    uint32_t id = 0;
+    struct msgq_info info;
+    if (argc < 3)
+        return 2;
+    is(msgq_create(argv[1], 352), 0, "create");
+    files(argv[1], argv[2]);
+    is(msgq_open(argv[1], &queues), 0, "open");
+    is(msgq_get(queues, 7, MSGQ_CREATE | 0600, &id), 0, "get");
+    is(id, 1, "the first id");
+    refusals(queues, id);
+    a_message_comes_and_goes(queues, id);
+    lists(queues, id);
+    a_child_is_refused(queues);
+    is(msgq_send(queues, id, 1, "kept", 4, 0, NULL), 0, "send");
+    is(msgq_save(queues), 0, "save");
+    is(msgq_send(queues, id, 1, "lost", 4, 0, NULL), 0, "send");
+    is(msgq_abandon(queues), 0, "abandon");
+    is(msgq_open(argv[1], &queues), 0, "open what was saved");
+    is(msgq_stat(queues, id, &info), 0, "stat");
+    is(info.qnum, 1, "what was saved");
+    is(msgq_receive(queues, id, 0, NULL, 0, MSGQ_NOERROR, NULL, NULL), 0, "receive");
+    a_stop_ends_waits(queues);
+    is(msgq_close(queues), 0, "close");
+    printf("%d passed, %d failed\n", passed, failed);
+    return failed > 0;
+}

@@ -1,0 +1,71 @@
+-- What C is told of a session that is opened, and of a call on one.
+use Rattle.std.proofs.Common.{arith, ℕ, ◌≡◌, ◌≤◌, refl, sym, subst, inl, inr, true, Option, Some, None, Result, Ok, Err, IfOk}
+use Rattle.std.specs.Option.{is_some}
+use Rattle.queue_model.specs.declared.answer.Answer.{Answer}
+use Rattle.queue_model.specs.declared.call.Call.{Call}
+use Rattle.session.specs.Session.{SessionState}
+use Rattle.session.specs.Words.{IsFaultNumber, OpenFault, open_number_of}
+use Rattle.session.specs.declared.unanswered.Unanswered.{Unanswered}
+use Rattle.session.specs.declared.unanswered.Unanswered.TheVariants as unanswered
+use Rattle.session.proofs.FaultLemmas.{fault_numbers}
+use Rattle.msgq_c.specs.Codes.{code_of}
+use Rattle.msgq_c.specs.Files.{HasOpened, IsKept}
+use Rattle.msgq_c.specs.Held.{KeptSession}
+use Rattle.msgq_c.specs.Serving.{Answers, Serves}
+use Rattle.msgq_c.specs.declared.codes.TheConstants.{DONE, NO_MEMORY}
+
+-- ---- it is opened
+
+in_handle : (Is : SessionState → Type 0) (code : ℕ) (k : SessionState) (after : KeptSession) → Is k → code ≡ DONE →
+    after ≡ Some k → HasOpened Is code after
+in_handle Is code k after is done kept = record {
+  kept = λ _. (k, kept, is);
+  refused = λ not. absurd (not done);
+  fault = λ not. absurd (not done);
+}
+
+not_in : (Is : SessionState → Type 0) (code : ℕ) (after : KeptSession) → IsFaultNumber code → after ≡ None →
+    HasOpened Is code after
+not_in Is code after number none = record {
+  kept = λ (done : code ≡ 0).
+      let least : 20 ≤ code = number.least in
+      absurd (omega arith);
+  refused = λ _. none;
+  fault = λ _. number;
+}
+
+pub opened_so : (Is : SessionState → Type 0) (opened : Result SessionState OpenFault) (code : ℕ) (after : KeptSession) →
+    IfOk opened Is → IsKept opened code after → HasOpened Is code after
+opened_so Is (Ok k) code after is (inl (done, kept)) = in_handle Is code k after is done kept
+opened_so Is (Ok k) code after is (inr (code_is, none)) =
+    not_in Is code after (subst IsFaultNumber (sym code_is) (record { least = omega arith; most = omega arith })) none
+opened_so Is (Err fault) code after is (code_is, none) =
+    not_in Is code after (subst IsFaultNumber (sym code_is) (fault_numbers fault)) none
+
+-- ---- a call is made
+
+pub served : (call : Call) (Tells : Answer → Type 0) (came : Result Answer Unanswered) (code : ℕ)
+    (old after : KeptSession) → Answers call (Some came) old after → code ≡ code_of came →
+    ((answer : Answer) → came ≡ Ok answer → Tells answer) → Serves call Tells code old after
+served call Tells came code None after made is tells = absurd made
+served call Tells came code (Some old) after made is tells = record {
+  new = made.new;
+  after_is = made.after_is;
+  result = came;
+  calls = made.calls;
+  code_is = is;
+  tells = tells;
+}
+
+-- a call that is not made for want of memory comes to what one comes to that is made and has none
+pub not_made : (call : Call) (Tells : Answer → Type 0) (old : KeptSession) → is_some old ≡ true →
+    Serves call Tells NO_MEMORY old old
+not_made call Tells None some = absurd cc
+not_made call Tells (Some k) some = record {
+  new = k;
+  after_is = refl;
+  result = Err unanswered.NoMemory;
+  calls = record { becomes = λ s holds. holds; caller = refl };
+  code_is = refl;
+  tells = λ answer is. absurd cc;
+}

@@ -1,0 +1,6 @@
+pub mod Arguments
+pub mod Codes
+pub mod Held
+pub mod Telling
+pub mod Serving
+pub mod Files

@@ -1,0 +1,169 @@
+//! Sessions are opened and closed, and their pages are read.
+
+ghost use Rattle.std.specs.Prelude.{◌≡◌, IsNone};
+ghost use Rattle.session.specs.Words.{CanHavePages};
+ghost use Rattle.msgq_c.specs.Files.{Closes, CopiesPage, Counts, Creates, HasNoSuchSize, IsKept, OpensHandle, StopsHandle, caller_of};
+
+use crate::codes::{DONE, FAILED, IN_USE, NO_MEMORY, NO_PAGE, NO_SESSION};
+use crate::handle::Handle;
+use session::queue_model::Caller;
+use session::{LEAST_PAGES, MAX_PAGES, OpenFault, PAGE_BYTES, Session};
+use std::alloc::Global;
+use std::mem::size_of;
+
+/// Who makes the calls of a session.
+#[repr(C)]
+pub struct Owner {
+    /// The process.
+    pub pid: u32,
+    /// Its effective user.
+    pub uid: u32,
+    /// Its effective group.
+    pub gid: u32,
+}
+
+/// Opens a file, from its bytes, in a handle that has no session. All zeros are such a handle.
+#[unsafe(no_mangle)]
+pub extern "C" fn msgq_session_open(
+    alloc: Global,
+    handle: &mut Handle,
+    owner: &Owner,
+    bytes: &[u8],
+) -> u32
+    ensures { OpensHandle owner.now bytes.now result
+        handle.old.held.session handle.new.held.session }
+{
+    if handle.is_open {
+        return IN_USE;
+    }
+    keep(alloc, handle, Session::open(alloc, bytes, owner.caller()))
+}
+
+/// Opens a new file of so many pages.
+#[unsafe(no_mangle)]
+pub extern "C" fn msgq_session_create(
+    alloc: Global,
+    handle: &mut Handle,
+    owner: &Owner,
+    pages: u32,
+) -> u32
+    ensures ok { CanHavePages pages → Creates owner.now pages result
+        handle.old.held.session handle.new.held.session }
+    ensures no_page { (CanHavePages pages → ⊥) → HasNoSuchSize result
+        handle.old.held.session handle.new.held.session }
+{
+    if handle.is_open {
+        return IN_USE;
+    }
+    if pages < LEAST_PAGES || MAX_PAGES < pages {
+        return NO_PAGE;
+    }
+    keep(alloc, handle, Session::create(alloc, pages, owner.caller()))
+}
+
+/// How many pages the file has.
+#[unsafe(no_mangle)]
+pub extern "C" fn msgq_session_pages(alloc: Global, handle: &mut Handle, pages: &mut u32) -> u32
+    ensures { Counts pages.new result handle.old.held.session handle.new.held.session }
+{
+    if !handle.is_open {
+        return NO_SESSION;
+    }
+    let session = handle.take(alloc);
+    *pages = session.pages();
+    handle.put(session);
+    DONE
+}
+
+/// A page of the file, as it is to be written.
+#[unsafe(no_mangle)]
+pub extern "C" fn msgq_session_page(
+    alloc: Global,
+    handle: &mut Handle,
+    page: u32,
+    into: &mut [u8; PAGE_BYTES],
+) -> u32
+    ensures { CopiesPage page into.new result handle.old.held.session handle.new.held.session }
+{
+    if !handle.is_open {
+        return NO_SESSION;
+    }
+    let mut session = handle.take(alloc);
+    if page >= session.pages() {
+        handle.put(session);
+        return NO_PAGE;
+    }
+    let given = session.page(page);
+    handle.put(session);
+    match given {
+        Some(bytes) => {
+            *into = bytes;
+            DONE
+        }
+        None => FAILED,
+    }
+}
+
+/// Stops the system: from here on a call that would wait is refused.
+#[unsafe(no_mangle)]
+pub extern "C" fn msgq_session_stop(alloc: Global, handle: &mut Handle) -> u32
+    ensures { StopsHandle result handle.old.held.session handle.new.held.session }
+{
+    if !handle.is_open {
+        return NO_SESSION;
+    }
+    let mut session = handle.take(alloc);
+    session.stop();
+    handle.put(session);
+    DONE
+}
+
+/// Lets the session go, with what was not written.
+#[unsafe(no_mangle)]
+pub extern "C" fn msgq_session_close(alloc: Global, handle: &mut Handle) -> u32
+    ensures { Closes result handle.old.held.session handle.new.held.session }
+{
+    if !handle.is_open {
+        return NO_SESSION;
+    }
+    drop(handle.take(alloc));
+    DONE
+}
+
+/// The bytes of a handle, as the library has it.
+#[unsafe(no_mangle)]
+pub extern "C" fn msgq_session_handle_size() -> usize
+    ensures { result ≡ 16 }
+{
+    size_of::<Handle>()
+}
+
+/// Puts a session that was opened into its handle.
+fn keep(alloc: Global, handle: &mut Handle, opened: Result<Session, OpenFault>) -> u32
+    requires { IsNone handle.old.held.session }
+    ensures { IsKept opened result handle.new.held.session }
+{
+    match opened {
+        Ok(session) => match Box::new(alloc, session) {
+            Ok(session) => {
+                handle.put(session);
+                DONE
+            }
+            Err(_) => NO_MEMORY,
+        },
+        Err(fault) => u32::from(fault.number()),
+    }
+}
+
+impl Owner {
+    /// The caller.
+    fn caller(&self) -> Caller
+        ensures { result ≡ caller_of self.now }
+    {
+        Caller {
+            pid: self.pid,
+            uid: self.uid,
+            gid: self.gid,
+        }
+    }
+}

@@ -1,0 +1,26 @@
+//! Sessions for C: each function gives 0 or a number that says why not.
+
+#![tactic(auto)]
+
+mod arguments;
+mod calls;
+mod codes;
+mod digest;
+mod files;
+mod handle;
+mod held;
+mod serving;
+mod telling;
+
+pub use arguments::{GetCall, ReceiveCall, SendCall, SetCall};
+pub use calls::{
+    msgq_session_get, msgq_session_receive, msgq_session_remove, msgq_session_send,
+    msgq_session_set, msgq_session_stat,
+};
+pub use digest::msgq_session_digest;
+pub use files::{
+    Owner, msgq_session_close, msgq_session_create, msgq_session_handle_size, msgq_session_open,
+    msgq_session_page, msgq_session_pages, msgq_session_stop,
+};
+pub use handle::Handle;
+pub use telling::{Got, Info};

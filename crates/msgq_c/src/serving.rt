@@ -1,0 +1,25 @@
+//! A call on the session of a handle.
+
+ghost use Rattle.msgq_c.specs.Serving.{Answers};
+
+use crate::handle::Handle;
+use session::Unanswered;
+use session::queue_model::{Answer, Call};
+use std::alloc::Global;
+
+/// Makes a call on the session of a handle. Where it has none there is no result.
+pub(crate) fn serve(
+    alloc: Global,
+    handle: &mut Handle,
+    call: Call,
+) -> Option<Result<Answer, Unanswered>>
+    ensures { Answers call result handle.old.held.session handle.new.held.session }
+{
+    if !handle.is_open {
+        return None;
+    }
+    let mut session = handle.take(alloc);
+    let result = session.call(call);
+    handle.put(session);
+    Some(result)
+}

@@ -1,0 +1,4 @@
+pub mod FaultLemmas
+pub mod LoadLemmas
+pub mod SessionLemmas
+pub mod PageLemmas

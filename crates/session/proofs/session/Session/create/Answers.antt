@@ -1,0 +1,8 @@
+use Rattle.std.proofs.Common.{refl}
+use Rattle.session.proofs.PageLemmas.{made, new_opened}
+use Rattle.session.proofs.session.Session.create.Goals as goal
+
+pub returns : goal.returns
+returns c =
+    new_opened c.args.caller c.args.pages c.format.new.device c.a_new_file_has_no_queues.ensures
+    (made c.format.result _ c.if-is_err.ensures.value (c.format.ensures.ok refl)) c.on.result c.on.ensures

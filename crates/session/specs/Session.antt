@@ -1,0 +1,152 @@
+-- A session over the pages of a file in memory: the system that it holds, and what its calls are answered.
+-- docs/QUEUES.md, "Calls"; docs/FORMAT.md, "Pages".
+use Rattle.std.specs.Prelude.{ℕ, ◌≡◌, ◌*◌, ◌<◌, Bool, true, false, List, [], Option, Some, None, Result, Ok, Err, drop, length, slice_index_or, take}
+use Rattle.bucket_page.specs.Pseudokeys.{sha_key}
+use Rattle.bucket_page.specs.declared.pseudokey.ShaKey.{ShaKey}
+use Rattle.page_device.specs.Device.{HasRisen}
+use Rattle.page_device.specs.declared.page.TheConstants.{PAGE_BYTES}
+use Rattle.file_pages.specs.Files.{listed}
+use Rattle.queue_model.specs.Journal.{outcome_for}
+use Rattle.one_bucket_file.specs.Files.{no_queues}
+use Rattle.interleaving_core.specs.Renewing.{IsPage}
+use Rattle.interleaving_core.specs.declared.fault.BeginFault.TheVariants as begins
+use Rattle.interleaving_core.specs.declared.fault.StepFault.TheVariants as faults
+use Rattle.interleaving_core.specs.declared.step.Step.TheVariants as steps
+use Rattle.lone_kernel.specs.Lone.{RestsOver}
+use Rattle.lone_kernel.specs.Words.{Answer, BeginFault, Call, Caller, FoundNoRoom, IsFileOf, KernelState, State, Step, caller_at, restarted}
+use Rattle.session.specs.declared.unanswered.Unanswered.{Unanswered}
+use Rattle.session.specs.declared.unanswered.Unanswered.TheVariants.{Waits, NoRoom, NoMemory, Failed}
+
+abbrev pub SessionState : Type 0
+SessionState = KernelState ShaKey
+
+-- the file of the pages is at rest with this system, and no call is under way
+abbrev pub Holds : State → SessionState → Type 0
+Holds s k = RestsOver sha_key s k
+
+-- whose calls they are
+abbrev pub caller_of : SessionState → Option Caller
+caller_of k = caller_at k.callers 1
+
+-- how many pages the file has
+abbrev pub pages_of : SessionState → ℕ
+pages_of k = length k.pool.images
+
+-- ---- it is opened
+
+-- the first so many pages of these bytes
+abbrev pub pages_in : ℕ → List ℕ → List (List ℕ)
+pages_in many bytes = listed many (λ page. take PAGE_BYTES (drop (page * PAGE_BYTES) bytes))
+
+-- the pages are the file of a system, which the session holds for this caller
+pub record Opens (caller : Caller) (content : List (List ℕ)) (k : SessionState) : Type 0 where
+  pub system : State
+  pub file : IsFileOf sha_key content system
+  pub holds : Holds system k
+  pub sits : caller_of k ≡ Some caller
+  pub many : pages_of k ≡ length content
+
+-- or those of a new file, which has no queue
+pub record OpensNew (caller : Caller) (pages : ℕ) (k : SessionState) : Type 0 where
+  pub holds : Holds no_queues k
+  pub sits : caller_of k ≡ Some caller
+  pub many : pages_of k ≡ pages
+
+-- ---- its calls
+
+-- its journal may have been let go: it holds what it held, and nothing else is changed but calls that wait
+pub record IsShortened (old new : SessionState) : Type 0 where
+  pub holds : (s : State) → Holds s old → Holds s new
+  pub pool : new.pool ≡ old.pool
+  pub callers : new.callers ≡ old.callers
+  pub locks : new.locks ≡ old.locks
+
+-- why a call is not answered that does not begin
+abbrev pub unanswered_by : BeginFault → Unanswered
+unanswered_by begins.Failed = Failed
+unanswered_by begins.Busy = NoMemory
+unanswered_by begins.SessionFull = NoMemory
+unanswered_by begins.NoMemory = NoMemory
+
+abbrev pub is_waiting : Step → Bool
+is_waiting (steps.Moved kind) = false
+is_waiting (steps.Blocked other) = false
+is_waiting steps.Waiting = true
+is_waiting (steps.Answered answer) = false
+is_waiting steps.Idle = false
+is_waiting (steps.Fault fault) = false
+
+-- what a call comes to of which its seat was told this; one that is not over has failed
+abbrev pub came_of : Step → Result Answer Unanswered
+came_of (steps.Moved kind) = Err Failed
+came_of (steps.Blocked other) = Err Failed
+came_of steps.Waiting = Err Waits
+came_of (steps.Answered answer) = Ok answer
+came_of steps.Idle = Err Failed
+came_of (steps.Fault faults.NoRoom) = Err NoRoom
+came_of (steps.Fault (faults.File fault)) = Err Failed
+
+-- the rules have this answer, and the session holds the system after it
+pub record IsAnswered (call : Call) (s : State) (answer : Answer) (old new : SessionState) : Type 0 where
+  pub after : State
+  pub by_rules : outcome_for (caller_of old) call s ≡ Some (answer, after)
+  pub holds : Holds after new
+
+-- a record that the call was to insert had no room in the pages, and nothing has changed
+pub record LacksRoom (call : Call) (s : State) (old new : SessionState) : Type 0 where
+  pub caller : Caller
+  pub sits : caller_of old ≡ Some caller
+  pub found : FoundNoRoom sha_key 1 caller call s
+  pub holds : Holds s new
+
+-- the file has failed, as a transfer of its device did
+pub record HasFailed (old new : SessionState) : Type 0 where
+  pub failed : new.failed ≡ true
+  pub cause : HasRisen old.pool.faults new.pool.faults
+
+-- what a call comes to that is made of this system
+abbrev pub Becomes : Call → State → Result Answer Unanswered → (old new : SessionState) → Type 0
+Becomes call s (Ok answer) old new = IsAnswered call s answer old new
+-- the rules have no answer, and nothing has changed
+Becomes call s (Err Waits) old new = (outcome_for (caller_of old) call s ≡ None) × Holds s new
+Becomes call s (Err NoRoom) old new = LacksRoom call s old new
+-- nothing has changed
+Becomes call s (Err NoMemory) old new = Holds s new
+Becomes call s (Err Failed) old new = HasFailed old new
+
+pub record Calls (call : Call) (result : Result Answer Unanswered) (old new : SessionState) : Type 0 where
+  pub becomes : (s : State) → Holds s old → Becomes call s result old new
+  pub caller : caller_of new ≡ caller_of old
+
+-- it is stopped: from here on a call that would wait is refused
+pub record Stops (old new : SessionState) : Type 0 where
+  pub stops : (s : State) → Holds s old → Holds (record s { stopped = true }) new
+  pub caller : caller_of new ≡ caller_of old
+
+-- ---- its pages
+
+-- a page of the file of its system, and the others are as they were
+pub record IsGiven (page : ℕ) (s : State) (bytes : List ℕ) (old new : SessionState) : Type 0 where
+  pub is : IsPage page bytes new.pool
+  pub holds : Holds s new
+  pub images : new.pool.images ≡ old.pool.images
+
+-- or the file has failed
+abbrev pub PageBecomes : ℕ → State → Option (List ℕ) → (old new : SessionState) → Type 0
+PageBecomes page s (Some bytes) old new = IsGiven page s bytes old new
+PageBecomes page s None old new = HasFailed old new
+
+pub record GivesPage (page : ℕ) (given : Option (List ℕ)) (old new : SessionState) : Type 0 where
+  pub becomes : (s : State) → Holds s old → PageBecomes page s given old new
+  pub caller : caller_of new ≡ caller_of old
+  pub many : pages_of new ≡ pages_of old
+
+-- these are all of them
+pub record AreItsPages (content : List (List ℕ)) (k : SessionState) : Type 0 where
+  pub many : length content ≡ pages_of k
+  pub each : (page : ℕ) → page < length content → IsPage page (slice_index_or content page []) k.pool
+
+-- so they are the file of the system that it holds, which is not stopped for who opens it next
+abbrev pub PagesAreTheFile : Type 0
+PagesAreTheFile = (s : State) (k : SessionState) (content : List (List ℕ)) → Holds s k → AreItsPages content k →
+    IsFileOf sha_key content (restarted s)

@@ -1,0 +1,147 @@
+//! A session, and what is asked of it.
+
+ghost use Rattle.std.specs.Prelude.{◌≡◌, ◌/◌, ◌<◌, IfOk, length};
+ghost use Rattle.page_device.specs.declared.page.TheConstants.{PAGE_BYTES};
+ghost use Rattle.session.specs.Session.{Calls, GivesPage, IsShortened, Opens, OpensNew, Stops, pages_in, pages_of};
+ghost use Rattle.session.specs.Words.{CanHavePages};
+
+use crate::loading::loaded;
+use crate::unanswered::{Unanswered, came_of, is_waiting};
+use bucket_page::ShaKey;
+use interleaving_core::{Kernel, OpenFault};
+use kept_keys::KeptKeys;
+use lone_kernel::{
+    a_kernel_at_rest_is_stopped, a_kernel_opens_at_rest, a_lone_call_is_answered_by_the_rules,
+    a_refusal_leaves_a_kernel_at_rest,
+};
+use one_bucket_file::a_new_file_has_no_queues;
+use page_device::{MemDevice, Page, PageDevice};
+use queue_model::{Answer, Call, Caller};
+use record_file::format;
+use std::alloc::Global;
+use std::marker::Model;
+
+/// How the keys of a file are spread over its buckets.
+type FileKeys = KeptKeys<ShaKey>;
+
+/// The one seat of a session.
+const SEAT: u8 = 1;
+
+/// The frames that one seat needs.
+const LEAST_FRAMES: usize = 12;
+
+/// The frames of a session at most.
+const MOST_FRAMES: usize = 16_384;
+
+/// The journal of a session is let go once it has so many entries.
+const LONG_JOURNAL: usize = 1_024;
+
+/// The calls of one caller, one at a time, over the pages of a file in memory.
+#[derive(Drop)]
+pub struct Session {
+    kernel: Kernel<MemDevice, FileKeys>,
+}
+
+impl Model for Session {
+    ghost use Rattle.interleaving_core.specs.Words.{IsSeat};
+    ghost use Rattle.session.specs.Session.{SessionState};
+
+    ghost Value = { SessionState };
+
+    ghost view = { λ s. s.kernel };
+
+    ghost invariant = { λ s. IsSeat s.kernel.locks 1 };
+}
+
+impl Session {
+    /// Opens a file for a caller, from its bytes. The file is checked, and refused by the first
+    /// thing that is wrong with it.
+    pub fn open(alloc: Global, bytes: &[u8], caller: Caller) -> Result<Session, OpenFault>
+        ensures { IfOk result
+            (Opens caller (pages_in (length bytes.now / PAGE_BYTES) bytes.now)) }
+    {
+        Session::on(alloc, loaded(alloc, bytes)?, caller)
+    }
+
+    /// Opens a new file of so many pages for a caller.
+    pub fn create(alloc: Global, pages: u32, caller: Caller) -> Result<Session, OpenFault>
+        requires { CanHavePages pages }
+        ensures { IfOk result (OpensNew caller pages) }
+    {
+        a_new_file_has_no_queues();
+        let mut device = MemDevice::new(alloc);
+        if format(&mut device, pages).is_err() {
+            return Err(OpenFault::NoMemory);
+        }
+        Session::on(alloc, device, caller)
+    }
+
+    /// Makes a call, as the rules of queues say (docs/QUEUES.md, "Calls"). One that would wait is
+    /// told so and leaves nothing behind; it may be made again once something has changed.
+    pub fn call(&mut self, call: Call) -> Result<Answer, Unanswered>
+        ensures { Calls call result self.old self.new }
+    {
+        a_refusal_leaves_a_kernel_at_rest::<FileKeys>();
+        a_lone_call_is_answered_by_the_rules::<FileKeys>();
+        self.shorten();
+        self.kernel.is_whole();
+        if let Err((_, fault)) = self.kernel.begin(SEAT, call) {
+            return Err(Unanswered::of(fault));
+        }
+        let told = self.kernel.drive(SEAT);
+        if !is_waiting(&told) {
+            return came_of(told);
+        }
+        self.kernel.withdraw(SEAT);
+        Err(Unanswered::Waits)
+    }
+
+    /// Stops the system: from here on a call that would wait is refused EINTR.
+    pub fn stop(&mut self)
+        ensures { Stops self.old self.new }
+    {
+        a_kernel_at_rest_is_stopped::<FileKeys>();
+        self.kernel.stop();
+    }
+
+    /// How many pages the file has.
+    pub fn pages(&self) -> u32
+        ensures { result ≡ pages_of self.now }
+    {
+        self.kernel.pages()
+    }
+
+    /// A page of the file, as it is to be written; none where the file has failed.
+    pub fn page(&mut self, page: u32) -> Option<Page>
+        requires { page < pages_of self.old }
+        ensures { GivesPage page result self.old self.new }
+    {
+        if !self.kernel.is_between_calls() {
+            return None;
+        }
+        self.kernel.page(page).ok()
+    }
+
+    /// Opens the pages of a device for a caller.
+    fn on(alloc: Global, device: MemDevice, caller: Caller) -> Result<Session, OpenFault>
+        ensures { IfOk result (Opens caller device) }
+    {
+        a_kernel_opens_at_rest::<FileKeys>();
+        let frames = (device.pages() as usize).clamp(LEAST_FRAMES, MOST_FRAMES);
+        match Kernel::open(alloc, device, KeptKeys::new(ShaKey), &[caller], frames) {
+            Ok(kernel) => Ok(Session { kernel }),
+            Err((_, fault)) => Err(fault),
+        }
+    }
+
+    /// Lets the journal go where it is long: nobody reads it.
+    fn shorten(&mut self)
+        ensures { IsShortened self.old self.new }
+    {
+        if self.kernel.journal().len() < LONG_JOURNAL || !self.kernel.is_between_calls() {
+            return;
+        }
+        // Without memory for another it goes on with this one.
+        let _ = self.kernel.renew();
+    }
+}

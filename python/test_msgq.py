@@ -1,0 +1,75 @@
+"""What msgq.py does beside the library: bytes, exceptions, iteration, timeouts. Run with the path of a new file."""
+
+import errno
+import os
+import sys
+import threading
+
+import msgq
+
+passed = failed = 0
+
+
+def expect(found, expected, what):
+    global passed, failed
+    if found == expected:
+        passed += 1
+    else:
+        failed += 1
+        print(f"{what}: {found!r}, not {expected!r}", file=sys.stderr)
+
+
+def refusal(call, *arguments, **more):
+    try:
+        call(*arguments, **more)
+    except OSError as error:
+        return error.errno
+    return 0
+
+
+path = sys.argv[1]
+msgq.create(path)
+expect(refusal(msgq.create, path), errno.EEXIST, "a file that is there")
+with msgq.open(path) as queues:
+    expect(refusal(msgq.open, path), errno.EBUSY, "a file that is open")
+    queue = queues.get(7, create=True, mode=0o640)
+    queue.send(b"one\0two", type=2)
+    queue.send(b"", type=1)
+    expect(queue.receive(-2), msgq.Message(b"", 1, os.getpid(), 2), "the lowest type")
+    expect(queue.receive().body, b"one\0two", "bytes")
+    expect(refusal(queue.receive, wait=False), errno.ENOMSG, "no message")
+    expect(refusal(queue.receive, timeout=0.01), errno.ETIMEDOUT, "a wait that ends")
+    for body in (b"a", b"b", b"c"):
+        queue.send(body)
+    expect([message.body for message in queue], [b"a", b"b", b"c"], "the messages of a queue")
+    queue.set(100, mode=0o600)
+    expect((queue.stat().qbytes, queue.stat().mode, queue.stat().key), (100, 0o600, 7), "what was set")
+    other = queues.get()
+    expect(other.stat().key, None, "a private queue")
+    expect([found.id for found in queues], [1, 2], "the queues")
+    other.remove()
+    expect(refusal(other.stat), errno.EIDRM, "a queue that was removed")
+    waiter = threading.Thread(target=lambda: results.append(queue.receive().body))
+    results = []
+    waiter.start()
+    queue.send(b"woken")
+    waiter.join()
+    expect(results, [b"woken"], "a receiver that waited")
+    queue.send(b"kept")
+try:
+    with msgq.open(path) as queues:
+        queues.get(7).receive()
+        raise KeyError
+except KeyError:
+    pass
+with msgq.open(path) as queues:
+    expect([message.body for message in queues.get(7)], [b"kept"], "what an exception leaves")
+with open(path, "r+b") as file:
+    file.truncate(4096)
+try:
+    msgq.open(path)
+    expect("opened", "refused", "a file that is cut")
+except msgq.Fault as fault:
+    expect(fault.fault, 22, "its fault")
+print(f"{passed} passed, {failed} failed")
+sys.exit(failed > 0)
