@@ -4,8 +4,11 @@
 #include <errno.h>
 #include <fcntl.h>
 #include <pthread.h>
+#include <stdatomic.h>
 #include <stdio.h>
+#include <stdlib.h>
 #include <string.h>
+#include <sys/syscall.h>
 #include <sys/wait.h>
 #include <unistd.h>
 
@@ -94,22 +97,39 @@ static void lists(msgq *queues, uint32_t id) {
     is(msgq_send(queues, second, 1, "12345", 5, 0, &SOON), ETIMEDOUT, "a wait for room that ends");
 }
 
+/* The thread that is about to receive, or 0. */
+static atomic_int receiver;
+
 static void *waits(void *with) {
     char room[1];
+    atomic_store(&receiver, (int)syscall(SYS_gettid));
     return (void *)(size_t)msgq_receive(with, 1, 0, room, sizeof room, 0, NULL, NULL);
+}
+
+/* Nobody else has the lock meanwhile, so it sleeps only where it waits for a message. */
+static int sleeps(int thread) {
+    char path[64], text[512] = "";
+    snprintf(path, sizeof path, "/proc/self/task/%d/stat", thread);
+    FILE *file = fopen(path, "r");
+    if (file == NULL)
+        return 0;
+    size_t had = fread(text, 1, sizeof text - 1, file);
+    fclose(file);
+    text[had] = '\0';
+    const char *end = strrchr(text, ')');
+    return end != NULL && end[1] == ' ' && end[2] == 'S';
 }
 
 /* Waits until a receiver sleeps: the file can't be closed then. */
 static void closing_is_refused(msgq *queues) {
-    int told = 0;
-    for (int n = 0; n < 1000 && told != EBUSY; n++) {
+    for (int n = 0; n < 20000 && (receiver == 0 || !sleeps(receiver)); n++) {
         struct timespec pause = {0, 1000000};
         nanosleep(&pause, NULL);
-        told = msgq_abandon(queues);
-        if (told == 0)
-            break;
     }
+    int told = msgq_abandon(queues);
     is(told, EBUSY, "a close while a call waits");
+    if (told == 0)
+        exit(1);
 }
 
 static void a_stop_ends_waits(msgq *queues) {
