@@ -3,20 +3,23 @@
 
 #![tactic(auto)]
 
+mod crew;
+
+use crate::crew::ThreadASeat;
 use clap::Error;
 use clap::error::ErrorKind;
 use migration_runs::{CopyRequest, SalvageRequest, Size, copy_file, salvage_file};
-use script_runs::msgq_cli::{
+use std::fs::{File, OpenOptions};
+use std::io;
+use std::io::{BufWriter, IsTerminal, Write};
+use std::os::fd::{AsRawFd, RawFd};
+use std::process::ExitCode;
+use threaded_runs::script_runs::msgq_cli::{
     Output, Task, advise, complain, complain_of_lines, new_file, print_fault, read_command_line,
     report_file,
 };
-use script_runs::replays::{Sources, replay_file};
-use script_runs::{run_file, serve};
-use std::fs::{File, OpenOptions};
-use std::io;
-use std::io::{BufWriter, Write};
-use std::os::fd::{AsRawFd, RawFd};
-use std::process::ExitCode;
+use threaded_runs::script_runs::replays::{Sources, replay_file};
+use threaded_runs::{Names, run_file, serve};
 
 /// What faults of lines are told of, where a script is run without a file.
 const MEMORY: &str = "the file in memory";
@@ -44,13 +47,16 @@ fn main(rt: HostRuntime) -> ExitCode {
     let is_run = matches!(&task, Ok(Task::Run { .. } | Task::Replay { .. }));
     let ending = match task {
         Ok(Task::Serve) => {
-            let ending = serve(alloc, &mut rt.reader(), &mut output, &mut errors);
+            let crew = ThreadASeat::new(&rt, alloc, errors.is_terminal());
+            let ending = serve(&crew, alloc, &mut rt.reader(), &mut output, &mut errors);
             complain_of_lines(MEMORY, None, &output, &mut errors);
             ending
         }
         Ok(Task::New { file, pages }) => new_file(&rt, file, pages, &mut output, &mut errors),
         Ok(Task::Run { file, script }) => {
-            let ending = run_file(&rt, file, script, &mut output, &mut errors);
+            let crew = ThreadASeat::new(&rt, alloc, errors.is_terminal());
+            let names = Names { file, script };
+            let ending = run_file(&rt, &crew, names, &mut output, &mut errors);
             advise(&rt, file.path, ending, &mut errors);
             ending
         }
