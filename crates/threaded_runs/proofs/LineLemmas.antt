@@ -1,12 +1,16 @@
 -- The lines of a seat, made one after the other.
 use Rattle.std.proofs.Common.{◌≡◌, ◌≢◌, ◌<◌, ◌≤◌, ℕ, zero, suc, ◌+◌, Bool, true, false, List, [], ◌∷◌, ◌++◌, Some, if◌then◌else◌, length, take, map, get_or, refl, sym, ap, ◌∙◌, subst, append-nil, append_assoc, length-append, arith}
-use Rattle.std.specs.Prelude.{filter}
+use Rattle.std.specs.Prelude.{filter, max}
+use Rattle.std.specs.List.{All, fold}
+use Rattle.std.proofs.lemmas.Int.{clamps}
 use Rattle.std.proofs.lemmas.List.{take_more}
-use Rattle.std.proofs.lemmas.List.Elements.{filter-append}
+use Rattle.std.proofs.lemmas.List.Elements.{All-cons, All-head, All-nil, All-tail, filter-append}
+use Rattle.msgq_cli.specs.Scripts.{greatest_seat}
 use Rattle.msgq_cli.specs.declared.line.Line.{Line}
 use Rattle.msgq_cli.specs.declared.reply.Reply.{Reply}
 use Rattle.queue_model.specs.declared.entry.Entry.{Entry}
 use Rattle.replays.specs.Journal.{entry_at}
+use Rattle.script_words.specs.Numbers.{IsSeat}
 use Rattle.threaded_runs.specs.Lines.{entries_to, is_line_of, lines_of, replies_to}
 
 -- ---- one line more
@@ -109,3 +113,25 @@ short_own seat (l ∷ ls) = by (is_line_of seat l) (short_own seat ls)
         length (if b then l ∷ lines_of seat ls else lines_of seat ls) ≤ suc (length ls)
     by true less = omega arith
     by false less = omega arith
+
+-- ---- each seat is within the greatest
+
+grows : (lines : List Line) (from : ℕ) → from ≤ fold (λ greatest line. max greatest line.seat) from lines
+grows [] from = omega arith
+grows (l ∷ ls) from =
+    let more = grows ls (max from l.seat) in
+    omega (arith, clamps, more)
+
+seats_below : (lines : List Line) (from bound : ℕ) →
+    fold (λ greatest line. max greatest line.seat) from lines ≤ bound → All (λ (l : Line). IsSeat l.seat) lines →
+    All (λ (l : Line). (1 ≤ l.seat) × (l.seat ≤ bound)) lines
+seats_below [] from bound fits all = All-nil (λ (l : Line). (1 ≤ l.seat) × (l.seat ≤ bound))
+seats_below (l ∷ ls) from bound fits all =
+    let some = (All-head (λ (l : Line). IsSeat l.seat) l ls all).0 in
+    let more = grows ls (max from l.seat) in
+    All-cons (λ (l : Line). (1 ≤ l.seat) × (l.seat ≤ bound)) l ls (some, omega (arith, clamps, more, fits))
+    (seats_below ls (max from l.seat) bound fits (All-tail (λ (l : Line). IsSeat l.seat) l ls all))
+
+pub seats_within : (lines : List Line) → All (λ (l : Line). IsSeat l.seat) lines →
+    All (λ (l : Line). (1 ≤ l.seat) × (l.seat ≤ greatest_seat lines)) lines
+seats_within lines all = seats_below lines 1 (greatest_seat lines) (omega arith) all

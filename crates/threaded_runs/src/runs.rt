@@ -123,6 +123,7 @@ fn run_prepared<
         seats,
         mut printed,
     } = plan;
+    script.keeps_seats();
     let desks = at_desks(started.seats, seats, desks);
     let desks = crew.make_all(&started.service, gauge, desks);
     let so_far = print_all(
