@@ -27,6 +27,9 @@ command line is wrong.";
 
 /// After the help of `run`.
 pub(crate) const RUN_PRINTS: &str = "\
+Each seat makes its lines in a thread of its own, beside the other seats. A script of several seats
+whose calls wait for ever makes this wait: end it by a line 'stop' of one more seat, write 'nowait',
+or use replay. In a script of one seat the first call that would wait stops the system.
 Prints the number and the answer of each line; 'fault 20' alone where SCRIPT can't be read,
 'fault N' alone where FILE is not opened, 'fault N' behind the answers where FILE is not closed
 well.
