@@ -5,3 +5,4 @@ pub mod PairLemmas
 pub mod PlanLemmas
 pub mod EndLemmas
 pub mod BesideLemmas
+pub mod NewLemmas
