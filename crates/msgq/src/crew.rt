@@ -1,12 +1,14 @@
 //! The threads of a script's seats.
 
-ghost use Rattle.std.specs.Prelude.{◌≡◌, IfErr, IfOk};
+ghost use Rattle.std.specs.Prelude.{◌≡◌};
+ghost use Rattle.std.specs.Thread.{IsSend, IsSync};
 ghost use Rattle.threaded_runs.specs.Desks.{AreMade, AreUntouched, IsFresh, IsMadeOf};
 
 use page_device::PageDevice;
 use queue_model::{Answer, Call, Entry};
 use std::alloc::Global;
 use std::io::Eprint;
+use std::marker::Model;
 use std::snapshot::Snapshot;
 use std::sync::Wait;
 use std::sync::atomic::AtomicU64;
@@ -64,22 +66,41 @@ impl<R: Threads + Wait + Clock + Eprint + Sync> Crew for ThreadASeat<'_, R> {
         gauge: Option<GaugePass<Entry, Call, N>>,
         desks: Vec<Desk<'s, N>>,
     ) -> Vec<Desk<'s, N>> {
-        let team = Team {
-            crew: self,
-            service,
-            refused: AtomicU64::new(0),
-            left: AtomicU64::new(desks.len() as u64),
-        };
-        let team = &team;
-        thread::scope(
-            thread::scope_env(),
-            self.rt,
-            move |scope| -> Vec<Desk<N>>
-                requires { AreUntouched desks.items }
-                ensures { AreMade desks.entry.items result.items }
-            { make_in(scope, team, gauge, desks) },
-        )
+        make_beside(self, service, gauge, desks)
     }
+}
+
+/// Has each desk make its lines in a thread of a scope.
+fn make_beside<
+    's,
+    R: Threads + Wait + Clock + Eprint + Sync,
+    D: PageDevice + Drop + Send,
+    N: Room + Base + Send + Sync,
+>(
+    crew: &ThreadASeat<'_, R>,
+    service: &Shared<D, N>,
+    gauge: Option<GaugePass<Entry, Call, N>>,
+    desks: Vec<Desk<'s, N>>,
+) -> Vec<Desk<'s, N>>
+    requires { AreUntouched desks.items }
+    ensures { AreMade desks.entry.items result.items }
+{
+    let team = Team {
+        crew,
+        service,
+        refused: AtomicU64::new(0),
+        left: AtomicU64::new(desks.len() as u64),
+    };
+    let team = &team;
+    thread::scope(
+        thread::scope_env(),
+        crew.rt,
+        move |scope| -> Vec<Desk<N>>
+            requires { IsSync R.row × IsSend D.row × IsSend N.row × IsSync N.row
+                × AreUntouched desks.items }
+            ensures { AreMade desks.entry.items result.items }
+        { make_in(scope, team, gauge, desks) },
+    )
 }
 
 /// What the threads share.
@@ -105,8 +126,26 @@ impl<'s, N: Room + Base> Promise<Desk<'s, N>> for Makes<'s, N> {
     ghost kept_by = { λ p d. IsMadeOf p.desk.value d };
 }
 
-/// A desk that makes its lines in a thread, or for which none could be started.
-type Work<'s, N> = Result<PromisedHandle<Desk<'s, N>, Makes<'s, N>>, Desk<'s, N>>;
+/// What becomes of a desk: a thread makes its lines, or none could be started and they are refused.
+/// Contracts see the desk as it was.
+#[derive(Drop)]
+struct Work<'s, N: Room + Base> {
+    desk: Snapshot<Desk<'s, N>>,
+    made: Result<PromisedHandle<Desk<'s, N>, Makes<'s, N>>, Desk<'s, N>>,
+}
+
+impl<'s, N: Room + Base> Model for Work<'s, N> {
+    ghost use Rattle.std.specs.Prelude.{◌≡◌, IfErr, IfOk};
+    ghost use Rattle.threaded_runs.specs.Desks.{DeskView, IsMadeOf};
+
+    ghost Value = { DeskView };
+
+    ghost view = { λ w. w.desk.value };
+
+    ghost invariant = { λ w.
+        IfOk w.made (λ thread. thread.promise.desk.value ≡ w.desk.value)
+        × IfErr w.made (IsMadeOf w.desk.value) };
+}
 
 /// Has each desk make its lines in a thread of this scope, and waits until all have.
 fn make_in<
@@ -123,7 +162,7 @@ fn make_in<
     desks: Vec<Desk<'s, N>>,
 ) -> Vec<Desk<'s, N>>
     requires { AreUntouched desks.items }
-    ensures { AreMade desks.items result.items }
+    ensures { AreMade desks.entry.items result.items }
 {
     let Ok(mut works) = Vec::with_capacity(team.crew.alloc, desks.len()) else {
         return refuse_all(desks);
@@ -154,9 +193,9 @@ fn start<
     N: Room + Base + Send + Sync,
 >(scope: &'e Scope<'e, E>, team: &'e Team<'e, R, D, N>, desk: Desk<'s, N>) -> Work<'s, N>
     requires { IsFresh desk }
-    ensures started { IfOk result (λ thread. thread.promise.desk.value ≡ desk) }
-    ensures refused { IfErr result (IsMadeOf desk) }
+    ensures { result ≡ desk.entry }
 {
+    let before = Snapshot::of(&desk);
     let promise = Makes {
         desk: Snapshot::of(&desk),
     };
@@ -174,13 +213,14 @@ fn start<
         team.left.fetch_sub(1, SeqCst);
         desk
     };
-    match scope.spawn_with(promise, work) {
+    let made = match scope.spawn_with(promise, work) {
         Ok(thread) => Ok(thread),
         Err(SpawnError { value: work }) => {
             team.refused.store(seat, SeqCst);
             Err(work())
         }
-    }
+    };
+    Work { desk: before, made }
 }
 
 /// The desk, once its lines are made.
@@ -188,9 +228,10 @@ fn end<'s, R: Threads, D: PageDevice, N: Room + Base>(
     team: &Team<R, D, N>,
     work: Work<'s, N>,
 ) -> Desk<'s, N>
-    ensures { IsDoneBy work result }
+    ensures { IsMadeOf work.entry result }
 {
-    match work {
+    let Work { desk: _, made } = work;
+    match made {
         Ok(thread) => thread.join(team.crew.rt),
         Err(desk) => desk,
     }
@@ -199,7 +240,7 @@ fn end<'s, R: Threads, D: PageDevice, N: Room + Base>(
 /// No desk makes its lines.
 fn refuse_all<'s, N: Room + Base>(desks: Vec<Desk<'s, N>>) -> Vec<Desk<'s, N>>
     requires { AreUntouched desks.items }
-    ensures { AreMade desks.items result.items }
+    ensures { AreMade desks.entry.items result.items }
 {
     let mut desks = desks;
     for place in 0..desks.len() {

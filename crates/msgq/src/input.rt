@@ -6,7 +6,7 @@ use input_messages::{Framing, Unsent, messages_of};
 use queue_commands::ExitStatus;
 use queue_model::Body;
 use rollback_journal::is_left_behind;
-use script_runs::msgq_cli::{Ending, Output, complain, new_file};
+use msgq_cli::{Ending, Output, complain, new_file};
 use std::io::{BufWriter, ErrorKind, IsTerminal, Write};
 use std::{fs, process};
 

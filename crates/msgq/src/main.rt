@@ -3,6 +3,7 @@
 
 #![tactic(auto)]
 
+mod crew;
 mod fixed;
 mod input;
 mod shell;
@@ -12,13 +13,13 @@ use clap::Error;
 use clap::error::ErrorKind;
 use command_words::read_command;
 use fixed::fixed;
-use script_runs::msgq_cli::{Output, print_fault, read_command_line};
 use shell::shell;
 use std::fs::{File, OpenOptions};
 use std::io;
 use std::io::{BufWriter, Write};
 use std::os::fd::{AsRawFd, RawFd};
 use std::process::ExitCode;
+use msgq_cli::{Output, print_fault, read_command_line};
 
 fn main(rt: HostRuntime) -> ExitCode {
     let alloc = rt.alloc();

@@ -11,7 +11,7 @@ use command_words::{CallerIds, Deed, Patience, SendTask, ShellTask};
 use queue_commands::{Command, ExitStatus, Receiving, Request, Sending};
 use queue_model::Caller;
 use rollback_journal::{Opening, open_in_turn};
-use script_runs::msgq_cli::{complain, open_to_read};
+use msgq_cli::{complain, open_to_read};
 use std::io::Write;
 use std::time::{Duration, Instant, SystemTime, UNIX_EPOCH};
 use std::{fs, io, process, thread};
