@@ -2,7 +2,6 @@
 
 ghost use Rattle.msgq_cli.specs.Tasks.{HasPages};
 
-use crate::crew::ThreadASeat;
 use migration_runs::{CopyRequest, SalvageRequest, Size, copy_file, salvage_file};
 use std::fs::File;
 use std::io::{Eprint, IsTerminal, Write};
@@ -13,7 +12,7 @@ use msgq_cli::{
     Ending, Output, Task, advise, complain, complain_of_lines, new_file, report_file,
 };
 use threaded_runs::script_runs::replays::{Sources, replay_file};
-use threaded_runs::{Names, run_file, serve};
+use threaded_runs::{Names, ThreadASeat, run_file, serve};
 
 /// What faults of lines are told of, where a script is run without a file.
 const MEMORY: &str = "the file in memory";

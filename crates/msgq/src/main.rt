@@ -3,7 +3,6 @@
 
 #![tactic(auto)]
 
-mod crew;
 mod fixed;
 mod input;
 mod shell;

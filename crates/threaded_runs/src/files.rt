@@ -3,7 +3,7 @@
 ghost use Rattle.std.specs.Prelude.{◌≡◌};
 ghost use Rattle.threaded_runs.specs.Beside.{RunsInputNew, RunsTextNew};
 
-use crate::crew::Crew;
+use crate::crew::ThreadASeat;
 use crate::runs::{is_of_one_seat, run_on};
 use msgq_cli::record_file::format;
 use msgq_cli::{
@@ -16,8 +16,10 @@ use script_runs::replays::{complain_of_ran, script_text};
 use script_runs::{MEMORY_PAGES, serve_text};
 use std::alloc::Global;
 use std::fs::File;
-use std::io::{Read, Write};
+use std::io::{Eprint, Read, Write};
 use std::rt::{Clock, Files};
+use std::sync::Wait;
+use std::thread::Threads;
 
 /// What the faults of a file in memory are told of.
 const MEMORY: &str = "the file in memory";
@@ -37,16 +39,15 @@ pub struct Names<'a> {
 /// The script is read first: fault 20 or 60 alone where it can't be read, and nothing is run where
 /// it is wrong. Then the file is opened, and what a run that was cut off has left is undone:
 /// `fault N` alone where it is not. Then it is as `run_on` says.
-pub fn run_file<R, C, W, E>(
+pub fn run_file<R, W, E>(
     rt: &R,
-    crew: &C,
+    crew: &ThreadASeat<'_, R>,
     names: Names,
     output: &mut Output<W>,
     errors: &mut E,
 ) -> Ending
 where
-    R: Files<File = File> + AllocGlobal + Input + Clock,
-    C: Crew,
+    R: Files<File = File> + AllocGlobal + Input + Clock + Eprint + Threads + Wait + Sync,
     W: Write + Drop,
     E: Write,
 {
@@ -71,14 +72,14 @@ where
 ///
 /// A wrong script runs nothing. Fault 60 alone where there is no memory to read the script or to
 /// make the file, and fault 20 alone where the reader fails otherwise.
-pub fn serve<R: Read, C: Crew, W: Write + Drop, E: Write>(
-    crew: &C,
+pub fn serve<I: Read, R: Threads + Wait + Clock + Eprint + Sync, W: Write + Drop, E: Write>(
+    crew: &ThreadASeat<'_, R>,
     alloc: Global,
-    reader: &mut R,
+    reader: &mut I,
     output: &mut Output<W>,
     errors: &mut E,
 ) -> Ending
-    ensures { RunsInputNew (R.remaining reader.old) output.old output.new result }
+    ensures { RunsInputNew (I.remaining reader.old) output.old output.new result }
 {
     match read_text(alloc, reader) {
         Ok(text) => serve_beside(crew, alloc, text.as_slice(), output, errors),
@@ -87,8 +88,8 @@ pub fn serve<R: Read, C: Crew, W: Write + Drop, E: Write>(
 }
 
 /// Runs a text as a script on a new file in memory.
-fn serve_beside<C: Crew, W: Write + Drop, E: Write>(
-    crew: &C,
+fn serve_beside<R: Threads + Wait + Clock + Eprint + Sync, W: Write + Drop, E: Write>(
+    crew: &ThreadASeat<'_, R>,
     alloc: Global,
     text: &[u8],
     output: &mut Output<W>,

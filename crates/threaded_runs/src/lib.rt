@@ -10,7 +10,7 @@ mod printing;
 mod runs;
 mod seat_lines;
 
-pub use crew::{Crew, Shared, Waiter};
+pub use crew::{Shared, ThreadASeat, Waiter};
 pub use desk::Desk;
 pub use files::{Names, run_file, serve};
 pub use runs::run_on;

@@ -9,7 +9,7 @@ ghost use Rattle.seat_passes.specs.Views.{nobody};
 ghost use Rattle.workers.specs.Closing.{HasMissing};
 ghost use Rattle.workers.specs.Opening.{origin_of};
 
-use crate::crew::{Crew, Shared};
+use crate::crew::{Shared, ThreadASeat, make_all};
 use crate::desk::Desk;
 use crate::opening::{Plan, prepare};
 use crate::printing::print_all;
@@ -18,8 +18,11 @@ use msgq_cli::{Output, Script};
 use page_device::PageDevice;
 use script_runs::replays::{FileKeys, Ran, leave_refused, tell_end};
 use std::alloc::Global;
-use std::io::Write;
+use std::io::{Eprint, Write};
 use std::marker::Brand;
+use std::rt::Clock;
+use std::sync::Wait;
+use std::thread::Threads;
 use workers::interleavings::interleaving_core::OpenFault;
 use workers::{Base, Ended, Ending, Open, Prepared, Room, Seat, Started};
 
@@ -39,8 +42,8 @@ use workers::{Base, Ended, Ending, Open, Prepared, Room, Seat, Started};
 ///
 /// A script all of whose lines are of one seat is run as `script_runs::run_on` does, since nobody
 /// could end a wait.
-pub fn run_on<C: Crew, D: PageDevice + Drop + Send, W: Write + Drop>(
-    crew: &C,
+pub fn run_on<R: Threads + Wait + Clock + Eprint + Sync, D: PageDevice + Drop + Send, W: Write + Drop>(
+    crew: &ThreadASeat<'_, R>,
     alloc: Global,
     device: D,
     script: &Script,
@@ -64,7 +67,7 @@ pub fn run_on<C: Crew, D: PageDevice + Drop + Send, W: Write + Drop>(
         return Ran::unrun(device, leave_refused(OpenFault::NoMemory, output));
     };
     match prepare(alloc, device, script) {
-        Ok(prepared) => run_prepared::<Brand, C, D, W>(crew, prepared, plan, output),
+        Ok(prepared) => run_prepared::<Brand, R, D, W>(crew, prepared, plan, output),
         Err((device, fault)) => Ran::unrun(device, leave_refused(fault, output)),
     }
 }
@@ -80,10 +83,10 @@ pub(crate) fn is_of_one_seat(script: &Script) -> bool
 /// Runs a script on a file that was opened for its seats, on a service of this name.
 fn run_prepared<
     N: Room + Base + Send + Sync,
-    C: Crew,
+    R: Threads + Wait + Clock + Eprint + Sync,
     D: PageDevice + Drop + Send,
     W: Write + Drop,
->(crew: &C, prepared: Prepared<D, FileKeys>, plan: Plan<'_>, output: &mut Output<W>) -> Ran<D>
+>(crew: &ThreadASeat<'_, R>, prepared: Prepared<D, FileKeys>, plan: Plan<'_>, output: &mut Output<W>) -> Ran<D>
     requires table { prepared.table ≡ N.table }
     requires origin { origin_of (λ _. sha_key) prepared ≡ N.origin }
     requires many { length prepared.callers ≡ greatest_seat plan.script.now.lines }
@@ -125,7 +128,7 @@ fn run_prepared<
     } = plan;
     script.keeps_seats();
     let desks = at_desks(started.seats, seats, desks);
-    let desks = crew.make_all(&started.service, gauge, desks);
+    let desks = make_all(crew, &started.service, gauge, desks);
     let so_far = print_all(
         script.lines(),
         desks.as_slice(),

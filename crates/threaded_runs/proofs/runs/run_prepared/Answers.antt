@@ -58,14 +58,12 @@ at_desks-desks-requires-clause-room g c =
     omega (arith, cap, long, lines, many, same)
 
 -- nobody has begun
-pub make_all-desks-requires : goal.make_all-desks-requires
-make_all-desks-requires g c =
+pub make_all-desks-requires-clause-fresh : goal.make_all-desks-requires-clause-fresh
+make_all-desks-requires-clause-fresh g c =
     let new = c.in-Ok-start.ensures.seats ∙ ap newcomers c.requires.many in
-    record {
-      fresh = untouched _ _ _ _ c.requires.plan.seats
-          (subst (λ (l : List Sitter). ArePaired l c.args.plan.seats.items c.at_desks-desks.result.items) new
-          c.at_desks-desks.ensures);
-    }
+    untouched _ _ _ _ c.requires.plan.seats
+    (subst (λ (l : List Sitter). ArePaired l c.args.plan.seats.items c.at_desks-desks.result.items) new
+    c.at_desks-desks.ensures)
 
 -- ---- all lines are made
 

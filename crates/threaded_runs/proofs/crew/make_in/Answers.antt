@@ -2,9 +2,9 @@ use Rattle.std.proofs.Common.{rules, ◌≡◌, ◌≤◌, ap, ◌∙◌, length
 use Rattle.std.specs.Prelude.{vec_capacity}
 use Rattle.std.specs.List.{each_same}
 use Rattle.std.specs.Vec.{vec_len}
-use Rattle.msgq.proofs.WorkLemmas.{all_made, leading_ends, leading_goes, leading_starts}
+use Rattle.threaded_runs.proofs.WorkLemmas.{all_made, leading_ends, leading_goes, leading_starts}
 use Rattle.threaded_runs.specs.Desks.{IsMadeOf}
-use Rattle.msgq.proofs.crew.make_in.Goals as goal
+use Rattle.threaded_runs.proofs.crew.make_in.Goals as goal
 
 -- one desk more makes its lines
 pub loop-desk-preserved : goal.loop-desk-preserved

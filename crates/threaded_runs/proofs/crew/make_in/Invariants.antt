@@ -1,8 +1,8 @@
 -- The desks that make their lines so far, and those that have come back.
 use Rattle.std.specs.Prelude.{◌≡◌, vec_capacity}
 use Rattle.threaded_runs.specs.Desks.{DeskView, IsMadeOf}
-use Rattle.msgq.proofs.WorkLemmas.{IsLeading}
-use Rattle.msgq.proofs.crew.make_in.Given as goal
+use Rattle.threaded_runs.proofs.WorkLemmas.{IsLeading}
+use Rattle.threaded_runs.proofs.crew.make_in.Given as goal
 
 abbrev pub invariant-loop-desk : goal.invariant-loop-desk
 invariant-loop-desk g l =
