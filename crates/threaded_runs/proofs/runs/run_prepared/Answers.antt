@@ -61,7 +61,7 @@ at_desks-desks-requires-clause-room g c =
 pub make_all-desks-requires-clause-fresh : goal.make_all-desks-requires-clause-fresh
 make_all-desks-requires-clause-fresh g c =
     let new = c.in-Ok-start.ensures.seats ∙ ap newcomers c.requires.many in
-    untouched _ _ _ _ c.requires.plan.seats
+    λ lifetimes lives. untouched _ _ _ _ c.requires.plan.seats
     (subst (λ (l : List Sitter). ArePaired l c.args.plan.seats.items c.at_desks-desks.result.items) new
     c.at_desks-desks.ensures)
 
