@@ -94,6 +94,7 @@ fn remains<D: PageDevice + Drop, N: Room + Base>(
         device,
         journal,
         seats,
+        failure: _,
     } = ended;
     have_parts(journal.as_slice(), seats.as_slice(), fault)?;
     if shown != calls(journal.as_slice()) as u64 {
