@@ -11,6 +11,7 @@ pub mod DoingLemmas
 pub mod ToldLemmas
 pub mod OwedLemmas
 pub mod UnderWayLemmas
+pub mod OutcomeLemmas
 pub mod RisenLemmas
 pub mod PlayedLemmas
 pub mod RenewLemmas

@@ -22,7 +22,8 @@ use Rattle.interleavings.specs.declared.playing.EndFault.{EndFault}
 use Rattle.interleavings.specs.declared.playing.EndFault.TheVariants.{Busy, Close}
 use Rattle.interleavings.specs.declared.playing.Played.{Played}
 use Rattle.interleavings.proofs.RisenLemmas.{fails_by_along, later_along, risen_within}
-use Rattle.interleavings.proofs.UnderWayLemmas.{call_on, places_along, come_along, fails_along, leaves_along, marked_along, none_at}
+use Rattle.interleavings.proofs.OutcomeLemmas.{come_along, fails_along}
+use Rattle.interleavings.proofs.UnderWayLemmas.{call_on, places_along, leaves_along, marked_along, none_at}
 
 -- ---- who has a call
 
@@ -161,7 +162,8 @@ module _ {K : Type 0} (of : K → RecordKey → ℕ) (keys : K) (content : List 
 
     pub has_played : HasPlayed es played
     has_played = record {
-      outcomes = come_along hash es os old new (λ seat. None) (λ seat. sym (idle_before seat)) are_seats runs;
+      outcomes = come_along hash es os old new false (λ seat. None) (sym opened.failed)
+          (λ seat. sym (idle_before seat)) are_seats runs;
       told = λ seat. subst (HasItsPart seat es os) (sym ended.journal_is)
           (its_part seat es os new are_seats runs (tells seat));
       linear = λ many. subst (HasStood many es os) (sym ended.journal_is) (stood many);

@@ -1,20 +1,17 @@
--- The call that a seat has under way, and what the journal and a failure say, told by the outcomes of events.
+-- The call that a seat has under way, and whether the journal has a stop, told by the outcomes of events.
 use Rattle.std.proofs.Common.{ℕ, zero, suc, ◌≡◌, ◌≢◌, ◌⊎◌, ◌↔◌, inl, inr, refl, sym, ap, ◌∙◌, subst, ◌==◌, Bool, true, false, ◌||◌, if◌then◌else◌, List, [], ◌∷◌, ◌++◌, Option, Some, None, length, arith}
 use Rattle.std.specs.List.{list_any}
 use Rattle.std.proofs.lemmas.Bool.{eqb-false, eqb-true}
 use Rattle.std.proofs.lemmas.List.Elements.{All-head, All-tail}
 use Rattle.interleaving_core.proofs.PartLemmas.{AreOf, added_is_of}
 use Rattle.interleaving_core.proofs.PlaceLemmas.{at_other, at_same, length-with_call}
-use Rattle.interleaving_core.specs.Beginning.{Refuses}
-use Rattle.interleaving_core.specs.Owing.{IsMove, failed, is_end, is_failure}
-use Rattle.interleaving_core.specs.declared.fault.BeginFault.{BeginFault}
-use Rattle.interleaving_core.specs.declared.fault.BeginFault.TheVariants as refusals
+use Rattle.interleaving_core.specs.Owing.{IsMove, failed, is_end, is_failure, told_of_failure}
 use Rattle.interleaving_core.specs.declared.step.Step.TheVariants as steps
 use Rattle.queue_model.specs.declared.entry.Entry.TheVariants.{Decided, Stopped}
 use Rattle.queue_model.specs.Journal.{is_of}
 use Rattle.interleavings.specs.Words.{ActiveView, Answer, Call, Entry, HasCall, IsDriven, IsRefused, IsRun, IsStep, IsStopped, IsTurn, KernelState, Moves, RecordKey, Step, answer_told, call_at, call_of, with_call}
 use Rattle.interleavings.specs.Runs.{AreOfSeats, Happens, IsOfSeat, IsSeatOf, Runs}
-use Rattle.interleavings.specs.Playing.{AreOutcomes, MayCome, call_along, call_behind, call_left, is_mark, is_stop, seat_of, tells_failure, unless_over}
+use Rattle.interleavings.specs.Playing.{call_along, call_behind, call_left, is_mark, is_stop, unless_over}
 use Rattle.interleavings.specs.declared.event.Event.{Event}
 use Rattle.interleavings.specs.declared.event.Event.TheVariants as events
 use Rattle.interleavings.specs.declared.event.Outcome.{Outcome}
@@ -27,6 +24,11 @@ call_on seat k = call_of (call_at k.seats seat)
 pub none_at : (at : Option ActiveView) → call_of at ≡ None → at ≡ None
 none_at None none = refl
 none_at (Some a) none = absurd cc
+
+-- a call is told of a failure
+pub told_where : (at : Option ActiveView) → (call_of at ≡ None → ⊥) → told_of_failure at ≡ failed
+told_where None there = absurd (there refl)
+told_where (Some a) there = refl
 
 -- ---- so many places
 
@@ -130,6 +132,15 @@ module _ {K : Type 0} (hash : RecordKey → ℕ) (seat : ℕ) (did : Step) (old 
           (moves_leave hash seat old n moved.before moved.stands ∙ none)) in
           cc
 
+  -- and fails where a step had failed
+  pub drive_told : old.failed ≡ true → (call_on seat old ≡ None → ⊥) → did ≡ failed
+  drive_told is there = elim driven.ends [
+    | inl rests ↦ rests.step.turn.fails
+        (moves_fail_not hash seat old driven.moves driven.before driven.moved ∙ is)
+        ∙ told_where (call_at driven.before.seats seat) (λ none. there (sym still ∙ none))
+    | inr spent ↦ spent.told
+  ]
+
   pub drive_rests : IsMove did → ⊥
   drive_rests moves = elim driven.ends [
     | inl rests ↦ rests.rests moves
@@ -183,7 +194,7 @@ event_leaves hash seat _ _ old new is never = absurd never
 -- ---- one event after the other
 
 module _ {K : Type 0} (hash : RecordKey → ℕ) where
-  seats_behind : (e : Event) (es : List Event) (o : Outcome) (old new : KernelState K) → Happens hash e o old new →
+  pub seats_behind : (e : Event) (es : List Event) (o : Outcome) (old new : KernelState K) → Happens hash e o old new →
       AreOfSeats (length old.seats) (e ∷ es) → AreOfSeats (length new.seats) es
   seats_behind e es o old new happens are =
       subst (λ (n : ℕ). AreOfSeats n es) (sym (event_places hash e o old new happens))
@@ -199,63 +210,6 @@ module _ {K : Type 0} (hash : RecordKey → ℕ) where
       leaves_along seat es os runs.between new (seats_behind e es o old runs.between runs.first are) runs.rest
       ∙ ap (λ (c : Option Call). call_along seat c es os) (event_leaves hash seat e o old runs.between
       (All-head (IsOfSeat (length old.seats)) e es are) runs.first)
-
-  may_come : (e : Event) (o : Outcome) (old new : KernelState K) (under_way : Option Call) →
-      under_way ≡ call_on (seat_of e) old → Happens hash e o old new → MayCome e o under_way
-  may_come (events.Begin seat call) outcomes.Begun old new under_way same has = same ∙ ap call_of has.may.free
-  may_come (events.Begin seat call) (outcomes.Refused back fault) old new under_way same refused = (
-    refused.back,
-    λ busy none. (subst (Refuses seat old) busy refused.cause).1
-        (none_at (call_at old.seats seat) (sym same ∙ none)),
-  )
-  may_come (events.Step seat) (outcomes.Stepped did) old new under_way same step = (
-    λ idle. same ∙ ap call_of (step.turn.idle.0 idle),
-    λ none. step.turn.idle.1 (none_at (call_at old.seats seat) (sym same ∙ none)),
-  )
-  may_come (events.Drive seat) (outcomes.Driven did) old new under_way same drives =
-      let idle = idle_driven hash seat did old new drives.driven in
-      ((λ is. same ∙ idle.0 is, λ none. idle.1 (sym same ∙ none)), drive_rests hash seat did old new drives.driven)
-  may_come events.Stop outcomes.Stopped old new under_way same stops = tt
-  may_come _ _ old new under_way same never = absurd never
-
-  pub come_along : (es : List Event) (os : List Outcome) (old new : KernelState K) (under_way : ℕ → Option Call) →
-      ((seat : ℕ) → under_way seat ≡ call_on seat old) → AreOfSeats (length old.seats) es → Runs hash es os old new →
-      AreOutcomes under_way es os
-  come_along [] [] old new under_way same are runs = tt
-  come_along [] (o ∷ os) old new under_way same are never = absurd never
-  come_along (e ∷ es) [] old new under_way same are never = absurd never
-  come_along (e ∷ es) (o ∷ os) old new under_way same are runs = (
-    may_come e o old runs.between (under_way (seat_of e)) (same (seat_of e)) runs.first,
-    come_along es os runs.between new (λ seat. call_left seat e o (under_way seat))
-        (λ seat. ap (call_left seat e o) (same seat) ∙ sym (event_leaves hash seat e o old runs.between
-        (All-head (IsOfSeat (length old.seats)) e es are) runs.first))
-        (seats_behind e es o old runs.between runs.first are) runs.rest,
-  )
-
-  -- ---- failures
-
-  event_fails : (e : Event) (o : Outcome) (old new : KernelState K) → Happens hash e o old new →
-      new.failed ≡ (old.failed || tells_failure o)
-  event_fails (events.Begin seat call) outcomes.Begun old new has =
-      ap (λ (k : KernelState K). k.failed) has.is ∙ sym (or_false old.failed)
-  event_fails (events.Begin seat call) (outcomes.Refused back fault) old new refused =
-      ap (λ (k : KernelState K). k.failed) refused.same ∙ sym (or_false old.failed)
-  event_fails (events.Step seat) (outcomes.Stepped did) old new step = step.turn.failed
-  event_fails (events.Drive seat) (outcomes.Driven did) old new drives = drive_fails hash seat did old new drives.driven
-  event_fails events.Stop outcomes.Stopped old new stops =
-      stop_same (λ (k : KernelState K). k.failed) old new stops (λ journal room. refl) old.stopped refl
-      ∙ sym (or_false old.failed)
-  event_fails _ _ old new never = absurd never
-
-  pub fails_along : (es : List Event) (os : List Outcome) (old new : KernelState K) → Runs hash es os old new →
-      new.failed ≡ (old.failed || list_any tells_failure os)
-  fails_along [] [] old new same = ap (λ (k : KernelState K). k.failed) same ∙ sym (or_false old.failed)
-  fails_along [] (o ∷ os) old new never = absurd never
-  fails_along (e ∷ es) [] old new never = absurd never
-  fails_along (e ∷ es) (o ∷ os) old new runs =
-      fails_along es os runs.between new runs.rest
-      ∙ ap (λ (b : Bool). b || list_any tells_failure os) (event_fails e o old runs.between runs.first)
-      ∙ or_or old.failed (tells_failure o) (list_any tells_failure os)
 
 -- ---- the stop
 

@@ -1,10 +1,11 @@
 -- What events over the file of a device come to, from its opening to its closing: told by its pages, by what each seat
 -- was told and by the journal alone. docs/QUEUES.md, "Journals", "Order"; docs/STEPS.md, "Calls".
-use Rattle.std.specs.Prelude.{ℕ, ◌≡◌, ◌≢◌, ◌↔◌, ◌⊎◌, Bool, true, false, if◌then◌else◌, IsSome, IsTrue, List, [], ◌∷◌, ◌++◌, Option, Some, None, take, ⊤}
+use Rattle.std.specs.Prelude.{ℕ, ◌≡◌, ◌≢◌, ◌↔◌, ◌⊎◌, Bool, true, false, ◌||◌, if◌then◌else◌, IsSome, IsTrue, List, [], ◌∷◌, ◌++◌, Option, Some, None, take, ⊤}
 use Rattle.std.specs.List.{list_any}
 use Rattle.file_pages.specs.declared.fault.FileFault.TheVariants.{Failed}
 use Rattle.page_device.specs.Device.{HasRisen}
 use Rattle.interleaving_core.specs.Owing.{IsMove, is_end, is_failure}
+use Rattle.interleaving_core.specs.declared.fault.BeginFault.{BeginFault}
 use Rattle.interleaving_core.specs.declared.fault.BeginFault.TheVariants as refusals
 use Rattle.interleaving_core.specs.declared.fault.CloseFault.TheVariants as closes
 use Rattle.interleaving_core.specs.declared.fault.StepFault.TheVariants as faults
@@ -54,23 +55,41 @@ call_under_way seat es os = call_along seat None es os
 
 -- ---- outcomes of events
 
--- of an event of a seat that has this call under way, or none
-abbrev pub MayCome : Event → Outcome → Option Call → Type 0
-MayCome (events.Begin seat call) outcomes.Begun under_way = under_way ≡ None
-MayCome (events.Begin seat call) (outcomes.Refused back fault) under_way =
-    (back ≡ call) × (fault ≡ refusals.Busy → under_way ≢ None)
-MayCome (events.Step seat) (outcomes.Stepped did) under_way = (did ≡ steps.Idle) ↔ (under_way ≡ None)
-MayCome (events.Drive seat) (outcomes.Driven did) under_way =
-    ((did ≡ steps.Idle) ↔ (under_way ≡ None)) × (IsMove did → ⊥)
-MayCome events.Stop outcomes.Stopped under_way = ⊤
-MayCome _ _ under_way = ⊥
+-- a seat was told of a failure of the file
+abbrev pub tells_failure : Outcome → Bool
+tells_failure (outcomes.Stepped did) = is_failure did
+tells_failure (outcomes.Driven did) = is_failure did
+tells_failure _ = false
 
--- one for each event, in their order, where seats have these calls under way
-abbrev pub AreOutcomes : (ℕ → Option Call) → List Event → List Outcome → Type 0
-AreOutcomes under_way [] [] = ⊤
-AreOutcomes under_way (e ∷ es) (o ∷ os) =
-    MayCome e o (under_way (seat_of e)) × AreOutcomes (λ seat. call_left seat e o (under_way seat)) es os
-AreOutcomes under_way _ _ = ⊥
+-- why a call does not begin, where a step has failed before or none has, and where its seat has this call under way
+pub record IsBackFor (broken : Bool) (call back : Call) (fault : BeginFault) (under_way : Option Call) : Type 0 where
+  pub same : back ≡ call
+  pub failed : (fault ≡ refusals.Failed) ↔ (broken ≡ true)
+  pub busy : (fault ≡ refusals.Busy) ↔ ((broken ≡ false) × (under_way ≢ None))
+
+-- what such a seat is told of a step
+pub record IsToldByStep (broken : Bool) (did : Step) (under_way : Option Call) : Type 0 where
+  pub idle : (did ≡ steps.Idle) ↔ (under_way ≡ None)
+  -- once a step has failed each call is told of it, and of nothing else
+  pub failed : broken ≡ true → under_way ≢ None → did ≡ steps.Fault (faults.File Failed)
+
+-- of an event of such a seat
+abbrev pub MayCome : Bool → Event → Outcome → Option Call → Type 0
+MayCome broken (events.Begin seat call) outcomes.Begun under_way = (broken ≡ false) × (under_way ≡ None)
+MayCome broken (events.Begin seat call) (outcomes.Refused back fault) under_way =
+    IsBackFor broken call back fault under_way
+MayCome broken (events.Step seat) (outcomes.Stepped did) under_way = IsToldByStep broken did under_way
+MayCome broken (events.Drive seat) (outcomes.Driven did) under_way =
+    IsToldByStep broken did under_way × (IsMove did → ⊥)
+MayCome broken events.Stop outcomes.Stopped under_way = ⊤
+MayCome broken _ _ under_way = ⊥
+
+-- one for each event, in their order, where a step has failed or none has, and seats have these calls under way
+abbrev pub AreOutcomes : Bool → (ℕ → Option Call) → List Event → List Outcome → Type 0
+AreOutcomes broken under_way [] [] = ⊤
+AreOutcomes broken under_way (e ∷ es) (o ∷ os) = MayCome broken e o (under_way (seat_of e))
+    × AreOutcomes (broken || tells_failure o) (λ seat. call_left seat e o (under_way seat)) es os
+AreOutcomes broken under_way _ _ = ⊥
 
 -- ---- the journal
 
@@ -107,12 +126,6 @@ pub record HasStood (many : ℕ) (es : List Event) (os : List Outcome) (journal 
 
 -- ---- of any device
 
--- a seat was told of a failure of the file
-abbrev pub tells_failure : Outcome → Bool
-tells_failure (outcomes.Stepped did) = is_failure did
-tells_failure (outcomes.Driven did) = is_failure did
-tells_failure _ = false
-
 -- its drive was given up, as its call moved in each of the most steps; or a step had failed before
 abbrev pub is_given_up : Step → Bool
 is_given_up (steps.Fault (faults.File Failed)) = true
@@ -123,7 +136,7 @@ gives_up (outcomes.Driven did) = is_given_up did
 gives_up _ = false
 
 pub record HasPlayed {D : Type 0} (es : List Event) (played : Played D) : Type 0 where
-  pub outcomes : AreOutcomes (λ seat. None) es played.outcomes.items
+  pub outcomes : AreOutcomes false (λ seat. None) es played.outcomes.items
   -- each seat was told its part of the journal
   pub told : (seat : ℕ) → HasItsPart seat es played.outcomes.items played.journal.items
   -- which is a linearization (Herlihy and Wing 1990): a call that began after another was answered stands after it

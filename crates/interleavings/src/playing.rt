@@ -54,6 +54,9 @@ pub enum EndFault {
 /// has ended, and no transfer failed, the device is left with the file of the system after the
 /// journal: it holds the messages that nobody took, and no others.
 ///
+/// Once a step has failed no call begins, and each that is under way is told of that, and of nothing
+/// else.
+///
 /// # Errors
 ///
 /// `TooFewFrames` where there are fewer than 4 a seat and 8; `NoMemory` where there is none for the
