@@ -80,8 +80,7 @@ module _ {K : Type 0} (hash : RecordKey → ℕ) where
         ∙ told_where (call_at old.seats seat) (λ none. there (same ∙ none));
   }
   may_come (events.Drive seat) (outcomes.Driven did) old new broken under_way as_broken same drives =
-      let idle = idle_driven hash seat did old new drives.driven in
-      (
+      let idle = idle_driven hash seat did old new drives.driven in (
         record {
           idle = (λ is. same ∙ idle.0 is, λ none. idle.1 (sym same ∙ none));
           failed = λ is there. drive_told hash seat did old new drives.driven (sym as_broken ∙ is)
