@@ -37,7 +37,8 @@ module _ {K : Type 0} (hash : RecordKey → ℕ) (base : State) (seat : ℕ) (a 
   at = well hash seat led.now (calls_of old.seats seat) together.records old.pool old.locks together.change a.machine
       (ap machine there) (together.calls seat)
 
-  pub waiting : StaysWaiting did a (call_at new.seats seat) old.pool new.pool old.locks new.locks old.journal new.journal →
+  pub waiting : StaysWaiting did a (call_at new.seats seat) old.pool new.pool old.locks new.locks old.journal
+      new.journal →
       DoesBy hash base seat a did phase phase old new
   waiting stays =
       subst (λ (told : Step). DoesBy hash base seat a told phase phase old new) (sym stays.told_is) (record {
@@ -88,7 +89,8 @@ module _ {K : Type 0} (hash : RecordKey → ℕ) (base : State) (seat : ℕ) (a 
           (step.concludes undecided conclusions.Waits is).rules))
 
       -- a call that is over leaves all, whatever its seat is told
-      over : (waits : Bool) (answer : Option Answer) → LeavesAll phase after old new → Does (told_when_over waits answer)
+      over : (waits : Bool) (answer : Option Answer) → LeavesAll phase after old new
+          → Does (told_when_over waits answer)
       over true answer left = left
       over false (Some answer) left = left
       over false None left = left

@@ -60,7 +60,8 @@ drives_led steps ends begins K hash base seat did old new is led driven =
 
 -- ---- events
 
-module _ {K : Type 0} (begins : BeginsRefine K) (refuses : RefusalsRefine K) (steps : StepsRefine K) (drives : DrivesRefine K)
+module _ {K : Type 0} (begins : BeginsRefine K) (refuses : RefusalsRefine K) (steps : StepsRefine K)
+    (drives : DrivesRefine K)
     (stops : StopsRefine K) (hash : RecordKey → ℕ) (base : State) where
   event_leads : (e : Event) (o : Outcome) (old new : KernelState K) → IsOfSeat (length old.locks) e →
       Refines hash base old → Happens hash e o old new → Refines hash base new
@@ -101,6 +102,7 @@ module _ {K : Type 0} (begins : BeginsRefine K) (refuses : RefusalsRefine K) (st
       (event_leads e o old runs.between (All-head (IsOfSeat (length old.locks)) e es seats) led
       runs.first) runs.rest
 
-pub events_led : (K : Type 0) → BeginsRefine K → RefusalsRefine K → StepsRefine K → DrivesRefine K → StopsRefine K → EventsRefine K
+pub events_led : (K : Type 0) → BeginsRefine K → RefusalsRefine K → StepsRefine K → DrivesRefine K
+    → StopsRefine K → EventsRefine K
 events_led K begins refuses steps drives stops hash base es os old new seats led runs =
     events_lead begins refuses steps drives stops hash base es os old new seats led runs

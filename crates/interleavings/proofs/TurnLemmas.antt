@@ -377,7 +377,8 @@ module _ (steps : StepTogether) (ends : EndTogether) (begins : BeginTogether) {K
           led = record {
             now = led.now;
             leads = subst (λ (cs : List Caller). LeadsAlong cs new.journal base led.now) (sym callers)
-                (subst (λ (es : List Entry). LeadsAlong old.callers es base led.now) (sym waits.same_journal) led.leads);
+                (subst (λ (es : List Entry). LeadsAlong old.callers es base led.now) (sym waits.same_journal)
+                led.leads);
             mark = mark;
             callers = fitting;
             rows = rows;

@@ -33,7 +33,8 @@ told_where (Some a) there = refl
 -- ---- so many places
 
 pub stop_same : {K : Type 0} {X : Type 0} (get : KernelState K → X) (old new : KernelState K) → IsStopped old new →
-    ((journal : List Entry) (room : ℕ) → get (record old { journal = journal; stopped = true; room = room }) ≡ get old) →
+    ((journal : List Entry) (room : ℕ) → get (record old { journal = journal; stopped = true; room = room })
+    ≡ get old) →
     (b : Bool) → old.stopped ≡ b → get new ≡ get old
 stop_same get old new stops kept true is = ap get (stops.again is)
 stop_same get old new stops kept false is = ap get (stops.first is) ∙ kept (old.journal ++ Stopped ∷ []) new.room

@@ -15,8 +15,8 @@ pub record IsAsPlainLists {K : Type 0} (hash : RecordKey → ℕ) (base : State)
 
 -- ---- a run of events
 
--- whatever the events, and so whatever the order of the seats' steps: where it refines a lawful system the kernel still does, and is
--- as plain lists
+-- whatever the events, and so whatever the order of the seats' steps: where it refines a lawful system the kernel still
+-- does, and is as plain lists
 pub record AnswersRightly {K : Type 0} (hash : RecordKey → ℕ) (old new : KernelState K) : Type 0 where
   pub led : (base : State) → Refines hash base old → Refines hash base new
   pub plain : (base : State) → IsLawful base → Refines hash base old → IsAsPlainLists hash base new

@@ -8,7 +8,10 @@ use Rattle.migration.proofs.writer.drive.Goals as goal
 
 pub loop-init : goal.loop-init
 loop-init g c = record {
-  alone = record { ready = c.requires.alone.ready; row = c.requires.alone.row ∙ ap (λ (held : List Lock). held ∷ []) (sym c.requires.begun) };
+  alone = record {
+    ready = c.requires.alone.ready;
+    row = c.requires.alone.row ∙ ap (λ (held : List Lock). held ∷ []) (sym c.requires.begun);
+  };
   honest = refl;
 }
 
