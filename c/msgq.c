@@ -157,7 +157,7 @@ static int save(msgq *queues) {
     if (queues->is_half_saved)
         return EIO;
     int wrong = pair_save(&queues->pair, &queues->session);
-    queues->is_half_saved = wrong != 0 && wrong != ENOMEM;
+    queues->is_half_saved = wrong != 0;
     return wrong;
 }
 

@@ -284,12 +284,18 @@ struct journal {
     struct image image; /* behind its last */
 };
 
-static int begin_journal(struct journal *journal, uint32_t pages, const uint8_t *page_zero) {
-    uint8_t head[HEAD_BYTES];
+static int begin_journal(struct journal *journal, const struct pair *pair, struct handle *session) {
+    uint8_t head[HEAD_BYTES], first[PAGE_BYTES];
+    uint32_t pages;
+    if (msgq_session_pages(session, &pages) != DONE)
+        return EIO;
+    int wrong = read_at(pair->file, first, sizeof first, 0);
+    if (wrong != 0)
+        return wrong;
     memcpy(head, MAGIC, sizeof MAGIC);
     put_number(head + 8, 1);
     put_number(head + 12, pages);
-    msgq_session_digest(page_zero, PAGE_BYTES, head + 16);
+    msgq_session_digest(first, PAGE_BYTES, head + 16);
     msgq_session_digest(head, HEAD_BYTES - DIGEST_BYTES, head + HEAD_BYTES - DIGEST_BYTES);
     memcpy(journal->image.before, head + HEAD_BYTES - DIGEST_BYTES, DIGEST_BYTES);
     journal->length = HEAD_BYTES;
@@ -313,58 +319,50 @@ static int page_of(struct handle *session, uint32_t page, uint8_t *into) {
     return msgq_session_page(session, page, into) == DONE ? 0 : EIO;
 }
 
-/* Tells which pages differ from those of the file, and brings what they were to the journal. */
-static int journal_changes(const struct pair *pair, struct handle *session, uint32_t pages, uint8_t *is_changed,
-                           bool *some) {
-    struct journal journal = {.file = pair->journal};
-    uint8_t was[PAGE_BYTES], is[PAGE_BYTES], first[PAGE_BYTES];
-    int wrong = read_at(pair->file, first, sizeof first, 0);
-    for (uint32_t page = 0; wrong == 0 && page < pages; page++) {
-        if ((wrong = read_at(pair->file, was, sizeof was, (uint64_t)page * PAGE_BYTES)) != 0
-            || (wrong = page_of(session, page, is)) != 0)
-            break;
-        is_changed[page] = memcmp(was, is, sizeof was) != 0;
-        if (!is_changed[page])
-            continue;
-        if (!*some)
-            wrong = begin_journal(&journal, pages, first);
-        *some = true;
-        if (wrong == 0)
-            wrong = add_image(&journal, page, was);
-    }
-    return wrong;
+/* Calls a function for each page that has changed since the last save, in their order. */
+static int each_changed(const struct pair *pair, struct handle *session,
+                        int (*act)(const struct pair *, struct handle *, uint32_t page, void *), void *with) {
+    uint32_t page = 0, code;
+    int wrong = 0;
+    for (; wrong == 0 && (code = msgq_session_next_changed(session, page, &page)) == DONE; page++)
+        wrong = act(pair, session, page, with);
+    return wrong == 0 && code != NO_PAGE ? EIO : wrong;
 }
 
-static int write_changes(const struct pair *pair, struct handle *session, uint32_t pages, const uint8_t *is_changed) {
+/* Brings the page, as the file has it, to the journal, which is begun for the first. */
+static int journal_page(const struct pair *pair, struct handle *session, uint32_t page, void *with) {
+    struct journal *journal = with;
+    uint8_t was[PAGE_BYTES];
+    int wrong = journal->length == 0 ? begin_journal(journal, pair, session) : 0;
+    if (wrong == 0)
+        wrong = read_at(pair->file, was, sizeof was, (uint64_t)page * PAGE_BYTES);
+    return wrong != 0 ? wrong : add_image(journal, page, was);
+}
+
+static int write_page(const struct pair *pair, struct handle *session, uint32_t page, void *with) {
+    (void)with;
     uint8_t is[PAGE_BYTES];
-    int wrong = 0;
-    for (uint32_t page = 0; wrong == 0 && page < pages; page++)
-        if (is_changed[page] && (wrong = page_of(session, page, is)) == 0)
-            wrong = write_at(pair->file, is, sizeof is, (uint64_t)page * PAGE_BYTES);
-    return wrong;
+    int wrong = page_of(session, page, is);
+    return wrong != 0 ? wrong : write_at(pair->file, is, sizeof is, (uint64_t)page * PAGE_BYTES);
 }
 
 int pair_save(const struct pair *pair, struct handle *session) {
-    uint32_t pages;
-    bool some = false;
-    if (msgq_session_pages(session, &pages) != DONE)
-        return EIO;
-    uint8_t *is_changed = calloc(pages, 1);
-    if (is_changed == NULL)
-        return ENOMEM;
+    struct journal journal = {.file = pair->journal};
     /* What stands in it, where it was opened so, is no whole journal. */
     uint64_t torn = 0;
     int wrong = size_of(pair->journal, &torn);
     if (wrong == 0 && torn > 0)
         wrong = end_journal(pair->journal);
     if (wrong == 0)
-        wrong = journal_changes(pair, session, pages, is_changed, &some);
-    if (wrong == 0 && some && (wrong = sync_file(pair->journal)) == 0
-        && (wrong = write_changes(pair, session, pages, is_changed)) == 0
-        && (wrong = sync_file(pair->file)) == 0)
-        wrong = end_journal(pair->journal);
-    free(is_changed);
-    return wrong;
+        wrong = each_changed(pair, session, journal_page, &journal);
+    if (wrong != 0 || journal.length == 0)
+        return wrong;
+    if ((wrong = sync_file(pair->journal)) != 0
+        || (wrong = each_changed(pair, session, write_page, NULL)) != 0
+        || (wrong = sync_file(pair->file)) != 0
+        || (wrong = end_journal(pair->journal)) != 0)
+        return wrong;
+    return msgq_session_note_saved(session) == DONE ? 0 : EIO;
 }
 
 int pair_make(const char *path, struct handle *session) {

@@ -14,7 +14,7 @@ int pair_open(struct pair *pair, const char *path);
 /* The bytes of the file, which are the caller's to free. */
 int pair_read(const struct pair *pair, uint8_t **bytes, size_t *count);
 
-/* Writes the pages of a session that differ from those of the file. */
+/* Writes the pages of a session that have changed since it was opened from the file, or last saved to it. */
 int pair_save(const struct pair *pair, struct handle *session);
 
 void pair_close(struct pair *pair);

@@ -83,6 +83,8 @@ uint32_t msgq_session_remove(struct handle *, uint32_t id);
 uint32_t msgq_session_stop(struct handle *);
 uint32_t msgq_session_pages(struct handle *, uint32_t *pages);
 uint32_t msgq_session_page(struct handle *, uint32_t page, uint8_t *into);
+uint32_t msgq_session_next_changed(struct handle *, uint32_t from, uint32_t *page);
+uint32_t msgq_session_note_saved(struct handle *);
 uint32_t msgq_session_close(struct handle *);
 size_t msgq_session_handle_size(void);
 void msgq_session_digest(const uint8_t *bytes, size_t count, uint8_t *into);

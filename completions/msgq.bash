@@ -24,7 +24,8 @@ _msgq() {
             COMPREPLY=($(compgen -W "$commands" -- "$word"))
             return
             ;;
-        run | replay) options='--wait --help' ;;
+        run) options='--wait --help' ;;
+        replay) options='--wait --trace --help' ;;
         check | stat) options='--verbose -v --help' ;;
         send) options="--type --lines --create --mode --pages --wait --nowait --verbose -v $callers" ;;
         receive) options="--type --size --noerror --header --all --wait $callers" ;;

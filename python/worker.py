@@ -18,7 +18,8 @@ KEY, URGENT, USUAL, END = 1, 1, 2, 3
 def work(jobs):
     # The lowest type first: the urgent jobs, then the usual ones, then the end.
     while (job := jobs.receive(-END)).type != END:
-        print(f"{threading.current_thread().name} did {job.body.decode()}", flush=True)
+        # One write a line: `print` writes what ends a line by itself, and another worker's line may come between.
+        print(f"{threading.current_thread().name} did {job.body.decode()}\n", end="", flush=True)
 
 
 def main(path):

@@ -78,6 +78,12 @@ def read_script(data):
     return None, commands
 
 
+def seats_of(data, commands):
+    """The seats of the lines with these numbers."""
+    lines = data.split(b"\n")
+    return {int(re.split(b"[ \t]", lines[line - 1].strip(b" \t\r"))[0]) for line in commands}
+
+
 def is_event(word):
     found = re.fullmatch(r"([0-9]+)(?::([0-9]+)|(!)|@(\w+))?", word)
     if found is None or not is_seat(found[1]):

@@ -142,6 +142,37 @@ static void a_stop_ends_waits(msgq *queues) {
     is((long long)(size_t)told, EINTR, "a wait that is stopped");
 }
 
+/* The bytes that this process has handed to the system to be written. */
+static long long written(void) {
+    long long count = 0;
+    char line[64];
+    FILE *file = fopen("/proc/self/io", "r");
+    if (file == NULL)
+        return 0;
+    while (fgets(line, sizeof line, file) != NULL)
+        if (sscanf(line, "wchar: %lld", &count) == 1)
+            break;
+    fclose(file);
+    return count;
+}
+
+/* A page that has changed is written twice, once as it was. */
+static void a_save_writes_what_has_changed(msgq *queues, uint32_t id) {
+    is(msgq_save(queues), 0, "save");
+    long long before = written();
+    is(msgq_save(queues), 0, "a save of nothing");
+    is(written() - before, 0, "what it writes");
+    is(msgq_send(queues, id, 1, "one", 3, 0, NULL), 0, "send");
+    before = written();
+    is(msgq_save(queues), 0, "a save of one message");
+    long long pages = (written() - before) / 4096;
+    is(pages >= 2 && pages < 20, before > 0, "pages that it writes");
+    before = written();
+    is(msgq_save(queues), 0, "a save of nothing more");
+    is(written() - before, 0, "what it writes");
+    is(msgq_receive(queues, id, 0, NULL, 0, MSGQ_NOERROR, NULL, NULL), 0, "receive");
+}
+
 static void a_child_is_refused(msgq *queues) {
     int status = -1;
     pid_t child = fork();
@@ -184,6 +215,7 @@ int main(int argc, char **argv) {
     a_message_comes_and_goes(queues, id);
     lists(queues, id);
     a_child_is_refused(queues);
+    a_save_writes_what_has_changed(queues, id);
     is(msgq_send(queues, id, 1, "kept", 4, 0, NULL), 0, "send");
     is(msgq_save(queues), 0, "save");
     is(msgq_send(queues, id, 1, "lost", 4, 0, NULL), 0, "send");

@@ -39,10 +39,10 @@ fn put_first(region: &mut [u8], key: &RecordKey, value: &[u8])
     ensures { region.new ≡ pair_bytes (pair key.now value.now)
         ++ take (length region.old - (RECORD_HEAD_BYTES + length value.now)) region.old }
 {
-    let kept = region.len() - (RECORD_HEAD_BYTES + value.len());
-    let (_, place) = region.split_at_mut(kept);
+    let count = RECORD_HEAD_BYTES + value.len();
+    region.copy_within(..region.len() - count, count);
+    let (place, _) = region.split_at_mut(count);
     write_record(place, key, value);
-    region.rotate_right(RECORD_HEAD_BYTES + value.len());
 }
 
 /// Writes a record over a slice of its length.
@@ -63,7 +63,7 @@ fn drop_first(region: &mut [u8], count: usize)
     requires { count ≤ length region.old }
     ensures { region.new ≡ drop count region.old ++ zeros count }
 {
-    region.rotate_left(count);
+    region.copy_within(count.., 0);
     let (_, last) = region.split_at_mut(region.len() - count);
     blank(last);
 }

@@ -113,27 +113,28 @@ module _ (filled : ℕ) (pages : List (Option ℕ)) (frame page : ℕ) (are : Ar
           past_one f less other = omega arith
 
   -- or one that held a page
-  pub filled_again : IsNext pages frame → (frame ≡ filled → ⊥) → AreFilled filled (slice_set pages frame (Some page))
-  filled_again next other = record {
-    below = λ f less. holds_at f (cases_eq f frame) (inl less);
-    behind = λ f past. put_other f (λ same. omega (arith, past, same, earlier)) ∙ are.behind f past;
-  }
+  pub is_earlier : IsNext pages frame → (frame ≡ filled → ⊥) → frame < filled
+  is_earlier next other = at (cases_lt filled (length pages))
     where
       at : (filled < length pages) ⊎ (length pages ≤ filled) → frame < filled
       at (inl there) = let first = next.first filled there (are.behind filled (omega arith)) in omega arith
       at (inr past) = omega arith
 
-      earlier : frame < filled
-      earlier = at (cases_lt filled (length pages))
+  pub filled_again : frame < filled → AreFilled filled (slice_set pages frame (Some page))
+  filled_again earlier = record {
+    below = λ f less. holds_at f (cases_eq f frame) (inl less);
+    behind = λ f past. put_other f (λ same. omega (arith, past, same, earlier)) ∙ are.behind f past;
+  }
 
 -- a table where a page came into a frame
-pub IsKept-moved_in : (pinned filled now_filled : ℕ) (used : List Bool) (t : Held) (frame page : ℕ) (payload : List ℕ)
-    → IsKept pinned filled used t → frame < length t.pages → IsFree t frame → page < length t.places
-    → place_of t page ≡ None → AreFilled now_filled (slice_set t.pages frame (Some page))
-    → IsKept pinned now_filled (slice_set used frame true) (moved_in frame page payload t)
-IsKept-moved_in pinned filled now_filled used t frame page payload kept in_range free on_device outside holding =
+pub IsKept-moved_in : (pinned filled now_filled room : ℕ) (used : List Bool) (t : Held) (frame page : ℕ)
+    (payload : List ℕ) → IsKept pinned filled room used t → frame < length t.pages → IsFree t frame
+    → page < length t.places → place_of t page ≡ None → AreFilled now_filled (slice_set t.pages frame (Some page))
+    → IsKept pinned now_filled room (slice_set used frame true) (moved_in frame page payload t)
+IsKept-moved_in pinned filled now_filled room used t frame page payload kept in_range free on_device outside holding =
     record {
       whole = IsWhole-moved_in t kept.whole frame page payload in_range free on_device outside;
+      roomy = subst (λ n. n ≤ room) (sym (length-set t.pages frame (Some page))) kept.roomy;
       even_used = length-set used frame true ∙ kept.even_used ∙ sym (length-set t.pages frame (Some page));
       counted = kept.counted;
       holding = holding;
@@ -156,6 +157,15 @@ first_next pages filled are = record {
     at : (other : ℕ) → slice_index_or pages other None ≡ None → (other < filled) ⊎ (filled ≤ other) → filled ≤ other
     at other none (inl below) = absurd (holds _ (are.below other below) none)
     at other none (inr behind) = behind
+
+-- a frame that holds a page is one of the first
+pub held_is_filled : (pages : List (Option ℕ)) (filled frame : ℕ) → AreFilled filled pages
+    → IsSome (slice_index_or pages frame None) → frame < filled
+held_is_filled pages filled frame are some = at (cases_lt frame filled)
+  where
+    at : (frame < filled) ⊎ (filled ≤ frame) → frame < filled
+    at (inl below) = below
+    at (inr behind) = absurd (holds _ some (are.behind frame behind))
 
 pub any_next : (pages : List (Option ℕ)) (filled frame : ℕ) → AreFilled filled pages → length pages ≤ filled
     → IsNext pages frame

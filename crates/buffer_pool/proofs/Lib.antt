@@ -1,4 +1,5 @@
 pub mod FilledLemmas
+pub mod GivenLemmas
 pub mod ImagesLemmas
 pub mod PoolLemmas
 pub mod SparedLemmas

@@ -56,6 +56,14 @@ module _ (stored : List (List ℕ)) (honest : Bool) (t : Held) (sound : IsSoundP
           payload_at stored n d within ∙ in_place n (place_of t n) refl
           ∙ sym (first_pages_at (length stored) n (image_at stored t) d within)
 
+  -- the device has the image of a page whose frame was not changed
+  pub on_device : IsTrue honest → (page frame : ℕ) → page < length stored → place_of t page ≡ Some frame
+      → is_changed t frame ≡ false → payload_of (slice_index_or stored page []) ≡ get_or (images_of stored t) page []
+  on_device is page frame within place unchanged =
+      sym (sound.agrees is page frame (sound.whole.in_frame page frame place) unchanged)
+      ∙ sym (first_pages_at (length stored) page (image_at stored t) [] within
+      ∙ ap (λ o. shown t o (slice_index_or stored page [])) place)
+
   -- the page of a frame is one of the device
   pub page_within : (frame page : ℕ) → page_of t frame ≡ Some page → page < length stored
   page_within frame page here =

@@ -135,6 +135,25 @@ MayNotPin page s NoMemory = ⊥
 abbrev pub MayNotFlush : PoolFault → Type 0
 MayNotFlush fault = fault ≡ Device device.Device
 
+-- an honest device has the image of a page
+abbrev pub IsOnDevice : ℕ → PoolState → Type 0
+IsOnDevice page s = IsTrue s.honest → payload_of (slice_index_or s.stored page []) ≡ image_of s page
+
+-- and of all pages from one on up to another
+abbrev pub AreOnDevice : (from to : ℕ) → PoolState → Type 0
+AreOnDevice from to s = (page : ℕ) → from ≤ page → page < to → IsOnDevice page s
+
+-- a page from one on, which the device may not have as its image, and it has those between
+pub record IsNextChanged (from page : ℕ) (s : PoolState) : Type 0 where
+  pub behind : from ≤ page
+  pub within : page < length s.images
+  pub others : AreOnDevice from page s
+
+-- or there is none such
+abbrev pub TellsChanged : ℕ → Option ℕ → PoolState → Type 0
+TellsChanged from None s = AreOnDevice from (length s.images) s
+TellsChanged from (Some page) s = IsNextChanged from page s
+
 -- no page is pinned
 abbrev pub IsAtRest : PoolState → Type 0
 IsAtRest s = (page : ℕ) → pins_at s page ≡ 0

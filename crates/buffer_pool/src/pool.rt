@@ -1,7 +1,7 @@
 //! Pools: the images of a device's pages, in frames.
-ghost use Rattle.std.specs.Prelude.{◌≡◌, ◌↔◌, ◌+◌, ◌-◌, ◌^◌, ◌<◌, ◌≤◌, length, is_ok, Some, IsTrue, IfOk, IfErr, IsErrAnd, IsErrOf, OnOk, slice_get, slice_set, if◌then◌else◌};
+ghost use Rattle.std.specs.Prelude.{◌≡◌, ◌↔◌, ◌+◌, ◌-◌, ◌^◌, ◌<◌, ◌≤◌, false, length, is_ok, Some, IsTrue, IfOk, IfErr, IsErrAnd, IsErrOf, OnOk, slice_get, slice_set, if◌then◌else◌};
 ghost use Rattle.page_device.specs.declared.fault.DeviceFault.TheVariants.{PastEnd};
-ghost use Rattle.buffer_pool.specs.Pool.{pins_at, opened, IsAtRest, payloads_of, IsCrowded, KeepsImages, KeepsStored, PoolHasCause, MayNotOpen, MayNotPin, MayNotFlush};
+ghost use Rattle.buffer_pool.specs.Pool.{pins_at, opened, IsAtRest, payloads_of, IsCrowded, IsOnDevice, KeepsImages, KeepsStored, PoolHasCause, MayNotOpen, MayNotPin, MayNotFlush, TellsChanged};
 ghost use Rattle.std.specs.Borrow.{sem};
 ghost use Rattle.buffer_pool.specs.Lending.{LendsImage};
 
@@ -65,7 +65,8 @@ impl<D: PageDevice> Pool<D> {
     /// How many pages the device has.
     #[tactic(auto, using(crate::proofs::ImagesLemmas::images_length))]
     pub fn pages(&self) -> u32
-        ensures { result ≡ length self.now.images }
+        ensures images { result ≡ length self.now.images }
+        ensures stored { result ≡ length self.now.stored }
     {
         self.device.pages()
     }
@@ -140,6 +141,30 @@ impl<D: PageDevice> Pool<D> {
     {
         let at = self.table.frame_of(frame.page());
         self.table.payload_mut(at)
+    }
+
+    /// The first page from this one on that was changed in its frame since the device had it. An
+    /// honest device has the images of those before it, or of all where there is none.
+    pub fn next_changed(&self, from: u32) -> Option<u32>
+        ensures { TellsChanged from result self.now }
+    {
+        for page in from..self.pages() {
+            if self.is_changed(page) {
+                return Some(page);
+            }
+        }
+        None
+    }
+
+    /// Whether a page was changed in its frame since the device had it.
+    fn is_changed(&self, page: u32) -> bool
+        requires { page < length self.now.images }
+        ensures { result ≡ false → IsOnDevice page self.now }
+    {
+        match self.table.place(page) {
+            Some(frame) => self.table.is_changed(frame),
+            None => false,
+        }
     }
 
     /// Writes each image that was stored to the device, and syncs it.

@@ -2,7 +2,6 @@
 ghost use Rattle.std.specs.Prelude.{◌≡◌, ◌+◌, ◌-◌, ◌^◌, ◌<◌, length, replicate, ℕ, true, false, Some, None, IsSome, IfOk};
 ghost use Rattle.buffer_pool.specs.Table.{place_of, pins_of, page_of, is_changed, payload_in, count_pinned, no_pages, with_pins, moved_in, cleaned_at, without, IsWhole, IsFree, IsNext, IsTaken};
 ghost use Rattle.std.specs.Borrow.{sem};
-ghost use Rattle.page_forms.specs.Forms.{blank_page};
 ghost use Rattle.buffer_pool.specs.Lending.{LendsPayload};
 
 use page_forms::FilePage;
@@ -15,10 +14,10 @@ pub struct Table {
     places: Vec<Option<usize>>,
     pins: Vec<u32>,
     pinned: usize,
-    /// The frames below this one hold pages, and no other does.
-    filled: usize,
     pages: Vec<Option<u32>>,
     changed: Vec<bool>,
+    /// The payloads of the frames that hold pages, which are the first ones. Room for all is taken
+    /// at the opening and touched as they are filled, so that only then the system gives it memory.
     payloads: Vec<FilePage>,
     /// Of each frame, whether it was used since the hand went by.
     used: Vec<bool>,
@@ -27,7 +26,8 @@ pub struct Table {
 }
 
 impl Model for Table {
-    ghost use Rattle.buffer_pool.specs.Table.{Held, IsKept};
+    ghost use Rattle.std.specs.Prelude.{length, vec_capacity};
+    ghost use Rattle.buffer_pool.specs.Table.{Held, IsKept, filled_up};
 
     ghost Value = { Held };
 
@@ -36,20 +36,21 @@ impl Model for Table {
       pins = t.pins.items;
       pages = t.pages.items;
       changed = t.changed.items;
-      payloads = t.payloads.items;
+      payloads = filled_up (length t.pages.items) t.payloads.items;
     } };
 
-    ghost invariant = { λ t. IsKept t.pinned t.filled t.used.items (record {
-      places = t.places.items;
-      pins = t.pins.items;
-      pages = t.pages.items;
-      changed = t.changed.items;
-      payloads = t.payloads.items;
-    }) };
+    ghost invariant = { λ t. IsKept t.pinned (length t.payloads.items) (vec_capacity t.payloads)
+        t.used.items (record {
+          places = t.places.items;
+          pins = t.pins.items;
+          pages = t.pages.items;
+          changed = t.changed.items;
+          payloads = filled_up (length t.pages.items) t.payloads.items;
+        }) };
 }
 
 impl Table {
-    /// So many frames, which hold none of so many pages.
+    /// So many frames, which hold none of so many pages. All memory is taken here.
     pub fn new(alloc: Global, pages: usize, frames: usize) -> Result<Table, AllocError>
         ensures { IfOk result (λ table. table ≡ no_pages pages frames) }
     {
@@ -57,10 +58,9 @@ impl Table {
             places: copies(alloc, None, pages)?,
             pins: copies(alloc, 0, pages)?,
             pinned: 0,
-            filled: 0,
             pages: copies(alloc, None, frames)?,
             changed: copies(alloc, false, frames)?,
-            payloads: blanks(alloc, frames)?,
+            payloads: Vec::with_capacity(alloc, frames)?,
             used: copies(alloc, false, frames)?,
             hand: 0,
         })
@@ -105,9 +105,9 @@ impl Table {
         self.changed[frame]
     }
 
-    /// The payload in a frame.
+    /// The payload in a frame that holds a page.
     pub fn payload(&self, frame: usize) -> &FilePage
-        requires { frame < length self.now.pages }
+        requires { IsSome (page_of self.now frame) }
         ensures { result.now ≡ payload_in self.now frame }
     {
         &self.payloads[frame]
@@ -161,8 +161,9 @@ impl Table {
         ensures within { result < length self.old.pages }
         ensures same { self.new ≡ self.old }
     {
-        if self.filled < self.pages.len() {
-            return self.filled;
+        let filled = self.payloads.len();
+        if filled < self.pages.len() {
+            return filled;
         }
         self.unused_frame()
     }
@@ -248,9 +249,10 @@ impl Table {
         self.pages[frame] = Some(page);
         self.changed[frame] = false;
         self.used[frame] = true;
-        self.payloads[frame] = payload;
-        if frame == self.filled {
-            self.filled += 1;
+        if frame == self.payloads.len() {
+            self.payloads.push_reserved(payload);
+        } else {
+            self.payloads[frame] = payload;
         }
     }
 
@@ -259,7 +261,7 @@ impl Table {
         requires within { page < length self.now.places }
         requires placed { IsSome (place_of self.now page) }
         ensures place { place_of self.now page ≡ Some result }
-        ensures within { result < length self.now.pages }
+        ensures held { IsSome (page_of self.now result) }
     {
         self.keeps_whole();
         match self.place(page) {
@@ -268,9 +270,9 @@ impl Table {
         }
     }
 
-    /// Lends the payload in a frame, which is changed by that.
+    /// Lends the payload in a frame that holds a page, which is changed by that.
     pub fn payload_mut(&mut self, frame: usize) -> &mut FilePage
-        requires { frame < length self.old.pages }
+        requires { IsSome (page_of self.old frame) }
         ensures* writes_back { sem 𝓛 (LendsPayload self.entry frame result) }
         ensures value { result.now ≡ payload_in self.old frame }
     {
@@ -311,16 +313,5 @@ fn copies<T: Copy + Drop>(alloc: Global, value: T, count: usize) -> Result<Vec<T
 {
     let mut list = Vec::new(alloc);
     list.resize(count, value)?;
-    Ok(list)
-}
-
-/// So many blank pages.
-fn blanks(alloc: Global, count: usize) -> Result<Vec<FilePage>, AllocError>
-    ensures { IfOk result (λ list. list.items ≡ replicate count blank_page) }
-{
-    let mut list = Vec::with_capacity(alloc, count)?;
-    for _ in 0..count {
-        list.push(FilePage::blank())?;
-    }
     Ok(list)
 }

@@ -1,5 +1,5 @@
 -- The first step of a question is one of the call.
-use Rattle.std.proofs.Common.{ℕ, ◌≡◌, ◌<◌, ◌≤◌, ◌+◌, Bool, true, false, not, ◌||◌, ◌&&◌, List, [], Some, None, refl, sym, ap, ◌∙◌, subst, arith}
+use Rattle.std.proofs.Common.{ℕ, ◌≡◌, ◌<◌, Bool, true, false, not, ◌||◌, ◌&&◌, List, [], Some, None, refl, sym, ap, ◌∙◌, subst}
 use Rattle.std.proofs.lemmas.Bool.{true≢false}
 use Rattle.std.specs.Option.{is_some}
 use Rattle.file_pages.specs.declared.fault.FileFault.{FileFault}
@@ -16,7 +16,7 @@ use Rattle.call_questions.proofs.KnowLemmas.{may_read}
 use Rattle.call_questions.proofs.LeftLemmas.{asks_leave}
 
 module _ (hash : RecordKey → ℕ) (seat : ℕ) (call : Call) (i : AnyInquiry) (room : Roomful) (held : List Lock)
-    (searches more : ℕ) (one_more : more ≤ searches + 1) (wanted : Wanted) (asked : asked_of call i ≡ Some wanted)
+    (searches : ℕ) (wanted : Wanted) (asked : asked_of call i ≡ Some wanted)
     (turn : name_turn held (names_for call i) ≡ Ready) where
   abbrev before : QuestionsView
   before = record { inquiry = i; room = room; names = held; question = None; finds = searches }
@@ -25,7 +25,7 @@ module _ (hash : RecordKey → ℕ) (seat : ℕ) (call : Call) (i : AnyInquiry) 
   first_of k = record { access = begun (ToFind (key_asked wanted)) k; told = false }
 
   abbrev pub begins_with : ℕ → QuestionsView
-  begins_with k = record { inquiry = i; room = room; names = held; question = Some (first_of k); finds = more }
+  begins_with k = record { inquiry = i; room = room; names = held; question = Some (first_of k); finds = searches }
 
   all_held : held ≡ names_for call i
   all_held = (turns_are_right held (names_for call i)).ready.0 turn
@@ -51,6 +51,7 @@ module _ (hash : RecordKey → ℕ) (seat : ℕ) (call : Call) (i : AnyInquiry) 
         left = left;
         unanswered = refl;
       };
+      first = λ unset. refl;
     }
 
     faces : (s : State) (change : Change) → Faces hash seat call s before pool locks change →
@@ -62,7 +63,7 @@ module _ (hash : RecordKey → ℕ) (seat : ℕ) (call : Call) (i : AnyInquiry) 
         begins = f.right.begins;
         grows = f.right.grows;
         apart = f.right.apart;
-        few = let before = f.right.few in omega (arith, before, one_more);
+        few = f.right.few;
       };
       sees = f.sees;
       agrees = f.agrees;
@@ -86,6 +87,7 @@ module _ (hash : RecordKey → ℕ) (seat : ℕ) (call : Call) (i : AnyInquiry) 
         ended = (λ e. absurd (true≢false (sym (made.aim.ended.0 e))), λ d. absurd (true≢false (sym d ∙ not_done)));
         rests = by did refl free;
         most = made.aim.most;
+        finds = made.aim.finds;
       };
       row = made.row;
       progress = λ s change f. subst (λ n. NearsOrSpares did n (questions_left call new
@@ -106,14 +108,14 @@ module _ (hash : RecordKey → ℕ) (seat : ℕ) (call : Call) (i : AnyInquiry) 
     -- where another seat stood in the way it has not begun
     pub not_begun : (did : Progress FileFault) (new : QuestionsView) (pool' : PoolState) (locks' : Table) →
         MakesQuestions hash seat call did (begins_with k) new pool pool' locks locks' → is_blocked did ≡ true →
-        MakesQuestions hash seat call did before (record new { question = None; finds = searches }) pool
+        MakesQuestions hash seat call did before (record new { question = None }) pool
         pool' locks locks'
     not_begun (Moved kind) new pool' locks' made blocked = absurd (true≢false (sym blocked))
     not_begun (Fault fault) new pool' locks' made blocked = absurd (true≢false (sym blocked))
     not_begun Ended new pool' locks' made blocked = absurd (true≢false (sym blocked))
     not_begun (Blocked other) new pool' locks' made blocked =
-        let back : record new { question = None; finds = searches } ≡ before =
-        ap (λ (v : QuestionsView). record v { question = None; finds = searches }) made.aim.rests in
+        let back : record new { question = None } ≡ before =
+        ap (λ (v : QuestionsView). record v { question = None }) made.aim.rests in
         subst (λ (v : QuestionsView). MakesQuestions hash seat call (Blocked other) before v pool pool' locks locks')
         (sym back) (record {
           writes = made.writes;
@@ -122,6 +124,7 @@ module _ (hash : RecordKey → ℕ) (seat : ℕ) (call : Call) (i : AnyInquiry) 
             ended = (λ e. absurd cc, λ d. absurd (true≢false (sym d ∙ not_done)));
             rests = refl;
             most = refl;
+            finds = refl;
           };
           row = made.row ∙ ap (λ (v : QuestionsView). with_row locks seat
               (questions_locks v)) made.aim.rests;

@@ -6,24 +6,26 @@ use Rattle.file_pages.specs.declared.fault.FileFault.TheVariants.{Failed}
 use Rattle.step_rules.specs.Known.{AllKnown}
 use Rattle.step_rules.specs.Searching.{WalksTo}
 use Rattle.step_rules.specs.Turns.{Ask}
+use Rattle.step_rules.specs.declared.kind.Kind.{Kind}
+use Rattle.step_rules.specs.declared.kind.Kind.TheVariants as kinds
+use Rattle.page_locks.proofs.TableLemmas.{row_of-same}
 use Rattle.record_access.specs.AccessSteps.{Faces as FacesAccess, MakesAccess, Rests as RestsAccess}
 use Rattle.record_access.specs.Accesses.{IsOfKind}
 use Rattle.xsi_inquiry.specs.Telling.{most_asked}
 use Rattle.held_names.proofs.of_call_names.NamesLemmas.{take_in_order}
 use Rattle.held_names.proofs.TurnLemmas.{are_few_turns}
 use Rattle.call_questions.specs.declared.question.Question.{Question}
-use Rattle.call_questions.specs.Words.{RecordKey, PoolState, Table, Lock, Change, Store, row_of, with_row, store_of, Progress, Moved, Blocked, Fault, Ended, Look, World, is_fault, Step, world, NearsOrSpares, HasEnded, Record, ToFind, StandsAt, AccessView, Serves, access_answer, access_facts, access_key, access_left, access_locks, access_pseudokey, access_turn, AnyInquiry, caller_of, left_of, AreNames, names_in, names_for, names_left, MAX_NAMES, Begins, Call, State, Roomful}
+use Rattle.call_questions.specs.Words.{RecordKey, PoolState, Table, Lock, Change, Store, row_of, with_row, IsSeat, store_of, Progress, Moved, Blocked, Fault, Ended, Look, World, is_fault, Step, world, NearsOrSpares, HasEnded, Record, ToFind, StandsAt, AccessView, Serves, access_answer, access_facts, access_key, access_left, access_locks, access_pseudokey, access_turn, has_set_out, AnyInquiry, caller_of, left_of, AreNames, names_in, names_for, names_left, MAX_NAMES, Begins, Call, State, Roomful}
 use Rattle.call_questions.specs.Answering.{MayRead}
-use Rattle.call_questions.specs.Questions.{FIND_STEPS, ROUND_STEPS, IsAsked, IsRightQuestion, IsUnderWay, KnowsApart, KnowsItsKey, KnowsNear, QuestionsView, asks_more, changes, facts_of, locks_behind, questions_left, untold}
+use Rattle.call_questions.specs.Counting.{enters_directory, finds_behind}
+use Rattle.call_questions.specs.Questions.{FIND_STEPS, ROUND_STEPS, IsAsked, IsRightQuestion, IsUnderWay, KnowsApart, KnowsItsKey, KnowsNear, QuestionsView, asks_more, changes, facts_of, locks_behind, questions_left, questions_locks, untold}
 use Rattle.call_questions.specs.QuestionSteps.{Closes, Faces, IsOver, Learns, MakesQuestions, Rests}
 use Rattle.record_access.proofs.OperationLemmas.{ended_free, owns_found}
+use Rattle.call_questions.proofs.CountLemmas.{SetsOut, enters_first, few_on, granted_of, moved_or_same, none_more, one_more, told_none, untold_of}
 use Rattle.call_questions.proofs.FindLemmas.{reads_only}
 
 abbrev round_of : Bool → ℕ
 round_of told = if told then ROUND_STEPS else 0
-
-abbrev untold_of : Bool → ℕ
-untold_of told = if told then 0 else 1
 
 few_of : (b : Bool) → (if b then FIND_STEPS else 0) ≤ FIND_STEPS
 few_of true = omega arith
@@ -69,7 +71,7 @@ module _ (hash : RecordKey → ℕ) (seat : ℕ) (call : Call) (i : AnyInquiry) 
     pub knows : KnowsNear call (view_of j r None) s
     pub asked : told ≡ false → IsAsked call (view_of j r None) a'
     -- fewer questions are left where one was told
-    pub left : ((told ≡ q.told) × (j ≡ i))
+    pub left : ((told ≡ q.told) × (left_of call j ≡ left_of call i))
         ⊎ ((q.told ≡ false) × (told ≡ true) × (left_of call j < left_of call i))
 
   module _ (j : AnyInquiry) (r : Roomful) (q' : Question) (o : Option Question) (access : q'.access ≡ a')
@@ -78,9 +80,9 @@ module _ (hash : RecordKey → ℕ) (seat : ℕ) (call : Call) (i : AnyInquiry) 
       (found : Option Record) × StandsAt (store_of pool.images) key found)
       (rests : (did ≡ Moved Look → ⊥) → (q'.told ≡ q.told) × (j ≡ i) × (r ≡ room))
       (comes : (s : State) (change : Change) → Faces hash seat call s old pool locks change → is_fault did ≡ false →
-      Comes s j r q'.told) where
+      Comes s j r q'.told) (more : ℕ) where
     abbrev new : QuestionsView
-    new = view_of j r o
+    new = record { inquiry = j; room = r; names = held; question = o; finds = more }
 
     over : IsOver q'.access → HasEnded a'.operation
     over is = subst (λ (a : AccessView). HasEnded a.operation) access is.0
@@ -113,8 +115,8 @@ module _ (hash : RecordKey → ℕ) (seat : ℕ) (call : Call) (i : AnyInquiry) 
 
     -- ---- where it did not move
 
-    unmoved : a' ≡ q.access → (did ≡ Moved Look → ⊥) → new ≡ old
-    unmoved same still =
+    unmoved : a' ≡ q.access → (did ≡ Moved Look → ⊥) → more ≡ searches → new ≡ old
+    unmoved same still counted =
         let kept = rests still in
         let told : q' ≡ q =
         (λ n. record { access = (access ∙ same) n; told = kept.0 n }) in
@@ -129,18 +131,25 @@ module _ (hash : RecordKey → ℕ) (seat : ℕ) (call : Call) (i : AnyInquiry) 
               room = rooms n;
               names = held;
               question = (is.1 ∙ ap Some told) n;
-              finds = searches;
+              finds = counted n;
             }
 
-    rests_by : (d : Progress FileFault) → did ≡ d → Rests d old new
-    rests_by (Moved kind) is = tt
-    rests_by (Blocked other) is =
+    -- the searches behind the step
+    abbrev IsCounted : Type 0
+    IsCounted = more ≡ finds_behind did (row_of locks' seat) searches
+
+    counted_by : IsCounted → (d : Progress FileFault) → did ≡ d → more ≡ finds_behind d (row_of locks' seat) searches
+    counted_by counts d is = counts ∙ ap (λ (x : Progress FileFault). finds_behind x (row_of locks' seat) searches) is
+
+    rests_by : IsCounted → (d : Progress FileFault) → did ≡ d → Rests d old new
+    rests_by counts (Moved kind) is = tt
+    rests_by counts (Blocked other) is =
         unmoved (subst (λ (d : Progress FileFault). RestsAccess d q.access a') is
-        makes.aim.rests) (λ look. absurd cc)
-    rests_by (Fault fault) is = tt
-    rests_by Ended is =
+        makes.aim.rests) (λ look. absurd cc) (counted_by counts (Blocked other) is)
+    rests_by counts (Fault fault) is = tt
+    rests_by counts Ended is =
         unmoved (subst (λ (d : Progress FileFault). RestsAccess d q.access a') is
-        makes.aim.rests) (λ look. absurd cc)
+        makes.aim.rests) (λ look. absurd cc) (counted_by counts Ended is)
 
     module _ (s : State) (change : Change) (f : Faces hash seat call s old pool locks change) where
       -- ---- it comes nearer its end
@@ -169,12 +178,12 @@ module _ (hash : RecordKey → ℕ) (seat : ℕ) (call : Call) (i : AnyInquiry) 
           same_access : access_left q'.access after ≡ access_left a' after
           same_access = ap (λ (a : AccessView). access_left a after) access
 
-          by : Closes q' o → ((q'.told ≡ q.told) × (j ≡ i))
+          by : Closes q' o → ((q'.told ≡ q.told) × (left_of call j ≡ left_of call i))
               ⊎ ((q.told ≡ false) × (q'.told ≡ true) × (left_of call j < left_of call i)) →
               questions_left call new after < questions_left call old (store_of pool.images)
           by (inr is) (inl same) =
               let rounds : round_of q'.told ≡ round_of q.told = ap round_of same.0 in
-              let lefts : left_of call j ≡ left_of call i = ap (left_of call) same.1 in
+              let lefts : left_of call j ≡ left_of call i = same.1 in
               rw is.1 (omega (arith, less, same_access, rounds, lefts))
           by (inr is) (inr heard) =
               let was : round_of q.told ≡ 0 = ap round_of heard.0 in
@@ -183,7 +192,7 @@ module _ (hash : RecordKey → ℕ) (seat : ℕ) (call : Call) (i : AnyInquiry) 
               rw is.1 (omega (arith, less, same_access, was, now, fewer))
           by (inl is) (inl same) =
               let told : round_of q.told ≡ ROUND_STEPS = ap round_of (sym same.0 ∙ is_told come is.0) in
-              let lefts : left_of call j ≡ left_of call i = ap (left_of call) same.1 in
+              let lefts : left_of call j ≡ left_of call i = same.1 in
               let few = few_names in
               let asks = few_of (asks_more call j) in
               rw is.1 (omega (arith, less, told, lefts, few, asks))
@@ -231,6 +240,34 @@ module _ (hash : RecordKey → ℕ) (seat : ℕ) (call : Call) (i : AnyInquiry) 
           led = walks_facts (access_turn q.access (store_of pool.images)).ask _ _ stepped.led;
         }
 
+        -- behind a move its search has begun
+        out : (kind : Kind) → did ≡ Moved kind → has_set_out a' ≡ true
+        out = let at = found_at s change f in
+            (makes.answer (ToFind key) at.0 change (faces s change f at.0 at.1) fine).sets_out
+
+        set_out_on : (has_set_out a' ≡ true) ⊎ ((did ≡ Moved Look → ⊥) × (a' ≡ q.access))
+        set_out_on = moved_or_same did q.access a' fine makes.aim.rests out
+
+        same_out : has_set_out q'.access ≡ has_set_out a'
+        same_out = ap has_set_out access
+
+        still_out : has_set_out q.access ≡ true → has_set_out q'.access ≡ true
+        still_out was = elim set_out_on [
+          | inl moved ↦ same_out ∙ moved
+          | inr rest ↦ same_out ∙ ap has_set_out rest.1 ∙ was
+        ]
+
+        told_first : has_set_out q'.access ≡ false → q'.told ≡ false
+        told_first unset = elim set_out_on [
+          | inl moved ↦ absurd (true≢false (sym moved ∙ sym same_out ∙ unset))
+          | inr rest ↦ (rests rest.0).0
+              ∙ f.right.question.first (sym (ap has_set_out rest.1) ∙ sym same_out ∙ unset)
+        ]
+
+        -- by a step that is granted the directory its search has begun
+        begins : enters_directory did (row_of locks' seat) ≡ true → has_set_out q'.access ≡ true
+        begins enters = same_out ∙ out kinds.Grant (granted_of did (row_of locks' seat) enters)
+
         right_question : IsRightQuestion hash call new q'
         right_question =
             let was = f.right.question in
@@ -251,45 +288,49 @@ module _ (hash : RecordKey → ℕ) (seat : ℕ) (call : Call) (i : AnyInquiry) 
                     left = is.left;
                     unanswered = is.unanswered;
                   });
+              first = told_first;
             }
 
-        -- a search was told, and a question less is left
-        few_searches : searches + left_of call j ≤ most_asked call + untold o
-        few_searches = by closes (comes s change f fine).left
+        -- its search begins by the step, or no search is counted
+        sets_out : IsCounted → SetsOut (has_set_out q.access) (has_set_out q'.access) q.told searches more
+        sets_out counts = by (enters_directory did (row_of locks' seat)) refl
           where
-            by : Closes q' o → ((q'.told ≡ q.told) × (j ≡ i))
-                ⊎ ((q.told ≡ false) × (q'.told ≡ true) × (left_of call j < left_of call i)) →
-                searches + left_of call j ≤ most_asked call + untold o
-            by (inr is) (inl same) =
-                let before = f.right.few in
-                let told : untold_of q'.told ≡ untold_of q.told = ap untold_of same.0 in
-                let lefts : left_of call j ≡ left_of call i = ap (left_of call) same.1 in
-                rw is.1 (omega (arith, before, told, lefts))
-            by (inr is) (inr heard) =
-                let before = f.right.few in
-                let was : untold_of q.told ≡ 1 = ap untold_of heard.0 in
-                let fewer = heard.2 in
-                rw is.1 (omega (arith, before, was, fewer))
-            by (inl is) (inl same) =
-                let before = f.right.few in
-                let was : untold_of q.told ≡ 0 =
-                ap untold_of (sym same.0 ∙ is_told (comes s change f fine) is.0) in
-                let lefts : left_of call j ≡ left_of call i = ap (left_of call) same.1 in
-                rw is.1 (omega (arith, before, was, lefts))
-            by (inl is) (inr heard) =
-                let before = f.right.few in
-                let was : untold_of q.told ≡ 1 = ap untold_of heard.0 in
-                let fewer = heard.2 in
-                rw is.1 (omega (arith, before, was, fewer))
+            by : (b : Bool) → enters_directory did (row_of locks' seat) ≡ b →
+                SetsOut (has_set_out q.access) (has_set_out q'.access) q.told searches more
+            by false enters = inl (counts ∙ none_more did (row_of locks' seat) searches enters, still_out)
+            by true enters =
+                let unset = enters_first hash seat did key q.access (store_of pool.images)
+                (world pool.images locks change) (world pool'.images locks' stepped.after) under.finds.kind
+                stepped.does enters in
+                inr (
+                  subst (λ n. n ≤ searches + 1) (sym counts) (one_more did (row_of locks' seat) searches),
+                  unset,
+                  begins enters,
+                  f.right.question.first unset,
+                )
 
-        pub means : Learns hash call s did new
-        means = record {
+        few_searches : IsCounted → more + left_of call j ≤ most_asked call + untold o
+        few_searches counts = by closes
+          where
+            few : more + left_of call j ≤ most_asked call + untold_of (has_set_out q'.access) q'.told
+            few = few_on (has_set_out q.access) (has_set_out q'.access) q.told q'.told searches more (left_of call i)
+                (left_of call j) (most_asked call) f.right.few (sets_out counts) (comes s change f fine).left
+
+            by : Closes q' o → more + left_of call j ≤ most_asked call + untold o
+            by (inr is) = rw is.1 few
+            by (inl is) =
+                let none = told_none (has_set_out q'.access) q'.told (is_told (comes s change f fine) is.0) in
+                let less = few in
+                rw is.1 (omega (arith, less, none))
+
+        pub means : IsCounted → Learns hash call s did new
+        means counts = record {
           right = record {
             question = by closes;
             begins = (comes s change f fine).begins;
             grows = (comes s change f fine).grows;
             apart = (comes s change f fine).apart;
-            few = few_searches;
+            few = few_searches counts;
           };
           knows = (comes s change f fine).knows;
           reads = reads_only hash seat did (world pool.images locks change)
@@ -302,25 +343,32 @@ module _ (hash : RecordKey → ℕ) (seat : ℕ) (call : Call) (i : AnyInquiry) 
                 subst (λ (x : Option Question). IfSome x (IsRightQuestion hash call new)) (sym is.1) right_question
 
     -- the inquiry took what it was told
-    pub goes_on : MakesQuestions hash seat call did old new pool pool' locks locks'
-    goes_on = record {
+    pub goes_on : IsSeat locks seat → IsCounted → MakesQuestions hash seat call did old new pool pool' locks locks'
+    goes_on seated counts = record {
       writes = makes.writes;
       aim = record {
         caller = caller;
         ended = (λ e. absurd (under.goes_on (makes.aim.ended.0 e)), λ d. absurd (true≢false (sym d)));
-        rests = rests_by did refl;
+        rests = rests_by counts did refl;
         most = most;
+        finds = counts ∙ ap (λ (ls : List Lock). finds_behind did ls searches) row_behind;
       };
-      row = makes.row held names.no_file row ∙ ap (with_row locks seat) same_locks;
+      row = row_new;
       progress = λ s change f. progresses s change f did refl;
       step = λ s change f fine. steps s change f fine;
-      means = λ s change f fine. means s change f fine;
+      means = λ s change f fine. means s change f fine counts;
     }
+      where
+        row_new : locks' ≡ with_row locks seat (questions_locks new)
+        row_new = makes.row held names.no_file row ∙ ap (with_row locks seat) same_locks
+
+        row_behind : row_of locks' seat ≡ questions_locks new
+        row_behind = ap (λ (t : Table). row_of t seat) row_new ∙ row_of-same locks seat (questions_locks new) seated
 
     -- the inquiry was told what no system has, which no file tells that agrees with one
-    pub fails : ((s : State) (change : Change) → Faces hash seat call s old pool locks change → ⊥) →
+    pub fails : more ≡ searches → ((s : State) (change : Change) → Faces hash seat call s old pool locks change → ⊥) →
         MakesQuestions hash seat call (Fault Failed) old new pool pool' locks locks'
-    fails never = record {
+    fails uncounted never = record {
       writes = record {
         ready = makes.writes.ready;
         honest = makes.writes.honest;
@@ -333,6 +381,7 @@ module _ (hash : RecordKey → ℕ) (seat : ℕ) (call : Call) (i : AnyInquiry) 
         ended = (λ e. absurd cc, λ d. absurd (true≢false (sym d)));
         rests = tt;
         most = most;
+        finds = uncounted;
       };
       row = makes.row held names.no_file row ∙ ap (with_row locks seat) same_locks;
       progress = λ s change f. absurd (never s change f);

@@ -1,5 +1,5 @@
 -- While a call asks a question is left, so it begins few searches.
-use Rattle.std.proofs.Common.{ℕ, zero, suc, ◌≡◌, ◌<◌, ◌≤◌, ◌+◌, Bool, true, false, cond, Option, Some, None, IfSome, if◌then◌else◌, refl, arith}
+use Rattle.std.proofs.Common.{ℕ, zero, suc, ◌≡◌, ◌<◌, ◌≤◌, ◌+◌, Bool, true, false, not, ◌&&◌, cond, Option, Some, None, IfSome, if◌then◌else◌, refl, arith}
 use Rattle.std.specs.Prelude.{nat_lt}
 use Rattle.xsi_inquiry.specs.Telling.{most_asked}
 use Rattle.xsi_send.proofs.Walked.{walk_has_left}
@@ -20,7 +20,7 @@ use Rattle.xsi_sweep.specs.Knowing as remove_knowing
 use Rattle.xsi_sweep.specs.declared.stage.Stage as remove_stages
 use Rattle.xsi_sweep.specs.declared.stage.Stage.TheVariants as remove
 use Rattle.call_questions.specs.declared.question.Question.{Question}
-use Rattle.call_questions.specs.Words.{AnyInquiry, Call, Caller, IsFiled, KnowsOf, RecordKey, Roomful, State, Wanted, asked_of, left_of}
+use Rattle.call_questions.specs.Words.{AnyInquiry, Call, Caller, IsFiled, KnowsOf, RecordKey, Roomful, State, Wanted, asked_of, has_set_out, left_of}
 use Rattle.call_questions.specs.Questions.{IsRight, IsRightQuestion, QuestionsView, untold}
 
 -- ---- by the kind of the call
@@ -130,13 +130,14 @@ pub few_searches : (hash : RecordKey → ℕ) (call : Call) (v : QuestionsView) 
     v.finds ≤ most_asked call
 few_searches hash call v right = by v.question right.few right.question
   where
-    told_or_not : (q : Question) (b : Bool) → q.told ≡ b →
-        v.finds + left_of call v.inquiry ≤ most_asked call + (if b then 0 else 1) → IsRightQuestion hash call v q →
-        v.finds ≤ most_asked call
-    told_or_not q true told few is = omega (arith, few)
-    told_or_not q false told few is = let left = (is.asked told).left in omega (arith, few, left)
+    told_or_not : (q : Question) (begun b : Bool) → q.told ≡ b →
+        v.finds + left_of call v.inquiry ≤ most_asked call + (if begun && not b then 1 else 0) →
+        IsRightQuestion hash call v q → v.finds ≤ most_asked call
+    told_or_not q false b told few is = omega (arith, few)
+    told_or_not q true true told few is = omega (arith, few)
+    told_or_not q true false told few is = let left = (is.asked told).left in omega (arith, few, left)
 
     by : (o : Option Question) → v.finds + left_of call v.inquiry ≤ most_asked call + untold o →
         IfSome o (IsRightQuestion hash call v) → v.finds ≤ most_asked call
     by None few is = omega (arith, few)
-    by (Some q) few is = told_or_not q q.told refl few is
+    by (Some q) few is = told_or_not q (has_set_out q.access) q.told refl few is

@@ -5,6 +5,7 @@ pub mod PlanLemmas
 pub mod KnowLemmas
 pub mod LeftLemmas
 pub mod FindLemmas
+pub mod CountLemmas
 pub mod TurnLemmas
 pub mod AskingLemmas
 pub mod HearLemmas

@@ -8,7 +8,8 @@ use Rattle.file_pages.specs.declared.fault.FileFault.TheVariants.{Failed}
 use Rattle.record_access.specs.AccessSteps.{FindsRecord, MakesAccess}
 use Rattle.xsi_inquiry.proofs.AgreeLemmas.{agrees_itself}
 use Rattle.call_questions.specs.declared.question.Question.{Question}
-use Rattle.call_questions.specs.Words.{RecordKey, PoolState, Table, Lock, Change, row_of, store_of, Progress, Moved, Fault, Look, is_fault, Record, ToFind, StandsAt, AccessView, Serves, access_answer, access_key, access_locks, AnyInquiry, KnowsOf, asked_of, AreNames, names_in, names_for, Begins, Call, State, NotASystem, IsSoNear, Roomful, Wanted}
+use Rattle.call_questions.specs.Counting.{finds_behind}
+use Rattle.call_questions.specs.Words.{RecordKey, PoolState, Table, Lock, Change, row_of, IsSeat, store_of, Progress, Moved, Fault, Look, is_fault, Record, ToFind, StandsAt, AccessView, Serves, access_answer, access_key, access_locks, AnyInquiry, KnowsOf, asked_of, AreNames, names_in, names_for, Begins, Call, State, NotASystem, IsSoNear, Roomful, Wanted}
 use Rattle.call_questions.specs.Answering.{Answers, IsAskedUnder}
 use Rattle.call_questions.specs.Laws.{IsAnswered}
 use Rattle.call_questions.specs.Questions.{Holds, IsAsked, IsUnderWay, KnowsItsKey, QuestionsView, asks_more, keeping}
@@ -166,17 +167,20 @@ module _ (hash : RecordKey → ℕ) (seat : ℕ) (call : Call) (i : AnyInquiry) 
         by (inl quiet) = quiet.fine
         by (inr heard) = (hears (ap is_fault heard.looked) heard).0
 
-  abbrev after : QuestionsView
-  after = record { inquiry = j; room = r; names = held; question = o; finds = searches }
+  -- with so many searches
+  abbrev after : ℕ → QuestionsView
+  after more = record { inquiry = j; room = r; names = held; question = o; finds = more }
 
-  pub went_on : MakesQuestions hash seat call did before after pool pool' locks locks'
-  went_on = goes_on hash seat call i room held searches names q under did a' pool pool' locks locks' row makes j r q' o
-      listens.access closes listens.caller listens.most found_at rests comes
+  pub went_on : (seated : IsSeat locks seat) (more : ℕ) → more ≡ finds_behind did (row_of locks' seat) searches →
+      MakesQuestions hash seat call did before (after more) pool pool' locks locks'
+  went_on seated more counts =
+      goes_on hash seat call i room held searches names q under did a' pool pool' locks locks' row makes j r q' o
+      listens.access closes listens.caller listens.most found_at rests comes more seated counts
 
   pub failed : ((x : Unit) → result ≡ Ok x → ⊥) →
-      MakesQuestions hash seat call (Fault Failed) before after pool pool' locks locks'
+      MakesQuestions hash seat call (Fault Failed) before (after searches) pool pool' locks locks'
   failed not = fails hash seat call i room held searches names q under did a' pool pool' locks locks' row makes j r q' o
-      listens.access closes listens.caller listens.most found_at rests comes
+      listens.access closes listens.caller listens.most found_at rests comes searches refl
       (λ s change f. not_ok result refl (is_ok s change f))
     where
       not_ok : (y : Result Unit NotASystem) → result ≡ y → IsOk y → ⊥

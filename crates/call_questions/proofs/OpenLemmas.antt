@@ -1,10 +1,12 @@
 -- A step of the question that is under way, as one of the call.
-use Rattle.std.proofs.Common.{ℕ, ◌≡◌, Bool, true, false, List, Option, Some, None, IfSome, IsSome, if◌then◌else◌, Result, Ok, refl, subst}
+use Rattle.std.proofs.Common.{ℕ, ◌≡◌, Bool, true, false, List, Option, Some, None, IfSome, IsSome, if◌then◌else◌, Result, Ok, refl, sym, subst}
 use Rattle.file_pages.specs.declared.fault.FileFault.{FileFault}
 use Rattle.file_pages.specs.declared.fault.FileFault.TheVariants.{Failed}
 use Rattle.record_access.specs.AccessSteps.{MakesAccess}
 use Rattle.call_questions.specs.declared.question.Question.{Question}
-use Rattle.call_questions.specs.Words.{RecordKey, PoolState, Table, Lock, row_of, Progress, Fault, AnyInquiry, AreNames, Call, NotASystem, Roomful}
+use Rattle.page_locks.proofs.ChangeLemmas.{IsSeat-with_row}
+use Rattle.call_questions.specs.Counting.{finds_behind}
+use Rattle.call_questions.specs.Words.{RecordKey, PoolState, Table, Lock, row_of, IsSeat, Progress, Fault, access_locks, AnyInquiry, AreNames, Call, NotASystem, Roomful}
 use Rattle.call_questions.specs.Questions.{IsUnderWay, locks_behind}
 use Rattle.call_questions.specs.QuestionSteps.{Closes, Listens, MakesQuestions}
 use Rattle.call_questions.proofs.ListenLemmas.{failed, under_on, went_on}
@@ -20,11 +22,11 @@ module _ (hash : RecordKey → ℕ) (seat : ℕ) (call : Call) (i : AnyInquiry) 
     (reads : MakesAccess hash seat did q.access q'.access pool pool' locks locks')
     (hears : Listens call did result q' q'' (record { inquiry = i; room = room }) (record { inquiry = j; room = r }))
     (closes : Closes q'' (asked_if after q'')) where
-  abbrev MakesBy : Progress FileFault → (old new : Option Question) → Type 0
-  MakesBy d old new =
+  abbrev MakesBy : Progress FileFault → ℕ → (old new : Option Question) → Type 0
+  MakesBy d more old new =
       MakesQuestions hash seat call d
       (record { inquiry = i; room = room; names = held; question = old; finds = searches })
-      (record { inquiry = j; room = r; names = held; question = new; finds = searches }) pool pool' locks locks'
+      (record { inquiry = j; room = r; names = held; question = new; finds = more }) pool pool' locks locks'
 
   -- the question that was read, as it was but for its access
   heard : Listens call did result (record { access = q'.access; told = q.told }) q''
@@ -35,16 +37,26 @@ module _ (hash : RecordKey → ℕ) (seat : ℕ) (call : Call) (i : AnyInquiry) 
       subst (λ (x : Question). Listens call did result x q'' (record { inquiry = i; room = room })
       (record { inquiry = j; room = r })) same hears
 
-  pub went_in : (asks : Bool) → IsSome (asked_if asks q) → (asks ≡ true → IsUnderWay q.access) →
-      row_of locks seat ≡ locks_behind (asked_if asks q) held → MakesBy did (asked_if asks q) (asked_if after q'')
-  went_in false some under row = absurd cc
-  went_in true some under row =
+  pub went_in : (seated : IsSeat locks seat) (more : ℕ) →
+      more ≡ finds_behind did (row_of locks' seat) searches → (asks : Bool) → IsSome (asked_if asks q) →
+      (asks ≡ true → IsUnderWay q.access) → row_of locks seat ≡ locks_behind (asked_if asks q) held →
+      MakesBy did more (asked_if asks q) (asked_if after q'')
+  went_in seated more counts false some under row = absurd cc
+  went_in seated more counts true some under row =
       went_on hash seat call i room held searches names q (under refl) did q'.access pool pool' locks locks' row reads
-      j r q'' result heard (asked_if after q'') closes
+      j r q'' result heard (asked_if after q'') closes seated more counts
+
+  -- its seat is one still
+  pub seated_in : (asks : Bool) → IsSome (asked_if asks q) → row_of locks seat ≡ locks_behind (asked_if asks q) held →
+      IsSeat locks seat → IsSeat locks' seat
+  seated_in false some row seated = absurd cc
+  seated_in true some row seated =
+      subst (λ (t : Table). IsSeat t seat) (sym (reads.row held names.no_file row))
+      (IsSeat-with_row locks seat seat (access_locks q'.access held) seated)
 
   pub failed_in : (asks : Bool) → IsSome (asked_if asks q) → (asks ≡ true → IsUnderWay q.access) →
       row_of locks seat ≡ locks_behind (asked_if asks q) held → ((x : Unit) → result ≡ Ok x → ⊥) →
-      MakesBy (Fault Failed) (asked_if asks q) (asked_if after q'')
+      MakesBy (Fault Failed) searches (asked_if asks q) (asked_if after q'')
   failed_in false some under row not = absurd cc
   failed_in true some under row not =
       failed hash seat call i room held searches names q (under refl) did q'.access pool pool' locks locks' row reads

@@ -18,8 +18,10 @@ use Rattle.held_names.specs.NameSteps.{GivesBack, MakesNameStep, Takes}
 use Rattle.held_names.proofs.OrderLemmas.{begin_are_names}
 use Rattle.held_names.proofs.TurnLemmas.{turns_are_right, turns_come_nearer}
 use Rattle.call_questions.specs.Words.{RecordKey, PoolState, Table, Lock, row_of, with_row, IsReady, OnlyWrites, Progress, Moved, Blocked, Fault, Ended, Step, world, is_write, AnyInquiry, KnowsOf, AreNames, names_in, names_for, Begins, name_turn, Take, GiveBack, LockName, Call, Roomful}
+use Rattle.call_questions.specs.Counting.{finds_behind}
 use Rattle.call_questions.specs.Questions.{HasBegun, HasKey, Holds, QuestionsView, IsRight, KnowsApart, KnowsItsKey, asks_more, changes, has_asked, is_done, is_ready, turn_of_names}
 use Rattle.call_questions.specs.QuestionSteps.{MakesQuestions}
+use Rattle.call_questions.proofs.CountLemmas.{uncounted}
 use Rattle.call_questions.proofs.KnowLemmas.{near_more}
 use Rattle.call_questions.proofs.OwnLemmas.{own_more}
 
@@ -45,7 +47,13 @@ module _ (hash : RecordKey → ℕ) (seat : ℕ) (call : Call) (i : AnyInquiry) 
       MakesQuestions hash seat call Ended (bare held) (bare held) pool pool locks locks
   ends held row asked = record {
     writes = writes_none pool ready;
-    aim = record { caller = refl; ended = (λ e. asked, λ d. refl); rests = refl; most = refl };
+    aim = record {
+      caller = refl;
+      ended = (λ e. asked, λ d. refl);
+      rests = refl;
+      most = refl;
+      finds = refl;
+    };
     row = sym (with_row-own locks seat) ∙ ap (with_row locks seat) row;
     progress = λ s change f. tt;
     step = λ s change f fine. record {
@@ -109,7 +117,13 @@ module _ (hash : RecordKey → ℕ) (seat : ℕ) (call : Call) (i : AnyInquiry) 
           MakesQuestions hash seat call (Moved kind) (bare held) (bare (held ++ lock ∷ [])) pool pool locks locks'
       took_it kind locks' is granted step = record {
         writes = writes_none pool ready;
-        aim = record { caller = refl; ended = (λ e. absurd cc, λ d. absurd (goes_on d)); rests = tt; most = refl };
+        aim = record {
+          caller = refl;
+          ended = (λ e. absurd cc, λ d. absurd (goes_on d));
+          rests = tt;
+          most = refl;
+          finds = sym (uncounted (Moved kind) (held ++ lock ∷ []) searches (next_are_names held lock turn).no_file);
+        };
         row = is;
         progress = λ s change f.
             let nearer = (turns_come_nearer held goal).take lock turn in
@@ -136,7 +150,13 @@ module _ (hash : RecordKey → ℕ) (seat : ℕ) (call : Call) (i : AnyInquiry) 
           MakesQuestions hash seat call (Blocked other) (bare held) (bare held) pool pool locks locks'
       kept_out other locks' is step = record {
         writes = writes_none pool ready;
-        aim = record { caller = refl; ended = (λ e. absurd cc, λ d. absurd (goes_on d)); rests = refl; most = refl };
+        aim = record {
+          caller = refl;
+          ended = (λ e. absurd cc, λ d. absurd (goes_on d));
+          rests = refl;
+          most = refl;
+          finds = refl;
+        };
         row = is;
         progress = λ s change f. tt;
         step = λ s change f fine.
@@ -186,7 +206,13 @@ module _ (hash : RecordKey → ℕ) (seat : ℕ) (call : Call) (i : AnyInquiry) 
           MakesQuestions hash seat call did (bare held) (bare held') pool pool locks locks'
       gave (Moved kind) held' locks' gives is step = record {
         writes = writes_none pool ready;
-        aim = record { caller = refl; ended = (λ e. absurd cc, λ d. absurd (goes_on d)); rests = tt; most = refl };
+        aim = record {
+          caller = refl;
+          ended = (λ e. absurd cc, λ d. absurd (goes_on d));
+          rests = tt;
+          most = refl;
+          finds = sym (ap (λ (k : Kind). finds_behind {F = FileFault} (Moved k) held' searches) gives.0);
+        };
         row = is;
         progress = λ s change f.
             let nearer = (turns_come_nearer held goal).give_back held' gives.1.0 gives.1.1 turn in

@@ -1,6 +1,7 @@
 pub mod Words
 pub mod Answering
 pub mod Agreeing
+pub mod Counting
 pub mod Questions
 pub mod QuestionSteps
 pub mod Laws

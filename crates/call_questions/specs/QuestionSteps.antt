@@ -5,6 +5,7 @@ use Rattle.call_questions.specs.declared.question.Question.{Question}
 use Rattle.call_questions.specs.Words.{RecordKey, PoolState, Table, Change, with_row, store_of, OnlyWrites, Progress, Moved, Blocked, Fault, Ended, Look, is_fault, Sees, Step, NearsOrSpares, Record, is_write, HasEnded, ToFind, AccessView, HasFound, Serves, access_answer, AnyInquiry, FollowsOf, KnowsOf, asked_of, caller_of, left_of, names_in, LockName, Call, State, Wanted, NotASystem, IsCovered, IsSoNear, IsFiled, Roomful}
 use Rattle.call_questions.specs.Answering.{Answers}
 use Rattle.call_questions.specs.Agreeing.{Agrees}
+use Rattle.call_questions.specs.Counting.{finds_behind}
 use Rattle.call_questions.specs.Questions.{QuestionsView, IsRight, KnowsNear, is_done, questions_facts, questions_left, questions_locks, questions_turn}
 
 -- ---- whatever the device gives
@@ -22,6 +23,8 @@ pub record KeepsQuestions {F : Type 0} (call : Call) (did : Progress F) (old new
   pub rests : Rests did old new
   -- the room has room for as many bytes
   pub most : new.room.most ≡ old.room.most
+  -- a search is counted where its seat was granted the directory to read
+  pub finds : new.finds ≡ finds_behind did (questions_locks new) old.finds
 
 -- ---- on an honest device, in a sound world
 

@@ -13,7 +13,7 @@ use Rattle.xsi_inquiry.specs.Telling.{most_asked}
 use Rattle.xsi_inquiry.specs.Writing.{Plan}
 use Rattle.xsi_sweep.specs.declared.stage.Stage.TheVariants.{Keyed}
 use Rattle.call_questions.specs.declared.question.Question.{Question}
-use Rattle.call_questions.specs.Words.{RecordKey, Store, Lock, LockName, Known, Turn, HasEnded, ToFind, AccessView, Serves, access_answer, access_facts, access_key, access_left, access_locks, access_pseudokey, access_turn, AnyInquiry, KnowsOf, asked_of, left_of, plan_of, names_in, names_for, MAX_NAMES, Begins, name_turn, names_left, NameTurn, Take, GiveBack, Ready, Call, State, Wanted, IsSoNear, IsFiled, Roomful}
+use Rattle.call_questions.specs.Words.{RecordKey, Store, Lock, LockName, Known, Turn, HasEnded, ToFind, AccessView, Serves, access_answer, access_facts, access_key, access_left, access_locks, access_pseudokey, access_turn, has_set_out, AnyInquiry, KnowsOf, asked_of, left_of, plan_of, names_in, names_for, MAX_NAMES, Begins, name_turn, names_left, NameTurn, Take, GiveBack, Ready, Call, State, Wanted, IsSoNear, IsFiled, Roomful}
 use Rattle.call_questions.specs.Answering.{MayRead, key_asked}
 
 pub record QuestionsView : Type 0 where
@@ -23,7 +23,7 @@ pub record QuestionsView : Type 0 where
   pub names : List Lock
   -- the one under way
   pub question : Option Question
-  -- the searches that it has begun since the call last began
+  -- the searches that its call has begun since it last began
   pub finds : ℕ
 
 -- what is always so of a question under way: it reads its key, and still holds or asks for a lock
@@ -123,11 +123,13 @@ pub record IsRightQuestion (hash : RecordKey → ℕ) (call : Call) (v : Questio
   pub keyed : hash (access_key q.access) ≡ access_pseudokey q.access
   pub may_read : MayRead (names_in v.names) (access_key q.access)
   pub asked : q.told ≡ false → IsAsked call v q.access
+  -- nothing is told before its search has begun
+  pub first : has_set_out q.access ≡ false → q.told ≡ false
 
--- one is under way of which the inquiry was told nothing yet
+-- one is under way whose search has begun, and of which the inquiry was told nothing yet
 abbrev pub untold : Option Question → ℕ
 untold None = 0
-untold (Some q) = if q.told then 0 else 1
+untold (Some q) = if has_set_out q.access && not q.told then 1 else 0
 
 -- a Remove between its two phases
 pub record KnowsItsKey (call : Call) (i : AnyInquiry) : Type 0 where

@@ -1,7 +1,7 @@
 -- Words of the crates below, under one name.
 pub use Rattle.record_access.specs.Words.{RecordKey, PoolState, Table, Lock, Change, Store, row_of, store_of, IsReady, OnlyWrites, Progress, Moved, Blocked, Fault, Ended, Look, World, Known, Turn, is_fault, IsSeat, HasNoFileLock, Sees, Step, world, NearsOrSpares, HasEnded, Record}
 pub use Rattle.record_access.specs.Purposes.{ToFind, StandsAt, is_write}
-pub use Rattle.record_access.specs.Accesses.{AccessView, HasFound, Serves, access_answer, access_facts, access_key, access_left, access_locks, access_pseudokey, access_turn, begun}
+pub use Rattle.record_access.specs.Accesses.{AccessView, HasFound, Serves, access_answer, access_facts, access_key, access_left, access_locks, access_pseudokey, access_turn, begun, has_set_out}
 pub use Rattle.any_inquiry.specs.declared.any_inquiry.AnyInquiry.{AnyInquiry}
 pub use Rattle.any_inquiry.specs.Anything.{FollowsOf, KnowsOf, asked_of, caller_of, left_of, plan_of}
 pub use Rattle.held_names.specs.call_names.Laws.{AreNames, names_in}

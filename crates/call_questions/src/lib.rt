@@ -3,6 +3,7 @@
 
 #![tactic(auto)]
 
+mod counting;
 mod hearing;
 mod laws;
 mod question;

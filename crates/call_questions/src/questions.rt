@@ -6,9 +6,11 @@ ghost use Rattle.xsi_inquiry.specs.Rooms.{HasRoom};
 ghost use Rattle.xsi_inquiry.specs.Telling.{most_asked};
 ghost use Rattle.call_questions.specs.Words.{AreNames, Change, IsReady, IsSeat, NearsOrSpares, OnlyWrites, Ready, State, Step, caller_of, is_fault, left_of, name_turn, names_for, row_of, store_of, with_row};
 ghost use Rattle.call_questions.specs.Answering.{key_asked};
+ghost use Rattle.call_questions.specs.Counting.{finds_behind};
 ghost use Rattle.call_questions.specs.Questions.{IsBare, KnowsNear, changes, has_asked, is_done, is_ready, questions_facts, questions_left, questions_locks, questions_turn};
 ghost use Rattle.call_questions.specs.QuestionSteps.{Faces, KeepsQuestions, Learns, MakesQuestions, is_blocked};
 
+use crate::counting::finds_behind;
 use crate::question::{Question, goes_on, listen, read};
 use any_inquiry::AnyInquiry;
 use bucket_page::{PseudoKey, RecordKey};
@@ -33,7 +35,7 @@ pub struct Questions {
     names: HeldNames,
     question: Question,
     is_asking: bool,
-    finds: usize,
+    finds: u32,
 }
 
 impl Model for Questions {
@@ -114,11 +116,22 @@ impl Questions {
         &self.inquiry
     }
 
-    /// The searches that it has begun since the call last began, one a question.
-    pub fn finds(&self) -> usize
+    /// The searches that its call has begun since it last began: those of its questions, one a
+    /// question, and what was counted beside them.
+    pub fn finds(&self) -> u32
         ensures { result ≡ self.now.finds }
     {
         self.finds
+    }
+
+    /// Counts a search of the call beside its questions, where one has begun by this step.
+    pub fn count(&mut self, step: Progress<FileFault>, locks: &LockTable, seat: u8)
+        requires { IsSeat locks.now seat }
+        ensures { self.new ≡ record self.old {
+          finds = finds_behind step (row_of locks.now seat) self.old.finds;
+        } }
+    {
+        self.finds = finds_behind(step, locks, seat, self.finds);
     }
 
     /// The room for the bytes that the call is answered.
@@ -259,8 +272,7 @@ impl Questions {
         }
     }
 
-    /// The first step of the next question. Where it is blocked the question has not begun, and its
-    /// search is not counted.
+    /// The first step of the next question. Where it is blocked the question has not begun.
     fn ask<D: PageDevice, K: PseudoKey>(
         &mut self,
         pool: &mut Pool<D>,
@@ -282,15 +294,12 @@ impl Questions {
             return Progress::Ended;
         };
         let key = key_asked(wanted);
-        let finds = self.finds;
         self.question.access.begin_find(key, keys.of(&key));
         self.question.told = false;
         self.is_asking = true;
-        self.finds = finds.saturating_add(1);
         let did = self.go_on(pool, locks, keys, seat, call);
         if is_blocked(did) {
             self.is_asking = false;
-            self.finds = finds;
             return did;
         }
         did
@@ -325,6 +334,7 @@ impl Questions {
         let Ok(()) = heard else {
             return Progress::Fault(FileFault::Failed);
         };
+        self.finds = finds_behind(did, locks, seat, self.finds);
         did
     }
 }

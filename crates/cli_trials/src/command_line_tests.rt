@@ -41,11 +41,12 @@ fn each_command_line_is_read_or_wrong(rt: HostRuntime) -> Result<(), Fail> {
             is_verbose,
         }))
     };
-    let replay = |seconds| {
+    let replay = |seconds, is_traced| {
         Some(Task::Replay {
             file: waiting(seconds),
             script: "-",
             schedule: "t",
+            is_traced,
         })
     };
     reads(&rt, "msgq", Some(Task::Serve))?;
@@ -59,8 +60,9 @@ fn each_command_line_is_read_or_wrong(rt: HostRuntime) -> Result<(), Fail> {
         "msgq run q s --wait 4294967295",
         run("s", 4_294_967_295),
     )?;
-    reads(&rt, "msgq replay q - t", replay(0))?;
-    reads(&rt, "msgq replay q - t --wait=7", replay(7))?;
+    reads(&rt, "msgq replay q - t", replay(0, false))?;
+    reads(&rt, "msgq replay q - t --wait=7", replay(7, false))?;
+    reads(&rt, "msgq replay --trace q - t", replay(0, true))?;
     reads(&rt, "msgq check q", tells(Report::Counts, false))?;
     reads(&rt, "msgq check --verbose q", tells(Report::Counts, true))?;
     reads(&rt, "msgq stat q", tells(Report::Queues, false))?;
@@ -83,6 +85,8 @@ fn each_command_line_is_read_or_wrong(rt: HostRuntime) -> Result<(), Fail> {
         "msgq new q 300 300",
         "msgq run q",
         "msgq replay q s",
+        "msgq replay q s t --trace=1",
+        "msgq run --trace q s",
         "msgq replay q - -",
         "msgq check",
         "msgq stat q q",

@@ -49,6 +49,7 @@ fn what_cant_be_told_of_a_replay_did_not_happen(rt: HostRuntime) -> Result<(), F
         let texts = Texts {
             script: FIRST.as_bytes(),
             schedule: b"1:3",
+            is_traced: false,
         };
         let ran = replay_on(alloc, new_device(alloc), texts, &mut output, &mut errors);
         assert_eq!(rt; ran.is_untold, !is_told, "{most}");

@@ -2,7 +2,7 @@
 use Rattle.std.specs.Prelude.{◌≡◌, ◌≢◌, ◌⊎◌, ℕ, List, ⊤, Result, Ok, Err, length}
 use Rattle.bucket_page.specs.Pseudokeys.{sha_key}
 use Rattle.lone_kernel.specs.Words.{Caller, IsFileOf, IsFlushedTo, KernelState, State, restarted}
-use Rattle.lone_kernel.specs.interleaving_core.Beginning.{MayRefuse}
+use Rattle.lone_kernel.specs.interleaving_core.Beginning.{MayRefuseUnchecked}
 use Rattle.lone_kernel.specs.interleaving_core.Fault.{device_failed}
 use Rattle.lone_kernel.specs.interleaving_core.declared.fault.OpenFault.{OpenFault}
 use Rattle.lone_kernel.specs.interleaving_core.declared.fault.OpenFault.TheVariants.{TooFewFrames}
@@ -69,7 +69,7 @@ pub record IsRefused (content : Pages) (came : Result Asked CommandError) : Type
   pub fault : OpenFault
   pub told : came ≡ Err (Unopened fault)
   pub framed : fault ≢ TooFewFrames
-  pub cause : MayRefuse sha_key content fault
+  pub cause : MayRefuseUnchecked sha_key content fault
   pub sound : fault ≢ device_failed
 
 abbrev pub AsksFile : Caller → Request → Pages → Result Asked CommandError → Type 0

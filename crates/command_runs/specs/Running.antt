@@ -4,7 +4,7 @@ use Rattle.std.specs.Io.KnownBytes.{Appends}
 use Rattle.page_device.specs.Device.{HasRisen}
 use Rattle.bucket_page.specs.Pseudokeys.{sha_key}
 use Rattle.lone_kernel.specs.Words.{Caller, IsFileOf, State, restarted}
-use Rattle.lone_kernel.specs.interleaving_core.Beginning.{MayRefuse}
+use Rattle.lone_kernel.specs.interleaving_core.Beginning.{MayRefuseUnchecked}
 use Rattle.lone_kernel.specs.interleaving_core.Fault.{device_failed}
 use Rattle.lone_kernel.specs.interleaving_core.declared.fault.CloseFault.TheVariants as closes
 use Rattle.lone_kernel.specs.interleaving_core.declared.fault.OpenFault.{OpenFault}
@@ -70,7 +70,7 @@ pub record IsUnopened (content : Pages) (seen : Seen) (came : Result Unit Comman
   pub fault : OpenFault
   pub told : came ≡ Err (Unopened fault)
   pub framed : fault ≢ TooFewFrames
-  pub cause : MayRefuse sha_key content fault
+  pub cause : MayRefuseUnchecked sha_key content fault
   pub failed : fault ≡ device_failed → HasRisen seen.was seen.faults
   pub kept : seen.new ≡ seen.old
 

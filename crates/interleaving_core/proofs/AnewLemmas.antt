@@ -1,5 +1,5 @@
 -- A step of a seat with a call that waits, and was woken: its machine makes two steps.
-use Rattle.std.proofs.Common.{◌≡◌, refl, sym, ap, ◌∙◌, subst, ℕ, Bool, true, false, not, inl, inr, List, [], ◌++◌, Option, Some, None, append-nil, length, arith}
+use Rattle.std.proofs.Common.{◌≡◌, refl, sym, ap, ◌∙◌, subst, ℕ, Bool, true, false, true≢false, not, inl, inr, List, [], ◌++◌, Option, Some, None, append-nil, length, arith}
 use Rattle.page_locks.proofs.ChangeLemmas.{with_row-own}
 use Rattle.file_pages.specs.declared.fault.FileFault.{FileFault}
 use Rattle.step_rules.specs.declared.progress.Progress.TheVariants as progress
@@ -131,6 +131,20 @@ module _ (hash : RecordKey → ℕ) (seat : ℕ) (stopped : Bool) (a again : Act
   same_rows row =
       t.makes.row ∙ ap (with_row locks seat) (over_holds_nothing t.come.machine (t.makes.aim.over has_ended)
       ∙ sym (over_holds_nothing a.machine ends_waiting.over) ∙ sym row) ∙ with_row-own locks seat
+
+-- a call that was decided to wait and is over is told so
+pub over_waits : (hash : RecordKey → ℕ) (seat : ℕ) (stopped : Bool) (did : Step) (a : ActiveView)
+    (left : Option ActiveView) (pool pool' : PoolState) (locks locks' : Table) (journal journal' : List Entry) →
+    MakesTurn hash seat stopped did a left pool pool' locks locks' journal journal' → IsOver a.machine →
+    is_waiting (conclusion_of a.machine) ≡ true → did ≡ steps.Waiting
+over_waits hash seat stopped did a left pool pool' locks locks' journal journal' t over waits =
+    t.told_is ∙ ap (λ (p : Progress FileFault). told_of p t.come.machine) (t.makes.aim.ended.1 over)
+    ∙ ap (λ (b : Bool). told_when_over b (answer_of_call t.come.machine)) (still (conclusion_of a.machine) refl waits)
+  where
+    still : (c : Option Conclusion) → conclusion_of a.machine ≡ c → is_waiting (conclusion_of a.machine) ≡ true →
+        is_waiting (conclusion_of t.come.machine) ≡ true
+    still None is waits = absurd (true≢false (sym waits ∙ ap is_waiting is))
+    still (Some c) is waits = ap is_waiting (t.makes.aim.stays c is ∙ sym is) ∙ waits
 
 -- ---- one step after the other
 

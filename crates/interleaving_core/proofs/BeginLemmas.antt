@@ -173,7 +173,7 @@ idle_at zero (suc place) = refl
 idle_at (suc n) (suc zero) = refl
 idle_at (suc n) (suc (suc place)) = idle_at n (suc place)
 
-none_due : (n : ℕ) → sum_by due_at (replicate n None) ≡ 0
+pub none_due : (n : ℕ) → sum_by due_at (replicate n None) ≡ 0
 none_due zero = refl
 none_due (suc n) =
     sum_by-cons due_at None (replicate n None) ∙ ap (λ (x : ℕ). due_at None + x) (none_due n)

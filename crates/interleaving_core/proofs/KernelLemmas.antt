@@ -3,14 +3,17 @@ use Rattle.std.proofs.Common.{◌≡◌, refl, sym, ap, ◌∙◌, subst, ℕ, �
 use Rattle.std.specs.Prelude.{sum_by}
 use Rattle.std.proofs.lemmas.Bool.{cases_eq}
 use Rattle.std.proofs.lemmas.List.{get_or_read, length-map}
+use Rattle.file_pages.specs.declared.fault.FileFault.{FileFault}
 use Rattle.page_locks.proofs.ChangeLemmas.{IsSeat-with_row}
 use Rattle.search_counts.specs.Counting.{CountsState, IsCountedSeat}
 use Rattle.interleaving_core.specs.Words.{Caller, Entry, IsSeat, PoolState, RecordKey, Table, caller_at, row_of, with_row}
 use Rattle.interleaving_core.specs.Active.{ActiveView}
+use Rattle.interleaving_core.specs.Fault.{IsOfPage}
 use Rattle.interleaving_core.specs.Kernel.{AreFittingCallers, IsCallOf, IsWhole, KernelState, call_at, due_at, due_for_stop, entries_of, locks_of, with_call}
-use Rattle.interleaving_core.specs.Owing.{IsRun, IsTurn, answer_told, failure_by, is_failure, told}
+use Rattle.interleaving_core.specs.Owing.{IsRun, IsTurn, answer_told, failure_by, is_failure, lapsed, told}
 use Rattle.interleaving_core.specs.Past.{IsOfJournal, KeepsJournal, call_of, untold}
 use Rattle.interleaving_core.specs.declared.fault.Failure.{Failure}
+use Rattle.interleaving_core.specs.declared.fault.StepFault.TheVariants as faults
 use Rattle.queue_model.specs.Journal.{part_of}
 use Rattle.std.specs.Option.{is_some}
 use Rattle.interleaving_core.specs.Searches.{Counts, CountsFrom, ends_on}
@@ -19,7 +22,7 @@ use Rattle.interleaving_core.specs.declared.step.Step.{Step}
 use Rattle.interleaving_core.specs.declared.step.Step.TheVariants as steps
 use Rattle.interleaving_core.proofs.TurnLemmas.{Does}
 use Rattle.interleaving_core.proofs.AnewLemmas.{turn_does, turn_looked}
-use Rattle.interleaving_core.proofs.FailureLemmas.{blamed_by, none_blamed}
+use Rattle.interleaving_core.proofs.FailureLemmas.{blamed_by, none_blamed, turn_page}
 use Rattle.interleaving_core.proofs.PartLemmas.{part_other, part_own}
 use Rattle.interleaving_core.proofs.PastLemmas.{kept_beside, part_since, unwoken_whole}
 use Rattle.interleaving_core.proofs.PlaceLemmas.{Seats, at_other, at_place, at_same, due_with, length-with_call, row_at, rows_with, with_own, with_place}
@@ -174,8 +177,8 @@ module _ {K : Type 0} (seat : ℕ) (did : Step) (left : Option ActiveView) (old 
     pub row : new.locks ≡ with_row old.locks seat (locks_of left)
     row = does.row (its_row old whole seat)
 
-    no_more : entries_of new ≤ entries_of old
-    no_more =
+    entries : lapsed did + entries_of new ≡ entries_of old
+    entries =
         let sums = ap (sum_by due_at) seats in
         let all = due_with old.seats seat left is.0 within in
         let grown = ap length does.grows ∙ length-append old.journal does.added in
@@ -215,8 +218,8 @@ module _ {K : Type 0} (seat : ℕ) (did : Step) (left : Option ActiveView) (old 
           ∙ sym (ap length seats ∙ length-with_call old.seats seat left);
       fitting = subst AreFittingCallers (sym callers) whole.fitting;
       calls = calls;
-      room = let few = no_more in let had = whole.room in omega (arith, few, had, more);
-      few = let fewer = no_more in let had = whole.few in omega (arith, fewer, had);
+      room = let same = entries in let had = whole.room in omega (arith, same, had, more);
+      few = let same = entries in let had = whole.few in omega (arith, same, had);
       past = past;
       blamed = blamed;
       counted = same_many seat did old new counts ∙ whole.counted
@@ -265,8 +268,9 @@ module _ {K : Type 0} (seat : ℕ) (did : Step) (left : Option ActiveView) (old 
 
     pub turn_behind : (call_at old.seats seat ≡ None → new ≡ old) → old.failed ≡ false →
         new.failure ≡ failure_by seat did None → (did ≡ steps.Waiting →
-        (b : ActiveView) × (left ≡ Some b) × (b.wait ≡ Some (length new.journal))) → IsTurn seat did old new
-    turn_behind spares sound failure looked = record {
+        (b : ActiveView) × (left ≡ Some b) × (b.wait ≡ Some (length new.journal))) → ((fault : FileFault) →
+        did ≡ steps.Fault (faults.File fault) → IsOfPage fault) → IsTurn seat did old new
+    turn_behind spares sound failure looked page = record {
       run = run;
       idle = does.idle;
       spares = spares;
@@ -284,7 +288,9 @@ module _ {K : Type 0} (seat : ℕ) (did : Step) (left : Option ActiveView) (old 
           };
       decides = λ other. does.grows ∙ ap (λ (es : List Entry). old.journal ++ es) (does.decides other)
           ∙ append-nil old.journal;
+      entries = entries;
       joins = joins (call_at old.seats seat) refl;
+      page = page;
       failed = blamed ∙ ap is_some failure ∙ blamed_by seat did ∙ sym (ap (λ (b : Bool). b || is_failure did) sound);
       failure = failure ∙ sym (ap (failure_by seat did) (none_blamed old whole sound));
       fails = λ broken. absurd cc;
@@ -327,7 +333,9 @@ makes_step of seat did slot left old new now view whole seated at turns seats ke
       whole = whole_behind seat did left old new whole is does seats_are keys callers stopped counts blamed room;
       turn = turn_behind seat did left old new whole is does seats_are keys callers stopped counts blamed spares sound
           failure (turn_looked (of old.keys) seat old.stopped did (call_at old.seats seat) left old.pool new.pool
-          old.locks new.locks old.journal new.journal here);
+          old.locks new.locks old.journal new.journal here)
+          (λ fault told. turn_page (of old.keys) seat old.stopped did fault told (call_at old.seats seat) left old.pool
+          new.pool old.locks new.locks old.journal new.journal here);
       makes = λ a at_a fine. subst (λ (x : Option ActiveView). Turns (of old.keys) seat old.stopped did (Some a) x
           old.pool new.pool old.locks new.locks old.journal new.journal) (sym left_is)
           (subst (λ (x : Option ActiveView). Turns (of old.keys) seat old.stopped did x left old.pool new.pool

@@ -10,7 +10,8 @@ use Rattle.std.proofs.lemmas.List.{get_or_past, length-map, set-get_or, set-set}
 use Rattle.std.proofs.lemmas.List.Elements.{All-get_or}
 use Rattle.std.proofs.lemmas.Option.{get_or_from_slice_get, slice_get-get_or}
 use Rattle.buffer_pool.proofs.ImagesLemmas.{count_none}
-use Rattle.buffer_pool.specs.Pool.{IsCrowded, KeepsImages, MayNotPin, PoolHasCause, image_of, pins_at}
+use Rattle.buffer_pool.proofs.SparedLemmas.{spared_is}
+use Rattle.buffer_pool.specs.Pool.{IsCrowded, KeepsImages, KeepsStored, MayNotPin, PoolHasCause, image_of, pins_at}
 use Rattle.buffer_pool.specs.declared.fault.PoolFault.TheVariants.{Device, TooFewFrames}
 use Rattle.buffer_pool.specs.declared.frame.Frame.{Frame}
 use Rattle.page_device.specs.declared.fault.DeviceFault.TheVariants as device
@@ -19,7 +20,7 @@ use Rattle.std.proofs.lemmas.List.Sums.{sum_by-cons}
 use Rattle.page_locks.proofs.ChangeLemmas.{with_row-own}
 use Rattle.xsi_calls.proofs.RowLemmas.{new_holds_nothing}
 use Rattle.xsi_calls.specs.Machine.{IsNew}
-use Rattle.interleaving_core.specs.Words.{Call, CallView, Caller, Entry, IsReady, IsSeat, Lock, PoolState, Table, call_locks, caller_at, row_of, with_row}
+use Rattle.interleaving_core.specs.Words.{Call, CallView, Caller, Entry, IsReady, IsSeat, Lock, PoolState, Table, call_locks, caller_at, row_of, spared, with_row}
 use Rattle.interleaving_core.specs.Active.{ActiveView}
 use Rattle.interleaving_core.specs.Kernel.{IsCallOf, IsWhole, KernelState, call_at, due_at, due_for_stop, locks_of, with_call}
 use Rattle.interleaving_core.specs.Past.{HasLooked, KeepsJournal, entry_of}
@@ -321,7 +322,7 @@ unpinned pins page twice now once pinned =
 module _ {K : Type 0} (old : KernelState K) (whole : IsWhole old) (page frame : ℕ) (held back : PoolState)
     (frame_is : frame ≡ page) (once : pins_at held page ≡ pins_at old.pool page + 1)
     (pins : held.pins ≡ slice_set old.pool.pins page (pins_at old.pool page + 1))
-    (keeps : KeepsImages true old.pool held) (later : old.pool.faults ≤ held.faults)
+    (keeps : KeepsStored true old.pool held) (later : old.pool.faults ≤ held.faults)
     (back_is : back ≡ record held { pins = slice_set held.pins frame (pins_at held frame - 1) }) where
   same_pins : back.pins ≡ old.pool.pins
   same_pins = ap (λ (p : PoolState). p.pins) back_is
@@ -333,16 +334,21 @@ module _ {K : Type 0} (old : KernelState K) (whole : IsWhole old) (page frame : 
 
   still : KeepsImages true old.pool (record held { pins = slice_set held.pins frame (pins_at held frame - 1) })
   still = record {
-    images = keeps.images;
-    pinned = keeps.pinned;
-    as_many = keeps.as_many;
-    frames = keeps.frames;
-    honest = keeps.honest;
-    seals = keeps.seals;
+    images = keeps.keeps.images;
+    pinned = keeps.keeps.pinned;
+    as_many = keeps.keeps.as_many;
+    frames = keeps.keeps.frames;
+    honest = keeps.keeps.honest;
+    seals = keeps.keeps.seals;
   }
 
   keeps_back : KeepsImages true old.pool back
   keeps_back = subst (KeepsImages true old.pool) (sym back_is) still
+
+  stored_back : spared back ≡ spared old.pool
+  stored_back =
+      spared_is held back (ap (λ (p : PoolState). p.stored) back_is) (ap (λ (p : PoolState). p.frames) back_is)
+      ∙ keeps.stored
 
   pub read_whole : IsWhole (record old { pool = back })
   read_whole = pool_whole old back whole same_pins keeps_back.frames
@@ -351,6 +357,7 @@ module _ {K : Type 0} (old : KernelState K) (whole : IsWhole old) (page frame : 
       IsSealed page bytes → IsRead page bytes old (record old { pool = back })
   page_read bytes image at payload sealed = record {
     stay = record { is = refl; pins = same_pins; later = later_back; keeps = keeps_back };
+    stored = stored_back;
     is = record {
       payload = payload ∙ sym (get_or_from_slice_get held.images frame image [] at)
           ∙ ap (λ (n : ℕ). slice_index_or held.images n []) frame_is
@@ -363,14 +370,15 @@ module _ {K : Type 0} (old : KernelState K) (whole : IsWhole old) (page frame : 
 pub fails_to_read : {K : Type 0} (old new : KernelState K) (page : ℕ) (fault : PoolFault) (held : PoolState) →
     IsWhole old → page < length old.pool.images →
     new ≡ record old { pool = held; failed = true; failure = failure_of_pool fault } → held.pins ≡ old.pool.pins →
-    KeepsImages false old.pool held →
+    KeepsStored false old.pool held →
     (IsErrOf {T = Frame} (Err fault) (Device device.PastEnd) → length old.pool.images ≤ page) →
     (IsErrOf {T = Frame} (Err fault) TooFewFrames → IsCrowded page old.pool) →
     PoolHasCause {T = Frame} (MayNotPin page old.pool) old.pool.faults held.faults (Err fault) →
     FailsToRead page fault old new
 fails_to_read {K} old new page fault held whole within is pins keeps past crowded cause =
     subst (FailsToRead page fault old) (sym is) (record {
-      by = record { is = refl; pins = pins; later = cause.later; keeps = keeps };
+      by = record { is = refl; pins = pins; later = cause.later; keeps = keeps.keeps };
+      stored = keeps.stored;
       there = λ told. let beyond = past (ap of_frame told) in omega (arith, beyond, within);
       room = λ told.
           let all = (crowded (ap of_frame told)).all_pinned in

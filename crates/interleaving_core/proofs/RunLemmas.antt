@@ -1,16 +1,20 @@
 -- Steps of one seat, one after the other.
 use Rattle.std.proofs.Common.{◌≡◌, ◌≢◌, refl, sym, ap, ◌∙◌, subst, ℕ, Bool, true, ◌||◌, IsSome, List, [], ◌++◌, Option, Some, None, append-nil, append_assoc, arith}
+use Rattle.file_pages.specs.declared.fault.FileFault.{FileFault}
+use Rattle.file_pages.specs.declared.fault.FileFault.TheVariants.{Failed}
 use Rattle.page_locks.proofs.ChangeLemmas.{IsSeat-with_row, with_row-own, with_row-twice}
 use Rattle.step_rules.specs.declared.kind.Kind.{Kind}
 use Rattle.interleaving_core.specs.Words.{Answer, Call, Entry, IsSeat, Table, row_of, with_row}
 use Rattle.interleaving_core.specs.Active.{ActiveView}
+use Rattle.interleaving_core.specs.Fault.{IsOfPage}
 use Rattle.interleaving_core.specs.Kernel.{IsWhole, KernelState, call_at, locks_of, with_call}
-use Rattle.interleaving_core.specs.Owing.{IsMove, IsRun, IsTurn, answer_told, failure_by, is_end, is_failure, told, told_of_failure}
+use Rattle.interleaving_core.specs.Owing.{IsMove, IsRun, IsTurn, answer_told, failure_by, is_end, is_failure, lapsed, told, told_of_failure}
 use Rattle.interleaving_core.specs.Past.{KeepsJournal, call_of, entry_of, untold}
 use Rattle.interleaving_core.specs.declared.fault.Failure.{Failure}
 use Rattle.std.specs.Option.{is_some}
 use Rattle.interleaving_core.specs.Searches.{Counts}
 use Rattle.interleaving_core.specs.declared.step.Step.{Step}
+use Rattle.interleaving_core.specs.declared.fault.StepFault.TheVariants as faults
 use Rattle.interleaving_core.specs.declared.step.Step.TheVariants as steps
 use Rattle.interleaving_core.proofs.PlaceLemmas.{Seats, at_other, with_own, with_twice}
 use Rattle.interleaving_core.proofs.KernelLemmas.{its_row}
@@ -44,11 +48,15 @@ fails_put seat did s whole broken is = record {
   goes = λ goes. refl;
   waits = λ told. absurd (waits_at (call_at s.seats seat) (sym is ∙ told));
   decides = λ other. refl;
+  entries =
+      let none_is = ap lapsed is ∙ none_lapsed (call_at s.seats seat) in
+      omega (arith, none_is);
   joins = λ a there.
       (subst (KeepsJournal seat s.journal) there (whole.past seat)).joined
       ∙ ap (untold seat) (sym there)
       ∙ sym (ap (λ (x : Option Answer). told seat (Some a) x ++ untold seat (call_at s.seats seat))
       (ap answer_told is ∙ none (call_at s.seats seat)));
+  page = λ fault told. of_failure (call_at s.seats seat) fault (sym is ∙ told);
   failed = broken ∙ sym (ap (λ (b : Bool). b || is_failure did) broken);
   failure = first s.failure (sym whole.blamed ∙ broken);
   fails = λ b. is;
@@ -59,6 +67,17 @@ fails_put seat did s whole broken is = record {
     stays : (at : Option ActiveView) → Counts seat (told_of_failure at) s s
     stays None = refl
     stays (Some a) = refl
+
+    none_lapsed : (at : Option ActiveView) → lapsed (told_of_failure at) ≡ 0
+    none_lapsed None = refl
+    none_lapsed (Some a) = refl
+
+    of_failure : (at : Option ActiveView) (fault : FileFault) →
+        told_of_failure at ≡ steps.Fault (faults.File fault) → IsOfPage fault
+    of_failure None fault told = absurd cc
+    of_failure (Some a) fault told =
+        let same : Failed ≡ fault = cc in
+        subst IsOfPage same tt
 
     none : (at : Option ActiveView) → answer_told (told_of_failure at) ≡ None
     none None = refl

@@ -15,11 +15,12 @@ use Rattle.interleaving_core.specs.Words.{Answer, Call, CallView, Caller, Entry,
 use Rattle.queue_model.specs.Journal.{part_of}
 use Rattle.interleaving_core.specs.Active.{ActiveView, BeginsAgain, IsDrafted, decided_by, draft_by, drafted, entries_by, is_waiting}
 use Rattle.interleaving_core.specs.Kernel.{IsCallOf, due_at, locks_of}
-use Rattle.interleaving_core.specs.Owing.{answer_told, is_end, told}
+use Rattle.interleaving_core.specs.Owing.{answer_told, is_end, lapsed, told}
 use Rattle.interleaving_core.specs.Past.{IsOfJournal, KeepsJournal, call_of, entry_of, untold}
 use Rattle.interleaving_core.specs.Turn.{IsLeft, IsLeftWhenOver, MakesTurn, StaysIdle, StaysWaiting, told_of, told_when_over}
 use Rattle.interleaving_core.specs.Waiting.{stays_waiting}
 use Rattle.interleaving_core.specs.declared.active.Draft.{Draft}
+use Rattle.interleaving_core.specs.declared.fault.StepFault.TheVariants as faults
 use Rattle.interleaving_core.specs.declared.step.Step.{Step}
 use Rattle.interleaving_core.specs.declared.step.Step.TheVariants as steps
 use Rattle.interleaving_core.proofs.PartLemmas.{AreOf, entries_are_of, part_own}
@@ -43,7 +44,7 @@ pub record Does (seat : ℕ) (did : Step) (at left : Option ActiveView) (pool po
   pub of_seat : AreOf seat added
   pub grows : journal' ≡ journal ++ added
   pub decides : did ≢ steps.Moved Decide → added ≡ []
-  pub due : due_at left + length added ≤ due_at at
+  pub due : lapsed did + due_at left + length added ≡ due_at at
   pub owed : untold seat at ++ added ≡ told seat at (answer_told did) ++ untold seat left
 
 -- ---- an answer
@@ -116,6 +117,24 @@ due_by seat None (Some d) = refl
 due_by seat (Some x) None = refl
 due_by seat (Some x) (Some d) = refl
 
+-- the entries that are due for a call which has come to this answer, or to none yet
+abbrev due_of : Option Answer → ℕ
+due_of None = 1
+due_of (Some x) = 0
+
+none_some : (x : Option Answer) → x ≡ None → IsSome x → ⊥
+none_some None none some = cc
+none_some (Some x) none some = cc
+
+-- what is kept for its entry is there until it has come to an answer
+due_come : (did : Progress FileFault) (m m' : CallView) → KeepsCall did m m' → (draft : Option Draft) →
+    IsDrafted m draft → (x : Option Answer) → answer_of_call m' ≡ x → drafted (draft_by x draft) ≡ due_of x
+due_come did m m' keeps draft kept (Some x) is = refl
+due_come did m m' keeps (Some d) kept None is = refl
+due_come did m m' keeps None kept None is =
+    absurd (none_some (answer_of_call m) (sym (stays_at did m m' keeps (conclusion_of m) refl
+    (some_by (conclusion_of m) m.undecided.questions.room.bytes kept)) ∙ is) kept)
+
 -- ---- what is told
 
 not_idle_at_end : (waits : Bool) (x : Option Answer) → told_when_over waits x ≢ steps.Idle
@@ -139,7 +158,7 @@ decide_told did m other is = other (ap (λ (d : Progress FileFault). told_of d m
 -- what is so of what is left after a call that has come so far
 pub record Leaves (seat : ℕ) (did : Step) (come : ActiveView) (left : Option ActiveView) : Type 0 where
   pub locks : locks_of left ≡ call_locks come.machine
-  pub due : due_at left ≤ drafted come.draft
+  pub due : lapsed did + due_at left ≡ drafted come.draft
   pub caller : (c : Option Caller) → c ≡ Some come.machine.caller → IsCallOf c left
   pub call : IsSome (call_of left) → call_of left ≡ Some come.machine.call
   pub over : is_end did ≡ true → left ≡ None
@@ -147,11 +166,20 @@ pub record Leaves (seat : ℕ) (did : Step) (come : ActiveView) (left : Option A
   pub past : (journal : List Entry) → IsOfJournal seat journal come → KeepsJournal seat journal left
   pub owed : untold seat (Some come) ≡ entry_of seat (Some come.machine.call) (answer_told did) ++ untold seat left
 
+none_lapsed : (did : Step) → is_end did ≡ false → lapsed did ≡ 0
+none_lapsed (steps.Moved kind) on = refl
+none_lapsed (steps.Blocked other) on = refl
+none_lapsed steps.Waiting on = refl
+none_lapsed (steps.Answered answer) on = refl
+none_lapsed steps.Idle on = refl
+none_lapsed (steps.Fault (faults.File fault)) on = refl
+none_lapsed (steps.Fault faults.NoRoom) on = absurd cc
+
 stays_there : (seat : ℕ) (did : Step) (come : ActiveView) (left : Option ActiveView) → left ≡ Some come →
     answer_told did ≡ None → is_end did ≡ false → Leaves seat did come left
 stays_there seat did come left is none on = subst (λ (x : Option ActiveView). Leaves seat did come x) (sym is) record {
   locks = refl;
-  due = omega arith;
+  due = let none_is = none_lapsed did on in omega (arith, none_is);
   caller = λ c same. same;
   call = λ some. refl;
   over = λ ends. absurd (true≢false (sym ends ∙ on));
@@ -186,10 +214,10 @@ again_there seat come again over begins none = record {
 }
 
 gone : (seat : ℕ) (come : ActiveView) → IsOver come.machine → (x : Option Answer) → answer_of_call come.machine ≡ x →
-    Leaves seat (told_when_over false x) come None
-gone seat come over None is = record {
+    drafted come.draft ≡ due_of x → Leaves seat (told_when_over false x) come None
+gone seat come over None is due = record {
   locks = sym (over_holds_nothing come.machine over);
-  due = omega arith;
+  due = omega (arith, due);
   caller = λ c same. tt;
   call = λ some. absurd cc;
   over = λ ends. refl;
@@ -197,9 +225,9 @@ gone seat come over None is = record {
   past = λ journal kept. tt;
   owed = ap (entry_of seat (Some come.machine.call)) is;
 }
-gone seat come over (Some x) is = record {
+gone seat come over (Some x) is due = record {
   locks = sym (over_holds_nothing come.machine over);
-  due = omega arith;
+  due = omega (arith, due);
   caller = λ c same. tt;
   call = λ some. absurd cc;
   over = λ ends. refl;
@@ -209,26 +237,27 @@ gone seat come over (Some x) is = record {
 }
 
 over_there : (seat : ℕ) (come : ActiveView) (left : Option ActiveView) → IsOver come.machine → (waits : Bool) →
-    is_waiting (conclusion_of come.machine) ≡ waits → IsLeftWhenOver waits come left →
-    Leaves seat (told_when_over waits (answer_of_call come.machine)) come left
-over_there seat come left over true waits is =
+    is_waiting (conclusion_of come.machine) ≡ waits → drafted come.draft ≡ due_of (answer_of_call come.machine) →
+    IsLeftWhenOver waits come left → Leaves seat (told_when_over waits (answer_of_call come.machine)) come left
+over_there seat come left over true waits due is =
     subst (λ (x : Option ActiveView). Leaves seat steps.Waiting come x) (sym is.1)
     (again_there seat come is.0 over is.2
     (waits_unanswered (conclusion_of come.machine) come.machine.undecided.questions.room.bytes waits))
-over_there seat come left over false waits is =
+over_there seat come left over false waits due is =
     subst (λ (x : Option ActiveView). Leaves seat (told_when_over false (answer_of_call come.machine)) come x) (sym is)
-    (gone seat come over (answer_of_call come.machine) refl)
+    (gone seat come over (answer_of_call come.machine) refl due)
 
 left_there : (seat : ℕ) (did : Progress FileFault) (m : CallView) (come : ActiveView) (left : Option ActiveView) →
-    KeepsCall did m come.machine → IsLeft did come left → Leaves seat (told_of did come.machine) come left
-left_there seat (progress.Moved kind) m come left keeps is =
+    KeepsCall did m come.machine → drafted come.draft ≡ due_of (answer_of_call come.machine) → IsLeft did come left →
+    Leaves seat (told_of did come.machine) come left
+left_there seat (progress.Moved kind) m come left keeps due is =
     stays_there seat (steps.Moved kind) come left is refl refl
-left_there seat (progress.Blocked other) m come left keeps is =
+left_there seat (progress.Blocked other) m come left keeps due is =
     stays_there seat (steps.Blocked other) come left is refl refl
-left_there seat (progress.Fault fault) m come left keeps is =
+left_there seat (progress.Fault fault) m come left keeps due is =
     stays_there seat (told_of (progress.Fault fault) come.machine) come left is refl refl
-left_there seat progress.Ended m come left keeps is =
-    over_there seat come left (keeps.over refl) (is_waiting (conclusion_of come.machine)) refl is
+left_there seat progress.Ended m come left keeps due is =
+    over_there seat come left (keeps.over refl) (is_waiting (conclusion_of come.machine)) refl due is
 
 -- ---- the whole step
 
@@ -279,7 +308,8 @@ call_does hash seat stopped did a left pool pool' locks locks' journal journal' 
     let x : Option Answer = answer_of_call t.come.machine in
     let leaves : Leaves seat did t.come left =
     subst (λ (d : Step). Leaves seat d t.come left) (sym t.told_is)
-    (left_there seat t.did a.machine t.come left keeps t.left_is) in
+    (left_there seat t.did a.machine t.come left keeps (ap drafted t.draft
+    ∙ due_come t.did a.machine t.come.machine keeps a.draft t.kept x refl) t.left_is) in
     record {
       ready = λ ready. t.makes.writes.ready;
       honest = t.makes.writes.honest;
@@ -327,7 +357,7 @@ idle_does seat did left pool pool' locks locks' journal journal' t = record {
   of_seat = tt;
   grows = t.same_journal ∙ sym (append-nil journal);
   decides = λ other. refl;
-  due = let same = ap due_at t.left_is in omega (arith, same);
+  due = let same = ap due_at t.left_is in let none_is = ap lapsed t.told_is in omega (arith, same, none_is);
   owed = sym (ap (untold seat) t.left_is);
 }
 
@@ -354,7 +384,7 @@ waits_does seat did a left pool pool' locks locks' journal journal' stays t = re
   of_seat = tt;
   grows = t.same_journal ∙ sym (append-nil journal);
   decides = λ other. refl;
-  due = let same = ap due_at t.left_is in omega (arith, same);
+  due = let same = ap due_at t.left_is in let none_is = ap lapsed t.told_is in omega (arith, same, none_is);
   owed = append-nil (untold seat (Some a)) ∙ sym (ap (untold seat) t.left_is)
       ∙ sym (ap (λ (d : Step). told seat (Some a) (answer_told d) ++ untold seat left) t.told_is);
 }

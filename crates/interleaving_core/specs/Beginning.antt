@@ -35,11 +35,18 @@ pub record IsOpened {K : Type 0} (with_keys : K) (content : List (List ℕ)) (ho
 abbrev pub HasSystem : (RecordKey → ℕ) → List (List ℕ) → Type 0
 HasSystem hash content = (s : State) × IsFileOf hash content s
 
--- why it is not opened: of a file it is the first thing that is wrong with it, unless the machine lacked something
+-- why it is not opened: of a file it is the first thing that is wrong with it, unless the machine lacked something; and
+-- there is no memory for the seats and their frames only where nothing is wrong with it
 abbrev pub MayRefuse : (RecordKey → ℕ) → List (List ℕ) → OpenFault → Type 0
 MayRefuse hash content opens.TooFewFrames = ⊤
-MayRefuse hash content opens.NoMemory = ⊤
+MayRefuse hash content opens.NoMemory = (s : State) × IsFileOf hash content s
 MayRefuse hash content (opens.Wrong fault) = IsToldOf hash content fault
+
+-- the same of who takes memory before the file is checked: without it nothing is said of the file
+abbrev pub MayRefuseUnchecked : (RecordKey → ℕ) → List (List ℕ) → OpenFault → Type 0
+MayRefuseUnchecked hash content opens.TooFewFrames = ⊤
+MayRefuseUnchecked hash content opens.NoMemory = ⊤
+MayRefuseUnchecked hash content (opens.Wrong fault) = IsToldOf hash content fault
 
 -- ---- a call begins
 

@@ -1,15 +1,17 @@
 -- What a step of a seat leaves of a kernel, and which entries its seat is told. docs/STEPS.md, "Calls";
 -- docs/QUEUES.md, "Journals".
-use Rattle.std.specs.Prelude.{ℕ, ◌≡◌, ◌≢◌, ◌↔◌, ◌≤◌, Bool, true, false, ◌||◌, IsSome, List, ◌++◌, Option, Some, None, drop, length, ⊤}
+use Rattle.std.specs.Prelude.{ℕ, ◌≡◌, ◌≢◌, ◌↔◌, ◌+◌, ◌≤◌, Bool, true, false, ◌||◌, IsSome, List, ◌++◌, Option, Some, None, drop, length, ⊤}
+use Rattle.file_pages.specs.declared.fault.FileFault.{FileFault}
 use Rattle.file_pages.specs.declared.fault.FileFault.TheVariants.{Failed}
 use Rattle.queue_model.specs.Journal.{part_of}
 use Rattle.step_rules.specs.declared.kind.Kind.TheVariants.{Decide}
 pub use Rattle.interleaving_core.specs.Past.{call_of, entry_of, untold}
 use Rattle.interleaving_core.specs.Words.{Answer, Entry, spared, with_row}
 use Rattle.interleaving_core.specs.Active.{ActiveView}
+use Rattle.interleaving_core.specs.Fault.{IsOfPage}
 use Rattle.interleaving_core.specs.Waiting.{is_woken}
 use Rattle.interleaving_core.specs.declared.fault.Failure.{Failure}
-use Rattle.interleaving_core.specs.Kernel.{KernelState, call_at, locks_of, with_call}
+use Rattle.interleaving_core.specs.Kernel.{KernelState, call_at, entries_of, locks_of, with_call}
 use Rattle.interleaving_core.specs.Searches.{Counts}
 use Rattle.interleaving_core.specs.declared.fault.StepFault.TheVariants as faults
 use Rattle.interleaving_core.specs.declared.step.Step.{Step}
@@ -57,6 +59,16 @@ is_end (steps.Answered answer) = true
 is_end steps.Idle = true
 is_end (steps.Fault (faults.File fault)) = false
 is_end (steps.Fault faults.NoRoom) = true
+
+-- its seat's call is over, and has no entry
+abbrev pub lapsed : Step → ℕ
+lapsed (steps.Moved kind) = 0
+lapsed (steps.Blocked other) = 0
+lapsed steps.Waiting = 0
+lapsed (steps.Answered answer) = 0
+lapsed steps.Idle = 0
+lapsed (steps.Fault (faults.File fault)) = 0
+lapsed (steps.Fault faults.NoRoom) = 1
 
 abbrev pub failed : Step
 failed = steps.Fault (faults.File Failed)
@@ -120,10 +132,14 @@ pub record IsTurn {K : Type 0} (seat : ℕ) (did : Step) (old new : KernelState 
   pub waits : did ≡ steps.Waiting → IsUnwoken seat new
   -- the journal grows at its Decide alone
   pub decides : did ≢ steps.Moved Decide → new.journal ≡ old.journal
+  -- the entries that stand and those that are due are as many as before, but for a call that is over without one
+  pub entries : lapsed did + entries_of new ≡ entries_of old
   -- real time: of what joined the journal since its call began its part is the entry of which it is told now, or that
   -- it is owed
   pub joins : (a : ActiveView) → call_at old.seats seat ≡ Some a → part_of seat (drop a.begun new.journal)
       ≡ told seat (Some a) (answer_told did) ++ untold seat (call_at new.seats seat)
+  -- of the file it is told what a page or a transfer may come to, never that there is no memory
+  pub page : (fault : FileFault) → did ≡ steps.Fault (faults.File fault) → IsOfPage fault
   -- after a failure of the file each call is told of it, and nothing changes
   pub failed : new.failed ≡ (old.failed || is_failure did)
   pub failure : new.failure ≡ failure_by seat did old.failure

@@ -10,7 +10,7 @@ pub use Rattle.buffer_pool.specs.declared.fault.PoolFault.{PoolFault}
 use Rattle.buffer_pool.specs.declared.fault.PoolFault.TheVariants.{Device, TooFewFrames}
 use Rattle.file_pages.specs.declared.fault.FileFault.TheVariants.{Pool}
 use Rattle.xsi_calls.specs.Machine.{IsNew}
-use Rattle.interleaving_core.specs.Words.{Call, CallView, Entry, PoolState, answer_of_call, call_locks}
+use Rattle.interleaving_core.specs.Words.{Call, CallView, Entry, PoolState, answer_of_call, call_locks, spared}
 use Rattle.interleaving_core.specs.Active.{ActiveView}
 use Rattle.interleaving_core.specs.Closing.{IsFlushedTo}
 use Rattle.interleaving_core.specs.Kernel.{KernelState, call_at, with_call}
@@ -153,11 +153,14 @@ pub record IsPage (page : ℕ) (bytes : List ℕ) (pool : PoolState) : Type 0 wh
 
 pub record IsRead {K : Type 0} (page : ℕ) (bytes : List ℕ) (old new : KernelState K) : Type 0 where
   pub stay : KeepsPages old new
+  -- where there is a frame for each page the device has what it had
+  pub stored : spared new.pool ≡ spared old.pool
   pub is : IsPage page bytes new.pool
 
 -- the page did not come to a frame
 pub record FailsToRead {K : Type 0} (page : ℕ) (fault : PoolFault) (old new : KernelState K) : Type 0 where
   pub by : IsFailedBy fault old new
+  pub stored : spared new.pool ≡ spared old.pool
   -- it was there, and there were frames: so a transfer failed, or what the device has is no such page
   pub there : fault ≢ Device device.PastEnd
   pub room : fault ≢ TooFewFrames

@@ -1,5 +1,5 @@
 -- Words of the crates below, under one name.
-pub use Rattle.buffer_pool.specs.Pool.{PoolState, spared}
+pub use Rattle.buffer_pool.specs.Pool.{PoolState, TellsChanged, spared}
 pub use Rattle.file_pages.specs.Files.{IsReady}
 pub use Rattle.page_locks.specs.Table.{IsSeat, Table, row_of, with_row}
 pub use Rattle.page_locks.specs.declared.lock.Lock.{Lock}

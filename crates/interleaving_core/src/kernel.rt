@@ -95,7 +95,8 @@ impl<D: PageDevice, K: PseudoKey> Model for Kernel<D, K> {
 impl<D: PageDevice + Drop, K: PseudoKey + Drop> Kernel<D, K> {
     /// Checks the file on a device and opens it for these callers, one a seat, with so many frames
     /// for its pages. The system is not stopped. A file with which anything is wrong is refused by
-    /// the first thing that is. Each refusal gives the device back.
+    /// the first thing that is, and one is refused by `NoMemory` only where nothing is. Each refusal
+    /// gives the device back.
     pub fn open(
         alloc: Global,
         device: D,

@@ -5,6 +5,7 @@ use Rattle.concurrent_calls.specs.Together.{AreTogether, IsUnderWay}
 use Rattle.concurrent_calls.specs.lone_calls.Words.{call_left}
 use Rattle.concurrent_calls.proofs.SeatLemmas.{well}
 use Rattle.interleaving_core.specs.Active.{is_waiting}
+use Rattle.interleaving_core.specs.Fault.{of_page}
 use Rattle.interleaving_core.specs.Turn.{IsLeft, MakesTurn, StaysWaiting, told_of, told_when_over}
 use Rattle.interleaving_core.specs.xsi_calls.CallSteps.{StepsCall}
 use Rattle.interleaving_core.specs.xsi_calls.Words.{Change, NearsOrSpares, World, world}
@@ -122,4 +123,7 @@ module _ {K : Type 0} (hash : RecordKey → ℕ) (base : State) (seat : ℕ) (a 
       pub failed : DoesBy hash base seat a did phase after old new
       failed = subst (λ (told : Step). DoesBy hash base seat a told phase after old new)
           (sym (turn.told_is ∙ ap (λ (d : Progress FileFault). told_of d come.machine) is))
-          (record { device = spares.devices; file = ap store_of spares.images })
+          (record {
+            device = record { risen = spares.devices.risen; told = ap of_page spares.devices.told };
+            file = ap store_of spares.images;
+          })

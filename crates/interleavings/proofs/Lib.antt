@@ -13,6 +13,9 @@ pub mod OwedLemmas
 pub mod UnderWayLemmas
 pub mod OutcomeLemmas
 pub mod RisenLemmas
+pub mod WaitingLemmas
+pub mod FoundedLemmas
+pub mod TellingLemmas
 pub mod PlayedLemmas
 pub mod RenewLemmas
 pub use Rattle.interleaving_core.proofs as of_interleaving_core

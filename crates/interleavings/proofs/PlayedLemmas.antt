@@ -1,12 +1,15 @@
 -- Events over a kernel that was opened, and closed behind them, told without the kernel.
-use Rattle.std.proofs.Common.{ℕ, zero, suc, ◌≡◌, ◌≤◌, ◌⊎◌, ◌↔◌, inl, inr, refl, sym, ap, ◌∙◌, subst, Bool, true, false, ◌||◌, IsSome, IsTrue, List, [], ◌∷◌, ◌++◌, Option, Some, None, drop, length, replicate, take, append-nil, arith}
+use Rattle.std.proofs.Common.{ℕ, zero, suc, ◌≡◌, ◌+◌, ◌≤◌, ◌⊎◌, ◌↔◌, inl, inr, refl, sym, ap, ◌∙◌, subst, Bool, true, false, ◌||◌, IsSome, IsTrue, List, [], ◌∷◌, ◌++◌, Option, Some, None, drop, length, replicate, take, append-nil, arith}
 use Rattle.std.specs.List.{list_any}
+use Rattle.std.specs.Prelude.{slice_get, sum_by}
+use Rattle.std.proofs.lemmas.Option.{get_or_from_slice_get, slice_get_within}
 use Rattle.std.proofs.lemmas.Bool.{true≢false}
 use Rattle.std.proofs.lemmas.List.{length-replicate}
 use Rattle.std.proofs.lemmas.List.Elements.{All-take}
 use Rattle.page_device.specs.Device.{HasRisen}
-use Rattle.interleaving_core.proofs.BeginLemmas.{idle_at}
+use Rattle.interleaving_core.proofs.BeginLemmas.{idle_at, none_due}
 use Rattle.interleaving_core.specs.Closing.{IsBusy, has_one}
+use Rattle.interleaving_core.specs.Kernel.{due_at, due_for_stop, entries_of}
 use Rattle.interleaving_core.specs.declared.fault.CloseFault.{CloseFault}
 use Rattle.interleaving_core.specs.declared.fault.CloseFault.TheVariants as closes
 use Rattle.interleavings.specs.Words.{ActiveView, Answer, Call, Caller, Entry, HasSystem, IsFifo, IsFileOf, IsFlushedTo, IsLawful, IsLegal, IsOpened, KernelState, PoolState, RecordKey, State, after, answer_of_call, call_at, call_of, entry_of, part_of, restarted, untold}
@@ -14,7 +17,9 @@ use Rattle.interleavings.specs.Ending.{HasEnded}
 use Rattle.interleavings.specs.Headline.{IsAsPlainLists}
 use Rattle.interleavings.specs.Laws.{AnswersAsPlainLists, ClosesRefine, EventsRefine, RefinesFile, StepsRefineAndDo, StepsRefine}
 use Rattle.interleavings.specs.Refining.{Refines}
-use Rattle.interleavings.specs.Playing.{HasItsPart, HasPlayed, HasReason, HasStood, PlaysAsPlainLists, call_along, call_under_way, gives_up, is_mark, is_stop, tells_failure}
+use Rattle.interleavings.specs.Moments.{HasItsPart, HasStood, IsToldBy, TellsRightly, is_stop, marked_by, once_if}
+use Rattle.interleavings.specs.Outcomes.{call_along, call_under_way, nothing_yet, tells_failure}
+use Rattle.interleavings.specs.Playing.{HasPlayed, HasReason, PlaysAsPlainLists, gives_up}
 use Rattle.interleavings.specs.Runs.{AreOfSeats, IsLinearized, IsOfSeat, IsToldItsPart, Runs, told_along}
 use Rattle.interleavings.specs.declared.event.Event.{Event}
 use Rattle.interleavings.specs.declared.event.Outcome.{Outcome}
@@ -22,7 +27,11 @@ use Rattle.interleavings.specs.declared.playing.EndFault.{EndFault}
 use Rattle.interleavings.specs.declared.playing.EndFault.TheVariants.{Busy, Close}
 use Rattle.interleavings.specs.declared.playing.Played.{Played}
 use Rattle.interleavings.proofs.RisenLemmas.{fails_by_along, later_along, risen_within}
+use Rattle.interleavings.proofs.FoundedLemmas.{founded_along}
 use Rattle.interleavings.proofs.OutcomeLemmas.{come_along, fails_along}
+use Rattle.interleavings.proofs.RunLemmas.{tells_its_part}
+use Rattle.interleavings.proofs.TellingLemmas.{HasEvent, event_at, rows_along, some_same, told_by_event}
+use Rattle.interleavings.proofs.WaitingLemmas.{AreFounded, IsFoundedAt}
 use Rattle.interleavings.proofs.UnderWayLemmas.{call_on, places_along, leaves_along, marked_along, none_at}
 
 -- ---- who has a call
@@ -83,6 +92,14 @@ module _ {K : Type 0} (of : K → RecordKey → ℕ) (keys : K) (content : List 
   idle_before : (seat : ℕ) → call_on seat old ≡ None
   idle_before seat = ap call_of (none_before seat)
 
+  -- a stop is due, and no more
+  one_before : entries_of old + 0 ≡ 0 + 1
+  one_before =
+      let none = ap (sum_by due_at) opened.seats ∙ none_due (length callers) in
+      let empty = ap length opened.journal in
+      let stop = ap due_for_stop opened.stopped in
+      omega (arith, none, empty, stop)
+
   are_seats : AreOfSeats (length old.seats) es
   are_seats = subst (λ (n : ℕ). AreOfSeats n es)
       (sym (ap length opened.seats ∙ length-replicate (length callers) None)) are
@@ -120,21 +137,29 @@ module _ {K : Type 0} (of : K → RecordKey → ℕ) (keys : K) (content : List 
     linear : IsLinearized hash es os old new
     linear = subst (λ (k : K). IsLinearized (of k) es os old new) opened.keys line
 
+    stood_at : (many : ℕ) (k : KernelState K) → Runs hash (take many es) (take many os) old k →
+        Runs hash (drop many es) (drop many os) k new → HasStood many es os new.journal
+    stood_at many k first rest =
+        let marked = marked_along hash (take many es) (take many os) old k first in
+        let later = tells_its_part hash (drop many es) (drop many os) k new rest 0 in
+        record {
+          stood = k.journal;
+          later = later.added;
+          journal_is = later.journal;
+          was = record {
+            parts = λ seat. its_part seat (take many es) (take many os) k
+                (All-take (IsOfSeat (length old.seats)) many es are_seats) first
+                (tells_its_part hash (take many es) (take many os) old k first seat);
+            mark = marked.marked (ap (sum_by marked_by) opened.journal ∙ sym (ap once_if opened.stopped))
+                ∙ ap once_if (marked.stopped
+                ∙ ap (λ (b : Bool). b || list_any is_stop (take many es)) opened.stopped);
+          };
+        }
+
     stood : (many : ℕ) → HasStood many es os new.journal
     stood many =
         let moment = linear many in
-        let marked = marked_along hash (take many es) (take many os) old moment.between moment.before in
-        record {
-          stood = moment.between.journal;
-          later = (moment.told_behind 0).added;
-          journal_is = (moment.told_behind 0).journal;
-          was = record {
-            parts = λ seat. its_part seat (take many es) (take many os) moment.between
-                (All-take (IsOfSeat (length old.seats)) many es are_seats) moment.before (moment.told_before seat);
-            mark = marked.marked (ap (list_any is_mark) opened.journal ∙ sym opened.stopped) ∙ marked.stopped
-                ∙ ap (λ (b : Bool). b || list_any is_stop (take many es)) opened.stopped;
-          };
-        }
+        stood_at many moment.between moment.before moment.behind
 
     sound_by : played.fault ≡ None → new.failed ≡ false
     sound_by none = not_true new.failed (λ broken. none_some (sym none ∙ ended.failed.1 broken))
@@ -162,8 +187,11 @@ module _ {K : Type 0} (of : K → RecordKey → ℕ) (keys : K) (content : List 
 
     pub has_played : HasPlayed es played
     has_played = record {
-      outcomes = come_along hash es os old new false (λ seat. None) (sym opened.failed)
-          (λ seat. sym (idle_before seat)) are_seats runs;
+      outcomes = come_along hash es os old new nothing_yet (record {
+        broken = sym opened.failed;
+        under_way = λ seat. sym (idle_before seat);
+        counted = one_before;
+      }) are_seats runs;
       told = λ seat. subst (HasItsPart seat es os) (sym ended.journal_is)
           (its_part seat es os new are_seats runs (tells seat));
       linear = λ many. subst (HasStood many es os) (sym ended.journal_is) (stood many);
@@ -191,8 +219,79 @@ module _ {K : Type 0} (of : K → RecordKey → ℕ) (keys : K) (content : List 
       honest_still : IsTrue new.pool.honest
       honest_still = subst IsTrue (sym as_honest) true_to_it
 
-      pub plays_plain : AnswersAsPlainLists K → ClosesRefine K → PlaysAsPlainLists hash callers content left played
-      plays_plain plain closes =
+      -- what a seat is told of each event
+      module _ (does : StepsRefineAndDo K) (steps : StepsRefine K) (many : ℕ) where
+        abbrev Rightly : Type 0
+        Rightly = TellsRightly callers led.base many es os new.journal
+
+        -- no event has this number
+        past : ((e : Event) (o : Outcome) → slice_get es many ≡ Some e → slice_get os many ≡ Some o → ⊥) → Rightly
+        past none = record { moment = stood (suc many); told = λ e o is_e is_o. absurd (none e o is_e is_o) }
+
+        module _ (e : Event) (o : Outcome) (is_e : slice_get es many ≡ Some e) (is_o : slice_get os many ≡ Some o)
+          where
+            at : HasEvent hash many es os e o old new
+            at = event_at hash many es os e o old new runs is_e is_o
+
+            led_before : Refines hash led.base at.before
+            led_before = lead hash led.base (take many es) (take many os) old at.before
+                (All-take (IsOfSeat (length old.locks)) many es are_rows) led.led at.first
+
+            are_through : AreOfSeats (length old.locks) (take (suc many) es)
+            are_through = All-take (IsOfSeat (length old.locks)) (suc many) es are_rows
+
+            led_then : Refines hash led.base at.behind
+            led_then = lead hash led.base (take (suc many) es) (take (suc many) os) old at.behind are_through led.led
+                at.through
+
+            founded : AreFounded led.base at.behind
+            founded = founded_along does steps lead hash led.base (take (suc many) es) (take (suc many) os) old
+                at.behind are_through led.led at.through (λ seat. subst (IsFoundedAt led.base old.callers old.journal)
+                (sym (none_before seat)) tt)
+
+            its_seat : IsOfSeat (length at.before.locks) e
+            its_seat = subst (λ (n : ℕ). IsOfSeat n e)
+                (sym (rows_along hash (take many es) (take many os) old at.before at.first))
+                (subst (IsOfSeat (length old.locks)) (get_or_from_slice_get es many e e is_e)
+                (are_rows many e (slice_get_within es many e is_e)))
+
+            told : IsToldBy callers led.base (λ seat. call_under_way seat (take many es) (take many os)) e o
+                at.behind.journal
+            told = told_by_event does steps hash led.base callers
+                (λ seat. call_under_way seat (take many es) (take many os)) at.before at.behind led_before led_then
+                founded ((places_along hash (take (suc many) es) (take (suc many) os) old at.behind at.through).callers
+                ∙ opened.callers)
+                (λ seat. under_way seat (take many es) (take many os) at.before
+                (All-take (IsOfSeat (length old.seats)) many es are_seats) at.first) e o its_seat at.happens
+
+            here : Rightly
+            unfolding stood_at at
+            here = record {
+              moment = stood_at (suc many) at.behind at.through at.rest;
+              told = λ f p is_f is_p.
+                  let same_e : e ≡ f = some_same e f (sym is_e ∙ is_f) in
+                  let same_o : o ≡ p = some_same o p (sym is_o ∙ is_p) in
+                  subst (λ (x : Event). IsToldBy callers led.base
+                  (λ seat. call_under_way seat (take many es) (take many os)) x p at.behind.journal) same_e
+                  (subst (λ (y : Outcome). IsToldBy callers led.base
+                  (λ seat. call_under_way seat (take many es) (take many os)) e y at.behind.journal) same_o told);
+            }
+
+        pub rightly : Rightly
+        rightly = by (slice_get es many) refl (slice_get os many) refl
+          where
+            apart : {X : Type 0} (o : Option X) (x : X) → o ≡ None → o ≡ Some x → ⊥
+            apart None x none some = cc
+            apart (Some y) x none some = cc
+
+            by : (f : Option Event) → slice_get es many ≡ f → (p : Option Outcome) → slice_get os many ≡ p → Rightly
+            by None none p is_o = past (λ e o is_e is. apart (slice_get es many) e none is_e)
+            by (Some e) is_e None none = past (λ f o is_f is. apart (slice_get os many) o none is)
+            by (Some e) is_e (Some o) is_o = here e o is_e is_o
+
+      pub plays_plain : StepsRefineAndDo K → StepsRefine K → AnswersAsPlainLists K → ClosesRefine K →
+          PlaysAsPlainLists hash callers es content left played
+      plays_plain does steps plain closes =
           let lists = plain hash led.base new led.file.system.has.lawful led_behind in
           record {
             base = led.base;
@@ -203,6 +302,8 @@ module _ {K : Type 0} (of : K → RecordKey → ℕ) (keys : K) (content : List 
             fifo = subst (λ (cs : List Caller). IsFifo cs played.journal.items led.base) same_callers
                 (subst (λ (entries : List Entry). IsFifo new.callers entries led.base) (sym ended.journal_is)
                 lists.fifo);
+            rightly = λ many. subst (TellsRightly callers led.base many es os) (sym ended.journal_is)
+                (rightly does steps many);
             leaves = λ none.
                 subst (λ (cs : List Caller).
                 IsFileOf hash left (restarted (after cs played.journal.items led.base))) same_callers

@@ -4,16 +4,17 @@ use Rattle.std.proofs.Common.{ℕ, suc, zero, ◌≡◌, ◌≤◌, inl, inr, re
 use Rattle.concurrent_calls.specs.Laws.{BeginTogether, EndTogether, StepTogether}
 use Rattle.page_device.specs.Device.{HasRisen}
 use Rattle.step_rules.specs.Turns.{DoesTied, StandsInWay}
-use Rattle.interleaving_core.proofs.AnewLemmas.{begins_from, ends_waiting, waits_from, woken_from}
+use Rattle.interleaving_core.proofs.AnewLemmas.{begins_from, ends_waiting, over_waits, waits_from, woken_from}
 use Rattle.interleaving_core.proofs.BetweenLemmas.{Goes, between, first_goes, goes_by, last_goes}
 use Rattle.interleaving_core.proofs.PlaceLemmas.{at_same, seat_of_call}
+use Rattle.interleaving_core.specs.Active.{is_waiting}
 use Rattle.interleaving_core.specs.Turn.{MakesTurn, TakesTurn, TurnsAnew}
 use Rattle.interleaving_core.specs.Waiting.{stays_waiting}
 use Rattle.interleaving_core.specs.declared.fault.StepFault.TheVariants as faults
 use Rattle.interleaving_core.specs.declared.step.Step.TheVariants as told
 use Rattle.interleaving_core.specs.xsi_calls.Machine.{call_turn}
 use Rattle.interleaving_core.specs.xsi_calls.Words.{Change, Store, TrialLacksRoom, Turn, World, its_plan, trials_of, world}
-use Rattle.interleavings.specs.Words.{ActiveView, IsSeat, IsTurn, KernelState, PoolState, RecordKey, State, Step, Table, call_at, store_of}
+use Rattle.interleavings.specs.Words.{ActiveView, IsOver, IsSeat, IsTurn, KernelState, PoolState, RecordKey, State, Step, Table, call_at, conclusion_of, store_of}
 use Rattle.interleavings.specs.Doing.{BeginsWoken, DoesAsTold, DoesBy, FailsByDevice, IsInTheWay, LeavesAll, MakesMove, turn_of}
 use Rattle.interleavings.specs.Refining.{Refines, RefinesIn}
 use Rattle.interleavings.specs.Laws.{RefinesOn, StepsRefineAndDo, StepsRefine}
@@ -96,12 +97,16 @@ module _ (steps : StepTogether) (ends : EndTogether) (begins : BeginTogether) {K
   is : IsSeat old.locks seat
   is = (seated.0, subst (λ (n : ℕ). seat ≤ n) (sym led.rows) seated.1)
 
+  -- one that was decided to wait and is over is told so
+  abbrev IsToldOver : Type 0
+  IsToldOver = IsOver a.machine → is_waiting (conclusion_of a.machine) ≡ true → did ≡ told.Waiting
+
   -- by a step of this very call
-  by_itself : LeadsDoing hash base seat a did phase_before old new → Leads
-  by_itself leads = record {
+  by_itself : IsToldOver → LeadsDoing hash base seat a did phase_before old new → Leads
+  by_itself waits leads = record {
     behind = leads.behind;
     led = leads.led;
-    does = record { by = a; is = inl refl; does = leads.does };
+    does = record { by = a; is = inl (record { same = refl; waits = waits }); does = leads.does };
   }
 
   -- its call begins anew
@@ -148,7 +153,7 @@ module _ (steps : StepTogether) (ends : EndTogether) (begins : BeginTogether) {K
               led = leads.led;
               does = record {
                 by = a;
-                is = inl refl;
+                is = inl (record { same = refl; waits = λ over put_off. waits.told_is });
                 does = subst (λ (d : Step). DoesBy hash base seat a d phase_before leads.behind old new)
                     (sym waits.told_is)
                     (leaves_since hash base seat anew.again anew.between old new phase_before phase_then leads.behind
@@ -185,10 +190,12 @@ module _ (steps : StepTogether) (ends : EndTogether) (begins : BeginTogether) {K
   leads_by takes = by (stays_waiting a.wait a.machine.call old.journal) refl
     where
       by : (b : Bool) → stays_waiting a.wait a.machine.call old.journal ≡ b → Leads
-      by true stays = by_itself (waits_on steps ends begins hash base seat did old new is led goes a there sound
-          (takes.waits stays))
+      by true stays = by_itself (λ over put_off. (takes.waits stays).told_is) (waits_on steps ends begins hash base
+          seat did old new is led goes a there sound (takes.waits stays))
       by false woken = elim (takes.goes woken) [
-        | inl made ↦ by_itself (led_on steps ends begins hash base seat did old new is led goes a there sound made.0)
+        | inl made ↦ by_itself (over_waits hash seat old.stopped did a (call_at new.seats seat) old.pool new.pool
+            old.locks new.locks old.journal new.journal made.0)
+            (led_on steps ends begins hash base seat did old new is led goes a there sound made.0)
         | inr anew ↦ leads_anew anew
       ]
 

@@ -3,15 +3,22 @@ use Rattle.std.proofs.Common.{ℕ, zero, suc, ◌≡◌, ◌≢◌, ◌⊎◌, �
 use Rattle.std.specs.List.{list_any}
 use Rattle.std.proofs.lemmas.Bool.{eqb-false, eqb-true}
 use Rattle.std.proofs.lemmas.List.Elements.{All-head, All-tail}
+use Rattle.std.proofs.lemmas.List.Sums.{sum_by-append, sum_by-cons}
+use Rattle.std.specs.Prelude.{sum_by}
+use Rattle.file_pages.specs.declared.fault.FileFault.{FileFault}
+use Rattle.file_pages.specs.declared.fault.FileFault.TheVariants.{Failed}
 use Rattle.interleaving_core.proofs.PartLemmas.{AreOf, added_is_of}
 use Rattle.interleaving_core.proofs.PlaceLemmas.{at_other, at_same, length-with_call}
+use Rattle.interleaving_core.specs.Fault.{IsOfPage}
 use Rattle.interleaving_core.specs.Owing.{IsMove, failed, is_end, is_failure, told_of_failure}
+use Rattle.interleaving_core.specs.declared.fault.StepFault.TheVariants as faults
 use Rattle.interleaving_core.specs.declared.step.Step.TheVariants as steps
 use Rattle.queue_model.specs.declared.entry.Entry.TheVariants.{Decided, Stopped}
 use Rattle.queue_model.specs.Journal.{is_of}
 use Rattle.interleavings.specs.Words.{ActiveView, Answer, Call, Entry, HasCall, IsDriven, IsRefused, IsRun, IsStep, IsStopped, IsTurn, KernelState, Moves, RecordKey, Step, answer_told, call_at, call_of, with_call}
 use Rattle.interleavings.specs.Runs.{AreOfSeats, Happens, IsOfSeat, IsSeatOf, Runs}
-use Rattle.interleavings.specs.Playing.{call_along, call_behind, call_left, is_mark, is_stop, unless_over}
+use Rattle.interleavings.specs.Moments.{is_stop, marked_by, once_if}
+use Rattle.interleavings.specs.Outcomes.{call_along, call_behind, call_left, unless_over}
 use Rattle.interleavings.specs.declared.event.Event.{Event}
 use Rattle.interleavings.specs.declared.event.Event.TheVariants as events
 use Rattle.interleavings.specs.declared.event.Outcome.{Outcome}
@@ -142,6 +149,18 @@ module _ {K : Type 0} (hash : RecordKey → ℕ) (seat : ℕ) (did : Step) (old 
     | inr spent ↦ spent.told
   ]
 
+  -- of the file it is told what a page may come to
+  pub drive_page : (fault : FileFault) → did ≡ steps.Fault (faults.File fault) → IsOfPage fault
+  drive_page fault told = elim driven.ends [
+    | inl rests ↦ rests.step.turn.page fault told
+    | inr spent ↦ of_failed fault (sym spent.told ∙ told)
+  ]
+    where
+      of_failed : (fault : FileFault) → failed ≡ steps.Fault (faults.File fault) → IsOfPage fault
+      of_failed fault is =
+          let same : Failed ≡ fault = cc in
+          subst IsOfPage same tt
+
   pub drive_rests : IsMove did → ⊥
   drive_rests moves = elim driven.ends [
     | inl rests ↦ rests.rests moves
@@ -214,40 +233,41 @@ module _ {K : Type 0} (hash : RecordKey → ℕ) where
 
 -- ---- the stop
 
-no_marks : (seat : ℕ) (es : List Entry) → AreOf seat es → list_any is_mark es ≡ false
+no_marks : (seat : ℕ) (es : List Entry) → AreOf seat es → sum_by marked_by es ≡ 0
 no_marks seat [] all = refl
-no_marks seat (Decided other call answer ∷ es) all = no_marks seat es all.1
+no_marks seat (Decided other call answer ∷ es) all =
+    let both = sum_by-cons marked_by (Decided other call answer) es in
+    let rest = no_marks seat es all.1 in
+    omega (arith, both, rest)
 no_marks seat (Stopped ∷ es) all = absurd (never all.0)
   where
     never : ◌≡◌ {A = Bool} false true → ⊥
     never clash = cc
 
-marks_append : (xs ys : List Entry) → list_any is_mark (xs ++ ys) ≡ (list_any is_mark xs || list_any is_mark ys)
-marks_append [] ys = refl
-marks_append (x ∷ xs) ys = ap (λ (b : Bool). is_mark x || b) (marks_append xs ys)
-    ∙ sym (or_or (is_mark x) (list_any is_mark xs) (list_any is_mark ys))
+abbrev marks : {K : Type 0} → KernelState K → ℕ
+marks k = sum_by marked_by k.journal
 
-abbrev marks : {K : Type 0} → KernelState K → Bool
-marks k = list_any is_mark k.journal
-
--- it stands in the journal where the system is stopped
+-- it stands in the journal once where the system is stopped
 pub record IsMarkedRight {K : Type 0} (stops : Bool) (old new : KernelState K) : Type 0 where
-  pub marked : marks old ≡ old.stopped → marks new ≡ new.stopped
+  pub marked : marks old ≡ once_if old.stopped → marks new ≡ once_if new.stopped
   pub stopped : new.stopped ≡ (old.stopped || stops)
 
 ran_marked : {K : Type 0} (seat : ℕ) (answer : Option Answer) (old new : KernelState K) → IsRun seat answer old new →
     IsMarkedRight false old new
 ran_marked seat answer old new run = record {
-  marked = λ was. ap (list_any is_mark) run.journal ∙ marks_append old.journal run.added
-      ∙ ap (λ (b : Bool). marks old || b) (no_marks seat run.added (added_is_of seat answer old new run))
-      ∙ or_false (marks old) ∙ was ∙ sym run.rest.stopped;
+  marked = λ was.
+      let grown = ap (sum_by marked_by) run.journal in
+      let both = sum_by-append marked_by old.journal run.added in
+      let none = no_marks seat run.added (added_is_of seat answer old new run) in
+      let same = ap once_if run.rest.stopped in
+      omega (arith, was, grown, both, none, same);
   stopped = run.rest.stopped ∙ sym (or_false old.stopped);
 }
 
 same_marked : {K : Type 0} (old new : KernelState K) → new.journal ≡ old.journal → new.stopped ≡ old.stopped →
     IsMarkedRight false old new
 same_marked old new journal stopped = record {
-  marked = λ was. ap (list_any is_mark) journal ∙ was ∙ sym stopped;
+  marked = λ was. ap (sum_by marked_by) journal ∙ was ∙ ap once_if (sym stopped);
   stopped = stopped ∙ sym (or_false old.stopped);
 }
 
@@ -255,12 +275,17 @@ stop_marked : {K : Type 0} (old new : KernelState K) → IsStopped old new → (
     IsMarkedRight true old new
 stop_marked {K} old new stops true is = record {
   marked = λ was. ap (λ (k : KernelState K). marks k) (stops.again is) ∙ was
-      ∙ sym (ap (λ (k : KernelState K). k.stopped) (stops.again is));
+      ∙ sym (ap (λ (k : KernelState K). once_if k.stopped) (stops.again is));
   stopped = ap (λ (k : KernelState K). k.stopped) (stops.again is) ∙ is ∙ sym (or_true old.stopped);
 }
 stop_marked {K} old new stops false is = record {
-  marked = λ was. ap (λ (k : KernelState K). marks k) (stops.first is) ∙ marks_append old.journal (Stopped ∷ [])
-      ∙ or_true (marks old) ∙ sym (ap (λ (k : KernelState K). k.stopped) (stops.first is));
+  marked = λ was.
+      let grown = ap (λ (k : KernelState K). marks k) (stops.first is) in
+      let both = sum_by-append marked_by old.journal (Stopped ∷ []) in
+      let one = sum_by-cons marked_by Stopped [] in
+      let none = ap once_if is in
+      let marked = ap (λ (k : KernelState K). once_if k.stopped) (stops.first is) in
+      omega (arith, was, grown, both, one, none, marked);
   stopped = ap (λ (k : KernelState K). k.stopped) (stops.first is) ∙ sym (or_true old.stopped);
 }
 

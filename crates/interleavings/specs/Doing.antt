@@ -69,9 +69,14 @@ pub record BeginsWoken (journal : List Entry) (a by : ActiveView) : Type 0 where
   pub woken : is_woken a.machine.call a.decided journal ≡ true
   pub begins : BeginsAgain a by
 
+-- it is the call as it stands; one that was decided to wait and is over is then told so
+pub record IsAsItStands (a by : ActiveView) (did : Step) : Type 0 where
+  pub same : by ≡ a
+  pub waits : IsOver a.machine → is_waiting (conclusion_of a.machine) ≡ true → did ≡ steps.Waiting
+
 -- a step of a seat with this call: it is one of that call, or of the same call begun anew
 pub record DoesAsTold {K : Type 0} (hash : RecordKey → ℕ) (base : State) (seat : ℕ) (a : ActiveView) (did : Step)
     (before behind : Change) (old new : KernelState K) : Type 0 where
   pub by : ActiveView
-  pub is : (by ≡ a) ⊎ BeginsWoken old.journal a by
+  pub is : IsAsItStands a by did ⊎ BeginsWoken old.journal a by
   pub does : DoesBy hash base seat by did before behind old new

@@ -5,6 +5,8 @@ pub mod Refining
 pub mod Headline
 pub mod Doing
 pub mod Ending
+pub mod Outcomes
+pub mod Moments
 pub mod Playing
 pub mod Laws
 pub mod Renewing

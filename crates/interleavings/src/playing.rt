@@ -59,9 +59,9 @@ pub enum EndFault {
 ///
 /// # Errors
 ///
-/// `TooFewFrames` where there are fewer than 4 a seat and 8; `NoMemory` where there is none for the
-/// seats, the frames or the outcomes; else the first thing that is wrong with the file. The device
-/// comes back, and nothing was written.
+/// `TooFewFrames` where there are fewer than 4 a seat and 8; else the first thing that is wrong with
+/// the file; and where nothing is, `NoMemory` where there is none for the seats, the frames or the
+/// outcomes. The device comes back, and nothing was written.
 pub fn play_on<D: PageDevice + Drop, K: PseudoKey + Drop>(
     alloc: Global,
     device: D,
@@ -74,7 +74,7 @@ pub fn play_on<D: PageDevice + Drop, K: PseudoKey + Drop>(
     requires few { length callers.now ≤ MAX_SEATS }
     requires seats { AreOfSeats (length callers.now) events.items }
     ensures headline { IsTrue (D.is_honest device) → IfOk result (λ played.
-        PlaysAsPlainLists (K.of_key keys) callers.now (D.content device)
+        PlaysAsPlainLists (K.of_key keys) callers.now events.items (D.content device)
         (D.content played.device) played) }
     ensures played { IfOk result (λ played. HasPlayed events.items played) }
     ensures refused { IsTrue (D.is_honest device) → IfErr result (λ refusal.

@@ -1,23 +1,25 @@
 //! A way to make a pseudokey that keeps those that it made.
 
-ghost use Rattle.std.specs.Prelude.{◌≡◌, ◌<◌};
+ghost use Rattle.std.specs.Prelude.{◌≡◌, ◌<◌, IfOk, length};
 ghost use Rattle.kept_keys.specs.declared.kept_keys.TheConstants.{SLOTS};
 
 use crate::alike::Alike;
 use crate::kept::Kept;
 use bucket_page::{PseudoKey, RecordKey};
+use std::alloc::{AllocError, Global};
 use std::cell::Cell;
 use std::marker::Model;
 
 /// How many pseudokeys are kept.
-pub const SLOTS: usize = 1_024;
+pub const SLOTS: usize = 8_192;
 
 /// Makes the pseudokeys of another way, and keeps them: each in the slot of its key, where it
 /// takes the place of an older one.
 #[derive(Drop)]
 pub struct KeptKeys<K: Alike> {
     keys: K,
-    slots: [Cell<Option<Kept<K>>>; SLOTS],
+    slots: Vec<Cell<Option<Kept<K>>>>,
+    ghost many: { length slots.items ≡ SLOTS },
 }
 
 impl<K: Alike> Model for KeptKeys<K> {
@@ -26,15 +28,13 @@ impl<K: Alike> Model for KeptKeys<K> {
     ghost view = { λ k. k.keys };
 }
 
-impl<K: Alike> KeptKeys<K> {
-    /// Keeps none at first.
-    pub fn new(keys: K) -> KeptKeys<K>
-        ensures { result ≡ keys }
+impl<K: Alike + Drop> KeptKeys<K> {
+    /// Keeps none at first. All memory is taken here.
+    pub fn new(alloc: Global, keys: K) -> Result<KeptKeys<K>, AllocError>
+        ensures { IfOk result (λ kept. kept ≡ keys) }
     {
-        KeptKeys {
-            keys,
-            slots: std::array::from_fn(|_| Cell::new(None)),
-        }
+        let slots = vec![in alloc; Cell::new(None); SLOTS]?;
+        Ok(KeptKeys { keys, slots })
     }
 }
 

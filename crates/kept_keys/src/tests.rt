@@ -5,7 +5,7 @@ use bucket_page::{NumberKey, PseudoKey, RecordKey, ShaKey};
 use std::cell::Cell;
 use std::test::Fail;
 
-/// A message's key. Those of a number and of the 1,024th behind it have one slot.
+/// A message's key. Those of a number and of the 8,192nd behind it have one slot.
 fn message(number: u64) -> RecordKey {
     RecordKey {
         kind: 5,
@@ -16,9 +16,9 @@ fn message(number: u64) -> RecordKey {
 
 #[test]
 fn keys_that_share_slots_have_their_own_pseudokeys(rt: HostRuntime) -> Result<(), Fail> {
-    let kept = KeptKeys::new(ShaKey);
+    let kept = KeptKeys::new(rt.alloc(), ShaKey)?;
     for number in 0..100 {
-        for asked in [number, number, number + 1_024, number + 1, number] {
+        for asked in [number, number, number + 8_192, number + 1, number] {
             assert!(rt; kept.of(&message(asked)) == ShaKey.of(&message(asked)));
         }
     }
@@ -54,8 +54,8 @@ impl Alike for Counted<'_> {
 #[test]
 fn a_pseudokey_that_is_kept_is_not_computed_again(rt: HostRuntime) -> Result<(), Fail> {
     let asked = Cell::new(0);
-    let kept = KeptKeys::new(Counted { asked: &asked });
-    for (number, count) in [(1, 1), (1, 1), (2, 2), (1, 2), (1_025, 3), (2, 3), (1, 4)] {
+    let kept = KeptKeys::new(rt.alloc(), Counted { asked: &asked })?;
+    for (number, count) in [(1, 1), (1, 1), (2, 2), (1, 2), (8_193, 3), (2, 3), (1, 4)] {
         assert!(rt; u64::from(kept.of(&message(number))) == number);
         assert!(rt; asked.get() == count);
     }

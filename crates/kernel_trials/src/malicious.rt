@@ -3,11 +3,12 @@
 
 use crate::cases::Left::{Bytes, Header};
 use crate::cases::{Case, close, page_of, run};
+use crate::malicious::Damage::{Edit, Splice};
 use crate::rows::CALLERS;
 use crate::splitting::{FULL_BUCKET, SPLIT};
 use bucket_page::NumberKey;
 use interleaving_core::Kernel;
-use page_device::{MemDevice, PAGE_BYTES, PAYLOAD_BYTES, PageDevice, seal, unseal};
+use page_device::{MemDevice, PAGE_BYTES, PAYLOAD_BYTES, PageDevice, Payload, seal, unseal};
 use std::process::Abort;
 use std::test::Fail;
 
@@ -21,16 +22,49 @@ pub const TWO_BUCKETS: Case = Case {
     left: &[Bytes(257, 2500), Bytes(258, 2235), Header(1, 259)],
 };
 
-/// A byte that is changed: its page, its place in the payload, and what it becomes.
+/// What is changed of a page.
 #[derive(Clone, Copy)]
-struct Edit(u32, usize, u8);
+enum Damage {
+    /// A byte at a place of the payload becomes this.
+    Edit(u32, usize, u8),
+    /// From a place on so many bytes of the payload are taken out and these put in; and the count of
+    /// records and that of their bytes become these.
+    Splice(u32, usize, usize, &'static [u8], u8, u16),
+}
+
+impl Damage {
+    /// The page that is changed.
+    fn page(self) -> u32 {
+        match self {
+            Edit(page, _, _) => page,
+            Splice(page, _, _, _, _, _) => page,
+        }
+    }
+}
 
 /// No change: page 0 is of kind 1.
-const NONE: Edit = Edit(0, 0, 1);
+const NONE: Damage = Edit(0, 0, 1);
+
+/// A Key record: key 7 is of queue 1.
+const KEY: [u8; 19] = [0, 4, 2, 0, 0, 0, 0, 0, 0, 0, 0, 0, 0, 0, 7, 0, 0, 0, 1];
+
+/// A Type record: of type 4 queue 1 has the messages 1 to 4.
+const TYPE: [u8; 47] = [
+    0, 32, 4, 0, 0, 0, 1, 0, 0, 0, 0, 0, 0, 0, 4, 0, 0, 0, 0, 0, 0, 0, 1, 0, 0, 0, 0, 0, 0, 0, 4,
+    0, 0, 0, 0, 0, 0, 0, 0, 0, 0, 0, 0, 0, 0, 0, 0,
+];
+
+/// A record of kind 6, which is none, and number 0.
+const KIND_6: [u8; 19] = [0, 4, 6, 0, 0, 0, 0, 0, 0, 0, 0, 0, 0, 0, 0, 0, 0, 0, 1];
+
+/// The payload of a tombstone that links to page 258, as far as it is not zero.
+const TOMBSTONE: [u8; 8] = [4, 0, 0, 0, 0, 0, 1, 2];
 
 /// Changes by docs/FORMAT.md, each of which is sealed again, and the number that is told; 0 where
-/// the file is opened.
-const ROWS: [([Edit; 2], u8); 33] = [
+/// the file is opened. Page 257 has the Counter (23 bytes from byte 16 on), two Queues (114 each),
+/// the Type of queue 2 (47), messages 2 and 4 of queue 1 (1,075 each) and that of queue 2 (52); page
+/// 258 the two Keys (19 each from byte 16 on), the Type of queue 1 (47), messages 1 and 3.
+const ROWS: [([Damage; 2], u8); 38] = [
     // nothing; entry 2 is 9999, which nothing reads
     ([NONE, NONE], 0),
     ([Edit(1, 26, 0x27), Edit(1, 27, 0x0f)], 0),
@@ -73,6 +107,19 @@ const ROWS: [([Edit; 2], u8); 33] = [
     // queue 1 has 3 messages, or behind its message 4 stands its message 1
     ([Edit(257, 70, 3), NONE], 73),
     ([Edit(257, 1431, 1), NONE], 73),
+    // 257 is a tombstone; key 7 is moved there; a Type of queue 1 is added, a record of kind 6; the
+    // Counter is taken out
+    ([Splice(257, 0, 2516, &TOMBSTONE, 0, 0), NONE], 70),
+    (
+        [
+            Splice(258, 16, 19, &[], 4, 2216),
+            Splice(257, 39, 0, &KEY, 8, 2519),
+        ],
+        74,
+    ),
+    ([Splice(257, 267, 0, &TYPE, 8, 2547), NONE], 74),
+    ([Splice(257, 2516, 0, &KIND_6, 8, 2519), NONE], 43),
+    ([Splice(257, 16, 23, &[], 6, 2477), NONE], 73),
 ];
 
 /// The file of two queues.
@@ -88,14 +135,34 @@ fn opens(rt: &(impl Abort + AllocGlobal), device: MemDevice) -> (MemDevice, u8) 
     }
 }
 
-/// Changes a byte, and seals its page again.
-fn change(rt: &impl Abort, device: &mut MemDevice, edit: Edit) -> Result<(), Fail> {
-    let Edit(page, place, byte) = edit;
-    let mut payload = unseal(page, &page_of(device, page)?)?;
-    assert!(rt; place < PAYLOAD_BYTES);
-    payload[place] = byte;
-    device.write(page, &seal(page, &payload))?;
+/// Changes a page, and seals it again.
+fn change(rt: &impl Abort, device: &mut MemDevice, damage: Damage) -> Result<(), Fail> {
+    let page = damage.page();
+    let payload = unseal(page, &page_of(device, page)?)?;
+    device.write(page, &seal(page, &changed(rt, &payload, damage)))?;
     Ok(())
+}
+
+/// A payload once it is changed.
+fn changed(rt: &impl Abort, payload: &Payload, damage: Damage) -> Payload {
+    let mut to = *payload;
+    match damage {
+        Edit(_, place, byte) => {
+            assert!(rt; place < PAYLOAD_BYTES);
+            to[place] = byte;
+        }
+        Splice(_, at, out, put, count, bytes) => {
+            assert!(rt; at <= PAYLOAD_BYTES && out <= PAYLOAD_BYTES - at);
+            to = [0; PAYLOAD_BYTES];
+            let front = payload[..at].iter().chain(put);
+            for (byte, from) in to.iter_mut().zip(front.chain(&payload[at + out..])) {
+                *byte = *from;
+            }
+            to[3] = count;
+            [to[12], to[13]] = bytes.to_be_bytes();
+        }
+    }
+    to
 }
 
 #[test]
@@ -103,20 +170,26 @@ fn a_changed_file_is_refused_by_its_number(rt: HostRuntime) -> Result<(), Fail> 
     let mut device = two_buckets(&rt)?;
     for (place, ([first, second], want)) in ROWS.iter().enumerate() {
         let whole = [
-            page_of(&mut device, first.0)?,
-            page_of(&mut device, second.0)?,
+            page_of(&mut device, first.page())?,
+            page_of(&mut device, second.page())?,
         ];
         change(&rt, &mut device, *first)?;
         change(&rt, &mut device, *second)?;
         let changed = [
-            page_of(&mut device, first.0)?,
-            page_of(&mut device, second.0)?,
+            page_of(&mut device, first.page())?,
+            page_of(&mut device, second.page())?,
         ];
         let (mut back, number) = opens(&rt, device);
         assert!(rt; number == *want, "row {place}: {number}");
-        assert!(rt; changed == [page_of(&mut back, first.0)?, page_of(&mut back, second.0)?]);
-        back.write(first.0, &whole[0])?;
-        back.write(second.0, &whole[1])?;
+        assert!(rt;
+            changed
+                == [
+                    page_of(&mut back, first.page())?,
+                    page_of(&mut back, second.page())?,
+                ]
+        );
+        back.write(first.page(), &whole[0])?;
+        back.write(second.page(), &whole[1])?;
         device = back;
     }
     Ok(())

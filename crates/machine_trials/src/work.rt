@@ -12,8 +12,7 @@ use buffer_pool::Pool;
 use file_pages::FileFault;
 use page_device::PageDevice;
 use page_locks::{LockKind, LockTable};
-use record_file::Tried;
-use record_operation::RecordOperation;
+use record_operation::{RecordOperation, Tried};
 use stale_search::{Search, SearchPlace};
 use step_rules::Progress;
 

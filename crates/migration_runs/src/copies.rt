@@ -1,9 +1,11 @@
 //! The subcommands `migrate` and `copy`.
 
-ghost use Rattle.std.specs.Prelude.{◌≡◌, ◌≤◌, []};
+ghost use Rattle.std.specs.Prelude.{◌≡◌, ◌≤◌, [], IsTrue, IfErr, IfOk};
+ghost use Rattle.bucket_page.specs.Pseudokeys.{sha_key};
 ghost use Rattle.directory.specs.Layouts.{IsLayout};
 ghost use Rattle.directory.specs.declared.layout.TheConstants.{LEAST_PAGES};
 ghost use Rattle.page_device.specs.declared.page.TheConstants.{MAX_PAGES};
+ghost use Rattle.migration.specs.Copying.{IsCopied, IsToldOfOld};
 ghost use Rattle.migration_runs.specs.Printing.{HasSize, IsDoneOrFault, deed_of};
 
 use crate::unmade::complain_of_unmade;
@@ -15,7 +17,6 @@ use msgq_cli::{
     create_file, fail, open_to_read, print_deed, remove_made, warn_of_journal,
 };
 use page_device::{FileDevice, PageDevice, SystemFile};
-use queue_model::System;
 use std::alloc::Global;
 use std::fs::File;
 use std::io::{self, IsTerminal, Write};
@@ -114,7 +115,16 @@ where
         remove_made(rt, new, errors);
         return fail(Stage::Making, faults::NO_MEMORY, output);
     };
-    let found = copy_on(rt.alloc(), size, device, FileDevice::new(heard, 0), errors);
+    let target = Target {
+        pages: size.pages(device.pages()),
+        device: FileDevice::new(heard, 0),
+    };
+    let copied = copy_on(rt.alloc(), &size.layout(), device, target, errors);
+    let Copied {
+        old: _,
+        new: _,
+        found,
+    } = copied;
     match found {
         Ok(system) => {
             print_deed(size.deed(), &system, output);
@@ -128,31 +138,43 @@ where
     }
 }
 
-/// Makes the new file on a device, and shows on a terminal how far it is.
-fn copy_on<O, N, E>(
+/// Makes a new file of the file on a device, as `migration::copy` does. Where they are large and
+/// `errors` a terminal, that shows how far it has come, which changes nothing of what `copy`
+/// promises.
+pub fn copy_on<O, N, E>(
     alloc: Global,
-    size: Size,
+    layout: &Layout,
     old: O,
-    new: N,
+    target: Target<N>,
     errors: &mut E,
-) -> Result<System, CopyFault>
+) -> Copied<O, N>
 where
-    O: PageDevice + Drop,
-    N: PageDevice + Drop,
+    O: PageDevice,
+    N: PageDevice,
     E: Write + IsTerminal,
-    requires size { HasSize size }
-    requires empty { N.content new ≡ [] }
+    requires layout { IsLayout layout.now }
+    requires empty { N.content target.device ≡ [] }
+    requires least { LEAST_PAGES ≤ target.pages }
+    requires most { target.pages ≤ MAX_PAGES }
+    ensures ok { IsTrue (O.is_honest old) → IsTrue (N.is_honest target.device) →
+        IfOk result.found (IsCopied layout.now sha_key target.pages
+        (O.content old) (N.content result.new)) }
+    ensures err { IsTrue (O.is_honest old) →
+        IfErr result.found (IsToldOfOld layout.now sha_key (O.content old)) }
+    ensures same { O.content result.old ≡ O.content old }
 {
     let progress = Progress::new(errors);
     let target = Target {
-        pages: size.pages(old.pages()),
-        device: Shown::new(new, &progress),
+        pages: target.pages,
+        device: Shown::new(target.device, &progress),
     };
     let old = Shown::new(old, &progress);
-    let Copied { old, new, found } = copy(alloc, &size.layout(), old, target, ShaKey);
-    let _ = old.into_device();
-    let _ = new.into_device();
-    found
+    let Copied { old, new, found } = copy(alloc, layout, old, target, ShaKey);
+    Copied {
+        old: old.into_device(),
+        new: new.into_device(),
+        found,
+    }
 }
 
 /// Says why a file did not become a new one, and tells what was being done.

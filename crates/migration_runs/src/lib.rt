@@ -6,6 +6,6 @@ mod copies;
 mod salvages;
 mod unmade;
 
-pub use copies::{CopyRequest, Size, copy_file};
+pub use copies::{CopyRequest, Size, copy_file, copy_on};
 pub use msgq_cli;
-pub use salvages::{SalvageRequest, salvage_file};
+pub use salvages::{SalvageRequest, salvage_file, salvage_on};

@@ -1,8 +1,10 @@
 //! The subcommand `salvage`.
 
-ghost use Rattle.std.specs.Prelude.{◌≡◌, ◌≤◌, ◌++◌, []};
+ghost use Rattle.std.specs.Prelude.{◌≡◌, ◌≤◌, ◌++◌, [], IsTrue, IfOk};
+ghost use Rattle.bucket_page.specs.Pseudokeys.{sha_key};
 ghost use Rattle.directory.specs.declared.layout.TheConstants.{LEAST_PAGES};
 ghost use Rattle.page_device.specs.declared.page.TheConstants.{MAX_PAGES};
+ghost use Rattle.migration.specs.Copying.{IsMadeOf};
 ghost use Rattle.msgq_cli.specs.Outputs.{Prints};
 ghost use Rattle.msgq_cli.specs.Reports.{deed_text};
 ghost use Rattle.msgq_cli.specs.Tasks.{IsFileSize};
@@ -73,7 +75,12 @@ where
         device: FileDevice::new(heard, 0),
         pages,
     };
-    match salvage_on(rt.alloc(), device, target, errors) {
+    let Salvaged {
+        old: _,
+        new: _,
+        found,
+    } = salvage_on(rt.alloc(), device, target, errors);
+    match found {
         Ok(rescue) => {
             print_rescue(&rescue, output);
             tell_losses(old, &rescue.losses, errors);
@@ -120,20 +127,25 @@ where
     Ok(Some(FileDevice::new(SystemFile::new(opened), pages)))
 }
 
-/// Makes the new file on a device, and shows on a terminal how far it is.
-fn salvage_on<O, N, E>(
+/// Makes a new file of what can be read on a device, as `salvage::salvage` does. Where they are
+/// large and `errors` a terminal, that shows how far it has come, which changes nothing of what
+/// `salvage` promises.
+pub fn salvage_on<O, N, E>(
     alloc: Global,
     old: O,
     target: Target<N>,
     errors: &mut E,
-) -> Result<Rescue, SalvageFault>
+) -> Salvaged<O, N>
 where
-    O: PageDevice + Drop,
-    N: PageDevice + Drop,
+    O: PageDevice,
+    N: PageDevice,
     E: Write + IsTerminal,
     requires empty { N.content target.device ≡ [] }
     requires least { LEAST_PAGES ≤ target.pages }
     requires most { target.pages ≤ MAX_PAGES }
+    ensures ok { IsTrue (N.is_honest target.device) → IfOk result.found (λ rescue.
+        IsMadeOf sha_key target.pages (N.content result.new) rescue.system) }
+    ensures same { O.content result.old ≡ O.content old }
 {
     let progress = Progress::new(errors);
     let target = Target {
@@ -141,9 +153,11 @@ where
         pages: target.pages,
     };
     let Salvaged { old, new, found } = salvage(alloc, Shown::new(old, &progress), target, &ShaKey);
-    let _ = old.into_device();
-    let _ = new.into_device();
-    found
+    Salvaged {
+        old: old.into_device(),
+        new: new.into_device(),
+        found,
+    }
 }
 
 /// Prints how much was salvaged, and which pages can't be read.

@@ -2,20 +2,25 @@
 
 ghost use Rattle.msgq_cli.specs.Tasks.{HasPages};
 
+use crate::crew::ThreadASeat;
+use crate::scripts::{run_file, serve};
 use migration_runs::{CopyRequest, SalvageRequest, Size, copy_file, salvage_file};
-use script_runs::msgq_cli::{
-    Ending, Output, Task, advise, complain, complain_of_lines, new_file, report_file,
-};
-use script_runs::replays::{Sources, replay_file};
-use script_runs::{run_file, serve};
-use std::io::{IsTerminal, Write};
+use msgq_cli::{Ending, Output, Task, advise, complain, complain_of_lines, new_file, report_file};
+use replays::{Sources, replay_file};
+use std::fs::File;
+use std::io::{Eprint, IsTerminal, Write};
+use std::rt::Files;
+use std::sync::Wait;
+use std::thread::Threads;
+use std::time::Clock;
 
 /// What faults of lines are told of, where a script is run without a file.
 const MEMORY: &str = "the file in memory";
 
 /// Does what a command line asks for, and gives the exit status.
-pub fn fixed<W, E>(rt: &HostRuntime, task: Task<'_>, output: &mut Output<W>, errors: &mut E) -> u8
+pub fn fixed<R, W, E>(rt: &R, task: Task<'_>, output: &mut Output<W>, errors: &mut E) -> u8
 where
+    R: Files<File = File> + AllocGlobal + Input + Clock + Eprint + Threads + Wait + Sync,
     W: Write + Drop,
     E: Write + IsTerminal,
     requires pages { HasPages task }
@@ -34,8 +39,9 @@ where
 
 /// Does what a command line asks for. Standard error is told what can be done with a file that is
 /// refused.
-fn perform<W, E>(rt: &HostRuntime, task: Task<'_>, output: &mut Output<W>, errors: &mut E) -> Ending
+fn perform<R, W, E>(rt: &R, task: Task<'_>, output: &mut Output<W>, errors: &mut E) -> Ending
 where
+    R: Files<File = File> + AllocGlobal + Input + Clock + Eprint + Threads + Wait + Sync,
     W: Write + Drop,
     E: Write + IsTerminal,
     requires pages { HasPages task }
@@ -60,11 +66,13 @@ where
             file,
             script,
             schedule,
+            is_traced,
         } => {
             let sources = Sources {
                 file,
                 script,
                 schedule,
+                is_traced,
             };
             (file.path, replay_file(rt, sources, output, errors))
         }
@@ -75,12 +83,14 @@ where
 }
 
 /// Runs the script of standard input on a file in memory.
-fn serve_input<W, E>(rt: &HostRuntime, output: &mut Output<W>, errors: &mut E) -> Ending
+fn serve_input<R, W, E>(rt: &R, output: &mut Output<W>, errors: &mut E) -> Ending
 where
+    R: Files<File = File> + AllocGlobal + Input + Clock + Eprint + Threads + Wait + Sync,
     W: Write + Drop,
-    E: Write,
+    E: Write + IsTerminal,
 {
-    let ending = serve(rt.alloc(), &mut rt.reader(), output, errors);
+    let crew = ThreadASeat::new(rt, rt.alloc(), errors.is_terminal());
+    let ending = serve(&crew, &mut rt.reader(), output, errors);
     complain_of_lines(MEMORY, None, output, errors);
     ending
 }

@@ -3,8 +3,11 @@
 
 #![tactic(auto)]
 
+mod crew;
 mod fixed;
 mod input;
+mod runs;
+mod scripts;
 mod shell;
 mod stack;
 mod trouble;
@@ -13,51 +16,59 @@ use clap::Error;
 use clap::error::ErrorKind;
 use command_words::read_command;
 use fixed::fixed;
-use script_runs::msgq_cli::{Output, print_fault, read_command_line};
+use msgq_cli::{Output, print_fault, read_command_line};
 use shell::shell;
 use stack::has_stack;
 use std::fs::{File, OpenOptions};
 use std::io;
-use std::io::{BufWriter, Write};
+use std::io::{BufWriter, Eprint, Write};
 use std::os::fd::{AsRawFd, RawFd};
 use std::process::ExitCode;
+use std::rt::Files;
+use std::sync::Wait;
+use std::thread::Threads;
+use std::time::Clock;
 
 fn main(rt: HostRuntime) -> ExitCode {
     if !has_stack(rt.alloc()) {
         return without_memory(&rt);
     }
-    act(rt)
+    act(&rt, &rt)
 }
 
-/// Does what the command line asks for. What it takes of the stack is not taken by `main`.
+/// Does what the command line asks for. What it takes of the stack is not taken by `main`, which alone
+/// has threads: so it hands them on.
 #[inline(never)]
-fn act(rt: HostRuntime) -> ExitCode {
+fn act<R>(rt: &HostRuntime, threads: &R) -> ExitCode
+where
+    R: Files<File = File> + AllocGlobal + Input + Clock + Eprint + Threads + Wait + Sync,
+{
     let alloc = rt.alloc();
-    let _input = hold(&rt, 0);
-    let _output = hold(&rt, 1);
-    let _errors = hold(&rt, 2);
-    let words = match words(&rt) {
+    let _input = hold(rt, 0);
+    let _output = hold(rt, 1);
+    let _errors = hold(rt, 2);
+    let words = match words(rt) {
         Ok(words) => words,
-        Err(error) if error.kind() == io::ErrorKind::OutOfMemory => return without_memory(&rt),
+        Err(error) if error.kind() == io::ErrorKind::OutOfMemory => return without_memory(rt),
         Err(_) => {
             let _ = writeln!(rt.stderr(), "msgq: a word of the command line is not UTF-8");
             return ExitCode::from(2);
         }
     };
     match read_command(alloc, words.as_slice()) {
-        Ok(Some(task)) => return ExitCode::from(shell(&rt, &task).number()),
+        Ok(Some(task)) => return ExitCode::from(shell(rt, &task).number()),
         Ok(None) => {}
-        Err(error) => return tell(&rt, error),
+        Err(error) => return tell(rt, error),
     }
     let task = match read_command_line(alloc, words.as_slice()) {
         Ok(task) => task,
-        Err(error) => return tell(&rt, error),
+        Err(error) => return tell(rt, error),
     };
-    let Ok(writer) = BufWriter::new(alloc, io::writer(&rt)) else {
-        return without_memory(&rt);
+    let Ok(writer) = BufWriter::new(alloc, io::writer(rt)) else {
+        return without_memory(rt);
     };
     let mut output = Output::new(writer);
-    ExitCode::from(fixed(&rt, task, &mut output, &mut rt.stderr()))
+    ExitCode::from(fixed(threads, task, &mut output, &mut rt.stderr()))
 }
 
 /// Takes the place of a standard stream that is closed, so that no file which is opened later gets

@@ -2,12 +2,12 @@
 
 use command_runs::CommandError;
 use interleaving_core::OpenFault;
+use msgq_cli::{
+    Ending, Failure, Plain, Stage, advise, complain, complain_of_fault, complain_of_refused,
+};
 use queue_commands::{Command, ExitStatus, QueueName, Sending};
 use queue_model::{Caller, Errno, MAX_QBYTES};
 use rollback_journal::{OpenError, Refused};
-use script_runs::msgq_cli::{
-    Ending, Failure, Plain, Stage, advise, complain, complain_of_fault, complain_of_refused,
-};
 use std::io;
 use std::io::Write;
 

@@ -50,7 +50,7 @@ impl Called {
     pub fn new(alloc: Global, plan: &Plan) -> anyhow::Result<Called> {
         let mut device = MemDevice::new(alloc);
         format(&mut device, PAGES)?;
-        let keys = KeptKeys::new(ShaKey);
+        let keys = KeptKeys::new(alloc, ShaKey)?;
         let kernel = match Kernel::open(alloc, device, keys, &[CALLER], PAGES as usize) {
             Ok(kernel) => kernel,
             Err((_, fault)) => return Err(fault.into()),

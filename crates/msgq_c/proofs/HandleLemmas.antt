@@ -65,7 +65,7 @@ not_made call Tells (Some k) some = record {
   new = k;
   after_is = refl;
   result = Err unanswered.NoMemory;
-  calls = record { becomes = λ s holds. holds; caller = refl };
+  calls = record { becomes = λ s holds. holds; caller = refl; saved = refl };
   code_is = refl;
   tells = λ answer is. absurd cc;
 }

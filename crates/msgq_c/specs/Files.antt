@@ -1,9 +1,9 @@
 -- What the exports promise that open, read, stop and close a session.
-use Rattle.std.specs.Prelude.{ℕ, ◌≡◌, ◌≤◌, ◌/◌, ◌⊎◌, List, Option, Some, None, Result, Ok, Err, length}
+use Rattle.std.specs.Prelude.{ℕ, ◌≡◌, ◌≤◌, ◌/◌, ◌⊎◌, Bool, true, false, List, Option, Some, None, Result, Ok, Err, length}
 use Rattle.page_device.specs.declared.page.TheConstants.{PAGE_BYTES}
 use Rattle.queue_model.specs.declared.caller.Caller.{Caller}
 use Rattle.session.specs.Words.{IsFaultNumber, OpenFault, open_number_of}
-use Rattle.session.specs.Session.{GivesPage, Opens, OpensNew, SessionState, Stops, pages_in, pages_of}
+use Rattle.session.specs.Session.{GivesPage, NotesSave, Opens, OpensNew, SessionState, Stops, TellsChanges, pages_in, pages_of}
 use Rattle.msgq_c.specs.Held.{KeptSession}
 use Rattle.msgq_c.specs.declared.codes.TheConstants.{DONE, FAILED, IN_USE, NO_MEMORY, NO_PAGE, NO_SESSION}
 use Rattle.msgq_c.specs.declared.files.Owner.{Owner}
@@ -66,6 +66,36 @@ pub record IsPastEnd (page code : ℕ) (old : SessionState) (after : KeptSession
 
 abbrev pub CopiesPage : ℕ → (into : List ℕ) → ℕ → (old after : KeptSession) → Type 0
 CopiesPage page into = Of (λ old code after. IsPastEnd page code old after ⊎ IsCopied page into code old after)
+
+-- the number of a page, or that there is none such
+abbrev pub IsNumbered : Option ℕ → (page code : ℕ) → Type 0
+IsNumbered (Some next) page code = (code ≡ DONE) × (page ≡ next)
+IsNumbered None page code = code ≡ NO_PAGE
+
+-- what the session tells of its changed pages
+pub record IsNextPage (from page code : ℕ) (old : SessionState) (after : KeptSession) : Type 0 where
+  pub after_is : after ≡ Some old
+  pub told : Option ℕ
+  pub tells : TellsChanges from told old
+  pub numbered : IsNumbered told page code
+
+abbrev pub TellsNextPage : (from page : ℕ) → ℕ → (old after : KeptSession) → Type 0
+TellsNextPage from page = Of (λ old code after. IsNextPage from page code old after)
+
+abbrev pub saved_code : Bool → ℕ
+saved_code true = DONE
+saved_code false = FAILED
+
+-- its pages are noted as saved, or it has failed
+pub record IsNoted (code : ℕ) (old : SessionState) (after : KeptSession) : Type 0 where
+  pub new : SessionState
+  pub after_is : after ≡ Some new
+  pub saved : Bool
+  pub notes : NotesSave saved old new
+  pub code_is : code ≡ saved_code saved
+
+abbrev pub NotesHandle : ℕ → (old after : KeptSession) → Type 0
+NotesHandle = Of (λ old code after. IsNoted code old after)
 
 abbrev pub StopsHandle : ℕ → (old after : KeptSession) → Type 0
 StopsHandle = Of (λ old code after. (code ≡ DONE) × ((new : SessionState) × (after ≡ Some new) × Stops old new))

@@ -2,7 +2,7 @@
 
 ghost use Rattle.std.specs.Prelude.{◌≡◌, IsNone};
 ghost use Rattle.session.specs.Words.{CanHavePages};
-ghost use Rattle.msgq_c.specs.Files.{Closes, CopiesPage, Counts, Creates, HasNoSuchSize, IsKept, OpensHandle, StopsHandle, caller_of};
+ghost use Rattle.msgq_c.specs.Files.{Closes, CopiesPage, Counts, Creates, HasNoSuchSize, IsKept, NotesHandle, OpensHandle, StopsHandle, TellsNextPage, caller_of};
 
 use crate::codes::{DONE, FAILED, IN_USE, NO_MEMORY, NO_PAGE, NO_SESSION};
 use crate::handle::Handle;
@@ -102,6 +102,47 @@ pub extern "C" fn msgq_session_page(
         }
         None => FAILED,
     }
+}
+
+/// The first page from this one on that has changed since the pages were saved; there is no such
+/// page where no other has. Each page between is as it was saved.
+#[unsafe(no_mangle)]
+pub extern "C" fn msgq_session_next_changed(
+    alloc: Global,
+    handle: &mut Handle,
+    from: u32,
+    page: &mut u32,
+) -> u32
+    ensures { TellsNextPage from page.new result handle.old.held.session handle.new.held.session }
+{
+    if !handle.is_open {
+        return NO_SESSION;
+    }
+    let session = handle.take(alloc);
+    let told = session.next_changed(from);
+    handle.put(session);
+    match told {
+        Some(next) => {
+            *page = next;
+            DONE
+        }
+        None => NO_PAGE,
+    }
+}
+
+/// Notes that the pages are saved, for who has written each that has changed: the others are told
+/// as changed once they change again.
+#[unsafe(no_mangle)]
+pub extern "C" fn msgq_session_note_saved(alloc: Global, handle: &mut Handle) -> u32
+    ensures { NotesHandle result handle.old.held.session handle.new.held.session }
+{
+    if !handle.is_open {
+        return NO_SESSION;
+    }
+    let mut session = handle.take(alloc);
+    let is_saved = session.note_saved();
+    handle.put(session);
+    if is_saved { DONE } else { FAILED }
 }
 
 /// Stops the system: from here on a call that would wait is refused.

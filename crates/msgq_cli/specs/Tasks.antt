@@ -25,7 +25,7 @@ abbrev pub HasPages : Task → Type 0
 HasPages Serve = ⊤
 HasPages (New file pages) = IsFileSize pages
 HasPages (Run file script) = ⊤
-HasPages (Replay file script schedule) = ⊤
+HasPages (Replay file script schedule is_traced) = ⊤
 HasPages (Migrate old new) = ⊤
 HasPages (Copy old new pages) = IsFileSize pages
 HasPages (Salvage old new pages) = IsFileSize pages
@@ -40,7 +40,7 @@ abbrev pub ReadsInputOnce : Task → Type 0
 ReadsInputOnce Serve = ⊤
 ReadsInputOnce (New file pages) = ⊤
 ReadsInputOnce (Run file script) = ⊤
-ReadsInputOnce (Replay file script schedule) = (is_input script.now && is_input schedule.now) ≡ false
+ReadsInputOnce (Replay file script schedule is_traced) = (is_input script.now && is_input schedule.now) ≡ false
 ReadsInputOnce (Migrate old new) = ⊤
 ReadsInputOnce (Copy old new pages) = ⊤
 ReadsInputOnce (Salvage old new pages) = ⊤

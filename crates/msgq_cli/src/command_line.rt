@@ -47,6 +47,8 @@ pub enum Task<'a> {
         script: &'a str,
         /// The schedule.
         schedule: &'a str,
+        /// Whether each event is told on standard error.
+        is_traced: bool,
     },
     /// A file of version 1 becomes one of today's.
     Migrate {
@@ -97,6 +99,8 @@ const VERBOSE: &str = "verbose";
 
 const WAIT: &str = "wait";
 
+const TRACE: &str = "trace";
+
 /// What is said of PAGES.
 const SIZE: &str = "How many pages of 4,096 bytes it has: 258 to 65,536";
 
@@ -132,6 +136,7 @@ pub fn read_command_line<'a>(alloc: Global, words: &'a [String]) -> Result<Task<
             file: opening(arguments),
             script,
             schedule,
+            is_traced: arguments.get_flag(TRACE),
         });
     }
     if name == "migrate" {
@@ -256,13 +261,18 @@ fn run_command<'a>(alloc: Global) -> Result<Command<'a>, AllocError> {
 fn replay_command<'a>(alloc: Global) -> Result<Command<'a>, AllocError> {
     let script = argument(alloc, SCRIPT).help("The script, or - for that of standard input");
     let schedule = argument(alloc, SCHEDULE).help("The schedule, or - for that of standard input");
+    let trace = Arg::new(alloc, TRACE)
+        .long(TRACE)
+        .action(ArgAction::SetTrue)
+        .help("Tells on standard error each step as it is made, and who blocks whom");
     Command::new(alloc, "replay")
         .about("Runs the lines of several seats beside one another, by a schedule")
         .after_help(REPLAY_PRINTS)
         .arg(argument(alloc, FILE).help("The file"))?
         .arg(script)?
         .arg(schedule)?
-        .arg(wait_argument(alloc))
+        .arg(wait_argument(alloc))?
+        .arg(trace)
 }
 
 /// The option of a command that changes a file.

@@ -25,9 +25,6 @@ use std::{fs, io};
 /// A script of this name is that of standard input.
 pub const STANDARD_INPUT: &str = "-";
 
-/// A file that is run on has as many frames as pages, up to this number.
-pub const MOST_FRAMES: usize = 16_384;
-
 /// What is said of a file that can't be made, or opened.
 const CANT_BE_MADE: &str = "it can't be made";
 

@@ -27,6 +27,10 @@ command line is wrong.";
 
 /// After the help of `run`.
 pub(crate) const RUN_PRINTS: &str = "\
+Each seat makes its lines in a thread of its own, beside the other seats. A script of several seats
+whose calls wait for ever makes this wait: end it by a line 'stop' of one more seat, write 'nowait',
+or use replay. In a script of one seat the first call that would wait stops the system. On a
+terminal, standard error shows how many lines of several seats are answered.
 Prints the number and the answer of each line; 'fault 20' alone where SCRIPT can't be read,
 'fault N' alone where FILE is not opened, 'fault N' behind the answers where FILE is not closed
 well.
@@ -41,6 +45,8 @@ it the seats make a step each, in turns, until all lines are answered.
 Prints the number and the answer of each line, in the order of SCRIPT; 'fault 20' alone where SCRIPT
 or SCHEDULE can't be read, 'fault N' alone where FILE is not opened, 'fault N' behind the answers
 where a line is left that no seat can finish, or FILE is not closed well.
+With --trace standard error has a line for each event: 'SEAT begins LINE', 'SEAT KIND' for a step,
+'SEAT blocked by SEAT', 'SEAT waits', 'SEAT replied LINE', or 'stop'. Nothing else changes by it.
 Exit status 0, 1 where a fault was printed or standard output refused a write, 2 where the command
 line, SCRIPT or SCHEDULE is wrong: then nothing was run, and standard error says 'script line N' or
 'schedule word N'.";

@@ -36,8 +36,8 @@ pub use complaint::{
 pub use ending::{Ending, Failure, Stage};
 pub use file_check;
 pub use files::{
-    MOST_FRAMES, STANDARD_INPUT, create_file, leave_unopened, new_file, new_on, open_to_read,
-    read_file, remove_made,
+    STANDARD_INPUT, create_file, leave_unopened, new_file, new_on, open_to_read, read_file,
+    remove_made,
 };
 pub use fullness::{Fullness, read_fullness};
 pub use heard::{Heard, Refusal};

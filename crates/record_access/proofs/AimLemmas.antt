@@ -1,15 +1,22 @@
 -- What an access is about stays by a step of its operation.
-use Rattle.std.proofs.Common.{◌≡◌, refl, sym, ap, ◌∙◌, subst, ℕ, Bool, true, false, List, length, Option, Some, None, IsSome, IsTrue}
+use Rattle.std.proofs.Common.{◌≡◌, refl, sym, ap, ◌∙◌, subst, ℕ, Bool, true, false, List, length, inl, inr, Option, Some, None, IsSome, IsTrue}
 use Rattle.std.proofs.lemmas.Bool.{true≢false}
 use Rattle.std.specs.Option.{is_some}
 use Rattle.std.specs.Prelude.{unwrap_or}
+use Rattle.record_operation.specs.record_file.BucketAccesses.{BucketView}
+use Rattle.record_operation.specs.record_file.BucketSteps.{KeepsBucket}
+use Rattle.record_operation.specs.record_file.declared.bucket_access.Deed.TheVariants as deeds
+use Rattle.record_operation.specs.stale_search.Searches.{IsLed, LeadsFrom, SearchView, found_at}
+use Rattle.record_operation.specs.stale_search.declared.place.SearchPlace.{SearchPlace}
+use Rattle.record_operation.specs.stale_search.declared.place.SearchPlace.TheVariants as places
+use Rattle.record_operation.specs.step_rules.declared.kind.Kind.{Kind}
 use Rattle.record_operation.specs.step_rules.declared.kind.Kind.TheVariants as kinds
 use Rattle.record_operation.specs.OperationSteps.{KeepsKind, KeepsOperation}
 use Rattle.record_operation.specs.declared.operation.RecordOperation.TheVariants as operations
 use Rattle.record_access.proofs.Names.{FileFault}
-use Rattle.record_access.specs.Words.{RecordKey, PoolState, Progress, Moved, Blocked, Fault, Ended, Look, WriteRecord, RecordOperation, found_of, operation_found, Record, Replace, Relink, Delete}
+use Rattle.record_access.specs.Words.{RecordKey, PoolState, Store, store_of, Progress, Moved, Blocked, Fault, Ended, Look, WriteRecord, RecordOperation, found_of, operation_found, Record, Replace, Relink, Delete}
 use Rattle.record_access.specs.Purposes.{Purpose, ToFind, ToInsert, ToWrite, is_write}
-use Rattle.record_access.specs.Accesses.{AccessView, HasFound, IsOfKind, IsToldIn, Serves, access_answer, access_key, answer_in}
+use Rattle.record_access.specs.Accesses.{AccessView, HasFound, IsOfKind, IsToldIn, Serves, access_answer, access_key, answer_in, is_past_grant, set_out_in}
 use Rattle.record_access.specs.Readings.{IsReplace}
 
 pub wrote_of : (did : Progress FileFault) → is_write did ≡ true → did ≡ Moved WriteRecord
@@ -41,7 +48,61 @@ wrote_of Ended is = absurd cc
 pub wrote_not : (did : Progress FileFault) → is_write did ≡ false → did ≡ Moved WriteRecord → ⊥
 wrote_not did none wrote = true≢false (sym (ap is_write wrote) ∙ none)
 
+-- ---- a find sets out once
+
+-- behind a move a search is past its beginning
+moves_past : (kind : Kind) (k : ℕ) (s : Store) (old new : SearchPlace) → LeadsFrom kind k s old new →
+    is_past_grant new ≡ true
+moves_past kind k s places.GrantDirectory new led = ap is_past_grant led.1
+moves_past kind k s places.ReadDepth new led = ap is_past_grant led.1
+moves_past kind k s (places.ReadEntry depth) new led = ap is_past_grant led.1
+moves_past kind k s (places.GrantPage n) new led = ap is_past_grant led.1
+moves_past kind k s (places.ReleaseDirectory n) new led = ap is_past_grant led.1
+moves_past kind k s (places.Look n) new led = elim led.1 [
+  | inl hops ↦ ap is_past_grant hops
+  | inr found ↦ ap is_past_grant found.1
+]
+moves_past kind k s (places.Hop n) new led = elim led.1 [
+  | inl back ↦ ap is_past_grant back.1
+  | inr on ↦ ap is_past_grant on.1
+]
+moves_past kind k s (places.Found n found) new led = absurd led
+
+found_past : (place : SearchPlace) → IsSome (found_at place) → is_past_grant place ≡ true
+found_past places.GrantDirectory some = absurd cc
+found_past places.ReadDepth some = refl
+found_past (places.ReadEntry depth) some = refl
+found_past (places.GrantPage n) some = refl
+found_past (places.ReleaseDirectory n) some = refl
+found_past (places.Look n) some = refl
+found_past (places.Hop n) some = refl
+found_past (places.Found n found) some = refl
+
 module _ (bytes : ℕ) (did : Progress FileFault) (pool : PoolState) where
+  find_sets_out : (f f' : BucketView) → KeepsBucket deeds.Find did pool f f' → IsTrue pool.honest → (kind : Kind) →
+      did ≡ Moved kind → is_past_grant f'.search.place ≡ true
+  find_sets_out f f' keeps honest kind moved = by (found_of f) refl
+    where
+      by : (at : Option (ℕ × Option ℕ)) → found_of f ≡ at → is_past_grant f'.search.place ≡ true
+      by None none =
+          moves_past kind f.search.pseudokey (store_of pool.images) f.search.place f'.search.place
+          (subst (λ (d : Progress FileFault). IsLed d f.search.pseudokey (store_of pool.images) f.search.place
+          f'.search.place) moved ((keeps.searches none).led honest))
+      by (Some at) there =
+          let some : IsSome (found_of f) = ap is_some there in
+          ap (λ (v : SearchView). is_past_grant v.place) (keeps.rests some) ∙ found_past f.search.place some
+
+  pub sets_out : (o o' : RecordOperation) → KeepsKind bytes did pool o o' → IsTrue pool.honest → (kind : Kind) →
+      did ≡ Moved kind → set_out_in o' ≡ true
+  sets_out (operations.Find f) (operations.Find f') keeps honest kind moved =
+      find_sets_out f f' keeps honest kind moved
+  sets_out (operations.Insert i) (operations.Find f') keeps honest kind moved = absurd keeps
+  sets_out (operations.Replace r) (operations.Find f') keeps honest kind moved = absurd keeps
+  sets_out (operations.Delete d) (operations.Find f') keeps honest kind moved = absurd keeps
+  sets_out o (operations.Insert i') keeps honest kind moved = refl
+  sets_out o (operations.Replace r') keeps honest kind moved = refl
+  sets_out o (operations.Delete d') keeps honest kind moved = refl
+
   same_kind : (o o' : RecordOperation) → KeepsKind bytes did pool o o' → (p : Purpose) → IsOfKind p o → IsOfKind p o'
   same_kind (operations.Find f) (operations.Find f') keeps (ToFind key) kind = tt
   same_kind (operations.Find f) (operations.Find f') keeps (ToInsert r) kind = kind

@@ -3,30 +3,34 @@ use Rattle.std.proofs.Common.{◌≡◌, refl, sym, ap, ◌∙◌, Bool, true, f
 use Rattle.std.proofs.lemmas.Bool.{true≢false}
 use Rattle.record_operation.specs.bucket_merge.declared.place.MergePlace.{MergePlace}
 use Rattle.record_operation.specs.record_file.Deletes.{IsOver}
-use Rattle.record_operation.specs.record_file.Removals.{has_searched as removal_has_searched}
-use Rattle.record_operation.specs.record_file.Replaces.{has_searched as replace_has_searched}
-use Rattle.record_operation.specs.record_file.declared.removal.RemovalStage.{RemovalStage}
-use Rattle.record_operation.specs.record_file.declared.removal.RemovalStage.TheVariants.{Searching, Written, Ended}
+use Rattle.record_operation.specs.record_file.BucketAccesses.{has_ended, has_searched as bucket_has_searched}
+use Rattle.record_operation.specs.record_file.declared.bucket_access.BucketStage.{BucketStage}
+use Rattle.record_operation.specs.record_file.declared.bucket_access.BucketStage.TheVariants.{Searching, Written, Ended}
 use Rattle.record_operation.specs.declared.operation.RecordOperation.TheVariants as operations
 use Rattle.record_access.specs.Words.{HasEnded, Record, RecordOperation, has_searched, Write, Replace, Relink, Delete}
 use Rattle.record_access.specs.Purposes.{ToWrite}
 use Rattle.record_access.specs.Accesses.{AccessView, Allows, IsOfKind, Serves}
 
-over_searched : (stage : RemovalStage) (place : MergePlace) → IsOver stage place → removal_has_searched stage ≡ true
+over_searched : (stage : BucketStage) (place : MergePlace) → IsOver stage place → bucket_has_searched stage ≡ true
 over_searched Searching place over = absurd over
 over_searched (Written n due) place over = absurd over
 over_searched (Ended due) place over = refl
+
+bucket_searched : (stage : BucketStage) → has_ended stage ≡ true → bucket_has_searched stage ≡ true
+bucket_searched Searching over = absurd cc
+bucket_searched (Written n due) over = refl
+bucket_searched (Ended due) over = refl
 
 -- one that has ended has its search behind it
 ended_searched : (write : Write) (o : RecordOperation) → IsOfKind (ToWrite write) o → HasEnded o →
     has_searched o ≡ true
 ended_searched (Replace r) (operations.Find f) kind ended = absurd kind
 ended_searched (Replace r) (operations.Insert i) kind ended = absurd kind
-ended_searched (Replace r) (operations.Replace q) kind ended = ap replace_has_searched ended
+ended_searched (Replace r) (operations.Replace q) kind ended = bucket_searched q.stage ended
 ended_searched (Replace r) (operations.Delete d) kind ended = absurd kind
 ended_searched (Relink key links) (operations.Find f) kind ended = absurd kind
 ended_searched (Relink key links) (operations.Insert i) kind ended = absurd kind
-ended_searched (Relink key links) (operations.Replace q) kind ended = ap replace_has_searched ended
+ended_searched (Relink key links) (operations.Replace q) kind ended = bucket_searched q.stage ended
 ended_searched (Relink key links) (operations.Delete d) kind ended = absurd kind
 ended_searched (Delete key) (operations.Find f) kind ended = absurd kind
 ended_searched (Delete key) (operations.Insert i) kind ended = absurd kind

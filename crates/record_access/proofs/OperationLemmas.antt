@@ -10,14 +10,10 @@ use Rattle.page_locks.specs.declared.lock.LockKind.TheVariants.{Exclusive}
 use Rattle.queue_records.specs.Keys.{guard_of}
 use Rattle.record_operation.proofs.of_record_file.CallerLemmas.{holds_still}
 use Rattle.record_operation.specs.record_file.Deletes.{DeleteView, IsOver as IsDeleteOver, delete_locks}
-use Rattle.record_operation.specs.record_file.FirstTries.{locks_in as first_try_locks_in}
-use Rattle.record_operation.specs.record_file.Replaces.{locks_in as replace_locks_in}
-use Rattle.record_operation.specs.record_file.declared.first_try.FirstTryStage.{FirstTryStage}
-use Rattle.record_operation.specs.record_file.declared.first_try.FirstTryStage.TheVariants as tries
-use Rattle.record_operation.specs.record_file.declared.removal.RemovalStage.{RemovalStage}
-use Rattle.record_operation.specs.record_file.declared.removal.RemovalStage.TheVariants as removals
-use Rattle.record_operation.specs.record_file.declared.replace.ReplaceStage.{ReplaceStage}
-use Rattle.record_operation.specs.record_insert.Inserts.{IsOver as IsInsertOver, is_ended, locks_in as insert_locks_in}
+use Rattle.record_operation.specs.record_file.BucketAccesses.{has_ended, locks_in as bucket_locks_in}
+use Rattle.record_operation.specs.record_file.declared.bucket_access.BucketStage.{BucketStage}
+use Rattle.record_operation.specs.record_file.declared.bucket_access.BucketStage.TheVariants as stages
+use Rattle.record_operation.specs.record_insert.Inserts.{IsOver as IsInsertOver, locks_in as insert_locks_in}
 use Rattle.record_operation.specs.record_insert.SecondTries.{locks_at as second_locks_at, tried_at}
 use Rattle.record_operation.specs.record_insert.declared.insert.InsertStage.{InsertStage}
 use Rattle.record_operation.specs.record_insert.declared.insert.InsertStage.TheVariants.{First, Second}
@@ -61,19 +57,19 @@ done_free (to.GiveUpRight left right) a before is = absurd cc
 done_free (to.GiveUp page) a before is = absurd cc
 done_free to.ReleaseDirectory a before is = absurd cc
 
-delete_free : (stage : RemovalStage) (d : DeleteView) (before : List Lock) → d.removal.stage ≡ stage →
+delete_free : (stage : BucketStage) (d : DeleteView) (before : List Lock) → d.removal.stage ≡ stage →
     IsDeleteOver stage d.merge.place → delete_locks d before ≡ before
-delete_free removals.Searching d before is over = absurd over
-delete_free (removals.Written n due) d before is over = absurd over
-delete_free (removals.Ended true) d before is over =
+delete_free stages.Searching d before is over = absurd over
+delete_free (stages.Written n due) d before is over = absurd over
+delete_free (stages.Ended true) d before is over =
     rw is (done_free d.merge.place d.merge.approach before over)
-delete_free (removals.Ended false) d before is over = rw is refl
+delete_free (stages.Ended false) d before is over = rw is refl
 
-first_free : (stage : FirstTryStage) (before : List Lock) (v : SearchView) → is_ended stage ≡ true →
-    first_try_locks_in stage v before ≡ before
-first_free tries.Searching before v is = absurd cc
-first_free (tries.Written n) before v is = absurd cc
-first_free (tries.Ended tried) before v is = refl
+bucket_free : (stage : BucketStage) (before : List Lock) (v : SearchView) → has_ended stage ≡ true →
+    bucket_locks_in stage v before ≡ before
+bucket_free stages.Searching before v is = absurd cc
+bucket_free (stages.Written n due) before v is = absurd cc
+bucket_free (stages.Ended due) before v is = refl
 
 second_free : (place : SecondPlace) (before : List Lock) → IsSome (tried_at place) →
     second_locks_at place before ≡ before
@@ -87,14 +83,14 @@ second_free (seconds.GiveBackDirectory tried) before is = absurd cc
 second_free (seconds.Ended tried) before is = refl
 
 insert_free : (stage : InsertStage) (before : List Lock) → IsInsertOver stage → insert_locks_in stage before ≡ before
-insert_free (First t said) before is = first_free t.stage before t.search is
+insert_free (First t said) before is = bucket_free t.stage before t.search is
 insert_free (Second t) before is = second_free t.place before is
 
 -- an operation that has ended holds none
 pub ended_free : (o : RecordOperation) (before : List Lock) → HasEnded o → operation_locks o before ≡ before
-ended_free (operations.Find f) before is = rw is refl
+ended_free (operations.Find f) before is = bucket_free f.stage before f.search is
 ended_free (operations.Insert i) before is = insert_free i.stage before is
-ended_free (operations.Replace r) before is = ap (λ (stage : ReplaceStage). replace_locks_in stage r.search before) is
+ended_free (operations.Replace r) before is = bucket_free r.stage before r.search is
 ended_free (operations.Delete d) before is = delete_free d.removal.stage d before refl is
 
 -- ---- what it owns

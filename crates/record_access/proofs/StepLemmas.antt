@@ -4,14 +4,15 @@ use Rattle.std.proofs.lemmas.Bool.{true≢false}
 use Rattle.record_operation.specs.OperationSteps.{TellsOf as TellsOfOperation}
 use Rattle.record_operation.specs.record_file.Machines.{FindsAt}
 use Rattle.record_access.proofs.Names.{FileFault, MakesOperation, SuitsFile, holds_still}
-use Rattle.record_access.proofs.AimLemmas.{behind, same_answer, serves_on, tells_on, writes_answered, wrote_not, wrote_of}
+use Rattle.record_operation.specs.step_rules.declared.kind.Kind.{Kind}
+use Rattle.record_access.proofs.AimLemmas.{behind, same_answer, serves_on, sets_out, tells_on, writes_answered, wrote_not, wrote_of}
 use Rattle.record_access.proofs.AllowLemmas.{allows_on, came_on, due_on, lacks_on, left, then_written}
 use Rattle.record_access.proofs.StandLemmas.{finds_none, left_behind, written_at}
 use Rattle.record_access.proofs.SuitLemmas.{IsReplacing, is_replace, suits_file}
 use Rattle.record_operation.specs.stale_search.Steps.{Stays}
 use Rattle.record_access.specs.Words.{RecordKey, pair, PoolState, Table, Change, contents, store_of, HasNoRoom, Progress, Moved, Blocked, Fault, Ended, Look, World, is_fault, Step, world, NearsOrSpares, RecordOperation, operation_facts, operation_found, operation_key, operation_tried, Links, Record, Relink}
 use Rattle.record_access.specs.Purposes.{Purpose, ToWrite, StandsAt, is_write, left_by}
-use Rattle.record_access.specs.Accesses.{AccessView, IsOfKind, access_key, access_left, access_turn, has_no_room}
+use Rattle.record_access.specs.Accesses.{AccessView, IsOfKind, access_key, access_left, access_turn, has_no_room, set_out_in}
 use Rattle.record_access.specs.AccessSteps.{Faces, MakesAccess, Rests, SuitsFound, TellsOf}
 
 module _ (hash : RecordKey → ℕ) (seat : ℕ) (did : Progress FileFault) (a : AccessView) (o' : RecordOperation)
@@ -66,6 +67,9 @@ module _ (hash : RecordKey → ℕ) (seat : ℕ) (did : Progress FileFault) (a :
           (world pool'.images locks' change) (is_write did) a.written (operation_tried a.operation)
           (operation_tried o') told.tried was is
 
+      pub past : (kind : Kind) → did ≡ Moved kind → set_out_in o' ≡ true
+      past = sets_out (length a.bytes) did pool a.operation o' op.aim.kind f.sees.honest
+
       -- where its operation tells what it told
       module _ (same : operation_found o' ≡ operation_found a.operation) where
         answered : is_write did ≡ true → (key : RecordKey) (links : Links) → p ≡ ToWrite (Relink key links) →
@@ -85,6 +89,7 @@ module _ (hash : RecordKey → ℕ) (seat : ℕ) (did : Progress FileFault) (a :
               (due_on did a.operation o' (is_write did) a.written same (λ wrote. ap is_write wrote) op.aim.leaves)
               f.allows;
           finds = inl (same_answer (length a.bytes) did pool a.operation o' op.aim.kind same);
+          sets_out = past;
           lacks = lacks;
         }
 

@@ -6,7 +6,7 @@ use Rattle.record_operation.specs.declared.operation.RecordOperation.TheVariants
 use Rattle.record_access.proofs.Names.{SuitsFile, value_length}
 use Rattle.record_access.specs.Words.{RecordKey, Store, contents, RecordOperation, operation_found, operation_key, Links, Record, value_of, Replace, Relink, Delete}
 use Rattle.record_access.specs.Purposes.{Purpose, ToFind, ToInsert, ToWrite, CanBeOn, StandsAt}
-use Rattle.record_operation.specs.Words.{ReplaceView}
+use Rattle.record_operation.specs.Words.{BucketView}
 use Rattle.record_access.specs.Accesses.{AccessView, Allows, IsOfKind, IsPrepared, Serves, access_key}
 use Rattle.record_access.specs.Readings.{IsReplace}
 
@@ -75,7 +75,7 @@ is_replace (ToWrite (Relink key links)) (operations.Insert i) replacing kind = k
 is_replace (ToWrite (Relink key links)) (operations.Replace q) replacing kind = tt
 is_replace (ToWrite (Relink key links)) (operations.Delete d) replacing kind = kind
 
-replacing : (p : Purpose) (r : ReplaceView) → IsOfKind p (operations.Replace r) → IsReplacing p
+replacing : (p : Purpose) (r : BucketView) → IsOfKind p (operations.Replace r) → IsReplacing p
 replacing (ToFind key) r kind = kind
 replacing (ToInsert q) r kind = kind
 replacing (ToWrite (Replace q)) r kind = tt

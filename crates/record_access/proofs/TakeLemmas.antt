@@ -18,10 +18,10 @@ use Rattle.record_access.proofs.Names.{FileFault, MakesOperation}
 use Rattle.record_access.proofs.AimLemmas.{behind, none_told, same_parts, serves_on, told_none}
 use Rattle.record_access.proofs.AllowLemmas.{allows_taken, searches_on, then_written}
 use Rattle.record_access.proofs.BucketLemmas.{bucket_there}
-use Rattle.record_access.proofs.StepLemmas.{lacks, nears, stands, stepped, tells, told}
+use Rattle.record_access.proofs.StepLemmas.{lacks, nears, past, stands, stepped, tells, told}
 use Rattle.record_access.specs.Words.{RecordKey, pair, PoolState, Table, Change, Store, store_of, HasNoRoom, Progress, Moved, Fault, Ended, Look, WriteRecord, World, is_fault, Step, world, FollowsRow, NearsOrSpares, RecordOperation, HasEnded, TellsNone, has_searched, operation_facts, operation_found, operation_key, operation_left, operation_locks, operation_pseudokey, operation_tried, Known, Turn, Record, value_of, Replace, Relink, Delete}
 use Rattle.record_access.specs.Purposes.{Purpose, ToFind, ToInsert, ToWrite, is_write, left_by, made}
-use Rattle.record_access.specs.Accesses.{AccessView, Allows, IsOfKind, IsToWrite, Serves, access_key, access_left, access_turn, answer_in, has_no_room, is_full}
+use Rattle.record_access.specs.Accesses.{AccessView, Allows, IsOfKind, IsToWrite, Serves, access_key, access_left, access_turn, answer_in, has_no_room, is_full, set_out_in}
 use Rattle.record_access.specs.AccessSteps.{Faces, FindsRecord, MakesAccess, Rests, TellsOf}
 use Rattle.record_access.specs.Readings.{IsReader, IsShown, IsTold, SuitsRecord, Takes, TakesWell, WasAllowed, value_on}
 
@@ -245,6 +245,8 @@ module _ {X : Type 0} (hash : RecordKey → ℕ) (seat : ℕ) (did : Progress Fi
           allows = subst (Allows p new) (sym left)
               (allows_taken p found a new t.written f.allows both.0 (to_write_on l));
           finds = finds_of p f.serves.kind (serves_on did pool a o' a.written op.aim p f.serves).kind both.1;
+          sets_out = λ kind moved. ap set_out_in same_op
+              ∙ past hash seat did a o' pool pool' locks locks' op p found change f fine kind moved;
           lacks = lacks_new t.written;
         }
       where

@@ -1,10 +1,11 @@
 -- What a step of an access does. docs/STEPS.md, "Calls".
 use Rattle.std.specs.Prelude.{ℕ, ◌≡◌, ◌≤◌, ◌↔◌, ◌⊎◌, Bool, true, false, not, List, length, Option, Some, None, IsSome, if◌then◌else◌, ⊤}
 use Rattle.record_operation.specs.declared.operation.RecordOperation.TheVariants as operations
+use Rattle.record_operation.specs.step_rules.declared.kind.Kind.{Kind}
 use Rattle.file_pages.specs.declared.fault.FileFault.{FileFault}
 use Rattle.record_access.specs.Words.{RecordKey, pair, PoolState, Table, Lock, Change, row_of, store_of, Progress, Moved, Blocked, Ended, Look, OnlyWrites, FollowsRow, World, is_fault, HasNoFileLock, Sees, Step, world, NearsOrSpares, RecordOperation, HasEnded, IsKeyed, OwnsWritten, operation_found, HasNoRoom, Links, Record, linked_bytes}
 use Rattle.record_access.specs.Purposes.{Purpose, StandsAt, is_write, left_by}
-use Rattle.record_access.specs.Accesses.{AccessView, Allows, HasFound, Serves, access_answer, access_facts, access_key, access_left, access_locks, access_pseudokey, access_turn, has_no_room}
+use Rattle.record_access.specs.Accesses.{AccessView, Allows, HasFound, Serves, access_answer, access_facts, access_key, access_left, access_locks, access_pseudokey, access_turn, has_no_room, has_set_out}
 
 -- ---- whatever the device gives
 
@@ -77,6 +78,8 @@ pub record TellsOf {F : Type 0} (hash : RecordKey → ℕ) (did : Progress F) (p
   pub stands : StandsAt w'.store (access_key old) (left_by did p found)
   pub allows : Allows p new (left_by did p found)
   pub finds : FindsRecord did old new found
+  -- behind a move the search of a find has begun, so it begins once
+  pub sets_out : (kind : Kind) → did ≡ Moved kind → has_set_out new ≡ true
   -- an insert turns to having no room only where there is none
   pub lacks : has_no_room old ≡ false → has_no_room new ≡ true → HasNoRoom hash (pair (access_key old) old.bytes) w'
 

@@ -2,6 +2,8 @@
 -- docs/STEPS.md, "Calls".
 use Rattle.std.specs.Prelude.{ℕ, ◌≡◌, ◌≤◌, Bool, true, false, not, ◌&&◌, List, [], length, Option, Some, None, IsSome, if◌then◌else◌, ⊤}
 use Rattle.record_operation.specs.declared.operation.RecordOperation.TheVariants as operations
+use Rattle.record_operation.specs.stale_search.declared.place.SearchPlace.{SearchPlace}
+use Rattle.record_operation.specs.stale_search.declared.place.SearchPlace.TheVariants.{GrantDirectory}
 use Rattle.queue_records.specs.declared.layout.TheConstants.{MAX_VALUE_BYTES}
 use Rattle.record_access.specs.Words.{RecordKey, Lock, Store, with_front, Known, Turn, found_of, Tried, IsFull, RecordOperation, MayBeLent, TellsNone, has_searched, begun_delete, begun_find, begun_insert, begun_replace, operation_facts, operation_found, operation_key, operation_left, operation_locks, operation_pseudokey, operation_tried, operation_turn, Links, Record, SpellsRecord, HasSuch, relinked, key_of, value_of, Write, Replace, Relink, Delete}
 use Rattle.record_access.specs.Purposes.{Purpose, ToFind, ToInsert, ToWrite, CanBeOn, KeepsLimits, aimed_at}
@@ -85,6 +87,22 @@ access_turn a s = operation_turn a.operation a.bytes s
 -- the steps that are left, if no other seat steps
 abbrev pub access_left : AccessView → Store → ℕ
 access_left a s = operation_left a.operation s
+
+-- ---- its beginning is behind it
+
+-- the directory was granted to the search
+abbrev pub is_past_grant : SearchPlace → Bool
+is_past_grant GrantDirectory = false
+is_past_grant place = true
+
+-- of others than finds this is not asked
+abbrev pub set_out_in : RecordOperation → Bool
+set_out_in (operations.Find f) = is_past_grant f.search.place
+set_out_in o = true
+
+-- the search of a find has begun
+abbrev pub has_set_out : AccessView → Bool
+has_set_out a = set_out_in a.operation
 
 -- ---- what it tells
 

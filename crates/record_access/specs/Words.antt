@@ -3,7 +3,8 @@ pub use Rattle.record_operation.specs.Words.{RecordKey, pair, PoolState, Table, 
 pub use Rattle.record_operation.specs.declared.operation.RecordOperation.{RecordOperation}
 pub use Rattle.record_operation.specs.Operations.{HasEnded, IsKeyed, MayBeLent, OwnsWritten, has_searched, begun_delete, begun_find, begun_insert, begun_replace, operation_facts, operation_found, operation_key, operation_left, operation_locks, operation_pseudokey, operation_tried, operation_turn}
 pub use Rattle.record_operation.specs.Lengths.{MOST_STEPS}
-pub use Rattle.record_operation.specs.record_insert.Words.{HasNoRoom, IsPut, IsThere, IsFull}
+pub use Rattle.record_operation.specs.record_insert.Words.{HasNoRoom}
+pub use Rattle.record_operation.specs.record_insert.declared.tried.Tried.TheVariants.{IsPut, IsThere, IsFull}
 pub use Rattle.record_operation.specs.record_file.Words.{Look}
 pub use Rattle.record_operation.specs.record_file.Writers.{Owns}
 pub use Rattle.hash_file.specs.Changes.{RecordWrite, Remove}

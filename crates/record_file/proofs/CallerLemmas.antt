@@ -5,15 +5,11 @@ use Rattle.bucket_page.specs.Keys.{is_same as is_same_key}
 use Rattle.step_rules.specs.declared.progress.Progress.TheVariants as answers
 use Rattle.step_rules.specs.Known.{Told}
 use Rattle.bucket_merge.specs.stale_search.declared.place.SearchPlace.TheVariants.{Look as AtLook}
-use Rattle.record_file.specs.Words.{RecordKey, RecordWrite, PoolState, Table, Lock, LockKind, Read, Selective, Directory, Page, Change, IsKnown, IsSeat, Known, Step, row_of, with_row, held, kind_of, lock_of, guard_of, contents, Progress, Moved, WriteRecord, World, IsHeld, Turn, IsSoundWorld, is_fault, world, SearchView, search_locks, in_directory, on_page}
+use Rattle.record_file.specs.Words.{RecordKey, RecordWrite, PoolState, Table, Lock, LockKind, Read, Directory, Page, Change, IsKnown, IsSeat, Known, Step, row_of, with_row, held, kind_of, lock_of, guard_of, contents, Progress, Moved, WriteRecord, World, IsHeld, Turn, IsSoundWorld, is_fault, world, SearchView, search_locks, in_directory, on_page}
 use Rattle.record_file.specs.Callers.{KeepsNames}
-use Rattle.record_file.specs.Finds.{FindView, find_locks}
-use Rattle.record_file.specs.Replaces.{locks_in as replace_locks_in}
-use Rattle.record_file.specs.Removals.{locks_in as removal_locks_in}
-use Rattle.record_file.specs.declared.replace.ReplaceStage.{ReplaceStage}
-use Rattle.record_file.specs.declared.replace.ReplaceStage.TheVariants as replaces
-use Rattle.record_file.specs.declared.removal.RemovalStage.{RemovalStage}
-use Rattle.record_file.specs.declared.removal.RemovalStage.TheVariants as removals
+use Rattle.record_file.specs.BucketAccesses.{locks_in}
+use Rattle.record_file.specs.declared.bucket_access.BucketStage.{BucketStage}
+use Rattle.record_file.specs.declared.bucket_access.BucketStage.TheVariants.{Searching, Written, Ended as HasEnded}
 
 first : (o : Option LockKind) → first_kind o None ≡ o
 first None = refl
@@ -56,23 +52,10 @@ place_aside (Found n found) kind before key = page_aside n kind before key
 search_aside : (v : SearchView) → KeepsNames (search_locks v)
 search_aside v before key = place_aside v.place v.kind before key
 
-pub find_aside : (v : FindView) → KeepsNames (find_locks v)
-find_aside v before key = by v.ended
-  where
-    by : (b : Bool) → kind_of (if b then before else search_locks v.search before) (guard_of key)
-        ≡ kind_of before (guard_of key)
-    by true = refl
-    by false = search_aside v.search before key
-
-pub replace_aside : (stage : ReplaceStage) (v : SearchView) → KeepsNames (replace_locks_in stage v)
-replace_aside replaces.Searching v before key = search_aside v before key
-replace_aside (replaces.Written n) v before key = page_aside n Selective before key
-replace_aside replaces.Ended v before key = refl
-
-pub removal_aside : (stage : RemovalStage) (v : SearchView) → KeepsNames (removal_locks_in stage v)
-removal_aside removals.Searching v before key = search_aside v before key
-removal_aside (removals.Written n due) v before key = page_aside n Selective before key
-removal_aside (removals.Ended due) v before key = refl
+pub bucket_aside : (stage : BucketStage) (v : SearchView) → KeepsNames (locks_in stage v)
+bucket_aside Searching v before key = search_aside v before key
+bucket_aside (Written n due) v before key = page_aside n v.kind before key
+bucket_aside (HasEnded due) v before key = refl
 
 -- ---- what is known
 

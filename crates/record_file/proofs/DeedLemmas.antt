@@ -12,7 +12,7 @@ use Rattle.bucket_merge.specs.stale_search.declared.place.SearchPlace.TheVariant
 use Rattle.bucket_merge.specs.stale_search.Searches.{ask_at, locks_at}
 use Rattle.record_file.specs.Words.{RecordKey, pair, lookup, record_bytes, contents, Put, Replace, Remove, Table, Lock, LockKind, Selective, Page, Change, OnlyReads, OnlyWrites, IsDevicesFault, row_of, with_row, without, without_lock, store_of, records_at, Moved, WriteRecord, SearchView, search_locks, found_at, Store, Turn, Sees, Step, HasNoFileLock, on_page}
 use Rattle.record_file.specs.Writers.{Owns, seen_at, seen_of}
-use Rattle.record_file.specs.Replaces.{IsFrontAt, with_front}
+use Rattle.record_file.specs.BucketAccesses.{IsFrontAt, with_front}
 use Rattle.record_file.proofs.AnswerLemmas.{found_place}
 use Rattle.record_file.proofs.ReleaseLemmas.{no_directory, page_gone, still_owns}
 use Rattle.record_file.proofs.ValueLemmas.{is_there, fronted_length, short_of}

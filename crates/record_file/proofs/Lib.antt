@@ -9,6 +9,7 @@ pub mod DeedLemmas
 pub mod RemovedLemmas
 pub mod RoomLemmas
 pub mod CallerLemmas
+pub mod StepLemmas
 pub mod PartLemmas
 pub mod AimLemmas
 pub use Rattle.bucket_merge.proofs as of_bucket_merge

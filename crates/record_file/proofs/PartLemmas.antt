@@ -1,5 +1,6 @@
 -- A delete in its removal, which passes on to the merge, and in its merge.
-use Rattle.std.proofs.Common.{◌≡◌, refl, sym, ap, ◌∙◌, subst, ℕ, ◌+◌, ◌≤◌, Bool, true, false, List, [], Option, Some, None, ◌⊎◌, inl, inr, arith}
+use Rattle.std.proofs.Common.{◌≡◌, refl, sym, ap, ◌∙◌, subst, ℕ, ◌+◌, ◌≤◌, Bool, true, false, List, [], Option, Some, None, is_some, ◌⊎◌, inl, inr, arith}
+use Rattle.std.proofs.lemmas.Bool.{true≢false}
 use Rattle.bucket_merge.specs.Places.{MergeView, is_done, locks_at as merge_locks_at, merge_locks}
 use Rattle.bucket_merge.specs.Facts.{facts_at as merge_facts_at, left_at as merge_left_at, merge_facts, merge_turn, steps_left as merge_left}
 use Rattle.bucket_merge.specs.declared.place.MergePlace.{MergePlace}
@@ -10,50 +11,52 @@ use Rattle.bucket_merge.specs.file_pages.declared.fault.FileFault.{FileFault}
 use Rattle.record_file.specs.Words.{RecordKey, Remove, Table, Lock, Change, Store, Progress, Moved, Blocked, Fault, Ended, World, Known, Turn, SearchView, Nears, Step}
 use Rattle.step_rules.specs.Turns.{Ask}
 use Rattle.record_file.specs.Deletes.{IsBegun, IsOver, delete_facts, delete_turn, part}
-use Rattle.record_file.specs.Removals.{RemovalView, TurnsAwayIn, ended_in, facts_in, left_in, locks_in, removal_facts, removal_turn}
-use Rattle.record_file.specs.declared.removal.RemovalStage.{RemovalStage}
-use Rattle.record_file.specs.declared.removal.RemovalStage.TheVariants.{Searching, Written, Ended as HasEnded}
+use Rattle.record_file.specs.BucketAccesses.{BucketView, ask_in, bucket_facts, ended_in, has_ended, facts_in, left_in, locks_in}
+use Rattle.record_file.specs.BucketSteps.{TurnsAwayIn}
+use Rattle.record_file.specs.declared.bucket_access.BucketStage.{BucketStage}
+use Rattle.record_file.specs.declared.bucket_access.Deed.TheVariants as deeds
+use Rattle.record_file.specs.declared.bucket_access.BucketStage.TheVariants.{Searching, Written, Ended as HasEnded}
 
 module _ {A : Type 0} (removing ended merging : A) where
-  pub in_removal : (stage : RemovalStage) → ended_in stage ≡ None → part stage removing ended merging ≡ removing
+  pub in_removal : (stage : BucketStage) → ended_in stage ≡ None → part stage removing ended merging ≡ removing
   in_removal Searching none = refl
   in_removal (Written n due) none = refl
   in_removal (HasEnded due) none = absurd cc
 
-  pub in_merge : (stage : RemovalStage) → ended_in stage ≡ Some true → part stage removing ended merging ≡ merging
+  pub in_merge : (stage : BucketStage) → ended_in stage ≡ Some true → part stage removing ended merging ≡ merging
   in_merge Searching is = absurd cc
   in_merge (Written n due) is = absurd cc
   in_merge (HasEnded true) is = refl
   in_merge (HasEnded false) is = absurd (let f : false ≡ true = cc in cc)
 
-  pub at_end : (stage : RemovalStage) → ended_in stage ≡ Some false → part stage removing ended merging ≡ ended
+  pub at_end : (stage : BucketStage) → ended_in stage ≡ Some false → part stage removing ended merging ≡ ended
   at_end Searching is = absurd cc
   at_end (Written n due) is = absurd cc
   at_end (HasEnded true) is = absurd (let f : true ≡ false = cc in cc)
   at_end (HasEnded false) is = refl
 
-pub still_begun : (stage : RemovalStage) (m : MergeView) → (ended_in stage ≡ Some true) ⊎ IsBegun m →
+pub still_begun : (stage : BucketStage) (m : MergeView) → (ended_in stage ≡ Some true) ⊎ IsBegun m →
     ended_in stage ≡ None → IsBegun m
 still_begun stage m (inl is) none = absurd (let f : None ≡ Some true = sym none ∙ is in cc)
 still_begun stage m (inr begun) none = begun
 
 -- where a delete has ended
-pub not_over : (stage : RemovalStage) (place : MergePlace) → ended_in stage ≡ None → IsOver stage place → ⊥
+pub not_over : (stage : BucketStage) (place : MergePlace) → ended_in stage ≡ None → IsOver stage place → ⊥
 not_over Searching place none over = over
 not_over (Written n due) place none over = over
 not_over (HasEnded due) place none over = absurd cc
 
-pub not_ended : (stage : RemovalStage) → ended_in stage ≡ None → (due : Bool) × (stage ≡ HasEnded due) → ⊥
-not_ended stage none is = let f : None ≡ Some is.0 = sym none ∙ ap ended_in is.1 in cc
+pub not_ended : (stage : BucketStage) → ended_in stage ≡ None → has_ended stage ≡ true → ⊥
+not_ended stage none over = true≢false (sym over ∙ ap is_some none)
 
-pub is_over : (stage : RemovalStage) (place : MergePlace) → ended_in stage ≡ Some true →
+pub is_over : (stage : BucketStage) (place : MergePlace) → ended_in stage ≡ Some true →
     IsOver stage place ≡ (is_done place ≡ true)
 is_over Searching place is = absurd cc
 is_over (Written n due) place is = absurd cc
 is_over (HasEnded true) place is = refl
 is_over (HasEnded false) place is = absurd (let f : false ≡ true = cc in cc)
 
-pub is_over_now : (stage : RemovalStage) (place : MergePlace) → ended_in stage ≡ Some false → IsOver stage place
+pub is_over_now : (stage : BucketStage) (place : MergePlace) → ended_in stage ≡ Some false → IsOver stage place
 is_over_now Searching place is = absurd cc
 is_over_now (Written n due) place is = absurd cc
 is_over_now (HasEnded true) place is = absurd (let f : true ≡ false = cc in cc)
@@ -77,23 +80,23 @@ module _ (m : MergeView) (begun : IsBegun m) where
       ∙ ap (λ (p : MergePlace). merge_left_at p m.approach t) (sym begun.place)
 
   -- after a step of the removal
-  pub passed_locks : (stage : RemovalStage) (search : SearchView) (before : List Lock) →
+  pub passed_locks : (stage : BucketStage) (search : SearchView) (before : List Lock) →
       locks_in stage search before ≡ part stage (locks_in stage search before) before (merge_locks m before)
   passed_locks Searching search before = refl
   passed_locks (Written n due) search before = refl
   passed_locks (HasEnded true) search before = sym (begun_locks before)
   passed_locks (HasEnded false) search before = refl
 
-  pub passed_facts : (stage : RemovalStage) (search : SearchView) →
-      facts_in stage search ≡ part stage (facts_in stage search) [] (merge_facts m)
+  pub passed_facts : (stage : BucketStage) (search : SearchView) →
+      facts_in deeds.Remove stage search ≡ part stage (facts_in deeds.Remove stage search) [] (merge_facts m)
   passed_facts Searching search = refl
   passed_facts (Written n due) search = refl
   passed_facts (HasEnded true) search = sym begun_facts
   passed_facts (HasEnded false) search = refl
 
-  pub passed_left : (stage : RemovalStage) (search : SearchView) (s : Store) →
-      part stage (left_in stage search s + merge_left m s) 0 (merge_left m s)
-      ≤ left_in stage search s + merge_left m s
+  pub passed_left : (stage : BucketStage) (search : SearchView) (s : Store) →
+      part stage (left_in deeds.Remove stage search s + merge_left m s) 0 (merge_left m s)
+      ≤ left_in deeds.Remove stage search s + merge_left m s
   passed_left Searching search s = omega arith
   passed_left (Written n due) search s = omega arith
   passed_left (HasEnded true) search s = omega arith
@@ -102,7 +105,7 @@ module _ (m : MergeView) (begun : IsBegun m) where
 -- the merge makes a step, of which the turn is that of the removed key
 module _ (hash : RecordKey → ℕ) (seat : ℕ) (did : Progress FileFault) (pool pool' : PoolState) (locks locks' : Table)
     (change : Change) where
-  pub merges_on : (r : RemovalView) (m m' : MergeView) → m.key ≡ r.search.key → ended_in r.stage ≡ Some true →
+  pub merges_on : (r : BucketView) (m m' : MergeView) → m.key ≡ r.search.key → ended_in r.stage ≡ Some true →
       Step hash seat (merge_turn m) did (merge_facts m') pool pool' locks locks' change →
       Step hash seat (delete_turn (record { removal = r; merge = m })) did
       (delete_facts (record { removal = r; merge = m' })) pool pool' locks locks' change
@@ -113,9 +116,9 @@ module _ (hash : RecordKey → ℕ) (seat : ℕ) (did : Progress FileFault) (poo
       (delete_facts (record { removal = r; merge = m' })) pool pool' locks locks' change) key
       (subst (λ (ask : Option Ask). Step hash seat (turn ask m.key) did
       (delete_facts (record { removal = r; merge = m' })) pool pool' locks locks' change)
-      (sym (in_merge (removal_turn r).ask None (merge_turn m).ask r.stage is))
+      (sym (in_merge (ask_in r.stage r.search) None (merge_turn m).ask r.stage is))
       (subst (λ (facts : List Known). Step hash seat (merge_turn m) did facts pool pool' locks locks' change)
-      (sym (in_merge (removal_facts r) [] (merge_facts m') r.stage is)) made))
+      (sym (in_merge (bucket_facts deeds.Remove r) [] (merge_facts m') r.stage is)) made))
 
 -- fewer steps are fewer still
 pub nears_more : (did : Progress FileFault) (left left' less : ℕ) (pool pool' : PoolState) → less ≤ left' →
@@ -126,7 +129,7 @@ nears_more (Fault fault) left left' less pool pool' few h = h
 nears_more Ended left left' less pool pool' few h = tt
 
 -- once the removal has ended it turns away no more
-pub turned_before : (hash : RecordKey → ℕ) (key : RecordKey) (seat : ℕ) (stage : RemovalStage) (due : Bool)
+pub turned_before : (hash : RecordKey → ℕ) (key : RecordKey) (seat : ℕ) (stage : BucketStage) (due : Bool)
     (w : World) →
     ended_in stage ≡ Some due → TurnsAwayIn hash key seat stage stage w
 turned_before hash key seat Searching due w is = absurd cc

@@ -19,8 +19,9 @@ use Rattle.step_rules.specs.Structure.{bare}
 use Rattle.step_rules.specs.Words.{chain}
 use Rattle.step_rules.proofs.StructureLemmas.{chain-same}
 use Rattle.record_file.specs.Words.{RecordKey, Pair, record_bytes, HasValueOf, Remove, records_at, World}
-use Rattle.record_file.specs.Removals.{TurnsAwayIn, is_due}
-use Rattle.record_file.specs.declared.removal.RemovalStage.TheVariants.{Searching, Written}
+use Rattle.record_file.specs.BucketAccesses.{is_due}
+use Rattle.record_file.specs.BucketSteps.{TurnsAwayIn}
+use Rattle.record_file.specs.declared.bucket_access.BucketStage.TheVariants.{Searching, Written}
 use Rattle.record_file.proofs.ValueLemmas.{used_removed}
 
 bare_with : (p : PageKind) (records : List Pair) → is_bucket p ≡ true →

@@ -16,7 +16,7 @@ use Rattle.step_rules.specs.Searching.{WalksTo}
 use Rattle.step_rules.specs.Turns.{TurnsAt}
 use Rattle.record_file.specs.Words.{RecordKey, pair, record_bytes, Table, Lock, Selective, Change, OnlyReads, IsDevicesFault, Progress, World, Known, AllKnown, row_of, store_of, records_at, SearchView, Turn, Sees, Step, world, HasNoFileLock, on_page}
 use Rattle.record_file.specs.Writers.{seen_at}
-use Rattle.record_file.specs.FirstTries.{has_room}
+use Rattle.record_file.specs.BucketAccesses.{has_room}
 use Rattle.record_file.proofs.ReleaseLemmas.{no_directory}
 use Rattle.record_file.proofs.WriteLemmas.{home, there}
 

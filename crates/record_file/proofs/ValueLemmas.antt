@@ -9,7 +9,7 @@ use Rattle.bucket_page.specs.Keys.{is_same}
 use Rattle.bucket_page.specs.Records.{pair_bytes}
 use Rattle.bucket_page.proofs.Steps.{length-pair}
 use Rattle.record_file.specs.Words.{RecordKey, Pair, record_bytes, HasValueOf}
-use Rattle.record_file.specs.Replaces.{with_front}
+use Rattle.record_file.specs.BucketAccesses.{with_front}
 
 pub is_there : (v : Option (List ℕ)) (bytes : ℕ) → option_map length v ≡ Some bytes → IsSome v
 is_there None bytes is = absurd cc

@@ -7,13 +7,14 @@ use Rattle.bucket_merge.specs.declared.place.MergePlace.{MergePlace}
 use Rattle.bucket_merge.specs.declared.place.MergePlace.TheVariants.{Approaching}
 use Rattle.bucket_merge.specs.stale_search.declared.place.ApproachPlace.TheVariants.{GrantDirectory}
 use Rattle.record_file.specs.Words.{Remove, Lock, Store, Progress, Ended, Stays, Known, Turn}
-use Rattle.record_file.specs.declared.removal.RemovalStage.{RemovalStage}
-use Rattle.record_file.specs.declared.removal.RemovalStage.TheVariants.{Ended as HasEnded}
-use Rattle.record_file.specs.Removals.{RemovalView, ended_in, has_searched, removal_locks, removal_facts, removal_turn, removal_left, removed_at}
+use Rattle.record_file.specs.declared.bucket_access.BucketStage.{BucketStage}
+use Rattle.record_file.specs.declared.bucket_access.BucketStage.TheVariants.{Ended as HasEnded}
+use Rattle.record_file.specs.declared.bucket_access.Deed.TheVariants as deeds
+use Rattle.record_file.specs.BucketAccesses.{BucketView, SuitsKind, ended_in, found_of, has_searched, bucket_locks, bucket_facts, ask_in, bucket_left}
 use Rattle.record_file.specs.Writers.{LeavesSearch}
 
 pub record DeleteView : Type 0 where
-  pub removal : RemovalView
+  pub removal : BucketView
   pub merge : MergeView
 
 -- the merge makes its first step next
@@ -22,35 +23,37 @@ pub record IsBegun (m : MergeView) : Type 0 where
   pub approach : m.approach.place ≡ GrantDirectory
 
 -- what is always so of a delete
-pub record IsDelete (r : RemovalView) (m : MergeView) : Type 0 where
+pub record IsDelete (r : BucketView) (m : MergeView) : Type 0 where
   pub key : m.key ≡ r.search.key
   pub pseudokey : m.approach.pseudokey ≡ r.search.pseudokey
+  -- its search locks pages to write them
+  pub kind : SuitsKind deeds.Remove r.search.kind
   -- the merge waits for the removal
   pub waits : (ended_in r.stage ≡ Some true) ⊎ IsBegun m
 
 -- what is so of the removal, of a delete that has ended with it, and of the merge
-abbrev pub part : {A : Type 0} → RemovalStage → (removing ended merging : A) → A
+abbrev pub part : {A : Type 0} → BucketStage → (removing ended merging : A) → A
 part (HasEnded true) removing ended merging = merging
 part (HasEnded false) removing ended merging = ended
 part stage removing ended merging = removing
 
 -- it has ended where no merge is due, or the merge is done
-abbrev pub IsOver : RemovalStage → MergePlace → Type 0
+abbrev pub IsOver : BucketStage → MergePlace → Type 0
 IsOver (HasEnded true) place = is_done place ≡ true
 IsOver (HasEnded false) place = ⊤
 IsOver stage place = ⊥
 
 -- its locks, behind those that the seat had before; three at most
 abbrev pub delete_locks : DeleteView → List Lock → List Lock
-delete_locks d before = part d.removal.stage (removal_locks d.removal before) before (merge_locks d.merge before)
+delete_locks d before = part d.removal.stage (bucket_locks d.removal before) before (merge_locks d.merge before)
 
 abbrev pub delete_facts : DeleteView → List Known
-delete_facts d = part d.removal.stage (removal_facts d.removal) [] (merge_facts d.merge)
+delete_facts d = part d.removal.stage (bucket_facts deeds.Remove d.removal) [] (merge_facts d.merge)
 
 -- the record of its key is to be removed, and of that key alone
 abbrev pub delete_turn : DeleteView → Turn
 delete_turn d = record {
-  ask = part d.removal.stage (removal_turn d.removal).ask None (merge_turn d.merge).ask;
+  ask = part d.removal.stage (ask_in d.removal.stage d.removal.search) None (merge_turn d.merge).ask;
   write = Some (Remove d.removal.search.key);
 }
 
@@ -61,9 +64,10 @@ pub record KeepsDelete {F : Type 0} (did : Progress F) (old new : DeleteView) : 
   pub pseudokey : new.removal.search.pseudokey ≡ old.removal.search.pseudokey
   pub stays : Stays did old new
   pub ended : (did ≡ Ended) ↔ IsOver old.removal.stage old.merge.place
-  pub leaves : LeavesSearch did (removed_at old.removal) (has_searched old.removal.stage)
+  pub leaves : LeavesSearch did (found_of old.removal) (has_searched old.removal.stage)
       (has_searched new.removal.stage)
 
 -- the steps that are left, if no other seat steps
 abbrev pub delete_left : DeleteView → Store → ℕ
-delete_left d s = part d.removal.stage (removal_left d.removal s + merge_left d.merge s) 0 (merge_left d.merge s)
+delete_left d s =
+    part d.removal.stage (bucket_left deeds.Remove d.removal s + merge_left d.merge s) 0 (merge_left d.merge s)

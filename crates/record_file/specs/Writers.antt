@@ -1,6 +1,6 @@
 -- What the machines that write a record have in common: a search that locks its pages Selective, what it has then seen
 -- of the page, and what leads on from it. docs/STEPS.md, "Insert, Replace, Delete".
-use Rattle.std.specs.Prelude.{ℕ, ◌≡◌, ◌⊎◌, Bool, true, false, List, [], ◌∷◌, Option, Some, None, ⊤}
+use Rattle.std.specs.Prelude.{ℕ, ◌≡◌, ◌⊎◌, Bool, true, false, List, [], ◌∷◌, Option, Some, None, IsSome, ⊤}
 use Rattle.bucket_merge.specs.stale_search.declared.place.SearchPlace.{SearchPlace}
 use Rattle.bucket_merge.specs.stale_search.declared.place.SearchPlace.TheVariants.{Found}
 use Rattle.bucket_merge.specs.stale_search.Searches.{facts_at}
@@ -23,6 +23,11 @@ seen_of v = seen_at v.place v.key v.pseudokey
 abbrev pub TellsNone : Option (ℕ × Option ℕ) → Type 0
 TellsNone None = ⊥
 TellsNone (Some at) = at.1 ≡ None
+
+-- and one that has
+abbrev pub TellsSome : Option (ℕ × Option ℕ) → Type 0
+TellsSome None = ⊥
+TellsSome (Some at) = IsSome at.1
 
 -- a search is left by the WriteRecord, or where the page that answered has no record of the key; it is told whether it
 -- was left before the step and after it

@@ -5,14 +5,15 @@ ghost use Rattle.bucket_merge.specs.Steps.{TurnsAwayAt};
 ghost use Rattle.bucket_merge.specs.stale_search.declared.place.ApproachPlace.{ApproachPlace};
 ghost use Rattle.bucket_merge.specs.stale_search.declared.place.SearchPlace.{SearchPlace};
 ghost use Rattle.bucket_merge.specs.declared.place.MergePlace.{MergePlace};
-ghost use Rattle.record_file.specs.declared.removal.RemovalStage.{RemovalStage};
+ghost use Rattle.record_file.specs.declared.bucket_access.BucketStage.{BucketStage};
 ghost use Rattle.record_file.specs.Words.{RecordKey, Lock, IsSeat, row_of, with_row, IsReady, Change, WritesOrSpares, Selective, is_fault, Sees, Step, world, EndsRow, HasNoFileLock, Nears, store_of};
 ghost use Rattle.record_file.specs.Machines.{FindsAt};
 ghost use Rattle.record_file.specs.Writers.{Owns};
-ghost use Rattle.record_file.specs.Removals.{TurnsAwayIn, removed_at};
+ghost use Rattle.record_file.specs.BucketAccesses.{found_of};
+ghost use Rattle.record_file.specs.BucketSteps.{TurnsAwayIn};
 ghost use Rattle.record_file.specs.Deletes.{IsOver, KeepsDelete, delete_facts, delete_left, delete_locks, delete_turn};
 
-use crate::removal::Removal;
+use crate::bucket_access::{BucketAccess, Deed};
 use bucket_merge::buffer_pool::Pool;
 use bucket_merge::file_pages::FileFault;
 use bucket_merge::{Merge, MergePlace};
@@ -27,7 +28,7 @@ use step_rules::Progress;
 /// and became small. Where the key has no record nothing is written.
 #[derive(Drop)]
 pub struct Delete {
-    removal: Removal,
+    removal: BucketAccess,
     merge: Merge,
 }
 
@@ -55,7 +56,7 @@ impl Delete {
               place = SearchPlace.GrantDirectory;
               hops = 0;
             };
-            stage = RemovalStage.Searching;
+            stage = BucketStage.Searching;
           };
           merge = record {
             key = key;
@@ -65,7 +66,7 @@ impl Delete {
         } }
     {
         Delete {
-            removal: Removal::new(key, pseudokey),
+            removal: BucketAccess::new(Deed::Remove, key, pseudokey),
             merge: Merge::new(key, pseudokey),
         }
     }
@@ -73,7 +74,7 @@ impl Delete {
     /// The page that answered, and of the key the length of its value, none where it has no record
     /// and nothing is written.
     pub fn found(&self) -> Option<(u32, Option<usize>)>
-        ensures { result ≡ removed_at self.now.removal }
+        ensures { result ≡ found_of self.now.removal }
     {
         self.removal.found()
     }
@@ -125,7 +126,7 @@ impl Delete {
             Sees hash seat (delete_facts self.old) pool.old locks.old change →
             is_fault result ≡ false →
             FindsAt hash seat result self.old.removal.search.key
-            (removed_at self.old.removal) (removed_at self.new.removal)
+            (found_of self.old.removal) (found_of self.new.removal)
             (world pool.old.images locks.old change)
             × TurnsAwayIn hash self.old.removal.search.key seat
             self.old.removal.stage self.new.removal.stage (world pool.new.images locks.new change)
@@ -133,7 +134,7 @@ impl Delete {
             (world pool.new.images locks.new change) }
     {
         match self.removal.ended() {
-            None => self.removal.step(pool, locks, seat),
+            None => self.removal.step(Deed::Remove, pool, locks, seat, &[]),
             Some(false) => Progress::Ended,
             Some(true) => self.merge.step(pool, locks, seat),
         }

@@ -5,10 +5,10 @@ use Rattle.step_rules.specs.Words.{LockName, Key, Counter, Queue}
 use Rattle.split_merge.specs.stale_search.Callers.{AddsFileLocks, IsAside}
 use Rattle.split_merge.proofs.of_stale_search.CallerLemmas.{approach_adds_locks, in_aside, on_aside, search_adds_locks}
 use Rattle.record_file.specs.Callers.{KeepsNames}
-use Rattle.record_file.specs.FirstTries.{locks_in as first_locks_in}
+use Rattle.record_file.specs.BucketAccesses.{locks_in as bucket_locks_in}
 use Rattle.record_file.specs.Words.{SearchView}
-use Rattle.record_file.specs.declared.first_try.FirstTryStage.{FirstTryStage}
-use Rattle.record_file.specs.declared.first_try.FirstTryStage.TheVariants.{Searching, Written, Ended as FirstEnded}
+use Rattle.record_file.specs.declared.bucket_access.BucketStage.{BucketStage}
+use Rattle.record_file.specs.declared.bucket_access.BucketStage.TheVariants.{Searching, Written, Ended as BucketEnded}
 use Rattle.record_insert.specs.Inserts.{InsertView, insert_locks, locks_in}
 use Rattle.record_insert.specs.declared.insert.InsertStage.{InsertStage}
 use Rattle.record_insert.specs.declared.insert.InsertStage.TheVariants.{First, Second}
@@ -59,11 +59,11 @@ second_adds_locks t before name aside = adds name aside t.place before
 -- ---- inserts
 
 module _ (name : LockName) (aside : IsAside name) where
-  first_adds : (stage : FirstTryStage) (search : SearchView) (xs : List Lock) →
-      kind_of (first_locks_in stage search xs) name ≡ kind_of xs name
+  first_adds : (stage : BucketStage) (search : SearchView) (xs : List Lock) →
+      kind_of (bucket_locks_in stage search xs) name ≡ kind_of xs name
   first_adds Searching search xs = search_adds_locks search xs name aside
-  first_adds (Written n) search xs = on_aside name aside n Selective xs
-  first_adds (FirstEnded tried) search xs = refl
+  first_adds (Written n due) search xs = on_aside name aside n search.kind xs
+  first_adds (BucketEnded due) search xs = refl
 
   stage_adds : (stage : InsertStage) (xs : List Lock) → kind_of (locks_in stage xs) name ≡ kind_of xs name
   stage_adds (First t said) xs = first_adds t.stage t.search xs

@@ -1,7 +1,8 @@
 -- A second try is on no search.
 use Rattle.std.proofs.Common.{ℕ, List, inr}
-use Rattle.record_file.proofs.AimLemmas.{first_try_aimed}
+use Rattle.record_file.proofs.AimLemmas.{bucket_aimed}
 use Rattle.record_file.proofs.of_bucket_merge.FactLemmas.{approach_aimed, approach_knows_no_way}
+use Rattle.record_file.specs.declared.bucket_access.Deed.TheVariants as deeds
 use Rattle.step_rules.specs.Searching.{IsAimed}
 use Rattle.record_insert.specs.Inserts.{InsertView, ask_in, facts_in, insert_facts, insert_turn}
 use Rattle.record_insert.specs.declared.insert.InsertStage.{InsertStage}
@@ -36,5 +37,5 @@ pub insert_aimed : (i : InsertView) (value : List ℕ) → IsAimed (insert_turn 
 insert_aimed i value = by i.stage
   where
     by : (stage : InsertStage) → IsAimed (ask_in stage) (facts_in stage)
-    by (First t said) = first_try_aimed t value
+    by (First t said) = bucket_aimed deeds.Put t
     by (Second t) = second_aimed t.place t.key t.pseudokey

@@ -5,15 +5,17 @@ use Rattle.split_merge.specs.file_pages.declared.fault.FileFault.{FileFault}
 use Rattle.step_rules.specs.declared.kind.Kind.TheVariants as kinds
 use Rattle.split_merge.specs.stale_search.Steps.{Nears}
 use Rattle.record_file.specs.Machines.{FindsAt}
-use Rattle.record_file.specs.FirstTries.{FirstTryView, GivesUp, KeepsFirstTry, first_try_facts, first_try_left, first_try_locks, first_try_turn}
-use Rattle.record_file.specs.FirstTries.{facts_in as first_facts_in, left_in as first_left_in, locks_in as first_locks_in, tried_at as found_in}
-use Rattle.record_file.specs.declared.first_try.FirstTryStage.{FirstTryStage}
-use Rattle.record_file.specs.declared.first_try.FirstTryStage.TheVariants.{Searching, Written, Ended as FirstEnded}
+use Rattle.record_file.specs.BucketAccesses.{BucketView, ask_in, bucket_facts, bucket_left, found_of, has_ended}
+use Rattle.record_file.specs.BucketAccesses.{facts_in as bucket_facts_in, left_in as bucket_left_in, locks_in as bucket_locks_in}
+use Rattle.record_file.specs.BucketSteps.{MakesBucket}
+use Rattle.record_file.specs.declared.bucket_access.BucketStage.{BucketStage}
+use Rattle.record_file.specs.declared.bucket_access.Deed.TheVariants as deeds
+use Rattle.record_file.proofs.StepLemmas.{ended_is, fault_spares}
 use Rattle.split_merge.proofs.of_stale_search.StayLemmas.{Stays-of}
 use Rattle.record_insert.specs.Words.{RecordKey, Pair, pair, Put, Known, Ask, Turn, PoolState, Table, Lock, Change, Progress, Moved, Blocked, Fault, Ended, World, is_fault, HasNoFileLock, Owns, row_of, with_row, store_of, Stays, Tells, WritesOrSpares, world, Sees, Step, Tried, IsPut, IsThere}
 use Rattle.record_insert.specs.SecondSteps.{IsSeenThere, MakesStep, NearsOrSpares, SaysAt}
 use Rattle.record_insert.specs.SecondTries.{SecondTryView, said_at, second_facts, second_turn}
-use Rattle.record_insert.specs.Inserts.{InsertView, IsFirstAt, IsOver, IsSecondAt, SECOND_STEPS, is_ended, is_there}
+use Rattle.record_insert.specs.Inserts.{InsertView, IsFirstAt, IsSecondAt, SECOND_STEPS, is_there}
 use Rattle.record_insert.specs.InsertSteps.{MakesInsert}
 use Rattle.record_insert.specs.declared.insert.InsertStage.{InsertStage}
 use Rattle.record_insert.specs.declared.insert.InsertStage.TheVariants.{First, Second}
@@ -23,14 +25,6 @@ use Rattle.record_insert.specs.declared.second_place.SecondPlace.TheVariants.{Ap
 pub none_said : (said : Option Tried) → is_some said ≡ false → said ≡ None
 none_said None none = refl
 none_said (Some tried) none = absurd cc
-
-ended_is : (stage : FirstTryStage) → is_ended stage ≡ true → (tried : Tried) × (stage ≡ FirstEnded tried)
-ended_is Searching is = absurd cc
-ended_is (Written n) is = absurd cc
-ended_is (FirstEnded tried) is = (tried, refl)
-
-is_ended_by : (stage : FirstTryStage) → (tried : Tried) × (stage ≡ FirstEnded tried) → is_ended stage ≡ true
-is_ended_by stage (tried, is) = ap is_ended is
 
 -- what it came to stays
 says_same : (hash : RecordKey → ℕ) (seat : ℕ) (did : Progress FileFault) (p : Pair) (said : Option Tried)
@@ -61,7 +55,7 @@ nears_more (Fault fault) left left' more pool pool' same n = record { devices = 
 nears_more Ended left left' more pool pool' same n = tt
 
 -- where a first try is not what it was, it moved
-stays_else : {T : Type 0} (did : Progress FileFault) (t t' : FirstTryView) (old new : T) → Stays did t t' →
+stays_else : {T : Type 0} (did : Progress FileFault) (t t' : BucketView) (old new : T) → Stays did t t' →
     (t' ≡ t → ⊥) → Stays did old new
 stays_else (Moved kind) t t' old new still other = tt
 stays_else (Blocked seat) t t' old new still other = absurd (other still)
@@ -94,53 +88,46 @@ module _ (hash : RecordKey → ℕ) (seat : ℕ) (key : RecordKey) (k : ℕ) (va
   puts_at own ask facts change same made =
       subst (λ (x : RecordKey). Step hash seat (put_at ask x) did facts pool pool' locks locks' change) same made
 
-  module _ (t t' : FirstTryView) (said : Option Tried) (inv : IsFirstAt key k t said)
-      (writes : WritesOrSpares did pool pool') (aim : KeepsFirstTry did t t')
-      (row : (before : List Lock) → HasNoFileLock before → row_of locks seat ≡ first_try_locks t before →
-      locks' ≡ with_row locks seat (first_try_locks t' before))
-      (nears : (hash : RecordKey → ℕ) (change : Change) → Sees hash seat (first_try_facts t) pool locks change →
-      Nears did (first_try_left t (store_of pool.images)) (first_try_left t' (store_of pool'.images)) pool pool')
-      (step : (hash : RecordKey → ℕ) (change : Change) (before : List Lock) → HasNoFileLock before →
-      Owns before t.search.key → row_of locks seat ≡ first_try_locks t before →
-      hash t.search.key ≡ t.search.pseudokey → Sees hash seat (first_try_facts t) pool locks change →
-      is_fault did ≡ false → Step hash seat (first_try_turn t value) did (first_try_facts t') pool pool' locks locks'
-      change)
-      (answer : (hash : RecordKey → ℕ) (change : Change) → hash t.search.key ≡ t.search.pseudokey →
-      Sees hash seat (first_try_facts t) pool locks change → is_fault did ≡ false →
-      FindsAt hash seat did t.search.key (found_in t) (found_in t') (world pool.images locks change)
-      × GivesUp hash t.search.key value t.stage t'.stage (world pool.images locks change)) where
+  module _ (t t' : BucketView) (said : Option Tried) (inv : IsFirstAt key k t said)
+      (made : MakesBucket deeds.Put seat value did t t' pool pool' locks locks') where
     keyed_first : hash key ≡ k → hash t.search.key ≡ t.search.pseudokey
     keyed_first keyed = ap hash inv.key_is ∙ keyed ∙ sym inv.pseudokey_is
 
-    ends : (did ≡ Ended → IsOver (First t said)) × (IsOver (First t said) → did ≡ Ended)
-    ends = (λ e. is_ended_by t.stage (aim.ended.0 e), λ over. aim.ended.1 (ended_is t.stage over))
+    nears_on : (change : Change) → Sees hash seat (bucket_facts deeds.Put t) pool locks change →
+        NearsOrSpares did (bucket_left deeds.Put t (store_of pool.images) + SECOND_STEPS)
+        (bucket_left deeds.Put t' (store_of pool'.images) + SECOND_STEPS) pool pool'
+    nears_on change sees = nears_more did (bucket_left deeds.Put t (store_of pool.images))
+        (bucket_left deeds.Put t' (store_of pool'.images)) SECOND_STEPS pool pool'
+        (λ f. (fault_spares deeds.Put did pool pool' made.writes).spares f sees.honest)
+        (made.progress hash change tt sees)
 
-    nears_on : (change : Change) → Sees hash seat (first_try_facts t) pool locks change →
-        NearsOrSpares did (first_try_left t (store_of pool.images) + SECOND_STEPS)
-        (first_try_left t' (store_of pool'.images) + SECOND_STEPS) pool pool'
-    nears_on change sees = nears_more did (first_try_left t (store_of pool.images))
-        (first_try_left t' (store_of pool'.images)) SECOND_STEPS pool pool' (λ f. writes.spares f sees.honest)
-        (nears hash change sees)
+    puts : (change : Change) (before : List Lock) → HasNoFileLock before → Owns before key →
+        row_of locks seat ≡ bucket_locks_in t.stage t.search before → hash key ≡ k →
+        Sees hash seat (bucket_facts deeds.Put t) pool locks change → is_fault did ≡ false →
+        Step hash seat (put_at (ask_in t.stage t.search) key) did (bucket_facts deeds.Put t') pool pool' locks locks'
+        change
+    puts change before bare owns here keyed sees fine =
+        puts_at t.search.key (ask_in t.stage t.search) (bucket_facts deeds.Put t') change inv.key_is
+        (made.step hash change before bare (keyed_first keyed, subst (Owns before) (sym inv.key_is) owns) here tt sees
+        fine)
 
     goes_on : (said' : Option Tried) → Stays did (insert_at (First t said)) (insert_at (First t' said')) →
         ((change : Change) → hash key ≡ k →
-        Sees hash seat (first_try_facts t) pool locks change → is_fault did ≡ false →
+        Sees hash seat (bucket_facts deeds.Put t) pool locks change → is_fault did ≡ false →
         SaysAt hash seat did (pair key value) said said' (world pool.images locks change)
         (world pool'.images locks' change)) → Inserts (First t said) (First t' said')
     goes_on said' stays says = record {
-      writes = writes.writes;
-      aim = record { key = refl; pseudokey = refl; ended = ends; stays = stays; goes = tt; lent = λ lent. tt };
-      row = row;
+      writes = made.writes.writes;
+      aim = record { key = refl; pseudokey = refl; ended = made.aim.ended; stays = stays; goes = tt; lent = λ lent. tt };
+      row = made.row;
       progress = λ change keyed sees. nears_on change sees;
-      step = λ change before bare owns here keyed sees fine. puts_at t.search.key (first_try_turn t value).ask
-          (first_try_facts t') change inv.key_is
-          (step hash change before bare (subst (Owns before) (sym inv.key_is) owns) here (keyed_first keyed) sees fine);
+      step = puts;
       answer = says;
     }
 
     -- it came to nothing, or had come to something before
     pub says_on : Inserts (First t said) (First t' said)
-    says_on = goes_on said (Stays-of (λ (x : FirstTryView). insert_at (First x said)) did t t' aim.stays)
+    says_on = goes_on said (Stays-of (λ (x : BucketView). insert_at (First x said)) did t t' made.aim.stays)
         (λ change keyed sees fine. says_same hash seat did (pair key value) said
         (world pool.images locks change) (world pool'.images locks' change))
 
@@ -153,16 +140,16 @@ module _ (hash : RecordKey → ℕ) (seat : ℕ) (key : RecordKey) (k : ℕ) (va
           (world pool'.images locks' change)) (sym none) wrote)
 
       -- the key was seen
-      pub has_seen : is_there (found_in t') ≡ true → Inserts (First t said) (First t' (Some IsThere))
-      has_seen there = goes_on (Some IsThere) (stays_else did t t' _ _ aim.stays (λ same.
-          true≢false (sym there ∙ ap (λ (x : FirstTryView). is_there (found_in x)) same ∙ inv.unseen none)))
+      pub has_seen : is_there (found_of t') ≡ true → Inserts (First t said) (First t' (Some IsThere))
+      has_seen there = goes_on (Some IsThere) (stays_else did t t' _ _ made.aim.stays (λ same.
+          true≢false (sym there ∙ ap (λ (x : BucketView). is_there (found_of x)) same ∙ inv.unseen none)))
           (λ change keyed sees fine. subst (λ (x : Option Tried).
           SaysAt hash seat did (pair key value) x (Some IsThere) (world pool.images locks change)
           (world pool'.images locks' change)) (sym none)
-          (sees_key hash seat did key (found_in t) (found_in t') (world pool.images locks change) (inv.unseen none)
-          there (subst (λ (x : RecordKey). FindsAt hash seat did x (found_in t) (found_in t')
+          (sees_key hash seat did key (found_of t) (found_of t') (world pool.images locks change) (inv.unseen none)
+          there (subst (λ (x : RecordKey). FindsAt hash seat did x (found_of t) (found_of t')
           (world pool.images locks change)) inv.key_is
-          (answer hash change (keyed_first keyed) sees fine).0)))
+          (made.answer hash change (keyed_first keyed) sees fine).0)))
 
       abbrev pub second_of : SecondTryView
       second_of = record {
@@ -173,32 +160,30 @@ module _ (hash : RecordKey → ℕ) (seat : ℕ) (key : RecordKey) (k : ℕ) (va
       }
 
       -- it gave up, and the second try begins
-      pub passes_on : is_ended t'.stage ≡ true → Inserts (First t said) (Second second_of)
+      pub passes_on : has_ended t'.stage ≡ true → Inserts (First t said) (Second second_of)
       passes_on over =
           let is = (ended_is t'.stage over).1 in
           record {
-            writes = writes.writes;
+            writes = made.writes.writes;
             aim = record {
               key = refl;
               pseudokey = refl;
-              ended = ends;
-              stays = stays_else did t t' _ _ aim.stays (λ same.
-                  true≢false (sym over ∙ ap (λ (x : FirstTryView). is_ended x.stage) same ∙ inv.going none));
+              ended = made.aim.ended;
+              stays = stays_else did t t' _ _ made.aim.stays (λ same.
+                  true≢false (sym over ∙ ap (λ (x : BucketView). has_ended x.stage) same ∙ inv.going none));
               goes = tt;
               lent = λ lent. refl;
             };
-            row = λ before bare here. row before bare here
-                ∙ ap (λ (x : FirstTryStage). with_row locks seat (first_locks_in x t'.search before)) is;
-            progress = λ change keyed sees. nears_to did (first_try_left t (store_of pool.images))
-                (first_try_left t' (store_of pool'.images)) pool pool'
-                (ap (λ (x : FirstTryStage). first_left_in x t'.search (store_of pool'.images)) is)
+            row = λ before bare here. made.row before bare here
+                ∙ ap (λ (x : BucketStage). with_row locks seat (bucket_locks_in x t'.search before)) is;
+            progress = λ change keyed sees. nears_to did (bucket_left deeds.Put t (store_of pool.images))
+                (bucket_left deeds.Put t' (store_of pool'.images)) pool pool'
+                (ap (λ (x : BucketStage). bucket_left_in deeds.Put x t'.search (store_of pool'.images)) is)
                 (nears_on change sees);
             step = λ change before bare owns here keyed sees fine.
-                puts_at t.search.key (first_try_turn t value).ask [] change inv.key_is
-                (subst (λ (x : FirstTryStage). Step hash seat (first_try_turn t value) did (first_facts_in x t'.search)
-                pool pool' locks locks' change) is
-                (step hash change before bare (subst (Owns before) (sym inv.key_is) owns) here (keyed_first keyed) sees
-                fine));
+                subst (λ (x : BucketStage). Step hash seat (put_at (ask_in t.stage t.search) key) did
+                (bucket_facts_in deeds.Put x t'.search) pool pool' locks locks' change) is
+                (puts change before bare owns here keyed sees fine);
             answer = λ change keyed sees fine. subst (λ (x : Option Tried). SaysAt hash seat did (pair key value) x
                 None (world pool.images locks change) (world pool'.images locks' change)) (sym none) tt;
           }

@@ -1,10 +1,9 @@
 -- What an insert holds, knows and asks for: its first try, and then the second one. docs/STEPS.md, "Insert, Replace,
 -- Delete".
 use Rattle.std.specs.Prelude.{ℕ, ◌≡◌, ◌+◌, Bool, true, false, List, Option, Some, None, IsSome, ⊤}
-use Rattle.record_file.specs.FirstTries.{FirstTryView, first_try_facts, first_try_left, first_try_locks}
-use Rattle.record_file.specs.FirstTries.{ask_in as first_try_ask, tried_at as found_in}
-use Rattle.record_file.specs.declared.first_try.FirstTryStage.{FirstTryStage}
-use Rattle.record_file.specs.declared.first_try.FirstTryStage.TheVariants.{Searching, Written, Ended as FirstEnded}
+use Rattle.record_file.specs.BucketAccesses.{BucketView, SuitsKind, bucket_facts, bucket_left, bucket_locks, found_of, has_ended}
+use Rattle.record_file.specs.BucketAccesses.{ask_in as bucket_ask}
+use Rattle.record_file.specs.declared.bucket_access.Deed.TheVariants as deeds
 use Rattle.record_insert.specs.Words.{RecordKey, pair, Put, Lock, Store, Known, Ask, Turn, Tried}
 use Rattle.record_insert.specs.SecondTries.{SecondTryView, second_facts, second_left, second_locks, said_at, splits_left, tried_at}
 use Rattle.record_insert.specs.SecondTries.{ask_at as second_ask_at}
@@ -22,17 +21,14 @@ is_there (Some (page, Some bytes)) = true
 is_there (Some (page, None)) = false
 is_there None = false
 
-abbrev pub is_ended : FirstTryStage → Bool
-is_ended (FirstEnded tried) = true
-is_ended Searching = false
-is_ended (Written n) = false
-
 -- a first try at this key. As long as it came to nothing it has not ended, nor seen the key
-pub record IsFirstAt (key : RecordKey) (k : ℕ) (t : FirstTryView) (said : Option Tried) : Type 0 where
+pub record IsFirstAt (key : RecordKey) (k : ℕ) (t : BucketView) (said : Option Tried) : Type 0 where
   pub key_is : t.search.key ≡ key
   pub pseudokey_is : t.search.pseudokey ≡ k
-  pub unseen : said ≡ None → is_there (found_in t) ≡ false
-  pub going : said ≡ None → is_ended t.stage ≡ false
+  -- its search locks pages to write them
+  pub kind_is : SuitsKind deeds.Put t.search.kind
+  pub unseen : said ≡ None → is_there (found_of t) ≡ false
+  pub going : said ≡ None → has_ended t.stage ≡ false
 
 pub record IsSecondAt (key : RecordKey) (k : ℕ) (t : SecondTryView) : Type 0 where
   pub key_is : t.key ≡ key
@@ -49,21 +45,21 @@ IsLent bytes (Second t) = bytes ≡ t.bytes
 
 -- its locks, behind those that the seat had before
 abbrev pub locks_in : InsertStage → List Lock → List Lock
-locks_in (First t said) before = first_try_locks t before
+locks_in (First t said) before = bucket_locks t before
 locks_in (Second t) before = second_locks t before
 
 abbrev pub insert_locks : InsertView → List Lock → List Lock
 insert_locks i before = locks_in i.stage before
 
 abbrev pub facts_in : InsertStage → List Known
-facts_in (First t said) = first_try_facts t
+facts_in (First t said) = bucket_facts deeds.Put t
 facts_in (Second t) = second_facts t
 
 abbrev pub insert_facts : InsertView → List Known
 insert_facts i = facts_in i.stage
 
 abbrev pub ask_in : InsertStage → Option Ask
-ask_in (First t said) = first_try_ask t.stage t.search
+ask_in (First t said) = bucket_ask t.stage t.search
 ask_in (Second t) = second_ask_at t.place t.pseudokey
 
 -- this value is to be put, at the key and no other
@@ -77,7 +73,7 @@ said_of (Second t) = said_at t.place
 
 -- it gave all locks back
 abbrev pub IsOver : InsertStage → Type 0
-IsOver (First t said) = is_ended t.stage ≡ true
+IsOver (First t said) = has_ended t.stage ≡ true
 IsOver (Second t) = IsSome (tried_at t.place)
 
 -- the steps that are left, if no other seat steps; those of the second try before it begins
@@ -85,7 +81,7 @@ abbrev pub SECOND_STEPS : ℕ
 SECOND_STEPS = 4 + (splits_left 0 + 7)
 
 abbrev pub left_in : InsertStage → Store → ℕ
-left_in (First t said) s = first_try_left t s + SECOND_STEPS
+left_in (First t said) s = bucket_left deeds.Put t s + SECOND_STEPS
 left_in (Second t) s = second_left t s
 
 abbrev pub insert_left : InsertView → Store → ℕ

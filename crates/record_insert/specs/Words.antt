@@ -4,8 +4,6 @@ pub use Rattle.directory.specs.declared.layout.TheConstants.{GREATEST_DEPTH}
 pub use Rattle.record_file.specs.Words.{RecordKey, Pair, pair, lookup, record_bytes, Put, PoolState, IsDevicesFault, Table, IsSeat, Lock, LockKind, Selective, Exclusive, LockName, Directory, Page, Change, Store, Answers, kind_of, lock_of, row_of, held, with_row, without, without_lock, store_of, records_at, IsFilePool, IsReady, OnlyReads, OnlyWrites, Progress, Moved, Blocked, Fault, Ended, World, IsHeld, guard_of, IsSoundWorld, Known, LeadsTo, OnPage, IsKnown, AllKnown, Covering, Lacking, Turn, is_fault, EndsRow, HasNoFileLock, in_directory, on_page, world, Sees, Step}
 pub use Rattle.record_file.specs.Machines.{Tells}
 pub use Rattle.record_file.specs.Writers.{Owns}
-pub use Rattle.record_file.specs.declared.first_try.Tried.{Tried}
-pub use Rattle.record_file.specs.declared.first_try.Tried.TheVariants.{IsPut, IsThere, IsFull}
 pub use Rattle.hash_file.specs.Store.{range_at, next_at}
 pub use Rattle.hash_file.specs.Change.{Quiet}
 pub use Rattle.step_rules.specs.Known.{Live, Built}
@@ -19,6 +17,8 @@ pub use Rattle.split_merge.specs.stale_search.Steps.{FollowsRow, Stays, WritesOr
 pub use Rattle.split_merge.specs.Splits.{SplitView, split_locks, split_facts, has_ended, IsSparingFault}
 pub use Rattle.split_merge.specs.Splits.{steps_left as split_left}
 pub use Rattle.split_merge.specs.declared.wanted.Wanted.{Wanted}
+pub use Rattle.record_insert.specs.declared.tried.Tried.{Tried}
+pub use Rattle.record_insert.specs.declared.tried.Tried.TheVariants.{IsPut, IsThere, IsFull}
 pub use Rattle.record_insert.specs.declared.second_place.SecondPlace.{SecondPlace}
 pub use Rattle.record_insert.specs.declared.second_place.SecondPlace.TheVariants.{Approaching, Look, Hop, Write, Splitting, GiveBackPage, GiveBackDirectory}
 pub use Rattle.record_insert.specs.declared.second_place.SecondPlace.TheVariants.{Ended as HasEnded}

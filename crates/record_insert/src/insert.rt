@@ -1,18 +1,19 @@
 //! A record that is inserted.
 
 ghost use Rattle.std.specs.Prelude.{◌≡◌, ◌↔◌, ℕ, List, IsSome, None, true, false, length, not};
-ghost use Rattle.record_file.specs.declared.first_try.FirstTryStage.{FirstTryStage};
-ghost use Rattle.split_merge.specs.stale_search.declared.place.SearchPlace.{SearchPlace};
-ghost use Rattle.record_insert.specs.Words.{RecordKey, pair, Lock, Change, Selective, IsReady, IsSeat, row_of, store_of, OnlyWrites, is_fault, EndsRow, HasNoFileLock, Owns, FollowsRow, Sees, Step, world};
+ghost use Rattle.record_file.specs.declared.bucket_access.Deed.{Deed};
+ghost use Rattle.record_file.specs.BucketAccesses.{begun_access};
+ghost use Rattle.record_insert.specs.Words.{RecordKey, pair, Lock, Change, IsReady, IsSeat, row_of, store_of, OnlyWrites, is_fault, EndsRow, HasNoFileLock, Owns, FollowsRow, Sees, Step, world};
 ghost use Rattle.record_insert.specs.SecondSteps.{NearsOrSpares, SaysAt};
-ghost use Rattle.record_insert.specs.Inserts.{IsLent, IsOver, insert_facts, insert_left, insert_locks, insert_turn, is_ended, is_there, said_of};
+ghost use Rattle.record_insert.specs.Inserts.{IsLent, IsOver, insert_facts, insert_left, insert_locks, insert_turn, is_there, said_of};
 ghost use Rattle.record_insert.specs.InsertSteps.{KeepsInsert, MakesInsert};
 
 use crate::second_try::SecondTry;
+use crate::tried::Tried;
 use bucket_page::{PseudoKey, RecordKey};
 use page_device::PageDevice;
 use page_locks::LockTable;
-use record_file::{FirstTry, FirstTryStage, Tried};
+use record_file::{BucketAccess, Deed};
 use split_merge::buffer_pool::Pool;
 use split_merge::file_pages::FileFault;
 use std::marker::Model;
@@ -23,7 +24,7 @@ use step_rules::{Kind, Progress};
 #[derive(Drop)]
 pub enum InsertStage {
     /// The first one, and what it came to.
-    First(FirstTry, Option<Tried>),
+    First(BucketAccess, Option<Tried>),
     /// The second one.
     Second(SecondTry),
 }
@@ -55,22 +56,13 @@ impl Insert {
         ensures { result ≡ record {
           key = key;
           pseudokey = pseudokey;
-          stage = InsertStage.First (record {
-            search = record {
-              key = key;
-              pseudokey = pseudokey;
-              kind = Selective;
-              place = SearchPlace.GrantDirectory;
-              hops = 0;
-            };
-            stage = FirstTryStage.Searching;
-          }) None;
+          stage = InsertStage.First (begun_access Deed.Put key pseudokey) None;
         } }
     {
         Insert {
             key,
             pseudokey,
-            stage: InsertStage::First(FirstTry::new(key, pseudokey), None),
+            stage: InsertStage::First(BucketAccess::new(Deed::Put, key, pseudokey), None),
         }
     }
 
@@ -90,7 +82,7 @@ impl Insert {
         ensures { (result ≡ true) ↔ IsOver self.now.stage }
     {
         match &self.stage {
-            InsertStage::First(first, _) => is_ended(first.stage()),
+            InsertStage::First(first, _) => first.has_ended(),
             InsertStage::Second(second) => second.tried().is_some(),
         }
     }
@@ -154,7 +146,7 @@ impl Insert {
     {
         match &mut self.stage {
             InsertStage::First(first, said) => {
-                let did = first.step(pool, locks, seat, value);
+                let did = first.step(Deed::Put, pool, locks, seat, value);
                 if said.is_some() {
                     return did;
                 }
@@ -166,7 +158,7 @@ impl Insert {
                     *said = Some(Tried::IsThere);
                     return did;
                 }
-                if is_ended(first.stage()) {
+                if first.has_ended() {
                     let second = SecondTry::new(self.key, self.pseudokey, value.len());
                     self.stage = InsertStage::Second(second);
                     return did;
@@ -183,11 +175,4 @@ fn is_there(found: Option<(u32, Option<usize>)>) -> bool
     ensures { result ≡ is_there found }
 {
     matches!(found, Some((_, Some(_))))
-}
-
-/// Whether a first try has ended.
-fn is_ended(stage: FirstTryStage) -> bool
-    ensures { result ≡ is_ended stage }
-{
-    matches!(stage, FirstTryStage::Ended(_))
 }

@@ -9,6 +9,7 @@
 mod insert;
 mod second_place;
 mod second_try;
+mod tried;
 
 pub use insert::{Insert, InsertStage};
 pub use record_file;
@@ -16,3 +17,4 @@ pub use second_place::SecondPlace;
 pub use second_try::SecondTry;
 pub use split_merge::{buffer_pool, file_pages};
 pub use step_rules;
+pub use tried::Tried;

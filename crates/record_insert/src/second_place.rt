@@ -1,6 +1,6 @@
 //! Where the second try of an Insert is.
 
-use record_file::Tried;
+use crate::tried::Tried;
 use split_merge::Split;
 use split_merge::stale_search::Approach;
 

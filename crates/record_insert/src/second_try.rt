@@ -2,18 +2,18 @@
 
 ghost use Rattle.std.specs.Prelude.{◌≡◌, ℕ, List, false, length, not};
 ghost use Rattle.split_merge.specs.stale_search.declared.place.ApproachPlace.{ApproachPlace};
-ghost use Rattle.record_file.specs.FirstTries.{has_room};
 ghost use Rattle.record_insert.specs.declared.second_place.SecondPlace.TheVariants as places;
 ghost use Rattle.record_insert.specs.Words.{RecordKey, pair, Lock, Change, IsReady, IsSeat, row_of, store_of, OnlyWrites, is_fault, HasNoFileLock, Owns, FollowsRow, Sees, Step, world};
 ghost use Rattle.record_insert.specs.SecondTries.{HasSecondRow, said_at, second_facts, second_left, second_locks, second_turn, tried_at};
 ghost use Rattle.record_insert.specs.SecondSteps.{KeepsSecondTry, MakesStep, MakesStepHere, NearsOrSpares, SaysAt};
 
 use crate::second_place::SecondPlace;
-use bucket_page::{PseudoKey, RECORD_HEAD_BYTES, ROOM_BYTES, RecordKey};
+use crate::tried::Tried;
+use bucket_page::{PseudoKey, RecordKey};
 use directory::GREATEST_DEPTH;
 use page_device::PageDevice;
 use page_locks::{Grant, LockKind, LockName, LockTable};
-use record_file::Tried;
+use record_file::has_room;
 use split_merge::buffer_pool::Pool;
 use split_merge::file_pages::{FileFault, Sight, look, put_record, read_bucket};
 use split_merge::stale_search::{Approach, ApproachPlace};
@@ -311,11 +311,4 @@ impl SecondTry {
             Err(fault) => Progress::Fault(fault),
         }
     }
-}
-
-/// Whether a value of so many bytes fits a bucket that has so many.
-fn has_room(used: usize, bytes: usize) -> bool
-    ensures { result ≡ has_room used bytes }
-{
-    bytes <= ROOM_BYTES && (used <= ROOM_BYTES && used + (RECORD_HEAD_BYTES + bytes) <= ROOM_BYTES)
 }

@@ -1,14 +1,15 @@
 -- What an operation asks for while it searches is what its seat knows.
 use Rattle.std.proofs.Common.{ℕ, List}
 use Rattle.record_insert.proofs.FactLemmas.{insert_aimed}
-use Rattle.record_insert.proofs.of_record_file.AimLemmas.{delete_aimed, find_aimed, replace_aimed}
+use Rattle.record_insert.proofs.of_record_file.AimLemmas.{bucket_aimed, delete_aimed}
+use Rattle.record_insert.specs.record_file.declared.bucket_access.Deed.TheVariants as deeds
 use Rattle.record_insert.specs.step_rules.Searching.{IsAimed}
 use Rattle.record_operation.specs.Words.{RecordOperation, Find, Insert, Replace, Delete, Store}
 use Rattle.record_operation.specs.Operations.{operation_facts, operation_turn}
 
 pub operation_aimed : (o : RecordOperation) (bytes : List ℕ) (s : Store) →
     IsAimed (operation_turn o bytes s).ask (operation_facts o)
-operation_aimed (Find f) bytes s = find_aimed f
+operation_aimed (Find f) bytes s = bucket_aimed deeds.Find f
 operation_aimed (Insert i) bytes s = insert_aimed i bytes
-operation_aimed (Replace r) bytes s = replace_aimed r bytes s
+operation_aimed (Replace r) bytes s = bucket_aimed deeds.Replace r
 operation_aimed (Delete d) bytes s = delete_aimed d

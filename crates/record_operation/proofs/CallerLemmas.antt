@@ -5,11 +5,11 @@ use Rattle.record_insert.proofs.of_bucket_merge.CallerLemmas.{merge_adds_locks}
 use Rattle.hash_file.specs.Changes as changes
 use Rattle.record_insert.specs.record_file.Callers.{KeepsNames}
 use Rattle.record_insert.specs.record_file.Deletes.{part}
-use Rattle.record_insert.specs.record_file.Removals.{locks_in}
+use Rattle.record_insert.specs.record_file.BucketAccesses.{locks_in}
 use Rattle.record_insert.specs.record_file.Words.{SearchView}
-use Rattle.record_insert.specs.record_file.declared.removal.RemovalStage.{RemovalStage}
-use Rattle.record_insert.specs.record_file.declared.removal.RemovalStage.TheVariants as removals
-use Rattle.record_insert.proofs.of_record_file.CallerLemmas.{MovesRow, find_aside, removal_aside, replace_aside, stays_told, told_written}
+use Rattle.record_insert.specs.record_file.declared.bucket_access.BucketStage.{BucketStage}
+use Rattle.record_insert.specs.record_file.declared.bucket_access.BucketStage.TheVariants.{Searching, Written, Ended as HasEnded}
+use Rattle.record_insert.proofs.of_record_file.CallerLemmas.{MovesRow, bucket_aside, stays_told, told_written}
 use Rattle.record_insert.proofs.CallerLemmas.{guard_aside, insert_aside}
 use Rattle.record_operation.specs.Words.{RecordKey, pair, with_front, contents, RecordWrite, PoolState, Table, Lock, Change, guard_of, store_of, Progress, Moved, WriteRecord, World, world, DeleteView, delete_locks, RecordOperation, Find, Insert, Replace, Delete}
 use Rattle.record_operation.specs.Callers.{AddsFileNames, KeepsTold, Stepped, TellsWritten}
@@ -17,17 +17,17 @@ use Rattle.record_operation.specs.Callers.{AddsFileNames, KeepsTold, Stepped, Te
 delete_aside : (d : DeleteView) → KeepsNames (delete_locks d)
 delete_aside d = by d.removal.stage d.removal.search d.merge
   where
-    by : (stage : RemovalStage) (search : SearchView) (m : MergeView) →
+    by : (stage : BucketStage) (search : SearchView) (m : MergeView) →
         KeepsNames (λ (before : List Lock). part stage (locks_in stage search before) before (merge_locks m before))
-    by removals.Searching search m before key = removal_aside removals.Searching search before key
-    by (removals.Written n due) search m before key = removal_aside (removals.Written n due) search before key
-    by (removals.Ended true) search m before key = merge_adds_locks m before (guard_of key) (guard_aside key)
-    by (removals.Ended false) search m before key = refl
+    by Searching search m before key = bucket_aside Searching search before key
+    by (Written n due) search m before key = bucket_aside (Written n due) search before key
+    by (HasEnded true) search m before key = merge_adds_locks m before (guard_of key) (guard_aside key)
+    by (HasEnded false) search m before key = refl
 
 pub operation_aside : AddsFileNames
-operation_aside (Find f) = find_aside f
+operation_aside (Find f) = bucket_aside f.stage f.search
 operation_aside (Insert i) = insert_aside i
-operation_aside (Replace r) = replace_aside r.stage r.search
+operation_aside (Replace r) = bucket_aside r.stage r.search
 operation_aside (Delete d) = delete_aside d
 
 moves : (hash : RecordKey → ℕ) (seat : ℕ) (bytes : List ℕ) (did : Progress FileFault) (old new : RecordOperation)

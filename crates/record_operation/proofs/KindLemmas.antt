@@ -2,10 +2,11 @@
 use Rattle.std.proofs.Common.{◌≡◌, refl, sym, ap, ◌∙◌, ℕ, true, false, not, List, inl, length}
 use Rattle.std.proofs.lemmas.Bool.{true≢false}
 use Rattle.record_operation.proofs.Names.{FileFault, MakesOperation, Stays-of}
-use Rattle.record_operation.specs.Words.{RecordKey, pair, PoolState, Table, Lock, Change, row_of, store_of, OnlyReads, OnlyWrites, WritesOrSpares, Progress, Moved, Blocked, Fault, Ended, WriteRecord, is_fault, HasNoFileLock, Nears, Sees, Step, FollowsRow, NearsOrSpares, world, Owns, FindsAt, SaysAt, TurnsAwayAt, TurnsAwayIn}
-use Rattle.record_operation.specs.Words.{FindView, KeepsFind, find_facts, find_left, find_locks, find_turn, found_of}
-use Rattle.record_operation.specs.Words.{ReplaceView, KeepsReplace, WritesOnce, IsFrontAt, replace_facts, replace_left, replace_locks, replace_turn, replaced_at}
-use Rattle.record_operation.specs.Words.{DeleteView, KeepsDelete, delete_facts, delete_left, delete_locks, delete_turn, removed_at}
+use Rattle.record_operation.specs.Words.{RecordKey, pair, PoolState, Table, Lock, Change, row_of, store_of, OnlyWrites, WritesOrSpares, Progress, Moved, Blocked, Fault, Ended, WriteRecord, is_fault, HasNoFileLock, Nears, Sees, Step, FollowsRow, NearsOrSpares, world, Owns, FindsAt, SaysAt, TurnsAwayAt, TurnsAwayIn}
+use Rattle.record_operation.specs.Words.{BucketView, MakesBucket, bucket_left, found_of}
+use Rattle.record_insert.specs.record_file.declared.bucket_access.Deed.TheVariants as deeds
+use Rattle.record_insert.proofs.of_record_file.StepLemmas.{leaves_search}
+use Rattle.record_operation.specs.Words.{DeleteView, KeepsDelete, delete_facts, delete_left, delete_locks, delete_turn}
 use Rattle.record_operation.specs.Words.{InsertView, KeepsInsert, insert_facts, insert_left, insert_locks, insert_turn, said_of, RecordOperation, Find, Insert, Replace, Delete}
 
 -- a fault of the device, by which no page has changed
@@ -25,44 +26,27 @@ module _ (hash : RecordKey → ℕ) (seat : ℕ) (bytes : List ℕ) (did : Progr
   abbrev Makes : (old new : RecordOperation) → Type 0
   Makes old new = MakesOperation hash seat bytes did old new pool pool' locks locks'
 
-  pub find_makes : (f f' : FindView) → OnlyReads (not (is_fault did)) pool pool' → KeepsFind did pool f f' →
-      FollowsRow seat (find_locks f) (find_locks f') locks locks' →
-      ((change : Change) → Sees hash seat (find_facts f) pool locks change →
-      Nears did (find_left f (store_of pool.images)) (find_left f' (store_of pool'.images)) pool pool') →
-      ((change : Change) (before : List Lock) → HasNoFileLock before → row_of locks seat ≡ find_locks f before →
-      Sees hash seat (find_facts f) pool locks change → is_fault did ≡ false →
-      Step hash seat (find_turn f) did (find_facts f') pool pool' locks locks' change) →
-      ((change : Change) → hash f.search.key ≡ f.search.pseudokey → Sees hash seat (find_facts f) pool locks change →
-      is_fault did ≡ false →
-      FindsAt hash seat did f.search.key (found_of f) (found_of f') (world pool.images locks change)) →
+  pub find_makes : (f f' : BucketView) → MakesBucket deeds.Find seat bytes did f f' pool pool' locks locks' →
       Makes (Find f) (Find f')
-  find_makes f f' reads aim row progress step answer = record {
-    writes = record {
-      writes = record {
-        ready = reads.ready;
-        honest = reads.honest;
-        later = reads.later;
-        stored = reads.stored;
-        file = reads.file;
-      };
-      spares = reads.images;
-    };
+  find_makes f f' made = record {
+    writes = record { writes = made.writes.writes; spares = made.writes.spares (λ may. may) };
     aim = record {
-      key = aim.key;
-      pseudokey = aim.pseudokey;
-      ended = aim.ended;
-      stays = Stays-of (λ (x : FindView). Find x) did f f' aim.stays;
+      key = made.aim.key;
+      pseudokey = made.aim.pseudokey;
+      ended = made.aim.ended;
+      stays = Stays-of (λ (x : BucketView). Find x) did f f' made.aim.stays;
       lent = λ lent. tt;
       leaves = tt;
-      kind = aim;
+      kind = made.aim;
     };
-    row = row;
-    progress = λ change keyed suits sees. nears_or_spares did (find_left f (store_of pool.images))
-        (find_left f' (store_of pool'.images)) pool pool' (λ failed. reads.images sees.honest)
-        (progress change sees);
-    step = λ change before bare owns here keyed suits sees fine. step change before bare here sees fine;
+    row = made.row;
+    progress = λ change keyed suits sees. nears_or_spares did (bucket_left deeds.Find f (store_of pool.images))
+        (bucket_left deeds.Find f' (store_of pool'.images)) pool pool'
+        (λ failed. made.writes.spares (λ may. may) sees.honest) (made.progress hash change tt sees);
+    step = λ change before bare owns here keyed suits sees fine.
+        made.step hash change before bare tt here tt sees fine;
     answer = λ change keyed sees fine.
-        record { found = answer change keyed sees fine; tried = tt; turns_away = tt };
+        record { found = (made.answer hash change keyed sees fine).0; tried = tt; turns_away = tt };
   }
 
   pub insert_makes : (i i' : InsertView) → OnlyWrites (not (is_fault did)) pool pool' →
@@ -96,40 +80,28 @@ module _ (hash : RecordKey → ℕ) (seat : ℕ) (bytes : List ℕ) (did : Progr
         record { found = inl refl; tried = answer change keyed sees fine; turns_away = tt };
   }
 
-  pub replace_makes : (r r' : ReplaceView) → WritesOnce did pool pool' → KeepsReplace did pool r r' →
-      FollowsRow seat (replace_locks r) (replace_locks r') locks locks' →
-      ((change : Change) → hash r.search.key ≡ r.search.pseudokey →
-      IsFrontAt (store_of pool.images) r.search.key bytes → Sees hash seat (replace_facts r) pool locks change →
-      Nears did (replace_left r (store_of pool.images)) (replace_left r' (store_of pool'.images)) pool pool') →
-      ((change : Change) (before : List Lock) → HasNoFileLock before → Owns before r.search.key →
-      row_of locks seat ≡ replace_locks r before → hash r.search.key ≡ r.search.pseudokey →
-      IsFrontAt (store_of pool.images) r.search.key bytes → Sees hash seat (replace_facts r) pool locks change →
-      is_fault did ≡ false →
-      Step hash seat (replace_turn r bytes (store_of pool.images)) did (replace_facts r') pool pool' locks locks'
-      change) →
-      ((change : Change) → hash r.search.key ≡ r.search.pseudokey →
-      Sees hash seat (replace_facts r) pool locks change → is_fault did ≡ false →
-      FindsAt hash seat did r.search.key (replaced_at r) (replaced_at r') (world pool.images locks change)) →
+  pub replace_makes : (r r' : BucketView) → MakesBucket deeds.Replace seat bytes did r r' pool pool' locks locks' →
       Makes (Replace r) (Replace r')
-  replace_makes r r' writes aim row progress step answer = record {
-    writes = record { writes = writes.writes; spares = λ honest other. writes.spares other honest };
+  replace_makes r r' made = record {
+    writes = record { writes = made.writes.writes; spares = λ honest other. made.writes.spares other honest };
     aim = record {
-      key = aim.key;
-      pseudokey = aim.pseudokey;
-      ended = aim.ended;
-      stays = Stays-of (λ (x : ReplaceView). Replace x) did r r' aim.stays;
-      lent = λ lent. tt;
-      leaves = aim.leaves;
-      kind = aim;
+      key = made.aim.key;
+      pseudokey = made.aim.pseudokey;
+      ended = made.aim.ended;
+      stays = Stays-of (λ (x : BucketView). Replace x) did r r' made.aim.stays;
+      lent = λ lent. made.aim.kind ∙ lent;
+      leaves = leaves_search deeds.Replace did (found_of r) r.stage r'.stage (λ due gave. gave.1) made.aim.passes;
+      kind = made.aim;
     };
-    row = row;
-    progress = λ change keyed suits sees. nears_or_spares did (replace_left r (store_of pool.images))
-        (replace_left r' (store_of pool'.images)) pool pool'
-        (λ failed. writes.spares (fault_writes_none did failed) sees.honest) (progress change keyed suits sees);
+    row = made.row;
+    progress = λ change keyed suits sees. nears_or_spares did (bucket_left deeds.Replace r (store_of pool.images))
+        (bucket_left deeds.Replace r' (store_of pool'.images)) pool pool'
+        (λ failed. made.writes.spares (fault_writes_none did failed) sees.honest)
+        (made.progress hash change (keyed, suits) sees);
     step = λ change before bare owns here keyed suits sees fine.
-        step change before bare owns here keyed suits sees fine;
+        made.step hash change before bare (keyed, owns) here (keyed, suits) sees fine;
     answer = λ change keyed sees fine.
-        record { found = answer change keyed sees fine; tried = tt; turns_away = tt };
+        record { found = (made.answer hash change keyed sees fine).0; tried = tt; turns_away = tt };
   }
 
   pub delete_makes : (d d' : DeleteView) → WritesOrSpares did pool pool' → KeepsDelete did d d' →
@@ -142,7 +114,7 @@ module _ (hash : RecordKey → ℕ) (seat : ℕ) (bytes : List ℕ) (did : Progr
       Step hash seat (delete_turn d) did (delete_facts d') pool pool' locks locks' change) →
       ((change : Change) → hash d.removal.search.key ≡ d.removal.search.pseudokey →
       Sees hash seat (delete_facts d) pool locks change → is_fault did ≡ false →
-      FindsAt hash seat did d.removal.search.key (removed_at d.removal) (removed_at d'.removal)
+      FindsAt hash seat did d.removal.search.key (found_of d.removal) (found_of d'.removal)
       (world pool.images locks change)
       × TurnsAwayIn hash d.removal.search.key seat d.removal.stage d'.removal.stage
       (world pool'.images locks' change)

@@ -5,16 +5,12 @@ use Rattle.record_insert.specs.bucket_merge.declared.place.MergePlace.TheVariant
 use Rattle.hash_file.specs.Words.{HasShortWays}
 use Rattle.record_insert.specs.stale_search.declared.place.ApproachPlace.TheVariants as way
 use Rattle.record_insert.specs.stale_search.declared.place.SearchPlace.TheVariants.{GrantDirectory, ReadDepth, ReadEntry, GrantPage, ReleaseDirectory, Look, Hop, Found}
-use Rattle.record_insert.specs.record_file.FirstTries.{left_in as first_left_in}
-use Rattle.record_insert.specs.record_file.Removals.{left_in as removal_left_in}
-use Rattle.record_insert.specs.record_file.Replaces.{left_in as replace_left_in}
+use Rattle.record_insert.specs.record_file.BucketAccesses.{left_in as bucket_left_in, steps_behind}
 use Rattle.record_insert.specs.record_file.Deletes.{part}
-use Rattle.record_insert.specs.record_file.declared.first_try.FirstTryStage.{FirstTryStage}
-use Rattle.record_insert.specs.record_file.declared.first_try.FirstTryStage.TheVariants as tries
-use Rattle.record_insert.specs.record_file.declared.removal.RemovalStage.{RemovalStage}
-use Rattle.record_insert.specs.record_file.declared.removal.RemovalStage.TheVariants as removals
-use Rattle.record_insert.specs.record_file.declared.replace.ReplaceStage.{ReplaceStage}
-use Rattle.record_insert.specs.record_file.declared.replace.ReplaceStage.TheVariants as replaces
+use Rattle.record_insert.specs.record_file.declared.bucket_access.BucketStage.{BucketStage}
+use Rattle.record_insert.specs.record_file.declared.bucket_access.BucketStage.TheVariants.{Searching, Written, Ended as HasEnded}
+use Rattle.record_insert.specs.record_file.declared.bucket_access.Deed.{Deed}
+use Rattle.record_insert.specs.record_file.declared.bucket_access.Deed.TheVariants as deeds
 use Rattle.record_insert.proofs.FewLemmas.{few_left}
 use Rattle.record_insert.specs.Inserts.{left_in as insert_left_in}
 use Rattle.record_insert.specs.declared.insert.InsertStage.{InsertStage}
@@ -22,6 +18,12 @@ use Rattle.record_insert.specs.declared.insert.InsertStage.TheVariants.{First, S
 use Rattle.record_operation.specs.Words.{Change, PoolState, RecordKey, Sees, Store, Table, store_of, SECOND_STEPS, RecordOperation, Find, Insert, Replace, Delete}
 use Rattle.record_operation.specs.Lengths.{MOST_STEPS}
 use Rattle.record_operation.specs.Operations.{operation_facts}
+
+few_behind : (deed : Deed) → steps_behind deed ≤ 2
+few_behind deeds.Find = omega arith
+few_behind deeds.Put = omega arith
+few_behind deeds.Replace = omega arith
+few_behind deeds.Remove = omega arith
 
 begun_few : (range : ℕ → Range) (ns : List ℕ) (p : ℕ) → begun range ns p ≤ length ns
 begun_few range [] p = omega arith
@@ -53,27 +55,13 @@ module _ (s : Store) (short : HasShortWays s) where
   few_searching : (v : SearchView) → steps_left v s ≤ few
   few_searching v = few_in_search v.place v.pseudokey
 
-  few_finding : (b : Bool) (v : SearchView) → (if b then 0 else steps_left v s + 1) ≤ few + 2
-  few_finding true v = omega arith
-  few_finding false v = omega (arith, few_searching v)
-
-  few_replacing : (stage : ReplaceStage) (v : SearchView) → replace_left_in stage v s ≤ few + 2
-  few_replacing replaces.Searching v = omega (arith, few_searching v)
-  few_replacing (replaces.Written n) v = omega arith
-  few_replacing replaces.Ended v = omega arith
-
-  few_removing : (stage : RemovalStage) (v : SearchView) → removal_left_in stage v s ≤ few + 2
-  few_removing removals.Searching v = omega (arith, few_searching v)
-  few_removing (removals.Written n due) v = omega arith
-  few_removing (removals.Ended due) v = omega arith
-
-  few_trying : (stage : FirstTryStage) (v : SearchView) → first_left_in stage v s ≤ few + 2
-  few_trying tries.Searching v = omega (arith, few_searching v)
-  few_trying (tries.Written n) v = omega arith
-  few_trying (tries.Ended tried) v = omega arith
+  few_in_bucket : (deed : Deed) (stage : BucketStage) (v : SearchView) → bucket_left_in deed stage v s ≤ few + 2
+  few_in_bucket deed Searching v = omega (arith, few_searching v, few_behind deed)
+  few_in_bucket deed (Written n due) v = omega arith
+  few_in_bucket deed (HasEnded due) v = omega arith
 
   few_inserting : (stage : InsertStage) → insert_left_in stage s ≤ few + 2 + SECOND_STEPS
-  few_inserting (First t said) = omega (arith, few_trying t.stage t.search)
+  few_inserting (First t said) = omega (arith, few_in_bucket deeds.Put t.stage t.search)
   few_inserting (Second t) = omega (arith, few_left t.place t.pseudokey s)
 
   -- ---- a merge
@@ -115,17 +103,17 @@ module _ (s : Store) (short : HasShortWays s) where
     few_merging : (m : MergeView) → merge_left m s ≤ 295
     few_merging m = few_in_merge m.place m.approach
 
-    few_deleting : (stage : RemovalStage) (v : SearchView) (m : MergeView) →
-        part stage (removal_left_in stage v s + merge_left m s) 0 (merge_left m s) ≤ few + 2 + SECOND_STEPS
-    few_deleting removals.Searching v m = omega (arith, few_removing removals.Searching v, few_merging m)
-    few_deleting (removals.Written n due) v m = omega (arith, few_removing (removals.Written n due) v, few_merging m)
-    few_deleting (removals.Ended true) v m = omega (arith, few_merging m)
-    few_deleting (removals.Ended false) v m = omega arith
+    few_deleting : (stage : BucketStage) (v : SearchView) (m : MergeView) →
+        part stage (bucket_left_in deeds.Remove stage v s + merge_left m s) 0 (merge_left m s) ≤ few + 2 + SECOND_STEPS
+    few_deleting Searching v m = omega (arith, few_in_bucket deeds.Remove Searching v, few_merging m)
+    few_deleting (Written n due) v m = omega (arith, few_merging m)
+    few_deleting (HasEnded true) v m = omega (arith, few_merging m)
+    few_deleting (HasEnded false) v m = omega arith
 
     few_steps : (o : RecordOperation) → operation_left o s ≤ few + 2 + SECOND_STEPS
-    few_steps (Find f) = omega (arith, few_finding f.ended f.search)
+    few_steps (Find f) = omega (arith, few_in_bucket deeds.Find f.stage f.search)
     few_steps (Insert i) = few_inserting i.stage
-    few_steps (Replace r) = omega (arith, few_replacing r.stage r.search)
+    few_steps (Replace r) = omega (arith, few_in_bucket deeds.Replace r.stage r.search)
     few_steps (Delete d) = few_deleting d.removal.stage d.removal.search d.merge
 
 -- ---- in a file on its pages

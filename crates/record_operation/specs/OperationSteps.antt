@@ -1,7 +1,8 @@
 -- What a step of an operation does. docs/STEPS.md, "Insert, Replace, Delete".
 use Rattle.std.specs.Prelude.{ℕ, ◌≡◌, ◌↔◌, true, false, not, IsTrue, List, length, ⊤}
 use Rattle.record_insert.specs.file_pages.declared.fault.FileFault.{FileFault}
-use Rattle.record_operation.specs.Words.{RecordKey, pair, PoolState, Table, Lock, Change, Progress, Moved, Ended, WriteRecord, World, is_fault, HasNoFileLock, LeavesSearch, row_of, store_of, OnlyWrites, Stays, Sees, Step, FollowsRow, NearsOrSpares, world, FindsAt, SaysAt, TurnsAwayAt, TurnsAwayIn, KeepsFind, KeepsInsert, KeepsReplace, KeepsDelete, RecordOperation, Find, Insert, Replace, Delete}
+use Rattle.record_insert.specs.record_file.declared.bucket_access.Deed.TheVariants as deeds
+use Rattle.record_operation.specs.Words.{RecordKey, pair, PoolState, Table, Lock, Change, Progress, Moved, Ended, WriteRecord, World, is_fault, HasNoFileLock, LeavesSearch, row_of, store_of, OnlyWrites, Stays, Sees, Step, FollowsRow, NearsOrSpares, world, FindsAt, SaysAt, TurnsAwayAt, TurnsAwayIn, KeepsBucket, KeepsInsert, KeepsDelete, RecordOperation, Find, Insert, Replace, Delete}
 use Rattle.record_operation.specs.Operations.{HasEnded, IsKeyed, MayBeLent, OwnsWritten, SuitsFile, has_searched, operation_facts, operation_found, operation_key, operation_left, operation_locks, operation_pseudokey, operation_tried, operation_turn}
 
 -- ---- whatever the device gives
@@ -20,9 +21,9 @@ pub record LeavesPages {F : Type 0} (did : Progress F) (o : RecordOperation) (ol
 
 -- it stays of its kind, and keeps what one of its kind keeps
 abbrev pub KeepsKind : {F : Type 0} → ℕ → Progress F → PoolState → (old new : RecordOperation) → Type 0
-KeepsKind bytes did pool (Find f) (Find f') = KeepsFind did pool f f'
+KeepsKind bytes did pool (Find f) (Find f') = KeepsBucket deeds.Find did pool f f'
 KeepsKind bytes did pool (Insert i) (Insert i') = KeepsInsert bytes did i i'
-KeepsKind bytes did pool (Replace r) (Replace r') = KeepsReplace did pool r r'
+KeepsKind bytes did pool (Replace r) (Replace r') = KeepsBucket deeds.Replace did pool r r'
 KeepsKind bytes did pool (Delete d) (Delete d') = KeepsDelete did d d'
 KeepsKind bytes did pool old new = ⊥
 

@@ -2,41 +2,29 @@
 -- docs/STEPS.md, "Search" and "Insert, Replace, Delete".
 use Rattle.std.specs.Prelude.{ℕ, ◌≡◌, Bool, true, false, List, [], Option, Some, None, IsSome, ⊤, unwrap_or}
 use Rattle.record_insert.specs.bucket_merge.declared.place.MergePlace.TheVariants.{Approaching}
-use Rattle.record_insert.specs.stale_search.Searches.{SearchView}
 use Rattle.record_insert.specs.stale_search.declared.place.ApproachPlace.TheVariants.{GrantDirectory as ToDirectory}
-use Rattle.record_insert.specs.stale_search.declared.place.SearchPlace.TheVariants.{GrantDirectory}
-use Rattle.record_insert.specs.step_rules.Words.{LockKind}
 use Rattle.record_insert.specs.record_file.Deletes.{IsOver as IsDeleteOver}
-use Rattle.record_insert.specs.record_file.Removals.{has_searched as removal_has_searched}
-use Rattle.record_insert.specs.record_file.Replaces.{has_searched as replace_has_searched}
-use Rattle.record_insert.specs.record_file.declared.first_try.FirstTryStage.TheVariants as tries
-use Rattle.record_insert.specs.record_file.declared.removal.RemovalStage.TheVariants as removals
-use Rattle.record_insert.specs.record_file.declared.replace.ReplaceStage.TheVariants as replaces
+use Rattle.record_insert.specs.record_file.BucketAccesses.{has_searched as bucket_has_searched}
+use Rattle.record_insert.specs.record_file.declared.bucket_access.Deed.TheVariants as deeds
 use Rattle.record_insert.specs.Inserts.{IsOver as IsInsertOver}
 use Rattle.record_insert.specs.declared.insert.InsertStage.TheVariants.{First}
-use Rattle.record_operation.specs.Words.{RecordKey, Lock, Read, Selective, Store, contents, Known, Turn, Owns, find_facts, find_left, find_locks, find_turn, found_of, IsFrontAt, with_front, replace_facts, replace_left, replace_locks, replace_turn, replaced_at, removed_at, delete_facts, delete_left, delete_locks, delete_turn, Tried, IsLent, insert_facts, insert_left, insert_locks, insert_turn, said_of, RecordOperation, Find, Insert, Replace, Delete}
+use Rattle.record_operation.specs.Words.{RecordKey, Lock, Store, contents, Known, Turn, Owns, IsFrontAt, SuitsKind, begun_access, bucket_facts, bucket_left, bucket_locks, bucket_turn, found_of, has_ended, with_front, delete_facts, delete_left, delete_locks, delete_turn, Tried, IsLent, insert_facts, insert_left, insert_locks, insert_turn, said_of, RecordOperation, Find, Insert, Replace, Delete}
 
 -- ---- its beginning
 
-abbrev pub begun_search : RecordKey → ℕ → LockKind → SearchView
-begun_search key k kind = record { key = key; pseudokey = k; kind = kind; place = GrantDirectory; hops = 0 }
-
 abbrev pub begun_find : RecordKey → ℕ → RecordOperation
-begun_find key k = Find (record { search = begun_search key k Read; ended = false })
+begun_find key k = Find (begun_access deeds.Find key k)
 
 abbrev pub begun_insert : RecordKey → ℕ → RecordOperation
-begun_insert key k = Insert (record {
-  key = key;
-  pseudokey = k;
-  stage = First (record { search = begun_search key k Selective; stage = tries.Searching }) None;
-})
+begun_insert key k =
+    Insert (record { key = key; pseudokey = k; stage = First (begun_access deeds.Put key k) None })
 
 abbrev pub begun_replace : RecordKey → ℕ → RecordOperation
-begun_replace key k = Replace (record { search = begun_search key k Selective; stage = replaces.Searching })
+begun_replace key k = Replace (begun_access deeds.Replace key k)
 
 abbrev pub begun_delete : RecordKey → ℕ → RecordOperation
 begun_delete key k = Delete (record {
-  removal = record { search = begun_search key k Selective; stage = removals.Searching };
+  removal = begun_access deeds.Remove key k;
   merge = record {
     key = key;
     approach = record { pseudokey = k; place = ToDirectory };
@@ -64,9 +52,11 @@ IsKeyed hash o = hash (operation_key o) ≡ operation_pseudokey o
 
 -- ---- what it asks of its caller
 
--- as many bytes may be lent to it: to an insert, in its second try, as many as at the end of its first
+-- as many bytes may be lent to it: to an insert, in its second try, as many as at the end of its first; to a replace, as
+-- to one whose search locks pages to write them
 abbrev pub MayBeLent : ℕ → RecordOperation → Type 0
 MayBeLent bytes (Insert i) = IsLent bytes i.stage
+MayBeLent bytes (Replace r) = SuitsKind deeds.Replace r.search.kind
 MayBeLent bytes o = ⊤
 
 -- the bytes that a replace writes are no more than the value has
@@ -83,22 +73,22 @@ OwnsWritten before o = Owns before (operation_key o)
 
 -- its locks, behind those that the seat had before
 abbrev pub operation_locks : RecordOperation → List Lock → List Lock
-operation_locks (Find f) before = find_locks f before
+operation_locks (Find f) before = bucket_locks f before
 operation_locks (Insert i) before = insert_locks i before
-operation_locks (Replace r) before = replace_locks r before
+operation_locks (Replace r) before = bucket_locks r before
 operation_locks (Delete d) before = delete_locks d before
 
 abbrev pub operation_facts : RecordOperation → List Known
-operation_facts (Find f) = find_facts f
+operation_facts (Find f) = bucket_facts deeds.Find f
 operation_facts (Insert i) = insert_facts i
-operation_facts (Replace r) = replace_facts r
+operation_facts (Replace r) = bucket_facts deeds.Replace r
 operation_facts (Delete d) = delete_facts d
 
 -- where these bytes are lent
 abbrev pub operation_turn : RecordOperation → List ℕ → Store → Turn
-operation_turn (Find f) bytes s = find_turn f
+operation_turn (Find f) bytes s = bucket_turn deeds.Find f bytes s
 operation_turn (Insert i) bytes s = insert_turn i bytes
-operation_turn (Replace r) bytes s = replace_turn r bytes s
+operation_turn (Replace r) bytes s = bucket_turn deeds.Replace r bytes s
 operation_turn (Delete d) bytes s = delete_turn d
 
 -- what its WriteRecord leaves at its key
@@ -110,9 +100,9 @@ operation_writes (Delete d) bytes s = None
 
 -- the steps that are left, if no other seat steps
 abbrev pub operation_left : RecordOperation → Store → ℕ
-operation_left (Find f) s = find_left f s
+operation_left (Find f) s = bucket_left deeds.Find f s
 operation_left (Insert i) s = insert_left i s
-operation_left (Replace r) s = replace_left r s
+operation_left (Replace r) s = bucket_left deeds.Replace r s
 operation_left (Delete d) s = delete_left d s
 
 -- ---- what it tells, and its end
@@ -121,8 +111,8 @@ operation_left (Delete d) s = delete_left d s
 abbrev pub operation_found : RecordOperation → Option (ℕ × Option ℕ)
 operation_found (Find f) = found_of f
 operation_found (Insert i) = None
-operation_found (Replace r) = replaced_at r
-operation_found (Delete d) = removed_at d.removal
+operation_found (Replace r) = found_of r
+operation_found (Delete d) = found_of d.removal
 
 -- what an insert has come to
 abbrev pub operation_tried : RecordOperation → Option Tried
@@ -133,14 +123,14 @@ operation_tried o = None
 abbrev pub has_searched : RecordOperation → Bool
 has_searched (Find f) = false
 has_searched (Insert i) = false
-has_searched (Replace r) = replace_has_searched r.stage
-has_searched (Delete d) = removal_has_searched d.removal.stage
+has_searched (Replace r) = bucket_has_searched r.stage
+has_searched (Delete d) = bucket_has_searched d.removal.stage
 
 -- it gave all its locks back
 abbrev pub HasEnded : RecordOperation → Type 0
-HasEnded (Find f) = f.ended ≡ true
+HasEnded (Find f) = has_ended f.stage ≡ true
 HasEnded (Insert i) = IsInsertOver i.stage
-HasEnded (Replace r) = r.stage ≡ replaces.Ended
+HasEnded (Replace r) = has_ended r.stage ≡ true
 HasEnded (Delete d) = IsDeleteOver d.removal.stage d.merge.place
 
 -- an insert that has ended came to something

@@ -11,4 +11,4 @@ mod operation;
 
 pub use laws::an_operation_keeps_what_its_caller_knows;
 pub use operation::RecordOperation;
-pub use record_insert::{record_file, step_rules};
+pub use record_insert::{Tried, record_file, step_rules};

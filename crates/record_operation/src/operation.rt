@@ -10,22 +10,22 @@ ghost use Rattle.record_operation.specs.OperationSteps.{KeepsOperation, LeavesPa
 use bucket_page::{PseudoKey, RecordKey};
 use page_device::PageDevice;
 use page_locks::LockTable;
-use record_insert::Insert;
 use record_insert::buffer_pool::Pool;
 use record_insert::file_pages::FileFault;
-use record_insert::record_file::{Delete, Find, Replace, Tried};
+use record_insert::record_file::{BucketAccess, Deed, Delete};
 use record_insert::step_rules::Progress;
+use record_insert::{Insert, Tried};
 use std::mem::size_of;
 
 /// One operation on the record of one key.
 #[derive(Drop)]
 pub enum RecordOperation {
     /// The record is found.
-    Find(Find),
+    Find(BucketAccess),
     /// A record is put where the key has none.
     Insert(Insert),
     /// The first bytes of the record's value are replaced.
-    Replace(Replace),
+    Replace(BucketAccess),
     /// The record is taken out.
     Delete(Delete),
 }
@@ -37,7 +37,7 @@ impl RecordOperation {
     pub fn find(key: RecordKey, pseudokey: u32) -> RecordOperation
         ensures { result ≡ begun_find key pseudokey }
     {
-        RecordOperation::Find(Find::new(key, pseudokey))
+        RecordOperation::Find(BucketAccess::new(Deed::Find, key, pseudokey))
     }
 
     /// An insert at a key that has this pseudokey.
@@ -51,7 +51,7 @@ impl RecordOperation {
     pub fn replace(key: RecordKey, pseudokey: u32) -> RecordOperation
         ensures { result ≡ begun_replace key pseudokey }
     {
-        RecordOperation::Replace(Replace::new(key, pseudokey))
+        RecordOperation::Replace(BucketAccess::new(Deed::Replace, key, pseudokey))
     }
 
     /// A delete at a key that has this pseudokey.
@@ -160,9 +160,11 @@ impl RecordOperation {
             pool.old pool.new locks.old locks.new }
     {
         match self {
-            RecordOperation::Find(find) => find.step(pool, locks, seat),
+            RecordOperation::Find(find) => find.step(Deed::Find, pool, locks, seat, bytes),
             RecordOperation::Insert(insert) => insert.step(pool, locks, keys, seat, bytes),
-            RecordOperation::Replace(replace) => replace.step(pool, locks, seat, bytes),
+            RecordOperation::Replace(replace) => {
+                replace.step(Deed::Replace, pool, locks, seat, bytes)
+            }
             RecordOperation::Delete(delete) => delete.step(pool, locks, seat),
         }
     }

@@ -4,7 +4,6 @@ use Rattle.std.specs.List.{list_any}
 use Rattle.bucket_page.specs.Pseudokeys.{sha_key}
 use Rattle.bucket_page.specs.declared.pseudokey.ShaKey.{ShaKey}
 use Rattle.queue_model.specs.Journal.{part_of}
-use Rattle.queue_model.specs.State.{State}
 use Rattle.queue_model.specs.declared.entry.Entry.{Entry}
 use Rattle.interleavings.specs.interleaving_core.Active.{ActiveView}
 use Rattle.interleavings.specs.interleaving_core.Closing.{IsBusy, IsFlushedTo, has_one}

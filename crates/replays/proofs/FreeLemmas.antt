@@ -13,12 +13,11 @@ use Rattle.queue_model.specs.declared.entry.Entry.{Entry}
 use Rattle.interleavings.specs.interleaving_core.Active.{ActiveView}
 use Rattle.interleavings.specs.interleaving_core.Beginning.{IsStopped}
 use Rattle.interleavings.specs.interleaving_core.Closing.{IsBusy, has_one}
-use Rattle.interleavings.specs.interleaving_core.Driving.{IsDriven, IsStep, Moves}
+use Rattle.interleavings.specs.interleaving_core.Driving.{IsStep}
 use Rattle.interleavings.specs.interleaving_core.Kernel.{KernelState, call_at}
 use Rattle.interleavings.specs.interleaving_core.Owing.{is_end, is_failure}
 use Rattle.interleavings.specs.interleaving_core.Past.{call_of}
 use Rattle.interleavings.specs.interleaving_core.declared.fault.StepFault.TheVariants as faults
-use Rattle.interleavings.specs.interleaving_core.declared.fault.Failure.{Failure}
 use Rattle.faults.specs.declared.TheConstants.{BUSY, FAILED}
 use Rattle.interleavings.specs.interleaving_core.declared.step.Step.{Step}
 use Rattle.interleavings.specs.interleaving_core.declared.step.Step.TheVariants as steps
@@ -77,33 +76,6 @@ module _ (seat : ℕ) (step : Step) (old new : KernelState ShaKey) (is : IsStep 
   -- and a call whose line it replies is gone
   pub step_frees : IsSome (reply_by step) → call_at new.seats seat ≡ None
   step_frees replied = is.turn.over (ends_by step replied both_sound.1)
-
--- the same of a drive
-moves_sound : (seat moves : ℕ) (old now : KernelState ShaKey) → Moves sha_key seat moves old now →
-    now.failed ≡ false → old.failed ≡ false
-moves_sound seat zero old now same sound = ap (λ (k : KernelState ShaKey). k.failed) (sym same) ∙ sound
-moves_sound seat (suc n) old now moved sound =
-    moves_sound seat n old moved.before moved.stands
-    (sound_before seat (steps.Moved moved.kind) moved.before now moved.step sound)
-
-module _ (seat : ℕ) (step : Step) (old new : KernelState ShaKey) (driven : IsDriven sha_key seat step old new)
-    (sound : new.failed ≡ false) where
-  spent_fails : (failure : Option Failure) → new ≡ record driven.before { failed = true; failure = failure } → ⊥
-  spent_fails failure marked =
-      let never : true ≡ false = sym (ap (λ (k : KernelState ShaKey). k.failed) marked) ∙ sound in absurd cc
-
-  pub sound_before_drive : old.failed ≡ false
-  sound_before_drive = elim driven.ends [
-    | inl rests ↦ moves_sound seat driven.moves old driven.before driven.moved
-        (sound_before seat step driven.before new rests.step sound)
-    | inr spent ↦ absurd (spent_fails _ spent.marked)
-  ]
-
-  pub drive_frees : IsSome (reply_by step) → call_at new.seats seat ≡ None
-  drive_frees replied = elim driven.ends [
-    | inl rests ↦ step_frees seat step driven.before new rests.step sound replied
-    | inr spent ↦ absurd (spent_fails _ spent.marked)
-  ]
 
 -- ---- whether a step has failed
 

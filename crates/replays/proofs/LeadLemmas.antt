@@ -22,7 +22,7 @@ use Rattle.msgq_cli.specs.declared.command.Command.TheVariants as commands
 use Rattle.msgq_cli.specs.declared.reply.Reply.{Reply}
 use Rattle.msgq_cli.specs.declared.reply.Reply.TheVariants.{Answered, Failed, Stopped}
 use Rattle.schedules.specs.declared.event.Event.{Event as Word}
-use Rattle.replays.specs.Events.{Acts, BeginsCommand, BeginsNext, DrivesLine, IsEvent, PlaysAll, RefusesBy, ReplayState, Stops, line_under_way, next_line}
+use Rattle.replays.specs.Events.{Acts, BeginsCommand, BeginsNext, IsEvent, PlaysAll, RefusesBy, ReplayState, Stops, line_under_way, next_line}
 use Rattle.replays.specs.PlainLists.{KeepsCallers}
 use Rattle.replays.specs.Rounds.{MakesRounds}
 use Rattle.replays.specs.declared.deed.Deed.{Deed}
@@ -90,14 +90,6 @@ acts_may seat (Some place) did s t steps = inr (record {
 
 event_may : (seat : ℕ) (did : Deed) (s t : ReplayState) → IsEvent seat did s t → MayHappen s.kernel t.kernel
 event_may seat did s t is = acts_may seat (line_under_way seat s) did s t is
-
-pub drive_may : (seat place : ℕ) (s t : ReplayState) → DrivesLine seat place s t → MayHappen s.kernel t.kernel
-drive_may seat place s t drives = inr (record {
-  event = events.Drive seat;
-  outcome = outcomes.Driven drives.step;
-  happens = record { run = drives.run; driven = drives.driven };
-  of_seat = drives.seat_is;
-})
 
 pub stop_may : (s t : ReplayState) → Stops s t → MayHappen s.kernel t.kernel
 stop_may s t stops = inr (stopped s.kernel t.kernel stops.kernel)
@@ -174,16 +166,13 @@ module _ (P : KernelState ShaKey → Type 0) (one : (old new : KernelState ShaKe
   event_one : (seat : ℕ) (did : Deed) (s t : ReplayState) → IsEvent seat did s t → P s.kernel → P t.kernel
   event_one seat did s t is = one s.kernel t.kernel (event_may seat did s t is)
 
-  drive_one : (seat place : ℕ) (s t : ReplayState) → DrivesLine seat place s t → P s.kernel → P t.kernel
-  drive_one seat place s t is = one s.kernel t.kernel (drive_may seat place s t is)
-
   stop_one : (s t : ReplayState) → Stops s t → P s.kernel → P t.kernel
   stop_one s t is = one s.kernel t.kernel (stop_may s t is)
 
   throughout : P first.kernel → P last.kernel
   throughout kept =
-      rounds (λ (s : ReplayState). P s.kernel) event_one drive_one stop_one played last goes
-      (plays_all (λ (s : ReplayState). P s.kernel) event_one drive_one stop_one words first played plays kept)
+      rounds (λ (s : ReplayState). P s.kernel) event_one stop_one played last goes
+      (plays_all (λ (s : ReplayState). P s.kernel) event_one stop_one words first played plays kept)
 
 pub replay_keeps : (words : List Word) (first played last : ReplayState) → PlaysAll words first played →
     MakesRounds played last → KeepsCallers first.kernel last.kernel

@@ -7,16 +7,16 @@ use Rattle.std.proofs.lemmas.List.Elements.{All-head, All-tail}
 use Rattle.std.proofs.lemmas.List.{length-replicate}
 use Rattle.bucket_page.specs.Pseudokeys.{sha_key}
 use Rattle.bucket_page.specs.declared.pseudokey.ShaKey.{ShaKey}
+use Rattle.bucket_page.specs.declared.record_key.RecordKey.{RecordKey}
 use Rattle.queue_model.specs.declared.caller.Caller.{Caller}
-use Rattle.interleavings.specs.interleaving_core.Beginning.{HasSystem, IsOpened}
+use Rattle.interleavings.specs.interleaving_core.Beginning.{HasSystem, IsOpened, MayRefuse, MayRefuseUnchecked}
 use Rattle.interleavings.specs.interleaving_core.Kernel.{KernelState}
 use Rattle.interleavings.specs.interleaving_core.Words.{spared}
 use Rattle.interleavings.specs.interleaving_core.declared.fault.OpenFault.{OpenFault}
-use Rattle.interleavings.specs.interleaving_core.declared.fault.OpenFault.TheVariants.{TooFewFrames}
+use Rattle.interleavings.specs.interleaving_core.declared.fault.OpenFault.TheVariants.{NoMemory, TooFewFrames, Wrong}
 use Rattle.interleavings.specs.Laws.{RefinesFile, OpensRefine}
 use Rattle.interleavings.proofs.of_interleaving_core.SparedLemmas.{stored_again}
 use Rattle.msgq_cli.specs.Scripts.{Parts, IsSound, caller_of, greatest_seat}
-use Rattle.msgq_cli.specs.declared.files.TheConstants.{MOST_FRAMES}
 use Rattle.msgq_cli.specs.declared.line.Line.{Line}
 use Rattle.msgq_cli.specs.declared.line.SeatIds.{SeatIds}
 use Rattle.script_words.specs.Numbers.{IsSeat}
@@ -56,7 +56,7 @@ never_too_few (Err refusal) frames least enough few =
 -- ---- a kernel that is opened for the seats
 
 pub opened_for : (script : Parts) (content : List (List ℕ)) (honest : Bool) (keys : ShaKey) (frames seats : ℕ)
-    (callers : List Caller) → (length content ≤ MOST_FRAMES → length content ≤ frames) →
+    (callers : List Caller) → length content ≤ frames →
     seats ≡ greatest_seat script.lines → callers ≡ callers_of script.ids seats → (k : KernelState ShaKey) →
     IsOpened keys content honest callers frames k →
     IsOpenedForSeats script content honest k
@@ -71,13 +71,13 @@ opened_for script content honest keys frames seats callers enough many are k ope
           ∙ length-callers_of script.ids (greatest_seat script.lines);
     }
 
--- and then it leaves what a file of at most so many pages had
+-- and then it leaves what the file had
 pub stored_before : (script : Parts) (content : List (List ℕ)) (honest : Bool) (first last : KernelState ShaKey) →
     IsOpenedForSeats script content honest first → spared last.pool ≡ spared first.pool →
-    length content ≤ MOST_FRAMES → last.pool.stored ≡ content
-stored_before script content honest first last opened same few =
+    last.pool.stored ≡ content
+stored_before script content honest first last opened same =
     stored_again opened.with_keys content honest (callers_of script.ids (greatest_seat script.lines)) opened.frames
-    first last opened.opened same (opened.enough few)
+    first last opened.opened same opened.enough
 
 -- of an honest device it is led from the system of the file
 pub opened_led : OpensRefine ShaKey → (script : Parts) (content : List (List ℕ)) (honest : Bool) (seats : ℕ)
@@ -88,3 +88,10 @@ opened_led opens script content honest seats k many some few opened true_to_it h
     let long = length-callers_of script.ids (greatest_seat script.lines) in
     opens sha_key opened.with_keys content honest (callers_of script.ids (greatest_seat script.lines)) opened.frames k
     opened.opened true_to_it has (omega (arith, many, some, long)) (omega (arith, many, few, long))
+
+-- a kernel is refused once its file is checked; for its seats there may be no memory before
+pub refused_unchecked : (hash : RecordKey → ℕ) (content : List (List ℕ)) (fault : OpenFault) →
+    MayRefuse hash content fault → MayRefuseUnchecked hash content fault
+refused_unchecked hash content TooFewFrames may = tt
+refused_unchecked hash content NoMemory may = tt
+refused_unchecked hash content (Wrong fault) may = may

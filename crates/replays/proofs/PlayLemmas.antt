@@ -1,15 +1,14 @@
--- What each event, each drive and each stop keeps, the words of a schedule keep, and so do the rounds behind them.
+-- What each event and each stop keeps, the words of a schedule keep, and so do the rounds behind them.
 use Rattle.std.proofs.Common.{◌≡◌, ◌⊎◌, inl, inr, refl, sym, subst, ℕ, zero, suc, ◌+◌, Bool, true, false, List, [], ◌∷◌, Option, Some, None}
 use Rattle.schedules.specs.declared.event.Event.{Event}
 use Rattle.schedules.specs.declared.event.Event.TheVariants as events
 use Rattle.step_rules.specs.declared.kind.Kind.{Kind}
-use Rattle.replays.specs.Events.{Acts, DrivesLine, DrivesOn, HasEvent, IsEvent, IsReadied, IsStepped, MovesOther, Plays, PlaysAll, ReplayState, StepsUntil, Stops, Times, line_under_way}
+use Rattle.replays.specs.Events.{Acts, Drives, HasEvent, IsEvent, IsReadied, IsStepped, MovesFurther, Plays, PlaysAll, ReplayState, StepsOn, Stops, Times, line_under_way}
 use Rattle.replays.specs.Rounds.{ComesToRest, GetsStuck, InTurn, IsRound, MakesRounds, MovesOn, MovesToEnd, most_rounds}
 use Rattle.replays.specs.declared.deed.Deed.{Deed}
 
 module _ (P : ReplayState → Type 0)
     (event : (seat : ℕ) (did : Deed) (s t : ReplayState) → IsEvent seat did s t → P s → P t)
-    (drive : (seat place : ℕ) (s t : ReplayState) → DrivesLine seat place s t → P s → P t)
     (stop : (s t : ReplayState) → Stops s t → P s → P t) where
   along : (R : ReplayState → ReplayState → Type 0) → ((s t : ReplayState) → R s t → P s → P t) → (n : ℕ)
       (s t : ReplayState) → Times R n s t → P s → P t
@@ -22,36 +21,34 @@ module _ (P : ReplayState → Type 0)
       event seat did s t (subst (λ (o : Option ℕ). Acts seat o did s t) (sym is) begins) kept
   readied seat (Some place) s t is same kept = subst P (sym same) kept
 
-  driven : (seat : ℕ) (line : Option ℕ) (s t : ReplayState) → DrivesOn seat line s t → P s → P t
-  driven seat None s t same kept = subst P (sym same) kept
-  driven seat (Some place) s t drives kept = drive seat place s t drives kept
+  further : (seat : ℕ) (last : Option Kind) (s t : ReplayState) → MovesFurther seat last s t → P s → P t
+  further seat last s t (did, on, is) kept = event seat did s t is kept
 
-  others : (seat : ℕ) (kind : Kind) (s t : ReplayState) → MovesOther seat kind s t → P s → P t
-  others seat kind s t (did, other, is) kept = event seat did s t is kept
-
-  up_to : (seat : ℕ) (kind : Kind) (s t : ReplayState) → StepsUntil seat kind s t → P s → P t
-  up_to seat kind s t steps kept =
-      let before = along (MovesOther seat kind) (others seat kind) steps.moves s steps.before steps.others kept in
+  steps_on : (seat : ℕ) (last : Option Kind) (s t : ReplayState) → StepsOn seat last s t → P s → P t
+  steps_on seat last s t steps kept =
+      let before = along (MovesFurther seat last) (further seat last) steps.moves s steps.before steps.further kept in
       elim steps.ends [
         | inl spent ↦ subst P (sym spent.1) before
-        | inr last ↦ event seat last.1.0 steps.before t last.1.2 before
+        | inr ended ↦ event seat ended.1.0 steps.before t ended.1.2 before
       ]
 
-  stepped : (seat : ℕ) (kind : Kind) (line : Option ℕ) (s t : ReplayState) → IsStepped seat kind line s t → P s → P t
-  stepped seat kind None s t same kept = subst P (sym same) kept
-  stepped seat kind (Some place) s t steps kept = up_to seat kind s t steps kept
+  stepped : (seat : ℕ) (last : Option Kind) (line : Option ℕ) (s t : ReplayState) → IsStepped seat last line s t →
+      P s → P t
+  stepped seat last None s t same kept = subst P (sym same) kept
+  stepped seat last (Some place) s t steps kept = steps_on seat last s t steps kept
+
+  drives : (seat : ℕ) (last : Option Kind) (s t : ReplayState) → Drives seat last s t → P s → P t
+  drives seat last s t is kept =
+      stepped seat last (line_under_way seat is.ready) is.ready t is.stepped
+      (readied seat (line_under_way seat s) s is.ready refl is.readied kept)
 
   has_event : (seat : ℕ) (s t : ReplayState) → HasEvent seat s t → P s → P t
   has_event seat s t (did, is) kept = event seat did s t is kept
 
   plays : (word : Event) (s t : ReplayState) → Plays word s t → P s → P t
   plays (events.Steps seat count) s t times kept = along (HasEvent seat) (has_event seat) count s t times kept
-  plays (events.Drive seat) s t drives kept =
-      driven seat (line_under_way seat drives.ready) drives.ready t drives.driven
-      (readied seat (line_under_way seat s) s drives.ready refl drives.readied kept)
-  plays (events.Until seat kind) s t reaches kept =
-      stepped seat kind (line_under_way seat reaches.ready) reaches.ready t reaches.stepped
-      (readied seat (line_under_way seat s) s reaches.ready refl reaches.readied kept)
+  plays (events.Drive seat) s t is kept = drives seat None s t is kept
+  plays (events.Until seat kind) s t is kept = drives seat (Some kind) s t is kept
   plays events.Stop s t stops kept = stop s t stops kept
 
   pub plays_all : (words : List Event) (s t : ReplayState) → PlaysAll words s t → P s → P t

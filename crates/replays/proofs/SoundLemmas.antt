@@ -15,17 +15,16 @@ use Rattle.interleavings.specs.interleaving_core.declared.step.Step.{Step}
 use Rattle.interleavings.specs.interleaving_core.declared.step.Step.TheVariants as steps
 use Rattle.interleavings.specs.declared.event.Event.TheVariants as events
 use Rattle.interleavings.specs.declared.event.Outcome.TheVariants as outcomes
-use Rattle.interleavings.proofs.EventLemmas.{no_answer_driven}
 use Rattle.interleavings.proofs.of_interleaving_core.PartLemmas.{entry_of_none}
 use Rattle.msgq_cli.specs.declared.line.Line.{Line}
-use Rattle.replays.specs.Events.{BeginsNext, DrivesLine, ReplayState, StepsLine, Stops, line_under_way, next_line, reply_by, told}
+use Rattle.replays.specs.Events.{BeginsNext, ReplayState, StepsLine, Stops, line_under_way, next_line, reply_by, told}
 use Rattle.replays.specs.Journal.{HasCallOfLine, IsSoundReplay, answer_in, call_in, call_on, entries_at, entry_at}
 use Rattle.replays.specs.Places.{IsSound, ProgressState, place_of, start}
 use Rattle.replays.specs.declared.deed.Deed.{Deed}
 use Rattle.replays.proofs.BeginLemmas.{line_begun_sound, lines_told, seats_told, sound_told, told_on, under_told}
 use Rattle.replays.proofs.EntryLemmas.{its_line_stands, none_replied, told_adds}
-use Rattle.replays.proofs.FreeLemmas.{drive_frees, free_told, none_left, sound_before, sound_before_drive, step_frees, stopped_failed}
-use Rattle.replays.proofs.LeadLemmas.{acts_may, drive_may, next_may, seats_kept, stop_may}
+use Rattle.replays.proofs.FreeLemmas.{free_told, none_left, sound_before, step_frees, stopped_failed}
+use Rattle.replays.proofs.LeadLemmas.{acts_may, next_may, seats_kept, stop_may}
 use Rattle.replays.proofs.PlaceLemmas.{IsSound-start, its_line, length-places_at}
 use Rattle.replays.proofs.TellLemmas.{Tells, call_before, happens_tells, if_same, tells_as}
 
@@ -153,18 +152,6 @@ module _ (seat place : ℕ) (s t : ReplayState) (sound : IsSoundReplay s)
     where
       made : IsStep sha_key seat steps.step s.kernel t.kernel
       made = record { turn = steps.turn; makes = steps.makes }
-
-  pub drive_sound : DrivesLine seat place s t → IsSoundReplay t
-  drive_sound drives =
-      line_told_sound seat place drives.step s t sound under drives.script
-      (seats_kept s.kernel t.kernel (drive_may seat place s t drives))
-      (λ none. no_answer_driven sha_key seat s.kernel none drives.step t.kernel drives.driven)
-      (λ other. tells_as other _ _ _ (call_before other s.kernel) s.kernel t.kernel refl
-      (if_same (seat == other) (call_before other s.kernel))
-      (happens_tells other (events.Drive seat) (outcomes.Driven drives.step) s.kernel t.kernel
-      (record { run = drives.run; driven = drives.driven })))
-      (λ now. sound_before_drive seat drives.step s.kernel t.kernel drives.driven now)
-      (λ now replied. drive_frees seat drives.step s.kernel t.kernel drives.driven now replied)
 
 pub next_sound : (seat : ℕ) (did : Deed) (s t : ReplayState) → IsSoundReplay s → line_under_way seat s ≡ None →
     BeginsNext seat (next_line seat s) did s t → IsSoundReplay t

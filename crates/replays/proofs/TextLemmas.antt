@@ -18,9 +18,9 @@ is_played script events honest c ending first opened replayed =
       first = first;
       opened = opened;
       replayed = replayed;
-      before = λ away few.
+      before = λ away.
           replayed.before away
-          (subst (λ (p : PoolState). length p.stored ≤ p.frames) (sym pool) (opened.kernel.enough few))
+          (subst (λ (p : PoolState). length p.stored ≤ p.frames) (sym pool) opened.kernel.enough)
           ∙ ap (λ (p : PoolState). p.stored) pool;
     }
 

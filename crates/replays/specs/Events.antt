@@ -1,5 +1,5 @@
 -- What events do: a line is begun, a step is made, the system is stopped. docs/SCRIPTS.md, "Schedules".
-use Rattle.std.specs.Prelude.{ℕ, zero, suc, ◌≡◌, ◌≢◌, ◌≤◌, ◌⊎◌, false, List, [], ◌∷◌, Option, Some, None, slice_get}
+use Rattle.std.specs.Prelude.{ℕ, zero, suc, ◌≡◌, ◌≢◌, ◌≤◌, ◌⊎◌, false, List, [], ◌∷◌, Option, Some, None, slice_get, ⊤}
 use Rattle.faults.specs.declared.TheConstants.{NO_MEMORY}
 use Rattle.queue_model.specs.declared.call.Call.{Call}
 use Rattle.step_rules.specs.declared.kind.Kind.{Kind}
@@ -7,10 +7,9 @@ use Rattle.bucket_page.specs.Pseudokeys.{sha_key}
 use Rattle.bucket_page.specs.declared.pseudokey.ShaKey.{ShaKey}
 use Rattle.interleavings.specs.interleaving_core.Active.{ActiveView}
 use Rattle.interleavings.specs.interleaving_core.Beginning.{HasCall, IsRefused, IsStopped}
-use Rattle.interleavings.specs.interleaving_core.Driving.{IsDriven}
 use Rattle.interleavings.specs.interleaving_core.Fault.{begin_number_of, step_number_of}
 use Rattle.interleavings.specs.interleaving_core.Kernel.{KernelState, call_at}
-use Rattle.interleavings.specs.interleaving_core.Owing.{IsRun, IsTurn, answer_told}
+use Rattle.interleavings.specs.interleaving_core.Owing.{IsTurn}
 use Rattle.interleavings.specs.interleaving_core.Turn.{TakesTurn}
 use Rattle.interleavings.specs.interleaving_core.Words.{IsSeat}
 use Rattle.interleavings.specs.interleaving_core.declared.fault.BeginFault.{BeginFault}
@@ -89,7 +88,7 @@ BeginsNext seat (Some place) did old new = BeginsLine seat place did old new
 -- what came of a step by which it was told this
 abbrev pub deed_by : Step → Deed
 deed_by (steps.Moved kind) = deeds.Moved kind
-deed_by (steps.Blocked other) = deeds.Blocked
+deed_by (steps.Blocked other) = deeds.Blocked other
 deed_by steps.Waiting = deeds.Waits
 deed_by (steps.Answered answer) = deeds.Replied
 deed_by steps.Idle = deeds.Nothing
@@ -141,51 +140,41 @@ abbrev pub IsReadied : ℕ → Option ℕ → ReplayState → ReplayState → Ty
 IsReadied seat None old new = (did : Deed) × BeginsNext seat (next_line seat old) did old new
 IsReadied seat (Some place) old new = new ≡ old
 
--- steps of the call under way for as long as it moves, as a drive of the kernel makes them
-pub record DrivesLine (seat place : ℕ) (old new : ReplayState) : Type 0 where
-  pub seat_is : IsSeat old.kernel.locks seat
-  pub step : Step
-  pub run : IsRun seat (answer_told step) old.kernel new.kernel
-  pub driven : IsDriven sha_key seat step old.kernel new.kernel
-  pub script : new.script ≡ told seat place (reply_by step) old.script
+-- a drive goes on behind a step of this kind: of any, or of any but the last
+abbrev pub IsBefore : Option Kind → Kind → Type 0
+IsBefore None kind = ⊤
+IsBefore (Some last) kind = kind ≢ last
 
-abbrev pub DrivesOn : ℕ → Option ℕ → ReplayState → ReplayState → Type 0
-DrivesOn seat None old new = new ≡ old
-DrivesOn seat (Some place) old new = DrivesLine seat place old new
+-- and behind an event: where it is such a step
+abbrev pub GoesOn : Option Kind → Deed → Type 0
+GoesOn last deeds.Nothing = ⊥
+GoesOn last deeds.Begun = ⊥
+GoesOn last (deeds.Moved kind) = IsBefore last kind
+GoesOn last (deeds.Blocked other) = ⊥
+GoesOn last deeds.Waits = ⊥
+GoesOn last deeds.Replied = ⊥
 
-pub record Drives (seat : ℕ) (old new : ReplayState) : Type 0 where
-  pub ready : ReplayState
-  pub readied : IsReadied seat (line_under_way seat old) old ready
-  pub driven : DrivesOn seat (line_under_way seat ready) ready new
+abbrev pub MovesFurther : ℕ → Option Kind → ReplayState → ReplayState → Type 0
+MovesFurther seat last old new = (did : Deed) × GoesOn last did × IsEvent seat did old new
 
--- it is a step of a kind other than this
-abbrev pub IsOtherMove : Kind → Deed → Type 0
-IsOtherMove kind deeds.Nothing = ⊥
-IsOtherMove kind deeds.Begun = ⊥
-IsOtherMove kind (deeds.Moved other) = other ≢ kind
-IsOtherMove kind deeds.Blocked = ⊥
-IsOtherMove kind deeds.Waits = ⊥
-IsOtherMove kind deeds.Replied = ⊥
-
-abbrev pub MovesOther : ℕ → Kind → ReplayState → ReplayState → Type 0
-MovesOther seat kind old new = (did : Deed) × IsOtherMove kind did × IsEvent seat did old new
-
--- step by step, up to the first step of this kind, for as long as it moves and so many steps at most
-pub record StepsUntil (seat : ℕ) (kind : Kind) (old new : ReplayState) : Type 0 where
+-- step by step, for as long as it moves or up to the first step of this kind, and so many steps at most
+pub record StepsOn (seat : ℕ) (last : Option Kind) (old new : ReplayState) : Type 0 where
   pub moves : ℕ
   pub before : ReplayState
-  pub others : Times (MovesOther seat kind) moves old before
+  pub further : Times (MovesFurther seat last) moves old before
   pub ends : ((moves ≡ MOST_STEPS) × (new ≡ before))
-      ⊎ ((moves ≤ MOST_STEPS) × ((did : Deed) × (IsOtherMove kind did → ⊥) × IsEvent seat did before new))
+      ⊎ ((moves ≤ MOST_STEPS) × ((did : Deed) × (GoesOn last did → ⊥) × IsEvent seat did before new))
 
-abbrev pub IsStepped : ℕ → Kind → Option ℕ → ReplayState → ReplayState → Type 0
-IsStepped seat kind None old new = new ≡ old
-IsStepped seat kind (Some place) old new = StepsUntil seat kind old new
+-- where a line is under way
+abbrev pub IsStepped : ℕ → Option Kind → Option ℕ → ReplayState → ReplayState → Type 0
+IsStepped seat last None old new = new ≡ old
+IsStepped seat last (Some place) old new = StepsOn seat last old new
 
-pub record Reaches (seat : ℕ) (kind : Kind) (old new : ReplayState) : Type 0 where
+-- where the seat is idle its next line is begun, and then it is driven so
+pub record Drives (seat : ℕ) (last : Option Kind) (old new : ReplayState) : Type 0 where
   pub ready : ReplayState
   pub readied : IsReadied seat (line_under_way seat old) old ready
-  pub stepped : IsStepped seat kind (line_under_way seat ready) ready new
+  pub stepped : IsStepped seat last (line_under_way seat ready) ready new
 
 -- from here on no call waits
 pub record Stops (old new : ReplayState) : Type 0 where
@@ -195,8 +184,8 @@ pub record Stops (old new : ReplayState) : Type 0 where
 -- what a word of a schedule does
 abbrev pub Plays : Event → ReplayState → ReplayState → Type 0
 Plays (events.Steps seat count) old new = Times (HasEvent seat) count old new
-Plays (events.Drive seat) old new = Drives seat old new
-Plays (events.Until seat kind) old new = Reaches seat kind old new
+Plays (events.Drive seat) old new = Drives seat None old new
+Plays (events.Until seat kind) old new = Drives seat (Some kind) old new
 Plays events.Stop old new = Stops old new
 
 -- what its words do, one after the other

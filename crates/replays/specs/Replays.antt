@@ -16,7 +16,6 @@ use Rattle.msgq_cli.specs.Outputs.{OutputState, Prints}
 use Rattle.msgq_cli.specs.Runs.{is_fault}
 use Rattle.msgq_cli.specs.Scripts.{Parts, caller_of, greatest_seat}
 use Rattle.msgq_cli.specs.Refusals.{IsFaultAlone}
-use Rattle.msgq_cli.specs.declared.files.TheConstants.{MOST_FRAMES}
 use Rattle.msgq_cli.specs.declared.ending.Ending.{Ending}
 use Rattle.msgq_cli.specs.declared.ending.Ending.TheVariants.{Done, Faulty, WrongWord}
 use Rattle.msgq_cli.specs.declared.line.Line.{Line}
@@ -41,8 +40,8 @@ callers_of ids (suc n) = callers_of ids n ++ caller_of (suc n) ids ∷ []
 pub record IsOpenedForSeats (script : Parts) (content : List (List ℕ)) (honest : Bool) (k : KernelState ShaKey)
     : Type 0 where
   pub frames : ℕ
-  -- there is a frame for each page of a file of at most so many
-  pub enough : length content ≤ MOST_FRAMES → length content ≤ frames
+  -- there is a frame for each page
+  pub enough : length content ≤ frames
   pub with_keys : ShaKey
   pub opened : IsOpened with_keys content honest (callers_of script.ids (greatest_seat script.lines)) frames k
   -- there are as many seats as the script has

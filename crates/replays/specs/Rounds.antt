@@ -18,7 +18,7 @@ abbrev pub has_moved : Deed → Bool
 has_moved deeds.Nothing = false
 has_moved deeds.Begun = true
 has_moved (deeds.Moved kind) = true
-has_moved deeds.Blocked = false
+has_moved (deeds.Blocked other) = false
 has_moved deeds.Waits = false
 has_moved deeds.Replied = true
 

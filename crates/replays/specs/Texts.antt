@@ -4,14 +4,13 @@ use Rattle.std.specs.Prelude.{ℕ, ◌≡◌, ◌≢◌, ◌⊎◌, ◌≤◌, B
 use Rattle.faults.specs.declared.TheConstants.{NO_MEMORY}
 use Rattle.bucket_page.specs.Pseudokeys.{sha_key}
 use Rattle.page_device.specs.Device.{HasRisen}
-use Rattle.interleavings.specs.interleaving_core.Beginning.{MayRefuse}
+use Rattle.interleavings.specs.interleaving_core.Beginning.{MayRefuseUnchecked}
 use Rattle.interleavings.specs.interleaving_core.Fault.{device_failed, open_number_of}
 use Rattle.interleavings.specs.interleaving_core.declared.fault.OpenFault.{OpenFault}
 use Rattle.interleavings.specs.interleaving_core.declared.fault.OpenFault.TheVariants.{TooFewFrames}
 use Rattle.msgq_cli.specs.Outputs.{OutputState}
 use Rattle.msgq_cli.specs.Refusals.{IsFaultAlone}
 use Rattle.msgq_cli.specs.Scripts.{Parts, script_of}
-use Rattle.msgq_cli.specs.declared.files.TheConstants.{MOST_FRAMES}
 use Rattle.msgq_cli.specs.declared.ending.Ending.{Ending}
 use Rattle.msgq_cli.specs.declared.ending.Ending.TheVariants.{WrongLine, WrongWord}
 use Rattle.schedules.specs.Schedules.{schedule_of}
@@ -53,16 +52,15 @@ pub record IsPlayed (script : Parts) (events : List Event) (honest : Bool) (c : 
   pub first : ReplayState
   pub opened : IsOpenedFor script c.content honest first
   pub replayed : IsReplayed events first c.old c.new c.left c.untold ending
-  -- where nothing was to be written, a file of at most so many pages has what it had
-  pub before : may_write (is_over replayed.last) c.untold replayed.last.kernel ≡ false →
-      length c.content ≤ MOST_FRAMES → c.left ≡ c.content
+  -- where nothing was to be written, the file has what it had
+  pub before : may_write (is_over replayed.last) c.untold replayed.last.kernel ≡ false → c.left ≡ c.content
 
 -- they are not opened: of an honest device that is the first thing that is wrong with the file, unless the machine
 -- lacked something or a transfer failed; and the number of that is printed
 pub record IsUnopened (honest : Bool) (c : Effects) (ending : Ending) : Type 0 where
   pub fault : OpenFault
   pub framed : fault ≢ TooFewFrames
-  pub cause : IsTrue honest → MayRefuse sha_key c.content fault
+  pub cause : IsTrue honest → MayRefuseUnchecked sha_key c.content fault
   pub failed : fault ≡ device_failed → HasRisen c.was c.faults
   pub leaves : LeavesFault (open_number_of fault) c ending
 

@@ -16,8 +16,8 @@ pub enum Deed {
     Begun,
     /// Its call has made a step of this kind.
     Moved(Kind),
-    /// Another seat stands in the way of its call.
-    Blocked,
+    /// This other seat stands in the way of its call.
+    Blocked(u8),
     /// Its call waits.
     Waits,
     /// A line of it is replied.
@@ -30,7 +30,7 @@ pub(crate) fn deed_by(step: &Step) -> Deed
 {
     match step {
         Step::Moved(kind) => Deed::Moved(*kind),
-        Step::Blocked(_) => Deed::Blocked,
+        Step::Blocked(other) => Deed::Blocked(*other),
         Step::Waiting => Deed::Waits,
         Step::Answered(_) => Deed::Replied,
         Step::Idle => Deed::Nothing,

@@ -3,6 +3,7 @@
 ghost use Rattle.std.specs.Prelude.{◌≡◌, false, None};
 ghost use Rattle.replays.specs.Replays.{EndsWith, IsClosedWell, IsReplayed, MayEndWith, may_write};
 
+use crate::onlooker::Onlooker;
 use crate::opening::FileKeys;
 use crate::printing::print_replies;
 use crate::replay::Replay;
@@ -57,11 +58,12 @@ impl<D: PageDevice> Ran<D> {
 /// by seat the lines are replied its part of them. Where the output took all replies, and no fault
 /// is told after them, an honest device has the file of the system that the lists come to. Where
 /// the kernel is let go the device has what its pool knew to be stored, which is what it had before
-/// where there is a frame for each page. It is as honest as it was.
-pub fn run<D: PageDevice + Drop, W: Write + Drop>(
+/// where there is a frame for each page. It is as honest as it was. All this is so whoever looks on.
+pub fn run<D: PageDevice + Drop, W: Write + Drop, O: Onlooker>(
     replay: Replay<D>,
     events: &[Event],
     output: &mut Output<W>,
+    onlooker: &mut O,
 ) -> Ran<D>
     ensures replayed { IsReplayed events.now replay.entry output.old output.new
         (D.content result.device) result.is_untold result.ending }
@@ -71,8 +73,8 @@ pub fn run<D: PageDevice + Drop, W: Write + Drop>(
     a_refining_kernel_answers_as_plain_lists::<FileKeys>();
     a_refining_kernel_closes_on_its_file::<FileKeys>();
     let mut replay = replay;
-    replay.play_all(events);
-    let is_over = finish(&mut replay);
+    replay.play_all(events, onlooker);
+    let is_over = finish(&mut replay, onlooker);
     replay.is_sound();
     let (kernel, script) = replay.into_parts();
     script.keeps_order();

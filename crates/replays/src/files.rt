@@ -17,8 +17,8 @@ use std::rt::{Clock, Files};
 /// Why a replay is not closed.
 const LEFT: &str = "a line is left that no seat can finish";
 
-/// What a replay is made of, by their names. A script or a schedule of the name `-` is that of
-/// standard input.
+/// What a replay is made of, by their names, and whether it is traced. A script or a schedule of
+/// the name `-` is that of standard input.
 #[derive(Clone, Copy, Debug)]
 pub struct Sources<'a> {
     /// The file.
@@ -27,6 +27,8 @@ pub struct Sources<'a> {
     pub script: &'a str,
     /// The schedule.
     pub schedule: &'a str,
+    /// Each event is told on standard error.
+    pub is_traced: bool,
 }
 
 /// `replay FILE SCRIPT SCHEDULE`: runs the lines of several seats beside one another on a file of
@@ -62,6 +64,7 @@ where
     let texts = Texts {
         script: script.as_slice(),
         schedule: schedule.as_slice(),
+        is_traced: sources.is_traced,
     };
     let replayed = replay_on(rt.alloc(), device, texts, output, errors);
     complain_of_ran(sources.file.path, replayed, output, errors)

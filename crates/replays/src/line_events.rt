@@ -2,23 +2,25 @@
 
 ghost use Rattle.std.specs.Prelude.{◌≡◌, Some, None, length};
 ghost use Rattle.interleavings.specs.interleaving_core.Words.{IsSeat};
-ghost use Rattle.replays.specs.Events.{BeginsCall, BeginsCommand, BeginsNext, DrivesLine, StepsLine, deed_at_once, told};
+ghost use Rattle.replays.specs.Events.{BeginsCall, BeginsCommand, BeginsNext, StepsLine, deed_at_once, told};
 ghost use Rattle.replays.specs.Places.{place_of};
 
 use crate::deed::{Deed, deed_by, reply_by};
+use crate::onlooker::{Onlooker, Sight};
 use crate::opening::FileKeys;
 use crate::progress::Progress;
 use interleavings::interleaving_core::Kernel;
-use msgq_cli::{Command, Reply};
+use msgq_cli::{Command, Line, Reply};
 use page_device::PageDevice;
 use queue_model::Call;
 
 /// The next line of a seat is begun, if one is left. It is replied at once where it is a `stop`, or
 /// where its call is refused.
-pub(crate) fn begin_next<D: PageDevice + Drop>(
+pub(crate) fn begin_next<D: PageDevice + Drop, O: Onlooker>(
     kernel: &mut Kernel<D, FileKeys>,
     script: &mut Progress,
     seat: u8,
+    onlooker: &mut O,
 ) -> Deed
     requires seats { length script.old.places ≡ length kernel.old.locks }
     requires idle { (place_of script.old.places seat).under_way ≡ None }
@@ -34,15 +36,17 @@ pub(crate) fn begin_next<D: PageDevice + Drop>(
     let deed = deed_at_once(&reply);
     script.begin(seat, place);
     tell(script, seat, place, reply);
+    show(script.lines(), place, deed, onlooker);
     deed
 }
 
 /// One step of the call that is under way at a seat.
-pub(crate) fn step_line<D: PageDevice + Drop>(
+pub(crate) fn step_line<D: PageDevice + Drop, O: Onlooker>(
     kernel: &mut Kernel<D, FileKeys>,
     script: &mut Progress,
     seat: u8,
     place: usize,
+    onlooker: &mut O,
 ) -> Deed
     requires seats { length script.old.places ≡ length kernel.old.locks }
     requires under_way { (place_of script.old.places seat).under_way ≡ Some place }
@@ -53,24 +57,8 @@ pub(crate) fn step_line<D: PageDevice + Drop>(
     let step = kernel.step(seat);
     let deed = deed_by(&step);
     tell(script, seat, place, reply_by(step));
+    show(script.lines(), place, deed, onlooker);
     deed
-}
-
-/// Steps of the call that is under way at a seat for as long as it moves.
-pub(crate) fn drive_line<D: PageDevice + Drop>(
-    kernel: &mut Kernel<D, FileKeys>,
-    script: &mut Progress,
-    seat: u8,
-    place: usize,
-)
-    requires seats { length script.old.places ≡ length kernel.old.locks }
-    requires under_way { (place_of script.old.places seat).under_way ≡ Some place }
-    ensures { DrivesLine seat place
-        (record { kernel = kernel.old; script = script.old })
-        (record { kernel = kernel.new; script = script.new }) }
-{
-    let step = kernel.drive(seat);
-    tell(script, seat, place, reply_by(step));
 }
 
 /// A line that is under way is replied this, or goes on.
@@ -80,6 +68,17 @@ fn tell(script: &mut Progress, seat: u8, place: usize, reply: Option<Reply>)
 {
     if let Some(reply) = reply {
         script.reply(seat, place, reply);
+    }
+}
+
+/// Shows what came of an event at the line at a place.
+fn show<O: Onlooker>(lines: &[Line], place: usize, deed: Deed, onlooker: &mut O) {
+    if let Some(line) = lines.get(place) {
+        onlooker.see(Sight::Event {
+            seat: line.seat,
+            line: line.number,
+            deed,
+        });
     }
 }
 

@@ -2,7 +2,7 @@
 
 ghost use Rattle.std.specs.Prelude.{◌≡◌, ◌≢◌, ◌≤◌, IfErr, IfOk, IsTrue, length};
 ghost use Rattle.bucket_page.specs.Pseudokeys.{sha_key};
-ghost use Rattle.interleavings.specs.interleaving_core.Beginning.{HasSystem, MayRefuse};
+ghost use Rattle.interleavings.specs.interleaving_core.Beginning.{HasSystem, MayRefuseUnchecked};
 ghost use Rattle.interleavings.specs.interleaving_core.Fault.{device_failed, open_number_of};
 ghost use Rattle.msgq_cli.specs.Refusals.{IsFaultAlone};
 ghost use Rattle.msgq_cli.specs.Scripts.{greatest_seat};
@@ -16,7 +16,7 @@ use bucket_page::ShaKey;
 use interleavings::an_opened_kernel_refines;
 use interleavings::interleaving_core::{FRAMES_BESIDE, Kernel, OpenFault};
 use kept_keys::KeptKeys;
-use msgq_cli::{Ending, MOST_FRAMES, Output, Script, Stage, fail, print_fault};
+use msgq_cli::{Ending, Output, Script, Stage, fail, print_fault};
 use page_device::PageDevice;
 use queue_model::{Caller, NoMemory};
 use std::alloc::Global;
@@ -45,7 +45,7 @@ pub fn open<'a, D: PageDevice + Drop>(
 ) -> Result<Replay<'a, D>, (D, OpenFault)>
     ensures ok { IfOk result (IsOpenedFor script.now (D.content device) (D.is_honest device)) }
     ensures refused { IsTrue (D.is_honest device) → IfErr result (λ refusal.
-        MayRefuse sha_key (D.content device) refusal.1) }
+        MayRefuseUnchecked sha_key (D.content device) refusal.1) }
     ensures enough { IfErr result (λ refusal. refusal.1 ≢ OpenFault.TooFewFrames) }
     ensures err { IfErr result (λ refusal. (D.content refusal.0 ≡ D.content device)
         × (D.is_honest refusal.0 ≡ D.is_honest device)) }
@@ -64,9 +64,9 @@ pub fn open<'a, D: PageDevice + Drop>(
 }
 
 /// Opens a kernel on the file of a device for the seats of a script, from seat 1 to the greatest,
-/// with as many frames as the file has pages, within what the seats need and `MOST_FRAMES`. The
-/// file is checked first, and refused by the first thing that is wrong with it. Each refusal gives
-/// the device back, and nothing was written.
+/// with as many frames as the file has pages, and no fewer than the seats need. So it writes no page
+/// before it is closed. The file is checked first, and refused by the first thing that is wrong with
+/// it. Each refusal gives the device back, and nothing was written.
 ///
 /// # Errors
 ///
@@ -82,7 +82,7 @@ pub fn open_kernel<D: PageDevice + Drop>(
     ensures file { IsTrue (D.is_honest device) →
         IfOk result (λ _. HasSystem sha_key (D.content device)) }
     ensures refused { IsTrue (D.is_honest device) → IfErr result (λ refusal.
-        MayRefuse sha_key (D.content device) refusal.1) }
+        MayRefuseUnchecked sha_key (D.content device) refusal.1) }
     ensures enough { IfErr result (λ refusal. refusal.1 ≢ OpenFault.TooFewFrames) }
     ensures err { IfErr result (λ refusal. (D.content refusal.0 ≡ D.content device)
         × (D.is_honest refusal.0 ≡ D.is_honest device)) }
@@ -95,8 +95,10 @@ pub fn open_kernel<D: PageDevice + Drop>(
         return Err((device, OpenFault::NoMemory));
     };
     let least = FRAMES_A_SEAT * usize::from(seats) + FRAMES_BESIDE;
-    let frames = (device.pages() as usize).clamp(least, MOST_FRAMES);
-    let keys = KeptKeys::new(ShaKey);
+    let frames = (device.pages() as usize).max(least);
+    let Ok(keys) = KeptKeys::new(alloc, ShaKey) else {
+        return Err((device, OpenFault::NoMemory));
+    };
     Kernel::open(alloc, device, keys, callers.as_slice(), frames)
 }
 

@@ -2,13 +2,14 @@
 
 ghost use Rattle.std.specs.Prelude.{◌≡◌, ◌↔◌, IsTrue, length};
 ghost use Rattle.std.specs.List.{list_all};
-ghost use Rattle.replays.specs.Events.{Drives, HasEvent, IsEvent, IsOtherMove, IsReadied, Plays, PlaysAll, Reaches, Stops};
-ghost use Rattle.replays.specs.Events.{StepsUntil, Times, line_under_way};
+ghost use Rattle.replays.specs.Events.{Drives, GoesOn, HasEvent, IsEvent, IsReadied, Plays, PlaysAll, StepsOn, Stops};
+ghost use Rattle.replays.specs.Events.{Times, line_under_way};
 ghost use Rattle.replays.specs.Journal.{IsSoundReplay};
 ghost use Rattle.replays.specs.Places.{is_idle_for_good};
 
 use crate::deed::Deed;
-use crate::line_events::{begin_next, drive_line, step_line};
+use crate::line_events::{begin_next, step_line};
+use crate::onlooker::{Onlooker, Sight};
 use crate::opening::FileKeys;
 use crate::progress::Progress;
 use interleavings::interleaving_core::Kernel;
@@ -88,100 +89,92 @@ impl<'a, D: PageDevice + Drop> Replay<'a, D> {
 
     /// One event of a seat: where it is idle its next line is begun, else one step is made. A
     /// number that is no seat's does nothing.
-    pub fn event(&mut self, seat: u8) -> Deed
+    pub fn event<O: Onlooker>(&mut self, seat: u8, onlooker: &mut O) -> Deed
         ensures { IsEvent seat result self.old self.new }
     {
         match self.script.place(seat).under_way {
-            Some(line) => step_line(&mut self.kernel, &mut self.script, seat, line),
-            None => begin_next(&mut self.kernel, &mut self.script, seat),
+            Some(line) => step_line(&mut self.kernel, &mut self.script, seat, line, onlooker),
+            None => begin_next(&mut self.kernel, &mut self.script, seat, onlooker),
         }
     }
 
     /// What a word of a schedule does.
-    pub fn play(&mut self, event: Event)
+    pub fn play<O: Onlooker>(&mut self, event: Event, onlooker: &mut O)
         ensures { Plays event self.old self.new }
     {
         match event {
-            Event::Steps { seat, count } => self.events(seat, count),
-            Event::Drive { seat } => self.drive(seat),
-            Event::Until { seat, kind } => self.reach(seat, kind),
-            Event::Stop => self.stop(),
+            Event::Steps { seat, count } => self.events(seat, count, onlooker),
+            Event::Drive { seat } => self.drive(seat, None, onlooker),
+            Event::Until { seat, kind } => self.drive(seat, Some(kind), onlooker),
+            Event::Stop => self.stop(onlooker),
         }
     }
 
     /// What the words of a schedule do, one after the other.
-    pub fn play_all(&mut self, events: &[Event])
+    pub fn play_all<O: Onlooker>(&mut self, events: &[Event], onlooker: &mut O)
         ensures { PlaysAll events.now self.old self.new }
     {
         for event in events {
-            self.play(*event);
+            self.play(*event, onlooker);
         }
     }
 
     /// From here on no call waits.
-    pub fn stop(&mut self)
+    pub fn stop<O: Onlooker>(&mut self, onlooker: &mut O)
         ensures { Stops self.old self.new }
     {
         self.kernel.stop();
+        onlooker.see(Sight::Stop);
     }
 
     /// So many events of a seat.
-    fn events(&mut self, seat: u8, count: u32)
+    fn events<O: Onlooker>(&mut self, seat: u8, count: u32, onlooker: &mut O)
         ensures { Times (HasEvent seat) count self.old self.new }
     {
         for _ in 0..count {
-            self.event(seat);
+            self.event(seat, onlooker);
+        }
+    }
+
+    /// Where a seat is idle its next line is begun. Then it is driven for as long as it moves, or up
+    /// to its first step of this kind.
+    fn drive<O: Onlooker>(&mut self, seat: u8, last: Option<Kind>, onlooker: &mut O)
+        ensures { Drives seat last self.old self.new }
+    {
+        self.ready(seat, onlooker);
+        if self.script.place(seat).under_way.is_some() {
+            self.step_on(seat, last, onlooker);
         }
     }
 
     /// Where a seat is idle its next line is begun.
-    fn ready(&mut self, seat: u8)
+    fn ready<O: Onlooker>(&mut self, seat: u8, onlooker: &mut O)
         ensures { IsReadied seat (line_under_way seat self.old) self.old self.new }
     {
         if self.script.place(seat).under_way.is_none() {
-            self.event(seat);
+            self.event(seat, onlooker);
         }
     }
 
-    /// A seat whose line is under way is driven for as long as it moves; where it is idle its next
-    /// line is begun before.
-    fn drive(&mut self, seat: u8)
-        ensures { Drives seat self.old self.new }
-    {
-        self.ready(seat);
-        if let Some(line) = self.script.place(seat).under_way {
-            drive_line(&mut self.kernel, &mut self.script, seat, line);
-        }
-    }
-
-    /// The same step by step, up to the first step of this kind.
-    fn reach(&mut self, seat: u8, kind: Kind)
-        ensures { Reaches seat kind self.old self.new }
-    {
-        self.ready(seat);
-        if self.script.place(seat).under_way.is_some() {
-            self.step_until(seat, kind);
-        }
-    }
-
-    /// Steps up to the first of this kind, for as long as the seat moves.
-    fn step_until(&mut self, seat: u8, kind: Kind)
-        ensures { StepsUntil seat kind self.old self.new }
+    /// Steps of a seat for as long as it moves, or up to the first of this kind.
+    fn step_on<O: Onlooker>(&mut self, seat: u8, last: Option<Kind>, onlooker: &mut O)
+        ensures { StepsOn seat last self.old self.new }
     {
         for _ in 0..MOST_STEPS {
-            if !is_other_move(self.event(seat), kind) {
+            if !goes_on(self.event(seat, onlooker), last) {
                 return;
             }
         }
     }
 }
 
-/// Whether a seat has made a step of another kind than this.
-fn is_other_move(deed: Deed, kind: Kind) -> bool
-    ensures { IsTrue result ↔ IsOtherMove kind deed }
+/// Whether a drive goes on behind an event of its seat: a step, and not the last.
+fn goes_on(deed: Deed, last: Option<Kind>) -> bool
+    ensures { IsTrue result ↔ GoesOn last deed }
 {
-    match deed {
-        Deed::Moved(other) => other != kind,
+    match (deed, last) {
+        (Deed::Moved(kind), Some(last)) => kind != last,
+        (Deed::Moved(_), None) => true,
         _ => false,
     }
 }

@@ -5,6 +5,7 @@ ghost use Rattle.replays.specs.Replays.{IsScheduleRefused};
 ghost use Rattle.replays.specs.Texts.{PlaysTexts};
 
 use crate::ending::{Ran, run};
+use crate::onlooker::Trace;
 use crate::opening::{leave_refused, open};
 use msgq_cli::{Ending, Output, Stage, complain_of, fail, print_word, read_script, refuse};
 use page_device::PageDevice;
@@ -12,13 +13,15 @@ use schedules::{Expected, ScheduleError, read_schedule, word_at};
 use std::alloc::Global;
 use std::io::Write;
 
-/// The texts of a replay.
+/// The texts of a replay, and whether it is traced.
 #[derive(Clone, Copy, Debug)]
 pub struct Texts<'a> {
     /// The script.
     pub script: &'a [u8],
     /// The schedule.
     pub schedule: &'a [u8],
+    /// Each event is told on standard error.
+    pub is_traced: bool,
 }
 
 /// Runs the lines of several seats beside one another on the file of a device: those that the first
@@ -28,8 +31,9 @@ pub struct Texts<'a> {
 /// Then the file is opened for the script's seats: of an honest device that is the file of one
 /// system, from which the lines are run; or the number of the first thing that is wrong with it
 /// stands alone, or 20 where a transfer failed. What is printed, and what is left, is what `run`
-/// says; where nothing is to be written a file of at most `MOST_FRAMES` pages is as it was before.
-/// The device comes back, as honest as it was; nothing was written where nothing was run.
+/// says; where nothing is to be written the file is as it was before.
+/// The device comes back, as honest as it was; nothing was written where nothing was run. A trace
+/// changes nothing of this.
 pub fn replay_on<D: PageDevice + Drop, W: Write + Drop, E: Write>(
     alloc: Global,
     device: D,
@@ -63,7 +67,10 @@ pub fn replay_on<D: PageDevice + Drop, W: Write + Drop, E: Write>(
         }
     };
     match open(alloc, device, &script) {
-        Ok(replay) => run(replay, events.as_slice(), output),
+        Ok(replay) => {
+            let mut trace = Trace::new(alloc, &mut *errors, texts.is_traced);
+            run(replay, events.as_slice(), output, &mut trace)
+        }
         Err((device, fault)) => Ran::unrun(device, leave_refused(fault, output)),
     }
 }

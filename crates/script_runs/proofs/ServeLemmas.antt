@@ -8,7 +8,7 @@ use Rattle.page_device.specs.declared.fault.DeviceFault.TheVariants as device
 use Rattle.bucket_page.specs.Pseudokeys.{sha_key}
 use Rattle.lone_kernel.specs.Laws.{ClosesAKernel}
 use Rattle.lone_kernel.specs.Words.{ActiveView, IsFlushedTo, KernelState, State}
-use Rattle.lone_kernel.specs.interleaving_core.Beginning.{MayRefuse}
+use Rattle.lone_kernel.specs.interleaving_core.Beginning.{MayRefuseUnchecked}
 use Rattle.lone_kernel.specs.interleaving_core.Closing.{IsBusy, has_one}
 use Rattle.lone_kernel.specs.interleaving_core.Fault.{device_failed, open_number_of}
 use Rattle.lone_kernel.specs.interleaving_core.declared.fault.CloseFault.{CloseFault}
@@ -138,7 +138,7 @@ runs_script text honest c ending script reads runs =
 
 -- nothing but want of memory refuses it
 module _ (content : List (List ℕ)) (file : IsFileOf sha_key content no_queues) where
-  machine_alone : (fault : OpenFault) → MayRefuse sha_key content fault → fault ≢ TooFewFrames →
+  machine_alone : (fault : OpenFault) → MayRefuseUnchecked sha_key content fault → fault ≢ TooFewFrames →
       (fault ≡ device_failed → HasRisen 0 0) → open_number_of fault ≡ 60
   machine_alone TooFewFrames may framed failed = absurd (framed refl)
   machine_alone NoMemory may framed failed = refl
@@ -204,5 +204,5 @@ module _ (content : List (List ℕ)) (file : IsFileOf sha_key content no_queues)
     runs_in_memory (inl r) = inl (run_new r)
     runs_in_memory (inr refused) = inr (subst (λ (n : ℕ). IsFaultAlone n c.old c.new ending)
         (machine_alone refused.fault
-        (subst (λ (p : List (List ℕ)). MayRefuse sha_key p refused.fault) its (refused.cause refl)) refused.framed
+        (subst (λ (p : List (List ℕ)). MayRefuseUnchecked sha_key p refused.fault) its (refused.cause refl)) refused.framed
         (λ is. subst (λ (n : ℕ). HasRisen n 0) none_before (subst (HasRisen c.was) none (refused.failed is)))) refused.leaves.alone)

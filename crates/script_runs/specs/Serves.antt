@@ -11,7 +11,6 @@ use Rattle.msgq_cli.specs.Refusals.{AreKnownAs, IsFaultAlone}
 use Rattle.msgq_cli.specs.Scripts.{Parts, script_of}
 use Rattle.msgq_cli.specs.file_check.Whole.{IsFileOf}
 use Rattle.msgq_cli.specs.record_file.Files.{IsNewFile}
-use Rattle.msgq_cli.specs.declared.files.TheConstants.{MOST_FRAMES}
 use Rattle.msgq_cli.specs.declared.ending.Ending.{Ending}
 use Rattle.msgq_cli.specs.declared.ending.Ending.TheVariants.{WrongLine}
 use Rattle.msgq_cli.specs.declared.reply.Reply.{Reply}
@@ -66,8 +65,8 @@ pub record IsRunOn (script : Parts) (honest : Bool) (c : Effects) (ending : Endi
   pub rules : IsTrue honest → GoesOnFile script c run.replies first last fault
   -- what can't be told has not, nor where a line failed: the pages are those that the kernel's pool knew to be stored
   pub unwritten : (c.untold ≡ true) ⊎ (last.failed ≡ true) → c.left ≡ last.pool.stored
-  -- which are those of before, in a file that has a frame for each
-  pub before : (c.untold ≡ true) ⊎ (last.failed ≡ true) → length c.content ≤ MOST_FRAMES → c.left ≡ c.content
+  -- which are those of before
+  pub before : (c.untold ≡ true) ⊎ (last.failed ≡ true) → c.left ≡ c.content
 
 -- or it is not opened
 abbrev pub RunsOn : Parts → (honest : Bool) → Effects → Ending → Type 0

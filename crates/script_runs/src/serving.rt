@@ -104,11 +104,11 @@ pub fn run_text_on<D: PageDevice + Drop, W: Write + Drop, E: Write>(
 /// script is run; or the first thing that is wrong is told by its number alone. Fault 60 alone where
 /// there is no memory to open it. What is told has happened: the output took all answers, and the
 /// file is then one of the system that the script leaves. What can't be told did not: where the
-/// output refuses a write, the kernel is let go, and nothing is written: a file of at most
-/// `MOST_FRAMES` pages is as it was before. So it is where a line fails. The device may fail when
-/// the file is opened, then fault 20 stands alone; while a line is run, which is then replied 62, as
-/// is each after it, and the kernel is let go, which fault 62 after the answers tells; or when it is
-/// closed, then fault 20 stands after the answers.
+/// output refuses a write, the kernel is let go, and nothing was written: the file is as it was
+/// before. So it is where a line fails. The device may fail when the file is opened, then fault 20
+/// stands alone; while a line is run, which is then replied 62, as is each after it, and the kernel
+/// is let go, which fault 62 after the answers tells; or when it is closed, then fault 20 stands
+/// after the answers.
 ///
 /// Of any device: a line is printed for each line of the script, with what its seat was told, and
 /// one fault after them where the file is not closed well; or one fault alone. The device is as

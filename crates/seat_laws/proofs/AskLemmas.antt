@@ -34,7 +34,7 @@ trying_over hash seat call q t s after records others pool pool' locks locks' ch
       decision = y.decision;
       changes = y.changes;
       names = y.names;
-      finds = y.finds;
+      inserts = y.inserts;
       carries = carries;
       on_trial = y.on_trial;
       alike = alike;

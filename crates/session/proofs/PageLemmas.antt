@@ -1,5 +1,5 @@
 -- A session is opened, and what its pages are.
-use Rattle.std.proofs.Common.{arith, ℕ, suc, ◌≡◌, ◌≢◌, ◌<◌, IsTrue, refl, sym, ap, ◌∙◌, subst, true, false, List, [], ◌∷◌, Option, Some, None, Result, Ok, Err, IfOk, OnOk, length, map, slice_index_or}
+use Rattle.std.proofs.Common.{arith, ℕ, suc, ◌≡◌, ◌≢◌, ◌<◌, ◌≤◌, IsTrue, refl, sym, ap, ◌∙◌, subst, true, false, List, [], ◌∷◌, Option, Some, None, Result, Ok, Err, IfOk, OnOk, length, map, slice_index_or}
 use Rattle.std.specs.Result.{is_err, result_ok}
 use Rattle.std.proofs.lemmas.Bool.{true≢false}
 use Rattle.std.proofs.lemmas.List.{ext_get_or, get_or-map, length-map}
@@ -27,8 +27,8 @@ use Rattle.interleaving_core.specs.Renewing.{FailsToRead, IsBetweenCalls, IsIdle
 use Rattle.interleaving_core.specs.xsi_calls.Words.{world}
 use Rattle.lone_kernel.specs.Laws.{ClosesAKernel, OpensAKernel}
 use Rattle.lone_kernel.specs.Words.{Caller, IsFileAtRest, IsFileOf, IsFlushedTo, IsSeat, State, caller_at}
-use Rattle.session.specs.Session.{AreItsPages, GivesPage, HasFailed, Holds, Opens, OpensNew, PageBecomes, PagesAreTheFile, SessionState, caller_of, pages_of}
-use Rattle.session.proofs.SessionLemmas.{KeepsSeat, same_caller}
+use Rattle.session.specs.Session.{AreItsPages, GivesPage, HasFailed, Holds, IsSession, Opens, OpensNew, PageBecomes, PagesAreTheFile, SessionState, caller_of, pages_of}
+use Rattle.session.proofs.SessionLemmas.{KeepsSeat, same_caller, same_saved}
 
 -- ---- it is opened
 
@@ -41,12 +41,15 @@ is_opened opens caller content keys frames k opened has = record {
   holds = opens sha_key keys content true (caller ∷ []) frames k opened refl has.0 has.1 (omega arith) (omega arith);
   sits = ap (λ (cs : List Caller). caller_at cs 1) opened.callers;
   many = ap (λ (p : PoolState). length p.images) opened.pool ∙ length-map content payload_of;
+  saved = ap (λ (p : PoolState). p.stored) opened.pool;
 }
 
-pub has_seat : (caller : Caller) (content : List (List ℕ)) (keys : ShaKey) (frames : ℕ) (k : SessionState) →
-    IsOpened keys content true (caller ∷ []) frames k → IsSeat k.locks 1
-has_seat caller content keys frames k opened =
-    subst (λ (t : Table). IsSeat t 1) (sym opened.locks) (omega arith, omega arith)
+pub is_session : (caller : Caller) (content : List (List ℕ)) (keys : ShaKey) (frames : ℕ) (k : SessionState) →
+    IsOpened keys content true (caller ∷ []) frames k → length content ≤ frames → IsSession k
+is_session caller content keys frames k opened roomy = record {
+  seat = subst (λ (t : Table). IsSeat t 1) (sym opened.locks) (omega arith, omega arith);
+  roomy = subst (λ (p : PoolState). length p.stored ≤ p.frames) (sym opened.pool) roomy;
+}
 
 -- a file of no queues is that of no other system
 pub is_new : (caller : Caller) (pages : ℕ) (content : List (List ℕ)) → IsFileOf sha_key content no_queues →
@@ -101,7 +104,7 @@ module _ (s : State) (old new : PoolState) (locks : Table) (keeps : KeepsImages 
     spelled = rest.spelled;
   }
 
-still_holds : (s : State) (old new : SessionState) → KeepsPages old new → Holds s old → Holds s new
+pub still_holds : (s : State) (old new : SessionState) → KeepsPages old new → Holds s old → Holds s new
 still_holds s old new kept holds = subst (Holds s) (sym kept.is) (record {
   file = still_at_rest s old.pool new.pool old.locks kept.keeps holds.file;
   idle = holds.idle;
@@ -138,9 +141,9 @@ risen s page fault old new within holds fails = record {
 pub page_kept : (page : ℕ) (r : Result (List ℕ) PoolFault) (old new : SessionState) → Reads page r old new →
     KeepsSeat old new
 page_kept page (Ok bytes) old new read =
-    subst (KeepsSeat old) (sym read.stay.is) (record { callers = refl; seat = λ is. is })
+    subst (KeepsSeat old) (sym read.stay.is) (record { callers = refl; seat = λ is. is; stored = read.stored })
 page_kept page (Err fault) old new fails =
-    subst (KeepsSeat old) (sym fails.by.is) (record { callers = refl; seat = λ is. is })
+    subst (KeepsSeat old) (sym fails.by.is) (record { callers = refl; seat = λ is. is; stored = fails.stored })
 
 as_many : (page : ℕ) (r : Result (List ℕ) PoolFault) (old new : SessionState) → Reads page r old new →
     pages_of new ≡ pages_of old
@@ -157,11 +160,12 @@ becomes page (Ok bytes) old new within read s holds = record {
 becomes page (Err fault) old new within fails s holds = risen s page fault old new within holds fails
 
 pub is_given : (page : ℕ) (r : Result (List ℕ) PoolFault) (old new : SessionState) → page < pages_of old →
-    Reads page r old new → GivesPage page (result_ok r) old new
-is_given page r old new within read = record {
+    IsSession old → Reads page r old new → GivesPage page (result_ok r) old new
+is_given page r old new within is read = record {
   becomes = becomes page r old new within read;
   caller = same_caller old new (page_kept page r old new read);
   many = as_many page r old new read;
+  saved = same_saved old new (page_kept page r old new read) is;
 }
 
 -- a session that is not between calls holds no system
@@ -170,6 +174,7 @@ none_given page k busy = record {
   becomes = λ s holds. absurd (true≢false (sym (busy (is_between s k holds))));
   caller = refl;
   many = refl;
+  saved = refl;
 }
 
 -- ---- all of its pages

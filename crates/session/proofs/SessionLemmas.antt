@@ -1,12 +1,14 @@
 -- What a session's call comes to, and that it keeps its seat.
-use Rattle.std.proofs.Common.{ℕ, ◌≡◌, ◌⊎◌, refl, sym, ap, ◌∙◌, subst, inl, inr, Bool, true, false, IsSome, List, [], Option, Some, None, Result, Ok, Err, IfOk, IfErr, map, option_map}
+use Rattle.std.proofs.Common.{arith, ℕ, ◌≡◌, ◌≤◌, ◌⊎◌, refl, sym, ap, ◌∙◌, subst, inl, inr, Bool, true, false, IsSome, List, [], Option, Some, None, Result, Ok, Err, length, map, nat_le, option_map, if◌then◌else◌}
 use Rattle.std.proofs.lemmas.Bool.{cases_eq}
+use Rattle.std.proofs.lemmas.Bool.Decides.{nat_tests}
 use Rattle.bucket_page.specs.Pseudokeys.{sha_key}
 use Rattle.bucket_page.specs.declared.pseudokey.ShaKey.{ShaKey}
 use Rattle.page_device.specs.Device.{HasRisen}
 use Rattle.page_locks.proofs.ChangeLemmas.{IsSeat-with_row}
 use Rattle.page_locks.specs.Table.{Table}
-use Rattle.buffer_pool.specs.Pool.{PoolState}
+use Rattle.buffer_pool.specs.Pool.{PoolState, spared}
+use Rattle.buffer_pool.proofs.SparedLemmas.{stored_kept}
 use Rattle.queue_model.specs.Journal.{outcome_for}
 use Rattle.interleaving_core.proofs.PlaceLemmas.{at_other, at_same, seat_of_call}
 use Rattle.interleaving_core.proofs.RenewLemmas.{new_has_nothing, outlast_at}
@@ -20,14 +22,11 @@ use Rattle.interleaving_core.specs.declared.step.Step.TheVariants as steps
 use Rattle.lone_kernel.specs.Laws.{AnswersLoneCalls, RefusesAtRest, StandsBehind, StandsDriven, StopsAKernel}
 use Rattle.lone_kernel.specs.Lone.{WaitsOver}
 use Rattle.lone_kernel.specs.Words.{ActiveView, Answer, BeginFault, Call, Caller, HasCall, IsDriven, IsMove, IsRefused, IsSeat, IsStopped, IsWhole, State, Step, call_at, caller_at, with_call}
-use Rattle.session.specs.Session.{Becomes, Calls, Holds, IsShortened, SessionState, Stops, came_of, caller_of, is_waiting, unanswered_by}
+use Rattle.session.specs.Session.{Becomes, Calls, Holds, IsSession, IsShortened, SessionState, Stops, came_of, caller_of, is_waiting, saved_of, unanswered_by}
 use Rattle.session.specs.declared.unanswered.Unanswered.{Unanswered}
 use Rattle.session.specs.declared.unanswered.Unanswered.TheVariants.{Waits, NoRoom, NoMemory, Failed}
 
 -- ---- its journal is let go
-
-pub not_shortened : (k : SessionState) → IsShortened k k
-not_shortened k = record { holds = λ s holds. holds; pool = refl; callers = refl; locks = refl }
 
 pub renewed : (taken : List Entry) (old new : SessionState) → IsRenewed taken old new → IsShortened old new
 renewed taken old new went = subst (IsShortened old) (sym went.is) (record {
@@ -42,12 +41,6 @@ renewed taken old new went = subst (IsShortened old) (sym went.is) (record {
   callers = refl;
   locks = refl;
 })
-
--- without memory for another journal it goes on with its own
-pub shortened : {J F : Type 0} (entries : J → List Entry) (r : Result J F) (old new : SessionState) →
-    IfOk r (λ journal. IsRenewed (entries journal) old new) → IfErr r (λ _. new ≡ old) → IsShortened old new
-shortened entries (Ok journal) old new ok err = renewed (entries journal) old new ok
-shortened entries (Err fault) old new ok err = subst (IsShortened old) (sym err) (not_shortened old)
 
 -- ---- a call that waits is taken back
 
@@ -79,15 +72,19 @@ module _ (call : Call) (c : Caller) (s : State) (waiting : SessionState)
       } in
       subst (Holds s) (sym went.is) rests
 
--- callers and locks stay
+-- callers, locks and what was saved stay
 pub record KeepsSeat (old new : SessionState) : Type 0 where
   pub callers : new.callers ≡ old.callers
   pub seat : IsSeat old.locks 1 → IsSeat new.locks 1
+  pub stored : spared new.pool ≡ spared old.pool
+
+stays : (k : SessionState) → KeepsSeat k k
+stays k = record { callers = refl; seat = λ is. is; stored = refl }
 
 pub keeps_seat_back : (back : Option Call) (old new : SessionState) → Withdraws 1 back old new → KeepsSeat old new
-keeps_seat_back None old new left = subst (KeepsSeat old) (sym left.same) (record { callers = refl; seat = λ is. is })
+keeps_seat_back None old new left = subst (KeepsSeat old) (sym left.same) (stays old)
 keeps_seat_back (Some back) old new went =
-    subst (KeepsSeat old) (sym went.is) (record { callers = refl; seat = λ is. is })
+    subst (KeepsSeat old) (sym went.is) (record { callers = refl; seat = λ is. is; stored = refl })
 
 -- ---- it keeps its seat
 
@@ -95,27 +92,78 @@ pub keeps_seat_shortened : (old first : SessionState) → IsShortened old first 
 keeps_seat_shortened old first same = record {
   callers = same.callers;
   seat = subst (λ (t : Table). IsSeat t 1) (sym same.locks);
+  stored = ap spared same.pool;
 }
 
 pub keeps_seat_refused : (call : Call) (refusal : Call × BeginFault) (old new : SessionState) →
     IsRefused 1 call refusal old new → KeepsSeat old new
 keeps_seat_refused call refusal old new refused =
-    subst (KeepsSeat old) (sym refused.same) (record { callers = refl; seat = λ is. is })
+    subst (KeepsSeat old) (sym refused.same) (record { callers = refl; seat = λ is. is; stored = refl })
 
 pub keeps_seat_begun : (call : Call) (old new : SessionState) → HasCall 1 call old new → KeepsSeat old new
-keeps_seat_begun call old new has = subst (KeepsSeat old) (sym has.is) (record { callers = refl; seat = λ is. is })
+keeps_seat_begun call old new has =
+    subst (KeepsSeat old) (sym has.is) (record { callers = refl; seat = λ is. is; stored = refl })
 
 pub keeps_seat_run : (answer : Option Answer) (old new : SessionState) → IsRun 1 answer old new → KeepsSeat old new
 keeps_seat_run answer old new run = record {
   callers = run.rest.callers;
   seat = λ is. subst (λ (t : Table). IsSeat t 1) (sym run.locks) (IsSeat-with_row old.locks 1 1 _ is);
+  stored = run.rest.stored;
 }
 
 pub then_keeps : (a b c : SessionState) → KeepsSeat a b → KeepsSeat b c → KeepsSeat a c
-then_keeps a b c first last = record { callers = last.callers ∙ first.callers; seat = λ is. last.seat (first.seat is) }
+then_keeps a b c first last = record {
+  callers = last.callers ∙ first.callers;
+  seat = λ is. last.seat (first.seat is);
+  stored = last.stored ∙ first.stored;
+}
 
 pub same_caller : (old new : SessionState) → KeepsSeat old new → caller_of new ≡ caller_of old
 same_caller old new keeps = ap (λ (cs : List Caller). caller_at cs 1) keeps.callers
+
+abbrev IsRoomy : PoolState → Type 0
+IsRoomy p = length p.stored ≤ p.frames
+
+pub same_saved : (old new : SessionState) → KeepsSeat old new → IsSession old → saved_of new ≡ saved_of old
+same_saved old new keeps is = stored_kept old.pool new.pool keeps.stored is.roomy
+
+-- where its journal may have been let go before
+saved_behind : (old first last : SessionState) → IsShortened old first → IsSession first → KeepsSeat old last →
+    saved_of last ≡ saved_of old
+saved_behind old first last same is keeps =
+    stored_kept old.pool last.pool keeps.stored (subst IsRoomy same.pool is.roomy)
+
+roomy_kept : (s t : PoolState) → spared t ≡ spared s → IsRoomy s → IsRoomy t
+unfolding spared
+roomy_kept s t same roomy =
+    let is : nat_le (length t.stored) t.frames ≡ true =
+    has_frames (nat_le (length t.stored) t.frames) (same ∙ rw there refl)
+    in
+    grind (arith, nat_tests)
+  where
+    there : nat_le (length s.stored) s.frames ≡ true
+    there = grind (arith, nat_tests)
+
+    has_frames : (b : Bool) → ◌≡◌ {A = Option (List (List ℕ))} (if b then Some t.stored else None) (Some s.stored) →
+        b ≡ true
+    has_frames true same = refl
+    has_frames false same = absurd cc
+
+pub still_session : (old new : SessionState) → KeepsSeat old new → IsSession old → IsSession new
+still_session old new keeps is = record {
+  seat = keeps.seat is.seat;
+  roomy = roomy_kept old.pool new.pool keeps.stored is.roomy;
+}
+
+pub driven_session : (call : Call) (told : Option Answer) (first begun last : SessionState) →
+    HasCall 1 call first begun → IsRun 1 told begun last → IsSession first → IsSession last
+driven_session call told first begun last has run is =
+    still_session first last (then_keeps first begun last (keeps_seat_begun call first begun has)
+    (keeps_seat_run told begun last run)) is
+
+pub withdrawn_session : (back : Option Call) (last new : SessionState) → Withdraws 1 back last new → IsSession last →
+    IsSession new
+withdrawn_session back last new went is = still_session last new (keeps_seat_back back last new went) is
 
 -- ---- what a call comes to
 
@@ -124,7 +172,7 @@ apart k sound failed = absurd cc
 
 -- it does not begin
 module _ (refuses : RefusesAtRest ShaKey) (call : Call) (refusal : Call × BeginFault) (old first new : SessionState)
-    (same : IsShortened old first) (refused : IsRefused 1 call refusal first new) where
+    (same : IsShortened old first) (is : IsSession first) (refused : IsRefused 1 call refusal first new) where
   not_begun : (s : State) → Holds s old → Becomes call s (Err (unanswered_by refusal.1)) old new
   not_begun s holds = by refusal.1 refused.cause
     where
@@ -140,16 +188,20 @@ module _ (refuses : RefusesAtRest ShaKey) (call : Call) (refusal : Call × Begin
       by begins.SessionFull cause = left
       by begins.NoMemory cause = left
 
+  refused_keeps : KeepsSeat old new
+  refused_keeps = then_keeps old first new (keeps_seat_shortened old first same)
+      (keeps_seat_refused call refusal first new refused)
+
   pub is_refused : Calls call (Err (unanswered_by refusal.1)) old new
   is_refused = record {
     becomes = not_begun;
-    caller = same_caller old new (then_keeps old first new (keeps_seat_shortened old first same)
-        (keeps_seat_refused call refusal first new refused));
+    caller = same_caller old new refused_keeps;
+    saved = saved_behind old first new same is refused_keeps;
   }
 
 -- it is driven
 module _ (answers : AnswersLoneCalls ShaKey) (call : Call) (old first begun last : SessionState)
-    (same : IsShortened old first) (whole : IsWhole first) (is : IsSeat first.locks 1)
+    (same : IsShortened old first) (whole : IsWhole first) (is : IsSession first)
     (has : HasCall 1 call first begun)
     (did : Step) (driven : IsDriven sha_key 1 did begun last) (told : Option Answer) (run : IsRun 1 told begun last)
   where
@@ -161,8 +213,8 @@ module _ (answers : AnswersLoneCalls ShaKey) (call : Call) (old first begun last
         (keeps_seat_begun call first begun has) (keeps_seat_run told begun last run))
 
     stands : (s : State) → Holds s old → StandsDriven sha_key 1 has.caller call s did begun last driven
-    stands s holds = answers sha_key 1 has.caller call s did first begun last whole (same.holds s holds) is has.sits
-        has driven
+    stands s holds = answers sha_key 1 has.caller call s did first begun last whole (same.holds s holds) is.seat
+        has.sits has driven
 
     behind : (s : State) → Holds s old → (d : Step) → did ≡ d → StandsBehind sha_key 1 has.caller call s d last
     behind s holds d is_d =
@@ -176,9 +228,13 @@ module _ (answers : AnswersLoneCalls ShaKey) (call : Call) (old first begun last
             ap (λ (c : Option Caller). outcome_for c call s) its_caller ∙ waits.none,
             withdrawn call has.caller s last waits back new went,
           );
-      caller = same_caller old new (then_keeps old last new keeps (keeps_seat_back back last new went));
+      caller = same_caller old new (keeps_back back new went);
+      saved = saved_behind old first new same is (keeps_back back new went);
     }
       where
+        keeps_back : (back : Option Call) (new : SessionState) → Withdraws 1 back last new → KeepsSeat old new
+        keeps_back back new went = then_keeps old last new keeps (keeps_seat_back back last new went)
+
         is_it : (d : Step) → is_waiting d ≡ true → d ≡ steps.Waiting
         is_it (steps.Moved kind) is = absurd cc
         is_it (steps.Blocked other) is = absurd cc
@@ -216,21 +272,23 @@ module _ (answers : AnswersLoneCalls ShaKey) (call : Call) (old first begun last
     told_else over = record {
       becomes = λ s holds. becomes_so s holds did refl over;
       caller = same_caller old last keeps;
+      saved = saved_behind old first last same is keeps;
     }
 
 -- ---- it is stopped
 
 keeps_seat_stopped : (old new : SessionState) → IsStopped old new → (b : Bool) → old.stopped ≡ b → KeepsSeat old new
 keeps_seat_stopped old new stop true was =
-    subst (KeepsSeat old) (sym (stop.again was)) (record { callers = refl; seat = λ is. is })
+    subst (KeepsSeat old) (sym (stop.again was)) (stays old)
 keeps_seat_stopped old new stop false was =
-    subst (KeepsSeat old) (sym (stop.first was)) (record { callers = refl; seat = λ is. is })
+    subst (KeepsSeat old) (sym (stop.first was)) (record { callers = refl; seat = λ is. is; stored = refl })
 
 pub keeps_seat_stop : (old new : SessionState) → IsStopped old new → KeepsSeat old new
 keeps_seat_stop old new stop = keeps_seat_stopped old new stop old.stopped refl
 
-pub is_stopped : StopsAKernel ShaKey → (old new : SessionState) → IsStopped old new → Stops old new
-is_stopped stops old new stop = record {
+pub is_stopped : StopsAKernel ShaKey → (old new : SessionState) → IsSession old → IsStopped old new → Stops old new
+is_stopped stops old new is stop = record {
   stops = λ s holds. stops sha_key s old new holds stop;
   caller = same_caller old new (keeps_seat_stop old new stop);
+  saved = same_saved old new (keeps_seat_stop old new stop) is;
 }

@@ -1,6 +1,6 @@
 -- A session over the pages of a file in memory: the system that it holds, and what its calls are answered.
 -- docs/QUEUES.md, "Calls"; docs/FORMAT.md, "Pages".
-use Rattle.std.specs.Prelude.{ℕ, ◌≡◌, ◌*◌, ◌<◌, Bool, true, false, List, [], Option, Some, None, Result, Ok, Err, drop, length, slice_index_or, take}
+use Rattle.std.specs.Prelude.{ℕ, ◌≡◌, ◌*◌, ◌<◌, ◌≤◌, Bool, true, false, List, [], Option, Some, None, Result, Ok, Err, drop, length, slice_index_or, take}
 use Rattle.bucket_page.specs.Pseudokeys.{sha_key}
 use Rattle.bucket_page.specs.declared.pseudokey.ShaKey.{ShaKey}
 use Rattle.page_device.specs.Device.{HasRisen}
@@ -13,7 +13,7 @@ use Rattle.interleaving_core.specs.declared.fault.BeginFault.TheVariants as begi
 use Rattle.interleaving_core.specs.declared.fault.StepFault.TheVariants as faults
 use Rattle.interleaving_core.specs.declared.step.Step.TheVariants as steps
 use Rattle.lone_kernel.specs.Lone.{RestsOver}
-use Rattle.lone_kernel.specs.Words.{Answer, BeginFault, Call, Caller, FoundNoRoom, IsFileOf, KernelState, State, Step, caller_at, restarted}
+use Rattle.lone_kernel.specs.Words.{Answer, BeginFault, Call, Caller, FoundNoRoom, IsFileOf, IsSeat, KernelState, State, Step, caller_at, restarted}
 use Rattle.session.specs.declared.unanswered.Unanswered.{Unanswered}
 use Rattle.session.specs.declared.unanswered.Unanswered.TheVariants.{Waits, NoRoom, NoMemory, Failed}
 
@@ -32,6 +32,17 @@ caller_of k = caller_at k.callers 1
 abbrev pub pages_of : SessionState → ℕ
 pages_of k = length k.pool.images
 
+-- its pages as they were last saved: those that were opened, until it is noted that others are
+abbrev pub saved_of : SessionState → List (List ℕ)
+saved_of k = k.pool.stored
+
+-- what is so of each session
+pub record IsSession (k : SessionState) : Type 0 where
+  -- its caller has a seat
+  pub seat : IsSeat k.locks 1
+  -- there is a frame for each page, so that no call brings a page to the device
+  pub roomy : length (saved_of k) ≤ k.pool.frames
+
 -- ---- it is opened
 
 -- the first so many pages of these bytes
@@ -45,6 +56,7 @@ pub record Opens (caller : Caller) (content : List (List ℕ)) (k : SessionState
   pub holds : Holds system k
   pub sits : caller_of k ≡ Some caller
   pub many : pages_of k ≡ length content
+  pub saved : saved_of k ≡ content
 
 -- or those of a new file, which has no queue
 pub record OpensNew (caller : Caller) (pages : ℕ) (k : SessionState) : Type 0 where
@@ -117,11 +129,13 @@ Becomes call s (Err Failed) old new = HasFailed old new
 pub record Calls (call : Call) (result : Result Answer Unanswered) (old new : SessionState) : Type 0 where
   pub becomes : (s : State) → Holds s old → Becomes call s result old new
   pub caller : caller_of new ≡ caller_of old
+  pub saved : saved_of new ≡ saved_of old
 
 -- it is stopped: from here on a call that would wait is refused
 pub record Stops (old new : SessionState) : Type 0 where
   pub stops : (s : State) → Holds s old → Holds (record s { stopped = true }) new
   pub caller : caller_of new ≡ caller_of old
+  pub saved : saved_of new ≡ saved_of old
 
 -- ---- its pages
 
@@ -140,6 +154,7 @@ pub record GivesPage (page : ℕ) (given : Option (List ℕ)) (old new : Session
   pub becomes : (s : State) → Holds s old → PageBecomes page s given old new
   pub caller : caller_of new ≡ caller_of old
   pub many : pages_of new ≡ pages_of old
+  pub saved : saved_of new ≡ saved_of old
 
 -- these are all of them
 pub record AreItsPages (content : List (List ℕ)) (k : SessionState) : Type 0 where
@@ -150,3 +165,40 @@ pub record AreItsPages (content : List (List ℕ)) (k : SessionState) : Type 0 w
 abbrev pub PagesAreTheFile : Type 0
 PagesAreTheFile = (s : State) (k : SessionState) (content : List (List ℕ)) → Holds s k → AreItsPages content k →
     IsFileOf sha_key content (restarted s)
+
+-- ---- which of them have changed since they were saved
+
+-- each page from one on up to another was saved as it is to be written
+abbrev pub AreAsSaved : (from to : ℕ) → SessionState → Type 0
+AreAsSaved from to k =
+    (page : ℕ) → from ≤ page → page < to → IsPage page (slice_index_or (saved_of k) page []) k.pool
+
+-- a page from one on, and those between are as they were saved
+pub record IsNextChanged (from page : ℕ) (k : SessionState) : Type 0 where
+  pub behind : from ≤ page
+  pub within : page < pages_of k
+  pub others : AreAsSaved from page k
+
+-- or all others are
+abbrev pub IsToldOf : (from : ℕ) → Option ℕ → SessionState → Type 0
+IsToldOf from None k = AreAsSaved from (pages_of k) k
+IsToldOf from (Some page) k = IsNextChanged from page k
+
+abbrev pub TellsChanges : (from : ℕ) → Option ℕ → SessionState → Type 0
+TellsChanges from told k = (s : State) → Holds s k → IsToldOf from told k
+
+-- from here on its pages, as they are to be written, are those that were saved
+pub record AreSaved (s : State) (old new : SessionState) : Type 0 where
+  pub all : AreItsPages (saved_of new) new
+  pub holds : Holds s new
+  pub images : new.pool.images ≡ old.pool.images
+
+-- or the file has failed
+abbrev pub SaveBecomes : State → (saved : Bool) → (old new : SessionState) → Type 0
+SaveBecomes s true old new = AreSaved s old new
+SaveBecomes s false old new = HasFailed old new
+
+pub record NotesSave (saved : Bool) (old new : SessionState) : Type 0 where
+  pub becomes : (s : State) → Holds s old → SaveBecomes s saved old new
+  pub caller : caller_of new ≡ caller_of old
+  pub many : pages_of new ≡ pages_of old

@@ -2,7 +2,7 @@
 
 ghost use Rattle.std.specs.Prelude.{◌≡◌, ◌/◌, ◌<◌, IfOk, length};
 ghost use Rattle.page_device.specs.declared.page.TheConstants.{PAGE_BYTES};
-ghost use Rattle.session.specs.Session.{Calls, GivesPage, IsShortened, Opens, OpensNew, Stops, pages_in, pages_of};
+ghost use Rattle.session.specs.Session.{Calls, GivesPage, IsShortened, NotesSave, Opens, OpensNew, Stops, TellsChanges, pages_in, pages_of};
 ghost use Rattle.session.specs.Words.{CanHavePages};
 
 use crate::loading::loaded;
@@ -30,9 +30,6 @@ const SEAT: u8 = 1;
 /// The frames that one seat needs.
 const LEAST_FRAMES: usize = 12;
 
-/// The frames of a session at most.
-const MOST_FRAMES: usize = 16_384;
-
 /// The journal of a session is let go once it has so many entries.
 const LONG_JOURNAL: usize = 1_024;
 
@@ -43,14 +40,13 @@ pub struct Session {
 }
 
 impl Model for Session {
-    ghost use Rattle.interleaving_core.specs.Words.{IsSeat};
-    ghost use Rattle.session.specs.Session.{SessionState};
+    ghost use Rattle.session.specs.Session.{IsSession, SessionState};
 
     ghost Value = { SessionState };
 
     ghost view = { λ s. s.kernel };
 
-    ghost invariant = { λ s. IsSeat s.kernel.locks 1 };
+    ghost invariant = { λ s. IsSession s.kernel };
 }
 
 impl Session {
@@ -122,13 +118,39 @@ impl Session {
         self.kernel.page(page).ok()
     }
 
+    /// The first page from this one on that has changed since the pages were saved; none where no
+    /// other has. Each page between is as it was saved.
+    pub fn next_changed(&self, from: u32) -> Option<u32>
+        ensures { TellsChanges from result self.now }
+    {
+        self.kernel.next_changed(from)
+    }
+
+    /// Notes that the pages are saved, for who has written each that has changed. Until then they
+    /// count as not saved, so a save that fails can be made again. False where the file has failed.
+    pub fn note_saved(&mut self) -> bool
+        ensures { NotesSave result self.old self.new }
+    {
+        if !self.kernel.is_between_calls() {
+            return false;
+        }
+        // There are as many pages on the device as in all, before and after.
+        let _ = self.kernel.pages();
+        let is_saved = self.kernel.flush().is_ok();
+        let _ = self.kernel.pages();
+        is_saved
+    }
+
     /// Opens the pages of a device for a caller.
     fn on(alloc: Global, device: MemDevice, caller: Caller) -> Result<Session, OpenFault>
         ensures { IfOk result (Opens caller device) }
     {
         a_kernel_opens_at_rest::<FileKeys>();
-        let frames = (device.pages() as usize).clamp(LEAST_FRAMES, MOST_FRAMES);
-        match Kernel::open(alloc, device, KeptKeys::new(ShaKey), &[caller], frames) {
+        let frames = LEAST_FRAMES.max(device.pages() as usize);
+        let Ok(keys) = KeptKeys::new(alloc, ShaKey) else {
+            return Err(OpenFault::NoMemory);
+        };
+        match Kernel::open(alloc, device, keys, &[caller], frames) {
             Ok(kernel) => Ok(Session { kernel }),
             Err((_, fault)) => Err(fault),
         }
@@ -141,7 +163,6 @@ impl Session {
         if self.kernel.journal().len() < LONG_JOURNAL || !self.kernel.is_between_calls() {
             return;
         }
-        // Without memory for another it goes on with this one.
-        let _ = self.kernel.renew();
+        self.kernel.forget();
     }
 }

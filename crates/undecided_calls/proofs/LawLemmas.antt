@@ -1,6 +1,16 @@
 -- A call that has just begun.
 use Rattle.std.proofs.Common.{ℕ, ◌≡◌, inl, refl, sym, ap, ◌∙◌, subst, ◌≤◌, List, [], Option, Some, None, IfSome, arith}
+use Rattle.std.proofs.lemmas.Bool.{true≢false}
 use Rattle.std.specs.List.{Contains}
+use Rattle.std.specs.Option.{is_some}
+use Rattle.std.specs.Prelude.{slice_get}
+use Rattle.any_inquiry.specs.Anything.{if_of, of_receive}
+use Rattle.queue_model.specs.declared.call.Call.TheVariants as calls
+use Rattle.queue_model.specs.declared.call.ReceiveArguments.{ReceiveArguments}
+use Rattle.xsi_receive.specs.Asking.{plan_at}
+use Rattle.xsi_receive.specs.declared.receive_inquiry.ReceiveInquiry.{ReceiveInquiry}
+use Rattle.xsi_receive.specs.declared.stage.Stage as receives
+use Rattle.xsi_receive.specs.declared.stage.Stage.TheVariants as stages
 use Rattle.call_questions.specs.declared.question.Question.{Question}
 use Rattle.call_questions.specs.Agreeing.{Agrees}
 use Rattle.call_questions.specs.Laws.{HaveFewSteps as QuestionsHaveFew}
@@ -10,8 +20,8 @@ use Rattle.call_writes.specs.stale_search.Steps.{Sees}
 use Rattle.xsi_inquiry.proofs.AgreeLemmas.{agrees_itself}
 use Rattle.xsi_inquiry.specs.Telling.{most_asked}
 use Rattle.undecided_calls.specs.declared.trials.Trials.{Trials}
-use Rattle.undecided_calls.specs.Words.{AreAlike, Call, Change, HasBegun, Known, KnowsNear, Lock, LockName, PoolState, RecordKey, Records, State, Table, guard_of, names_for, names_in, record_of, row_of, store_of}
-use Rattle.undecided_calls.specs.Undecided.{IsFresh, left_in}
+use Rattle.undecided_calls.specs.Words.{AreAlike, Call, Change, HasBegun, Known, KnowsNear, Lock, LockName, PoolState, Record, RecordKey, Records, State, Table, guard_of, names_for, names_in, nothing, record_of, row_of, store_of}
+use Rattle.undecided_calls.specs.Undecided.{IsFresh, its_plan, left_in}
 use Rattle.undecided_calls.specs.Knowing.{IsUndecided, IsUndecidedIn}
 use Rattle.undecided_calls.specs.Laws.{HaveFewSteps, MOST_UNDECIDED_STEPS}
 use Rattle.undecided_calls.specs.declared.undecided.UndecidedCall.{UndecidedCall}
@@ -59,13 +69,47 @@ begin_right hash seat call s u records pool locks change fresh knows row sees ag
           (λ key within. absurd (none_in (guard_of key) within));
     })
 
--- a call that has not decided has begun at most as many searches as it asks questions
+-- a call that has not decided, and inserts nothing on trial yet, has begun at most as many searches as it asks
+-- questions
 pub few_searches : (hash : RecordKey → ℕ) (seat : ℕ) (call : Call) (s : State) (u : UndecidedCall) (records : Records)
-    (pool : PoolState) (locks : Table) (change : Change) →
+    (pool : PoolState) (locks : Table) (change : Change) → u.trials ≡ None →
     IsUndecided hash seat call s u records pool locks change → u.questions.finds ≤ most_asked call
-few_searches hash seat call s u records pool locks change is = by u.trials is
+few_searches hash seat call s u records pool locks change untried is =
+    questions_begin_few hash call u.questions
+    (subst (λ (o : Option Trials). IsUndecidedIn hash seat call s u.questions o records pool locks change) untried
+    is).faces.right
+
+-- and one of a plan without trials inserts nothing
+pub untried_without : (hash : RecordKey → ℕ) (seat : ℕ) (call : Call) (s : State) (u : UndecidedCall)
+    (records : Records) (pool : PoolState) (locks : Table) (change : Change) → (its_plan call u.questions).trials ≡ [] →
+    IsUndecided hash seat call s u records pool locks change → u.trials ≡ None
+untried_without hash seat call s u records pool locks change none is = by u.trials is
   where
-    by : (o : Option Trials) → IsUndecidedIn hash seat call s u.questions o records pool locks change →
-        u.questions.finds ≤ most_asked call
-    by None is = questions_begin_few hash call u.questions is.faces.right
-    by (Some t) is = is.finds
+    by : (o : Option Trials) → IsUndecidedIn hash seat call s u.questions o records pool locks change → o ≡ None
+    by None is = refl
+    by (Some t) is =
+        absurd (true≢false (sym is.inserts ∙ ap (λ (rs : List Record). is_some (slice_get rs 0)) none))
+
+-- the plan of a Receive inserts nothing
+taken_inserts_none : (id : ℕ) (stage : receives.Stage) → (plan_at id stage).trials ≡ []
+taken_inserts_none id (stages.Seeking sought) = refl
+taken_inserts_none id (stages.Refused errno) = refl
+taken_inserts_none id stages.PutOff = refl
+taken_inserts_none id (stages.AtType e mtype) = refl
+taken_inserts_none id (stages.AtMessage e t serial) = refl
+taken_inserts_none id (stages.AtTypeOf e m) = refl
+taken_inserts_none id (stages.Taken r) = refl
+
+receive_inserts_none : (a : ReceiveArguments) (o : Option ReceiveInquiry) →
+    (if_of (λ (i : ReceiveInquiry). plan_at a.id i.stage) nothing o).trials ≡ []
+receive_inserts_none a None = refl
+receive_inserts_none a (Some i) = taken_inserts_none a.id i.stage
+
+-- so it has none under way
+pub receive_untried : (hash : RecordKey → ℕ) (seat : ℕ) (call : Call) (s : State) (u : UndecidedCall)
+    (records : Records) (pool : PoolState) (locks : Table) (change : Change) (a : ReceiveArguments) →
+    call ≡ calls.Receive a → IsUndecided hash seat call s u records pool locks change → u.trials ≡ None
+receive_untried hash seat call s u records pool locks change a is_receive is =
+    untried_without hash seat call s u records pool locks change
+    (ap (λ (x : Call). (its_plan x u.questions).trials) is_receive
+    ∙ receive_inserts_none a (of_receive u.questions.inquiry)) is

@@ -1,10 +1,10 @@
 -- Once all is asked the plan can be carried out.
-use Rattle.std.proofs.Common.{◌≡◌, ◌≢◌, refl, sym, ap, ◌∙◌, subst, ℕ, Bool, true, false, List, [], Option, None, IsSome}
+use Rattle.std.proofs.Common.{◌≡◌, ◌≢◌, refl, sym, ap, ◌∙◌, subst, ℕ, Bool, true, false, List, [], Option, None, IsSome, slice_get}
 use Rattle.std.proofs.lemmas.Bool.{true≢false}
 use Rattle.std.proofs.lemmas.List.Elements.{All-nil, All-weaker}
 use Rattle.std.specs.List.{All, Contains}
 use Rattle.std.specs.Option.{is_some}
-use Rattle.undecided_calls.proofs.Names.{AreAbsent, HasRange, HoldsNames, IsUnder, OwnsPlan, Owns, StandsAt, Write, agrees_itself, changes_by, facts_of, few_of, has_asked, held_names, few_searches, key_of, key_written, locks_behind, tries_rightly, writes_of, CanTry}
+use Rattle.undecided_calls.proofs.Names.{AreAbsent, HasRange, HoldsNames, IsUnder, OwnsPlan, Owns, StandsAt, Write, agrees_itself, changes_by, facts_of, few_of, has_asked, held_names, key_of, key_written, locks_behind, tries_rightly, writes_of, CanTry}
 use Rattle.call_questions.specs.declared.question.Question.{Question}
 use Rattle.xsi_inquiry.specs.declared.decision.Decision.TheVariants as decisions
 use Rattle.undecided_calls.specs.Words.{AreAlike, AreNames, Call, Caller, Change, Decision, IsCarrying, IsRight, Known, LockName, Plan, PoolState, QuestionsView, Record, RecordKey, Records, State, Table, asked_of, caller_of, guard_of, inserted, is_done, locked_of, nothing, record_of, store_of}
@@ -135,11 +135,11 @@ module _ (hash : RecordKey → ℕ) (seat : ℕ) (call : Call) (s : State) (q : 
   fresh = record { writes = untried; decision = decision }
 
   pub begins_trying : AreNames q.names → is_done call q ≡ true → its_plan call q ≢ nothing →
-      IsTrying hash seat call s q fresh records pool locks change
-  begins_trying names done some = record {
+      IsSome (slice_get (its_plan call q).trials 0) → IsTrying hash seat call s q fresh records pool locks change
+  begins_trying names done some inserts = record {
     asked = none_asked call q done;
     rests = no_question call q done;
-    finds = few_searches hash call q a.faces.right;
+    inserts = inserts;
     filed = a.faces.agrees.filed;
     knows = a.faces.knows;
     decision = decides;

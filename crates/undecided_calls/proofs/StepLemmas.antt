@@ -1,8 +1,10 @@
 -- A step of a call up to its Decide: a question, the end, or a trial.
 use Rattle.std.proofs.Common.{◌≡◌, ◌≢◌, refl, sym, ap, ◌∙◌, subst, ℕ, ◌+◌, ◌≤◌, Bool, true, false, not, List, length, Option, Some, None, if◌then◌else◌, arith}
 use Rattle.std.proofs.lemmas.Bool.{true≢false}
+use Rattle.std.specs.Option.{is_some}
 use Rattle.std.specs.Prelude.{option_map, slice_get}
 use Rattle.page_locks.proofs.ChangeLemmas.{with_row-own}
+use Rattle.page_locks.proofs.TableLemmas.{row_of-same}
 use Rattle.call_questions.proofs.of_step_rules.LockStepLemmas.{KeepsOthers-same}
 use Rattle.xsi_inquiry.specs.declared.write.TheConstants.{MAX_TRIALS}
 use Rattle.call_writes.specs.declared.deed.Deed.TheVariants as deeds
@@ -10,7 +12,7 @@ use Rattle.call_writes.specs.declared.writes.CallWrites.{CallWrites}
 use Rattle.undecided_calls.specs.declared.trials.Trials.{Trials}
 use Rattle.undecided_calls.specs.declared.undecided.UndecidedCall.{UndecidedCall}
 use Rattle.undecided_calls.proofs.Names.{Carries, Faces, Question, WalksTo, facts_of, FileFault, FollowsRow, KeepsPlan, KeepsQuestions, Learns, few_of, times_most, writes_none}
-use Rattle.undecided_calls.specs.Words.{AreNames, Call, Change, Decision, Ended, Fault, IsCarrying, IsReady, Lock, MOST_STEPS, NearsOrSpares, OnlyWrites, Plan, PoolState, Progress, QuestionsView, Record, RecordKey, Records, State, Step, Store, Table, is_done, is_fault, nothing, questions_facts, questions_left, questions_locks, questions_turn, row_of, store_of, with_row, world, writes_left_in, writes_locks, writes_turn}
+use Rattle.undecided_calls.specs.Words.{AreNames, Call, Change, Decision, Ended, Fault, IsCarrying, IsReady, IsSeat, Lock, MOST_STEPS, NearsOrSpares, OnlyWrites, Plan, PoolState, Progress, QuestionsView, Record, RecordKey, Records, State, Step, Store, Table, finds_behind, is_done, is_fault, nothing, questions_facts, questions_left, questions_locks, questions_turn, row_of, store_of, with_row, world, writes_left_in, writes_locks, writes_turn}
 use Rattle.call_questions.specs.Words.{Moved, Blocked}
 use Rattle.undecided_calls.specs.Undecided.{TRIAL_STEPS, its_plan, undecided_facts, undecided_turn, untried}
 use Rattle.undecided_calls.specs.Knowing.{IsAsking, IsDecision, IsTrying}
@@ -73,6 +75,7 @@ module _ (hash : RecordKey → ℕ) (seat : ℕ) (call : Call) (q : QuestionsVie
         rests = λ e. absurd (goes_on e);
         most = aim.most;
         calm = λ calm. tt;
+        finds = aim.finds;
       };
       row = row;
       progress = λ s records change a.
@@ -108,6 +111,7 @@ module _ (hash : RecordKey → ℕ) (seat : ℕ) (call : Call) (q : QuestionsVie
       rests = λ e. refl;
       most = refl;
       calm = λ calm. calm;
+      finds = refl;
     };
     row = own_row row;
     progress = λ s records change a. tt;
@@ -159,6 +163,7 @@ module _ (hash : RecordKey → ℕ) (seat : ℕ) (call : Call) (q : QuestionsVie
       rests = λ e. absurd (ended_not e);
       most = made.aim.most;
       calm = λ calm. made.aim.calm (no_question call q done);
+      finds = made.aim.finds;
     };
     row = made.row;
     progress = λ s records change a.
@@ -197,7 +202,7 @@ module _ (hash : RecordKey → ℕ) (seat : ℕ) (call : Call) (q : QuestionsVie
           IsAsking hash seat call s q records pool locks change →
           IsTrying hash seat call s q (fresh decision) records pool locks change
       starts s records change a = begins_trying hash seat call s q records pool locks change a decision decides names
-          done planned
+          done planned (ap is_some some)
 
   -- ---- a trial
 
@@ -211,20 +216,44 @@ module _ (hash : RecordKey → ℕ) (seat : ℕ) (call : Call) (q : QuestionsVie
       (writes_left_in p w (store_of pool'.images)) pool pool')
       (step : (names : List Lock) (records : Records) (change : Change) →
       IsCarrying hash seat names p t.writes records pool locks change → is_fault did ≡ false →
-      Carries hash seat names p did t.writes w records pool pool' locks locks' change) where
+      Carries hash seat names p did t.writes w records pool pool' locks locks' change) (seated : IsSeat locks seat)
+      (searches : ℕ) (counts : searches ≡ finds_behind did (row_of locks' seat) q.finds) where
     abbrev t' : Trials
     t' = record { writes = w; decision = t.decision }
+
+    -- with so many searches
+    abbrev q' : QuestionsView
+    q' = record q { finds = searches }
+
+    abbrev tried_on : UndecidedCall
+    tried_on = record { questions = q'; trials = Some t' }
+
+    row_now : locks' ≡ with_row locks seat (writes_locks w q.names)
+    row_now = follows q.names names.no_file row
+
+    counted : searches ≡ finds_behind did (writes_locks w q.names) q.finds
+    counted = counts ∙ ap (λ (ls : List Lock). finds_behind did ls q.finds)
+        (ap (λ (x : Table). row_of x seat) row_now ∙ row_of-same locks seat (writes_locks w q.names) seated)
+
+    rests_at_end : did ≡ Ended → tried_on ≡ trying t
+    rests_at_end e =
+        let same : searches ≡ q.finds =
+        counts ∙ ap (λ (d : Progress FileFault). finds_behind d (row_of locks' seat) q.finds) e in
+        λ n. record {
+          questions = record q { finds = same n };
+          trials = Some (record { writes = aim.rests e n; decision = t.decision });
+        }
 
     module _ (s : State) (records : Records) (change : Change)
         (is : IsTrying hash seat call s q t records pool locks change) (fine : is_fault did ≡ false) where
       on : Carries hash seat q.names p did t.writes w records pool pool' locks locks' change
       on = step q.names records change is.carries fine
 
-      tries_on : IsTrying hash seat call s q t' on.after pool' locks' on.step.after
+      tries_on : IsTrying hash seat call s q' t' on.after pool' locks' on.step.after
       tries_on = record {
         asked = is.asked;
         rests = is.rests;
-        finds = is.finds;
+        inserts = is.inserts;
         filed = is.filed;
         knows = is.knows;
         decision = is.decision;
@@ -236,7 +265,7 @@ module _ (hash : RecordKey → ℕ) (seat : ℕ) (call : Call) (q : QuestionsVie
             on.carries.can aim.due on.leaves is.alike;
       }
 
-      steps : GoesOn hash seat call s did (trying t) (trying t') records pool pool' locks locks' change
+      steps : GoesOn hash seat call s did (trying t) tried_on records pool pool' locks locks' change
       steps = record {
         step = on.step;
         after = on.after;
@@ -248,17 +277,18 @@ module _ (hash : RecordKey → ℕ) (seat : ℕ) (call : Call) (q : QuestionsVie
         full = on.full;
       }
 
-    pub tried : MakesUndecided hash seat call did (trying t) (trying t') pool pool' locks locks'
+    pub tried : MakesUndecided hash seat call did (trying t) tried_on pool pool' locks locks'
     tried = record {
       writes = writes;
       aim = record {
         caller = refl;
         ended = aim.ended;
-        rests = λ e. ap (λ (x : CallWrites). trying (record { writes = x; decision = t.decision })) (aim.rests e);
+        rests = rests_at_end;
         most = refl;
         calm = λ calm. calm;
+        finds = counted;
       };
-      row = follows q.names names.no_file row;
+      row = row_now;
       progress = λ s records change is. progress q.names records change is.carries;
       step = λ s records change is fine. steps s records change is fine;
     }
@@ -274,10 +304,13 @@ module _ (hash : RecordKey → ℕ) (seat : ℕ) (call : Call) (q : QuestionsVie
       (writes_left_in x w (store_of pool'.images)) pool pool') →
       ((names : List Lock) (records : Records) (change : Change) →
       IsCarrying hash seat names x t.writes records pool locks change → is_fault did ≡ false →
-      Carries hash seat names x did t.writes w records pool pool' locks locks' change) →
-      MakesUndecided hash seat call did (trying t) (trying (record { writes = w; decision = t.decision })) pool pool'
-      locks locks'
-  tried_with x same t names row did w pool' locks' writes aim follows progress step =
+      Carries hash seat names x did t.writes w records pool pool' locks locks' change) → IsSeat locks seat →
+      (searches : ℕ) → searches ≡ finds_behind did (row_of locks' seat) q.finds →
+      MakesUndecided hash seat call did (trying t) (record {
+        questions = record q { finds = searches };
+        trials = Some (record { writes = w; decision = t.decision });
+      }) pool pool' locks locks'
+  tried_with x same t names row did w pool' locks' writes aim follows progress step seated searches counts =
       tried t names row did w pool' locks' writes (subst (λ (y : Plan). KeepsPlan y did t.writes w) same aim) follows
       (subst (λ (y : Plan). (names : List Lock) (records : Records) (change : Change) →
       IsCarrying hash seat names y t.writes records pool locks change →
@@ -285,4 +318,4 @@ module _ (hash : RecordKey → ℕ) (seat : ℕ) (call : Call) (q : QuestionsVie
       (writes_left_in y w (store_of pool'.images)) pool pool') same progress)
       (subst (λ (y : Plan). (names : List Lock) (records : Records) (change : Change) →
       IsCarrying hash seat names y t.writes records pool locks change → is_fault did ≡ false →
-      Carries hash seat names y did t.writes w records pool pool' locks locks' change) same step)
+      Carries hash seat names y did t.writes w records pool pool' locks locks' change) same step) seated searches counts

@@ -1,8 +1,7 @@
 -- What is so of a call up to its Decide, over a system and the records that stand under its names.
 -- docs/STEPS.md, "Calls", "What a call reads".
-use Rattle.std.specs.Prelude.{ℕ, ◌≡◌, ◌≢◌, ◌≤◌, Option, Some, None, take, ⊤}
+use Rattle.std.specs.Prelude.{ℕ, ◌≡◌, ◌≢◌, Option, Some, None, IsSome, slice_get, take, ⊤}
 use Rattle.call_questions.specs.QuestionSteps.{Faces}
-use Rattle.xsi_inquiry.specs.Telling.{most_asked}
 use Rattle.undecided_calls.specs.declared.trials.Trials.{Trials}
 use Rattle.undecided_calls.specs.declared.undecided.UndecidedCall.{UndecidedCall}
 use Rattle.undecided_calls.specs.Words.{AreAlike, Call, Change, Decision, Due, Full, IsCarrying, IsFiled, IsRight, KnowsNear, KnowsOf, PoolState, QuestionsView, RecordKey, Records, State, Table, Trying, asked_of, caller_of, inserted, locked_of, names_for, names_in, nothing, questions_locks, record_of, row_of}
@@ -44,8 +43,8 @@ pub record IsTrying (hash : RecordKey → ℕ) (seat : ℕ) (call : Call) (s : S
     (records : Records) (pool : PoolState) (locks : Table) (change : Change) : Type 0 where
   pub asked : asked_of call q.inquiry ≡ None
   pub rests : q.question ≡ None
-  -- it has begun few searches, and begins no more
-  pub finds : q.finds ≤ most_asked call
+  -- something is inserted on trial
+  pub inserts : IsSome (slice_get (its_plan call q).trials 0)
   pub filed : IsFiled s
   pub knows : KnowsNear call q s
   pub decision : IsDecision call q t.decision

@@ -3,7 +3,7 @@ use Rattle.std.specs.Prelude.{ℕ, ◌≡◌, ◌↔◌, true, false, not, Optio
 use Rattle.file_pages.specs.declared.fault.FileFault.{FileFault}
 use Rattle.undecided_calls.specs.declared.trials.Trials.{Trials}
 use Rattle.undecided_calls.specs.declared.undecided.UndecidedCall.{UndecidedCall}
-use Rattle.undecided_calls.specs.Words.{Call, Change, Ended, Exclusive, IsRightSoFar, KnowsNear, NearsOrSpares, OnlyWrites, PoolState, Progress, QuestionsView, RecordKey, Records, State, Step, Table, TrialLacksRoom, caller_of, guard_of, is_fault, is_write, kind_of, overlaid, store_of, with_row, world}
+use Rattle.undecided_calls.specs.Words.{Call, Change, Ended, Exclusive, IsRightSoFar, KnowsNear, NearsOrSpares, OnlyWrites, PoolState, Progress, QuestionsView, RecordKey, Records, State, Step, Table, TrialLacksRoom, caller_of, finds_behind, guard_of, is_fault, is_write, kind_of, overlaid, store_of, with_row, world}
 use Rattle.undecided_calls.specs.Undecided.{CanDecide, IsCalm, has_no_room, its_plan, trials_of, undecided_facts, undecided_left, undecided_locks, undecided_owes, undecided_turn}
 use Rattle.undecided_calls.specs.Knowing.{IsTrying, IsUndecided}
 
@@ -17,6 +17,8 @@ pub record KeepsUndecided {F : Type 0} (call : Call) (did : Progress F) (old new
   -- the room has room for as many bytes
   pub most : new.questions.room.most ≡ old.questions.room.most
   pub calm : IsCalm old → IsCalm new
+  -- a search is counted where its seat was granted the directory to read, of a trial too
+  pub finds : new.questions.finds ≡ finds_behind did (undecided_locks new) old.questions.finds
 
 -- ---- on an honest device, in a sound world
 

@@ -232,7 +232,7 @@ impl UndecidedCall {
         self.go_on(pool, locks, keys, seat, call)
     }
 
-    /// One step of the trials that are under way.
+    /// One step of the trials that are under way. Their searches are counted too.
     fn go_on<D: PageDevice, K: PseudoKey>(
         &mut self,
         pool: &mut Pool<D>,
@@ -251,7 +251,11 @@ impl UndecidedCall {
         self.questions.keep_order();
         let plan = PlanOf::new(call, self.questions.inquiry());
         match &mut self.trials {
-            Some(trials) => trials.writes.step(&plan, pool, locks, keys, seat),
+            Some(trials) => {
+                let did = trials.writes.step(&plan, pool, locks, keys, seat);
+                self.questions.count(did, locks, seat);
+                did
+            }
             None => Progress::Ended,
         }
     }

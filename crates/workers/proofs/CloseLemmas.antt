@@ -1,6 +1,6 @@
 -- A service ends.
-use Rattle.std.proofs.Common.{◌≡◌, ◌≢◌, ◌≤◌, ◌<◌, ◌↔◌, ℕ, zero, suc, ◌+◌, Bool, true, false, IsTrue, ◌||◌, inl, inr, List, [], ◌∷◌, ◌++◌, length, Option, Some, None, Ok, refl, sym, ap, ◌∙◌, subst, arith, append-nil}
-use Rattle.std.specs.Prelude.{slice_index_or, ◌==◌}
+use Rattle.std.proofs.Common.{◌≡◌, ◌≤◌, ◌<◌, ◌↔◌, ℕ, zero, suc, ◌+◌, Bool, true, false, IsTrue, ◌||◌, inl, inr, List, [], ◌∷◌, ◌++◌, length, Option, Some, None, refl, sym, ap, ◌∙◌, subst, arith, append-nil}
+use Rattle.std.specs.Prelude.{slice_index_or}
 use Rattle.std.specs.List.{list_any}
 use Rattle.std.proofs.lemmas.Bool.{cases_lt, eqb-true}
 use Rattle.interleaving_core.specs.Closing.{IsBusy, has_one}
@@ -8,13 +8,12 @@ use Rattle.interleaving_core.specs.declared.fault.CloseFault.{CloseFault}
 use Rattle.interleaving_core.specs.declared.fault.CloseFault.TheVariants as closes
 use Rattle.interleaving_core.specs.declared.fault.Failure.{Failure}
 use Rattle.interleavings.specs.Laws.{AnswersAsPlainLists, ClosesRefine}
-use Rattle.interleavings.specs.Words.{IsLawful}
 use Rattle.seat_passes.specs.Views.{calls_in, no_place, nobody, place_at}
 use Rattle.workers.proofs.EntryLemmas.{part_is}
 use Rattle.workers.proofs.HeldLemmas.{place_is}
-use Rattle.workers.specs.Closing.{Each, HasItsPart, HasMissing, HasMostOfItsPart, IsBeside, IsClosed, IsFailed, IsFaulted, IsLetGo, IsSound, IsToComeBack, IsUnwritten, sits_at}
+use Rattle.workers.specs.Closing.{Each, HasItsPart, HasMissing, HasMostOfItsPart, IsBeside, IsClosed, IsFailed, IsFaulted, IsLetGo, IsSound, IsToComeBack, sits_at}
 use Rattle.workers.specs.Entries.{seat_of}
-use Rattle.workers.specs.Held.{IsHeld, known_of, place_of}
+use Rattle.workers.specs.Held.{IsHeld, place_of}
 use Rattle.workers.specs.Origins.{IsJournalOf, LeavesFile, Origin}
 use Rattle.workers.specs.Told.{Sitter}
 use Rattle.workers.specs.Words.{ActiveView, Answer, Call, Caller, Desk, Entry, IsFifo, IsFileOf, IsFlushedTo, IsLegal, KernelState, Place, RecordKey, after, answer_of_call, call_at, call_of, entry_of, part_of, restarted, untold}
@@ -73,7 +72,7 @@ past_the_seats (at ∷ seats) zero past = absurd (omega arith)
 past_the_seats (at ∷ seats) (suc place) past = past_the_seats seats place (omega arith)
 
 -- of an honest device its journal is that of plain lists
-abbrev journal_is : {K : Type 0} (of_key : K → RecordKey → ℕ) (o : Origin) (k : KernelState K) (d : Desk Entry Call)
+abbrev pub journal_is : {K : Type 0} (of_key : K → RecordKey → ℕ) (o : Origin) (k : KernelState K) (d : Desk Entry Call)
     (count : ℕ) → AnswersAsPlainLists K → IsHeld of_key o k d count → IsTrue o.honest → IsJournalOf o k.journal
 journal_is of_key o k d count plain h honest =
     let was = h.led honest in
@@ -220,6 +219,11 @@ sound_by fault told true is exact device =
     the_same : {X : Type 0} {a b : X} → Some a ≡ Some b → a ≡ b
     the_same e = cc
 sound_by fault told false is exact device = refl
+
+-- ---- what was taken out is joined to what followed
+
+pub all_of : (past all journal kept : List Entry) → all ≡ past ++ journal → journal ≡ kept → all ≡ past ++ kept
+all_of past all journal kept joined same = joined ∙ ap (λ (es : List Entry). past ++ es) same
 
 -- ---- all seats are compared
 

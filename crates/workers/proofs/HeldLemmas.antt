@@ -1,10 +1,10 @@
 -- What is done on a kernel, as its pass and those of its seats know it.
-use Rattle.std.proofs.Common.{◌≡◌, ◌≢◌, ◌≤◌, ◌<◌, ℕ, zero, suc, ◌+◌, ◌-◌, Bool, true, false, IsTrue, ◌||◌, List, [], ◌∷◌, ◌++◌, length, Option, Some, None, refl, sym, ap, ◌∙◌, subst, arith, append-nil, length-append}
+use Rattle.std.proofs.Common.{◌≡◌, ◌≢◌, ◌≤◌, ◌<◌, ℕ, zero, suc, ◌+◌, ◌-◌, Bool, true, false, ◌||◌, List, [], ◌∷◌, ◌++◌, length, Option, Some, None, refl, sym, ap, ◌∙◌, subst, arith, append-nil, append_assoc, length-append}
 use Rattle.std.specs.Prelude.{slice_index_or}
 use Rattle.interleaving_core.proofs.PlaceLemmas.{at_other, at_same, length-with_call}
 use Rattle.interleaving_core.proofs.TurnLemmas.{new_unanswered}
-use Rattle.interleaving_core.specs.Owing.{is_end, is_failure}
-use Rattle.interleaving_core.specs.declared.step.Step.TheVariants as steps
+use Rattle.interleaving_core.specs.Owing.{is_failure}
+use Rattle.interleaving_core.specs.declared.kernel.TheConstants.{MAX_DECIDED}
 use Rattle.interleaving_core.proofs.PartLemmas.{added_is_of}
 use Rattle.interleavings.specs.Laws.{BeginsRefine, RefusalsRefine, StepsRefine, StopsRefine}
 use Rattle.interleavings.specs.Words.{IsStep}
@@ -15,10 +15,11 @@ use Rattle.seat_passes.specs.Rule.{IsChange, IsRight, moved}
 use Rattle.seat_passes.specs.Views.{calls_in, no_place, place_at}
 use Rattle.workers.proofs.EntryLemmas.{calls_below, calls_own, part_of_other, part_of_own}
 use Rattle.workers.specs.Entries.{seat_of}
-use Rattle.workers.specs.Held.{IsHeld, known_of, place_of, places_from}
+use Rattle.workers.specs.Held.{HasRoom, IsHeld, IsKept, known_of, place_of, places_from, whole}
+use Rattle.workers.proofs.WholeLemmas.{carried}
 use Rattle.workers.specs.Origins.{Origin}
 use Rattle.workers.specs.Told.{HasBegun, IsTold, Rests, Sitter}
-use Rattle.workers.specs.Words.{ActiveView, Answer, BeginFault, Call, Desk, Entry, HasCall, RefinesFile, IsRefused, IsSeat, IsStopped, IsTurn, KernelState, Place, RecordKey, Step, answer_told, call_at, call_of, entry_of, told, untold, with_call}
+use Rattle.workers.specs.Words.{ActiveView, BeginFault, Call, Desk, Entry, HasCall, IsRefused, IsSeat, IsStopped, IsTurn, KernelState, Place, RecordKey, Step, answer_told, call_at, call_of, entry_of, told, untold, with_call}
 
 -- ---- places
 
@@ -33,7 +34,7 @@ pub place_is : (seats : List (Option ActiveView)) (seat : ℕ) →
 place_is seats zero = refl
 place_is seats (suc n) = place_from 1 n (suc n) seats (omega arith)
 
-told_none : (seat : ℕ) (call : Option Call) → entry_of seat call None ≡ []
+pub told_none : (seat : ℕ) (call : Option Call) → entry_of seat call None ≡ []
 told_none seat None = refl
 told_none seat (Some call) = refl
 
@@ -47,18 +48,19 @@ or_true : (a b : Bool) → b ≡ true → (a || b) ≡ true
 or_true true b e = refl
 or_true false b e = e
 
-module _ {K : Type 0} (seat : ℕ) (did : Step) (old new : KernelState K) (t : IsTurn seat did old new) where
+module _ {K : Type 0} (past : List Entry) (seat : ℕ) (did : Step) (old new : KernelState K)
+    (t : IsTurn seat did old new) where
   its_added : List Entry
   its_added = t.run.added
 
   change_by_turn : (told : List Entry) →
-      told ≡ entry_of seat (place_at (known_of old).places seat).call (answer_told did) →
-      IsChange seat_of seat told (known_of old) (known_of new)
+      told ≡ entry_of seat (place_at (known_of (whole past old)).places seat).call (answer_told did) →
+      IsChange seat_of seat told (known_of (whole past old)) (known_of (whole past new))
   change_by_turn told is =
       let all = added_is_of seat (answer_told did) old new t.run in
       record {
         added = t.run.added;
-        journal = t.run.journal;
+        journal = ap (λ (l : List Entry). past ++ l) t.run.journal ∙ sym (append_assoc past old.journal t.run.added);
         own = λ _. part_of_own seat t.run.added all;
         others = λ other apart. part_of_other other seat t.run.added (λ same. apart (sym same)) all;
         owed = λ _. ap (λ (p : Place Entry Call). p.owed ++ t.run.added) (place_is old.seats seat) ∙ t.run.owed
@@ -73,24 +75,31 @@ module _ {K : Type 0} (seat : ℕ) (did : Step) (old new : KernelState K) (t : I
         dealt = ap length t.run.seats ∙ length-with_call old.seats seat (call_at new.seats seat);
       }
 
-  count_by_turn : calls_in seat_of new.journal + length old.journal
-      ≡ calls_in seat_of old.journal + length new.journal
-  count_by_turn =
+  count_added : calls_in seat_of new.journal + length old.journal ≡ calls_in seat_of old.journal + length new.journal
+  count_added =
       let calls = ap (calls_in seat_of) t.run.journal ∙ calls_append seat_of old.journal t.run.added in
       let many = ap length t.run.journal ∙ length-append old.journal t.run.added in
       let own = calls_own seat t.run.added (added_is_of seat (answer_told did) old new t.run) in
       omega arith
 
+  count_by_turn : calls_in seat_of (past ++ new.journal) + length old.journal
+      ≡ calls_in seat_of (past ++ old.journal) + length new.journal
+  count_by_turn =
+      let sum = count_added in
+      let before = calls_append seat_of past old.journal in
+      let now = calls_append seat_of past new.journal in
+      omega (arith, sum, before, now)
+
   told_by_turn : (x : Sitter) (told : List Entry) → x.seat ≡ seat →
-      told ≡ entry_of seat (place_at (known_of old).places seat).call (answer_told did) →
-      IsRight seat_of (known_of old) x → IsTold did x (moved seat_of (known_of new) told x)
+      told ≡ entry_of seat (place_at (known_of (whole past old)).places seat).call (answer_told did) →
+      IsRight seat_of (known_of (whole past old)) x → IsTold did x (moved seat_of (known_of (whole past new)) told x)
   told_by_turn x told at is right =
-      let call : (place_at (known_of old).places seat).call ≡ x.place.call =
-      ap (λ (p : Place Entry Call). p.call) (ap (place_at (known_of old).places) (sym at) ∙ right.place) in
+      let call : (place_at (known_of (whole past old)).places seat).call ≡ x.place.call =
+      ap (λ (p : Place Entry Call). p.call) (ap (place_at (known_of (whole past old)).places) (sym at) ∙ right.place) in
       let was : call_of (call_at old.seats seat) ≡ x.place.call =
       sym (ap (λ (p : Place Entry Call). p.call) (place_is old.seats seat)) ∙ call in
-      let now : place_at (known_of new).places x.seat ≡ place_of seat (call_at new.seats seat) =
-      ap (place_at (known_of new).places) at ∙ place_is new.seats seat in
+      let now : place_at (known_of (whole past new)).places x.seat ≡ place_of seat (call_at new.seats seat) =
+      ap (place_at (known_of (whole past new)).places) at ∙ place_is new.seats seat in
       record {
         seat = refl;
         list = ap (λ (l : List Entry). x.list ++ l) (is
@@ -102,26 +111,29 @@ module _ {K : Type 0} (seat : ℕ) (did : Step) (old new : KernelState K) (t : I
         failed = λ e. t.failed ∙ or_true old.failed (is_failure did) e;
       }
 
-  pub counted_after : (count before after : ℕ) → count ≡ calls_in seat_of old.journal →
+  pub counted_after : (count before after : ℕ) → count ≡ calls_in seat_of (past ++ old.journal) →
       before ≡ length old.journal → after ≡ length new.journal →
-      count + (after - before) ≡ calls_in seat_of new.journal
+      count + (after - before) ≡ calls_in seat_of (past ++ new.journal)
   counted_after count before after counted b a =
       let sum = count_by_turn in
       let many = ap length t.run.journal ∙ length-append old.journal t.run.added in
       omega arith
 
-  pub change_at_desk : (at : ℕ) (d : Desk Entry Call) → d ≡ known_of old → at ≡ seat →
-      IsChange seat_of at (entry_of at (place_at d.places at).call (answer_told did)) d (known_of new)
+  pub change_at_desk : (at : ℕ) (d : Desk Entry Call) → d ≡ known_of (whole past old) → at ≡ seat →
+      IsChange seat_of at (entry_of at (place_at d.places at).call (answer_told did)) d (known_of (whole past new))
   change_at_desk at d known same =
       subst (λ (b : Desk Entry Call).
-      IsChange seat_of at (entry_of at (place_at b.places at).call (answer_told did)) b (known_of new)) (sym known)
-      (subst (λ (s : ℕ). IsChange seat_of s (entry_of s (place_at (known_of old).places s).call (answer_told did))
-      (known_of old) (known_of new)) (sym same)
-      (change_by_turn (entry_of seat (place_at (known_of old).places seat).call (answer_told did)) refl))
+      IsChange seat_of at (entry_of at (place_at b.places at).call (answer_told did)) b (known_of (whole past new)))
+      (sym known)
+      (subst (λ (s : ℕ). IsChange seat_of s
+      (entry_of s (place_at (known_of (whole past old)).places s).call (answer_told did))
+      (known_of (whole past old)) (known_of (whole past new))) (sym same)
+      (change_by_turn (entry_of seat (place_at (known_of (whole past old)).places seat).call (answer_told did)) refl))
 
-  pub told_at_desk : (d : Desk Entry Call) (x y : Sitter) → d ≡ known_of old → x.seat ≡ seat →
+  pub told_at_desk : (d : Desk Entry Call) (x y : Sitter) → d ≡ known_of (whole past old) → x.seat ≡ seat →
       IsRight seat_of d x →
-      y ≡ moved seat_of (known_of new) (entry_of x.seat (place_at d.places x.seat).call (answer_told did)) x →
+      y ≡ moved seat_of (known_of (whole past new))
+      (entry_of x.seat (place_at d.places x.seat).call (answer_told did)) x →
       IsTold did x y
   told_at_desk d x y known at right is =
       subst (IsTold did x) (sym is)
@@ -129,34 +141,51 @@ module _ {K : Type 0} (seat : ℕ) (did : Step) (old new : KernelState K) (t : I
       (λ i. entry_of (at i) (place_at (known i).places (at i)).call (answer_told did))
       (subst (λ (b : Desk Entry Call). IsRight seat_of b x) known right))
 
-  pub held_after : (of_key : K → RecordKey → ℕ) (o : Origin) (d d' : Desk Entry Call) (count n : ℕ) → StepsRefine K →
-      IsSeat old.locks seat → IsStep (of_key old.keys) seat did old new → IsHeld of_key o old d count →
-      d' ≡ known_of new → n ≡ calls_in seat_of new.journal → IsHeld of_key o new d' n
-  held_after of_key o d d' count n leads is step h known counted = record {
-    led = λ honest.
-        let was = h.led honest in record {
-          base = was.base;
-          file = was.file;
-          led = leads o.hash was.base seat did old new is was.led
-              (subst (λ (hash : RecordKey → ℕ). IsStep hash seat did old new) h.hash step);
+  pub kept_after : (of_key : K → RecordKey → ℕ) (o : Origin) (capacity : ℕ) (d d' : Desk Entry Call) (count n : ℕ) →
+      StepsRefine K → IsSeat old.locks seat → IsStep (of_key old.keys) seat did old new →
+      IsKept of_key o past capacity old d count → d' ≡ known_of (whole past new) →
+      n ≡ calls_in seat_of (past ++ new.journal) → IsKept of_key o past capacity new d' n
+  kept_after of_key o capacity d d' count n leads is step k known counted =
+      let h = k.held in record {
+        held = record {
+          led = λ honest. carried o.hash o.content past old new (h.led honest) t.run.rest.callers
+              (λ base was. leads o.hash base seat did old new is was
+              (subst (λ (hash : RecordKey → ℕ). IsStep hash seat did old new) h.hash step));
+          hash = ap of_key t.run.rest.keys ∙ h.hash;
+          honest = t.run.rest.honest ∙ h.honest;
+          callers = t.run.rest.callers ∙ h.callers;
+          rows = ap length t.run.locks ∙ length-with_row old.locks seat _ ∙ h.rows;
+          seats = ap length t.run.seats ∙ length-with_call old.seats seat (call_at new.seats seat) ∙ h.seats;
+          known = known;
+          counted = counted;
         };
-    hash = ap of_key t.run.rest.keys ∙ h.hash;
-    honest = t.run.rest.honest ∙ h.honest;
-    callers = t.run.rest.callers ∙ h.callers;
-    rows = ap length t.run.locks ∙ length-with_row old.locks seat _ ∙ h.rows;
-    seats = ap length t.run.seats ∙ length-with_call old.seats seat (call_at new.seats seat) ∙ h.seats;
-    known = known;
-    counted = counted;
-  }
+        room = k.room;
+      }
 
-pub fits_after : (es : List Entry) (n m : ℕ) → n ≡ calls_in seat_of es → m ≡ length es →
-    m < 18446744073709551616 → n < 18446744073709551616
-fits_after es n m is many small = let below = calls_below es in omega arith
+-- the calls of both are no more than their entries, for which there is memory
+pub fits_after : (past es : List Entry) (capacity n : ℕ) → HasRoom past capacity →
+    n ≡ calls_in seat_of (past ++ es) → length es ≤ MAX_DECIDED + 1 → capacity < 18446744073709551616 →
+    n < 18446744073709551616
+fits_after [] es capacity n room is few small = let below = calls_below es in omega (arith, is, few, below)
+fits_after (e ∷ past) es capacity n room is few small =
+    let below = calls_below (e ∷ past ++ es) in
+    let all = length-append (e ∷ past) es in
+    let most : n ≤ length (e ∷ past) + length es = omega (arith, is, below, all) in
+    omega (arith, most, few, room, small)
+
+-- ---- what tells its seat nothing
+
+pub nothing_told : (seat : ℕ) (d old new : Desk Entry Call) → IsChange seat_of seat [] old new → (at : ℕ) → d ≡ old →
+    at ≡ seat → IsChange seat_of at (entry_of at (place_at d.places at).call None) d new
+nothing_told seat d old new change at known same =
+    subst (λ (l : List Entry). IsChange seat_of at l d new) (sym (told_none at (place_at d.places at).call))
+    (subst (λ (b : Desk Entry Call). IsChange seat_of at [] b new) (sym known)
+    (subst (λ (s : ℕ). IsChange seat_of s [] old new) (sym same) change))
 
 -- ---- a call begins
 
-module _ {K : Type 0} (seat : ℕ) (call : Call) (old new : KernelState K) (h : HasCall seat call old new)
-    (begun : 1 ≤ seat) (within : seat ≤ length old.seats) where
+module _ {K : Type 0} (past : List Entry) (seat : ℕ) (call : Call) (old new : KernelState K)
+    (h : HasCall seat call old new) (begun : 1 ≤ seat) (within : seat ≤ length old.seats) where
   seats_begun : new.seats ≡ with_call old.seats seat (Some h.active)
   seats_begun = ap (λ (k : KernelState K). k.seats) h.is
 
@@ -164,13 +193,13 @@ module _ {K : Type 0} (seat : ℕ) (call : Call) (old new : KernelState K) (h : 
   call_begun = ap (λ (l : List (Option ActiveView)). call_at l seat) seats_begun
       ∙ at_same old.seats seat (Some h.active) begun within
 
-  change_by_begin : IsChange seat_of seat [] (known_of old) (known_of new)
+  change_by_begin : IsChange seat_of seat [] (known_of (whole past old)) (known_of (whole past new))
   change_by_begin = record {
     added = [];
-    journal = ap (λ (k : KernelState K). k.journal) h.is ∙ sym (append-nil old.journal);
+    journal = ap (λ (k : KernelState K). past ++ k.journal) h.is ∙ sym (append-nil (past ++ old.journal));
     own = λ _. refl;
     others = λ other apart. refl;
-    owed = λ _. append-nil (place_at (known_of old).places seat).owed
+    owed = λ _. append-nil (place_at (known_of (whole past old)).places seat).owed
         ∙ ap (λ (p : Place Entry Call). p.owed) (place_is old.seats seat ∙ ap (place_of seat) h.may.free)
         ∙ sym (ap (λ (p : Place Entry Call). p.owed) (place_is new.seats seat ∙ ap (place_of seat) call_begun)
         ∙ ap (entry_of seat (Some h.active.machine.call))
@@ -184,69 +213,76 @@ module _ {K : Type 0} (seat : ℕ) (call : Call) (old new : KernelState K) (h : 
   }
 
   begun_by : (x : Sitter) (told : List Entry) → x.seat ≡ seat → told ≡ [] →
-      HasBegun call x (moved seat_of (known_of new) told x)
+      HasBegun call x (moved seat_of (known_of (whole past new)) told x)
   begun_by x told at none = record {
     seat = refl;
     list = ap (λ (l : List Entry). x.list ++ l) none ∙ append-nil x.list;
     under_way = ap (λ (p : Place Entry Call). p.call)
-        (ap (place_at (known_of new).places) at ∙ place_is new.seats seat ∙ ap (place_of seat) call_begun)
+        (ap (place_at (known_of (whole past new)).places) at ∙ place_is new.seats seat
+        ∙ ap (place_of seat) call_begun)
         ∙ ap (λ (c : Call). Some c) h.begun.begins.call_is;
   }
 
-  pub begun_at_desk : (at : ℕ) (d : Desk Entry Call) → d ≡ known_of old → at ≡ seat →
-      IsChange seat_of at (entry_of at (place_at d.places at).call None) d (known_of new)
+  pub begun_at_desk : (at : ℕ) (d : Desk Entry Call) → d ≡ known_of (whole past old) → at ≡ seat →
+      IsChange seat_of at (entry_of at (place_at d.places at).call None) d (known_of (whole past new))
   begun_at_desk at d known same =
-      subst (λ (l : List Entry). IsChange seat_of at l d (known_of new))
-      (sym (told_none at (place_at d.places at).call))
-      (subst (λ (b : Desk Entry Call). IsChange seat_of at [] b (known_of new)) (sym known)
-      (subst (λ (s : ℕ). IsChange seat_of s [] (known_of old) (known_of new)) (sym same) change_by_begin))
+      nothing_told seat d (known_of (whole past old)) (known_of (whole past new)) change_by_begin at known same
 
   pub has_begun : (d : Desk Entry Call) (x y : Sitter) → x.seat ≡ seat →
-      y ≡ moved seat_of (known_of new) (entry_of x.seat (place_at d.places x.seat).call None) x → HasBegun call x y
+      y ≡ moved seat_of (known_of (whole past new)) (entry_of x.seat (place_at d.places x.seat).call None) x →
+      HasBegun call x y
   has_begun d x y at now =
       subst (HasBegun call x) (sym now)
       (begun_by x (entry_of x.seat (place_at d.places x.seat).call None) at
       (told_none x.seat (place_at d.places x.seat).call))
 
-  pub held_at_begin : (of_key : K → RecordKey → ℕ) (o : Origin) (d d' : Desk Entry Call) (count : ℕ) → BeginsRefine K →
-      IsSeat old.locks seat → IsHeld of_key o old d count → d' ≡ known_of new →
-      IsHeld of_key o new d' count
-  held_at_begin of_key o d d' count leads is held known = record {
-    led = λ honest.
-        let was = held.led honest in record {
-          base = was.base;
-          file = was.file;
-          led = leads o.hash was.base seat call old new is was.led h;
+  pub counted_at_begin : (count : ℕ) → count ≡ calls_in seat_of (past ++ old.journal) →
+      count ≡ calls_in seat_of (past ++ new.journal)
+  counted_at_begin count counted =
+      counted ∙ sym (ap (λ (k : KernelState K). calls_in seat_of (past ++ k.journal)) h.is)
+
+  pub kept_at_begin : (of_key : K → RecordKey → ℕ) (o : Origin) (capacity : ℕ) (d d' : Desk Entry Call) (count : ℕ) →
+      BeginsRefine K → IsSeat old.locks seat → IsKept of_key o past capacity old d count →
+      d' ≡ known_of (whole past new) → IsKept of_key o past capacity new d' count
+  kept_at_begin of_key o capacity d d' count leads is kept known =
+      let held = kept.held in record {
+        held = record {
+          led = λ honest. carried o.hash o.content past old new (held.led honest)
+              (ap (λ (k : KernelState K). k.callers) h.is)
+              (λ base was. leads o.hash base seat call old new is was h);
+          hash = ap (λ (k : KernelState K). of_key k.keys) h.is ∙ held.hash;
+          honest = ap (λ (k : KernelState K). k.pool.honest) h.is ∙ held.honest;
+          callers = ap (λ (k : KernelState K). k.callers) h.is ∙ held.callers;
+          rows = ap (λ (k : KernelState K). length k.locks) h.is ∙ held.rows;
+          seats = ap length seats_begun ∙ length-with_call old.seats seat (Some h.active) ∙ held.seats;
+          known = known;
+          counted = counted_at_begin count held.counted;
         };
-    hash = ap (λ (k : KernelState K). of_key k.keys) h.is ∙ held.hash;
-    honest = ap (λ (k : KernelState K). k.pool.honest) h.is ∙ held.honest;
-    callers = ap (λ (k : KernelState K). k.callers) h.is ∙ held.callers;
-    rows = ap (λ (k : KernelState K). length k.locks) h.is ∙ held.rows;
-    seats = ap length seats_begun ∙ length-with_call old.seats seat (Some h.active) ∙ held.seats;
-    known = known;
-    counted = held.counted ∙ sym (ap (λ (k : KernelState K). calls_in seat_of k.journal) h.is);
-  }
+        room = kept.room;
+      }
 
 -- ---- or is refused
 
-pub held_at_refusal : {K : Type 0} (of_key : K → RecordKey → ℕ) (o : Origin) (seat : ℕ) (call : Call)
-    (refusal : Call × BeginFault) (old new : KernelState K) (d d' : Desk Entry Call) (count : ℕ) → RefusalsRefine K →
-    IsRefused seat call refusal old new → IsHeld of_key o old d count → d' ≡ d → IsHeld of_key o new d' count
-held_at_refusal {K} of_key o seat call refusal old new d d' count leads refused h same = record {
-  led = λ honest.
-      let was = h.led honest in record {
-        base = was.base;
-        file = was.file;
-        led = leads o.hash was.base seat call refusal old new was.led refused;
+pub kept_at_refusal : {K : Type 0} (of_key : K → RecordKey → ℕ) (o : Origin) (past : List Entry) (capacity seat : ℕ)
+    (call : Call) (refusal : Call × BeginFault) (old new : KernelState K) (d d' : Desk Entry Call) (count : ℕ) →
+    RefusalsRefine K → IsRefused seat call refusal old new → IsKept of_key o past capacity old d count → d' ≡ d →
+    IsKept of_key o past capacity new d' count
+kept_at_refusal {K} of_key o past capacity seat call refusal old new d d' count leads refused kept same =
+    let h = kept.held in record {
+      held = record {
+        led = λ honest. carried o.hash o.content past old new (h.led honest)
+            (ap (λ (k : KernelState K). k.callers) refused.same)
+            (λ base was. leads o.hash base seat call refusal old new was refused);
+        hash = ap (λ (k : KernelState K). of_key k.keys) refused.same ∙ h.hash;
+        honest = ap (λ (k : KernelState K). k.pool.honest) refused.same ∙ h.honest;
+        callers = ap (λ (k : KernelState K). k.callers) refused.same ∙ h.callers;
+        rows = ap (λ (k : KernelState K). length k.locks) refused.same ∙ h.rows;
+        seats = ap (λ (k : KernelState K). length k.seats) refused.same ∙ h.seats;
+        known = same ∙ h.known ∙ sym (ap (λ (k : KernelState K). known_of (whole past k)) refused.same);
+        counted = h.counted ∙ sym (ap (λ (k : KernelState K). calls_in seat_of (past ++ k.journal)) refused.same);
       };
-  hash = ap (λ (k : KernelState K). of_key k.keys) refused.same ∙ h.hash;
-  honest = ap (λ (k : KernelState K). k.pool.honest) refused.same ∙ h.honest;
-  callers = ap (λ (k : KernelState K). k.callers) refused.same ∙ h.callers;
-  rows = ap (λ (k : KernelState K). length k.locks) refused.same ∙ h.rows;
-  seats = ap (λ (k : KernelState K). length k.seats) refused.same ∙ h.seats;
-  known = same ∙ h.known ∙ sym (ap known_of refused.same);
-  counted = h.counted ∙ sym (ap (λ (k : KernelState K). calls_in seat_of k.journal) refused.same);
-}
+      room = kept.room;
+    }
 
 no_call : (at : Option ActiveView) → call_of at ≡ None → at ≡ None
 no_call None is = refl
@@ -272,13 +308,15 @@ never_busy {K} of_key o seat old d count x h right at rests sound busy =
 
 -- ---- a stop
 
-module _ {K : Type 0} (old new : KernelState K) (stops : IsStopped old new) where
-  at_stop : (b : Bool) → old.stopped ≡ b → IsChange seat_of 0 [] (known_of old) (known_of new)
+module _ {K : Type 0} (past : List Entry) (old new : KernelState K) (stops : IsStopped old new) where
+  at_stop : (b : Bool) → old.stopped ≡ b →
+      IsChange seat_of 0 [] (known_of (whole past old)) (known_of (whole past new))
   at_stop true is =
-      subst (λ (k : KernelState K). IsChange seat_of 0 [] (known_of old) (known_of k)) (sym (stops.again is))
+      subst (λ (k : KernelState K). IsChange seat_of 0 [] (known_of (whole past old)) (known_of (whole past k)))
+      (sym (stops.again is))
       record {
         added = [];
-        journal = sym (append-nil old.journal);
+        journal = sym (append-nil (past ++ old.journal));
         own = λ none. absurd (omega arith);
         others = λ other apart. refl;
         owed = λ none. absurd (omega arith);
@@ -287,10 +325,11 @@ module _ {K : Type 0} (old new : KernelState K) (stops : IsStopped old new) wher
         dealt = refl;
       }
   at_stop false is =
-      subst (λ (k : KernelState K). IsChange seat_of 0 [] (known_of old) (known_of k)) (sym (stops.first is))
+      subst (λ (k : KernelState K). IsChange seat_of 0 [] (known_of (whole past old)) (known_of (whole past k)))
+      (sym (stops.first is))
       record {
         added = Stopped ∷ [];
-        journal = refl;
+        journal = sym (append_assoc past old.journal (Stopped ∷ []));
         own = λ none. absurd (omega arith);
         others = λ other apart. refl;
         owed = λ none. absurd (omega arith);
@@ -299,44 +338,51 @@ module _ {K : Type 0} (old new : KernelState K) (stops : IsStopped old new) wher
         dealt = refl;
       }
 
-  pub change_by_stop : IsChange seat_of 0 [] (known_of old) (known_of new)
+  pub change_by_stop : IsChange seat_of 0 [] (known_of (whole past old)) (known_of (whole past new))
   change_by_stop = at_stop old.stopped refl
 
-  pub count_by_stop : (count : ℕ) → count ≡ calls_in seat_of old.journal → count ≡ calls_in seat_of new.journal
+  pub count_by_stop : (count : ℕ) → count ≡ calls_in seat_of (past ++ old.journal) →
+      count ≡ calls_in seat_of (past ++ new.journal)
   count_by_stop count is = by old.stopped refl
     where
-      by : (b : Bool) → old.stopped ≡ b → count ≡ calls_in seat_of new.journal
-      by true e = is ∙ sym (ap (λ (k : KernelState K). calls_in seat_of k.journal) (stops.again e))
-      by false e =
-          let more = ap (λ (k : KernelState K). calls_in seat_of k.journal) (stops.first e)
-          ∙ calls_append seat_of old.journal (Stopped ∷ []) in
-          omega arith
+      by : (b : Bool) → old.stopped ≡ b → count ≡ calls_in seat_of (past ++ new.journal)
+      by true e = is ∙ sym (ap (λ (k : KernelState K). calls_in seat_of (past ++ k.journal)) (stops.again e))
+      by false e = is ∙ calls_append seat_of past old.journal
+          ∙ ap (λ (n : ℕ). calls_in seat_of past + n) (sym (more e)) ∙ sym (calls_append seat_of past new.journal)
+        where
+          more : old.stopped ≡ false → calls_in seat_of new.journal ≡ calls_in seat_of old.journal
+          more first =
+              let calls = ap (λ (k : KernelState K). calls_in seat_of k.journal) (stops.first first)
+              ∙ calls_append seat_of old.journal (Stopped ∷ []) in
+              omega (arith, calls)
 
-  pub held_at_stop : (of_key : K → RecordKey → ℕ) (o : Origin) (d d' : Desk Entry Call) (count n : ℕ) → StopsRefine K →
-      IsHeld of_key o old d count → d' ≡ known_of new → n ≡ calls_in seat_of new.journal → IsHeld of_key o new d' n
-  held_at_stop of_key o d d' count n leads h known counted = by old.stopped refl
+  pub kept_at_stop : (of_key : K → RecordKey → ℕ) (o : Origin) (capacity : ℕ) (d d' : Desk Entry Call) (count n : ℕ) →
+      StopsRefine K → IsKept of_key o past capacity old d count → d' ≡ known_of (whole past new) →
+      n ≡ calls_in seat_of (past ++ new.journal) → IsKept of_key o past capacity new d' n
+  kept_at_stop of_key o capacity d d' count n leads was known counted = by old.stopped refl
     where
-      led : IsTrue o.honest → RefinesFile o.hash o.content new
-      led honest = let was = h.led honest in record {
-        base = was.base;
-        file = was.file;
-        led = leads o.hash was.base old new was.led stops;
-      }
+      h : IsHeld of_key o (whole past old) d count
+      h = was.held
 
       kept : of_key new.keys ≡ of_key old.keys → new.pool.honest ≡ old.pool.honest → new.callers ≡ old.callers →
-          length new.locks ≡ length old.locks → length new.seats ≡ length old.seats → IsHeld of_key o new d' n
+          length new.locks ≡ length old.locks → length new.seats ≡ length old.seats →
+          IsKept of_key o past capacity new d' n
       kept keys honest callers locks seats = record {
-        led = led;
-        hash = keys ∙ h.hash;
-        honest = honest ∙ h.honest;
-        callers = callers ∙ h.callers;
-        rows = locks ∙ h.rows;
-        seats = seats ∙ h.seats;
-        known = known;
-        counted = counted;
+        held = record {
+          led = λ true_to_it. carried o.hash o.content past old new (h.led true_to_it) callers
+              (λ base refines. leads o.hash base old new refines stops);
+          hash = keys ∙ h.hash;
+          honest = honest ∙ h.honest;
+          callers = callers ∙ h.callers;
+          rows = locks ∙ h.rows;
+          seats = seats ∙ h.seats;
+          known = known;
+          counted = counted;
+        };
+        room = was.room;
       }
 
-      by : (b : Bool) → old.stopped ≡ b → IsHeld of_key o new d' n
+      by : (b : Bool) → old.stopped ≡ b → IsKept of_key o past capacity new d' n
       by true e = let same = stops.again e in kept
           (ap (λ (k : KernelState K). of_key k.keys) same) (ap (λ (k : KernelState K). k.pool.honest) same)
           (ap (λ (k : KernelState K). k.callers) same) (ap (λ (k : KernelState K). length k.locks) same)

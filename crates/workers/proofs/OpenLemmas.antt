@@ -7,7 +7,7 @@ use Rattle.interleavings.specs.Laws.{OpensRefine}
 use Rattle.interleavings.specs.Words.{HasSystem, MAX_SEATS}
 use Rattle.seat_passes.specs.Views.{calls_in, newcomer, no_place, place_at, with_one_more}
 use Rattle.workers.specs.Entries.{seat_of}
-use Rattle.workers.specs.Held.{IsHeld, known_of, places_from}
+use Rattle.workers.specs.Held.{IsHeld, IsKept, places_from}
 use Rattle.workers.specs.Opening.{IsOpenedOn, IsPrepared, PreparedView, dealt_desk, newcomers, origin_of}
 use Rattle.workers.specs.Origins.{Origin}
 use Rattle.workers.specs.Told.{IsSeated, Sitter}
@@ -122,7 +122,7 @@ many_none : (n : ℕ) → length (replicate {A = Option ActiveView} n None) ≡ 
 many_none zero = refl
 many_none (suc n) = ap suc (many_none n)
 
-pub held_at_start : {K : Type 0} (of_key : K → RecordKey → ℕ) (o : Origin) (name : TableId) (table many : ℕ)
+held_at_start : {K : Type 0} (of_key : K → RecordKey → ℕ) (o : Origin) (name : TableId) (table many : ℕ)
     (k : KernelState K) (d : Desk Entry Call) → IsPrepared of_key k table many →
     origin_of of_key (view_of name k) ≡ o → d ≡ dealt_desk many many → IsHeld of_key o k d 0
 held_at_start {K} of_key o name table many k d p origin is =
@@ -148,3 +148,12 @@ held_at_start {K} of_key o name table many k d p origin is =
 
     length_seats : length k.seats ≡ length k.callers
     length_seats = ap length p.seats_are ∙ many_none (length k.callers)
+
+-- and nothing was taken out of its journal
+pub kept_at_start : {K : Type 0} (of_key : K → RecordKey → ℕ) (o : Origin) (name : TableId) (table many : ℕ)
+    (past : List Entry) (capacity : ℕ) (k : KernelState K) (d : Desk Entry Call) → past ≡ [] →
+    IsPrepared of_key k table many → origin_of of_key (view_of name k) ≡ o → d ≡ dealt_desk many many →
+    IsKept of_key o past capacity k d 0
+kept_at_start {K} of_key o name table many past capacity k d empty p origin is =
+    subst (λ (es : List Entry). IsKept of_key o es capacity k d 0) (sym empty)
+    record { held = held_at_start of_key o name table many k d p origin is; room = tt }

@@ -1,17 +1,50 @@
 -- A seat in a call, and after it.
-use Rattle.std.proofs.Common.{◌≡◌, ◌≤◌, ◌<◌, ℕ, Bool, true, false, List, [], ◌∷◌, ◌++◌, length, Option, Some, None, refl, sym, ap, ◌∙◌, subst, append-nil}
+use Rattle.std.proofs.Common.{◌≡◌, ◌≤◌, ◌<◌, ℕ, Bool, true, false, List, [], ◌∷◌, ◌++◌, Option, Some, None, refl, sym, ap, ◌∙◌, subst, append-nil}
 use Rattle.interleaving_core.specs.Owing.{is_end, is_failure}
 use Rattle.interleaving_core.specs.declared.fault.StepFault.{StepFault}
 use Rattle.interleaving_core.specs.declared.fault.StepFault.TheVariants as faults
 use Rattle.interleaving_core.specs.declared.step.Step.TheVariants as steps
 use Rattle.queue_model.specs.declared.entry.Entry.TheVariants.{Decided}
 use Rattle.seat_passes.specs.Views.{no_place}
-use Rattle.workers.specs.Told.{HasBegun, IsSeated, IsTold, IsUnderWay, Rests, Sitter}
+use Rattle.workers.specs.Told.{HasBegun, IsSeated, IsTakenBack, IsTold, IsUnderWay, Rests, Sitter}
 use Rattle.workers.specs.Words.{Answer, Call, Entry, Step, answer_told, entry_of}
 
 told_nothing : (seat : ℕ) (call : Option Call) → entry_of seat call None ≡ []
 told_nothing seat None = refl
 told_nothing seat (Some call) = refl
+
+-- ---- steps that tell nothing
+
+-- so far it was told nothing, and its call goes on
+pub record Stays (old x : Sitter) : Type 0 where
+  pub seat : x.seat ≡ old.seat
+  pub list : x.list ≡ old.list
+  pub call : x.place.call ≡ old.place.call
+
+pub stays_at_first : (x : Sitter) → Stays x x
+stays_at_first x = record { seat = refl; list = refl; call = refl }
+
+module _ (old x : Sitter) (s : Stays old x) (did : Step) (y : Sitter) (t : IsTold did x y) where
+  pub stays_on : is_end did ≡ false → answer_told did ≡ None → Stays old y
+  stays_on goes none = record {
+    seat = t.seat ∙ s.seat;
+    list = t.list ∙ ap (λ (a : Option Answer). x.list ++ entry_of x.seat x.place.call a) none
+        ∙ ap (λ (l : List Entry). x.list ++ l) (told_nothing x.seat x.place.call) ∙ append-nil x.list ∙ s.list;
+    call = t.goes goes ∙ s.call;
+  }
+
+  -- the last of them is as the first
+  pub told_later : IsTold did old y
+  told_later = record {
+    seat = t.seat ∙ s.seat;
+    list = t.list ∙ (λ i. s.list i ++ entry_of (s.seat i) (s.call i) (answer_told did));
+    idle = λ idle. sym s.call ∙ t.idle idle;
+    goes = λ goes. t.goes goes ∙ s.call;
+    over = t.over;
+    failed = t.failed;
+  }
+
+-- ---- its call
 
 pub way_begins : (call : Call) (many number filled room : ℕ) (hand hand' : List Entry) (old inside x : Sitter) →
     IsSeated many number hand inside → inside ≡ old → hand' ≡ hand → filled < room → HasBegun call inside x →
@@ -101,3 +134,20 @@ module _ (call : Call) (many number filled room : ℕ) (hand : List Entry)
 
   pub never_idle : (y : Sitter) → IsTold steps.Idle x y → ⊥
   never_idle y t = let no : ◌≡◌ {A = Option Call} (Some call) None = sym w.under_way ∙ t.idle refl in absurd cc
+
+  -- ---- or is taken back
+
+  pub seated_taken_back : (y : Sitter) → IsTakenBack x y → IsSeated many number hand y
+  seated_taken_back y b = record {
+    begun = rw (b.seat ∙ w.seat) w.begun;
+    within = rw (b.seat ∙ w.seat) w.within;
+    rests = λ _. b.rests;
+    number_is = b.seat ∙ w.seat;
+    list_is = b.list ∙ w.list ∙ sym w.at_hand;
+  }
+
+  pub list_taken_back : (y : Sitter) → IsTakenBack x y → y.list ≡ old.list
+  list_taken_back y b = b.list ∙ w.list
+
+  pub seat_taken_back : (y : Sitter) → IsTakenBack x y → y.seat ≡ old.seat
+  seat_taken_back y b = b.seat ∙ w.seat ∙ sym w.was

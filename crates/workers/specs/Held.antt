@@ -1,9 +1,27 @@
--- What lies under the latch: a kernel, and what its pass knows of it.
-use Rattle.std.specs.Prelude.{ℕ, suc, ◌≡◌, IsTrue, List, [], ◌∷◌, Option, length}
+-- What lies under the latch: a kernel, what was taken out of its journal, and what its pass knows of both.
+use Rattle.std.specs.Prelude.{ℕ, suc, ◌≡◌, ◌≤◌, ◌+◌, ◌++◌, true, IsTrue, List, [], ◌∷◌, Option, Result, Ok, Err, length}
+use Rattle.page_device.specs.Device.{HasRisen}
+use Rattle.interleaving_core.specs.declared.fault.CloseFault.{CloseFault}
+use Rattle.interleaving_core.specs.declared.fault.CloseFault.TheVariants as closes
+use Rattle.interleaving_core.specs.declared.kernel.TheConstants.{MAX_DECIDED}
 use Rattle.seat_passes.specs.Views.{calls_in}
 use Rattle.workers.specs.Entries.{seat_of}
-use Rattle.workers.specs.Origins.{Origin}
+use Rattle.workers.specs.Origins.{LeavesFile, Origin}
 use Rattle.workers.specs.Words.{ActiveView, Call, Desk, Entry, RefinesFile, KernelState, Place, RecordKey, call_of, untold}
+use Rattle.workers.specs.declared.fault.Fault.{Fault}
+
+-- a kernel, and the entries that were taken out of its journal, in their order
+pub record HeldState (K : Type 0) : Type 0 where
+  pub kernel : KernelState K
+  pub past : List Entry
+
+-- what was decided since the beginning
+abbrev pub journal_of : {K : Type 0} → HeldState K → List Entry
+journal_of h = h.past ++ h.kernel.journal
+
+-- the same kernel, had nothing been taken out of its journal
+abbrev pub whole : {K : Type 0} → List Entry → KernelState K → KernelState K
+whole past k = record k { journal = past ++ k.journal }
 
 -- where a seat is
 abbrev pub place_of : ℕ → Option ActiveView → Place Entry Call
@@ -30,3 +48,37 @@ pub record IsHeld {K : Type 0} (of_key : K → RecordKey → ℕ) (o : Origin) (
   pub seats : length k.seats ≡ length o.callers
   pub known : d ≡ known_of k
   pub counted : count ≡ calls_in seat_of k.journal
+
+-- once something was taken out, there is memory for as many entries more as a journal has at most
+abbrev pub HasRoom : (past : List Entry) → (capacity : ℕ) → Type 0
+HasRoom [] capacity = Unit {0}
+HasRoom (e ∷ es) capacity = length (e ∷ es) + (MAX_DECIDED + 1) ≤ capacity
+
+-- so what was taken out and what followed it are one journal
+pub record IsKept {K : Type 0} (of_key : K → RecordKey → ℕ) (o : Origin) (past : List Entry) (capacity : ℕ)
+    (k : KernelState K) (d : Desk Entry Call) (count : ℕ) : Type 0 where
+  pub held : IsHeld of_key o (whole past k) d count
+  pub room : HasRoom past capacity
+
+-- ---- between calls
+
+-- the device has the file of the system after what was decided
+pub record IsSaved {K : Type 0} (o : Origin) (old new : HeldState K) : Type 0 where
+  pub same : journal_of new ≡ journal_of old
+  pub left : IsTrue o.honest → LeavesFile o (journal_of new) new.kernel.pool.stored
+
+-- or a transfer failed, or a step had failed before
+abbrev pub Saves : {K : Type 0} → Origin → Result Unit CloseFault → (old new : HeldState K) → Type 0
+Saves o (Ok done) old new = IsSaved o old new
+Saves o (Err closes.Device) old new = HasRisen old.kernel.pool.faults new.kernel.pool.faults
+Saves o (Err closes.Failed) old new = old.kernel.failed ≡ true
+
+-- the journal was taken out, and kept
+pub record IsTakenOut {K : Type 0} (old new : HeldState K) : Type 0 where
+  pub kept : new.past ≡ old.past ++ old.kernel.journal
+  pub none : new.kernel.journal ≡ []
+
+-- or nothing was
+abbrev pub Renews : {K : Type 0} → Result Unit Fault → (old new : HeldState K) → Type 0
+Renews (Ok done) old new = IsTakenOut old new
+Renews (Err fault) old new = new ≡ old

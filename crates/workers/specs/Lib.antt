@@ -2,6 +2,7 @@ pub mod Words
 pub mod Origins
 pub mod Entries
 pub mod Fault
+pub mod Unanswered
 pub mod Held
 pub mod Told
 pub mod Opening

@@ -1,5 +1,5 @@
 -- From what a service began.
-use Rattle.std.specs.Prelude.{ℕ, ◌≡◌, Bool, false, IsTrue, List, []}
+use Rattle.std.specs.Prelude.{ℕ, Bool, false, List, []}
 use Rattle.workers.specs.Words.{Caller, Entry, IsFifo, IsFileOf, IsLegal, RecordKey, State, after, restarted}
 
 pub record Origin : Type 0 where

@@ -1,5 +1,5 @@
 -- What a hold of the latch leaves of what a seat knows.
-use Rattle.std.specs.Prelude.{ℕ, ◌≡◌, ◌≤◌, ◌<◌, length, true, false, List, [], ◌∷◌, ◌++◌, Some, None}
+use Rattle.std.specs.Prelude.{ℕ, ◌≡◌, ◌≤◌, ◌<◌, true, false, List, ◌++◌, Option, Some, None, ⊤}
 use Rattle.interleaving_core.specs.Owing.{is_end, is_failure}
 use Rattle.interleaving_core.specs.declared.step.Step.TheVariants as steps
 use Rattle.seat_passes.specs.Views.{no_place}
@@ -35,6 +35,15 @@ pub record IsSeated (many number : ℕ) (hand : List Entry) (x : Sitter) : Type 
   pub number_is : x.seat ≡ number
   pub list_is : x.list ≡ hand
 
+-- its call goes on, and is not told that it waits
+abbrev pub GoesOn : Step → Type 0
+GoesOn (steps.Moved kind) = ⊤
+GoesOn (steps.Blocked other) = ⊤
+GoesOn steps.Waiting = ⊥
+GoesOn (steps.Answered answer) = ⊥
+GoesOn steps.Idle = ⊥
+GoesOn (steps.Fault fault) = ⊥
+
 -- a call is under way at a seat that was this before it, and there is room for its entry
 pub record IsUnderWay (call : Call) (many number filled room : ℕ) (hand : List Entry) (old x : Sitter) : Type 0 where
   pub begun : 1 ≤ number
@@ -45,3 +54,14 @@ pub record IsUnderWay (call : Call) (many number filled room : ℕ) (hand : List
   pub list : x.list ≡ old.list
   pub spare : filled < room
   pub under_way : x.place.call ≡ Some call
+
+-- its call is taken back
+pub record IsTakenBack (old new : Sitter) : Type 0 where
+  pub seat : new.seat ≡ old.seat
+  pub list : new.list ≡ old.list
+  pub rests : new.place ≡ no_place
+
+-- or it goes on
+abbrev pub TakesBack : Option Call → (old new : Sitter) → Type 0
+TakesBack None old new = new ≡ old
+TakesBack (Some call) old new = IsTakenBack old new

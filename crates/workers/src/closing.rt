@@ -1,8 +1,9 @@
 //! How a service ends.
 
-ghost use Rattle.std.specs.Prelude.{◌≡◌, ◌↔◌, true, length};
+ghost use Rattle.std.specs.Prelude.{◌≡◌, ◌↔◌, ◌+◌, ◌++◌, ◌≤◌, true, length, vec_capacity};
 ghost use Rattle.std.specs.List.{list_any};
 ghost use Rattle.workers.specs.Closing.{Each, IsBeside, IsEndedWith, IsLetGo, IsToComeBack, sits_at};
+ghost use Rattle.workers.specs.Held.{HasRoom};
 
 use crate::entries::{Own, Passes};
 use crate::gate::Gate;
@@ -11,7 +12,7 @@ use crate::naming::Base;
 use crate::seat::Seat;
 use crate::service::Service;
 use bucket_page::PseudoKey;
-use interleavings::interleaving_core::{CloseFault, Closed, Failure, NotClosed};
+use interleavings::interleaving_core::{CloseFault, Closed, Failure, MAX_DECIDED, NotClosed};
 use interleavings::{
     a_refining_kernel_answers_as_plain_lists, a_refining_kernel_closes_on_its_file,
 };
@@ -63,6 +64,7 @@ impl<D: PageDevice + Drop, K: PseudoKey + Drop, G: Gate + Drop, N: Room + Base> 
             latch,
             freed,
             decided,
+            rested,
             gauge,
             seats: many,
         } = self;
@@ -74,6 +76,7 @@ impl<D: PageDevice + Drop, K: PseudoKey + Drop, G: Gate + Drop, N: Room + Base> 
                 latch: Mutex::new(held),
                 freed,
                 decided,
+                rested,
                 gauge,
                 seats: many,
             };
@@ -81,17 +84,19 @@ impl<D: PageDevice + Drop, K: PseudoKey + Drop, G: Gate + Drop, N: Room + Base> 
         }
         let Held {
             kernel,
+            past,
             mut pass,
             count: _,
             sleepers: _,
             room: _,
         } = held;
         compare_all(&gauge, &mut pass, &mut seats);
+        kernel.is_whole();
         let failure = kernel.failure();
         match kernel.close() {
             Ok(Closed { device, journal }) => Ending::Closed(Ended {
                 device,
-                journal,
+                journal: joined(past, journal),
                 seats,
                 failure,
             }),
@@ -99,7 +104,7 @@ impl<D: PageDevice + Drop, K: PseudoKey + Drop, G: Gate + Drop, N: Room + Base> 
                 let Closed { device, journal } = closed;
                 let ended = Ended {
                     device,
-                    journal,
+                    journal: joined(past, journal),
                     seats,
                     failure,
                 };
@@ -122,6 +127,7 @@ impl<D: PageDevice + Drop, K: PseudoKey + Drop, G: Gate + Drop, N: Room + Base> 
             latch,
             freed: _,
             decided: _,
+            rested: _,
             gauge,
             seats: _,
         } = self;
@@ -129,6 +135,7 @@ impl<D: PageDevice + Drop, K: PseudoKey + Drop, G: Gate + Drop, N: Room + Base> 
         let mut seats = seats;
         let Held {
             kernel,
+            past,
             mut pass,
             count: _,
             sleepers: _,
@@ -140,11 +147,26 @@ impl<D: PageDevice + Drop, K: PseudoKey + Drop, G: Gate + Drop, N: Room + Base> 
         let Closed { device, journal } = kernel.abandon();
         Ended {
             device,
-            journal,
+            journal: joined(past, journal),
             seats,
             failure,
         }
     }
+}
+
+/// What was taken out, and what followed it, as one journal.
+fn joined(past: Vec<Entry>, journal: Vec<Entry>) -> Vec<Entry>
+    requires room { HasRoom past.items (vec_capacity past) }
+    requires few { length journal.items ≤ MAX_DECIDED + 1 }
+    ensures { result.items ≡ past.items ++ journal.items }
+{
+    if past.is_empty() {
+        return journal;
+    }
+    let mut all = past;
+    let mut journal = journal;
+    all.append(&mut journal).unwrap();
+    all
 }
 
 /// Whether no step has failed, and one of so many seats is not among these.

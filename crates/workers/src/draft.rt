@@ -1,6 +1,6 @@
 //! What is kept for the entry of a call.
 
-ghost use Rattle.std.specs.Prelude.{◌≡◌, IfOk};
+ghost use Rattle.std.specs.Prelude.{◌≡◌, ◌<◌, IfOk, OnOk, vec_capacity, vec_len};
 ghost use Rattle.queue_model.specs.declared.entry.Entry.TheVariants.{Decided};
 
 use queue_model::{Answer, Body, Call, Entry, MAX_BODY, Message, NoMemory};
@@ -15,10 +15,14 @@ pub(crate) struct Draft {
 }
 
 impl Draft {
-    /// That of a call. Only the answer to a Receive has bytes.
-    pub(crate) fn of(alloc: Global, call: &Call) -> Result<Draft, NoMemory>
-        ensures { IfOk result (λ d. d.call ≡ call.now) }
+    /// That of a call, and a place for its entry in this list. Only the answer to a Receive has bytes.
+    pub(crate) fn of(list: &mut Vec<Entry>, call: &Call) -> Result<Draft, NoMemory>
+        ensures call { IfOk result (λ d. d.call ≡ call.now) }
+        ensures room { OnOk result (vec_len list.new < vec_capacity list.new) }
+        ensures list { list.new.items ≡ list.old.items }
     {
+        let alloc: Global = *list.allocator();
+        list.reserve(1)?;
         let most = match call {
             Call::Receive(arguments) => (arguments.size as usize).min(MAX_BODY),
             _ => 0,
@@ -28,6 +32,14 @@ impl Draft {
             call: call.try_copy()?,
             room,
         })
+    }
+
+    /// The call.
+    pub(crate) fn into_call(self) -> Call
+        ensures { result ≡ self.call }
+    {
+        let Draft { call, room: _ } = self;
+        call
     }
 
     /// The entry of the call with this answer. The bytes that a kernel answers have room, and so it

@@ -2,12 +2,20 @@
 
 use step_rules::Kind;
 
-/// It is called after each step that moved, while the latch is free: what is done there delays the
-/// seat of that step alone.
+/// It is called after each hold in which a call moved, while the latch is free: what is done there
+/// delays the seat of that call alone.
 pub trait Gate {
-    /// The call of this seat has moved by a step of this kind.
+    /// The call of this seat has moved, and its last step is of this kind.
     fn between(&self, seat: u8, kind: Kind);
+
+    /// How many steps a hold makes at most. A gate that is to see each step says 1, as this does.
+    fn steps_at_once(&self) -> u32 {
+        1
+    }
 }
+
+/// How many steps a hold makes at most where no gate is to see them: a call makes some forty.
+const AT_ONCE: u32 = 1;
 
 /// A gate that stands open.
 #[derive(Clone, Copy, Debug, Drop, PartialEq, Eq)]
@@ -15,4 +23,8 @@ pub struct Open;
 
 impl Gate for Open {
     fn between(&self, _seat: u8, _kind: Kind) {}
+
+    fn steps_at_once(&self) -> u32 {
+        AT_ONCE
+    }
 }

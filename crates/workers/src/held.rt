@@ -1,29 +1,36 @@
-//! What lies under the latch: the kernel, its pass, the number of its calls, and who sleeps.
+//! What lies under the latch: the kernel, what was taken out of its journal, its pass, the number of
+//! its calls, and who sleeps.
 
-ghost use Rattle.std.specs.Prelude.{◌≡◌, ◌≤◌, IfOk, OnErr, length};
+ghost use Rattle.std.specs.Prelude.{◌≡◌, ◌≤◌, ◌++◌, IfOk, OnErr, length};
+ghost use Rattle.interleaving_core.specs.Renewing.{Withdraws};
 ghost use Rattle.interleavings.specs.Words.{answer_told, entry_of};
 ghost use Rattle.seat_passes.specs.Rule.{IsChange, IsRight, moved};
 ghost use Rattle.seat_passes.specs.Views.{calls_in, place_at};
 ghost use Rattle.workers.specs.Entries.{seat_of};
-ghost use Rattle.workers.specs.Held.{known_of};
-ghost use Rattle.workers.specs.Told.{HasBegun, IsTold, Rests};
+ghost use Rattle.workers.specs.Held.{known_of, whole};
+ghost use Rattle.workers.specs.Told.{HasBegun, IsTold, Rests, TakesBack};
 
 use crate::entries::{Own, Passes, Sitter};
 use crate::fault::Fault;
 use crate::naming::Base;
 use bucket_page::PseudoKey;
 use interleavings::interleaving_core::{BeginFault, Kernel, Step};
-use interleavings::{begins_refine, refusals_refine, steps_refine, stops_refine};
+use interleavings::{
+    begins_refine, refusals_refine, steps_refine, stops_refine, withdrawals_refine,
+};
 use page_device::PageDevice;
 use queue_model::{Call, Entry};
 use seat_passes::{Change, Room};
 use std::marker::{Brand, Model, PhantomData};
 use std::mem;
+use step_rules::Kind;
 
 /// What lies under the latch.
 #[derive(Drop)]
 pub(crate) struct Held<D: PageDevice, K: PseudoKey, N: Room + Base> {
     pub(crate) kernel: Kernel<D, K>,
+    /// What was taken out of its journal, in its order.
+    pub(crate) past: Vec<Entry>,
     pub(crate) pass: Own<N>,
     pub(crate) count: u64,
     pub(crate) sleepers: Sleepers,
@@ -37,17 +44,21 @@ pub(crate) struct Sleepers {
     pub(crate) blocked: bool,
     /// One whose call waits, until the journal has grown.
     pub(crate) waiting: bool,
+    /// One that wants a moment between calls, until a call has ended or waits. Until it was there no
+    /// call begins: who would begin one sleeps too.
+    pub(crate) resting: bool,
 }
 
 impl<D: PageDevice, K: PseudoKey, N: Room + Base> Model for Held<D, K, N> {
-    ghost use Rattle.workers.specs.Held.{IsHeld};
-    ghost use Rattle.workers.specs.Words.{KernelState};
+    ghost use Rattle.std.specs.Prelude.{vec_capacity};
+    ghost use Rattle.workers.specs.Held.{HeldState, IsKept};
 
-    ghost Value = { KernelState K };
+    ghost Value = { HeldState K };
 
-    ghost view = { λ h. h.kernel };
+    ghost view = { λ h. record { kernel = h.kernel; past = h.past.items } };
 
-    ghost invariant = { λ h. IsHeld K.of_key N.origin h.kernel h.pass h.count };
+    ghost invariant = { λ h. IsKept K.of_key N.origin h.past.items (vec_capacity h.past)
+        h.kernel h.pass h.count };
 }
 
 impl<D: PageDevice + Drop, K: PseudoKey + Drop, N: Room + Base> Held<D, K, N> {
@@ -70,7 +81,15 @@ impl<D: PageDevice + Drop, K: PseudoKey + Drop, N: Room + Base> Held<D, K, N> {
         match self.kernel.begin(seat, call) {
             Ok(()) => {
                 let did = Step::Idle;
-                tell::<Brand, D, K, N>(gauge, &mut self.pass, pass, self.count, &self.kernel, &did);
+                tell::<Brand, D, K, N>(
+                    gauge,
+                    &mut self.pass,
+                    pass,
+                    self.count,
+                    &self.past,
+                    &self.kernel,
+                    &did,
+                );
                 Ok(())
             }
             Err((_, BeginFault::Failed)) => Err(Fault::Failed),
@@ -92,16 +111,86 @@ impl<D: PageDevice + Drop, K: PseudoKey + Drop, N: Room + Base> Held<D, K, N> {
         steps_refine::<K>();
         let before = self.kernel.journal().len();
         let did = self.kernel.step(seat);
+        self.kernel.is_whole();
+        let _room = self.past.capacity();
         self.count += (self.kernel.journal().len() - before) as u64;
-        tell::<Brand, D, K, N>(gauge, &mut self.pass, pass, self.count, &self.kernel, &did);
+        tell::<Brand, D, K, N>(
+            gauge,
+            &mut self.pass,
+            pass,
+            self.count,
+            &self.past,
+            &self.kernel,
+            &did,
+        );
         did
+    }
+
+    /// So many steps of the call at the seat of this pass at most, in one hold: none follows one by
+    /// which it does not move, or by which one is to be woken who sleeps. Tells the last.
+    pub(crate) fn steps(
+        &mut self,
+        gauge: &Passes<N>,
+        pass: &mut Sitter<N>,
+        seat: u8,
+        most: u32,
+    ) -> Step
+        requires seat { pass.old.seat ≡ seat }
+        requires within { (1 ≤ seat) × (seat ≤ length N.origin.callers) }
+        ensures told { IsTold result pass.old pass.new }
+    {
+        for _ in 1..most {
+            match self.step(gauge, pass, seat) {
+                Step::Moved(kind) => {
+                    if self.is_to_wake(kind) {
+                        return Step::Moved(kind);
+                    }
+                }
+                Step::Blocked(other) => return Step::Blocked(other),
+                Step::Waiting => return Step::Waiting,
+                Step::Answered(answer) => return Step::Answered(answer),
+                Step::Idle => return Step::Idle,
+                Step::Fault(fault) => return Step::Fault(fault),
+            }
+        }
+        self.step(gauge, pass, seat)
+    }
+
+    /// Takes the call at the seat of this pass back where it waits: it holds no name and has written
+    /// nothing, so the system is as it was. `None` where it does not wait; then nothing is changed.
+    pub(crate) fn withdraw(
+        &mut self,
+        gauge: &Passes<N>,
+        pass: &mut Sitter<N>,
+        seat: u8,
+    ) -> Option<Call>
+        requires seat { pass.old.seat ≡ seat }
+        requires within { (1 ≤ seat) × (seat ≤ length N.origin.callers) }
+        ensures kernel { Withdraws seat result self.old.kernel self.new.kernel }
+        ensures pass { TakesBack result pass.old pass.new }
+    {
+        withdrawals_refine::<K>();
+        let Some(call) = self.kernel.withdraw(seat) else {
+            return None;
+        };
+        let did = Step::Idle;
+        tell::<Brand, D, K, N>(
+            gauge,
+            &mut self.pass,
+            pass,
+            self.count,
+            &self.past,
+            &self.kernel,
+            &did,
+        );
+        Some(call)
     }
 
     /// The system is stopped.
     pub(crate) fn stop(&mut self, gauge: &Passes<N>) {
         stops_refine::<K>();
         self.kernel.stop();
-        tell_all::<Brand, D, K, N>(gauge, &mut self.pass, self.count, &self.kernel);
+        tell_all::<Brand, D, K, N>(gauge, &mut self.pass, self.count, &self.past, &self.kernel);
     }
 
     /// Notes that the seat that holds the latch will sleep until a lock is given back.
@@ -114,13 +203,52 @@ impl<D: PageDevice + Drop, K: PseudoKey + Drop, N: Room + Base> Held<D, K, N> {
         self.sleepers.waiting = true;
     }
 
+    /// Notes that a moment between calls is wanted.
+    pub(crate) fn note_resting(&mut self) {
+        self.sleepers.resting = true;
+    }
+
+    /// Whether a moment between calls is wanted: then no call is to begin.
+    pub(crate) fn is_to_rest(&self) -> bool {
+        self.sleepers.resting
+    }
+
+    /// Whether a seat that sleeps is to be woken by a step of this kind.
+    fn is_to_wake(&self, kind: Kind) -> bool {
+        (gives_back(kind) && self.sleepers.blocked)
+            || (kind == Kind::Decide && self.sleepers.waiting)
+    }
+
+    /// Who is to be woken by a step of this kind, and is noted no more.
+    pub(crate) fn wake_by(&mut self, kind: Kind) -> Sleepers {
+        self.wake(gives_back(kind), kind == Kind::Decide)
+    }
+
     /// Who is to be woken, and is noted no more: seats that were blocked where a lock was given back,
     /// and seats whose calls wait where the journal has grown.
     pub(crate) fn wake(&mut self, freed: bool, grown: bool) -> Sleepers {
-        let blocked = freed && mem::replace(&mut self.sleepers.blocked, false);
-        let waiting = grown && mem::replace(&mut self.sleepers.waiting, false);
-        Sleepers { blocked, waiting }
+        Sleepers {
+            blocked: freed && mem::replace(&mut self.sleepers.blocked, false),
+            waiting: grown && mem::replace(&mut self.sleepers.waiting, false),
+            resting: false,
+        }
     }
+
+    /// The moment between calls was there: who waited for it, or for its end, is to be woken; and so
+    /// are all others where a step has failed.
+    pub(crate) fn wake_rested(&mut self) -> Sleepers {
+        let failed = self.kernel.has_failed();
+        Sleepers {
+            resting: mem::replace(&mut self.sleepers.resting, false),
+            ..self.wake(failed, failed)
+        }
+    }
+}
+
+/// Whether a lock may be given back by a step of this kind. It is by no other; and the journal grows
+/// at a Decide alone.
+fn gives_back(kind: Kind) -> bool {
+    matches!(kind, Kind::Release | Kind::Hop)
 }
 
 /// What the kernel has done for a seat is told to its pass.
@@ -129,32 +257,35 @@ fn tell<M: Change<Entry, Call>, D: PageDevice + Drop, K: PseudoKey + Drop, N: Ro
     own: &mut Own<N>,
     pass: &mut Sitter<N>,
     count: u64,
+    past: &Vec<Entry>,
     kernel: &Kernel<D, K>,
     did: &Step,
 )
-    requires desk { M.desk ≡ known_of kernel.now }
+    requires desk { M.desk ≡ known_of (whole past.now.items kernel.now) }
     requires told { M.told ≡ entry_of pass.old.seat
         (place_at own.old.places pass.old.seat).call (answer_told did.now) }
-    requires count { count ≡ calls_in seat_of kernel.now.journal }
-    requires change { IsChange seat_of pass.old.seat M.told own.old (known_of kernel.now) }
+    requires count { count ≡ calls_in seat_of (past.now.items ++ kernel.now.journal) }
+    requires change { IsChange seat_of pass.old.seat M.told own.old
+        (known_of (whole past.now.items kernel.now)) }
     ensures right { IsRight seat_of own.old pass.old }
-    ensures own { own.new ≡ known_of kernel.now }
-    ensures seat { pass.new ≡ moved seat_of (known_of kernel.now) M.told pass.old }
+    ensures own { own.new ≡ known_of (whole past.now.items kernel.now) }
+    ensures seat { pass.new ≡ moved seat_of (known_of (whole past.now.items kernel.now)) M.told
+        pass.old }
 {
     gauge.turn::<M>(own, pass, count);
 }
 
 /// What the kernel has done for no seat is told.
-fn tell_all<M: Change<Entry, Call>, D: PageDevice + Drop, K: PseudoKey + Drop, N: Room + Base>(
-    gauge: &Passes<N>,
-    own: &mut Own<N>,
-    count: u64,
-    kernel: &Kernel<D, K>,
-)
-    requires desk { M.desk ≡ known_of kernel.now }
-    requires count { count ≡ calls_in seat_of kernel.now.journal }
-    requires change { IsChange seat_of 0 M.told own.old (known_of kernel.now) }
-    ensures own { own.new ≡ known_of kernel.now }
+pub(crate) fn tell_all<
+    M: Change<Entry, Call>,
+    D: PageDevice + Drop,
+    K: PseudoKey + Drop,
+    N: Room + Base,
+>(gauge: &Passes<N>, own: &mut Own<N>, count: u64, past: &Vec<Entry>, kernel: &Kernel<D, K>)
+    requires desk { M.desk ≡ known_of (whole past.now.items kernel.now) }
+    requires count { count ≡ calls_in seat_of (past.now.items ++ kernel.now.journal) }
+    requires change { IsChange seat_of 0 M.told own.old (known_of (whole past.now.items kernel.now)) }
+    ensures own { own.new ≡ known_of (whole past.now.items kernel.now) }
 {
     gauge.publish::<M>(own, count);
 }

@@ -3,16 +3,20 @@
 
 #![tactic(auto)]
 
+mod between;
 mod closing;
 mod draft;
 mod entries;
 mod fault;
 mod gate;
 mod held;
+mod limit;
 mod naming;
 mod opening;
 mod seat;
 mod service;
+mod unanswered;
+mod waits;
 
 pub use closing::{Ended, Ending};
 pub use entries::Entries;
@@ -24,3 +28,4 @@ pub use opening::{Prepared, Started};
 pub use seat::Seat;
 pub use seat_passes::{GaugePass, Room};
 pub use service::Service;
+pub use unanswered::Unanswered;

@@ -139,11 +139,13 @@ impl<D: PageDevice + Drop, K: PseudoKey + Drop> Prepared<D, K> {
         };
         let held = Held {
             kernel,
+            past: Vec::new(alloc),
             pass,
             count: 0,
             sleepers: Sleepers {
                 blocked: false,
                 waiting: false,
+                resting: false,
             },
             room: PhantomData,
         };
@@ -153,6 +155,7 @@ impl<D: PageDevice + Drop, K: PseudoKey + Drop> Prepared<D, K> {
                 latch: Mutex::new(held),
                 freed: Condvar::new(),
                 decided: Condvar::new(),
+                rested: Condvar::new(),
                 gauge,
                 seats,
             },

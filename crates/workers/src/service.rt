@@ -1,28 +1,28 @@
 //! A service: a kernel that threads share.
 
-ghost use Rattle.std.specs.Prelude.{◌≡◌, ◌≤◌, ◌∷◌, ◌++◌, [], IfOk, OnErr, length};
+ghost use Rattle.std.specs.Prelude.{◌≡◌, ◌≤◌, ◌∷◌, ◌++◌, [], IfErr, IfOk, IsTrue, OnErr, false, length};
 ghost use Rattle.queue_model.specs.declared.entry.Entry.TheVariants.{Decided};
+ghost use Rattle.workers.specs.Told.{GoesOn, HasBegun, IsTakenBack, IsTold, Rests};
+ghost use Rattle.workers.specs.Unanswered.{MayReturn};
 
 use crate::draft::Draft;
-use crate::entries::Passes;
+use crate::entries::{Passes, Sitter};
 use crate::fault::Fault;
 use crate::gate::Gate;
-use crate::held::{Held, Sleepers};
+use crate::held::Held;
+use crate::limit::Limit;
 use crate::naming::Base;
 use crate::seat::Seat;
+use crate::unanswered::Unanswered;
 use bucket_page::PseudoKey;
 use crossbeam_utils::Backoff;
 use interleavings::interleaving_core::Step;
 use page_device::PageDevice;
 use queue_model::{Answer, Call, Entry};
 use seat_passes::{GaugePass, Room};
-use std::alloc::Global;
 use std::marker::Model;
 use std::sync::{Condvar, Mutex, MutexGuard, Wait};
-use step_rules::Kind;
-
-/// How often a thread looks for the latch before it sleeps.
-const LOOKS: u32 = 20;
+use std::time::{Clock, Duration};
 
 /// A kernel that threads share. One latch lies over it: each hold of it is the beginning of a call,
 /// one step, or the stop.
@@ -34,6 +34,8 @@ pub struct Service<D: PageDevice, K: PseudoKey, G: Gate, N: Room + Base> {
     pub(crate) freed: Condvar,
     /// The journal has grown, or a step has failed.
     pub(crate) decided: Condvar,
+    /// A moment between calls is wanted, and a call has ended or waits; or that moment was there.
+    pub(crate) rested: Condvar,
     pub(crate) gauge: Passes<N>,
     pub(crate) seats: u8,
 }
@@ -63,32 +65,16 @@ impl<D: PageDevice + Drop, K: PseudoKey + Drop, G: Gate, N: Room + Base> Service
         ensures err { OnErr result (seat.new.list ≡ seat.old.list) }
         ensures same { seat.new.seat ≡ seat.old.seat }
     {
-        let alloc: Global = *seat.list.allocator();
-        let Ok(()) = seat.list.reserve(1) else {
+        let Ok(draft) = Draft::of(&mut seat.list, &call) else {
             return Err(Fault::NoMemory);
         };
-        let Ok(draft) = Draft::of(alloc, &call) else {
-            return Err(Fault::NoMemory);
-        };
-        let mut held = self.hold(rt);
-        if let Err(fault) = held.begin(&self.gauge, &mut seat.pass, seat.number, call) {
+        if let Err(fault) = self.begin(rt, &mut seat.pass, seat.number, call) {
             return Err(fault);
         }
-        drop(held);
         let patience = Backoff::new();
         for _ in rt.forever() {
-            let mut held = self.hold(rt);
-            match held.step(&self.gauge, &mut seat.pass, seat.number) {
-                Step::Moved(kind) => {
-                    // no other kind gives a lock back, and the journal grows at a Decide alone
-                    let freed = matches!(kind, Kind::Release | Kind::Hop);
-                    let sleepers = held.wake(freed, kind == Kind::Decide);
-                    drop(held);
-                    self.rouse(sleepers);
-                    patience.reset();
-                    self.gate.between(seat.number, kind);
-                }
-                Step::Blocked(_) => self.await_lock(rt, held, &patience),
+            let (held, step) = self.advance(rt, &mut seat.pass, seat.number, &patience);
+            match step {
                 Step::Waiting => self.await_entry(rt, held, &patience),
                 Step::Answered(answer) => {
                     drop(held);
@@ -97,12 +83,71 @@ impl<D: PageDevice + Drop, K: PseudoKey + Drop, G: Gate, N: Room + Base> Service
                     return Ok(answer);
                 }
                 Step::Fault(fault) => {
-                    let sleepers = held.wake(true, true);
-                    drop(held);
-                    self.rouse(sleepers);
+                    self.rouse_all(held);
                     return Err(Fault::of_step(fault));
                 }
                 Step::Idle => unreachable!(),
+                Step::Moved(_) => unreachable!(),
+                Step::Blocked(_) => unreachable!(),
+            }
+        }
+        unreachable!()
+    }
+
+    /// Makes a call as `call` does, with a limit of time: a call that waits when it is over is taken
+    /// back. Only to wait ends then: a call that goes on, or is blocked by a lock, comes to its answer
+    /// first. The clock counts from before the call begins.
+    ///
+    /// # Errors
+    ///
+    /// `TimedOut` gives the call back that was taken back: it has changed nothing, and is not in the
+    /// journal. A clock that can't be read ends the time. The others are those of `call`. The seat's
+    /// list is as it was.
+    pub fn call_within<R: Wait + Clock>(
+        &self,
+        rt: &R,
+        seat: &mut Seat<N>,
+        call: Call,
+        limit: Duration,
+    ) -> Result<Answer, Unanswered>
+        ensures ok { IfOk result (λ answer.
+            seat.new.list ≡ seat.old.list ++ Decided seat.old.seat call answer ∷ []) }
+        ensures back { IfErr result (MayReturn call) }
+        ensures err { OnErr result (seat.new.list ≡ seat.old.list) }
+        ensures same { seat.new.seat ≡ seat.old.seat }
+    {
+        let limit = Limit::new(rt, limit);
+        let Ok(draft) = Draft::of(&mut seat.list, &call) else {
+            return Err(Unanswered::Fault(Fault::NoMemory));
+        };
+        if let Err(fault) = self.begin(rt, &mut seat.pass, seat.number, call) {
+            return Err(Unanswered::Fault(fault));
+        }
+        let patience = Backoff::new();
+        for _ in rt.forever() {
+            let (held, step) = self.advance(rt, &mut seat.pass, seat.number, &patience);
+            match step {
+                Step::Waiting => match limit.left(rt) {
+                    Some(left) => self.await_entry_within(rt, held, &patience, left),
+                    None => {
+                        if take_back(held, &self.gauge, &mut seat.pass, seat.number) {
+                            return Err(Unanswered::TimedOut(draft.into_call()));
+                        }
+                    }
+                },
+                Step::Answered(answer) => {
+                    drop(held);
+                    let number = seat.number;
+                    seat.list.push_reserved(draft.entry(rt, number, &answer));
+                    return Ok(answer);
+                }
+                Step::Fault(fault) => {
+                    self.rouse_all(held);
+                    return Err(Unanswered::Fault(Fault::of_step(fault)));
+                }
+                Step::Idle => unreachable!(),
+                Step::Moved(_) => unreachable!(),
+                Step::Blocked(_) => unreachable!(),
             }
         }
         unreachable!()
@@ -134,57 +179,86 @@ impl<D: PageDevice + Drop, K: PseudoKey + Drop, G: Gate, N: Room + Base> Service
         self.gauge.look_from_seat(&mut seat.pass)
     }
 
-    /// The latch, once it is free. It is free again soon, since a hold is short: so a thread looks for
-    /// it a while before it sleeps.
-    fn hold<R: Wait>(&self, rt: &R) -> MutexGuard<'_, Held<D, K, N>> {
-        let backoff = Backoff::new();
-        for _ in 0..LOOKS {
-            if let Some(held) = self.latch.try_lock() {
-                return held;
-            }
-            backoff.snooze();
-        }
-        self.latch.lock(rt)
-    }
-
-    /// A seat that is blocked lets others go on for a while, and then sleeps until a lock is given
-    /// back.
-    fn await_lock<R: Wait>(&self, rt: &R, held: MutexGuard<'_, Held<D, K, N>>, patience: &Backoff) {
-        let mut held = held;
-        if patience.is_completed() {
-            held.note_blocked();
-            drop(self.freed.wait(rt, held));
-        } else {
-            drop(held);
-            patience.snooze();
-        }
-    }
-
-    /// A seat whose call waits lets others go on for a while, and then sleeps until the journal has
-    /// grown.
-    fn await_entry<R: Wait>(
+    /// A call begins at the seat of this pass, once no moment between calls is wanted.
+    fn begin<R: Wait>(
         &self,
         rt: &R,
-        held: MutexGuard<'_, Held<D, K, N>>,
-        patience: &Backoff,
-    ) {
-        let mut held = held;
-        if patience.is_completed() {
-            held.note_waiting();
-            drop(self.decided.wait(rt, held));
-        } else {
-            drop(held);
-            patience.snooze();
-        }
+        pass: &mut Sitter<N>,
+        number: u8,
+        call: Call,
+    ) -> Result<(), Fault>
+        requires seat { pass.old.seat ≡ number }
+        requires within { (1 ≤ number) × (number ≤ length N.origin.callers) }
+        requires rests { Rests pass.old }
+        ensures ok { IfOk result (λ _. HasBegun call pass.old pass.new) }
+        ensures err { OnErr result (pass.new ≡ pass.old) }
+    {
+        let mut held = self.hold_to_begin(rt);
+        held.begin(&self.gauge, pass, number, call)
     }
 
-    /// Wakes seats that sleep.
-    fn rouse(&self, sleepers: Sleepers) {
-        if sleepers.blocked {
-            self.freed.notify_all();
+    /// The call at the seat of this pass goes on until it is answered, waits or fails. The latch is
+    /// held as it was in its last step.
+    fn advance<R: Wait>(
+        &self,
+        rt: &R,
+        pass: &mut Sitter<N>,
+        number: u8,
+        patience: &Backoff,
+    ) -> (MutexGuard<'_, Held<D, K, N>>, Step)
+        requires seat { pass.old.seat ≡ number }
+        requires within { (1 ≤ number) × (number ≤ length N.origin.callers) }
+        ensures told { IsTold result.1 pass.old pass.new }
+        ensures rests { GoesOn result.1 → ⊥ }
+    {
+        for _ in rt.forever() {
+            let mut held = self.hold(rt);
+            match held.steps(&self.gauge, pass, number, self.gate.steps_at_once()) {
+                Step::Moved(kind) => {
+                    let sleepers = held.wake_by(kind);
+                    drop(held);
+                    self.rouse(sleepers);
+                    patience.reset();
+                    self.gate.between(number, kind);
+                }
+                Step::Blocked(_) => self.await_lock(rt, held, patience),
+                Step::Waiting => return self.last(held, Step::Waiting),
+                Step::Answered(answer) => return self.last(held, Step::Answered(answer)),
+                Step::Fault(fault) => return self.last(held, Step::Fault(fault)),
+                Step::Idle => return self.last(held, Step::Idle),
+            }
         }
-        if sleepers.waiting {
-            self.decided.notify_all();
-        }
+        unreachable!()
     }
+
+    /// A step by which a call waits or is over, with the latch as it was held in it: who wants a
+    /// moment between calls looks for it then.
+    fn last<'a>(
+        &self,
+        held: MutexGuard<'a, Held<D, K, N>>,
+        step: Step,
+    ) -> (MutexGuard<'a, Held<D, K, N>>, Step)
+        ensures { result.1 ≡ step }
+    {
+        if held.is_to_rest() {
+            self.rested.notify_all();
+        }
+        (held, step)
+    }
+}
+
+/// Whether the call at the seat of this pass was taken back, as one that waits is.
+fn take_back<D: PageDevice + Drop, K: PseudoKey + Drop, N: Room + Base>(
+    held: MutexGuard<'_, Held<D, K, N>>,
+    gauge: &Passes<N>,
+    pass: &mut Sitter<N>,
+    number: u8,
+) -> bool
+    requires seat { pass.old.seat ≡ number }
+    requires within { (1 ≤ number) × (number ≤ length N.origin.callers) }
+    ensures back { IsTrue result → IsTakenBack pass.old pass.new }
+    ensures stays { result ≡ false → pass.new ≡ pass.old }
+{
+    let mut held = held;
+    held.withdraw(gauge, pass, number).is_some()
 }

@@ -224,6 +224,7 @@ module _ (hash : RecordKey → ℕ) (seat : ℕ) (stopped : Bool) (caller : Call
         bytes = λ some. refl;
         ended = (λ e. absurd cc, λ over. absurd over);
         over = λ e. absurd cc;
+        finds = refl;
       };
       row = alone ∙ ap (with_row locks seat) (sym (begun_alone hash settled trials.due q.names));
       progress = λ s records change is mark.
@@ -256,6 +257,7 @@ module _ (hash : RecordKey → ℕ) (seat : ℕ) (stopped : Bool) (caller : Call
       bytes = λ some. absurd cc;
       ended = (λ e. absurd cc, λ over. absurd over);
       over = λ e. absurd cc;
+      finds = refl;
     };
     row = alone ∙ sym (ap (λ (x : Option Question). with_row locks seat (locks_behind x q.names))
         (no_question_there call q u.trials can calm));

@@ -91,6 +91,7 @@ module _ (hash : RecordKey → ℕ) (seat : ℕ) (caller : Caller) (call : Call)
         bytes = λ some. refl;
         ended = (λ e. absurd (more e), λ over. absurd (more (aim.ended.1 over.0)));
         over = λ e. absurd (more e);
+        finds = refl;
       };
       row = row_on;
       progress = λ s records change is mark.
@@ -203,6 +204,7 @@ module _ (hash : RecordKey → ℕ) (seat : ℕ) (caller : Caller) (call : Call)
               bytes = r.aim.bytes;
               ended = (λ e. (all_paid, r.aim.ended.0 e), λ over. r.aim.ended.1 over.1);
               over = r.aim.over;
+              finds = r.aim.finds;
             };
             row = r.row ∙ ap (λ (t : Table). with_row t seat (call_locks m)) row_now
                 ∙ with_row-twice locks seat names (call_locks m);

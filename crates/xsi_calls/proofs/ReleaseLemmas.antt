@@ -69,6 +69,7 @@ module _ (seat : ℕ) (caller : Caller) (call : Call) (u : UndecidedCall) (concl
           bytes = λ some. refl;
           ended = is_end;
           over = over;
+          finds = refl;
         };
         row = row';
         progress = λ s records change is mark. near pool;

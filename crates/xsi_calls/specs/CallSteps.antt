@@ -1,14 +1,14 @@
 -- What a step of a call does. docs/STEPS.md, "Calls".
-use Rattle.std.specs.Prelude.{ℕ, ◌≡◌, ◌↔◌, true, false, not, Bool, Option, Some, None, IsSome, Result, Ok, Err}
+use Rattle.std.specs.Prelude.{ℕ, ◌≡◌, ◌↔◌, true, false, not, Bool, Option, Some, None, IsSome, Result, Ok, Err, if◌then◌else◌}
 use Rattle.file_pages.specs.declared.fault.FileFault.{FileFault}
 use Rattle.step_rules.specs.declared.kind.Kind.TheVariants.{Decide}
 use Rattle.xsi_calls.specs.declared.conclusion.Conclusion.{Conclusion}
 use Rattle.xsi_calls.specs.Stages.{Stage, Undecided, Paying, Releasing}
 use Rattle.undecided_calls.specs.Deciding.{IsDecidedIn}
 use Rattle.xsi_calls.specs.Below.{counter_key, owes_at}
-use Rattle.xsi_calls.specs.Words.{Blocked, Call, Change, Ended, Exclusive, Fault, IsBehind, IsPaying, IsReady, IsUndecided, Moved, NearsOrSpares, OnlyWrites, PaymentStage, PoolState, Progress, RecordKey, Records, Settled, State, Step, Table, TrialLacksRoom, UndecidedCall, begun_payment, guard_of, has_no_room, is_fault, is_write, its_plan, kind_of, overlaid, store_of, trials_of, with_row, world}
+use Rattle.xsi_calls.specs.Words.{Blocked, Call, Change, Ended, Exclusive, Fault, IsBehind, IsPaying, IsReady, IsUndecided, Moved, NearsOrSpares, OnlyWrites, PaymentStage, PoolState, Progress, RecordKey, Records, Settled, State, Step, Table, TrialLacksRoom, UndecidedCall, begun_payment, finds_behind, guard_of, has_no_room, is_fault, is_write, its_plan, kind_of, overlaid, store_of, trials_of, with_row, world}
 use Rattle.xsi_calls.specs.Concluding.{IsRightConclusion, conclusion_by}
-use Rattle.xsi_calls.specs.Machine.{CallView, IsOver, IsReading, call_facts, call_left, call_locks, call_owes, call_turn, conclusion_of}
+use Rattle.xsi_calls.specs.Machine.{CallView, IsOver, IsReading, call_facts, call_left, call_locks, call_owes, call_turn, conclusion_of, finds_of, is_undecided}
 use Rattle.xsi_calls.specs.Calling.{IsCalling, IsReleasing}
 
 -- ---- whatever the device gives
@@ -26,6 +26,9 @@ pub record KeepsCall {F : Type 0} (did : Progress F) (old new : CallView) : Type
   -- it has ended exactly where nothing is owed and no name is held, and stays so
   pub ended : (did ≡ Ended) ↔ IsOver old
   pub over : did ≡ Ended → IsOver new
+  -- before its Decide a search is counted where its seat was granted the directory to read, and none from then on
+  pub finds : finds_of new ≡
+      (if is_undecided old.stage then finds_behind did (call_locks new) (finds_of old) else finds_of old)
 
 -- ---- on an honest device, in a sound world
 

@@ -1,8 +1,10 @@
 -- Laws of calls. Each is the contract of a function of laws.rt.
-use Rattle.std.specs.Prelude.{ℕ, ◌≡◌, ◌≤◌, []}
+use Rattle.std.specs.Prelude.{ℕ, ◌≡◌, ◌≤◌, [], None}
+use Rattle.queue_model.specs.declared.call.Call.TheVariants.{Receive}
+use Rattle.queue_model.specs.declared.call.ReceiveArguments.{ReceiveArguments}
 use Rattle.xsi_calls.specs.Stages.{Undecided}
 use Rattle.xsi_calls.specs.Words.{Agrees, Sees, Change, PoolState, RecordKey, Records, State, Store, Table, most_asked, row_of, store_of}
-use Rattle.xsi_calls.specs.Machine.{CallView, IsNew, call_left}
+use Rattle.xsi_calls.specs.Machine.{CallView, IsNew, call_left, finds_of}
 use Rattle.xsi_calls.specs.Calling.{IsCalling}
 
 -- the steps of a call that has just begun, if no other seat steps
@@ -12,11 +14,17 @@ MOST_CALL_STEPS = 1905581
 abbrev pub HaveFewSteps : Type 0
 HaveFewSteps = (m : CallView) (s : Store) → IsNew m → call_left m s ≤ MOST_CALL_STEPS
 
--- until it has decided a call has begun no more searches than it may ask questions
+-- a call that has not decided, and inserts nothing on trial yet, has begun no more searches than it may ask questions
 abbrev pub BeginFewSearches : Type 0
 BeginFewSearches = (hash : RecordKey → ℕ) (seat : ℕ) (s : State) (m : CallView) (records : Records) (pool : PoolState)
-    (locks : Table) (change : Change) → m.stage ≡ Undecided → IsCalling hash seat s m records pool locks change →
-    m.undecided.questions.finds ≤ most_asked m.call
+    (locks : Table) (change : Change) → m.stage ≡ Undecided → m.undecided.trials ≡ None →
+    IsCalling hash seat s m records pool locks change → finds_of m ≤ most_asked m.call
+
+-- a Receive, which inserts nothing on trial, has begun three at most
+abbrev pub ReceiveByThree : Type 0
+ReceiveByThree = (hash : RecordKey → ℕ) (seat : ℕ) (s : State) (m : CallView) (records : Records) (pool : PoolState)
+    (locks : Table) (change : Change) (a : ReceiveArguments) → m.call ≡ Receive a → m.stage ≡ Undecided →
+    IsCalling hash seat s m records pool locks change → finds_of m ≤ 3
 
 -- a call that has just begun: over each system with which the file agrees, and whatever records stand
 abbrev pub BeginRight : Type 0

@@ -46,6 +46,10 @@ answer_by (Some conclusion) bytes = answer_in conclusion bytes
 abbrev pub answer_of_call : CallView → Option Answer
 answer_of_call m = answer_by (conclusion_of m) m.undecided.questions.room.bytes
 
+-- the searches that it began since it last began, before its Decide
+abbrev pub finds_of : CallView → ℕ
+finds_of m = m.undecided.questions.finds
+
 -- ---- its places
 
 abbrev pub is_undecided : Stage → Bool

@@ -4,7 +4,7 @@ ghost use Rattle.std.specs.Prelude.{◌≡◌, Bool, IsSome, None, Some, true, f
 ghost use Rattle.std.specs.Option.{is_some};
 ghost use Rattle.xsi_calls.specs.declared.conclusion.Conclusion.TheVariants.{Waits};
 ghost use Rattle.xsi_calls.specs.Words.{CanDecide, Change, IsReady, HasRoom, IsSeat, NearsOrSpares, OnlyWrites, Records, State, is_fault, row_of, store_of, with_row};
-ghost use Rattle.xsi_calls.specs.Machine.{Begins, IsOver, answer_of_call, call_left, call_locks, conclusion_of, is_paying, is_undecided};
+ghost use Rattle.xsi_calls.specs.Machine.{Begins, IsOver, answer_of_call, call_left, call_locks, conclusion_of, finds_of, is_paying, is_undecided};
 ghost use Rattle.xsi_calls.specs.Calling.{IsCalling};
 ghost use Rattle.xsi_calls.specs.CallSteps.{Decides, KeepsCall, MakesCall, MakesRelease, StepsCall, is_end};
 
@@ -136,10 +136,11 @@ impl CallMachine {
         self.has_concluded() && matches!(self.conclusion, Conclusion::Answers(_))
     }
 
-    /// The searches that it has begun before its Decide since it last began: of a Receive at most
-    /// three.
-    pub fn finds(&self) -> usize
-        ensures { result ≡ self.now.undecided.questions.finds }
+    /// The searches that it has begun before its Decide since it last began, those of its trials
+    /// too: the steps by which its seat was granted the directory to read. Of a Receive they are at
+    /// most three; `u32::MAX` stands for more.
+    pub fn finds(&self) -> u32
+        ensures { result ≡ finds_of self.now }
     {
         self.undecided.questions().finds()
     }

@@ -1,7 +1,7 @@
 //! Laws of calls. The functions do nothing; their contracts are the laws.
 
 ghost use Rattle.std.specs.Prelude.{◌<◌};
-ghost use Rattle.xsi_calls.specs.Laws.{BeginFewSearches, BeginRight, HaveFewSteps, MOST_CALL_STEPS};
+ghost use Rattle.xsi_calls.specs.Laws.{BeginFewSearches, BeginRight, HaveFewSteps, MOST_CALL_STEPS, ReceiveByThree};
 
 use undecided_calls::calls_decide_in_few_steps;
 
@@ -13,10 +13,11 @@ pub fn calls_have_few_steps()
     calls_decide_in_few_steps();
 }
 
-/// A call has begun no more searches than it may ask questions, until it has decided: a Receive at
-/// most three.
+/// A call has begun no more searches than it may ask questions, until it inserts on trial; and a
+/// Receive, which inserts nothing, at most three until it has decided.
 pub fn a_call_begins_few_searches()
-    ensures { BeginFewSearches }
+    ensures asks { BeginFewSearches }
+    ensures receive { ReceiveByThree }
 {}
 
 /// A call that has just begun goes on right, over each system with which the file agrees, whatever

@@ -4,7 +4,7 @@ ghost use Rattle.std.specs.Prelude.{◌≡◌, ◌↔◌, ◌<◌, IfErr, IfOk, 
 ghost use Rattle.interleaving_core.specs.Active.{ActiveView};
 ghost use Rattle.interleaving_core.specs.Kernel.{call_at};
 ghost use Rattle.interleaving_core.specs.Renewing.{Flushes, IsBetweenCalls, IsRenewed, Reads, Withdraws, failure_of_pool};
-ghost use Rattle.interleaving_core.specs.Words.{IsSeat};
+ghost use Rattle.interleaving_core.specs.Words.{IsSeat, TellsChanged};
 
 use crate::fault::{CloseFault, Failure};
 use crate::kernel::Kernel;
@@ -74,9 +74,18 @@ impl<D: PageDevice + Drop, K: PseudoKey + Drop> Kernel<D, K> {
 
     /// How many pages the file has.
     pub fn pages(&self) -> u32
-        ensures { result ≡ length self.now.pool.images }
+        ensures images { result ≡ length self.now.pool.images }
+        ensures stored { result ≡ length self.now.pool.stored }
     {
         self.pool.pages()
+    }
+
+    /// The first page from this one on that was changed since the device had it; `None` where none
+    /// was. An honest device has all between, and a flush leaves none.
+    pub fn next_changed(&self, from: u32) -> Option<u32>
+        ensures { TellsChanged from result self.now.pool }
+    {
+        self.pool.next_changed(from)
     }
 
     /// Writes the pages to the device and syncs it, and goes on: an honest device then has the file

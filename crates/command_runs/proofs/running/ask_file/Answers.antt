@@ -1,16 +1,22 @@
-use Rattle.std.proofs.Common.{inl, refl, arith}
+use Rattle.std.proofs.Common.{inl, inr, refl, arith}
 use Rattle.std.proofs.lemmas.Result.{err_from_is_err_and}
 use Rattle.bucket_page.specs.Pseudokeys.{sha_key}
+use Rattle.lone_kernel.specs.interleaving_core.declared.fault.OpenFault.TheVariants.{NoMemory}
 use Rattle.command_runs.specs.Sessions.{Stands}
 use Rattle.command_runs.proofs.RunLemmas.{other_pages}
 use Rattle.command_runs.proofs.running.ask_file.Goals as goal
 
+-- there is no memory for pseudokeys
+pub returns-in_default-clause-asks : goal.returns-in_default-clause-asks
+returns-in_default-clause-asks c =
+    inr (record { fault = NoMemory; told = refl; framed = λ same. cc; cause = tt; sound = λ same. cc })
+
 -- nothing came of it
 pub returns-in_err-asked-clause-asks : goal.returns-in_err-asked-clause-asks
 returns-in_err-asked-clause-asks c =
-    let opened = c.in-Ok.ensures.ok in
-    let has = c.in-Ok.ensures.file refl in
-    let rests = c.a_kernel_opens_at_rest.ensures sha_key _ _ _ _ _ c.in-Ok.kernel opened refl has.0 has.1
+    let opened = c.in-Ok-open.ensures.ok in
+    let has = c.in-Ok-open.ensures.file refl in
+    let rests = c.a_kernel_opens_at_rest.ensures sha_key _ _ _ _ _ c.in-Ok-open.kernel opened refl has.0 has.1
     (omega arith) (omega arith) in
     let stands : Stands c.args.caller has.0 c.new-2.result =
     rw c.new-2.ensures (record { rests = rests; seated = opened.callers }) in
@@ -24,9 +30,9 @@ returns-in_err-asked-clause-asks c =
 -- the file that it leaves has other pages
 pub returns-then-pages-clause-asks : goal.returns-then-pages-clause-asks
 returns-then-pages-clause-asks c =
-    let opened = c.in-Ok.ensures.ok in
-    let has = c.in-Ok.ensures.file refl in
-    let rests = c.a_kernel_opens_at_rest.ensures sha_key _ _ _ _ _ c.in-Ok.kernel opened refl has.0 has.1
+    let opened = c.in-Ok-open.ensures.ok in
+    let has = c.in-Ok-open.ensures.file refl in
+    let rests = c.a_kernel_opens_at_rest.ensures sha_key _ _ _ _ _ c.in-Ok-open.kernel opened refl has.0 has.1
     (omega arith) (omega arith) in
     let stands : Stands c.args.caller has.0 c.new-2.result =
     rw c.new-2.ensures (record { rests = rests; seated = opened.callers }) in
@@ -42,9 +48,9 @@ returns-then-pages-clause-asks c =
 -- it was asked
 pub returns-clause-asks : goal.returns-clause-asks
 returns-clause-asks c =
-    let opened = c.in-Ok.ensures.ok in
-    let has = c.in-Ok.ensures.file refl in
-    let rests = c.a_kernel_opens_at_rest.ensures sha_key _ _ _ _ _ c.in-Ok.kernel opened refl has.0 has.1
+    let opened = c.in-Ok-open.ensures.ok in
+    let has = c.in-Ok-open.ensures.file refl in
+    let rests = c.a_kernel_opens_at_rest.ensures sha_key _ _ _ _ _ c.in-Ok-open.kernel opened refl has.0 has.1
     (omega arith) (omega arith) in
     let stands : Stands c.args.caller has.0 c.new-2.result =
     rw c.new-2.ensures (record { rests = rests; seated = opened.callers }) in

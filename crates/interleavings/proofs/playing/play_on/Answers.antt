@@ -23,8 +23,8 @@ returns-clause-headline g c = λ true_to_it.
     (c.an_opened_kernel_refines.ensures (g.K.PseudoKey.of_key c.args.keys) c.args.keys
     (g.D.PageDevice.content c.args.device) (g.D.PageDevice.is_honest c.args.device) c.args.callers.now c.args.frames
     c.in_ok-kernel.kernel c.in_ok-kernel.ensures.ok true_to_it (c.in_ok-kernel.ensures.file true_to_it)
-    c.requires.some c.requires.few) c.a_refining_kernel_answers_as_plain_lists.ensures
-    c.a_refining_kernel_closes_on_its_file.ensures
+    c.requires.some c.requires.few) c.a_step_does_what_its_seat_is_told.ensures c.steps_refine.ensures
+    c.a_refining_kernel_answers_as_plain_lists.ensures c.a_refining_kernel_closes_on_its_file.ensures
 
 pub returns-clause-played : goal.returns-clause-played
 returns-clause-played g c =

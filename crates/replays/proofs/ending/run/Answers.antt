@@ -1,4 +1,4 @@
-use Rattle.std.proofs.Common.{◌≡◌, ◌++◌, ◌∙◌, [], sym, ap, subst, append-nil, Bool, false, List, Option}
+use Rattle.std.proofs.Common.{◌≡◌, ◌∙◌, [], sym, ap, subst, append-nil, Bool, false, List, Option}
 use Rattle.bucket_page.specs.declared.pseudokey.ShaKey.{ShaKey}
 use Rattle.interleavings.proofs.of_interleaving_core.SparedLemmas.{stored_kept}
 use Rattle.interleavings.specs.interleaving_core.Kernel.{KernelState}

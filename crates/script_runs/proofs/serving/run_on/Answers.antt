@@ -57,8 +57,8 @@ returns-clause-served g c =
                 (subst (λ (b : Bool). IsTrue b) (sym still) honest));
           };
       unwritten = c.end_kernel-device.ensures.unwritten;
-      before = λ away few. c.end_kernel-device.ensures.unwritten away
-          ∙ stored_before c.args.script.now _ _ first last for c.run-so_far.ensures.stored few;
+      before = λ away. c.end_kernel-device.ensures.unwritten away
+          ∙ stored_before c.args.script.now _ _ first last for c.run-so_far.ensures.stored;
     })
 
 -- it was not opened

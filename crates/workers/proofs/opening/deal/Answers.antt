@@ -1,6 +1,6 @@
-use Rattle.std.proofs.Common.{◌≡◌, ◌<◌, ◌≤◌, ◌+◌, [], ◌∷◌, ◌++◌, length, refl, sym, ap, ◌∙◌, vec_capacity, rules, arith}
+use Rattle.std.proofs.Common.{◌≡◌, ◌<◌, ◌≤◌, [], ◌∷◌, ◌++◌, length, refl, ap, ◌∙◌, vec_capacity, arith}
 use Rattle.std.proofs.lemmas.Grind.{common_steps}
-use Rattle.workers.proofs.OpenLemmas.{IsDealing, dealing_goes, free_at, many_newcomers, seated_newcomer}
+use Rattle.workers.proofs.OpenLemmas.{dealing_goes, free_at, many_newcomers, seated_newcomer}
 use Rattle.workers.proofs.opening.deal.Goals as goal
 
 pub loop-place-init : goal.loop-place-init

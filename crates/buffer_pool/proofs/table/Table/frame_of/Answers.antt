@@ -1,9 +1,8 @@
--- The frame of a page is one of the table.
-use Rattle.std.proofs.Common.{◌∙◌, sym}
-use Rattle.buffer_pool.proofs.TableLemmas.{within_if_found}
+-- The frame of a page holds it.
+use Rattle.std.proofs.Common.{rules, ◌∙◌, sym, subst, IsSome}
 use Rattle.buffer_pool.proofs.table.Table.frame_of.Goals as goal
 
-pub returns-clause-within : goal.returns-clause-within
-returns-clause-within c =
-    within_if_found _ c.in-Some.frame c.args.page
-    (c.keeps_whole.ensures.in_frame c.args.page c.in-Some.frame (sym c.place.ensures ∙ c.in-Some.is))
+pub returns-clause-held : goal.returns-clause-held
+returns-clause-held c =
+    subst IsSome (sym (c.keeps_whole.ensures.in_frame c.args.page c.in-Some.frame (sym c.place.ensures ∙ c.in-Some.is)))
+    (search rules)

@@ -1,7 +1,7 @@
 -- The page that was in the frame is not pinned, so it may go.
-use Rattle.std.proofs.Common.{◌∙◌, sym, None}
+use Rattle.std.proofs.Common.{◌∙◌, refl, sym, None}
 use Rattle.std.proofs.lemmas.List.{get_or_default}
-use Rattle.buffer_pool.proofs.FilledLemmas.{IsKept-moved_in, filled_again, filled_next}
+use Rattle.buffer_pool.proofs.GivenLemmas.{IsKept-again, IsKept-next, given_next}
 use Rattle.buffer_pool.proofs.TableLemmas.{within_if_found}
 use Rattle.buffer_pool.proofs.table.Table.move_in.Goals as goal
 
@@ -20,12 +20,22 @@ invariant_of-self c =
     let outside = rw (← c.self.view_is) at c.requires.outside in
     let read = get_or_default c.self.inside.pages.items c.args.frame None c.index.result.now in_range
     ∙ sym c.index.ensures in
-    rw (c.forget.ensures, ← read)
-    (IsKept-moved_in _ _ _ _ _ c.args.frame c.args.page c.args.payload c.self.invariant in_range free on_device outside
-    (filled_next _ _ c.args.frame c.args.page c.self.invariant.holding in_range c.if-frame-self.true))
+    let next = c.if-frame-len.true ∙ c.len.ensures ∙ c.self.inside.payloads.ok.0 in
+    rw (c.push_reserved.ensures.items, c.push_reserved.ensures.capacity, c.forget.ensures, ← read)
+    (IsKept-next c.self.inside.payloads.items _ refl c.args.frame c.args.payload _ _ _ c.self.invariant c.args.page
+    in_range free on_device outside next)
 
-pub invariant_of-self-else-frame-self : goal.invariant_of-self-else-frame-self
-invariant_of-self-else-frame-self c =
+pub returns-then-frame-len : goal.returns-then-frame-len
+returns-then-frame-len c =
+    let in_range = rw (← c.self.view_is) at c.requires.frame in
+    let read = get_or_default c.self.inside.pages.items c.args.frame None c.index.result.now in_range
+    ∙ sym c.index.ensures in
+    let next = c.if-frame-len.true ∙ c.len.ensures ∙ c.self.inside.payloads.ok.0 in
+    rw (← c.self.view_is, c.push_reserved.ensures.items, c.forget.ensures, ← read)
+    (given_next c.self.inside.payloads.items _ refl c.args.frame c.args.payload c.args.page in_range next)
+
+pub invariant_of-self-else-frame-len : goal.invariant_of-self-else-frame-len
+invariant_of-self-else-frame-len c =
     let in_range = rw (← c.self.view_is) at c.requires.frame in
     let free = rw (← c.self.view_is) at c.requires.free in
     let next = rw (← c.self.view_is) at c.requires.next in
@@ -33,6 +43,7 @@ invariant_of-self-else-frame-self c =
     let outside = rw (← c.self.view_is) at c.requires.outside in
     let read = get_or_default c.self.inside.pages.items c.args.frame None c.index.result.now in_range
     ∙ sym c.index.ensures in
+    let last = c.len.ensures ∙ c.self.inside.payloads.ok.0 in
     rw (c.forget.ensures, ← read)
-    (IsKept-moved_in _ _ _ _ _ c.args.frame c.args.page c.args.payload c.self.invariant in_range free on_device outside
-    (filled_again _ _ c.args.frame c.args.page c.self.invariant.holding in_range next c.if-frame-self.false))
+    (IsKept-again c.self.inside.payloads.items _ refl c.args.frame c.args.payload _ _ _ c.self.invariant c.args.page
+    in_range free on_device outside next (λ same. c.if-frame-len.false (same ∙ sym last)))

@@ -16,6 +16,7 @@ invariant_of-self c =
     let first = count_pinned-first _ kept.whole c.args.page c.index-pins.result.now within none in
     record {
       whole = IsWhole-with_pins _ kept.whole c.args.page _ place;
+      roomy = kept.roomy;
       even_used = kept.even_used;
       counted = ap (λ n. n + 1) kept.counted ∙ sym first;
       holding = kept.holding;

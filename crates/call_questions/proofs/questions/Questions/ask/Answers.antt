@@ -1,5 +1,5 @@
 -- The first step of the question that is asked next.
-use Rattle.std.proofs.Common.{sym, ap, ◌∙◌, ◌≤◌, ◌+◌, subst, arith, Some, None, false}
+use Rattle.std.proofs.Common.{sym, ap, ◌∙◌, subst, Some, None, false}
 use Rattle.record_access.specs.Accesses.{AccessView}
 use Rattle.call_questions.specs.Words.{RecordKey, ToFind, begun, name_turn, names_for}
 use Rattle.call_questions.specs.Questions.{QuestionsView}
@@ -12,8 +12,6 @@ returns g c =
     let none = ap (λ (v : QuestionsView). v.question) c.self.view_is ∙ c.requires.none in
     let turn = ap (λ (v : QuestionsView). name_turn v.names (names_for c.args.call.now v.inquiry)) c.self.view_is
     ∙ c.requires.names in
-    let more : c.saturating_add-self-inside.result ≤ c.self.inside.finds + 1 =
-    let e = c.saturating_add-self-inside.ensures in omega (arith, e) in
     let access = c.begin_find.ensures.value
     ∙ ap (λ (k : RecordKey). begun (ToFind k) c.of.result) c.key_asked-key.ensures in
     let made = subst (λ (a : AccessView). MakesQuestions (g.K.PseudoKey.of_key c.args.keys.now) c.args.seat
@@ -22,11 +20,11 @@ returns g c =
       room = c.self.inside.room;
       names = c.self.inside.names;
       question = Some (record { access = a; told = false });
-      finds = c.saturating_add-self-inside.result;
+      finds = c.self.inside.finds;
     }) c.go_on-did.new.self c.args.pool.now c.go_on-did.new.pool c.args.locks.now c.go_on-did.new.locks) access
     c.go_on-did.ensures in
     rw (← c.self.view_is, none) (first_step _ c.args.seat c.args.call.now c.self.inside.inquiry c.self.inside.room
-    c.self.inside.names c.self.inside.finds c.saturating_add-self-inside.result more c.in-Some.wanted
+    c.self.inside.names c.self.inside.finds c.in-Some.wanted
     (sym c.wants.ensures ∙ c.in-Some.is) turn c.of.result
     (sym (ap (g.K.PseudoKey.of_key c.args.keys.now) c.key_asked-key.ensures) ∙ sym c.of.ensures) c.args.pool.now
     c.args.locks.now c.go_on-did.result c.go_on-did.new.self c.go_on-did.new.pool c.go_on-did.new.locks made
@@ -37,8 +35,6 @@ returns-then-is_blocked g c =
     let none = ap (λ (v : QuestionsView). v.question) c.self.view_is ∙ c.requires.none in
     let turn = ap (λ (v : QuestionsView). name_turn v.names (names_for c.args.call.now v.inquiry)) c.self.view_is
     ∙ c.requires.names in
-    let more : c.saturating_add-self-inside.result ≤ c.self.inside.finds + 1 =
-    let e = c.saturating_add-self-inside.ensures in omega (arith, e) in
     let access = c.begin_find.ensures.value
     ∙ ap (λ (k : RecordKey). begun (ToFind k) c.of.result) c.key_asked-key.ensures in
     let made = subst (λ (a : AccessView). MakesQuestions (g.K.PseudoKey.of_key c.args.keys.now) c.args.seat
@@ -47,11 +43,11 @@ returns-then-is_blocked g c =
       room = c.self.inside.room;
       names = c.self.inside.names;
       question = Some (record { access = a; told = false });
-      finds = c.saturating_add-self-inside.result;
+      finds = c.self.inside.finds;
     }) c.go_on-did.new.self c.args.pool.now c.go_on-did.new.pool c.args.locks.now c.go_on-did.new.locks) access
     c.go_on-did.ensures in
     let same = not_begun (g.K.PseudoKey.of_key c.args.keys.now) c.args.seat c.args.call.now c.self.inside.inquiry
-    c.self.inside.room c.self.inside.names c.self.inside.finds c.saturating_add-self-inside.result more c.in-Some.wanted
+    c.self.inside.room c.self.inside.names c.self.inside.finds c.in-Some.wanted
     (sym c.wants.ensures ∙ c.in-Some.is) turn c.of.result
     (sym (ap (g.K.PseudoKey.of_key c.args.keys.now) c.key_asked-key.ensures) ∙ sym c.of.ensures) c.args.pool.now
     c.args.locks.now c.go_on-did.result c.go_on-did.new.self c.go_on-did.new.pool c.go_on-did.new.locks made
@@ -63,6 +59,6 @@ returns-then-is_blocked g c =
       names = c.self.inside.names;
       question = None;
       finds = c.self.inside.finds;
-    }) (record v { question = None; finds = c.self.inside.finds }) c.args.pool.now c.go_on-did.new.pool
+    }) (record v { question = None }) c.args.pool.now c.go_on-did.new.pool
     c.args.locks.now c.go_on-did.new.locks)
     (sym c.self-2.view_is) same)

@@ -22,7 +22,7 @@ invariant_of-self g c =
       searches = c.self.inside.searches;
     } in
     read_whole old c.self.invariant c.args.page c.in-Ok.frame c.pin.new.self c.unpin.new.self c.in-Ok.ensures.ok.0
-    c.in-Ok.ensures.ok.1 c.in-Ok.ensures.pins c.in-Ok.ensures.keeps.keeps c.in-Ok.ensures.cause.later c.unpin.ensures
+    c.in-Ok.ensures.ok.1 c.in-Ok.ensures.pins c.in-Ok.ensures.keeps c.in-Ok.ensures.cause.later c.unpin.ensures
 
 pub returns-in-Ok : goal.returns-in-Ok
 returns-in-Ok g c =
@@ -42,7 +42,7 @@ returns-in-Ok g c =
     subst (λ (k : KernelState g.row.K.Denot). IsRead c.args.page c.seal-bytes.result k
     (record old { pool = c.unpin.new.self })) c.self.view_is
     (page_read old c.self.invariant c.args.page c.in-Ok.frame c.pin.new.self c.unpin.new.self c.in-Ok.ensures.ok.0
-    c.in-Ok.ensures.ok.1 c.in-Ok.ensures.pins c.in-Ok.ensures.keeps.keeps c.in-Ok.ensures.cause.later c.unpin.ensures
+    c.in-Ok.ensures.ok.1 c.in-Ok.ensures.pins c.in-Ok.ensures.keeps c.in-Ok.ensures.cause.later c.unpin.ensures
     c.seal-bytes.result c.image.result.now c.image.ensures (c.seal-bytes.ensures.payload ∙ c.payload.ensures)
     c.seal-bytes.ensures.sealed)
 
@@ -64,5 +64,5 @@ returns-in-Err g c =
     subst (λ (k : KernelState g.row.K.Denot). FailsToRead c.args.page c.in-Err.fault k c.fail.new.self) c.self.view_is
     (fails_to_read old c.fail.new.self c.args.page c.in-Err.fault c.pin.new.self c.self.invariant
     (subst (λ (k : KernelState g.row.K.Denot). c.args.page < length k.pool.images) (sym c.self.view_is)
-    c.requires.within) c.fail.ensures c.in-Err.ensures.pins c.in-Err.ensures.keeps.keeps c.in-Err.ensures.past.0
+    c.requires.within) c.fail.ensures c.in-Err.ensures.pins c.in-Err.ensures.keeps c.in-Err.ensures.past.0
     c.in-Err.ensures.crowded.0 c.in-Err.ensures.cause)

@@ -6,7 +6,9 @@ use Rattle.step_rules.specs.Turns.{Ask}
 use Rattle.record_file.specs.Words.{Remove, Known, Turn, Nears, Sees, Step, with_row, store_of}
 use Rattle.record_file.specs.Deletes.{part}
 use Rattle.bucket_merge.proofs.of_stale_search.StayLemmas.{Stays-of}
-use Rattle.record_file.specs.Removals.{RemovalView, removal_facts, removal_left, removal_locks, removal_turn}
+use Rattle.record_file.specs.BucketAccesses.{BucketView, ask_in, bucket_facts, bucket_left, bucket_locks, found_of}
+use Rattle.record_file.specs.declared.bucket_access.Deed.TheVariants as deeds
+use Rattle.record_file.proofs.StepLemmas.{fault_spares, leaves_search}
 use Rattle.record_file.proofs.AnswerLemmas.{nears_on}
 use Rattle.record_file.proofs.PartLemmas.{begun_left, in_merge, in_removal, merges_on, nears_more, not_ended, not_over, passed_facts, passed_left, passed_locks, still_begun, turned_before}
 use Rattle.record_file.proofs.delete.Delete.step.Goals as goal
@@ -22,9 +24,13 @@ step-requires-clause-row g c =
       before = r.before;
       bare = r.bare;
       room = (let room = r.room in omega (arith, room));
-      is = r.is ∙ in_removal (removal_locks c.self.inside.removal r.before) r.before
+      is = r.is ∙ in_removal (bucket_locks c.self.inside.removal r.before) r.before
           (merge_locks c.self.inside.merge r.before) stage none;
     }
+
+pub returns-in-None-clause-writes : goal.returns-in-None-clause-writes
+returns-in-None-clause-writes g c =
+    fault_spares deeds.Remove c.step.result c.args.pool.now c.step.new.pool c.step.ensures.writes
 
 pub returns-in-None-clause-row : goal.returns-in-None-clause-row
 returns-in-None-clause-row g c = λ before bare row.
@@ -33,7 +39,7 @@ returns-in-None-clause-row g c = λ before bare row.
     let m = c.self.inside.merge in
     let none = sym c.ended.ensures ∙ c.in-None.is in
     c.step.ensures.row before bare
-    (row' ∙ in_removal (removal_locks r before) before (merge_locks m before) r.stage none)
+    (row' ∙ in_removal (bucket_locks r before) before (merge_locks m before) r.stage none)
     ∙ ap (with_row c.args.locks.now c.args.seat)
     (passed_locks m (still_begun r.stage m c.self.invariant.waits none) c.step.new.self.stage c.step.new.self.search
     before)
@@ -45,13 +51,14 @@ returns-in-None-clause-aim g c =
     rw (← c.self.view_is) (record {
       key = c.step.ensures.aim.key;
       pseudokey = c.step.ensures.aim.pseudokey;
-      stays = Stays-of (λ (r : RemovalView). record { removal = r; merge = c.self.inside.merge }) c.step.result
+      stays = Stays-of (λ (r : BucketView). record { removal = r; merge = c.self.inside.merge }) c.step.result
           c.self.inside.removal c.step.new.self c.step.ensures.aim.stays;
       ended = (
         λ ended. absurd (not_ended stage none (c.step.ensures.aim.ended.0 ended)),
         λ over. absurd (not_over stage c.self.inside.merge.place none over),
       );
-      leaves = c.step.ensures.aim.leaves;
+      leaves = leaves_search deeds.Remove c.step.result (found_of c.self.inside.removal) stage c.step.new.self.stage
+          (λ due gave. gave.1) c.step.ensures.aim.passes;
     })
 
 pub returns-in-None-clause-progress : goal.returns-in-None-clause-progress
@@ -64,16 +71,16 @@ returns-in-None-clause-progress g c = λ hash change sees.
     let none = sym c.ended.ensures ∙ c.in-None.is in
     let begun = still_begun r.stage m c.self.invariant.waits none in
     let sees'' = subst (λ (facts : List Known). Sees hash c.args.seat facts c.args.pool.now c.args.locks.now change)
-    (in_removal (removal_facts r) [] (merge_facts m) r.stage none) sees' in
-    let near = nears_on c.step.result (merge_left m s) (removal_left r s) (removal_left c.step.new.self t)
-    c.args.pool.now c.step.new.pool (c.step.ensures.progress hash change sees'') in
-    let near' = subst (λ (n : ℕ). Nears c.step.result (removal_left r s + merge_left m s)
-    (removal_left c.step.new.self t + n) c.args.pool.now c.step.new.pool) (begun_left m begun s t) near in
+    (in_removal (bucket_facts deeds.Remove r) [] (merge_facts m) r.stage none) sees' in
+    let near = nears_on c.step.result (merge_left m s) (bucket_left deeds.Remove r s) (bucket_left deeds.Remove c.step.new.self t)
+    c.args.pool.now c.step.new.pool (c.step.ensures.progress hash change tt sees'') in
+    let near' = subst (λ (n : ℕ). Nears c.step.result (bucket_left deeds.Remove r s + merge_left m s)
+    (bucket_left deeds.Remove c.step.new.self t + n) c.args.pool.now c.step.new.pool) (begun_left m begun s t) near in
     rw (← c.self.view_is)
     (subst (λ (n : ℕ). Nears c.step.result n (part c.step.new.self.stage
-    (removal_left c.step.new.self t + merge_left m t) 0 (merge_left m t)) c.args.pool.now c.step.new.pool)
-    (sym (in_removal (removal_left r s + merge_left m s) 0 (merge_left m s) r.stage none))
-    (nears_more c.step.result (removal_left r s + merge_left m s) (removal_left c.step.new.self t + merge_left m t) _
+    (bucket_left deeds.Remove c.step.new.self t + merge_left m t) 0 (merge_left m t)) c.args.pool.now c.step.new.pool)
+    (sym (in_removal (bucket_left deeds.Remove r s + merge_left m s) 0 (merge_left m s) r.stage none))
+    (nears_more c.step.result (bucket_left deeds.Remove r s + merge_left m s) (bucket_left deeds.Remove c.step.new.self t + merge_left m t) _
     c.args.pool.now c.step.new.pool (passed_left m begun c.step.new.self.stage c.step.new.self.search t) near'))
 
 pub returns-in-None-clause-step : goal.returns-in-None-clause-step
@@ -87,16 +94,16 @@ returns-in-None-clause-step g c = λ hash change before bare owns row keyed sees
     let none = sym c.ended.ensures ∙ c.in-None.is in
     let begun = still_begun r.stage m c.self.invariant.waits none in
     let sees'' = subst (λ (facts : List Known). Sees hash c.args.seat facts c.args.pool.now c.args.locks.now change)
-    (in_removal (removal_facts r) [] (merge_facts m) r.stage none) sees' in
-    let done = c.step.ensures.step hash change before bare owns'
-    (row' ∙ in_removal (removal_locks r before) before (merge_locks m before) r.stage none) keyed' sees'' fine in
+    (in_removal (bucket_facts deeds.Remove r) [] (merge_facts m) r.stage none) sees' in
+    let done = c.step.ensures.step hash change before bare (keyed', owns')
+    (row' ∙ in_removal (bucket_locks r before) before (merge_locks m before) r.stage none) tt sees'' fine in
     let removing : Option Ask → Turn = λ (ask : Option Ask). record { ask = ask; write = Some (Remove r.search.key) } in
     rw (← c.self.view_is)
     (subst (λ (ask : Option Ask). Step hash c.args.seat (removing ask) c.step.result
-    (part c.step.new.self.stage (removal_facts c.step.new.self) [] (merge_facts m)) c.args.pool.now c.step.new.pool
+    (part c.step.new.self.stage (bucket_facts deeds.Remove c.step.new.self) [] (merge_facts m)) c.args.pool.now c.step.new.pool
     c.args.locks.now c.step.new.locks change)
-    (sym (in_removal (removal_turn r).ask None (merge_turn m).ask r.stage none))
-    (subst (λ (facts : List Known). Step hash c.args.seat (removal_turn r) c.step.result facts c.args.pool.now
+    (sym (in_removal (ask_in r.stage r.search) None (merge_turn m).ask r.stage none))
+    (subst (λ (facts : List Known). Step hash c.args.seat (removing (ask_in r.stage r.search)) c.step.result facts c.args.pool.now
     c.step.new.pool c.args.locks.now c.step.new.locks change)
     (passed_facts m begun c.step.new.self.stage c.step.new.self.search) done))
 
@@ -108,7 +115,7 @@ returns-in-None-clause-answer g c = λ hash change keyed sees fine.
     let m = c.self.inside.merge in
     let none = sym c.ended.ensures ∙ c.in-None.is in
     let sees'' = subst (λ (facts : List Known). Sees hash c.args.seat facts c.args.pool.now c.args.locks.now change)
-    (in_removal (removal_facts r) [] (merge_facts m) r.stage none) sees' in
+    (in_removal (bucket_facts deeds.Remove r) [] (merge_facts m) r.stage none) sees' in
     let a = c.step.ensures.answer hash change keyed' sees'' fine in
     rw (← c.self.view_is) (a.0, a.1, λ no is. absurd (let f : true ≡ false = sym is ∙ no in cc))
 
@@ -124,14 +131,14 @@ returns-in-Some-true-clause-progress g c = λ hash change sees.
     let is = sym c.ended.ensures ∙ c.in-Some-true.is
     ∙ ap (λ (b : Bool). Some b) c.in-Some-true.field-0-test in
     let sees'' = subst (λ (facts : List Known). Sees hash c.args.seat facts c.args.pool.now c.args.locks.now change)
-    (in_merge (removal_facts r) [] (merge_facts m) r.stage is) sees' in
+    (in_merge (bucket_facts deeds.Remove r) [] (merge_facts m) r.stage is) sees' in
     rw (← c.self.view_is)
     (subst (λ (n : ℕ). Nears c.step-in-Some-true.result n
-    (part r.stage (removal_left r t + merge_left c.step-in-Some-true.new.self t) 0
+    (part r.stage (bucket_left deeds.Remove r t + merge_left c.step-in-Some-true.new.self t) 0
     (merge_left c.step-in-Some-true.new.self t)) c.args.pool.now c.step-in-Some-true.new.pool)
-    (sym (in_merge (removal_left r s + merge_left m s) 0 (merge_left m s) r.stage is))
+    (sym (in_merge (bucket_left deeds.Remove r s + merge_left m s) 0 (merge_left m s) r.stage is))
     (subst (λ (n : ℕ). Nears c.step-in-Some-true.result (merge_left m s) n c.args.pool.now c.step-in-Some-true.new.pool)
-    (sym (in_merge (removal_left r t + merge_left c.step-in-Some-true.new.self t) 0
+    (sym (in_merge (bucket_left deeds.Remove r t + merge_left c.step-in-Some-true.new.self t) 0
     (merge_left c.step-in-Some-true.new.self t) r.stage is))
     (c.step-in-Some-true.ensures.progress hash change sees'')))
 
@@ -146,10 +153,10 @@ returns-in-Some-true-clause-step g c = λ hash change before bare owns row keyed
     let is = sym c.ended.ensures ∙ c.in-Some-true.is
     ∙ ap (λ (b : Bool). Some b) c.in-Some-true.field-0-test in
     let sees'' = subst (λ (facts : List Known). Sees hash c.args.seat facts c.args.pool.now c.args.locks.now change)
-    (in_merge (removal_facts r) [] (merge_facts m) r.stage is) sees' in
+    (in_merge (bucket_facts deeds.Remove r) [] (merge_facts m) r.stage is) sees' in
     let keyed'' = ap hash c.self.invariant.key ∙ keyed' ∙ sym c.self.invariant.pseudokey in
     let done = (c.step-in-Some-true.ensures.step hash change before keyed'' bare
-    (row' ∙ in_merge (removal_locks r before) before (merge_locks m before) r.stage is) sees'' fine).step in
+    (row' ∙ in_merge (bucket_locks r before) before (merge_locks m before) r.stage is) sees'' fine).step in
     rw (← c.self.view_is) (merges_on hash c.args.seat c.step-in-Some-true.result c.args.pool.now
     c.step-in-Some-true.new.pool c.args.locks.now c.step-in-Some-true.new.locks change r m m'
     c.self.invariant.key is done)
@@ -163,7 +170,7 @@ returns-in-Some-true-clause-answer g c = λ hash change keyed sees fine.
     let is = sym c.ended.ensures ∙ c.in-Some-true.is
     ∙ ap (λ (b : Bool). Some b) c.in-Some-true.field-0-test in
     let sees'' = subst (λ (facts : List Known). Sees hash c.args.seat facts c.args.pool.now c.args.locks.now change)
-    (in_merge (removal_facts r) [] (merge_facts m) r.stage is) sees' in
+    (in_merge (bucket_facts deeds.Remove r) [] (merge_facts m) r.stage is) sees' in
     let keyed'' = ap hash c.self.invariant.key ∙ keyed' ∙ sym c.self.invariant.pseudokey in
     rw (← c.self.view_is) (
       inl refl,

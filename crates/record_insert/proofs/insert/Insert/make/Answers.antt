@@ -14,7 +14,7 @@ returns-then-is_some g c =
     let e = c.step-did.ensures in
     rw (← c.self.view_is, c.in-First.is) (says_on _ c.args.seat i.key i.pseudokey c.args.value.now c.args.pool.now
     c.step-did.new.pool c.args.locks.now c.step-did.new.locks c.step-did.result c.in-First.first c.step-did.new.self
-    c.in-First.said inv e.writes e.aim e.row e.progress e.step e.answer)
+    c.in-First.said inv e)
 
 pub returns-in-Moved-WriteRecord : goal.returns-in-Moved-WriteRecord
 returns-in-Moved-WriteRecord g c =
@@ -26,7 +26,7 @@ returns-in-Moved-WriteRecord g c =
     let e = c.step-did.ensures in
     rw (← c.self.view_is, c.in-First.is) (has_put _ c.args.seat i.key i.pseudokey c.args.value.now c.args.pool.now
     c.step-did.new.pool c.args.locks.now c.step-did.new.locks c.step-did.result c.in-First.first c.step-did.new.self
-    c.in-First.said inv e.writes e.aim e.row e.progress e.step e.answer none
+    c.in-First.said inv e none
     (subst (λ (kind : Kind). c.step-did.result ≡ Moved kind) wrote c.in-Moved-WriteRecord.is))
 
 pub returns-then-is_there : goal.returns-then-is_there
@@ -38,29 +38,29 @@ returns-then-is_there g c =
     let e = c.step-did.ensures in
     rw (← c.self.view_is, c.in-First.is) (has_seen _ c.args.seat i.key i.pseudokey c.args.value.now c.args.pool.now
     c.step-did.new.pool c.args.locks.now c.step-did.new.locks c.step-did.result c.in-First.first c.step-did.new.self
-    c.in-First.said inv e.writes e.aim e.row e.progress e.step e.answer none
+    c.in-First.said inv e none
     (sym there ∙ c.if-is_there.true))
 
-pub returns-then-is_ended : goal.returns-then-is_ended
-returns-then-is_ended g c =
+pub returns-then-has_ended : goal.returns-then-has_ended
+returns-then-has_ended g c =
     let i = c.self.inside in
     let inv = rw c.in-First.is at c.self.invariant in
     let none = none_said c.in-First.said (sym c.is_some.ensures ∙ c.if-is_some.false) in
-    let over = rw c.stage.ensures at c.is_ended.ensures in
+    let over = c.has_ended.ensures.ended in
     let e = c.step-did.ensures in
     rw (← c.self.view_is, c.in-First.is, c.new-second.ensures) (passes_on _ c.args.seat i.key i.pseudokey
     c.args.value.now c.args.pool.now c.step-did.new.pool c.args.locks.now c.step-did.new.locks c.step-did.result
-    c.in-First.first c.step-did.new.self c.in-First.said inv e.writes e.aim e.row e.progress e.step e.answer none
-    (sym over ∙ c.if-is_ended.true))
+    c.in-First.first c.step-did.new.self c.in-First.said inv e none
+    (sym over ∙ c.if-has_ended.true))
 
-pub returns-else-is_ended : goal.returns-else-is_ended
-returns-else-is_ended g c =
+pub returns-else-has_ended : goal.returns-else-has_ended
+returns-else-has_ended g c =
     let i = c.self.inside in
     let inv = rw c.in-First.is at c.self.invariant in
     let e = c.step-did.ensures in
     rw (← c.self.view_is, c.in-First.is) (says_on _ c.args.seat i.key i.pseudokey c.args.value.now c.args.pool.now
     c.step-did.new.pool c.args.locks.now c.step-did.new.locks c.step-did.result c.in-First.first c.step-did.new.self
-    c.in-First.said inv e.writes e.aim e.row e.progress e.step e.answer)
+    c.in-First.said inv e)
 
 -- ---- the second try
 

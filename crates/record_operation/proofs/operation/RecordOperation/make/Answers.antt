@@ -4,12 +4,8 @@ use Rattle.record_operation.proofs.operation.RecordOperation.make.Goals as goal
 
 pub returns-in-Find : goal.returns-in-Find
 returns-in-Find g c =
-    let e = c.step.ensures in
     rw (c.in-Find.is) (find_makes _ c.args.seat c.args.bytes.now c.step.result c.args.pool.now c.step.new.pool
-    c.args.locks.now c.step.new.locks c.in-Find.find c.step.new.self e.reads e.aim e.row
-    (λ change sees. e.progress _ change sees)
-    (λ change before bare here sees fine. e.step _ change before bare here sees fine)
-    (λ change keyed sees fine. e.answer _ change keyed sees fine))
+    c.args.locks.now c.step.new.locks c.in-Find.find c.step.new.self c.step.ensures)
 
 pub returns-in-Insert : goal.returns-in-Insert
 returns-in-Insert g c =
@@ -18,16 +14,14 @@ returns-in-Insert g c =
     c.step-in-Insert.new.pool c.args.locks.now c.step-in-Insert.new.locks c.in-Insert.insert c.step-in-Insert.new.self
     e.writes e.aim e.row e.progress e.step e.answer)
 
+pub step-requires-in-Replace-clause-kind : goal.step-requires-in-Replace-clause-kind
+step-requires-in-Replace-clause-kind g c = rw c.in-Replace.is at c.requires.lent
+
 pub returns-in-Replace : goal.returns-in-Replace
 returns-in-Replace g c =
-    let e = c.step-in-Replace.ensures in
     rw (c.in-Replace.is) (replace_makes _ c.args.seat c.args.bytes.now c.step-in-Replace.result c.args.pool.now
     c.step-in-Replace.new.pool c.args.locks.now c.step-in-Replace.new.locks c.in-Replace.replace
-    c.step-in-Replace.new.self e.writes e.aim e.row
-    (λ change keyed front sees. e.progress _ change keyed front sees)
-    (λ change before bare owns here keyed front sees fine.
-    e.step _ change before bare owns here keyed front sees fine)
-    (λ change keyed sees fine. e.answer _ change keyed sees fine))
+    c.step-in-Replace.new.self c.step-in-Replace.ensures)
 
 pub returns-in-Delete : goal.returns-in-Delete
 returns-in-Delete g c =

@@ -15,7 +15,8 @@ returns-then-not-is_end g c =
     c.self.inside.undecided c.step-did.new.self
     (stage_at c.self.inside.phase c.self.inside.payment c.self.inside.conclusion) c.args.self.now c.self.view_is
     c.requires.undecided c.step-did.result c.args.pool.now c.step-did.new.pool c.args.locks.now c.step-did.new.locks
-    (sym c.is_end.ensures ∙ c.if-not-is_end.true) e.aim.most e.writes e.row e.progress e.step
+    (sym c.is_end.ensures ∙ c.if-not-is_end.true) e.aim.most e.aim.finds e.writes e.row
+    e.progress e.step
 
 pub returns-in_default : goal.returns-in_default
 returns-in_default g c =

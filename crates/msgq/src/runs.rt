@@ -1,0 +1,138 @@
+//! Scripts run on the file of a device, a thread a seat.
+
+ghost use Rattle.std.specs.Prelude.{◌≡◌, ℕ, length};
+ghost use Rattle.bucket_page.specs.Pseudokeys.{sha_key};
+ghost use Rattle.msgq_cli.specs.Scripts.{greatest_seat};
+ghost use Rattle.threaded_runs.specs.Beside.{RunsFrom, RunsScriptOn};
+ghost use Rattle.threaded_runs.specs.Desks.{IsPlanOf};
+ghost use Rattle.workers.specs.Opening.{origin_of};
+
+use crate::crew::{ThreadASeat, make_all};
+use interleaving_core::OpenFault;
+use msgq_cli::{Output, Script};
+use page_device::PageDevice;
+use replays::{FileKeys, Ran, leave_refused, tell_end};
+use std::io::{Eprint, Write};
+use std::marker::Brand;
+use std::sync::Wait;
+use std::thread::Threads;
+use std::time::Clock;
+use threaded_runs::{Plan, at_desks, end_service, is_of_one_seat, prepare, print_all, seats_of};
+use workers::{Base, Open, Prepared, Room};
+
+/// Runs a script on the file of a device, the lines of each seat in a thread of its own, and closes
+/// the file once all answers were handed on.
+///
+/// The file is checked first: the first thing that is wrong with it is told by its number alone,
+/// and fault 60 alone where there is no memory to begin. Each seat makes its lines in their order,
+/// beside the other seats; the replies are printed in the order of the script once all have ended. A
+/// call that waits does so until another seat's line or a `stop` ends that, so a script whose calls
+/// wait for ever is never done. The lines of a seat for which no thread can be started are replied 60.
+///
+/// What the lines of a seat were answered is its part of one journal, which of an honest device is
+/// legal from the system whose file it has, and first in, first out. The file is then that of the
+/// system after it. Where a step has failed, or the output refused a write, nothing is written. Fault
+/// 62 stands after the replies where a step has failed, and 20 where the file can't be closed.
+///
+/// A script all of whose lines are of one seat is run as `script_runs::run_on` does, since nobody
+/// could end a wait.
+pub fn run_on<
+    R: Threads + Wait + Clock + Eprint + Sync,
+    D: PageDevice + Drop + Send,
+    W: Write + Drop,
+>(crew: &ThreadASeat<'_, R>, device: D, script: &Script, output: &mut Output<W>) -> Ran<D>
+    ensures { RunsScriptOn script.now (D.is_honest device)
+        (record {
+          content = D.content device;
+          left = D.content result.device;
+          was = D.fault_count device;
+          faults = D.fault_count result.device;
+          old = output.old;
+          new = output.new;
+          untold = result.is_untold;
+        }) result.ending }
+{
+    let alloc = crew.alloc();
+    if is_of_one_seat(script) {
+        return script_runs::run_on(alloc, device, script, output);
+    }
+    let Ok(plan) = Plan::new(alloc, script) else {
+        return Ran::unrun(device, leave_refused(OpenFault::NoMemory, output));
+    };
+    match prepare(alloc, device, script) {
+        Ok(prepared) => run_prepared::<Brand, R, D, W>(crew, prepared, plan, output),
+        Err((device, fault)) => Ran::unrun(device, leave_refused(fault, output)),
+    }
+}
+
+/// Runs a script on a file that was opened for its seats, on a service of this name.
+fn run_prepared<
+    N: Room + Base + Send + Sync,
+    R: Threads + Wait + Clock + Eprint + Sync,
+    D: PageDevice + Drop + Send,
+    W: Write + Drop,
+>(
+    crew: &ThreadASeat<'_, R>,
+    prepared: Prepared<D, FileKeys>,
+    plan: Plan<'_>,
+    output: &mut Output<W>,
+) -> Ran<D>
+    requires table { prepared.table ≡ N.table }
+    requires origin { origin_of (λ _. sha_key) prepared ≡ N.origin }
+    requires many { length prepared.callers ≡ greatest_seat plan.script.now.lines }
+    requires plan { IsPlanOf plan.script.now plan }
+    ensures { (was : ℕ) → RunsFrom plan.entry.script.now (origin_of (λ _. sha_key) prepared)
+        (record {
+          content = prepared.content;
+          left = D.content result.device;
+          was = was;
+          faults = D.fault_count result.device;
+          old = output.old;
+          new = output.new;
+          untold = result.is_untold;
+        }) result.ending }
+{
+    let alloc = crew.alloc();
+    let many = plan.seats.len();
+    let Ok(desks) = Vec::with_capacity(alloc, many) else {
+        return Ran::unrun(
+            prepared.abandon(),
+            leave_refused(OpenFault::NoMemory, output),
+        );
+    };
+    let Ok(back) = Vec::with_capacity(alloc, many) else {
+        return Ran::unrun(
+            prepared.abandon(),
+            leave_refused(OpenFault::NoMemory, output),
+        );
+    };
+    let mut started = match prepared.start::<Open, N>(Open) {
+        Ok(started) => started,
+        Err(device) => return Ran::unrun(device, leave_refused(OpenFault::NoMemory, output)),
+    };
+    let gauge = started.passes.pop();
+    let Plan {
+        script,
+        seats,
+        mut printed,
+    } = plan;
+    script.keeps_seats();
+    let desks = at_desks(started.seats, seats, desks);
+    let desks = make_all(crew, &started.service, gauge, desks);
+    let so_far = print_all(
+        script.lines(),
+        desks.as_slice(),
+        printed.as_mut_slice(),
+        output,
+    );
+    output.flush();
+    let is_untold = output.has_refused();
+    let (ended, fault) = end_service(started.service, seats_of(desks, back), is_untold);
+    let ending = tell_end(fault, so_far, output);
+    Ran {
+        device: ended.device,
+        failure: ended.failure,
+        is_untold,
+        ending,
+    }
+}

@@ -1,0 +1,12 @@
+//! What an insert comes to.
+
+/// What an insert has come to.
+#[derive(Clone, Copy, Debug, PartialEq, Eq)]
+pub enum Tried {
+    /// The record was put.
+    IsPut,
+    /// The key had a record.
+    IsThere,
+    /// Its bucket had no room.
+    IsFull,
+}

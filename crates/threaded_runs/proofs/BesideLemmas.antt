@@ -1,0 +1,129 @@
+-- What a run told, beside the journal of its service.
+use Rattle.std.proofs.Common.{◌≡◌, ◌<◌, ◌≤◌, ℕ, zero, suc, ◌+◌, Bool, true, false, inl, inr, List, [], ◌∷◌, Option, length, map, refl, sym, ap, ◌∙◌, subst, append-nil, arith}
+use Rattle.std.specs.Prelude.{slice_index_or}
+use Rattle.msgq_cli.proofs.OutputLemmas.{Prints-then}
+use Rattle.faults.specs.declared.TheConstants.{NO_MEMORY}
+use Rattle.bucket_page.specs.Pseudokeys.{sha_key}
+use Rattle.bucket_page.specs.declared.pseudokey.ShaKey.{ShaKey}
+use Rattle.interleavings.specs.interleaving_core.declared.fault.OpenFault.TheVariants.{NoMemory}
+use Rattle.msgq_cli.specs.Outputs.{OutputState, Prints}
+use Rattle.msgq_cli.specs.Refusals.{IsFaultAlone}
+use Rattle.msgq_cli.specs.Runs.{printed}
+use Rattle.msgq_cli.specs.Scripts.{Parts, greatest_seat}
+use Rattle.msgq_cli.specs.declared.ending.Ending.{Ending}
+use Rattle.msgq_cli.specs.declared.reply.Reply.{Reply}
+use Rattle.queue_model.specs.declared.caller.Caller.{Caller}
+use Rattle.queue_model.specs.declared.entry.Entry.{Entry}
+use Rattle.replays.specs.Replays.{EndsWith}
+use Rattle.replays.specs.Texts.{Effects}
+use Rattle.seat_passes.specs.Views.{nobody}
+use Rattle.script_runs.specs.Serves.{RunsOn}
+use Rattle.workers.specs.Opening.{PreparedView, origin_of}
+use Rattle.workers.specs.Origins.{Origin}
+use Rattle.workers.specs.Told.{Sitter}
+use Rattle.threaded_runs.proofs.PairLemmas.{HasDone, long_sitters, sitter_there, sitters}
+use Rattle.threaded_runs.specs.Beside.{HasEnded, IsPart, RunsAsOne, RunsBeside, RunsBesideOn, RunsFrom, RunsScriptOn, is_of_one_seat, origin_on, told_to}
+use Rattle.threaded_runs.specs.Desks.{DeskView, IsPreparedFor, desk_at}
+use Rattle.threaded_runs.specs.Lines.{entries_to, lines_of, replies_to}
+use Rattle.threaded_runs.specs.Printing.{IsPrintedOf}
+
+module _ (script : Parts) (made : List DeskView) (many : length made ≡ greatest_seat script.lines)
+    (done : (place : ℕ) → place < greatest_seat script.lines → HasDone script.lines place (desk_at made place)) where
+  part_at : (fault : Option ℕ) (journal : List Entry) (replies : List Reply) (place : ℕ) →
+      place < greatest_seat script.lines → IsPart fault journal (desk_at made place).sitter.seat
+      (desk_at made place).sitter.list →
+      replies_to (place + 1) script.lines replies ≡ (desk_at made place).lines.replies →
+      IsPart fault journal (place + 1) (told_to (place + 1) script.lines replies)
+  part_at fault journal replies place below its own =
+      let d = done place below in
+      subst (IsPart fault journal (place + 1))
+      (d.told ∙ ap (entries_to (lines_of (place + 1) script.lines)) (sym own))
+      (subst (λ (n : ℕ). IsPart fault journal n (desk_at made place).sitter.list) d.seat its)
+
+  parts_of : (o : Origin) (untold : Bool) (fault : Option ℕ) (journal : List Entry) (content : List (List ℕ))
+      (replies : List Reply) → HasEnded o (sitters made) untold fault journal content →
+      ((place : ℕ) → place < length made →
+      replies_to (place + 1) script.lines replies ≡ (desk_at made place).lines.replies) →
+      (seat : ℕ) → 1 ≤ seat → seat ≤ greatest_seat script.lines →
+      IsPart fault journal seat (told_to seat script.lines replies)
+  parts_of o untold fault journal content replies ended own zero some few = absurd (omega arith)
+  parts_of o untold fault journal content replies ended own (suc place) some few =
+      let long = long_sitters made in
+      let up : place + 1 ≡ suc place = omega arith in
+      let below : place < greatest_seat script.lines = omega (arith, few) in
+      let here : place < length made = omega (arith, below, many) in
+      subst (λ (n : ℕ). IsPart fault journal n (told_to n script.lines replies)) up
+      (part_at fault journal replies place below
+      (subst (λ (x : Sitter). IsPart fault journal x.seat x.list) (sitter_there made place)
+      (ended.parts place (omega (arith, here, long))))
+      (own place here))
+
+  pub beside : (o : Origin) (c : Effects) (ending so_far : Ending) (fault : Option ℕ) (journal : List Entry)
+      (first told : OutputState) → IsPrintedOf script.lines made c.old first so_far → Prints first told [] →
+      c.untold ≡ told.refused → (told.refused ≡ false → told.handed ≡ told.known) →
+      HasEnded o (sitters made) c.untold fault journal c.left → EndsWith fault told so_far c.new ending →
+      RunsBeside script o c ending
+  beside o c ending so_far fault journal first told p flushed untold handed ended ends = record {
+    replies = p.replies;
+    as_many = p.as_many;
+    journal = journal;
+    fault = fault;
+    plain = ended.plain;
+    parts = parts_of o c.untold fault journal c.left p.replies ended p.own;
+    told = told;
+    prints = subst (Prints c.old told) (append-nil (printed script.lines p.replies))
+        (Prints-then c.old first told _ [] p.prints flushed);
+    untold = untold;
+    handed = λ is. handed (sym untold ∙ is);
+    kept = ended.kept;
+    unwritten = ended.unwritten;
+    number = ended.number;
+    ends = subst (λ (e : Ending). EndsWith fault told e c.new ending) p.ends ends;
+  }
+
+-- ---- the file is not opened, or is opened for the seats
+
+pub no_room : (script : Parts) (o : Origin) (c : Effects) (ending : Ending) → c.left ≡ c.content →
+    IsFaultAlone NO_MEMORY c.old c.new ending → c.untold ≡ false → RunsFrom script o c ending
+no_room script o c ending pages alone told = inr record {
+  fault = NoMemory;
+  framed = λ is. absurd cc;
+  cause = λ honest. tt;
+  failed = λ is. absurd cc;
+  leaves = record { pages = pages; alone = alone; told = told };
+}
+
+module _ (script : Parts) (content : List (List ℕ)) (honest : Bool) (p : PreparedView ShaKey)
+    (f : IsPreparedFor script content honest p) where
+  origin_is : origin_of (λ _. sha_key) p ≡ origin_on script content honest
+  origin_is =
+      ap (λ (x : List (List ℕ)). record { content = x; honest = p.honest; hash = sha_key; callers = p.callers })
+      f.content_is
+      ∙ ap (λ (x : Bool). record { content = content; honest = x; hash = sha_key; callers = p.callers }) f.honest_is
+      ∙ ap (λ (x : List Caller). record { content = content; honest = honest; hash = sha_key; callers = x })
+      f.callers_are
+
+  pub from_prepared : (c : Effects) (ending : Ending) →
+      RunsFrom script (origin_of (λ _. sha_key) p) (record c { content = p.content }) ending →
+      RunsBesideOn script honest (record c { content = content }) ending
+  from_prepared c ending runs =
+      subst (λ (o : Origin). RunsFrom script o (record c { content = content }) ending) origin_is
+      (subst (λ (x : List (List ℕ)). RunsFrom script (origin_of (λ _. sha_key) p) (record c { content = x }) ending)
+      f.content_is runs)
+
+-- ---- by how many seats
+
+pub as_one : (script : Parts) (honest : Bool) (c : Effects) (ending : Ending) → is_of_one_seat script.lines ≡ true →
+    RunsOn script honest c ending → RunsScriptOn script honest c ending
+as_one script honest c ending one runs =
+    subst (λ (b : Bool). RunsAsOne b script honest c ending) (sym one) runs
+
+pub as_several : (script : Parts) (honest : Bool) (c : Effects) (ending : Ending) →
+    is_of_one_seat script.lines ≡ false → RunsBesideOn script honest c ending → RunsScriptOn script honest c ending
+as_several script honest c ending several runs =
+    subst (λ (b : Bool). RunsAsOne b script honest c ending) (sym several) runs
+
+pub from_origin : (script : Parts) (o other : Origin) (c : Effects) (ending : Ending) → o ≡ other →
+    RunsBeside script other c ending → RunsFrom script o c ending
+from_origin script o other c ending same runs =
+    inl (subst (λ (x : Origin). RunsBeside script x c ending) (sym same) runs)

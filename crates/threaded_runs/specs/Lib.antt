@@ -1,0 +1,4 @@
+pub mod Lines
+pub mod Desks
+pub mod Printing
+pub mod Beside

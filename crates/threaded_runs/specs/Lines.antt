@@ -1,0 +1,39 @@
+-- The lines of one seat, and what they were replied. docs/SCRIPTS.md, "Runs".
+use Rattle.std.specs.Prelude.{ℕ, ◌≡◌, ◌≤◌, ◌==◌, Bool, List, [], ◌∷◌, Some, filter, if◌then◌else◌, length, map}
+use Rattle.msgq_cli.specs.declared.line.Line.{Line}
+use Rattle.msgq_cli.specs.declared.reply.Reply.{Reply}
+use Rattle.queue_model.specs.declared.entry.Entry.{Entry}
+use Rattle.replays.specs.Journal.{entries_at}
+
+abbrev pub is_line_of : ℕ → Line → Bool
+is_line_of seat line = line.seat == seat
+
+-- the lines of a seat, in their order
+abbrev pub lines_of : ℕ → List Line → List Line
+lines_of seat lines = filter (is_line_of seat) lines
+
+-- of the replies to all lines, those to the lines of a seat
+abbrev pub replies_to : ℕ → List Line → List Reply → List Reply
+replies_to seat (line ∷ lines) (reply ∷ replies) =
+    if is_line_of seat line then reply ∷ replies_to seat lines replies else replies_to seat lines replies
+replies_to seat lines replies = []
+
+-- the entries of lines that were replied so: one for each that was answered
+abbrev pub entries_to : List Line → List Reply → List Entry
+entries_to lines replies = entries_at lines (map Some replies)
+
+-- a seat, the lines of a script, and what those of the seat that were made were replied
+pub record LinesView : Type 0 where
+  pub seat : ℕ
+  pub lines : List Line
+  pub replies : List Reply
+
+-- there is room for the replies to all of them
+pub record HasRoom (seat : ℕ) (lines : List Line) (replies : List Reply) (room : ℕ) : Type 0 where
+  pub few : length replies ≤ length (lines_of seat lines)
+  pub fits : length (lines_of seat lines) ≤ room
+
+-- all of them were made, and the seat was told these entries
+pub record HasMade (s : LinesView) (list : List Entry) : Type 0 where
+  pub all : length s.replies ≡ length (lines_of s.seat s.lines)
+  pub told : list ≡ entries_to (lines_of s.seat s.lines) s.replies
