@@ -96,6 +96,7 @@ module _ (hash : RecordKey → ℕ) (seat : ℕ) (names : List Lock) (held : Lis
         sweeps = sweeping;
       };
       goes_on = sweeping.works.goes_on;
+      few = omega arith;
       small = t.carries.small;
       own = t.carries.own;
       stands = t.carries.stands;
@@ -136,7 +137,7 @@ owes_nothing_at_end hash seat names p (stages.Writing w) records pool locks chan
 
 -- ---- the steps
 
-few_writes : (p : Plan) (due : Due) (records : Records) → IsSmall p → CanGoOn p due records →
+pub few_writes : (p : Plan) (due : Due) (records : Records) → IsSmall p → CanGoOn p due records →
     deeds_left p due * MOST_STEPS ≤ MAX_WRITES * MOST_STEPS
 few_writes p due records small can =
     times_most (deeds_left p due) MAX_WRITES MOST_STEPS (few_deeds p due records small can)

@@ -8,3 +8,4 @@ pub mod BeginLemmas
 pub mod DecidedLemmas
 pub mod OwnLemmas
 pub mod AimLemmas
+pub mod FewLemmas

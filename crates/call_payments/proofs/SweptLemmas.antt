@@ -1,5 +1,5 @@
 -- A step of the sweep in a sound world.
-use Rattle.std.proofs.Common.{◌≡◌, refl, sym, ap, ◌∙◌, subst, ℕ, Bool, true, false, List, Option, Some, None, IsSome, IsTrue}
+use Rattle.std.proofs.Common.{◌≡◌, refl, sym, ap, ◌∙◌, subst, ℕ, Bool, true, false, List, Option, Some, None, IsSome, IsTrue, arith}
 use Rattle.std.specs.Prelude.{if◌then◌else◌}
 use Rattle.std.proofs.lemmas.Bool.{true≢false}
 use Rattle.bucket_page.specs.Keys.{is_same}
@@ -195,6 +195,7 @@ module _ (hash : RecordKey → ℕ) (seat : ℕ) (names : List Lock) (p : Plan) 
             sweeps = on.sweeps;
           };
           goes_on = going;
+          few = let fewer = makes.aim.fewer in let few = y.few in omega (arith, fewer, few);
           small = y.small;
           own = y.own;
           stands = now.stands;

@@ -1,6 +1,7 @@
 -- A seat pays what its call owes, in a sound world, under the names of the call. docs/STEPS.md, "Locks", "Remove".
-use Rattle.std.specs.Prelude.{ℕ, ◌≡◌, List, Option, IsSome}
-use Rattle.xsi_remove.specs.SweepSteps.{IsOver}
+use Rattle.std.specs.Prelude.{ℕ, ◌≡◌, ◌<◌, List, Option, IsSome}
+use Rattle.xsi_remove.specs.SweepSteps.{IsOver, turns_of}
+use Rattle.xsi_remove.specs.Words.{MAX_MESSAGES}
 use Rattle.call_payments.specs.declared.payment.Stage.{Stage}
 use Rattle.call_payments.specs.declared.payment.Stage.TheVariants as stages
 use Rattle.call_payments.specs.Words.{RecordKey, PoolState, Table, Lock, Change, store_of, StandsAt, kind_of, Queue, State, guard_of, IsSmall, Plan, Records, without_swept, Writing, CallWrites, IsCarrying, OwnsPlan, CanGoOn, decided_at, Work, Faces}
@@ -21,6 +22,8 @@ pub record IsPayingSweep (hash : RecordKey → ℕ) (seat : ℕ) (names : List L
   pub faces : Faces hash seat names id count queue system v pool locks change
   -- and a deed is under way
   pub goes_on : IsOver v → ⊥
+  -- behind its turn there follow fewer than a queue has messages at most
+  pub few : turns_of v < MAX_MESSAGES
   pub small : IsSmall p
   pub own : OwnsPlan names p
   -- under the names there stand these records

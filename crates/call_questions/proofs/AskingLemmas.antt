@@ -62,6 +62,7 @@ module _ (hash : RecordKey → ℕ) (seat : ℕ) (call : Call) (i : AnyInquiry) 
             (f.knows s f.agrees.filed (agrees_itself call _ s)));
         begins = f.right.begins;
         grows = f.right.grows;
+        names = f.right.names;
         apart = f.right.apart;
         few = f.right.few;
       };

@@ -24,10 +24,10 @@ use Rattle.record_access.proofs.OperationLemmas.{ended_free, owns_found}
 use Rattle.call_questions.proofs.CountLemmas.{SetsOut, enters_first, few_on, granted_of, moved_or_same, none_more, one_more, told_none, untold_of}
 use Rattle.call_questions.proofs.FindLemmas.{reads_only}
 
-abbrev round_of : Bool → ℕ
+abbrev pub round_of : Bool → ℕ
 round_of told = if told then ROUND_STEPS else 0
 
-few_of : (b : Bool) → (if b then FIND_STEPS else 0) ≤ FIND_STEPS
+pub few_of : (b : Bool) → (if b then FIND_STEPS else 0) ≤ FIND_STEPS
 few_of true = omega arith
 few_of false = omega arith
 
@@ -329,6 +329,7 @@ module _ (hash : RecordKey → ℕ) (seat : ℕ) (call : Call) (i : AnyInquiry) 
             question = by closes;
             begins = (comes s change f fine).begins;
             grows = (comes s change f fine).grows;
+            names = f.right.names;
             apart = (comes s change f fine).apart;
             few = few_searches counts;
           };

@@ -5,6 +5,7 @@ pub mod PlanLemmas
 pub mod KnowLemmas
 pub mod LeftLemmas
 pub mod FindLemmas
+pub mod HeldLemmas
 pub mod CountLemmas
 pub mod TurnLemmas
 pub mod AskingLemmas
@@ -12,6 +13,7 @@ pub mod HearLemmas
 pub mod GoingLemmas
 pub mod ListenLemmas
 pub mod OpenLemmas
+pub mod FewLemmas
 pub mod Names
 pub mod AimLemmas
 pub use Rattle.step_rules.proofs as of_step_rules

@@ -22,6 +22,7 @@ use Rattle.call_questions.specs.Counting.{finds_behind}
 use Rattle.call_questions.specs.Questions.{HasBegun, HasKey, Holds, QuestionsView, IsRight, KnowsApart, KnowsItsKey, asks_more, changes, has_asked, is_done, is_ready, turn_of_names}
 use Rattle.call_questions.specs.QuestionSteps.{MakesQuestions}
 use Rattle.call_questions.proofs.CountLemmas.{uncounted}
+use Rattle.call_questions.proofs.HeldLemmas.{but_the_last}
 use Rattle.call_questions.proofs.KnowLemmas.{near_more}
 use Rattle.call_questions.proofs.OwnLemmas.{own_more}
 
@@ -136,6 +137,7 @@ module _ (hash : RecordKey → ℕ) (seat : ℕ) (call : Call) (i : AnyInquiry) 
             question = tt;
             begins = λ none does. begins_next;
             grows = λ asks. inl begins_next;
+            names = record { come = i; begins = begins_next };
             apart = more_apart held lock f.right.apart;
             few = f.right.few;
           };
@@ -225,6 +227,7 @@ module _ (hash : RecordKey → ℕ) (seat : ℕ) (call : Call) (i : AnyInquiry) 
             question = tt;
             begins = λ none does. absurd (asks_on f.right none);
             grows = λ asks. inr (between f.right);
+            names = but_the_last call held held' gives.1.0 gives.1.1 f.right.names;
             apart = HasKey (between f.right);
             few = f.right.few;
           };

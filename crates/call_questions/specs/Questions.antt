@@ -147,6 +147,11 @@ pub data KnowsApart (call : Call) (i : AnyInquiry) (room : Roomful) (held : List
   HasBegun : ((s : State) → IsFiled s → KnowsOf call i room s) → KnowsApart call i room held
   HasKey : KnowsItsKey call i → KnowsApart call i room held
 
+-- what is held are names of this call in their kinds: they begin those that it needs wherever an inquiry of it has come
+pub record AreNamesOf (call : Call) (held : List Lock) : Type 0 where
+  pub come : AnyInquiry
+  pub begins : Begins held (names_for call come)
+
 -- it has come so far by steps of this call, on an honest device
 pub record IsRight (hash : RecordKey → ℕ) (call : Call) (v : QuestionsView) : Type 0 where
   pub question : IfSome v.question (IsRightQuestion hash call v)
@@ -156,6 +161,8 @@ pub record IsRight (hash : RecordKey → ℕ) (call : Call) (v : QuestionsView) 
   -- while it asks they do so too, but for a Remove between its phases, which gives that of the first one back
   pub grows : asks_more call v.inquiry ≡ true →
       Begins v.names (names_for call v.inquiry) ⊎ KnowsItsKey call v.inquiry
+  -- and at each place they are names of the call
+  pub names : AreNamesOf call v.names
   -- so others don't change what it knows
   pub apart : KnowsApart call v.inquiry v.room v.names
   -- it begins one search a question: those that it has begun, with the questions that are left, are at most as many as

@@ -13,3 +13,4 @@ pub mod SortLemmas
 pub mod StartLemmas
 pub mod StepLemmas
 pub mod AimLemmas
+pub mod FewLemmas

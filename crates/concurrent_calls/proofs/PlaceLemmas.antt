@@ -44,7 +44,8 @@ owns_at : (hash : RecordKey → ℕ) (seat : ℕ) (call : Call) (s : State) (u :
 owns_at hash seat call s u Undecided records pool locks change is key there =
     asks_own hash seat call s u.questions u.trials records pool locks change is key there
 owns_at hash seat call s u (Paying v conclusion) records pool locks change is key there =
-    owes_what_it_holds hash seat u.questions.names (its_plan call u.questions) v records pool locks change is key there
+    owes_what_it_holds hash seat u.questions.names (its_plan call u.questions) v records pool locks change is.pays key
+    there
 owns_at hash seat call s u (Releasing conclusion) records pool locks change is key there = absurd cc
 
 pub owns : (hash : RecordKey → ℕ) (seat : ℕ) (s : State) (m : CallView) (records : Records) (pool : PoolState)

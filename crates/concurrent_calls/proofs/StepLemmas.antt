@@ -84,11 +84,14 @@ beside_at hash seat call s u Undecided records after pool pool' locks locks' cha
     (λ key under. same key (is_held u.questions.names (guard_of key) under)) pool pool' locks locks' change change'
     leaves is (counts (names_in u.questions.names))
 beside_at hash seat call s u (Paying v conclusion) records after pool pool' locks locks' change change' leaves same
-    counts is =
-    pays_on hash seat u.questions.names (its_plan call u.questions) v records after same pool pool' locks locks' change
-    change' leaves is
+    counts is = record {
+      names = is.names;
+      pays = pays_on hash seat u.questions.names (its_plan call u.questions) v records after same pool pool' locks
+          locks' change change' leaves is.pays;
+    }
 beside_at hash seat call s u (Releasing conclusion) records after pool pool' locks locks' change change' leaves same
     counts is = record {
+      names = is.names;
       sees = sees_on hash seat [] pool pool' locks locks' change change' leaves is.sees;
       row = leaves.row ∙ is.row;
     }

@@ -34,7 +34,7 @@ module _ (hash : RecordKey → ℕ) (seat : ℕ) (call : Call) (s : State) (u : 
   pub sees_at : (stage : Stage) → IsCallingAt hash seat call s u stage records pool locks change →
       Sees hash seat (facts_at u stage) pool locks change
   sees_at Undecided is = sees_in hash seat call s u.questions u.trials records pool locks change is
-  sees_at (Paying v conclusion) is = pays_sees hash seat u.questions.names _ v records pool locks change is
+  sees_at (Paying v conclusion) is = pays_sees hash seat u.questions.names _ v records pool locks change is.pays
   sees_at (Releasing conclusion) is = is.sees
 
   -- ---- it goes on after a step of its own, where all these records stand in the file

@@ -84,8 +84,8 @@ pub over_owes : (hash : RecordKey → ℕ) (seat : ℕ) (call : Call) (s : State
     overlaid (owes_at call u stage) records key ≡ records key
 over_owes hash seat call s u Undecided records pool locks change over is key = absurd over
 over_owes hash seat call s u (Paying v conclusion) records pool locks change over is key =
-    owes_nothing_at_end hash seat u.questions.names (its_plan call u.questions) v records pool locks change is over.0
-    key
+    owes_nothing_at_end hash seat u.questions.names (its_plan call u.questions) v records pool locks change is.pays
+    over.0 key
 over_owes hash seat call s u (Releasing conclusion) records pool locks change over is key = refl
 
 over_concluded : (call : Call) (u : UndecidedCall) (stage : Stage) → IsOverAt call u stage →

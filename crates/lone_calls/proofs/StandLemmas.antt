@@ -65,7 +65,7 @@ told : (hash : RecordKey → ℕ) (seat : ℕ) (call : Call) (s : State) (u : Un
 told hash seat call s u Undecided records pool locks change not on =
     tries_told hash seat call s u.questions u.trials records pool locks change not on
 told hash seat call s u (Paying v conclusion) records pool locks change not on =
-    pays_told hash seat u.questions.names (its_plan call u.questions) v records pool locks change on
+    pays_told hash seat u.questions.names (its_plan call u.questions) v records pool locks change on.pays
 told hash seat call s u (Releasing conclusion) records pool locks change not on = absurd (not tt)
 
 -- ---- a step

@@ -97,6 +97,7 @@ module _ (hash : RecordKey → ℕ) (seat : ℕ) (pool pool' : PoolState) (locks
     system = y.system;
     faces = faces_on names y.id y.count y.queue y.system v y.faces;
     goes_on = y.goes_on;
+    few = y.few;
     small = y.small;
     own = y.own;
     stands = stands_same names (holds_names locks seat names (sweep_locks v names) y.faces.row

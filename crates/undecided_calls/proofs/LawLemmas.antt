@@ -25,6 +25,7 @@ use Rattle.undecided_calls.specs.Undecided.{IsFresh, its_plan, left_in}
 use Rattle.undecided_calls.specs.Knowing.{IsUndecided, IsUndecidedIn}
 use Rattle.undecided_calls.specs.Laws.{HaveFewSteps, MOST_UNDECIDED_STEPS}
 use Rattle.undecided_calls.specs.declared.undecided.UndecidedCall.{UndecidedCall}
+use Rattle.call_questions.proofs.HeldLemmas.{none_held}
 use Rattle.undecided_calls.proofs.Names.{few_searches as questions_begin_few}
 
 pub few_steps : QuestionsHaveFew → HaveFewSteps
@@ -55,6 +56,7 @@ begin_right hash seat call s u records pool locks change fresh knows row sees ag
               (sym names) (names_for call u.questions.inquiry, refl);
           grows = λ asks. inl (subst (λ (ls : List Lock). Begins ls (names_for call u.questions.inquiry))
               (sym names) (names_for call u.questions.inquiry, refl));
+          names = none_held call u.questions.inquiry u.questions.names names;
           apart = HasBegun (λ t filed. knows t t filed (agrees_itself call _ t));
           few = let none = fresh.finds in
               let few = fresh.few in

@@ -10,4 +10,5 @@ pub mod StepLemmas
 pub mod DecideLemmas
 pub mod LawLemmas
 pub mod AimLemmas
+pub mod FewLemmas
 pub use Rattle.call_questions.proofs as of_call_questions

@@ -2,6 +2,7 @@
 pub use Rattle.any_inquiry.specs.Asked.{few_of}
 pub use Rattle.call_decisions.proofs.SettleLemmas.{settles, tries_rightly}
 pub use Rattle.call_decisions.specs.Laws.{CanTry}
+pub use Rattle.call_questions.proofs.HeldLemmas.{given_back, in_order}
 pub use Rattle.call_questions.proofs.Names.{WalksTo, take_in_order, write_under_names}
 pub use Rattle.call_questions.proofs.LeftLemmas.{few_searches}
 pub use Rattle.call_questions.proofs.PlanLemmas.{held_names}

@@ -4,7 +4,7 @@ pub use Rattle.call_decisions.specs.declared.settled.Settled.{Settled}
 pub use Rattle.call_questions.specs.Agreeing.{Agrees}
 pub use Rattle.call_questions.specs.Counting.{finds_behind}
 pub use Rattle.call_questions.specs.Words.{AnyInquiry, AreNames, Blocked, MAX_NAMES, Call, Caller, IsFiled, KnowsOf, LockName, NotASystem, Roomful, State, asked_of, caller_of, left_of, names_for, names_in, plan_of, record_of}
-pub use Rattle.call_questions.specs.Questions.{HasBegun, HasKey, Holds, IsBare, KnowsApart, KnowsItsKey, KnowsNear, QuestionsView, is_done, questions_facts, questions_left, questions_locks, questions_turn}
+pub use Rattle.call_questions.specs.Questions.{AreNamesOf, HasBegun, HasKey, Holds, IsBare, KnowsApart, KnowsItsKey, KnowsNear, QuestionsView, is_done, questions_facts, questions_left, questions_locks, questions_turn}
 pub use Rattle.call_questions.specs.Questions.{IsRight as IsRightSoFar}
 pub use Rattle.call_writes.specs.Carrying.{IsCarrying}
 pub use Rattle.call_writes.specs.CarrySteps.{TrialLacksRoom}

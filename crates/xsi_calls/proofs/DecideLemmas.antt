@@ -6,6 +6,7 @@ use Rattle.step_rules.specs.Known.{AllKnown}
 use Rattle.step_rules.specs.Searching.{WalksTo}
 use Rattle.step_rules.specs.Sound.{IsSoundWorld}
 use Rattle.file_pages.specs.declared.fault.FileFault.TheVariants.{Failed}
+use Rattle.undecided_calls.proofs.FewLemmas.{undecided_names}
 use Rattle.undecided_calls.proofs.ReadyLemmas.{no_question}
 use Rattle.xsi_calls.proofs.Names.{Due, Question, begun_at, locks_behind, locks_under, names_in, questions_facts, AccessView, FileFault, IsDecidedIn, IsFiled, IsTrying, IsUndecidedIn, Trials, MOST_PAYMENT_STEPS, has_few, is_full, locks_in, owes, owes_in, trials_in, CanDecideIn, IsCalmIn}
 use Rattle.xsi_calls.proofs.ConcludeLemmas.{Concluded, settles, short}
@@ -201,7 +202,10 @@ module _ (hash : RecordKey → ℕ) (seat : ℕ) (stopped : Bool) (caller : Call
             (undecided_owes call u) (owes_now p payment) records) (some_same same)
             (subst (λ (x : Caller). IsRightConclusion x call s q.room.bytes q.names (has_no_room u)
             (undecided_owes call u) (owes_now p payment) records (conclusion_by settled)) by comes.right);
-        behind = comes.pays;
+        behind = record {
+          names = undecided_names hash seat call s u records pool locks change is;
+          pays = comes.pays;
+        };
         full = λ before full. absurd (true≢false (sym full));
       }
         where

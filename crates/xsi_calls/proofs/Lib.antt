@@ -13,4 +13,5 @@ pub mod PayLemmas
 pub mod RowLemmas
 pub mod LawLemmas
 pub mod AimLemmas
+pub mod FewLemmas
 pub use Rattle.call_payments.proofs as of_call_payments

@@ -12,7 +12,7 @@ pub use Rattle.page_locks.proofs.ChangeLemmas.{with_row-own, with_row-twice}
 pub use Rattle.page_locks.proofs.TableLemmas.{row_of-same}
 pub use Rattle.queue_model.specs.declared.answer.Answer.{Answer}
 pub use Rattle.step_rules.proofs.LockStepLemmas.{KeepsOthers-same}
-pub use Rattle.undecided_calls.proofs.Names.{Deed, GivesBack, MakesNameStep, Question, Writing, changes_by, decided_at, facts_under, is_full_at, locks_behind, locks_under, next_deed, set_out, turn_under, writes_none}
+pub use Rattle.undecided_calls.proofs.Names.{Deed, GivesBack, given_back, in_order, MakesNameStep, Question, Writing, changes_by, decided_at, facts_under, is_full_at, locks_behind, locks_under, next_deed, set_out, turn_under, writes_none}
 pub use Rattle.undecided_calls.specs.Below.{key_of, undoing}
 pub use Rattle.undecided_calls.specs.Deciding.{IsDecidedIn, IsSettled, IsShortOfRoom, MayWrite}
 pub use Rattle.undecided_calls.specs.Knowing.{IsAsking, IsTrying, IsUndecidedIn}

@@ -13,7 +13,7 @@ use Rattle.xsi_calls.proofs.CounterLemmas.{paid_counter}
 use Rattle.xsi_calls.proofs.GoLemmas.{at_end, not_end, with_stage}
 use Rattle.xsi_calls.specs.Words.{AreNames, Blocked, Call, Caller, Change, Ended, Fault, IsPaid, IsPaying, IsSeat, KeepsPayment, Known, Lock, Moved, NearsOrSpares, OnlyWrites, PaymentStage, Pays, Plan, PoolState, Progress, QuestionsView, RecordKey, Records, Sees, State, Store, Table, Turn, UndecidedCall, World, is_fault, its_plan, TrialLacksRoom, trials_of, payment_facts, payment_left, payment_locks, payment_turn, row_of, store_of, with_row, world}
 use Rattle.xsi_calls.specs.Machine.{CallView, call_facts, call_left, call_locks}
-use Rattle.xsi_calls.specs.Calling.{IsReleasing}
+use Rattle.xsi_calls.specs.Calling.{IsPayingCall, IsReleasing}
 use Rattle.xsi_calls.specs.CallSteps.{MakesCall, MakesRelease, StepsCall, is_end}
 
 -- ---- nothing is left to do
@@ -96,9 +96,9 @@ module _ (hash : RecordKey → ℕ) (seat : ℕ) (caller : Caller) (call : Call)
       row = row_on;
       progress = λ s records change is mark.
           nears_with did (payment_left p v (store_of pool.images)) (payment_left p v' (store_of pool'.images))
-          (length names) (length names) pool pool' (omega arith) (progress names records change is);
+          (length names) (length names) pool pool' (omega arith) (progress names records change is.pays);
       step = λ s records change is mark fine.
-          let on = step names records change is fine in record {
+          let on = step names records change is.pays fine in record {
             step = on.step;
             after = on.after;
             still = on.still;
@@ -108,7 +108,7 @@ module _ (hash : RecordKey → ℕ) (seat : ℕ) (caller : Caller) (call : Call)
             counter = λ same owed. paid_counter p v v' records on.after
                 (plans_have_one_counter call u.questions.inquiry) on.leaves owed;
             concludes = λ none c is_so. absurd cc;
-            behind = on.pays;
+            behind = record { names = is.names; pays = on.pays };
             full = λ before full. absurd (true≢false (sym full ∙ before));
           };
     }
@@ -132,17 +132,18 @@ module _ (hash : RecordKey → ℕ) (seat : ℕ) (caller : Caller) (call : Call)
       first : OnlyWrites true pool pool'
       first = subst (λ (d : Progress FileFault). OnlyWrites (not (is_fault d)) pool pool') is writes
 
-      module _ (records : Records) (change : Change) (y : IsPaying hash seat names p v records pool locks change)
+      module _ (records : Records) (change : Change) (y : IsPayingCall hash seat call u v records pool locks change)
         where
           on : Pays hash seat names p did v v' records pool pool' locks locks' change
-          on = step names records change y (ap is_fault is)
+          on = step names records change y.pays (ap is_fault is)
 
           same : world pool'.images locks' on.step.after ≡ world pool.images locks change
           same = subst (λ (d : Progress FileFault). TurnsAt hash (payment_turn hash p v (store_of pool.images)) d seat
               (world pool.images locks change) (world pool'.images locks' on.step.after)) is on.step.does
 
-          releasing : IsReleasing hash seat names pool' locks' on.step.after
+          releasing : IsReleasing hash seat call names pool' locks' on.step.after
           releasing = record {
+            names = y.names;
             sees = paid_sees hash seat names p v on.after pool' locks' on.step.after all_paid
                 (subst (λ (x : PaymentStage). IsPaying hash seat names p x on.after pool' locks' on.step.after) rests
                 on.pays);
@@ -175,7 +176,7 @@ module _ (hash : RecordKey → ℕ) (seat : ℕ) (caller : Caller) (call : Call)
               reads = r.reads;
               elsewhere = r.elsewhere;
               owed = λ kept key. r.owed kept key
-                  ∙ sym (owes_nothing_at_end hash seat names p v records pool locks change y all_paid key);
+                  ∙ sym (owes_nothing_at_end hash seat names p v records pool locks change y.pays all_paid key);
               counter = r.counter;
               concludes = λ none c is_so. absurd cc;
               behind = r.behind;

@@ -1,11 +1,11 @@
 -- A step by which a name is given back.
 use Rattle.std.proofs.Common.{◌≡◌, refl, sym, ap, ◌∙◌, subst, ℕ, suc, ◌++◌, false, List, [], ◌∷◌, length, None, arith}
 use Rattle.std.proofs.lemmas.Bool.{true≢false}
-use Rattle.xsi_calls.proofs.Names.{FileFault, GivesBack, MakesNameStep, row_of-same, writes_none}
+use Rattle.xsi_calls.proofs.Names.{FileFault, GivesBack, given_back, MakesNameStep, row_of-same, writes_none}
 use Rattle.step_rules.specs.declared.kind.Kind.{Kind}
 use Rattle.xsi_calls.specs.declared.conclusion.Conclusion.{Conclusion}
 use Rattle.xsi_calls.specs.Stages.{Stage, Undecided, Paying, Releasing}
-use Rattle.xsi_calls.specs.Words.{Blocked, Call, Caller, Change, Ended, Fault, IsSeat, Lock, Moved, NearsOrSpares, PoolState, Progress, RecordKey, Records, State, Table, UndecidedCall, is_fault, is_write, row_of, with_row}
+use Rattle.xsi_calls.specs.Words.{AreNamesOf, Blocked, Call, Caller, Change, Ended, Fault, IsSeat, Lock, Moved, NearsOrSpares, PoolState, Progress, RecordKey, Records, State, Table, UndecidedCall, is_fault, is_write, row_of, with_row}
 use Rattle.xsi_calls.specs.Machine.{CallView, call_locks, is_paying, is_undecided, locks_at}
 use Rattle.xsi_calls.specs.Calling.{IsReleasing}
 use Rattle.xsi_calls.specs.CallSteps.{MakesRelease, StepsCall}
@@ -34,9 +34,10 @@ module _ (seat : ℕ) (caller : Caller) (call : Call) (u : UndecidedCall) (concl
       (is_end : (did ≡ Ended → names ≡ []) × (names ≡ [] → did ≡ Ended)) (over : did ≡ Ended → names' ≡ [])
       (row' : locks' ≡ with_row locks seat names') (step : MakesNameStep seat None did locks locks')
       (reads : is_write did ≡ false)
-      (near : (pool : PoolState) → NearsOrSpares did (length names) (length names') pool pool) where
+      (near : (pool : PoolState) → NearsOrSpares did (length names) (length names') pool pool)
+      (keep : AreNamesOf call names → AreNamesOf call names') where
     steps : (hash : RecordKey → ℕ) (s : State) (records : Records) (pool : PoolState) (change : Change) →
-        IsReleasing hash seat names pool locks change →
+        IsReleasing hash seat call names pool locks change →
         StepsCall hash seat s did (releasing u) (releasing (left_with names')) records pool pool locks locks' change
     steps hash s records pool change is =
         let on = step hash pool change None is.sees in record {
@@ -49,6 +50,7 @@ module _ (seat : ℕ) (caller : Caller) (call : Call) (u : UndecidedCall) (concl
           counter = λ same owed. refl;
           concludes = λ none c is_so. absurd cc;
           behind = record {
+            names = keep is.names;
             sees = record { honest = is.sees.honest; file = on.file; sound = on.others.sound; known = tt };
             row = ap (λ (t : Table). row_of t seat) row' ∙ row_of-same locks seat names' seated;
           };
@@ -86,10 +88,12 @@ module _ (seat : ℕ) (caller : Caller) (call : Call) (u : UndecidedCall) (concl
       (λ e. absurd cc, λ none. absurd (some_there names' last (sym is ∙ none))) (λ e. absurd cc) row' step
       (ap (λ (k : Kind). is_write {F = FileFault} (Moved k)) gives.0)
       (λ pool. let more = ap length is ∙ one_more names' last in omega (arith, more))
+      (given_back {F = FileFault} call (Moved kind) names names' gives)
   gives_back (Blocked other) names' locks' gives row' step = absurd gives
   gives_back (Fault fault) names' locks' gives row' step = absurd gives
   gives_back Ended names' locks' gives row' step =
       makes Ended names' locks' refl (λ e. gives.0, λ none. refl) (λ e. gives.1) row' step refl (λ pool. tt)
+      (given_back {F = FileFault} call Ended names names' gives)
 
 abbrev at_stage : CallView → UndecidedCall → Stage → CallView
 at_stage m u stage = record { caller = m.caller; call = m.call; undecided = u; stage = stage }

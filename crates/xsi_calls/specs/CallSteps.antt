@@ -6,10 +6,10 @@ use Rattle.xsi_calls.specs.declared.conclusion.Conclusion.{Conclusion}
 use Rattle.xsi_calls.specs.Stages.{Stage, Undecided, Paying, Releasing}
 use Rattle.undecided_calls.specs.Deciding.{IsDecidedIn}
 use Rattle.xsi_calls.specs.Below.{counter_key, owes_at}
-use Rattle.xsi_calls.specs.Words.{Blocked, Call, Change, Ended, Exclusive, Fault, IsBehind, IsPaying, IsReady, IsUndecided, Moved, NearsOrSpares, OnlyWrites, PaymentStage, PoolState, Progress, RecordKey, Records, Settled, State, Step, Table, TrialLacksRoom, UndecidedCall, begun_payment, finds_behind, guard_of, has_no_room, is_fault, is_write, its_plan, kind_of, overlaid, store_of, trials_of, with_row, world}
+use Rattle.xsi_calls.specs.Words.{Blocked, Call, Change, Ended, Exclusive, Fault, IsBehind, IsReady, IsUndecided, Moved, NearsOrSpares, OnlyWrites, PaymentStage, PoolState, Progress, RecordKey, Records, Settled, State, Step, Table, TrialLacksRoom, UndecidedCall, begun_payment, finds_behind, guard_of, has_no_room, is_fault, is_write, its_plan, kind_of, overlaid, store_of, trials_of, with_row, world}
 use Rattle.xsi_calls.specs.Concluding.{IsRightConclusion, conclusion_by}
 use Rattle.xsi_calls.specs.Machine.{CallView, IsOver, IsReading, call_facts, call_left, call_locks, call_owes, call_turn, conclusion_of, finds_of, is_undecided}
-use Rattle.xsi_calls.specs.Calling.{IsCalling, IsReleasing}
+use Rattle.xsi_calls.specs.Calling.{IsCalling, IsPayingCall, IsReleasing}
 
 -- ---- whatever the device gives
 
@@ -38,9 +38,9 @@ abbrev pub GoesOnAt : (RecordKey → ℕ) → ℕ → Call → State → Undecid
 GoesOnAt hash seat call s u Undecided records pool locks change =
     IsBehind hash seat call s u.questions u.trials records pool locks change
 GoesOnAt hash seat call s u (Paying payment conclusion) records pool locks change =
-    IsPaying hash seat u.questions.names (its_plan call u.questions) payment records pool locks change
+    IsPayingCall hash seat call u payment records pool locks change
 GoesOnAt hash seat call s u (Releasing conclusion) records pool locks change =
-    IsReleasing hash seat u.questions.names pool locks change
+    IsReleasing hash seat call u.questions.names pool locks change
 
 -- a step of the rules, behind which these records stand
 pub record StepsCall {F : Type 0} (hash : RecordKey → ℕ) (seat : ℕ) (s : State) (did : Progress F)

@@ -1,7 +1,7 @@
 //! Laws of calls. The functions do nothing; their contracts are the laws.
 
-ghost use Rattle.std.specs.Prelude.{◌<◌};
-ghost use Rattle.xsi_calls.specs.Laws.{BeginFewSearches, BeginRight, HaveFewSteps, MOST_CALL_STEPS, ReceiveByThree};
+ghost use Rattle.std.specs.Prelude.{◌+◌, ◌<◌};
+ghost use Rattle.xsi_calls.specs.Laws.{BeginFewSearches, BeginRight, HaveFewSteps, HaveFewStepsLeft, HoldTheirNames, MOST_CALL_STEPS, MOST_STEPS_LEFT, ReceiveByThree};
 
 use undecided_calls::calls_decide_in_few_steps;
 
@@ -12,6 +12,19 @@ pub fn calls_have_few_steps()
 {
     calls_decide_in_few_steps();
 }
+
+/// At each of its places, whatever the steps of others, a call has few steps left until it is over,
+/// if no other seat steps: with those of a call that has just begun fewer than a drive makes.
+pub fn calls_have_few_steps_left()
+    ensures few { HaveFewStepsLeft }
+    ensures most { MOST_STEPS_LEFT + MOST_CALL_STEPS < 4000000 }
+{}
+
+/// At each of its places the names that a call holds, besides the directory and pages, are its own,
+/// in their kinds.
+pub fn calls_hold_their_names()
+    ensures { HoldTheirNames }
+{}
 
 /// A call has begun no more searches than it may ask questions, until it inserts on trial; and a
 /// Receive, which inserts nothing, at most three until it has decided.
