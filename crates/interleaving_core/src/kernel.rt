@@ -177,6 +177,13 @@ impl<D: PageDevice + Drop, K: PseudoKey + Drop> Kernel<D, K> {
         self.callers[seat as usize - 1]
     }
 
+    /// Which locks each seat holds.
+    pub fn locks(&self) -> &LockTable
+        ensures { result.now ≡ self.now.locks }
+    {
+        &self.locks
+    }
+
     /// What was decided, in its order.
     pub fn journal(&self) -> &[Entry]
         ensures { result.now ≡ self.now.journal }

@@ -5,6 +5,7 @@
 mod deed;
 mod ending;
 mod files;
+mod holdings;
 mod line_events;
 mod onlooker;
 mod opening;
@@ -12,6 +13,7 @@ mod printing;
 mod progress;
 mod replay;
 mod rounds;
+mod spelled;
 mod texts;
 
 pub use deed::Deed;

@@ -12,6 +12,7 @@ use crate::progress::Progress;
 use interleavings::interleaving_core::Kernel;
 use msgq_cli::{Command, Line, Reply};
 use page_device::PageDevice;
+use page_locks::LockTable;
 use queue_model::Call;
 
 /// The next line of a seat is begun, if one is left. It is replied at once where it is a `stop`, or
@@ -36,7 +37,7 @@ pub(crate) fn begin_next<D: PageDevice + Drop, O: Onlooker>(
     let deed = deed_at_once(&reply);
     script.begin(seat, place);
     tell(script, seat, place, reply);
-    show(script.lines(), place, deed, onlooker);
+    show(script.lines(), place, deed, kernel.locks(), onlooker);
     deed
 }
 
@@ -57,7 +58,7 @@ pub(crate) fn step_line<D: PageDevice + Drop, O: Onlooker>(
     let step = kernel.step(seat);
     let deed = deed_by(&step);
     tell(script, seat, place, reply_by(step));
-    show(script.lines(), place, deed, onlooker);
+    show(script.lines(), place, deed, kernel.locks(), onlooker);
     deed
 }
 
@@ -71,14 +72,21 @@ fn tell(script: &mut Progress, seat: u8, place: usize, reply: Option<Reply>)
     }
 }
 
-/// Shows what came of an event at the line at a place.
-fn show<O: Onlooker>(lines: &[Line], place: usize, deed: Deed, onlooker: &mut O) {
+/// Shows what came of an event at the line at a place, after which the seats hold these locks.
+fn show<O: Onlooker>(
+    lines: &[Line],
+    place: usize,
+    deed: Deed,
+    locks: &LockTable,
+    onlooker: &mut O,
+) {
     if let Some(line) = lines.get(place) {
-        onlooker.see(Sight::Event {
+        let sight = Sight::Event {
             seat: line.seat,
             line: line.number,
             deed,
-        });
+        };
+        onlooker.see(sight, locks);
     }
 }
 

@@ -124,7 +124,7 @@ impl<'a, D: PageDevice + Drop> Replay<'a, D> {
         ensures { Stops self.old self.new }
     {
         self.kernel.stop();
-        onlooker.see(Sight::Stop);
+        onlooker.see(Sight::Stop, self.kernel.locks());
     }
 
     /// So many events of a seat.
