@@ -4,18 +4,21 @@ use Rattle.std.proofs.lemmas.Bool.{true≢false}
 use Rattle.concurrent_calls.specs.Together.{AreTogether, IsUnderWay}
 use Rattle.concurrent_calls.specs.lone_calls.Words.{call_left}
 use Rattle.concurrent_calls.proofs.SeatLemmas.{well}
+use Rattle.lone_calls.proofs.CauseLemmas.{fresh_room}
 use Rattle.interleaving_core.specs.Active.{is_waiting}
 use Rattle.interleaving_core.specs.Fault.{of_page}
-use Rattle.interleaving_core.specs.Turn.{IsLeft, MakesTurn, StaysWaiting, told_of, told_when_over}
+use Rattle.interleaving_core.specs.Owing.{is_failure}
+use Rattle.interleaving_core.specs.Turn.{IsLeft, IsLeftWhenOver, MakesTurn, StaysWaiting, told_of, told_when_over}
 use Rattle.interleaving_core.specs.xsi_calls.CallSteps.{StepsCall}
 use Rattle.interleaving_core.specs.xsi_calls.Words.{Change, NearsOrSpares, World, world}
 use Rattle.interleaving_core.specs.xsi_calls.declared.conclusion.Conclusion.TheVariants as conclusions
 use Rattle.queue_model.proofs.JournalLemmas.{after-LeadsAlong}
 use Rattle.step_rules.specs.Turns.{TurnsAt}
 use Rattle.step_rules.specs.declared.progress.Progress.TheVariants as progress
-use Rattle.interleavings.specs.Words.{ActiveView, Answer, Call, Caller, FileFault, KernelState, PoolState, Progress, RecordKey, State, Step, after as journal_after, answer_of_call, call_at, conclusion_of, is_fault, outcome, store_of}
-use Rattle.interleavings.specs.Doing.{DoesBy, LeavesAll, turn_of}
+use Rattle.interleavings.specs.Words.{ActiveView, Answer, Call, Caller, FileFault, KernelState, PoolState, Progress, RecordKey, State, Step, after as journal_after, answer_of_call, call_at, conclusion_of, is_fault, lacks_room, outcome, store_of}
+use Rattle.interleavings.specs.Doing.{DoesBy, FindsNoRoom, LacksRightly, LeavesAll, turn_of}
 use Rattle.interleavings.specs.Refining.{Refines, RefinesIn, calls_of}
+use Rattle.interleavings.proofs.LackingLemmas.{turns_full}
 use Rattle.interleavings.proofs.LeadLemmas.{machine}
 
 -- a kernel is led on by a step of this call
@@ -24,6 +27,14 @@ pub record LeadsDoing {K : Type 0} (hash : RecordKey → ℕ) (base : State) (se
   pub behind : Change
   pub led : RefinesIn hash base new behind
   pub does : DoesBy hash base seat by did before behind old new
+  pub lacks : LacksRightly hash seat by did before new
+
+-- a call that is there
+pub one_there : (x y : ActiveView) → ◌≡◌ {A = Option ActiveView} (Some x) (Some y) → x ≡ y
+one_there x y is = cc
+
+none_there : (x : ActiveView) → ◌≡◌ {A = Option ActiveView} None (Some x) → ⊥
+none_there x is = cc
 
 module _ {K : Type 0} (hash : RecordKey → ℕ) (base : State) (seat : ℕ) (a : ActiveView) (did : Step)
     (old new : KernelState K) (led : Refines hash base old) (there : call_at old.seats seat ≡ Some a)
@@ -47,6 +58,13 @@ module _ {K : Type 0} (hash : RecordKey → ℕ) (base : State) (seat : ℕ) (a 
         locks = stays.same_locks;
         phase = refl;
       })
+
+  -- a call that waits has as much room as before
+  pub waiting_lacks : StaysWaiting did a (call_at new.seats seat) old.pool new.pool old.locks new.locks old.journal
+      new.journal → LacksRightly hash seat a did phase new
+  waiting_lacks stays come left sound_still room lacks =
+      let same = one_there _ come (sym stays.left_is ∙ left) in
+      absurd (true≢false (sym (ap (λ (x : ActiveView). lacks_room x.machine) same ∙ lacks) ∙ room))
 
   module _ (turn : MakesTurn hash seat old.stopped did a (call_at new.seats seat) old.pool new.pool old.locks new.locks
       old.journal new.journal) where
@@ -113,6 +131,35 @@ module _ {K : Type 0} (hash : RecordKey → ℕ) (base : State) (seat : ℕ) (a 
       pub made : Does did
       made = subst Does (sym turn.told_is) (told turn.did refl turn.left_is)
 
+      come_lacks : lacks_room a.machine ≡ false → lacks_room come.machine ≡ true → FindsNoRoom hash a phase new
+      come_lacks room lacks =
+          let full = turns_full hash seat led.now turn.did a.machine come.machine together.records old.pool new.pool
+          old.locks new.locks together.change turn.makes.aim step room lacks in
+          step.full full.room_before full.none_then
+
+      -- one that begins anew lacks none
+      over_lacks : (waits : Bool) → IsLeftWhenOver waits come (call_at new.seats seat) → (x : ActiveView) →
+          call_at new.seats seat ≡ Some x → lacks_room x.machine ≡ true → FindsNoRoom hash a phase new
+      over_lacks true (again, left, begins) x there_now lacks =
+          let same = one_there again x (sym left ∙ there_now) in
+          absurd (true≢false (sym (ap (λ (y : ActiveView). lacks_room y.machine) same ∙ lacks)
+          ∙ fresh_room again.machine begins.begins.new))
+      over_lacks false left x there_now lacks = absurd (none_there x (sym left ∙ there_now))
+
+      pub made_lacks : LacksRightly hash seat a did phase new
+      made_lacks x there_now sound_still room lacks = by turn.did refl turn.left_is
+        where
+          come_on : call_at new.seats seat ≡ Some come → FindsNoRoom hash a phase new
+          come_on left = come_lacks room (ap (λ (y : ActiveView). lacks_room y.machine)
+              (one_there come x (sym left ∙ there_now)) ∙ lacks)
+
+          by : (p : Progress FileFault) → turn.did ≡ p → IsLeft p come (call_at new.seats seat) →
+              FindsNoRoom hash a phase new
+          by (progress.Moved kind) p left = come_on left
+          by (progress.Blocked other) p left = come_on left
+          by (progress.Fault fault) p left = come_on left
+          by progress.Ended p left = over_lacks (is_waiting (conclusion_of come.machine)) left x there_now lacks
+
     module _ (fault : FileFault) (is : turn.did ≡ progress.Fault fault) (after : Change) where
       spares : NearsOrSpares (progress.Fault fault) (call_left a.machine (store_of old.pool.images))
           (call_left come.machine (store_of new.pool.images)) old.pool new.pool
@@ -127,3 +174,8 @@ module _ {K : Type 0} (hash : RecordKey → ℕ) (base : State) (seat : ℕ) (a 
             device = record { risen = spares.devices.risen; told = ap of_page spares.devices.told };
             file = ap store_of spares.images;
           })
+
+      pub failed_lacks : LacksRightly hash seat a did phase new
+      failed_lacks x there_now sound_still room lacks =
+          absurd (true≢false (sym (ap is_failure (turn.told_is
+          ∙ ap (λ (d : Progress FileFault). told_of d come.machine) is)) ∙ sound_still))

@@ -7,6 +7,7 @@ pub mod CountedLemmas
 pub mod OpenLemmas
 pub mod TurnLemmas
 pub mod ScheduleLemmas
+pub mod LackingLemmas
 pub mod DoingLemmas
 pub mod ToldLemmas
 pub mod OwedLemmas
@@ -16,6 +17,8 @@ pub mod RisenLemmas
 pub mod WaitingLemmas
 pub mod FoundedLemmas
 pub mod TellingLemmas
+pub mod RoomLemmas
+pub mod NoRoomLemmas
 pub mod PlayedLemmas
 pub mod RenewLemmas
 pub use Rattle.interleaving_core.proofs as of_interleaving_core

@@ -1,7 +1,9 @@
 -- A step of a seat of a kernel that is led from a system: the kernel is led on, and what the step does is what its seat
 -- is told, also where its call begins anew within it.
 use Rattle.std.proofs.Common.{ℕ, suc, zero, ◌≡◌, ◌≤◌, inl, inr, refl, sym, ap, ◌∙◌, subst, Bool, true, false, Option, Some, None, length, arith}
+use Rattle.std.proofs.lemmas.Bool.{true≢false}
 use Rattle.concurrent_calls.specs.Laws.{BeginTogether, EndTogether, StepTogether}
+use Rattle.lone_calls.proofs.CauseLemmas.{fresh_room}
 use Rattle.page_device.specs.Device.{HasRisen}
 use Rattle.step_rules.specs.Turns.{DoesTied, StandsInWay}
 use Rattle.interleaving_core.proofs.AnewLemmas.{begins_from, ends_waiting, over_waits, waits_from, woken_from}
@@ -14,11 +16,11 @@ use Rattle.interleaving_core.specs.declared.fault.StepFault.TheVariants as fault
 use Rattle.interleaving_core.specs.declared.step.Step.TheVariants as told
 use Rattle.interleaving_core.specs.xsi_calls.Machine.{call_turn}
 use Rattle.interleaving_core.specs.xsi_calls.Words.{Change, Store, TrialLacksRoom, Turn, World, its_plan, trials_of, world}
-use Rattle.interleavings.specs.Words.{ActiveView, IsOver, IsSeat, IsTurn, KernelState, PoolState, RecordKey, State, Step, Table, call_at, conclusion_of, store_of}
-use Rattle.interleavings.specs.Doing.{BeginsWoken, DoesAsTold, DoesBy, FailsByDevice, IsInTheWay, LeavesAll, MakesMove, turn_of}
+use Rattle.interleavings.specs.Words.{ActiveView, IsOver, IsSeat, IsTurn, KernelState, PoolState, RecordKey, State, Step, Table, call_at, conclusion_of, lacks_room, store_of}
+use Rattle.interleavings.specs.Doing.{BeginsWoken, DoesAsTold, DoesBy, FailsByDevice, FindsNoRoom, IsInTheWay, LacksRightly, LeavesAll, MakesMove, turn_of}
 use Rattle.interleavings.specs.Refining.{Refines, RefinesIn}
 use Rattle.interleavings.specs.Laws.{RefinesOn, StepsRefineAndDo, StepsRefine}
-use Rattle.interleavings.proofs.DoingLemmas.{LeadsDoing}
+use Rattle.interleavings.proofs.DoingLemmas.{LeadsDoing, one_there}
 use Rattle.interleavings.proofs.TurnLemmas.{led_on, waits_on}
 
 -- ---- what was so of a kernel that is left as it was
@@ -106,7 +108,12 @@ module _ (steps : StepTogether) (ends : EndTogether) (begins : BeginTogether) {K
   by_itself waits leads = record {
     behind = leads.behind;
     led = leads.led;
-    does = record { by = a; is = inl (record { same = refl; waits = waits }); does = leads.does };
+    does = record {
+      by = a;
+      is = inl (record { same = refl; waits = waits });
+      does = leads.does;
+      lacks = leads.lacks;
+    };
   }
 
   -- its call begins anew
@@ -134,6 +141,11 @@ module _ (steps : StepTogether) (ends : EndTogether) (begins : BeginTogether) {K
     leaves : LeavesAll phase_before phase_then old then
     leaves = subst (λ (c : Change). LeavesAll phase_before c old then) (sym (first.led.phase sound)) first.does
 
+    -- begun anew it lacks no room
+    again_room : lacks_room anew.again.machine ≡ false
+    again_room = fresh_room anew.again.machine (begins_from hash seat old.stopped a anew.again old.pool anew.between
+        old.locks old.locks old.journal old.journal anew.ends).begins.new
+
     last : Goes seat did then new
     last = last_goes seat anew.again anew.between old did new goes
 
@@ -160,6 +172,10 @@ module _ (steps : StepTogether) (ends : EndTogether) (begins : BeginTogether) {K
                     leaves later
                     (subst (λ (d : Step). DoesBy hash base seat anew.again d phase_then leads.behind then new)
                     waits.told_is leads.does));
+                lacks = λ come left sound_still room lacks.
+                    let same = one_there _ come (sym waits.left_is ∙ left) in
+                    absurd (true≢false (sym (ap (λ (x : ActiveView). lacks_room x.machine) same ∙ lacks)
+                    ∙ again_room));
               };
             }
         by false woken =
@@ -182,6 +198,8 @@ module _ (steps : StepTogether) (ends : EndTogether) (begins : BeginTogether) {K
                 });
                 does = does_since hash base seat anew.again anew.between old new phase_before phase_then leads.behind
                     leaves later did leads.does;
+                lacks = λ come left sound_still room lacks. subst (λ (c : Change). FindsNoRoom hash anew.again c new)
+                    leaves.phase (leads.lacks come left sound_still room lacks);
               };
             }
 

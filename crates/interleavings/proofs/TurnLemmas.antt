@@ -23,7 +23,7 @@ use Rattle.step_rules.specs.declared.kind.Kind.TheVariants.{Decide}
 use Rattle.step_rules.specs.declared.progress.Progress.TheVariants as progress
 use Rattle.interleavings.specs.Words.{ActiveView, Begins, Caller, Entry, FileFault, HasFittingCall, HasFittingCaller, IsOver, IsSeat, KernelState, LeadsAlong, PoolState, Progress, RecordKey, State, Step, call_at, caller_at, conclusion_of, is_fault, with_call}
 use Rattle.interleavings.specs.Refining.{Refines, RefinesIn, calls_of}
-use Rattle.interleavings.proofs.DoingLemmas.{LeadsDoing, failed, made, waiting}
+use Rattle.interleavings.proofs.DoingLemmas.{LeadsDoing, failed, failed_lacks, made, made_lacks, waiting, waiting_lacks}
 use Rattle.interleavings.proofs.LeadLemmas.{keeps_answer, leads_on, machine, others_same, still_leads}
 use Rattle.interleaving_core.specs.Turn.{StaysWaiting}
 use Rattle.interleaving_core.proofs.BetweenLemmas.{Goes}
@@ -241,6 +241,7 @@ module _ (steps : StepTogether) (ends : EndTogether) (begins : BeginTogether) {K
           behind = phase;
           led = led_by left together knows;
           does = made hash base seat a did old new led there sound turn fine phase leading.stepped.does;
+          lacks = made_lacks hash base seat a did old new led there sound turn fine phase leading.stepped.does;
         }
 
       -- ---- the file fails it
@@ -281,6 +282,7 @@ module _ (steps : StepTogether) (ends : EndTogether) (begins : BeginTogether) {K
             phase = λ sound_still. absurd (true≢false (sym broken ∙ sound_still));
           };
           does = failed hash base seat a did old new led there sound turn fault is_fault_of before.change;
+          lacks = failed_lacks hash base seat a did old new led there sound turn fault is_fault_of before.change;
         }
 
       -- ---- each
@@ -389,4 +391,5 @@ module _ (steps : StepTogether) (ends : EndTogether) (begins : BeginTogether) {K
           phase = λ fine. counted_waits.phase_is;
         };
         does = waiting hash base seat a did old new led there sound waits;
+        lacks = waiting_lacks hash base seat a did old new led there sound waits;
       }

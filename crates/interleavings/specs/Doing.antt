@@ -5,13 +5,14 @@ use Rattle.file_pages.specs.Fault.{IsDevicesFault}
 use Rattle.step_rules.specs.Turns.{DoesTied, StandsInWay}
 use Rattle.step_rules.specs.declared.kind.Kind.{Kind}
 use Rattle.interleaving_core.specs.Active.{BeginsAgain, is_waiting}
+use Rattle.interleaving_core.specs.Owing.{is_failure}
 use Rattle.interleaving_core.specs.Waiting.{is_woken}
 use Rattle.interleaving_core.specs.declared.fault.StepFault.TheVariants as faults
 use Rattle.interleaving_core.specs.declared.step.Step.TheVariants as steps
 use Rattle.interleaving_core.specs.xsi_calls.Machine.{call_turn}
 use Rattle.interleaving_core.specs.xsi_calls.Words.{Change, TrialLacksRoom, Turn, has_no_room, its_plan, trials_of, world}
 use Rattle.interleaving_core.specs.xsi_calls.declared.conclusion.Conclusion.TheVariants as conclusions
-use Rattle.interleavings.specs.Words.{ActiveView, Entry, FileFault, IsOver, KernelState, RecordKey, State, Step, after, call_at, conclusion_of, outcome, store_of}
+use Rattle.interleavings.specs.Words.{ActiveView, Entry, FileFault, IsOver, KernelState, RecordKey, State, Step, after, call_at, conclusion_of, lacks_room, outcome, store_of}
 
 -- the turn of a call at its place
 abbrev pub turn_of : {K : Type 0} → (RecordKey → ℕ) → ActiveView → KernelState K → Turn
@@ -74,9 +75,22 @@ pub record IsAsItStands (a by : ActiveView) (did : Step) : Type 0 where
   pub same : by ≡ a
   pub waits : IsOver a.machine → is_waiting (conclusion_of a.machine) ≡ true → did ≡ steps.Waiting
 
+-- the record that a call was to insert next has no room in the file after its step, in the phase before it
+abbrev pub FindsNoRoom : {K : Type 0} → (RecordKey → ℕ) → ActiveView → Change → KernelState K → Type 0
+FindsNoRoom hash by before new =
+    TrialLacksRoom hash (its_plan by.machine.call by.machine.undecided.questions) (trials_of by.machine.undecided).due
+    (world new.pool.images new.locks before)
+
+-- unless the step failed, a call that had room comes to lacking it only where it finds none
+abbrev pub LacksRightly : {K : Type 0} → (RecordKey → ℕ) → ℕ → ActiveView → Step → Change → KernelState K → Type 0
+LacksRightly hash seat by did before new =
+    (come : ActiveView) → call_at new.seats seat ≡ Some come → is_failure did ≡ false →
+    lacks_room by.machine ≡ false → lacks_room come.machine ≡ true → FindsNoRoom hash by before new
+
 -- a step of a seat with this call: it is one of that call, or of the same call begun anew
 pub record DoesAsTold {K : Type 0} (hash : RecordKey → ℕ) (base : State) (seat : ℕ) (a : ActiveView) (did : Step)
     (before behind : Change) (old new : KernelState K) : Type 0 where
   pub by : ActiveView
   pub is : IsAsItStands a by did ⊎ BeginsWoken old.journal a by
   pub does : DoesBy hash base seat by did before behind old new
+  pub lacks : LacksRightly hash seat by did before new

@@ -9,5 +9,6 @@ pub mod Outcomes
 pub mod Moments
 pub mod Playing
 pub mod Laws
+pub mod Rooms
 pub mod Renewing
 pub use Rattle.interleaving_core.specs as interleaving_core

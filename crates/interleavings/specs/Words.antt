@@ -10,6 +10,7 @@ pub use Rattle.interleaving_core.specs.Words.{Answer, Call, CallView, Caller, En
 pub use Rattle.interleaving_core.specs.declared.fault.BeginFault.{BeginFault}
 pub use Rattle.interleaving_core.specs.declared.step.Step.{Step}
 pub use Rattle.concurrent_calls.specs.lone_calls.Words.{Begins, FileFault, HasFittingCall, HasFittingCaller, IsFileAtRest, IsOver, MakesCall, State, answer_of, is_fault, outcome, store_of}
+pub use Rattle.concurrent_calls.specs.lone_calls.Serving.{lacks_room}
 pub use Rattle.concurrent_calls.specs.lone_calls.opened_files.Laws.{restarted}
 pub use Rattle.page_locks.specs.declared.lock_table.TheConstants.{MAX_SEATS}
 pub use Rattle.queue_model.specs.Journal.{IsLegal, LeadsAlong, after, is_of, part_of}

@@ -2,10 +2,14 @@
 
 ghost use Rattle.std.specs.Prelude.{◌≡◌, ℕ, IfErr, IfOk, length};
 ghost use Rattle.interleavings.specs.Headline.{AnswersRightly};
+ghost use Rattle.interleavings.specs.Rooms.{TellsNoRoomRightly};
 ghost use Rattle.interleavings.specs.Runs.{AreOfSeats, Happens, IsLinearized, IsOfSeat, IsToldItsPart, Runs};
 
 use crate::event::{Event, Outcome};
-use crate::laws::{a_refining_kernel_answers_as_plain_lists, events_refine};
+use crate::laws::{
+    a_refining_kernel_answers_as_plain_lists, a_step_does_what_its_seat_is_told, events_refine,
+    steps_refine,
+};
 use bucket_page::PseudoKey;
 use interleaving_core::Kernel;
 use page_device::PageDevice;
@@ -23,7 +27,9 @@ use std::alloc::Global;
 ///
 /// Whatever the order of the events: where the kernel refines a lawful system, as one does that
 /// was opened over an honest device, its answers are those of plain lists asked one call at a time;
-/// and once no seat has a call the file holds exactly what the lists do.
+/// and once no seat has a call the file holds exactly what the lists do. A seat is told that a
+/// record has no room only where, at a step of these events, its call found none in the pages of
+/// the kernel as they were then; or had found none before them.
 pub fn run<D: PageDevice + Drop, K: PseudoKey + Drop>(
     alloc: Global,
     kernel: &mut Kernel<D, K>,
@@ -38,9 +44,13 @@ pub fn run<D: PageDevice + Drop, K: PseudoKey + Drop>(
         IsToldItsPart seat events.items outcomes.items kernel.old kernel.new) }
     ensures linear { IfOk result (λ outcomes. IsLinearized (K.of_key kernel.old.keys)
         events.items outcomes.items kernel.old kernel.new) }
+    ensures no_room { IfOk result (λ outcomes. TellsNoRoomRightly (K.of_key kernel.old.keys)
+        events.items outcomes.items kernel.old kernel.new) }
     ensures err { IfErr result (λ _. kernel.new ≡ kernel.old) }
 {
     events_refine::<K>();
+    steps_refine::<K>();
+    a_step_does_what_its_seat_is_told::<K>();
     a_refining_kernel_answers_as_plain_lists::<K>();
     let mut outcomes = Vec::with_capacity(alloc, events.len())?;
     for event in events {

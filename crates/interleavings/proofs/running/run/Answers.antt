@@ -1,4 +1,5 @@
 -- One event more was played; behind the last one each seat was told its part.
+use Rattle.interleavings.proofs.NoRoomLemmas.{tells_no_room}
 use Rattle.interleavings.proofs.RunLemmas.{all_played, linearizes, one_more, tells_its_part}
 use Rattle.interleavings.proofs.running.run.Goals as goal
 
@@ -38,5 +39,13 @@ pub returns-clause-linear : goal.returns-clause-linear
 returns-clause-linear g c =
     linearizes (g.K.PseudoKey.of_key c.args.kernel.now.keys) c.args.events.items c.loop-event.outcomes.items
     c.args.kernel.now c.loop-event.kernel
+    (all_played g.K.PseudoKey.of_key c.args.events.items c.loop-event.yielded _ _ c.loop-event.outcomes.items _
+    c.args.kernel.now c.loop-event.kernel c.loop-event.invariant.2 c.in-None.ensures.steps.0)
+
+pub returns-clause-no_room : goal.returns-clause-no_room
+returns-clause-no_room g c =
+    tells_no_room c.a_step_does_what_its_seat_is_told.ensures c.steps_refine.ensures c.events_refine.ensures
+    (g.K.PseudoKey.of_key c.args.kernel.now.keys) c.args.events.items c.loop-event.outcomes.items c.args.kernel.now
+    c.loop-event.kernel c.requires
     (all_played g.K.PseudoKey.of_key c.args.events.items c.loop-event.yielded _ _ c.loop-event.outcomes.items _
     c.args.kernel.now c.loop-event.kernel c.loop-event.invariant.2 c.in-None.ensures.steps.0)
