@@ -23,6 +23,7 @@ pub record FindsByStep {K : Type 0} (hash : RecordKey → ℕ) (base : State) (s
   pub refines : Refines hash base old
   pub sound : old.failed ≡ false
   pub step : IsStep hash seat did old new
+  -- the call that it has under way, or the same begun anew, makes that step by the rules
   pub active : ActiveView
   pub there : call_at old.seats seat ≡ Some active
   pub on : RefinesOn hash base seat active did (refines.together sound).calls.change old new
@@ -31,12 +32,14 @@ pub record FindsByStep {K : Type 0} (hash : RecordKey → ℕ) (base : State) (s
 -- by one of so many steps of a seat, each of which moves
 pub record FindsByMove {K : Type 0} (hash : RecordKey → ℕ) (base : State) (seat moves : ℕ) (old new : KernelState K)
     : Type 0 where
+  -- after so many of them
   pub earlier : ℕ
   pub before : KernelState K
   pub moved : Moves hash seat earlier old before
   pub kind : Kind
   pub behind : KernelState K
   pub finds : FindsByStep hash base seat (steps.Moved kind) before behind
+  -- and before so many
   pub later : ℕ
   pub moves_on : Moves hash seat later behind new
   pub all : moves ≡ earlier + suc later
