@@ -14,6 +14,8 @@ pub mod OwedLemmas
 pub mod UnderWayLemmas
 pub mod OutcomeLemmas
 pub mod RisenLemmas
+pub mod DriveLemmas
+pub mod NameLemmas
 pub mod WaitingLemmas
 pub mod FoundedLemmas
 pub mod TellingLemmas

@@ -1,5 +1,5 @@
 -- Events over a kernel that was opened, and closed behind them, told without the kernel.
-use Rattle.std.proofs.Common.{ℕ, zero, suc, ◌≡◌, ◌+◌, ◌≤◌, ◌⊎◌, ◌↔◌, inl, inr, refl, sym, ap, ◌∙◌, subst, Bool, true, false, ◌||◌, IsSome, IsTrue, List, [], ◌∷◌, ◌++◌, Option, Some, None, drop, length, replicate, take, append-nil, arith}
+use Rattle.std.proofs.Common.{ℕ, zero, suc, ◌≡◌, ◌+◌, ◌≤◌, ◌↔◌, refl, sym, ap, ◌∙◌, subst, Bool, true, false, ◌||◌, IsSome, IsTrue, List, [], ◌∷◌, ◌++◌, Option, Some, None, drop, length, replicate, take, append-nil, arith}
 use Rattle.std.specs.List.{list_any}
 use Rattle.std.specs.Prelude.{slice_get, sum_by}
 use Rattle.std.proofs.lemmas.Option.{get_or_from_slice_get, slice_get_within}
@@ -15,18 +15,18 @@ use Rattle.interleaving_core.specs.declared.fault.CloseFault.TheVariants as clos
 use Rattle.interleavings.specs.Words.{ActiveView, Answer, Call, Caller, Entry, HasSystem, IsFifo, IsFileOf, IsFlushedTo, IsLawful, IsLegal, IsOpened, KernelState, PoolState, RecordKey, State, after, answer_of_call, call_at, call_of, entry_of, part_of, restarted, untold}
 use Rattle.interleavings.specs.Ending.{HasEnded}
 use Rattle.interleavings.specs.Headline.{IsAsPlainLists}
-use Rattle.interleavings.specs.Laws.{AnswersAsPlainLists, ClosesRefine, EventsRefine, RefinesFile, StepsRefineAndDo, StepsRefine}
+use Rattle.interleavings.specs.Laws.{AnswersAsPlainLists, ClosesRefine, DrivesEnd, EventsRefine, RefinesFile, StepsRefineAndDo, StepsRefine}
 use Rattle.interleavings.specs.Refining.{Refines}
 use Rattle.interleavings.specs.Moments.{HasItsPart, HasStood, IsToldBy, TellsRightly, is_stop, marked_by, once_if}
 use Rattle.interleavings.specs.Outcomes.{call_along, call_under_way, nothing_yet, tells_failure}
-use Rattle.interleavings.specs.Playing.{HasPlayed, HasReason, PlaysAsPlainLists, gives_up}
+use Rattle.interleavings.specs.Playing.{HasPlayed, HasReason, PlaysAsPlainLists}
 use Rattle.interleavings.specs.Runs.{AreOfSeats, IsLinearized, IsOfSeat, IsToldItsPart, Runs, told_along}
 use Rattle.interleavings.specs.declared.event.Event.{Event}
 use Rattle.interleavings.specs.declared.event.Outcome.{Outcome}
 use Rattle.interleavings.specs.declared.playing.EndFault.{EndFault}
 use Rattle.interleavings.specs.declared.playing.EndFault.TheVariants.{Busy, Close}
 use Rattle.interleavings.specs.declared.playing.Played.{Played}
-use Rattle.interleavings.proofs.RisenLemmas.{fails_by_along, later_along, risen_within}
+use Rattle.interleavings.proofs.RisenLemmas.{later_along, risen_along, risen_within}
 use Rattle.interleavings.proofs.FoundedLemmas.{founded_along}
 use Rattle.interleavings.proofs.OutcomeLemmas.{come_along, fails_along}
 use Rattle.interleavings.proofs.RunLemmas.{tells_its_part}
@@ -313,21 +313,19 @@ module _ {K : Type 0} (of : K → RecordKey → ℕ) (keys : K) (content : List 
                 (ended.flushed honest_still none)));
           }
 
-      step_reason : StepsRefineAndDo K → StepsRefine K → (was : ℕ) → was ≤ old.pool.faults →
-          played.fault ≡ Some (Close closes.Failed) → HasRisen was faults ⊎ (list_any gives_up os ≡ true)
-      step_reason does steps was before failed = elim (fails_by_along does steps lead hash led.base es os old new
-          are_rows led.led runs opened.failed (ended.failed.0 failed)) [
-            | inl risen ↦ inl (risen_within before
-                (later_along hash es os old new runs) ended.later risen)
-            | inr given_up ↦ inr given_up
-          ]
+      step_reason : StepsRefineAndDo K → DrivesEnd K → (was : ℕ) → was ≤ old.pool.faults →
+          played.fault ≡ Some (Close closes.Failed) → HasRisen was faults
+      step_reason does drives was before failed =
+          risen_within before (later_along hash es os old new runs) ended.later
+          (risen_along does drives lead hash led.base es os old new are_rows led.led runs opened.failed
+          (ended.failed.0 failed))
 
     pub has_reason : EventsRefine K → (IsTrue honest → RefinesFile hash content old) → StepsRefineAndDo K →
-        StepsRefine K → (was : ℕ) → was ≤ old.pool.faults → HasReason honest was faults played
-    has_reason lead led does steps was before =
+        DrivesEnd K → (was : ℕ) → was ≤ old.pool.faults → HasReason honest was faults played
+    has_reason lead led does drives was before =
         let later = later_along hash es os old new runs in
         record {
           device = λ device. risen_within (omega (arith, before, later)) ended.later (omega arith)
               (ended.device device);
-          step = λ true_to_it. step_reason lead true_to_it (led true_to_it) does steps was before;
+          step = λ true_to_it. step_reason lead true_to_it (led true_to_it) does drives was before;
         }

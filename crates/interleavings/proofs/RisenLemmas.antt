@@ -1,6 +1,5 @@
--- Where a step of a kernel that is led fails, a transfer of its device has; but for a drive that made the most steps.
-use Rattle.std.proofs.Common.{ℕ, zero, suc, ◌≡◌, ◌≤◌, ◌<◌, ◌⊎◌, inl, inr, refl, sym, ap, ◌∙◌, subst, Bool, true, false, ◌||◌, List, [], ◌∷◌, Option, Some, None, length, arith}
-use Rattle.std.specs.List.{list_any}
+-- Where a step of a kernel that is led fails, a transfer of its device has.
+use Rattle.std.proofs.Common.{ℕ, zero, suc, ◌≡◌, ◌≤◌, inl, inr, refl, sym, ap, ◌∙◌, subst, Bool, true, false, ◌||◌, List, [], ◌∷◌, Option, Some, None, length, arith}
 use Rattle.std.proofs.lemmas.Bool.{cases_lt}
 use Rattle.std.proofs.lemmas.List.Elements.{All-head, All-nil, All-cons, All-tail}
 use Rattle.page_device.specs.Device.{HasRisen}
@@ -9,9 +8,8 @@ use Rattle.interleaving_core.specs.declared.fault.StepFault.TheVariants as fault
 use Rattle.interleaving_core.specs.declared.step.Step.TheVariants as steps
 use Rattle.interleavings.specs.Words.{ActiveView, IsDriven, IsSeat, IsStep, KernelState, Moves, RecordKey, State, Step, call_at}
 use Rattle.interleavings.specs.Doing.{DoesBy}
-use Rattle.interleavings.specs.Laws.{EventsRefine, StepsRefineAndDo, StepsRefine}
+use Rattle.interleavings.specs.Laws.{DrivesEnd, EventsRefine, StepsRefineAndDo}
 use Rattle.interleavings.specs.Refining.{Refines}
-use Rattle.interleavings.specs.Playing.{gives_up, is_given_up}
 use Rattle.interleavings.specs.Runs.{AreOfSeats, Happens, IsOfSeat, Runs}
 use Rattle.interleavings.specs.declared.event.Event.{Event}
 use Rattle.interleavings.specs.declared.event.Event.TheVariants as events
@@ -19,8 +17,7 @@ use Rattle.interleavings.specs.declared.event.Outcome.{Outcome}
 use Rattle.interleavings.specs.declared.event.Outcome.TheVariants as outcomes
 use Rattle.step_rules.specs.Words.{Change}
 use Rattle.interleavings.proofs.EventLemmas.{event_keeps}
-use Rattle.interleavings.proofs.ScheduleLemmas.{moves_led}
-use Rattle.interleavings.proofs.UnderWayLemmas.{moves_fail_not, stop_same}
+use Rattle.interleavings.proofs.UnderWayLemmas.{drive_fails, stop_same}
 
 -- ---- the count of faults
 
@@ -63,7 +60,7 @@ module _ {K : Type 0} (does : StepsRefineAndDo K) (hash : RecordKey → ℕ) (ba
           let leads = does hash base seat a did old new led there sound step in
           told_risen leads.does.by did (led.together sound).calls.change leads.behind old new leads.does.does fails
 
-  later_moved : (moves : ℕ) (old now : KernelState K) → Moves hash seat moves old now →
+  pub later_moved : (moves : ℕ) (old now : KernelState K) → Moves hash seat moves old now →
       old.pool.faults ≤ now.pool.faults
   later_moved zero old now same =
       subst (λ (k : KernelState K). old.pool.faults ≤ k.pool.faults) (sym same) (omega arith)
@@ -72,27 +69,16 @@ module _ {K : Type 0} (does : StepsRefineAndDo K) (hash : RecordKey → ℕ) (ba
       let last = moved.step.turn.run.rest.later in
       omega (arith, before, last)
 
-  pub drive_risen : StepsRefine K → (did : Step) (old new : KernelState K) → IsSeat old.locks seat →
-      Refines hash base old → IsDriven hash seat did old new → old.failed ≡ false → new.failed ≡ true →
-      HasRisen old.pool.faults new.pool.faults ⊎ (is_given_up did ≡ true)
-  drive_risen steps did old new is led driven sound broken = elim driven.ends [
-    | inl rests ↦
-        let so_far = (moves_led steps hash base seat old is led driven.moves driven.before driven.moved).0 in
-        let sound_still : driven.before.failed ≡ false =
-        moves_fail_not hash seat old driven.moves driven.before driven.moved ∙ sound in
-        let fails : is_failure did ≡ true =
-        sym (rests.step.turn.failed ∙ ap (λ (b : Bool). b || is_failure did) sound_still) ∙ broken in
-        let last = rests.step.turn.run.rest.later in
-        inl (risen_within (later_moved driven.moves old driven.before driven.moved) last (omega arith)
-        (step_risen did driven.before new so_far rests.step sound_still fails))
-    | inr spent ↦ inr (ap is_given_up spent.told)
-  ]
+-- ---- a drive that fails
+
+pub drive_risen : {K : Type 0} → DrivesEnd K → (hash : RecordKey → ℕ) (base : State) (seat : ℕ) (did : Step)
+    (old new : KernelState K) → IsSeat old.locks seat → Refines hash base old → IsDriven hash seat did old new →
+    old.failed ≡ false → new.failed ≡ true → HasRisen old.pool.faults new.pool.faults
+drive_risen drives hash base seat did old new is led driven sound broken =
+    (drives hash base seat did old new is led sound driven).cause
+    (sym (drive_fails hash seat did old new driven ∙ ap (λ (b : Bool). b || is_failure did) sound) ∙ broken)
 
 -- ---- events
-
--- where a kernel fails by some of these events, a transfer has failed, or a drive was given up
-abbrev pub HasFailedBy : {K : Type 0} → Bool → (old new : KernelState K) → Type 0
-HasFailedBy given_up old new = HasRisen old.pool.faults new.pool.faults ⊎ (given_up ≡ true)
 
 module _ {K : Type 0} (hash : RecordKey → ℕ) where
   event_later : (e : Event) (o : Outcome) (old new : KernelState K) → Happens hash e o old new →
@@ -123,7 +109,8 @@ module _ {K : Type 0} (hash : RecordKey → ℕ) where
       let rest = later_along es os runs.between new runs.rest in
       omega (arith, first, rest)
 
-module _ {K : Type 0} (does : StepsRefineAndDo K) (steps : StepsRefine K) (lead : EventsRefine K) (hash : RecordKey → ℕ)
+-- where a kernel fails by some of these events, a transfer has failed
+module _ {K : Type 0} (does : StepsRefineAndDo K) (drives : DrivesEnd K) (lead : EventsRefine K) (hash : RecordKey → ℕ)
     (base : State) where
   not_both : {X : Type 0} (b : Bool) → b ≡ false → b ≡ true → X
   not_both b is_false is_true = absurd (clash (sym is_false ∙ is_true))
@@ -131,47 +118,32 @@ module _ {K : Type 0} (does : StepsRefineAndDo K) (steps : StepsRefine K) (lead 
       clash : false ≡ true → ⊥
       clash is = cc
 
-  event_fails_by : (e : Event) (o : Outcome) (old new : KernelState K) → IsOfSeat (length old.locks) e →
+  event_risen : (e : Event) (o : Outcome) (old new : KernelState K) → IsOfSeat (length old.locks) e →
       Refines hash base old → Happens hash e o old new → old.failed ≡ false → new.failed ≡ true →
-      HasFailedBy (gives_up o) old new
-  event_fails_by (events.Begin seat call) outcomes.Begun old new is led has sound broken =
+      HasRisen old.pool.faults new.pool.faults
+  event_risen (events.Begin seat call) outcomes.Begun old new is led has sound broken =
       not_both old.failed sound (sym (ap (λ (k : KernelState K). k.failed) has.is) ∙ broken)
-  event_fails_by (events.Begin seat call) (outcomes.Refused back fault) old new is led refused sound broken =
+  event_risen (events.Begin seat call) (outcomes.Refused back fault) old new is led refused sound broken =
       not_both old.failed sound (sym (ap (λ (k : KernelState K). k.failed) refused.same) ∙ broken)
-  event_fails_by (events.Step seat) (outcomes.Stepped did) old new is led step sound broken =
-      inl (step_risen does hash base seat did old new led step sound
-      (sym (step.turn.failed ∙ ap (λ (b : Bool). b || is_failure did) sound) ∙ broken))
-  event_fails_by (events.Drive seat) (outcomes.Driven did) old new is led drives sound broken =
-      drive_risen does hash base seat steps did old new is led drives.driven sound broken
-  event_fails_by events.Stop outcomes.Stopped old new is led stops sound broken =
+  event_risen (events.Step seat) (outcomes.Stepped did) old new is led step sound broken =
+      step_risen does hash base seat did old new led step sound
+      (sym (step.turn.failed ∙ ap (λ (b : Bool). b || is_failure did) sound) ∙ broken)
+  event_risen (events.Drive seat) (outcomes.Driven did) old new is led driven sound broken =
+      drive_risen drives hash base seat did old new is led driven.driven sound broken
+  event_risen events.Stop outcomes.Stopped old new is led stops sound broken =
       not_both old.failed sound (sym (stop_same (λ (k : KernelState K). k.failed) old new stops (λ journal room. refl)
       old.stopped refl) ∙ broken)
-  event_fails_by _ _ old new is led never sound broken = absurd never
+  event_risen _ _ old new is led never sound broken = absurd never
 
-  wider : (first old new last : KernelState K) (one other : Bool) → (one ≡ true → other ≡ true) →
-      first.pool.faults ≤ old.pool.faults → old.pool.faults ≤ new.pool.faults → new.pool.faults ≤ last.pool.faults →
-      HasFailedBy one old new → HasFailedBy other first last
-  wider first old new last one other widens before between behind by = elim by [
-    | inl risen ↦ inl (risen_within before between behind risen)
-    | inr given_up ↦ inr (widens given_up)
-  ]
-
-  or_left : (a b : Bool) → a ≡ true → (a || b) ≡ true
-  or_left a b is = ap (λ (x : Bool). x || b) is
-
-  or_right : (a b : Bool) → b ≡ true → (a || b) ≡ true
-  or_right true b is = refl
-  or_right false b is = is
-
-  pub fails_by_along : (es : List Event) (os : List Outcome) (old new : KernelState K) →
+  pub risen_along : (es : List Event) (os : List Outcome) (old new : KernelState K) →
       AreOfSeats (length old.locks) es → Refines hash base old → Runs hash es os old new → old.failed ≡ false →
-      new.failed ≡ true → HasFailedBy (list_any gives_up os) old new
-  fails_by_along [] [] old new are led same sound broken =
+      new.failed ≡ true → HasRisen old.pool.faults new.pool.faults
+  risen_along [] [] old new are led same sound broken =
       not_both old.failed sound (sym (ap (λ (k : KernelState K). k.failed) same) ∙ broken)
-  fails_by_along [] (o ∷ os) old new are led never sound broken = absurd never
-  fails_by_along (e ∷ es) [] old new are led never sound broken = absurd never
-  fails_by_along (e ∷ es) (o ∷ os) old new are led runs sound broken =
-      by runs.between.failed refl (λ sound_between. fails_by_along es os runs.between new are_rest led_between runs.rest
+  risen_along [] (o ∷ os) old new are led never sound broken = absurd never
+  risen_along (e ∷ es) [] old new are led never sound broken = absurd never
+  risen_along (e ∷ es) (o ∷ os) old new are led runs sound broken =
+      by runs.between.failed refl (λ sound_between. risen_along es os runs.between new are_rest led_between runs.rest
       sound_between broken)
     where
       first : IsOfSeat (length old.locks) e
@@ -194,10 +166,8 @@ module _ {K : Type 0} (does : StepsRefineAndDo K) (steps : StepsRefine K) (lead 
       later = later_along hash es os runs.between new runs.rest
 
       by : (b : Bool) → runs.between.failed ≡ b →
-          (runs.between.failed ≡ false → HasFailedBy (list_any gives_up os) runs.between new) →
-          HasFailedBy (gives_up o || list_any gives_up os) old new
-      by true is rest = wider old old runs.between new (gives_up o) (gives_up o || list_any gives_up os)
-          (or_left (gives_up o) (list_any gives_up os)) (omega arith) earlier later
-          (event_fails_by e o old runs.between first led runs.first sound is)
-      by false is rest = wider old runs.between new new (list_any gives_up os) (gives_up o || list_any gives_up os)
-          (or_right (gives_up o) (list_any gives_up os)) earlier later (omega arith) (rest is)
+          (runs.between.failed ≡ false → HasRisen runs.between.pool.faults new.pool.faults) →
+          HasRisen old.pool.faults new.pool.faults
+      by true is rest = risen_within (omega arith) earlier later
+          (event_risen e o old runs.between first led runs.first sound is)
+      by false is rest = risen_within earlier later (omega arith) (rest is)

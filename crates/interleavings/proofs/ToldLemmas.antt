@@ -119,20 +119,20 @@ module _ (steps : StepTogether) (ends : EndTogether) (begins : BeginTogether) {K
   -- its call begins anew
   module _ (anew : TurnsAnew hash seat old.stopped did a (call_at new.seats seat) old.pool new.pool old.locks
       new.locks old.journal new.journal) where
-    abbrev then : KernelState K
+    abbrev pub then : KernelState K
     then = between seat anew.again anew.between old
 
-    at_then : call_at then.seats seat ≡ Some anew.again
+    pub at_then : call_at then.seats seat ≡ Some anew.again
     at_then = at_same old.seats seat (Some anew.again) seated.0 seated.1
 
     -- its last step
-    first : LeadsDoing hash base seat a told.Waiting phase_before old then
+    pub first : LeadsDoing hash base seat a told.Waiting phase_before old then
     first = led_on steps ends begins hash base seat told.Waiting old then is led
         (first_goes seat anew.again anew.between old seated.0 seated.1 sound) a there sound
         (subst (λ (o : Option ActiveView). MakesTurn hash seat old.stopped told.Waiting a o old.pool anew.between
         old.locks old.locks old.journal old.journal) (sym at_then) anew.ends)
 
-    abbrev led_then : Refines hash base then
+    abbrev pub led_then : Refines hash base then
     led_then = first.led.led
 
     abbrev phase_then : Change

@@ -1,13 +1,22 @@
 -- Laws of kernels that refine a system. Each is the contract of a function of laws.rt.
-use Rattle.std.specs.Prelude.{ℕ, ◌≡◌, ◌≢◌, ◌≤◌, ◌⊎◌, Bool, IsTrue, List, None, Some, length, true, false, ⊤}
+use Rattle.std.specs.Prelude.{ℕ, ◌≡◌, ◌≢◌, ◌≤◌, ◌+◌, ◌⊎◌, Bool, IsTrue, List, None, Some, length, true, false, ⊤}
 use Rattle.concurrent_calls.specs.Together.{owes_of}
 use Rattle.concurrent_calls.specs.Words.{Records, StandsAt, overlaid, owes_at, record_of}
 use Rattle.file_check.specs.Fault.{IsOfMachineToo}
 use Rattle.interleaving_core.specs.Beginning.{MayRefuse}
+use Rattle.interleaving_core.specs.Owing.{is_failure}
 use Rattle.interleaving_core.specs.declared.fault.OpenFault.{OpenFault}
 use Rattle.interleaving_core.specs.declared.fault.OpenFault.TheVariants as opens
+use Rattle.interleaving_core.specs.xsi_calls.Laws.{MOST_CALL_STEPS, MOST_STEPS_LEFT}
+use Rattle.interleaving_core.specs.xsi_calls.Words.{AreNamesOf}
+use Rattle.page_device.specs.Device.{HasRisen}
+use Rattle.page_locks.specs.Locks.{kind_of}
+use Rattle.page_locks.specs.Table.{held}
+use Rattle.page_locks.specs.declared.lock.Lock.{Lock}
+use Rattle.page_locks.specs.declared.lock.LockName.{LockName}
+use Rattle.page_locks.specs.declared.lock.LockName.TheVariants as lock_names
 use Rattle.step_rules.specs.Words.{Change}
-use Rattle.interleavings.specs.Words.{ActiveView, BeginFault, Call, Caller, HasCall, HasSystem, IsDriven, IsFileOf, IsFlushedTo, IsLawful, IsOpened, IsRefused, IsSeat, IsStep, IsStopped, KernelState, MAX_SEATS, RecordKey, State, Step, after, call_at, restarted, store_of}
+use Rattle.interleavings.specs.Words.{ActiveView, BeginFault, Call, Caller, HasCall, HasSystem, IsDriven, IsFileOf, IsFlushedTo, IsLawful, IsOpened, IsRefused, IsSeat, IsSpent, IsStep, IsStopped, KernelState, MAX_SEATS, RecordKey, State, Step, after, call_at, restarted, store_of}
 use Rattle.interleavings.specs.Doing.{DoesAsTold}
 use Rattle.interleaving_core.specs.search_counts.Counting.{count_at}
 use Rattle.interleavings.specs.Counting.{HopsFew}
@@ -66,6 +75,23 @@ abbrev pub DrivesRefine : Type 0 → Type 0
 DrivesRefine K = (hash : RecordKey → ℕ) (base : State) (seat : ℕ) (did : Step) (old new : KernelState K) →
     IsSeat old.locks seat → Refines hash base old → IsDriven hash seat did old new → Refines hash base new
 
+-- what is so of a drive from a kernel in which no step has failed
+pub record ComesToItsEnd {K : Type 0} (hash : RecordKey → ℕ) (seat : ℕ) (did : Step) (old new : KernelState K)
+    (driven : IsDriven hash seat did old new) : Type 0 where
+  -- it moves no more often than its call has steps left, and a call that begins: where the one was decided to wait, and
+  -- woken, it begins anew once
+  pub few : driven.moves ≤ MOST_STEPS_LEFT + MOST_CALL_STEPS
+  -- so it never makes the most steps
+  pub unspent : IsSpent seat driven.moves did driven.before new → ⊥
+  -- the file fails it only where a transfer of the device failed
+  pub cause : is_failure did ≡ true → HasRisen old.pool.faults new.pool.faults
+
+-- by what Kernel::drive promises
+abbrev pub DrivesEnd : Type 0 → Type 0
+DrivesEnd K = (hash : RecordKey → ℕ) (base : State) (seat : ℕ) (did : Step) (old new : KernelState K) →
+    IsSeat old.locks seat → Refines hash base old → old.failed ≡ false → (driven : IsDriven hash seat did old new) →
+    ComesToItsEnd hash seat did old new driven
+
 abbrev pub StopsRefine : Type 0 → Type 0
 StopsRefine K = (hash : RecordKey → ℕ) (base : State) (old new : KernelState K) → Refines hash base old →
     IsStopped old new → Refines hash base new
@@ -115,6 +141,27 @@ abbrev pub ClosedOpens : Type 0 → Type 0
 ClosedOpens K = (hash : RecordKey → ℕ) (base : State) (content : List (List ℕ)) (k : KernelState K) →
     Refines hash base k → ((seat : ℕ) → call_at k.seats seat ≡ None) → k.failed ≡ false →
     IsFlushedTo k.pool content → OpensOn K hash content (restarted (after k.callers k.journal base))
+
+-- ---- the names that are held
+
+-- the name of the Counter, of a key or of a queue, under which records are read and written
+abbrev pub IsOfRecords : LockName → Type 0
+IsOfRecords (lock_names.Key key) = ⊤
+IsOfRecords lock_names.Counter = ⊤
+IsOfRecords (lock_names.Queue id) = ⊤
+IsOfRecords lock_names.Directory = ⊥
+IsOfRecords (lock_names.Page page) = ⊥
+
+-- besides the directory and pages a seat holds names of its call, in their kinds, and no others
+pub record HoldsItsNames {K : Type 0} (seat : ℕ) (a : ActiveView) (k : KernelState K) : Type 0 where
+  pub names : List Lock
+  pub of_call : AreNamesOf a.machine.call names
+  pub holds : (name : LockName) → IsOfRecords name → held k.locks seat name ≡ kind_of names name
+
+-- at each place of its call, until a step has failed
+abbrev pub SeatsHoldTheirNames : Type 0 → Type 0
+SeatsHoldTheirNames K = (hash : RecordKey → ℕ) (base : State) (k : KernelState K) (seat : ℕ) (a : ActiveView) →
+    Refines hash base k → k.failed ≡ false → call_at k.seats seat ≡ Some a → HoldsItsNames seat a k
 
 -- ---- pending writes
 

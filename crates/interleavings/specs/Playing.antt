@@ -1,31 +1,17 @@
 -- What events over the file of a device come to, from its opening to its closing: told by its pages, by what each seat
 -- was told and by the journal alone. docs/QUEUES.md, "Journals", "Order"; docs/STEPS.md, "Calls".
-use Rattle.std.specs.Prelude.{ℕ, ◌≡◌, ◌↔◌, ◌⊎◌, Bool, true, false, IsSome, IsTrue, List, Some, None}
+use Rattle.std.specs.Prelude.{ℕ, ◌≡◌, ◌↔◌, Bool, true, IsSome, IsTrue, List, Some, None}
 use Rattle.std.specs.List.{list_any}
-use Rattle.file_pages.specs.declared.fault.FileFault.TheVariants.{Failed}
 use Rattle.page_device.specs.Device.{HasRisen}
 use Rattle.interleaving_core.specs.declared.fault.CloseFault.TheVariants as closes
-use Rattle.interleaving_core.specs.declared.fault.StepFault.TheVariants as faults
-use Rattle.interleaving_core.specs.declared.step.Step.TheVariants as steps
-use Rattle.interleavings.specs.Words.{Caller, IsFifo, IsFileOf, IsLegal, RecordKey, State, Step, after, restarted}
+use Rattle.interleavings.specs.Words.{Caller, IsFifo, IsFileOf, IsLegal, RecordKey, State, after, restarted}
 use Rattle.interleavings.specs.Moments.{HasItsPart, HasStood, TellsRightly}
 use Rattle.interleavings.specs.Outcomes.{AreOutcomes, call_under_way, nothing_yet, tells_failure}
 use Rattle.interleavings.specs.declared.event.Event.{Event}
-use Rattle.interleavings.specs.declared.event.Outcome.{Outcome}
-use Rattle.interleavings.specs.declared.event.Outcome.TheVariants as outcomes
 use Rattle.interleavings.specs.declared.playing.EndFault.TheVariants.{Busy, Close}
 use Rattle.interleavings.specs.declared.playing.Played.{Played}
 
 -- ---- of any device
-
--- its drive was given up, as its call moved in each of the most steps; or a step had failed before
-abbrev pub is_given_up : Step → Bool
-is_given_up (steps.Fault (faults.File Failed)) = true
-is_given_up _ = false
-
-abbrev pub gives_up : Outcome → Bool
-gives_up (outcomes.Driven did) = is_given_up did
-gives_up _ = false
 
 pub record HasPlayed {D : Type 0} (es : List Event) (played : Played D) : Type 0 where
   pub outcomes : AreOutcomes nothing_yet es played.outcomes.items
@@ -42,9 +28,8 @@ pub record HasPlayed {D : Type 0} (es : List Event) (played : Played D) : Type 0
 pub record HasReason {D : Type 0} (honest : Bool) (old new : ℕ) (played : Played D) : Type 0 where
   -- a transfer failed where the pages were written
   pub device : played.fault ≡ Some (Close closes.Device) → HasRisen old new
-  -- or one did in a step, unless a drive was given up
-  pub step : IsTrue honest → played.fault ≡ Some (Close closes.Failed) →
-      HasRisen old new ⊎ (list_any gives_up played.outcomes.items ≡ true)
+  -- or one did in a step
+  pub step : IsTrue honest → played.fault ≡ Some (Close closes.Failed) → HasRisen old new
 
 -- ---- of a device that gives back what was written
 

@@ -1,13 +1,16 @@
 //! Laws of kernels that refine a system. The functions do nothing; their contracts are the
 //! laws.
 
-ghost use Rattle.interleavings.specs.Laws.{AnswersAsPlainLists, BeginsRefine, ClosedOpens, ClosesRefine, DrivesRefine, EventsRefine, OpensRefine, OwedIsTheRest, RefusalsRefine, SearchesHopFew, StepsRefineAndDo, StepsRefine, StopsRefine};
+ghost use Rattle.interleavings.specs.Laws.{AnswersAsPlainLists, BeginsRefine, ClosedOpens, ClosesRefine, DrivesEnd, DrivesRefine, EventsRefine, OpensRefine, OwedIsTheRest, RefusalsRefine, SearchesHopFew, SeatsHoldTheirNames, StepsRefineAndDo, StepsRefine, StopsRefine};
 
 use concurrent_calls::{
     calls_begin_together, calls_end_together, calls_leave_the_file_at_rest, calls_owe_apart,
     calls_rest_together, calls_step_together, calls_stop_together,
 };
 use file_check::the_file_of_a_system_has_no_fault;
+use interleaving_core::xsi_calls::{
+    calls_have_few_steps, calls_have_few_steps_left, calls_hold_their_names,
+};
 use queue_model::journals_are_first_in_first_out;
 
 /// A kernel that is opened refines the system whose file its device has.
@@ -63,6 +66,19 @@ pub fn drives_refine<K>()
     calls_begin_together();
 }
 
+/// Until a step has failed each drive comes to its end, whatever the other seats are at: it never
+/// makes so many steps that it is given up, and the file fails its call only where a transfer of
+/// the device has failed.
+pub fn drives_end<K>()
+    ensures { DrivesEnd K }
+{
+    calls_step_together();
+    calls_end_together();
+    calls_begin_together();
+    calls_have_few_steps();
+    calls_have_few_steps_left();
+}
+
 /// And where the system is stopped.
 pub fn stops_refine<K>()
     ensures { StopsRefine K }
@@ -115,6 +131,14 @@ pub fn what_is_owed_is_the_rest<K>()
     ensures { OwedIsTheRest K }
 {
     calls_owe_apart();
+}
+
+/// The names that a seat holds, besides the directory and pages, are those of its call in their
+/// kinds, at each place of the call, until a step has failed.
+pub fn seats_hold_their_names<K>()
+    ensures { SeatsHoldTheirNames K }
+{
+    calls_hold_their_names();
 }
 
 /// What it counts of a seat's last search is a hop at most more than the WriteOlds and Tombstones of

@@ -14,8 +14,9 @@ pub use interleaving_core;
 pub use laws::{
     a_closed_file_opens_on_its_system, a_refining_kernel_answers_as_plain_lists,
     a_refining_kernel_closes_on_its_file, a_search_hops_few_times,
-    a_step_does_what_its_seat_is_told, an_opened_kernel_refines, begins_refine, drives_refine,
-    events_refine, refusals_refine, steps_refine, stops_refine, what_is_owed_is_the_rest,
+    a_step_does_what_its_seat_is_told, an_opened_kernel_refines, begins_refine, drives_end,
+    drives_refine, events_refine, refusals_refine, seats_hold_their_names, steps_refine,
+    stops_refine, what_is_owed_is_the_rest,
 };
 pub use playing::{EndFault, Played, play_on};
 pub use renewing::{

@@ -12,7 +12,8 @@ ghost use Rattle.interleavings.specs.Runs.{AreOfSeats};
 use crate::event::{Event, Outcome};
 use crate::laws::{
     a_refining_kernel_answers_as_plain_lists, a_refining_kernel_closes_on_its_file,
-    a_step_does_what_its_seat_is_told, an_opened_kernel_refines, events_refine, steps_refine,
+    a_step_does_what_its_seat_is_told, an_opened_kernel_refines, drives_end, events_refine,
+    steps_refine,
 };
 use crate::running::run;
 use bucket_page::PseudoKey;
@@ -92,6 +93,7 @@ pub fn play_on<D: PageDevice + Drop, K: PseudoKey + Drop>(
     an_opened_kernel_refines::<K>();
     events_refine::<K>();
     steps_refine::<K>();
+    drives_end::<K>();
     a_step_does_what_its_seat_is_told::<K>();
     a_refining_kernel_answers_as_plain_lists::<K>();
     a_refining_kernel_closes_on_its_file::<K>();

@@ -53,6 +53,6 @@ returns-clause-cause g c = (
       (g.D.PageDevice.content c.args.device) (g.D.PageDevice.is_honest c.args.device) c.args.callers.now
       c.args.frames c.in_ok-kernel.kernel c.in_ok-kernel.ensures.ok true_to_it
       (c.in_ok-kernel.ensures.file true_to_it) c.requires.some c.requires.few)
-      c.a_step_does_what_its_seat_is_told.ensures c.steps_refine.ensures _ c.in_ok-kernel.ensures.cause.0,
+      c.a_step_does_what_its_seat_is_told.ensures c.drives_end.ensures _ c.in_ok-kernel.ensures.cause.0,
   tt,
 )
