@@ -46,7 +46,8 @@ Prints the number and the answer of each line, in the order of SCRIPT; 'fault 20
 or SCHEDULE can't be read, 'fault N' alone where FILE is not opened, 'fault N' behind the answers
 where a line is left that no seat can finish, or FILE is not closed well.
 With --trace standard error has a line for each event: 'SEAT begins LINE', 'SEAT KIND' for a step,
-'SEAT blocked by SEAT', 'SEAT waits', 'SEAT replied LINE', or 'stop'. Nothing else changes by it.
+with its lock or its pages, 'SEAT blocked by SEAT, which holds LOCK', 'SEAT waits',
+'SEAT replied LINE', or 'stop'. Nothing else changes by it.
 Exit status 0, 1 where a fault was printed or standard output refused a write, 2 where the command
 line, SCRIPT or SCHEDULE is wrong: then nothing was run, and standard error says 'script line N' or
 'schedule word N'.";
