@@ -1,5 +1,5 @@
 -- A find that is made in one go. docs/STEPS.md, "Search".
-use Rattle.std.specs.Prelude.{ℕ, ◌≡◌, List, [], ◌∷◌, ◌++◌, Option}
+use Rattle.std.specs.Prelude.{ℕ, ◌≡◌, List, [], ◌∷◌, ◌++◌, length, Option, Some}
 use Rattle.file_pages.specs.declared.fault.FileFault.{FileFault}
 use Rattle.record_operation.specs.OperationRuns.{operation_at, operation_done}
 use Rattle.record_operation.specs.stale_search.SearchRuns.{At, at, standing, way_up_to}
@@ -8,8 +8,9 @@ use Rattle.record_operation.specs.stale_search.declared.place.SearchPlace.TheVar
 use Rattle.record_operation.specs.step_rules.Runs.{MovesAlong, Stop, stop, stops_in}
 use Rattle.record_operation.specs.step_rules.declared.kind.Kind.TheVariants as kinds
 use Rattle.record_access.specs.Words.{RecordKey, PoolState, Table, IsSeat, IsReady, EndsRow, Progress, row_of, store_of}
-use Rattle.record_access.specs.Accesses.{AccessView, access_locks}
+use Rattle.record_access.specs.Accesses.{AccessView, access_key, access_locks}
 use Rattle.record_access.specs.AccessSteps.{MakesAccess}
+use Rattle.record_access.specs.Readings.{value_on}
 
 -- where an access may be stepped
 pub record MayAccess (seat : ℕ) (s : At AccessView) : Type 0 where
@@ -52,3 +53,9 @@ pub record FindsAtOnce (seat : ℕ) (old new : AccessView) (pool : PoolState) (l
   pub is : new ≡ access_done page found new.bytes old
   pub moves : (hash : RecordKey → ℕ) →
       MovesAlong (AccessStep hash seat) (at old pool locks) (find_stops seat page found new.bytes (at old pool locks))
+
+-- a find has read the value of this length that a page has of its key, and is else what it was
+pub record ReadsAhead (page len : ℕ) (pool : PoolState) (old new : AccessView) : Type 0 where
+  pub is : new ≡ record old { bytes = new.bytes }
+  pub long : length new.bytes ≡ len
+  pub holds : value_on pool page (access_key old) ≡ Some new.bytes

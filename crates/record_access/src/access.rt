@@ -7,9 +7,10 @@ ghost use Rattle.xsi_inquiry.specs.Writing.{HasRange};
 ghost use Rattle.record_access.specs.Words.{Change, FollowsRow, HasEnded, IsReady, IsSeat, EndsRow, Look, MayBeLent, Moved, NearsOrSpares, OnlyWrites, Record, RecordKey, Step, Write, is_fault, operation_found, operation_key, row_of, store_of, world};
 ghost use Rattle.record_access.specs.Purposes.{Purpose, ToFind, ToInsert, ToWrite, is_write};
 ghost use Rattle.record_access.specs.Accesses.{Allows, HasFound, Serves, access_answer, access_facts, access_left, access_locks, access_turn, begun, has_no_room};
-ghost use Rattle.record_access.specs.AccessRuns.{FindsAtOnce};
 ghost use Rattle.record_access.specs.AccessSteps.{Faces, KeepsAccess, MakesAccess, TellsOf};
 ghost use Rattle.record_access.specs.Readings.{IsReplace, Takes};
+
+mod ahead;
 
 use crate::fitting::links_fit;
 use crate::reading::{read_front, read_value};
@@ -262,29 +263,6 @@ impl Access {
             (world pool.old.images locks.old change) (world pool.new.images locks.new change) }
     {
         self.make(pool, locks, keys, seat)
-    }
-
-    /// All steps of a find, in one go: where it has not begun, its pages are in frames, the page
-    /// that the directory names has the pseudokey, and nobody stands in its way. Else nothing is
-    /// done, and it is left to `step`. What it would be granted on the way it would give back.
-    pub fn skip<D: PageDevice>(&mut self, pool: &mut Pool<D>, locks: &LockTable, seat: u8) -> bool
-        requires seat { IsSeat locks.now seat }
-        requires ready { IsReady pool.old }
-        requires row { EndsRow (access_locks self.old) 3 (row_of locks.now seat) }
-        ensures pool { pool.new ≡ pool.old }
-        ensures made { result ≡ true → FindsAtOnce seat self.old self.new pool.old locks.now }
-        ensures spares { result ≡ false → self.new ≡ self.old }
-    {
-        let Some((page, found)) = self.operation.ahead(pool, locks, seat) else {
-            return false;
-        };
-        if let Some(len) = found {
-            if !self.take_ahead(pool, page, len) {
-                return false;
-            }
-        }
-        self.operation.arrive(page, found);
-        true
     }
 
     /// One step of its operation; where a page answers by it, that page is read.

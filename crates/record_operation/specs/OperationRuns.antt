@@ -1,5 +1,5 @@
 -- A find that is made in one go: its states on the way. docs/STEPS.md, "Search".
-use Rattle.std.specs.Prelude.{ℕ, List, [], ◌∷◌, ◌++◌, Option}
+use Rattle.std.specs.Prelude.{ℕ, List, [], ◌∷◌, ◌++◌, Option, ⊤}
 use Rattle.record_insert.specs.file_pages.declared.fault.FileFault.{FileFault}
 use Rattle.record_insert.specs.record_file.BucketRuns.{bucket_at, bucket_found}
 use Rattle.record_insert.specs.stale_search.SearchRuns.{At, at, standing, way_to}
@@ -14,6 +14,10 @@ use Rattle.record_operation.specs.Operations.{operation_locks}
 abbrev pub OperationStep : ℕ → Progress FileFault → (old new : At RecordOperation) → Type 0
 OperationStep seat did old new = (hash : RecordKey → ℕ) (bytes : List ℕ) →
     MakesOperation hash seat bytes did old.machine new.machine old.pool new.pool old.locks new.locks
+
+abbrev pub IsFind : RecordOperation → Type 0
+IsFind (Find f) = ⊤
+IsFind o = ⊥
 
 -- a find whose search is at this place; of others this is not asked
 abbrev pub operation_at : SearchPlace → RecordOperation → RecordOperation

@@ -1,5 +1,5 @@
 -- A search that goes straight to the page that answers: its states on the way. docs/STEPS.md, "Search".
-use Rattle.std.specs.Prelude.{ℕ, not, List, [], ◌∷◌, ◌++◌, Option}
+use Rattle.std.specs.Prelude.{ℕ, ◌≡◌, not, List, [], ◌∷◌, ◌++◌, Option}
 use Rattle.file_pages.specs.declared.fault.FileFault.{FileFault}
 use Rattle.step_rules.specs.Runs.{Stop, stop, stops_in}
 use Rattle.step_rules.specs.Turns.{is_fault}
@@ -21,6 +21,10 @@ at v pool locks = record { machine = v; pool = pool; locks = locks }
 -- the machine, with its locks after those that the seat had
 abbrev pub standing : {V : Type 0} → (V → List Lock → List Lock) → ℕ → PoolState → Table → V → At V
 standing locks_of seat pool locks v = at v pool (with_row locks seat (locks_of v (row_of locks seat)))
+
+-- a machine that has no lock
+abbrev pub HasNoLock : (List Lock → List Lock) → Type 0
+HasNoLock locks = (before : List Lock) → locks before ≡ before
 
 -- ---- its steps
 
