@@ -6,7 +6,7 @@ use Rattle.file_pages.specs.Reads.{OnlyReads}
 use Rattle.page_locks.proofs.ChangeLemmas.{IsSeat-with_row}
 use Rattle.page_locks.proofs.TableLemmas.{row_of-same}
 use Rattle.page_locks.specs.declared.row.TheConstants.{MAX_LOCKS}
-use Rattle.record_operation.specs.OperationRuns.{OperationStep, operation_done, operation_stops}
+use Rattle.record_operation.specs.OperationRuns.{IsFind, OperationStep, operation_stops}
 use Rattle.record_operation.specs.declared.operation.RecordOperation.TheVariants as operations
 use Rattle.record_operation.specs.record_file.BucketAccesses.{BucketView}
 use Rattle.record_operation.specs.record_file.BucketRuns.{bucket_at}
@@ -21,12 +21,12 @@ use Rattle.record_access.proofs.Names.{FileFault, MakesOperation}
 use Rattle.record_access.proofs.StepLemmas.{makes_other}
 use Rattle.record_access.proofs.TakeLemmas.{took}
 use Rattle.record_access.proofs.TakingLemmas.{value_takes}
-use Rattle.record_access.specs.AccessRuns.{AccessStep, MayAccess, access_at, access_done, find_stops}
+use Rattle.record_access.specs.AccessRuns.{AccessStep, FindsAtOnce, MayAccess, access_at, access_done, find_stops}
 use Rattle.record_access.specs.AccessSteps.{MakesAccess, SuitsFound}
 use Rattle.record_access.specs.Accesses.{AccessView, IsOfKind, IsRecordOf, IsToldIn, access_key, access_locks}
 use Rattle.record_access.specs.Purposes.{Purpose, ToFind, ToInsert, ToWrite, is_write}
 use Rattle.record_access.specs.Readings.{IsTold, SuitsRecord, Takes, value_on}
-use Rattle.record_access.specs.Words.{Delete, HasNoFileLock, IsReady, IsSeat, Links, Look, Moved, PoolState, Progress, Record, RecordKey, RecordOperation, Relink, Replace, Table, found_of, operation_locks, row_of, store_of, value_of}
+use Rattle.record_access.specs.Words.{Delete, EndsRow, HasNoFileLock, IsReady, IsSeat, Links, Lock, Look, MayBeLent, Moved, PoolState, Progress, Record, RecordKey, RecordOperation, Relink, Replace, Table, found_of, operation_key, operation_locks, row_of, store_of, value_of}
 
 -- who only looks at pages in frames leaves the pool
 untouched : (pool : PoolState) → IsReady pool → OnlyReads true pool pool
@@ -140,7 +140,7 @@ module _ (seat : ℕ) (pool : PoolState) (ready : IsReady pool) (locks : Table) 
         took {X = ℕ} hash seat (Moved Look) (b (places.Look page) bytes) (b (places.Found page found) bytes).operation
         pool pool pool t t op refl refl (b (places.Found page found) bytes') (Ok 0) (read_takes found ahead) refl refl
 
-    pub finds_straight : (found : Option ℕ) → IsReadAhead found page f.search.key pool bytes bytes' →
+    finds_straight : (found : Option ℕ) → IsReadAhead found page f.search.key pool bytes bytes' →
         MovesAlong (OperationStep seat) (at (operations.Find f) pool locks)
         (operation_stops seat page found (at (operations.Find f) pool locks)) →
         MovesAlong (AccessStep hash seat) (at (a f links bytes written) pool locks)
@@ -177,3 +177,44 @@ module _ (seat : ℕ) (pool : PoolState) (ready : IsReady pool) (locks : Table) 
       },
       tt,
     )
+
+-- as many bytes as are read may be lent to it
+pub lent_to_find : (o : RecordOperation) (bytes : ℕ) → IsFind o → MayBeLent bytes o
+lent_to_find (operations.Find f) bytes find = tt
+lent_to_find (operations.Insert i) bytes find = absurd find
+lent_to_find (operations.Replace r) bytes find = absurd find
+lent_to_find (operations.Delete d) bytes find = absurd find
+
+module _ (seat : ℕ) (pool : PoolState) (ready : IsReady pool) (locks : Table) (seated : IsSeat locks seat)
+    (old new : AccessView) (find : IsFind old.operation) (none : HasNoLock (access_locks old))
+    (row : EndsRow (access_locks old) 3 (row_of locks seat)) where
+  -- the row of its seat is what that had before
+  row_is : row.before ≡ row_of locks seat
+  row_is = sym (row.is ∙ none row.before)
+
+  pub finds_at_once : (page : ℕ) (found : Option ℕ) → new ≡ access_done page found new.bytes old →
+      IsReadAhead found page (access_key old) pool old.bytes new.bytes →
+      MovesAlong (OperationStep seat) (at old.operation pool locks)
+      (operation_stops seat page found (at old.operation pool locks)) → FindsAtOnce seat old new pool locks
+  finds_at_once page found is ahead moves = record {
+    page = page;
+    found = found;
+    is = is;
+    moves = λ hash. by hash old.operation find none ahead moves;
+  }
+    where
+      abbrev of : RecordOperation → AccessView
+      of o = record { operation = o; links = old.links; bytes = old.bytes; written = old.written }
+
+      by : (hash : RecordKey → ℕ) (o : RecordOperation) → IsFind o → HasNoLock (operation_locks o) →
+          IsReadAhead found page (operation_key o) pool old.bytes new.bytes →
+          MovesAlong (OperationStep seat) (at o pool locks) (operation_stops seat page found (at o pool locks)) →
+          MovesAlong (AccessStep hash seat) (at (of o) pool locks)
+          (find_stops seat page found new.bytes (at (of o) pool locks))
+      by hash (operations.Find f) find none ahead moves =
+          finds_straight seat pool ready locks seated (subst HasNoFileLock row_is row.bare)
+          (subst (λ (r : List Lock). length r + 3 ≤ MAX_LOCKS) row_is row.room) hash f old.links old.bytes new.bytes
+          old.written page none found ahead moves
+      by hash (operations.Insert i) find none ahead moves = absurd find
+      by hash (operations.Replace r) find none ahead moves = absurd find
+      by hash (operations.Delete d) find none ahead moves = absurd find
