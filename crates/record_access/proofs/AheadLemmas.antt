@@ -1,6 +1,6 @@
 -- A find that goes straight to the page that answers: each move of its operation is one of its own, and at the Look it
 -- takes what that page has of its key.
-use Rattle.std.proofs.Common.{◌≡◌, refl, sym, ap, ◌∙◌, subst, ℕ, ◌+◌, ◌≤◌, Bool, false, List, length, Option, Some, None, IsTrue, Ok, arith}
+use Rattle.std.proofs.Common.{◌≡◌, refl, sym, ap, ◌∙◌, subst, ℕ, ◌+◌, ◌≤◌, Bool, true, false, List, length, Option, Some, None, IsTrue, Ok, arith}
 use Rattle.std.specs.Option.{option_map}
 use Rattle.file_pages.specs.Reads.{OnlyReads}
 use Rattle.page_locks.proofs.ChangeLemmas.{IsSeat-with_row}
@@ -21,11 +21,11 @@ use Rattle.record_access.proofs.Names.{FileFault, MakesOperation}
 use Rattle.record_access.proofs.StepLemmas.{makes_other}
 use Rattle.record_access.proofs.TakeLemmas.{took}
 use Rattle.record_access.proofs.TakingLemmas.{value_takes}
-use Rattle.record_access.specs.AccessRuns.{AccessStep, FindsAtOnce, MayAccess, access_at, access_done, find_stops}
+use Rattle.record_access.specs.AccessRuns.{AccessStep, AreRead, FindsAtOnce, MayAccess, access_at, access_done, find_stops}
 use Rattle.record_access.specs.AccessSteps.{MakesAccess, SuitsFound}
 use Rattle.record_access.specs.Accesses.{AccessView, IsOfKind, IsRecordOf, IsToldIn, access_key, access_locks}
 use Rattle.record_access.specs.Purposes.{Purpose, ToFind, ToInsert, ToWrite, is_write}
-use Rattle.record_access.specs.Readings.{IsTold, SuitsRecord, Takes, value_on}
+use Rattle.record_access.specs.Readings.{IsTold, SuitsRecord, Takes}
 use Rattle.record_access.specs.Words.{Delete, EndsRow, HasNoFileLock, IsReady, IsSeat, Links, Lock, Look, MayBeLent, Moved, PoolState, Progress, Record, RecordKey, RecordOperation, Relink, Replace, Table, found_of, operation_key, operation_locks, row_of, store_of, value_of}
 
 -- who only looks at pages in frames leaves the pool
@@ -80,11 +80,6 @@ module _ (f : BucketView) (links : Option Links) (bytes : List ℕ) (written : B
 
 -- ---- its moves
 
--- the value of this length that the page has of the key, or none of it
-abbrev pub IsReadAhead : Option ℕ → ℕ → RecordKey → PoolState → (old new : List ℕ) → Type 0
-IsReadAhead None page key pool old new = new ≡ old
-IsReadAhead (Some len) page key pool old new = (length new ≡ len) × (value_on pool page key ≡ Some new)
-
 module _ (seat : ℕ) (pool : PoolState) (ready : IsReady pool) (locks : Table) (seated : IsSeat locks seat)
     (bare : HasNoFileLock (row_of locks seat)) (room : length (row_of locks seat) + 3 ≤ MAX_LOCKS) (hash : RecordKey → ℕ)
     where
@@ -121,7 +116,7 @@ module _ (seat : ℕ) (pool : PoolState) (ready : IsReady pool) (locks : Table) 
     abbrev b : SearchPlace → List ℕ → AccessView
     b place read = record (access_at place (a f links read written)) { bytes = read }
 
-    read_takes : (found : Option ℕ) → IsReadAhead found page f.search.key pool bytes bytes' →
+    read_takes : (found : Option ℕ) → AreRead found page f.search.key pool bytes bytes' →
         Takes {X = ℕ} (Ok 0) pool pool (b (places.Found page found) bytes) (b (places.Found page found) bytes')
     read_takes None is =
         subst (λ (read : List ℕ). Takes {X = ℕ} (Ok 0) pool pool (b (places.Found page None) bytes)
@@ -131,7 +126,7 @@ module _ (seat : ℕ) (pool : PoolState) (ready : IsReady pool) (locks : Table) 
         value_takes (operations.Find (bucket_at (places.Found page (Some len)) f)) links bytes bytes' written page len
         refl pool pool 0 (untouched pool ready) long (λ honest. holds)
 
-    looks : (found : Option ℕ) (t : Table) → IsReadAhead found page f.search.key pool bytes bytes' →
+    looks : (found : Option ℕ) (t : Table) → AreRead found page f.search.key pool bytes bytes' →
         MakesOperation hash seat bytes (Moved Look) (b (places.Look page) bytes).operation
         (b (places.Found page found) bytes).operation pool pool t t →
         MakesAccess hash seat (Moved Look) (b (places.Look page) bytes) (b (places.Found page found) bytes') pool pool
@@ -140,42 +135,54 @@ module _ (seat : ℕ) (pool : PoolState) (ready : IsReady pool) (locks : Table) 
         took {X = ℕ} hash seat (Moved Look) (b (places.Look page) bytes) (b (places.Found page found) bytes).operation
         pool pool pool t t op refl refl (b (places.Found page found) bytes') (Ok 0) (read_takes found ahead) refl refl
 
-    finds_straight : (found : Option ℕ) → IsReadAhead found page f.search.key pool bytes bytes' →
+    finds_straight : (found : Option ℕ) → AreRead found page f.search.key pool bytes bytes' →
         MovesAlong (OperationStep seat) (at (operations.Find f) pool locks)
         (operation_stops seat page found (at (operations.Find f) pool locks)) →
         MovesAlong (AccessStep hash seat) (at (a f links bytes written) pool locks)
         (find_stops seat page found bytes' (at (a f links bytes written) pool locks))
-    finds_straight found ahead (entered, told_depth, told_entry, held, left, looked, given, end) = (
+    finds_straight found ahead (entered, (told_depth, (told_entry, (held, (left, (looked, (given, end))))))) = (
       record {
         may = may_begin (a f links bytes written) none;
         makes = quiet kinds.Grant (a f links bytes written) _ _ _ refl (λ same. absurd cc) (entered hash bytes);
       },
-      record {
-        may = may_at (b places.ReadDepth bytes);
-        makes = quiet kinds.ReadDepth (b places.ReadDepth bytes) _ _ _ refl (λ same. absurd cc)
-            (told_depth hash bytes);
-      },
-      record {
-        may = may_at (b (places.ReadEntry (store_of pool.images).header.depth) bytes);
-        makes = quiet kinds.ReadEntry (b (places.ReadEntry (store_of pool.images).header.depth) bytes) _ _ _ refl
-            (λ same. absurd cc) (told_entry hash bytes);
-      },
-      record {
-        may = may_at (b (places.GrantPage page) bytes);
-        makes = quiet kinds.Grant (b (places.GrantPage page) bytes) _ _ _ refl (λ same. absurd cc) (held hash bytes);
-      },
-      record {
-        may = may_at (b (places.ReleaseDirectory page) bytes);
-        makes = quiet kinds.Release (b (places.ReleaseDirectory page) bytes) _ _ _ refl (λ same. absurd cc)
-            (left hash bytes);
-      },
-      record { may = may_at (b (places.Look page) bytes); makes = looks found _ ahead (looked hash bytes) },
-      record {
-        may = may_at (b (places.Found page found) bytes');
-        makes = quiet kinds.Release (b (places.Found page found) bytes') _ _ _ refl (λ same. absurd cc)
-            (given hash bytes');
-      },
-      tt,
+      (
+        record {
+          may = may_at (b places.ReadDepth bytes);
+          makes = quiet kinds.ReadDepth (b places.ReadDepth bytes) _ _ _ refl (λ same. absurd cc)
+              (told_depth hash bytes);
+        },
+        (
+          record {
+            may = may_at (b (places.ReadEntry (store_of pool.images).header.depth) bytes);
+            makes = quiet kinds.ReadEntry (b (places.ReadEntry (store_of pool.images).header.depth) bytes) _ _ _ refl
+                (λ same. absurd cc) (told_entry hash bytes);
+          },
+          (
+            record {
+              may = may_at (b (places.GrantPage page) bytes);
+              makes = quiet kinds.Grant (b (places.GrantPage page) bytes) _ _ _ refl (λ same. absurd cc) (held hash bytes);
+            },
+            (
+              record {
+                may = may_at (b (places.ReleaseDirectory page) bytes);
+                makes = quiet kinds.Release (b (places.ReleaseDirectory page) bytes) _ _ _ refl (λ same. absurd cc)
+                    (left hash bytes);
+              },
+              (
+                record { may = may_at (b (places.Look page) bytes); makes = looks found _ ahead (looked hash bytes) },
+                (
+                  record {
+                    may = may_at (b (places.Found page found) bytes');
+                    makes = quiet kinds.Release (b (places.Found page found) bytes') _ _ _ refl (λ same. absurd cc)
+                        (given hash bytes');
+                  },
+                  tt,
+                ),
+              ),
+            ),
+          ),
+        ),
+      ),
     )
 
 -- as many bytes as are read may be lent to it
@@ -192,8 +199,12 @@ module _ (seat : ℕ) (pool : PoolState) (ready : IsReady pool) (locks : Table) 
   row_is : row.before ≡ row_of locks seat
   row_is = sym (row.is ∙ none row.before)
 
+  -- it, at this operation
+  abbrev of : RecordOperation → AccessView
+  of o = record { operation = o; links = old.links; bytes = old.bytes; written = old.written }
+
   pub finds_at_once : (page : ℕ) (found : Option ℕ) → new ≡ access_done page found new.bytes old →
-      IsReadAhead found page (access_key old) pool old.bytes new.bytes →
+      AreRead found page (access_key old) pool old.bytes new.bytes →
       MovesAlong (OperationStep seat) (at old.operation pool locks)
       (operation_stops seat page found (at old.operation pool locks)) → FindsAtOnce seat old new pool locks
   finds_at_once page found is ahead moves = record {
@@ -203,11 +214,8 @@ module _ (seat : ℕ) (pool : PoolState) (ready : IsReady pool) (locks : Table) 
     moves = λ hash. by hash old.operation find none ahead moves;
   }
     where
-      abbrev of : RecordOperation → AccessView
-      of o = record { operation = o; links = old.links; bytes = old.bytes; written = old.written }
-
       by : (hash : RecordKey → ℕ) (o : RecordOperation) → IsFind o → HasNoLock (operation_locks o) →
-          IsReadAhead found page (operation_key o) pool old.bytes new.bytes →
+          AreRead found page (operation_key o) pool old.bytes new.bytes →
           MovesAlong (OperationStep seat) (at o pool locks) (operation_stops seat page found (at o pool locks)) →
           MovesAlong (AccessStep hash seat) (at (of o) pool locks)
           (find_stops seat page found new.bytes (at (of o) pool locks))

@@ -1,5 +1,5 @@
 -- A find that is made in one go. docs/STEPS.md, "Search".
-use Rattle.std.specs.Prelude.{ℕ, ◌≡◌, List, [], ◌∷◌, ◌++◌, length, Option, Some}
+use Rattle.std.specs.Prelude.{ℕ, ◌≡◌, List, [], ◌∷◌, ◌++◌, length, Option, Some, None}
 use Rattle.file_pages.specs.declared.fault.FileFault.{FileFault}
 use Rattle.record_operation.specs.OperationRuns.{operation_at, operation_done}
 use Rattle.record_operation.specs.stale_search.SearchRuns.{At, at, standing, way_up_to}
@@ -54,8 +54,12 @@ pub record FindsAtOnce (seat : ℕ) (old new : AccessView) (pool : PoolState) (l
   pub moves : (hash : RecordKey → ℕ) →
       MovesAlong (AccessStep hash seat) (at old pool locks) (find_stops seat page found new.bytes (at old pool locks))
 
--- a find has read the value of this length that a page has of its key, and is else what it was
-pub record ReadsAhead (page len : ℕ) (pool : PoolState) (old new : AccessView) : Type 0 where
+-- the bytes are the value of this length that a page has of a key, or what they were where it has none
+abbrev pub AreRead : Option ℕ → ℕ → RecordKey → PoolState → (old new : List ℕ) → Type 0
+AreRead None page key pool old new = new ≡ old
+AreRead (Some len) page key pool old new = (length new ≡ len) × (value_on pool page key ≡ Some new)
+
+-- a find has read them, and is else what it was
+pub record ReadsAhead (page : ℕ) (found : Option ℕ) (pool : PoolState) (old new : AccessView) : Type 0 where
   pub is : new ≡ record old { bytes = new.bytes }
-  pub long : length new.bytes ≡ len
-  pub holds : value_on pool page (access_key old) ≡ Some new.bytes
+  pub read : AreRead found page (access_key old) pool old.bytes new.bytes

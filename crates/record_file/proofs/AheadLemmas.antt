@@ -8,7 +8,7 @@ use Rattle.bucket_merge.specs.stale_search.declared.place.SearchPlace.TheVariant
 use Rattle.page_locks.proofs.ChangeLemmas.{IsSeat-with_row, with_row-own, with_row-twice}
 use Rattle.page_locks.proofs.TableLemmas.{row_of-same}
 use Rattle.step_rules.proofs.RunLemmas.{joined, lifted}
-use Rattle.step_rules.specs.Runs.{MovesAlong, stop}
+use Rattle.step_rules.specs.Runs.{MovesAlong, stop, stops_in}
 use Rattle.step_rules.specs.declared.kind.Kind.{Kind}
 use Rattle.record_file.specs.Words.{Table, IsSeat, Lock, Page, IsReady, Moved, Release, SearchView, EndsRow, HasNoFileLock, found_at, on_page, row_of, search_locks, with_row, without_lock}
 use Rattle.record_file.specs.BucketAccesses.{BucketView, bucket_locks}
@@ -60,7 +60,8 @@ module _ (seat : ℕ) where
         MovesAlong (BucketStep deeds.Find seat) (at (searching v) pool locks)
         (bucket_stops seat page found (at (searching v) pool locks))
     finds_straight moves =
-        joined (BucketStep deeds.Find seat) (at (searching v) pool locks) _
+        joined (BucketStep deeds.Find seat) (at (searching v) pool locks)
+        (stops_in find_of (search_stops seat page found (at v pool locks)))
         (stop Release (at (bucket_found page found (searching v)) pool locks) ∷ [])
         (lifted (SearchStep seat) (BucketStep deeds.Find seat) find_of move_of_search (at v pool locks)
         (search_stops seat page found (at v pool locks)) moves) (move_back, tt)

@@ -21,8 +21,8 @@ use Rattle.stale_search.specs.Words.{RecordKey, PoolState, MAX_LOCKS, Table, IsS
 use Rattle.stale_search.specs.Rows.{HasNoFileLock, in_directory, on_page}
 use Rattle.stale_search.specs.Steps.{world}
 use Rattle.stale_search.specs.Searches.{SearchView, IsShared}
-use Rattle.step_rules.specs.Runs.{MovesAlong, stop}
-use Rattle.stale_search.specs.SearchRuns.{SearchStep, at, search_stops}
+use Rattle.step_rules.specs.Runs.{MovesAlong, Stop, stop}
+use Rattle.stale_search.specs.SearchRuns.{At, SearchStep, at, search_stops}
 use Rattle.stale_search.proofs.RowLemmas.{directory_in, both_held, page_not_in, released}
 use Rattle.stale_search.proofs.LeftLemmas.{twice_below}
 use Rattle.stale_search.proofs.StepLemmas.{granted, granted_page, gave_back, looked, read, taken}
@@ -238,6 +238,18 @@ module _ (seat k hops : ℕ) (key : RecordKey) (kind : LockKind) (pool : PoolSta
     },
   )
 
+  -- its states, behind such a row
+  abbrev straight : Table → ℕ → Option ℕ → List Lock → List (Stop (At SearchView))
+  straight t n found row =
+      stop kinds.Grant (at (v ReadDepth) pool (with_row t seat (in_directory Read row)))
+      ∷ stop kinds.ReadDepth
+      (at (v (ReadEntry (store_of pool.images).header.depth)) pool (with_row t seat (in_directory Read row)))
+      ∷ stop kinds.ReadEntry (at (v (GrantPage n)) pool (with_row t seat (in_directory Read row)))
+      ∷ stop kinds.Grant (at (v (ReleaseDirectory n)) pool (with_row t seat (on_page n kind (in_directory Read row))))
+      ∷ stop kinds.Release (at (v (Look n)) pool (with_row t seat (on_page n kind row)))
+      ∷ stop kinds.Look (at (v (Found n found)) pool (with_row t seat (on_page n kind row)))
+      ∷ []
+
   -- the locks are only looked at, and yet these are moves, one after the other
   pub goes_straight : (t : Table) (n : ℕ) (found : Option ℕ) → IsSeat t seat → hops ≡ 0 → row_of t seat ≡ before →
       (IsOpposed t seat Directory Read → ⊥) →
@@ -253,30 +265,26 @@ module _ (seat k hops : ℕ) (key : RecordKey) (kind : LockKind) (pool : PoolSta
       let three : List Lock = on_page n kind before in
       let seats = λ (locks : List Lock). IsSeat-with_row t seat seat locks seated in
       let rows = λ (locks : List Lock). row_of-same t seat locks seated in
-      let by : MovesAlong (SearchStep seat) (at (v GrantDirectory) pool t) (
-        stop kinds.Grant (at (v ReadDepth) pool (with_row t seat one))
-        ∷ stop kinds.ReadDepth (at (v (ReadEntry depth)) pool (with_row t seat one))
-        ∷ stop kinds.ReadEntry (at (v (GrantPage n)) pool (with_row t seat one))
-        ∷ stop kinds.Grant (at (v (ReleaseDirectory n)) pool (with_row t seat two))
-        ∷ stop kinds.Release (at (v (Look n)) pool (with_row t seat three))
-        ∷ stop kinds.Look (at (v (Found n found)) pool (with_row t seat three)) ∷ []) = (
+      let by : MovesAlong (SearchStep seat) (at (v GrantDirectory) pool t) (straight t n found before) = (
         by_directory t seated begun is nobody,
-        by_depth (with_row t seat one) (seats one) (rows one) depth refl,
-        by_entry (with_row t seat one) (seats one) (rows one) depth n named,
-        subst (λ (table : Table). SearchStep seat (Moved kinds.Grant) (at (v (GrantPage n)) pool (with_row t seat one))
-            (at (v (ReleaseDirectory n)) pool table)) (with_row-twice t seat one two)
-            (by_page (with_row t seat one) (seats one) (rows one) n (still_nobody t one n free)),
-        subst (λ (table : Table). SearchStep seat (Moved kinds.Release)
-            (at (v (ReleaseDirectory n)) pool (with_row t seat two)) (at (v (Look n)) pool table))
-            (with_row-twice t seat two three) (by_release (with_row t seat two) (seats two) n (rows two)),
-        by_look (with_row t seat three) (seats three) n found (rows three) covers found_is,
-        tt,
+        (
+          by_depth (with_row t seat one) (seats one) (rows one) depth refl,
+          (
+            by_entry (with_row t seat one) (seats one) (rows one) depth n named,
+            (
+              subst (λ (table : Table). SearchStep seat (Moved kinds.Grant)
+                  (at (v (GrantPage n)) pool (with_row t seat one)) (at (v (ReleaseDirectory n)) pool table))
+                  (with_row-twice t seat one two)
+                  (by_page (with_row t seat one) (seats one) (rows one) n (still_nobody t one n free)),
+              (
+                subst (λ (table : Table). SearchStep seat (Moved kinds.Release)
+                    (at (v (ReleaseDirectory n)) pool (with_row t seat two)) (at (v (Look n)) pool table))
+                    (with_row-twice t seat two three) (by_release (with_row t seat two) (seats two) n (rows two)),
+                (by_look (with_row t seat three) (seats three) n found (rows three) covers found_is, tt),
+              ),
+            ),
+          ),
+        ),
       ) in
-      subst (λ (row : List Lock). MovesAlong (SearchStep seat) (at (v GrantDirectory) pool t) (
-        stop kinds.Grant (at (v ReadDepth) pool (with_row t seat (in_directory Read row)))
-        ∷ stop kinds.ReadDepth (at (v (ReadEntry depth)) pool (with_row t seat (in_directory Read row)))
-        ∷ stop kinds.ReadEntry (at (v (GrantPage n)) pool (with_row t seat (in_directory Read row)))
-        ∷ stop kinds.Grant (at (v (ReleaseDirectory n)) pool
-        (with_row t seat (on_page n kind (in_directory Read row))))
-        ∷ stop kinds.Release (at (v (Look n)) pool (with_row t seat (on_page n kind row)))
-        ∷ stop kinds.Look (at (v (Found n found)) pool (with_row t seat (on_page n kind row))) ∷ [])) (sym is) by
+      subst (λ (row : List Lock). MovesAlong (SearchStep seat) (at (v GrantDirectory) pool t)
+      (straight t n found row)) (sym is) by

@@ -28,22 +28,28 @@ impl Access {
         let Some((page, found)) = self.operation.ahead(pool, locks, seat) else {
             return false;
         };
-        if let Some(len) = found {
-            if !self.read_ahead(pool, page, len) {
-                return false;
-            }
+        if !self.read_ahead(pool, page, found) {
+            return false;
         }
         self.operation.arrive(page, found);
         true
     }
 
-    /// Takes the value of its key, of this length, from a page that is in a frame, where it spells a
-    /// record of that key.
-    fn read_ahead<D: PageDevice>(&mut self, pool: &Pool<D>, page: u32, len: usize) -> bool
+    /// Takes the value of its key from a page that is in a frame, where one of this length stands
+    /// there and spells a record of that key. Where none stands there is none to take.
+    fn read_ahead<D: PageDevice>(
+        &mut self,
+        pool: &Pool<D>,
+        page: u32,
+        found: Option<usize>,
+    ) -> bool
         requires find { IsFind self.old.operation }
-        ensures made { result ≡ true → ReadsAhead page len pool.now self.old self.new }
+        ensures made { result ≡ true → ReadsAhead page found pool.now self.old self.new }
         ensures spares { result ≡ false → self.new ≡ self.old }
     {
+        let Some(len) = found else {
+            return true;
+        };
         let Some(value) = peek_value(pool, page, &self.key) else {
             return false;
         };
