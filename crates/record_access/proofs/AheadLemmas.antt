@@ -82,108 +82,108 @@ module _ (f : BucketView) (links : Option Links) (bytes : List ℕ) (written : B
 
 module _ (seat : ℕ) (pool : PoolState) (ready : IsReady pool) (locks : Table) (seated : IsSeat locks seat)
     (bare : HasNoFileLock (row_of locks seat)) (room : length (row_of locks seat) + 3 ≤ MAX_LOCKS) (hash : RecordKey → ℕ)
-    where
-  may_at : (b : AccessView) → MayAccess seat (standing access_locks seat pool locks b)
-  may_at b = record {
-    seated = IsSeat-with_row locks seat seat (access_locks b (row_of locks seat)) seated;
-    ready = ready;
-    row = record {
-      before = row_of locks seat;
-      bare = bare;
-      room = room;
-      is = row_of-same locks seat (access_locks b (row_of locks seat)) seated;
-    };
-  }
+  where
+    may_at : (b : AccessView) → MayAccess seat (standing access_locks seat pool locks b)
+    may_at b = record {
+      seated = IsSeat-with_row locks seat seat (access_locks b (row_of locks seat)) seated;
+      ready = ready;
+      row = record {
+        before = row_of locks seat;
+        bare = bare;
+        room = room;
+        is = row_of-same locks seat (access_locks b (row_of locks seat)) seated;
+      };
+    }
 
-  may_begin : (b : AccessView) → HasNoLock (access_locks b) → MayAccess seat (at b pool locks)
-  may_begin b none = record {
-    seated = seated;
-    ready = ready;
-    row = record { before = row_of locks seat; bare = bare; room = room; is = sym (none (row_of locks seat)) };
-  }
+    may_begin : (b : AccessView) → HasNoLock (access_locks b) → MayAccess seat (at b pool locks)
+    may_begin b none = record {
+      seated = seated;
+      ready = ready;
+      row = record { before = row_of locks seat; bare = bare; room = room; is = sym (none (row_of locks seat)) };
+    }
 
-  -- no page answers by it
-  quiet : (kind : Kind) (b : AccessView) (o' : RecordOperation) (t t' : Table) →
-      is_write {F = FileFault} (Moved kind) ≡ false → (◌≡◌ {A = Progress FileFault} (Moved kind) (Moved Look) → ⊥) →
-      MakesOperation hash seat b.bytes (Moved kind) b.operation o' pool pool t t' →
-      MakesAccess hash seat (Moved kind) b (record b { operation = o' }) pool pool t t'
-  quiet kind b o' t t' unwritten other op =
-      makes_other hash seat (Moved kind) b o' pool pool t t' op unwritten (λ looked none. absurd (other looked))
+    -- no page answers by it
+    quiet : (kind : Kind) (b : AccessView) (o' : RecordOperation) (t t' : Table) →
+        is_write {F = FileFault} (Moved kind) ≡ false → (◌≡◌ {A = Progress FileFault} (Moved kind) (Moved Look) → ⊥) →
+        MakesOperation hash seat b.bytes (Moved kind) b.operation o' pool pool t t' →
+        MakesAccess hash seat (Moved kind) b (record b { operation = o' }) pool pool t t'
+    quiet kind b o' t t' unwritten other op =
+        makes_other hash seat (Moved kind) b o' pool pool t t' op unwritten (λ looked none. absurd (other looked))
 
-  module _ (f : BucketView) (links : Option Links) (bytes bytes' : List ℕ) (written : Bool) (page : ℕ)
-      (none : HasNoLock (operation_locks (operations.Find f))) where
-    -- the access of a find, whose search is at a place, and that has read these bytes
-    abbrev b : SearchPlace → List ℕ → AccessView
-    b place read = record (access_at place (a f links read written)) { bytes = read }
+    module _ (f : BucketView) (links : Option Links) (bytes bytes' : List ℕ) (written : Bool) (page : ℕ)
+        (none : HasNoLock (operation_locks (operations.Find f))) where
+      -- the access of a find, whose search is at a place, and that has read these bytes
+      abbrev b : SearchPlace → List ℕ → AccessView
+      b place read = record (access_at place (a f links read written)) { bytes = read }
 
-    read_takes : (found : Option ℕ) → AreRead found page f.search.key pool bytes bytes' →
-        Takes {X = ℕ} (Ok 0) pool pool (b (places.Found page found) bytes) (b (places.Found page found) bytes')
-    read_takes None is =
-        subst (λ (read : List ℕ). Takes {X = ℕ} (Ok 0) pool pool (b (places.Found page None) bytes)
-        (b (places.Found page None) read)) (sym is)
-        (none_takes (bucket_at (places.Found page None) f) links bytes written page refl 0 pool ready)
-    read_takes (Some len) (long, holds) =
-        value_takes (operations.Find (bucket_at (places.Found page (Some len)) f)) links bytes bytes' written page len
-        refl pool pool 0 (untouched pool ready) long (λ honest. holds)
+      read_takes : (found : Option ℕ) → AreRead found page f.search.key pool bytes bytes' →
+          Takes {X = ℕ} (Ok 0) pool pool (b (places.Found page found) bytes) (b (places.Found page found) bytes')
+      read_takes None is =
+          subst (λ (read : List ℕ). Takes {X = ℕ} (Ok 0) pool pool (b (places.Found page None) bytes)
+          (b (places.Found page None) read)) (sym is)
+          (none_takes (bucket_at (places.Found page None) f) links bytes written page refl 0 pool ready)
+      read_takes (Some len) (long, holds) =
+          value_takes (operations.Find (bucket_at (places.Found page (Some len)) f)) links bytes bytes' written page len
+          refl pool pool 0 (untouched pool ready) long (λ honest. holds)
 
-    looks : (found : Option ℕ) (t : Table) → AreRead found page f.search.key pool bytes bytes' →
-        MakesOperation hash seat bytes (Moved Look) (b (places.Look page) bytes).operation
-        (b (places.Found page found) bytes).operation pool pool t t →
-        MakesAccess hash seat (Moved Look) (b (places.Look page) bytes) (b (places.Found page found) bytes') pool pool
-        t t
-    looks found t ahead op =
-        took {X = ℕ} hash seat (Moved Look) (b (places.Look page) bytes) (b (places.Found page found) bytes).operation
-        pool pool pool t t op refl refl (b (places.Found page found) bytes') (Ok 0) (read_takes found ahead) refl refl
+      looks : (found : Option ℕ) (t : Table) → AreRead found page f.search.key pool bytes bytes' →
+          MakesOperation hash seat bytes (Moved Look) (b (places.Look page) bytes).operation
+          (b (places.Found page found) bytes).operation pool pool t t →
+          MakesAccess hash seat (Moved Look) (b (places.Look page) bytes) (b (places.Found page found) bytes') pool pool
+          t t
+      looks found t ahead op =
+          took {X = ℕ} hash seat (Moved Look) (b (places.Look page) bytes) (b (places.Found page found) bytes).operation
+          pool pool pool t t op refl refl (b (places.Found page found) bytes') (Ok 0) (read_takes found ahead) refl refl
 
-    finds_straight : (found : Option ℕ) → AreRead found page f.search.key pool bytes bytes' →
-        MovesAlong (OperationStep seat) (at (operations.Find f) pool locks)
-        (operation_stops seat page found (at (operations.Find f) pool locks)) →
-        MovesAlong (AccessStep hash seat) (at (a f links bytes written) pool locks)
-        (find_stops seat page found bytes' (at (a f links bytes written) pool locks))
-    finds_straight found ahead (entered, (told_depth, (told_entry, (held, (left, (looked, (given, end))))))) = (
-      record {
-        may = may_begin (a f links bytes written) none;
-        makes = quiet kinds.Grant (a f links bytes written) _ _ _ refl (λ same. absurd cc) (entered hash bytes);
-      },
-      (
+      finds_straight : (found : Option ℕ) → AreRead found page f.search.key pool bytes bytes' →
+          MovesAlong (OperationStep seat) (at (operations.Find f) pool locks)
+          (operation_stops seat page found (at (operations.Find f) pool locks)) →
+          MovesAlong (AccessStep hash seat) (at (a f links bytes written) pool locks)
+          (find_stops seat page found bytes' (at (a f links bytes written) pool locks))
+      finds_straight found ahead (entered, (told_depth, (told_entry, (held, (left, (looked, (given, end))))))) = (
         record {
-          may = may_at (b places.ReadDepth bytes);
-          makes = quiet kinds.ReadDepth (b places.ReadDepth bytes) _ _ _ refl (λ same. absurd cc)
-              (told_depth hash bytes);
+          may = may_begin (a f links bytes written) none;
+          makes = quiet kinds.Grant (a f links bytes written) _ _ _ refl (λ same. absurd cc) (entered hash bytes);
         },
         (
           record {
-            may = may_at (b (places.ReadEntry (store_of pool.images).header.depth) bytes);
-            makes = quiet kinds.ReadEntry (b (places.ReadEntry (store_of pool.images).header.depth) bytes) _ _ _ refl
-                (λ same. absurd cc) (told_entry hash bytes);
+            may = may_at (b places.ReadDepth bytes);
+            makes = quiet kinds.ReadDepth (b places.ReadDepth bytes) _ _ _ refl (λ same. absurd cc)
+                (told_depth hash bytes);
           },
           (
             record {
-              may = may_at (b (places.GrantPage page) bytes);
-              makes = quiet kinds.Grant (b (places.GrantPage page) bytes) _ _ _ refl (λ same. absurd cc) (held hash bytes);
+              may = may_at (b (places.ReadEntry (store_of pool.images).header.depth) bytes);
+              makes = quiet kinds.ReadEntry (b (places.ReadEntry (store_of pool.images).header.depth) bytes) _ _ _ refl
+                  (λ same. absurd cc) (told_entry hash bytes);
             },
             (
               record {
-                may = may_at (b (places.ReleaseDirectory page) bytes);
-                makes = quiet kinds.Release (b (places.ReleaseDirectory page) bytes) _ _ _ refl (λ same. absurd cc)
-                    (left hash bytes);
+                may = may_at (b (places.GrantPage page) bytes);
+                makes = quiet kinds.Grant (b (places.GrantPage page) bytes) _ _ _ refl (λ same. absurd cc) (held hash bytes);
               },
               (
-                record { may = may_at (b (places.Look page) bytes); makes = looks found _ ahead (looked hash bytes) },
+                record {
+                  may = may_at (b (places.ReleaseDirectory page) bytes);
+                  makes = quiet kinds.Release (b (places.ReleaseDirectory page) bytes) _ _ _ refl (λ same. absurd cc)
+                      (left hash bytes);
+                },
                 (
-                  record {
-                    may = may_at (b (places.Found page found) bytes');
-                    makes = quiet kinds.Release (b (places.Found page found) bytes') _ _ _ refl (λ same. absurd cc)
-                        (given hash bytes');
-                  },
-                  tt,
+                  record { may = may_at (b (places.Look page) bytes); makes = looks found _ ahead (looked hash bytes) },
+                  (
+                    record {
+                      may = may_at (b (places.Found page found) bytes');
+                      makes = quiet kinds.Release (b (places.Found page found) bytes') _ _ _ refl (λ same. absurd cc)
+                          (given hash bytes');
+                    },
+                    tt,
+                  ),
                 ),
               ),
             ),
           ),
         ),
-      ),
-    )
+      )
 
 -- as many bytes as are read may be lent to it
 pub lent_to_find : (o : RecordOperation) (bytes : ℕ) → IsFind o → MayBeLent bytes o

@@ -37,12 +37,7 @@ impl Access {
 
     /// Takes the value of its key from a page that is in a frame, where one of this length stands
     /// there and spells a record of that key. Where none stands there is none to take.
-    fn read_ahead<D: PageDevice>(
-        &mut self,
-        pool: &Pool<D>,
-        page: u32,
-        found: Option<usize>,
-    ) -> bool
+    fn read_ahead<D: PageDevice>(&mut self, pool: &Pool<D>, page: u32, found: Option<usize>) -> bool
         requires find { IsFind self.old.operation }
         ensures made { result ≡ true → ReadsAhead page found pool.now self.old self.new }
         ensures spares { result ≡ false → self.new ≡ self.old }
