@@ -12,6 +12,8 @@ pub mod HearLemmas
 pub mod GoingLemmas
 pub mod ListenLemmas
 pub mod OpenLemmas
+pub mod QuestionRunLemmas
+pub mod AtOnceLemmas
 pub mod Names
 pub mod AimLemmas
 pub use Rattle.step_rules.proofs as of_step_rules
