@@ -1,9 +1,8 @@
 -- A command asked of a file in memory, and its end on the device.
-use Rattle.std.proofs.Common.{◌≡◌, ◌≢◌, ◌↔◌, ◌∙◌, ℕ, ◌≤◌, inl, inr, Bool, true, false, List, [], ◌∷◌, length, Option, Some, None, IfSome, IsTrue, unwrap_or, Result, Ok, Err, refl, sym, ap, subst, slice_index_or, suc}
+use Rattle.std.proofs.Common.{◌≡◌, ◌≢◌, ◌↔◌, ℕ, ◌≤◌, inl, inr, Bool, true, false, List, [], ◌∷◌, length, Option, Some, None, unwrap_or, Result, Ok, Err, refl, sym, ap, subst, slice_index_or, suc}
 use Rattle.std.specs.List.{list_any}
 use Rattle.page_device.specs.Device.{HasRisen}
 use Rattle.page_copies.proofs.CopyLemmas.{risen-since}
-use Rattle.page_copies.specs.Copies.{IsCopy}
 use Rattle.bucket_page.specs.Pseudokeys.{sha_key}
 use Rattle.bucket_page.specs.declared.pseudokey.ShaKey.{ShaKey}
 use Rattle.lone_kernel.specs.Laws.{ClosesAKernel}
@@ -30,16 +29,6 @@ use Rattle.command_runs.specs.declared.error.CommandError.{CommandError}
 use Rattle.command_runs.specs.declared.error.CommandError.TheVariants as errors
 use Rattle.command_runs.specs.declared.running.Asked.{Asked}
 use Rattle.command_runs.proofs.AskLemmas.{risen}
-
--- a copy of the pages that were read of a device is one of the device
-pub is_copy : (copy : Option Pages) (file old new : Pages) (before after : Bool) → IfSome copy (λ c. c ≡ file) →
-    (IsTrue before → file ≡ old) → length file ≡ length old → new ≡ old → after ≡ before →
-    IfSome copy (IsCopy after new)
-is_copy None file old new before after is read as_many same honest = tt
-is_copy (Some c) file old new before after is read as_many same honest = record {
-  as_many = ap length is ∙ as_many ∙ sym (ap length same);
-  same = λ now. is ∙ read (subst IsTrue honest now) ∙ sym same;
-}
 
 -- a kernel has failed or has not
 apart : {K : Type 0} (k : KernelState K) → k.failed ≡ false → k.failed ≡ true → ⊥

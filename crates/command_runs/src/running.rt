@@ -1,10 +1,9 @@
 //! A command run on the file of a device.
 
-ghost use Rattle.std.specs.Prelude.{◌≡◌, ℕ, List, Option, IfOk, IfSome, IsTrue, OnOk, length};
+ghost use Rattle.std.specs.Prelude.{◌≡◌, ℕ, List, Option, IfOk, IsTrue, OnOk, length};
 ghost use Rattle.bucket_page.specs.Pseudokeys.{sha_key};
 ghost use Rattle.lone_kernel.specs.Lone.{RestsOver};
 ghost use Rattle.lone_kernel.specs.Words.{Caller, State};
-ghost use Rattle.page_copies.specs.Copies.{IsCopy};
 ghost use Rattle.command_runs.specs.Memory.{AsksFile, ComesTo, IsClosed, Pages};
 ghost use Rattle.command_runs.specs.Faults.{unread};
 ghost use Rattle.command_runs.specs.Running.{EndsWith, IsUnwritten, RunsOn, seen};
@@ -31,9 +30,6 @@ use std::io::Write;
 
 /// The frames for the pages of a file in memory, of which a call uses few.
 const FRAMES: usize = 256;
-
-/// Of a file of more pages there is no second copy in memory.
-const MOST_COPIED: u32 = 4_096;
 
 /// What a command leaves.
 #[derive(Drop)]
@@ -79,7 +75,7 @@ pub fn run_on<D: PageDevice + Drop, W: Write>(
         return refuse(alloc, device);
     }
     let mut device = device;
-    let mut file = match copied(alloc, &mut device) {
+    let file = match copied(alloc, &mut device) {
         Ok(file) => file,
         Err(fault) => {
             return Ran {
@@ -88,9 +84,8 @@ pub fn run_on<D: PageDevice + Drop, W: Write>(
             };
         }
     };
-    let copy = second_copy(alloc, &mut file);
     match ask_file(alloc, file, caller, request) {
-        Ok(asked) => end(device, copy, asked, writer),
+        Ok(asked) => end(device, asked, writer),
         Err(error) => Ran {
             device,
             came: Err(error),
@@ -129,28 +124,9 @@ fn unread(fault: DeviceFault) -> OpenFault
     }
 }
 
-/// A copy of a file in memory that is not large. It tells at the end what the device has, which need
-/// not be read and digested again.
-fn second_copy(alloc: Global, file: &mut MemDevice) -> Option<MemDevice>
-    ensures same { file.new ≡ file.old }
-    ensures some { IfSome result (λ copy. copy ≡ file.old) }
-{
-    if file.pages() > MOST_COPIED {
-        return None;
-    }
-    copied(alloc, file).ok()
-}
-
-/// Prints the text of a command, and only then writes its file to the device, of which there may be
-/// a copy.
-fn end<D: PageDevice, W: Write>(
-    device: D,
-    copy: Option<MemDevice>,
-    asked: Asked,
-    writer: &mut W,
-) -> Ran<D>
+/// Prints the text of a command, and only then writes its file to the device.
+fn end<D: PageDevice, W: Write>(device: D, asked: Asked, writer: &mut W) -> Ran<D>
     requires as_many { length asked.file ≡ length (D.content device) }
-    requires copied { IfSome copy (IsCopy (D.is_honest device) (D.content device)) }
     ensures honest { IsTrue (D.is_honest device) → EndsWith asked (D.content result.device)
         (seen (W.contents writer.old) (W.contents writer.new)
         (D.fault_count device) (D.fault_count result.device)) result.came }
@@ -167,7 +143,7 @@ fn end<D: PageDevice, W: Write>(
             came: Err(CommandError::Unprinted(error)),
         };
     }
-    match write_back(&mut file, copy, &mut device) {
+    match write_back(&mut file, &mut device) {
         Ok(()) => Ran {
             device,
             came: Ok(()),

@@ -1,11 +1,10 @@
 -- Pages that are read and written one by one, and why a transfer fails.
-use Rattle.std.proofs.Common.{◌≡◌, ◌⊎◌, ◌↔◌, ◌∙◌, refl, sym, ap, ℕ, ◌+◌, ◌<◌, ◌≤◌, inl, inr, List, [], ◌∷◌, ◌++◌, length, take, get_or, Bool, IfSome, IsTrue, Option, None, Some, slice_get, slice_set, length-set, Err, arith}
+use Rattle.std.proofs.Common.{◌≡◌, ◌⊎◌, ◌↔◌, ◌∙◌, refl, sym, ap, ℕ, ◌+◌, ◌<◌, ◌≤◌, inl, inr, List, [], ◌∷◌, ◌++◌, length, take, get_or, Some, slice_get, slice_set, length-set, Err, arith}
 use Rattle.std.specs.Prelude.{IsErrOf}
 use Rattle.std.proofs.lemmas.Bool.{cases_eq}
 use Rattle.std.proofs.lemmas.List.{get_or-set_other, get_or-set_same, same_lists, take_more}
 use Rattle.std.proofs.lemmas.Option.{slice_get-get_or}
 use Rattle.page_device.specs.Device.{HasCause, HasRisen, MayMeetTheEnd, MayOnlyFail}
-use Rattle.page_copies.specs.Copies.{IsCopy}
 use Rattle.page_device.specs.declared.fault.DeviceFault.{DeviceFault}
 use Rattle.page_device.specs.declared.fault.DeviceFault.TheVariants.{Device, BadDigest, PastEnd, DeviceFull, NoMemory}
 
@@ -57,34 +56,6 @@ write-more file old new n page as_many below is put before k d within = at (case
         ∙ ap (λ i. get_or file i d) (sym same)
     at (inr other) =
         ap (λ (ps : Pages). get_or ps k d) put ∙ get_or-set_other old n k page d other ∙ before k d (omega arith)
-
--- the pages from the next on are those of before
-abbrev pub AreLeft : (old new : Pages) → ℕ → Type 0
-AreLeft old new n = (k : ℕ) (d : List ℕ) → n ≤ k → get_or new k d ≡ get_or old k d
-
--- one page more was written, which leaves those behind it
-pub left-more : (first old new : Pages) (n : ℕ) (page : List ℕ) → new ≡ slice_set old n page → AreLeft first old n →
-    AreLeft first new (n + 1)
-left-more first old new n page put left k d behind =
-    let other : k ≡ n → ⊥ = λ same. omega (arith, behind, same) in
-    ap (λ (ps : Pages). get_or ps k d) put ∙ get_or-set_other old n k page d other ∙ left k d (omega (arith, behind))
-
--- the next page as a copy tells it
-pub known-at : (copy : Option Pages) (honest : Bool) (first now : Pages) (n : ℕ) → IfSome copy (IsCopy honest first) →
-    IsTrue honest → length now ≡ length first → n < length now → AreLeft first now n →
-    IfSome copy (λ c. slice_get c n ≡ slice_get now n)
-known-at None honest first now n copied is as_many below left = tt
-known-at (Some c) honest first now n copied is as_many below left =
-    let same : c ≡ first = copied.same is in
-    let within : n < length first = omega (arith, below, as_many) in
-    let reached : n ≤ n = omega arith in
-    ap (λ (ps : Pages). slice_get ps n) same ∙ slice_get-get_or first n [] within
-    ∙ ap Some (sym (left n [] reached)) ∙ sym (slice_get-get_or now n [] below)
-
-pub copied-long : (copy : Option Pages) (honest : Bool) (first now : Pages) → IfSome copy (IsCopy honest first) →
-    length now ≡ length first → IfSome copy (λ c. length c ≡ length now)
-copied-long None honest first now copied as_many = tt
-copied-long (Some c) honest first now copied as_many = copied.as_many ∙ sym as_many
 
 -- all were written
 pub written : (file content : Pages) (n : ℕ) → length content ≡ length file → length file ≤ n →

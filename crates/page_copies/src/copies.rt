@@ -1,8 +1,7 @@
 //! Pages that are copied one by one.
 
-ghost use Rattle.std.specs.Prelude.{◌≡◌, ◌<◌, ◌≤◌, IfOk, IfSome, IsErrOf, IsTrue, OnErr, OnOk, Some, length, slice_get, slice_set};
+ghost use Rattle.std.specs.Prelude.{◌≡◌, ◌<◌, ◌≤◌, IfOk, IsErrOf, IsTrue, OnErr, OnOk, length, slice_set};
 ghost use Rattle.page_device.specs.Device.{HasRisen};
-ghost use Rattle.page_copies.specs.Copies.{IsCopy};
 
 use page_device::{DeviceFault, MemDevice, PAGE_BYTES, Page, PageDevice};
 use std::alloc::Global;
@@ -33,19 +32,13 @@ pub fn copied<D: PageDevice>(alloc: Global, device: &mut D) -> Result<MemDevice,
 }
 
 /// Writes to a device what it has otherwise than a file in memory of as many pages, and brings it
-/// to where it outlasts the program. What it has is told by a copy of it, or where there is none
-/// read again.
+/// to where it outlasts the program.
 ///
 /// # Errors
 ///
 /// Where a transfer failed. Any page may then be as it was, or as it is in memory.
-pub fn write_back<D: PageDevice>(
-    file: &mut MemDevice,
-    copy: Option<MemDevice>,
-    device: &mut D,
-) -> Result<(), DeviceFault>
+pub fn write_back<D: PageDevice>(file: &mut MemDevice, device: &mut D) -> Result<(), DeviceFault>
     requires as_many { length file.old ≡ length (D.content device.old) }
-    requires copied { IfSome copy (IsCopy (D.is_honest device.old) (D.content device.old)) }
     ensures ok { IsTrue (D.is_honest device.old) →
         OnOk result (D.content device.new ≡ file.old) }
     ensures synced { IsTrue (D.is_honest device.old) →
@@ -53,74 +46,20 @@ pub fn write_back<D: PageDevice>(
     ensures err { OnErr result
         (HasRisen (D.fault_count device.old) (D.fault_count device.new)) }
 {
-    let mut copy = copy;
     let mut page = [0; PAGE_BYTES];
     for number in 0..file.pages() {
         file.read(number, &mut page)?;
-        put_page(device, &mut copy, number, &page)?;
+        put_page(device, number, &page)?;
     }
     device.sync()
 }
 
-/// Writes a page of a device where it has it otherwise, as a copy of that page tells, or where there
-/// is none the device.
-fn put_page<D: PageDevice>(
-    device: &mut D,
-    copy: &mut Option<MemDevice>,
-    number: u32,
-    page: &Page,
-) -> Result<(), DeviceFault>
+/// Writes a page of a device where it has it otherwise.
+fn put_page<D: PageDevice>(device: &mut D, number: u32, page: &Page) -> Result<(), DeviceFault>
     requires within { number < length (D.content device.old) }
-    requires copied { IfSome copy.old (λ c. length c ≡ length (D.content device.old)) }
-    requires known { IsTrue (D.is_honest device.old) →
-        IfSome copy.old (λ c. slice_get c number ≡ slice_get (D.content device.old) number) }
     ensures ok { IsTrue (D.is_honest device.old) →
         OnOk result (D.content device.new ≡ slice_set (D.content device.old) number page.now) }
-    ensures kept { (copy.new ≡ copy.old)
-        × (length (D.content device.new) ≡ length (D.content device.old)) }
-    ensures honest { D.is_honest device.new ≡ D.is_honest device.old }
-    ensures later { D.fault_count device.old ≤ D.fault_count device.new }
-    ensures err { OnErr result
-        (HasRisen (D.fault_count device.old) (D.fault_count device.new)) }
-{
-    let is_there = has_already(device, copy, number, page)?;
-    if is_there {
-        return Ok(());
-    }
-    device.write(number, page)
-}
-
-/// Whether a device has this page, as a copy of that page tells, or where there is none the device.
-fn has_already<D: PageDevice>(
-    device: &mut D,
-    copy: &mut Option<MemDevice>,
-    number: u32,
-    page: &Page,
-) -> Result<bool, DeviceFault>
-    requires within { number < length (D.content device.old) }
-    requires copied { IfSome copy.old (λ c. length c ≡ length (D.content device.old)) }
-    requires known { IsTrue (D.is_honest device.old) →
-        IfSome copy.old (λ c. slice_get c number ≡ slice_get (D.content device.old) number) }
-    ensures ok { IsTrue (D.is_honest device.old) → IfOk result (λ is_there.
-        IsTrue is_there → slice_get (D.content device.old) number ≡ Some page.now) }
-    ensures same { (copy.new ≡ copy.old) × (D.content device.new ≡ D.content device.old) }
-    ensures honest { D.is_honest device.new ≡ D.is_honest device.old }
-    ensures later { D.fault_count device.old ≤ D.fault_count device.new }
-    ensures err { OnErr result
-        (HasRisen (D.fault_count device.old) (D.fault_count device.new)) }
-{
-    match copy {
-        Some(copy) => has_page(copy, number, page),
-        None => has_page(device, number, page),
-    }
-}
-
-/// Whether a page of a device is this one.
-fn has_page<D: PageDevice>(device: &mut D, number: u32, page: &Page) -> Result<bool, DeviceFault>
-    requires within { number < length (D.content device.old) }
-    ensures ok { IsTrue (D.is_honest device.old) → IfOk result (λ is_there.
-        IsTrue is_there → slice_get (D.content device.old) number ≡ Some page.now) }
-    ensures same { D.content device.new ≡ D.content device.old }
+    ensures as_many { length (D.content device.new) ≡ length (D.content device.old) }
     ensures honest { D.is_honest device.new ≡ D.is_honest device.old }
     ensures later { D.fault_count device.old ≤ D.fault_count device.new }
     ensures err { OnErr result
@@ -128,5 +67,8 @@ fn has_page<D: PageDevice>(device: &mut D, number: u32, page: &Page) -> Result<b
 {
     let mut found = [0; PAGE_BYTES];
     device.read(number, &mut found)?;
-    Ok(found == *page)
+    if found == *page {
+        return Ok(());
+    }
+    device.write(number, page)
 }

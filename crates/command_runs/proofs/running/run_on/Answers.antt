@@ -1,16 +1,7 @@
-use Rattle.std.proofs.Common.{◌∙◌, refl, subst, sym, IsTrue, Ok, Err}
+use Rattle.std.proofs.Common.{refl, subst, sym, IsTrue, Ok, Err}
 use Rattle.command_runs.specs.Memory.{AsksFile, Pages}
-use Rattle.command_runs.proofs.RunLemmas.{ends_as, is_copy, undone_as}
+use Rattle.command_runs.proofs.RunLemmas.{ends_as, undone_as}
 use Rattle.command_runs.proofs.running.run_on.Goals as goal
-
--- the second copy is one of the device
-pub end-requires-clause-copied : goal.end-requires-clause-copied
-end-requires-clause-copied g c =
-    let content = g.D.PageDevice.content in
-    is_copy c.second_copy-copy.result c.in-Ok.file (content c.args.device) (content c.copied.new.device)
-    (g.D.PageDevice.is_honest c.args.device) (g.D.PageDevice.is_honest c.copied.new.device)
-    c.second_copy-copy.ensures.some c.in-Ok.ensures.ok c.in-Ok.ensures.as_many c.copied.ensures.same
-    c.copied.ensures.honest
 
 -- it was asked, and ended on the device
 pub returns-in-Ok-ask_file-clause-honest : goal.returns-in-Ok-ask_file-clause-honest
@@ -22,9 +13,8 @@ returns-in-Ok-ask_file-clause-honest g c = λ honest.
     ends_as c.args.caller (content c.args.device) (content c.end.result.device) (output c.args.writer.now)
     (output c.end.new.writer) (count c.args.device) (count c.copied.new.device) (count c.end.result.device)
     c.args.request.now c.copied.ensures.later asked c.end.result.came
-    (subst (λ (ps : Pages). AsksFile c.args.caller c.args.request.now ps (Ok asked))
-    (c.second_copy-copy.ensures.same ∙ c.in-Ok.ensures.ok honest) c.in-Ok-ask_file.ensures.asks)
-    (c.end.ensures.honest (subst IsTrue (sym c.copied.ensures.honest) honest))
+    (subst (λ (ps : Pages). AsksFile c.args.caller c.args.request.now ps (Ok asked)) (c.in-Ok.ensures.ok honest)
+    c.in-Ok-ask_file.ensures.asks) (c.end.ensures.honest (subst IsTrue (sym c.copied.ensures.honest) honest))
 
 -- nothing came of it
 pub returns-in-Err-ask_file-clause-honest : goal.returns-in-Err-ask_file-clause-honest
@@ -35,5 +25,5 @@ returns-in-Err-ask_file-clause-honest g c = λ honest.
     let error = c.in-Err-ask_file.error in
     undone_as c.args.caller (content c.args.device) (content c.copied.new.device) output output (count c.args.device) 0
     (count c.copied.new.device) c.args.request.now error
-    (subst (λ (ps : Pages). AsksFile c.args.caller c.args.request.now ps (Err error))
-    (c.second_copy-copy.ensures.same ∙ c.in-Ok.ensures.ok honest) c.in-Err-ask_file.ensures.asks) refl
+    (subst (λ (ps : Pages). AsksFile c.args.caller c.args.request.now ps (Err error)) (c.in-Ok.ensures.ok honest)
+    c.in-Err-ask_file.ensures.asks) refl

@@ -1,11 +1,11 @@
 -- It has the page already.
-use Rattle.std.proofs.Common.{rules, ◌∙◌, sym, IsTrue}
+use Rattle.std.proofs.Common.{rules, ◌≡◌, ◌∙◌, ap, sym, Some}
 use Rattle.page_copies.proofs.CopyLemmas.{write-same}
 use Rattle.page_copies.proofs.copies.put_page.Goals as goal
 
-pub returns-then-is_there-clause-ok : goal.returns-then-is_there-clause-ok
-returns-then-is_there-clause-ok g c = λ honest.
-    let there : IsTrue c.in_ok-is_there.is_there = search rules in
-    c.has_already.ensures.same.1
+pub returns-then-eq-clause-ok : goal.returns-then-eq-clause-ok
+returns-then-eq-clause-ok g c = λ honest.
+    let same : c.read.new.into ≡ c.args.page.now = search rules in
+    c.read.ensures.same
     ∙ sym (write-same (g.D.PageDevice.content c.args.device.now) c.args.number c.args.page.now c.requires.within
-    (c.in_ok-is_there.ensures.ok honest there))
+    (c.in_ok-read.ensures.ok honest ∙ ap Some same))
