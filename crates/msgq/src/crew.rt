@@ -34,7 +34,8 @@ pub struct ThreadASeat<'a, R> {
 }
 
 impl<'a, R> ThreadASeat<'a, R> {
-    /// Threads by this handle. How far they are is shown on standard error where that is a terminal.
+    /// Threads by this handle. How far they are is shown on standard error where that is a
+    /// terminal.
     pub fn new(rt: &'a R, alloc: Global, is_terminal: bool) -> ThreadASeat<'a, R> {
         ThreadASeat {
             rt,
@@ -64,9 +65,9 @@ impl<R: Wait> Waiter for ThreadASeat<'_, R> {
     }
 }
 
-/// Has each desk make its lines in a thread of its own, beside the others, and waits until all have.
-/// The lines of a desk for which no thread can be started are each replied 60. How many calls were
-/// decided so far is seen by the pass, if there is one.
+/// Has each desk make its lines in a thread of its own, beside the others, and waits until all
+/// have. The lines of a desk for which no thread can be started are each replied 60. How many calls
+/// were decided so far is seen by the pass, if there is one.
 pub fn make_all<
     's,
     R: Threads + Wait + Clock + Eprint + Sync,

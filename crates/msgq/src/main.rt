@@ -36,8 +36,8 @@ fn main(rt: HostRuntime) -> ExitCode {
     act(&rt, &rt)
 }
 
-/// Does what the command line asks for. What it takes of the stack is not taken by `main`, which alone
-/// has threads: so it hands them on.
+/// Does what the command line asks for. What it takes of the stack is not taken by `main`, which
+/// alone has threads: so it hands them on.
 #[inline(never)]
 fn act<R>(rt: &HostRuntime, threads: &R) -> ExitCode
 where

@@ -1,11 +1,11 @@
 //! Scripts run on the file of a device, a thread a seat.
 
-ghost use Rattle.std.specs.Prelude.{◌≡◌, ℕ, length};
+ghost use Rattle.std.specs.Prelude.{◌≡◌, ◌≤◌, ℕ, length, true};
 ghost use Rattle.bucket_page.specs.Pseudokeys.{sha_key};
 ghost use Rattle.msgq_cli.specs.Scripts.{greatest_seat};
-ghost use Rattle.threaded_runs.specs.Beside.{RunsFrom, RunsScriptOn};
+ghost use Rattle.threaded_runs.specs.Beside.{RunsFrom, RunsScriptOn, counted_from};
 ghost use Rattle.threaded_runs.specs.Desks.{IsPlanOf};
-ghost use Rattle.workers.specs.Opening.{origin_of};
+ghost use Rattle.workers.specs.Opening.{HasFrames, origin_of};
 
 use crate::crew::{ThreadASeat, make_all};
 use interleaving_core::OpenFault;
@@ -25,14 +25,17 @@ use workers::{Base, Open, Prepared, Room};
 ///
 /// The file is checked first: the first thing that is wrong with it is told by its number alone,
 /// and fault 60 alone where there is no memory to begin. Each seat makes its lines in their order,
-/// beside the other seats; the replies are printed in the order of the script once all have ended. A
-/// call that waits does so until another seat's line or a `stop` ends that, so a script whose calls
-/// wait for ever is never done. The lines of a seat for which no thread can be started are replied 60.
+/// beside the other seats; the replies are printed in the order of the script once all have ended.
+/// A call that waits does so until another seat's line or a `stop` ends that, so a script whose
+/// calls wait for ever is never done. The lines of a seat for which no thread can be started are
+/// replied 60.
 ///
 /// What the lines of a seat were answered is its part of one journal, which of an honest device is
 /// legal from the system whose file it has, and first in, first out. The file is then that of the
-/// system after it. Where a step has failed, or the output refused a write, nothing is written. Fault
-/// 62 stands after the replies where a step has failed, and 20 where the file can't be closed.
+/// system after it. What can't be told did not happen: where the output refused a write nothing was
+/// written, and the file is as it was before. So it is where a step has failed, which fault 62
+/// after the replies tells; fault 20 stands there where the file can't be closed. It comes only
+/// where a transfer failed, and of an honest device so does fault 62.
 ///
 /// A script all of whose lines are of one seat is run as `script_runs::run_on` does, since nobody
 /// could end a wait.
@@ -78,10 +81,12 @@ fn run_prepared<
     output: &mut Output<W>,
 ) -> Ran<D>
     requires table { prepared.table ≡ N.table }
-    requires origin { origin_of (λ _. sha_key) prepared ≡ N.origin }
+    requires origin { origin_of (λ _. sha_key) true prepared ≡ N.origin }
+    requires frames { HasFrames prepared }
     requires many { length prepared.callers ≡ greatest_seat plan.script.now.lines }
     requires plan { IsPlanOf plan.script.now plan }
-    ensures { (was : ℕ) → RunsFrom plan.entry.script.now (origin_of (λ _. sha_key) prepared)
+    ensures { (was : ℕ) → was ≤ prepared.faults → RunsFrom plan.entry.script.now
+        (counted_from was (origin_of (λ _. sha_key) true prepared))
         (record {
           content = prepared.content;
           left = D.content result.device;

@@ -2,7 +2,7 @@
 use Rattle.std.proofs.Common.{◌≡◌, ◌≢◌, ◌≤◌, ◌<◌, ℕ, Bool, true, false, IsTrue, inl, inr, List, [], ◌∷◌, ◌++◌, length, Option, Some, None, refl, sym, ap, ◌∙◌, subst, append-nil, arith}
 use Rattle.std.specs.Prelude.{is_some, slice_index_or}
 use Rattle.std.specs.Bool.{then_some}
-use Rattle.faults.specs.declared.TheConstants.{FAILED}
+use Rattle.faults.specs.declared.TheConstants.{DEVICE, FAILED}
 use Rattle.bucket_page.specs.declared.pseudokey.ShaKey.{ShaKey}
 use Rattle.interleavings.specs.interleaving_core.Fault.{close_number_of}
 use Rattle.interleavings.specs.interleaving_core.declared.fault.CloseFault.{CloseFault}
@@ -10,7 +10,7 @@ use Rattle.interleavings.specs.interleaving_core.declared.fault.CloseFault.TheVa
 use Rattle.interleavings.specs.interleaving_core.declared.fault.Failure.{Failure}
 use Rattle.queue_model.specs.declared.entry.Entry.{Entry}
 use Rattle.seat_passes.specs.Views.{nobody}
-use Rattle.workers.specs.Closing.{Each, HasItsPart, HasMostOfItsPart, IsClosed, IsFailed, IsFaulted, IsLetGo}
+use Rattle.workers.specs.Closing.{Each, HasItsPart, HasMostOfItsPart, IsClosed, IsFaulted, IsLetGo, Remains}
 use Rattle.workers.specs.Origins.{Origin}
 use Rattle.workers.specs.Told.{Sitter}
 use Rattle.threaded_runs.specs.Beside.{HasEnded, IsPart}
@@ -51,57 +51,62 @@ mosts journal given seats same each =
 
 -- ---- it is let go, or closed, or not closed well
 
-let_go : (o : Origin) (given seats : List Sitter) (failure : Option Failure) (journal : List Entry)
-    (content : List (List ℕ)) (fault : Option ℕ) → IsLetGo ShaKey o given failure journal seats content →
-    Parts fault journal given → ((n : ℕ) → fault ≡ Some n → n ≡ FAILED) → HasEnded o given true fault journal content
-let_go o given seats failure journal content fault g parts only = record {
-  plain = g.failed.plain;
-  parts = parts;
-  kept = λ told none honest. absurd cc;
-  unwritten = λ either. g.failed.unwritten;
-  number = λ n is. inr (only n is);
-}
-
-pub let_go_ends : (o : Origin) (given seats : List Sitter) (failure : Option Failure) (journal : List Entry)
-    (content : List (List ℕ)) → IsLetGo ShaKey o given failure journal seats content →
-    HasEnded o given true (then_some (is_some failure) FAILED) journal content
-let_go_ends o given seats None journal content g =
-    let_go o given seats None journal content None g
-    (wholes None journal given seats g.failed.same (g.exact refl)) (λ n is. absurd cc)
-let_go_ends o given seats (Some failure) journal content g =
-    let_go o given seats (Some failure) journal content (Some FAILED) g
-    (mosts journal given seats g.failed.same g.failed.parts) (λ n is. sym cc)
-
-pub closed_ends : (o : Origin) (given seats : List Sitter) (journal : List Entry) (content : List (List ℕ)) →
-    IsClosed o given journal seats content → HasEnded o given false None journal content
-closed_ends o given seats journal content e = record {
-  plain = e.sound.plain;
-  parts = wholes None journal given seats e.sound.same e.sound.parts;
-  kept = λ told none honest. e.left honest;
-  unwritten = λ either. elim either [ inl is ↦ absurd cc | inr is ↦ absurd cc ];
-  number = λ n is. absurd cc;
-}
-
 same_number : (m n : ℕ) → Some m ≡ Some n → m ≡ n
 same_number m n is = cc
 
-pub faulted_ends : (fault : CloseFault) (o : Origin) (given seats : List Sitter) (journal : List Entry)
-    (content : List (List ℕ)) → IsFaulted ShaKey fault o given journal seats content →
-    HasEnded o given false (Some (close_number_of fault)) journal content
-faulted_ends closes.Device o given seats journal content e = record {
-  plain = e.plain;
-  parts = wholes _ journal given seats e.same e.parts;
+none_told : {P : Type 0} (n : ℕ) → ◌≡◌ {A = Option ℕ} None (Some n) → P
+none_told n is = absurd cc
+
+let_go : (o : Origin) (given : List Sitter) (left : Remains) (untold : Bool) (fault : Option ℕ) →
+    IsLetGo ShaKey o given left → Parts fault left.journal given → (untold ≡ false → fault ≡ None → ⊥) →
+    ((n : ℕ) → fault ≡ Some n → (n ≡ FAILED) × (left.failure ≢ None)) → HasEnded o given untold fault left
+let_go o given left untold fault g parts never only = record {
+  plain = g.plain;
+  parts = parts;
+  kept = λ told none honest. absurd (never told none);
+  unwritten = λ either. g.unwritten;
+  number = λ n is. inr (only n is).0;
+  reason = record {
+    device = λ is. let no = (only DEVICE is).0 in absurd (omega (arith, no));
+    step = λ honest is. g.cause honest (only FAILED is).1;
+  };
+}
+
+pub let_go_ends : (o : Origin) (given : List Sitter) (left : Remains) (failure : Option Failure) →
+    failure ≡ left.failure → IsLetGo ShaKey o given left →
+    HasEnded o given true (then_some (is_some failure) FAILED) left
+let_go_ends o given left None known g =
+    let_go o given left true None g (wholes None left.journal given left.seats g.same (g.exact (sym known)))
+    (λ told none. absurd cc) (λ n is. none_told n is)
+let_go_ends o given left (Some failure) known g =
+    let_go o given left true (Some FAILED) g (mosts left.journal given left.seats g.same g.parts)
+    (λ told none. absurd cc)
+    (λ n is. (sym (same_number FAILED n is), λ none. let no = known ∙ none in absurd cc))
+
+pub closed_ends : (o : Origin) (given : List Sitter) (left : Remains) → IsClosed o given left →
+    HasEnded o given false None left
+closed_ends o given left e = record {
+  plain = e.sound.plain;
+  parts = wholes None left.journal given left.seats e.sound.same e.sound.parts;
+  kept = λ told none honest. e.file honest;
+  unwritten = λ either. elim either [ inl is ↦ absurd cc | inr is ↦ none_told FAILED is ];
+  number = λ n is. none_told n is;
+  reason = record { device = λ is. none_told DEVICE is; step = λ honest is. none_told FAILED is };
+}
+
+pub faulted_ends : (fault : CloseFault) (o : Origin) (given : List Sitter) (left : Remains) →
+    IsFaulted ShaKey fault o given left → HasEnded o given false (Some (close_number_of fault)) left
+faulted_ends closes.Device o given left e = record {
+  plain = e.sound.plain;
+  parts = wholes _ left.journal given left.seats e.sound.same e.sound.parts;
   kept = λ told none honest. absurd cc;
-  unwritten = λ either. elim either [
-    | inl is ↦ absurd cc
-    | inr is ↦ let no = same_number _ _ is in absurd (omega (arith, no))
-  ];
+  unwritten = λ either. elim either [ inl is ↦ absurd cc | inr is ↦ no_step is ];
   number = λ n is. inl (sym (same_number _ _ is));
+  reason = record { device = λ is. e.cause; step = λ honest is. no_step is };
 }
-faulted_ends closes.Failed o given seats journal content e = record {
-  plain = e.plain;
-  parts = mosts journal given seats e.same e.parts;
-  kept = λ told none honest. absurd cc;
-  unwritten = λ either. e.unwritten;
-  number = λ n is. inr (sym (same_number _ _ is));
-}
+  where
+    no_step : {P : Type 0} → ◌≡◌ {A = Option ℕ} (Some DEVICE) (Some FAILED) → P
+    no_step is = let no = same_number _ _ is in absurd (omega (arith, no))
+faulted_ends closes.Failed o given left e =
+    let_go o given left false (Some FAILED) e.let_go (mosts left.journal given left.seats e.let_go.same e.let_go.parts)
+    (λ told none. absurd cc) (λ n is. (sym (same_number FAILED n is), e.failed))

@@ -37,14 +37,18 @@ fresh_more lines many seats s fresh unmade = record {
 
 -- ---- the file is opened for the callers
 
-pub prepared_for : (script : Parts) (content : List (List ℕ)) (honest : Bool) (keys : ShaKey) (callers : List Caller) →
-    callers ≡ callers_of script.ids (greatest_seat script.lines) → (p : PreparedView ShaKey) →
-    IsOpenedOn keys content honest callers p → IsPreparedFor script content honest p
-prepared_for script content honest keys callers are p opened =
+pub prepared_for : (script : Parts) (content : List (List ℕ)) (honest : Bool) (keys : ShaKey) (callers : List Caller)
+    (frames : ℕ) → length content ≤ frames → callers ≡ callers_of script.ids (greatest_seat script.lines) →
+    (p : PreparedView ShaKey) → IsOpenedOn keys content honest callers frames p →
+    IsPreparedFor script content honest p
+prepared_for script content honest keys callers frames enough are p opened =
     let same = opened.callers_are ∙ are in
+    let pages = ap length opened.content_is in
+    let room = opened.frames_are in
     record {
       content_is = opened.content_is;
       honest_is = opened.honest_is;
       callers_are = same;
       many = ap length same ∙ length-callers_of script.ids (greatest_seat script.lines);
+      enough = omega (arith, enough, pages, room);
     }

@@ -2,6 +2,7 @@
 use Rattle.std.specs.Prelude.{ℕ, ◌≡◌, ◌≢◌, ◌⊎◌, ◌≤◌, ◌==◌, Bool, true, false, IsTrue, List, [], ◌++◌, length, Option, Some, None, Result, Ok, Err}
 use Rattle.std.specs.List.{list_all}
 use Rattle.faults.specs.declared.TheConstants.{DEVICE, FAILED, NO_MEMORY}
+use Rattle.page_device.specs.Device.{HasRisen}
 use Rattle.bucket_page.specs.Pseudokeys.{sha_key}
 use Rattle.bucket_page.specs.declared.pseudokey.ShaKey.{ShaKey}
 use Rattle.msgq_cli.specs.Outputs.{OutputState, Prints}
@@ -19,7 +20,7 @@ use Rattle.replays.specs.Replays.{EndsWith, callers_of}
 use Rattle.replays.specs.Texts.{Effects, IsUnopened}
 use Rattle.script_runs.specs.Serves.{RunsNew, RunsOn}
 use Rattle.script_runs.specs.declared.serving.TheConstants.{MEMORY_PAGES}
-use Rattle.workers.specs.Closing.{Each, IsUnwritten}
+use Rattle.workers.specs.Closing.{Each, IsUnwritten, Remains}
 use Rattle.workers.specs.Origins.{IsJournalOf, LeavesFile, Origin}
 use Rattle.workers.specs.Told.{Sitter}
 use Rattle.threaded_runs.specs.Lines.{entries_to, lines_of, replies_to}
@@ -40,29 +41,42 @@ pub record IsPart (fault : Option ℕ) (journal : List Entry) (seat : ℕ) (told
 
 -- ---- how a service ends
 
+-- why a fault is told, where so many transfers had failed before, and have failed then
+pub record HasReason (honest : Bool) (old new : ℕ) (fault : Option ℕ) : Type 0 where
+  pub device : fault ≡ Some DEVICE → HasRisen old new
+  -- of an honest device a step has failed only where a transfer did
+  pub step : IsTrue honest → fault ≡ Some FAILED → HasRisen old new
+
 -- it was closed, or let go where the output refused a write, and a fault is to be told or none
-pub record HasEnded (o : Origin) (given : List Sitter) (untold : Bool) (fault : Option ℕ) (journal : List Entry)
-    (content : List (List ℕ)) : Type 0 where
-  -- the answers are those of plain lists
-  pub plain : IsTrue o.honest → IsJournalOf o journal
-  pub parts : Each (λ (x : Sitter). IsPart fault journal x.seat x.list) given
-  -- the file is that of the system after them
-  pub kept : untold ≡ false → fault ≡ None → IsTrue o.honest → LeavesFile o journal content
-  -- where a step has failed or the answers can't be told nothing was written
-  pub unwritten : (untold ≡ true) ⊎ (fault ≡ Some FAILED) → IsUnwritten ShaKey o journal content
-  -- else the last transfers failed
-  pub number : (n : ℕ) → fault ≡ Some n → (n ≡ DEVICE) ⊎ (n ≡ FAILED)
+pub record HasEnded (o : Origin) (given : List Sitter) (untold : Bool) (fault : Option ℕ) (left : Remains) : Type 0
+  where
+    -- the answers are those of plain lists
+    pub plain : IsTrue o.honest → IsJournalOf o left.journal
+    pub parts : Each (λ (x : Sitter). IsPart fault left.journal x.seat x.list) given
+    -- the file is that of the system after them
+    pub kept : untold ≡ false → fault ≡ None → IsTrue o.honest → LeavesFile o left.journal left.content
+    -- where a step has failed or the answers can't be told nothing was written
+    pub unwritten : (untold ≡ true) ⊎ (fault ≡ Some FAILED) → IsUnwritten ShaKey o left.journal left.content
+    -- else the last transfers failed
+    pub number : (n : ℕ) → fault ≡ Some n → (n ≡ DEVICE) ⊎ (n ≡ FAILED)
+    pub reason : HasReason o.honest o.faults left.faults fault
 
 -- ---- a run
 
--- from the pages of a device
-abbrev pub origin_on : Parts → List (List ℕ) → Bool → Origin
-origin_on script content honest = record {
-  content = content;
+-- from the pages of a device, which is spared until the file is closed
+abbrev pub origin_on : Parts → (honest : Bool) → Effects → Origin
+origin_on script honest c = record {
+  content = c.content;
   honest = honest;
+  faults = c.was;
+  spares = true;
   hash = sha_key;
   callers = callers_of script.ids (greatest_seat script.lines);
 }
+
+-- from there, where so many transfers had failed before
+abbrev pub counted_from : ℕ → Origin → Origin
+counted_from was o = record o { faults = was }
 
 -- the lines of all seats were made, their replies were printed in the order of the script and handed on, and only then
 -- the file was written; a fault is printed after the replies, or none
@@ -81,8 +95,13 @@ pub record RunsBeside (script : Parts) (o : Origin) (c : Effects) (ending : Endi
   pub untold : c.untold ≡ told.refused
   pub handed : c.untold ≡ false → told.handed ≡ told.known
   pub kept : c.untold ≡ false → fault ≡ None → IsTrue o.honest → LeavesFile o journal c.left
+  -- what can't be told has not happened, nor where a line failed: the pages are those that the kernel's pool knew to be
+  -- stored
   pub unwritten : (c.untold ≡ true) ⊎ (fault ≡ Some FAILED) → IsUnwritten ShaKey o journal c.left
+  -- which are those of before
+  pub before : (c.untold ≡ true) ⊎ (fault ≡ Some FAILED) → c.left ≡ c.content
   pub number : (n : ℕ) → fault ≡ Some n → (n ≡ DEVICE) ⊎ (n ≡ FAILED)
+  pub reason : HasReason o.honest c.was c.faults fault
   pub ends : EndsWith fault told (ending_of replies) c.new ending
 
 -- or the file is not opened
@@ -90,7 +109,7 @@ abbrev pub RunsFrom : Parts → Origin → Effects → Ending → Type 0
 RunsFrom script o c ending = RunsBeside script o c ending ⊎ IsUnopened o.honest c ending
 
 abbrev pub RunsBesideOn : Parts → (honest : Bool) → Effects → Ending → Type 0
-RunsBesideOn script honest c ending = RunsFrom script (origin_on script c.content honest) c ending
+RunsBesideOn script honest c ending = RunsFrom script (origin_on script honest c) c ending
 
 -- all of its lines are of one seat
 abbrev pub is_of_one_seat : List Line → Bool

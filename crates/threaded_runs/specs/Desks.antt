@@ -5,7 +5,7 @@ use Rattle.msgq_cli.specs.Scripts.{Parts, greatest_seat}
 use Rattle.msgq_cli.specs.declared.line.Line.{Line}
 use Rattle.replays.specs.Replays.{callers_of}
 use Rattle.seat_passes.specs.Views.{nobody}
-use Rattle.workers.specs.Opening.{PreparedView}
+use Rattle.workers.specs.Opening.{HasFrames, PreparedView}
 use Rattle.workers.specs.Told.{Sitter}
 use Rattle.threaded_runs.specs.Lines.{HasMade, LinesView}
 use Rattle.threaded_runs.specs.declared.opening.Plan.{Plan}
@@ -44,6 +44,8 @@ pub record IsPreparedFor (script : Parts) (content : List (List ℕ)) (honest : 
     pub callers_are : p.callers ≡ callers_of script.ids (greatest_seat script.lines)
     -- there are as many seats as the script has
     pub many : length p.callers ≡ greatest_seat script.lines
+    -- and there is a frame for each page
+    pub enough : HasFrames p
 
 -- ---- desks
 

@@ -12,8 +12,8 @@ use page_device::PageDevice;
 use std::marker::Model;
 use workers::{Base, Room, Seat};
 
-/// A seat of a service, with its lines and their replies. Contracts see what the seat knows, and the
-/// lines.
+/// A seat of a service, with its lines and their replies. Contracts see what the seat knows, and
+/// the lines.
 #[derive(Drop)]
 pub struct Desk<'s, N: Room + Base> {
     pub(crate) seat: Seat<N>,

@@ -1,6 +1,6 @@
 //! What is taken for a script before its lines are made, and the file that they are made on.
 
-ghost use Rattle.std.specs.Prelude.{◌≡◌, ◌≢◌, IfErr, IfOk, IsTrue, length};
+ghost use Rattle.std.specs.Prelude.{◌≡◌, ◌≢◌, ◌≤◌, IfErr, IfOk, IsTrue, length};
 ghost use Rattle.bucket_page.specs.Pseudokeys.{sha_key};
 ghost use Rattle.interleavings.specs.interleaving_core.Beginning.{MayRefuseUnchecked};
 ghost use Rattle.interleavings.specs.interleaving_core.Fault.{device_failed};
@@ -68,7 +68,8 @@ pub fn is_of_one_seat(script: &Script) -> bool
     script.lines().iter().all(|line| line.seat == seat)
 }
 
-/// Opens the file of a device for the seats of a script, as `replays::open_kernel` does.
+/// Opens the file of a device for the seats of a script, as `replays::open_kernel` does: with a
+/// frame for each page, so that its device may be spared.
 ///
 /// # Errors
 ///
@@ -85,7 +86,8 @@ pub fn prepare<D: PageDevice + Drop>(
         MayRefuseUnchecked sha_key (D.content device) refusal.1) }
     ensures enough { IfErr result (λ refusal. refusal.1 ≢ OpenFault.TooFewFrames) }
     ensures err { IfErr result (λ refusal. D.content refusal.0 ≡ D.content device) }
-    ensures cause { IfErr result (λ refusal. refusal.1 ≡ device_failed →
+    ensures cause { IfOk result (λ p. D.fault_count device ≤ p.faults)
+        × IfErr result (λ refusal. refusal.1 ≡ device_failed →
         HasRisen (D.fault_count device) (D.fault_count refusal.0)) }
 {
     script.keeps_seats();

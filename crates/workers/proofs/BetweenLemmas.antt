@@ -1,6 +1,6 @@
 -- What is done between calls, as the kernel's pass and those of its seats know it: a call is taken back, the file is
 -- saved, and the journal is taken out.
-use Rattle.std.proofs.Common.{◌≡◌, ◌≤◌, ℕ, ◌+◌, IsTrue, List, [], ◌∷◌, ◌++◌, length, map, Option, Some, None, option_map, refl, sym, ap, ◌∙◌, subst, arith, append-nil, Err}
+use Rattle.std.proofs.Common.{◌≡◌, ◌≤◌, ℕ, ◌+◌, IsTrue, false, List, [], ◌∷◌, ◌++◌, length, map, Option, Some, None, option_map, refl, sym, ap, ◌∙◌, subst, arith, append-nil, Err}
 use Rattle.std.proofs.lemmas.List.{length-map}
 use Rattle.interleaving_core.proofs.PlaceLemmas.{at_other, at_same, length-with_call, seat_of_call}
 use Rattle.interleaving_core.specs.Kernel.{IsWhole}
@@ -14,6 +14,7 @@ use Rattle.page_device.specs.Device.{HasRisen}
 use Rattle.seat_passes.specs.Rule.{IsChange, moved}
 use Rattle.seat_passes.specs.Views.{calls_in, place_at}
 use Rattle.workers.proofs.CloseLemmas.{journal_is}
+use Rattle.workers.proofs.DeviceLemmas.{device_failed, device_flushed, device_same}
 use Rattle.workers.proofs.HeldLemmas.{nothing_told, place_is, told_none}
 use Rattle.workers.proofs.WholeLemmas.{carried, carried_anew, places_outlast}
 use Rattle.workers.specs.Entries.{seat_of}
@@ -101,6 +102,8 @@ module _ {K : Type 0} (past : List Entry) (seat : ℕ) (call : Call) (old new : 
           counted = counted_at_withdrawal count h.counted;
         };
         room = kept.room;
+        device = device_same o old new kept.device (ap (λ (k : KernelState K). k.pool) w.is)
+            (ap (λ (k : KernelState K). k.failed) w.is);
       }
 
 -- ---- the file is saved
@@ -151,8 +154,12 @@ module _ {K : Type 0} (of_key : K → RecordKey → ℕ) (o : Origin) (past : Li
             honest_then : new.pool.honest ≡ o.honest
             honest_then = f.stay.keeps.honest ∙ h.honest
 
-        pub kept_flushed : IsKept of_key o past capacity new d count
-        kept_flushed = record { held = held_flushed d count refl refl; room = kept.room }
+        pub kept_flushed : o.spares ≡ false → IsKept of_key o past capacity new d count
+        kept_flushed unspared = record {
+          held = held_flushed d count refl refl;
+          room = kept.room;
+          device = device_flushed o old new kept.device unspared f;
+        }
 
         pub is_saved : AnswersAsPlainLists K →
             IsSaved {K = K} o (record { kernel = old; past = past }) (record { kernel = new; past = past })
@@ -186,8 +193,8 @@ module _ {K : Type 0} (of_key : K → RecordKey → ℕ) (o : Origin) (past : Li
           h.counted ∙ sym (ap (λ (k : KernelState K). calls_in seat_of (past ++ k.journal)) by.is)
 
       pub kept_at_failure : (d' : Desk Entry Call) → FailuresRefine K → d' ≡ known_of (whole past new) →
-          IsKept of_key o past capacity new d' count
-      kept_at_failure d' fails known = record {
+          o.spares ≡ false → HasRisen old.pool.faults new.pool.faults → IsKept of_key o past capacity new d' count
+      kept_at_failure d' fails known unspared risen = record {
         held = record {
           led = λ honest. carried o.hash o.content past old new (h.led honest)
               (ap (λ (k : KernelState K). k.callers) by.is)
@@ -201,6 +208,7 @@ module _ {K : Type 0} (of_key : K → RecordKey → ℕ) (o : Origin) (past : Li
           counted = counted_at_failure;
         };
         room = kept.room;
+        device = device_failed o old new kept.device unspared fault by risen;
       }
 
 -- of which the device is the cause
@@ -262,6 +270,8 @@ module _ {K : Type 0} (of_key : K → RecordKey → ℕ) (o : Origin) (past : Li
     held = subst (λ (es : List Entry). IsHeld of_key o (whole es new) d count)
         (sym (is ∙ ap (λ (es : List Entry). past ++ es) renewed.taken_is)) (held_anew renews);
     room = has_room past' capacity' room;
+    device = device_same o old new kept.device (ap (λ (k : KernelState K). k.pool) renewed.is)
+        (ap (λ (k : KernelState K). k.failed) renewed.is);
   }
 
   pub is_taken_out : (past' : List Entry) → past' ≡ past ++ taken →

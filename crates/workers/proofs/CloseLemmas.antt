@@ -1,19 +1,22 @@
 -- A service ends.
-use Rattle.std.proofs.Common.{◌≡◌, ◌≤◌, ◌<◌, ◌↔◌, ℕ, zero, suc, ◌+◌, Bool, true, false, IsTrue, ◌||◌, inl, inr, List, [], ◌∷◌, ◌++◌, length, Option, Some, None, refl, sym, ap, ◌∙◌, subst, arith, append-nil}
-use Rattle.std.specs.Prelude.{slice_index_or}
+use Rattle.std.proofs.Common.{◌≡◌, ◌≢◌, ◌≤◌, ◌<◌, ◌↔◌, ℕ, zero, suc, ◌+◌, Bool, true, false, IsTrue, ◌||◌, inl, inr, List, [], ◌∷◌, ◌++◌, length, Option, Some, None, refl, sym, ap, ◌∙◌, subst, arith, append-nil}
+use Rattle.std.specs.Prelude.{is_some, slice_index_or}
 use Rattle.std.specs.List.{list_any}
 use Rattle.std.proofs.lemmas.Bool.{cases_lt, eqb-true}
 use Rattle.interleaving_core.specs.Closing.{IsBusy, has_one}
 use Rattle.interleaving_core.specs.declared.fault.CloseFault.{CloseFault}
 use Rattle.interleaving_core.specs.declared.fault.CloseFault.TheVariants as closes
-use Rattle.interleaving_core.specs.declared.fault.Failure.{Failure}
+use Rattle.page_device.specs.Device.{HasRisen}
 use Rattle.interleavings.specs.Laws.{AnswersAsPlainLists, ClosesRefine}
 use Rattle.seat_passes.specs.Views.{calls_in, no_place, nobody, place_at}
+use Rattle.interleavings.proofs.RisenLemmas.{risen_within}
+use Rattle.interleavings.proofs.ToldLemmas.{risen_since}
+use Rattle.workers.proofs.DeviceLemmas.{stored_is}
 use Rattle.workers.proofs.EntryLemmas.{part_is}
 use Rattle.workers.proofs.HeldLemmas.{place_is}
-use Rattle.workers.specs.Closing.{Each, HasItsPart, HasMissing, HasMostOfItsPart, IsBeside, IsClosed, IsFailed, IsFaulted, IsLetGo, IsSound, IsToComeBack, sits_at}
+use Rattle.workers.specs.Closing.{Each, HasItsPart, HasMissing, HasMostOfItsPart, IsBeside, IsClosed, IsFailed, IsFaulted, IsLetGo, IsSound, IsToComeBack, Remains, sits_at}
 use Rattle.workers.specs.Entries.{seat_of}
-use Rattle.workers.specs.Held.{IsHeld, place_of}
+use Rattle.workers.specs.Held.{IsHeld, KeepsDevice, place_of}
 use Rattle.workers.specs.Origins.{IsJournalOf, LeavesFile, Origin}
 use Rattle.workers.specs.Told.{Sitter}
 use Rattle.workers.specs.Words.{ActiveView, Answer, Call, Caller, Desk, Entry, IsFifo, IsFileOf, IsFlushedTo, IsLegal, KernelState, Place, RecordKey, after, answer_of_call, call_at, call_of, entry_of, part_of, restarted, untold}
@@ -31,6 +34,19 @@ module _ {X : Type 0} (f : X → Bool) where
       (place : ℕ) × (place < length xs) × (f (slice_index_or xs place d) ≡ true)
   any_found [] d is = absurd cc
   any_found (x ∷ xs) d is = found_at x xs d (f x) refl is (λ more. any_found xs d more)
+
+none_of : {X : Type 0} (x : Option X) → is_some x ≡ false → x ≡ None
+none_of None is = refl
+none_of (Some x) is = absurd cc
+
+some_of : {X : Type 0} (x : Option X) → x ≢ None → is_some x ≡ true
+some_of None some = absurd (some refl)
+some_of (Some x) some = refl
+
+pub unfailed_by : {X : Type 0} (told at : Option X) (failed : Bool) → told ≡ at → failed ≡ is_some at →
+    failed ≡ false → told ≡ None
+unfailed_by told at failed same blamed sound =
+    none_of told (ap is_some same ∙ sym blamed ∙ sound)
 
 case_bool : {P : Type 0} (b : Bool) → (b ≡ true → P) → (b ≡ false → P) → P
 case_bool true on off = on refl
@@ -86,6 +102,15 @@ journal_is of_key o k d count plain h honest =
 
 module _ {K : Type 0} (of_key : K → RecordKey → ℕ) (o : Origin) (k : KernelState K) (d : Desk Entry Call) (count : ℕ)
     (given : List Sitter) (h : IsHeld of_key o k d count) (each : Each (IsBeside d) given) where
+  parts_of : (journal : List Entry) (seats : List Sitter) → journal ≡ k.journal → seats ≡ given → d.failed ≡ false →
+      Each (HasItsPart journal) seats
+  parts_of journal seats is same sound =
+      subst (λ (l : List Sitter). Each (HasItsPart journal) l) (sym same)
+      (λ place below.
+      subst (λ (l : List Entry). HasItsPart l (slice_index_or given place nobody)) (sym is)
+      (subst (λ (e : Desk Entry Call). HasItsPart e.journal (slice_index_or given place nobody)) h.known
+      (its_part d (slice_index_or given place nobody) (each place below) sound)))
+
   module _ (sound : k.failed ≡ false) (all : HasMissing (length o.callers) given → ⊥) where
     rests_within : (place : ℕ) → place < length o.callers → call_at k.seats (suc place) ≡ None
     rests_within place below =
@@ -118,20 +143,15 @@ module _ {K : Type 0} (of_key : K → RecordKey → ℕ) (o : Origin) (k : Kerne
         let f = any_found has_one k.seats None busy.call in
         has_none (slice_index_or k.seats f.0 None) (rests_all (suc f.0)) f.2
 
-    pub is_sound : AnswersAsPlainLists K → (seats : List Sitter) (journal : List Entry) → journal ≡ k.journal →
-        seats ≡ given → IsSound o given journal seats
-    is_sound plain seats journal is same =
-        subst (λ (l : List Entry). IsSound o given l seats) (sym is)
-        (subst (IsSound o given k.journal) (sym same)
-        record {
-          plain = journal_is of_key o k d count plain h;
-          parts = λ place below.
-              subst (λ (e : Desk Entry Call). HasItsPart e.journal (slice_index_or given place nobody)) h.known
-              (its_part d (slice_index_or given place nobody) (each place below)
-              (ap (λ (e : Desk Entry Call). e.failed) h.known ∙ sound));
-          same = refl;
-          all = all;
-        })
+    pub is_sound : AnswersAsPlainLists K → (left : Remains) → left.journal ≡ k.journal → left.seats ≡ given →
+        left.failure ≡ None → IsSound o given left
+    is_sound plain left is same unfailed = record {
+      plain = λ honest. subst (IsJournalOf o) (sym is) (journal_is of_key o k d count plain h honest);
+      parts = parts_of left.journal left.seats is same (ap (λ (e : Desk Entry Call). e.failed) h.known ∙ sound);
+      same = same;
+      all = all;
+      unfailed = unfailed;
+    }
 
     -- the file is that of the system after the journal
     pub leaves_file : AnswersAsPlainLists K → ClosesRefine K → (content : List (List ℕ)) (journal : List Entry) →
@@ -148,12 +168,12 @@ module _ {K : Type 0} (of_key : K → RecordKey → ℕ) (o : Origin) (k : Kerne
               (flushed (subst IsTrue (sym h.honest) honest)));
         }
 
-    pub is_closed : AnswersAsPlainLists K → ClosesRefine K → (seats : List Sitter) (journal : List Entry)
-        (content : List (List ℕ)) → journal ≡ k.journal → seats ≡ given →
-        (IsTrue k.pool.honest → IsFlushedTo k.pool content) → IsClosed o given journal seats content
-    is_closed plain closes seats journal content is same flushed = record {
-      sound = is_sound plain seats journal is same;
-      left = leaves_file plain closes content journal is flushed;
+    pub is_closed : AnswersAsPlainLists K → ClosesRefine K → (left : Remains) → left.journal ≡ k.journal →
+        left.seats ≡ given → left.failure ≡ None → (IsTrue k.pool.honest → IsFlushedTo k.pool left.content) →
+        IsClosed o given left
+    is_closed plain closes left is same unfailed flushed = record {
+      sound = is_sound plain left is same unfailed;
+      file = leaves_file plain closes left.content left.journal is flushed;
     }
 
   -- ---- where a step has failed
@@ -170,44 +190,48 @@ module _ {K : Type 0} (of_key : K → RecordKey → ℕ) (o : Origin) (k : Kerne
     shown = subst (λ (e : Desk Entry Call). x.seen ≤ calls_in seat_of e.journal) h.known b.right.seen;
   }
 
-  pub is_failed : AnswersAsPlainLists K → (seats : List Sitter) (journal : List Entry) (content : List (List ℕ)) →
-      journal ≡ k.journal → seats ≡ given → content ≡ k.pool.stored → IsFailed K o given journal seats content
-  is_failed plain seats journal content is same stored =
-      subst (λ (l : List Entry). IsFailed K o given l seats content) (sym is)
-      (subst (λ (l : List Sitter). IsFailed K o given k.journal l content) (sym same)
-      record {
-        plain = journal_is of_key o k d count plain h;
-        parts = λ place below. most_of_it (slice_index_or given place nobody) (each place below);
-        same = refl;
-        unwritten = record { kernel = k; refines = h.led; journal_is = refl; stored = stored };
-      })
-
-  -- whichever it was
-  pub is_faulted : AnswersAsPlainLists K → (fault : CloseFault) (seats : List Sitter) (journal : List Entry)
-      (content : List (List ℕ)) → journal ≡ k.journal → seats ≡ given →
-      (fault ≡ closes.Failed → content ≡ k.pool.stored) → (fault ≡ closes.Device → k.failed ≡ false) →
-      (k.failed ≡ false → HasMissing (length o.callers) given → ⊥) →
-      IsFaulted K fault o given journal seats content
-  is_faulted plain closes.Device seats journal content is same stored sound all =
-      is_sound (sound refl) (all (sound refl)) plain seats journal is same
-  is_faulted plain closes.Failed seats journal content is same stored sound all =
-      is_failed plain seats journal content is same (stored refl)
-
   -- ---- where it is let go
 
-  pub is_let_go : AnswersAsPlainLists K → (failure : Option Failure) (seats : List Sitter) (journal : List Entry)
-      (content : List (List ℕ)) → (failure ≡ None → k.failed ≡ false) → journal ≡ k.journal → seats ≡ given →
-      content ≡ k.pool.stored → IsLetGo K o given failure journal seats content
-  is_let_go plain failure seats journal content sound is same stored = record {
-    failed = is_failed plain seats journal content is same stored;
-    exact = λ none.
-        subst (λ (l : List Sitter). Each (HasItsPart journal) l) (sym same)
-        (λ place below.
-        subst (λ (l : List Entry). HasItsPart l (slice_index_or given place nobody)) (sym is)
-        (subst (λ (e : Desk Entry Call). HasItsPart e.journal (slice_index_or given place nobody)) h.known
-        (its_part d (slice_index_or given place nobody) (each place below)
-        (ap (λ (e : Desk Entry Call). e.failed) h.known ∙ sound none))));
-  }
+  module _ (device : KeepsDevice o k.pool k.failed) (plain : AnswersAsPlainLists K) (left : Remains)
+      (is : left.journal ≡ k.journal) (same : left.seats ≡ given) (told : left.failure ≡ k.failure)
+      (blamed : k.failed ≡ is_some k.failure) (later : k.pool.faults ≤ left.faults) where
+    known_failure : k.failed ≡ is_some left.failure
+    known_failure = blamed ∙ ap is_some (sym told)
+
+    pub is_let_go : left.content ≡ k.pool.stored → IsLetGo K o given left
+    is_let_go stored = record {
+      plain = λ honest. subst (IsJournalOf o) (sym is) (journal_is of_key o k d count plain h honest);
+      parts = subst (λ (l : List Sitter). Each (HasMostOfItsPart left.journal) l) (sym same)
+          (λ place below. subst (λ (l : List Entry). HasMostOfItsPart l (slice_index_or given place nobody)) (sym is)
+          (most_of_it (slice_index_or given place nobody) (each place below)));
+      same = same;
+      unwritten = record {
+        kernel = k;
+        refines = h.led;
+        journal_is = is;
+        stored = stored;
+        before = λ spares. stored ∙ stored_is k.pool o.content (device.pages spares);
+      };
+      exact = λ none. parts_of left.journal left.seats is same
+          (ap (λ (e : Desk Entry Call). e.failed) h.known ∙ known_failure ∙ ap is_some none);
+      cause = λ honest some. risen_within (omega arith) device.later later
+          (device.cause honest (known_failure ∙ some_of left.failure some));
+    }
+
+    -- or it ends with a fault
+    pub is_faulted : (fault : CloseFault) → (fault ≡ closes.Failed → k.failed ≡ true) →
+        (fault ≡ closes.Failed → left.content ≡ k.pool.stored) → (fault ≡ closes.Device → k.failed ≡ false) →
+        (fault ≡ closes.Device → HasRisen k.pool.faults left.faults) →
+        (k.failed ≡ false → HasMissing (length o.callers) given → ⊥) → IsFaulted K fault o given left
+    is_faulted closes.Device failed stored sound risen all = record {
+      sound = is_sound (sound refl) (all (sound refl)) plain left is same
+          (none_of left.failure (sym known_failure ∙ sound refl));
+      cause = risen_since device.later (risen refl);
+    }
+    is_faulted closes.Failed failed stored sound risen all = record {
+      failed = λ none. let no : true ≡ false = sym (failed refl) ∙ known_failure ∙ ap is_some none in absurd cc;
+      let_go = is_let_go (stored refl);
+    }
 
 -- the failure that a kernel tells is that of a step exactly where one has failed
 pub sound_by : (fault : CloseFault) (told : Option CloseFault) (failed : Bool) → told ≡ Some fault →

@@ -6,20 +6,20 @@ use Rattle.interleaving_core.proofs.TurnLemmas.{new_unanswered}
 use Rattle.interleaving_core.specs.Owing.{is_failure}
 use Rattle.interleaving_core.specs.declared.kernel.TheConstants.{MAX_DECIDED}
 use Rattle.interleaving_core.proofs.PartLemmas.{added_is_of}
-use Rattle.interleavings.specs.Laws.{BeginsRefine, RefusalsRefine, StepsRefine, StopsRefine}
+use Rattle.interleavings.specs.Laws.{BeginsRefine, RefusalsRefine, StepsRefine, StepsRefineAndDo}
 use Rattle.interleavings.specs.Words.{IsStep}
 use Rattle.page_locks.proofs.ChangeLemmas.{length-with_row}
-use Rattle.queue_model.specs.declared.entry.Entry.TheVariants.{Stopped}
 use Rattle.seat_passes.proofs.PartLemmas.{calls_append}
 use Rattle.seat_passes.specs.Rule.{IsChange, IsRight, moved}
 use Rattle.seat_passes.specs.Views.{calls_in, no_place, place_at}
+use Rattle.workers.proofs.DeviceLemmas.{device_by_turn, device_same}
 use Rattle.workers.proofs.EntryLemmas.{calls_below, calls_own, part_of_other, part_of_own}
 use Rattle.workers.specs.Entries.{seat_of}
 use Rattle.workers.specs.Held.{HasRoom, IsHeld, IsKept, known_of, place_of, places_from, whole}
-use Rattle.workers.proofs.WholeLemmas.{carried}
+use Rattle.workers.proofs.WholeLemmas.{carried, led_here}
 use Rattle.workers.specs.Origins.{Origin}
 use Rattle.workers.specs.Told.{HasBegun, IsTold, Rests, Sitter}
-use Rattle.workers.specs.Words.{ActiveView, BeginFault, Call, Desk, Entry, HasCall, IsRefused, IsSeat, IsStopped, IsTurn, KernelState, Place, RecordKey, Step, answer_told, call_at, call_of, entry_of, told, untold, with_call}
+use Rattle.workers.specs.Words.{ActiveView, BeginFault, Call, Desk, Entry, HasCall, IsRefused, IsSeat, IsTurn, KernelState, Place, RecordKey, Step, answer_told, call_at, call_of, entry_of, told, untold, with_call}
 
 -- ---- places
 
@@ -142,15 +142,17 @@ module _ {K : Type 0} (past : List Entry) (seat : ℕ) (did : Step) (old new : K
       (subst (λ (b : Desk Entry Call). IsRight seat_of b x) known right))
 
   pub kept_after : (of_key : K → RecordKey → ℕ) (o : Origin) (capacity : ℕ) (d d' : Desk Entry Call) (count n : ℕ) →
-      StepsRefine K → IsSeat old.locks seat → IsStep (of_key old.keys) seat did old new →
+      StepsRefine K → StepsRefineAndDo K → IsSeat old.locks seat → IsStep (of_key old.keys) seat did old new →
       IsKept of_key o past capacity old d count → d' ≡ known_of (whole past new) →
       n ≡ calls_in seat_of (past ++ new.journal) → IsKept of_key o past capacity new d' n
-  kept_after of_key o capacity d d' count n leads is step k known counted =
-      let h = k.held in record {
+  kept_after of_key o capacity d d' count n leads does is step k known counted =
+      let h = k.held in
+      let made : IsStep o.hash seat did old new =
+      subst (λ (hash : RecordKey → ℕ). IsStep hash seat did old new) h.hash step in
+      record {
         held = record {
           led = λ honest. carried o.hash o.content past old new (h.led honest) t.run.rest.callers
-              (λ base was. leads o.hash base seat did old new is was
-              (subst (λ (hash : RecordKey → ℕ). IsStep hash seat did old new) h.hash step));
+              (λ base was. leads o.hash base seat did old new is was made);
           hash = ap of_key t.run.rest.keys ∙ h.hash;
           honest = t.run.rest.honest ∙ h.honest;
           callers = t.run.rest.callers ∙ h.callers;
@@ -160,6 +162,8 @@ module _ {K : Type 0} (past : List Entry) (seat : ℕ) (did : Step) (old new : K
           counted = counted;
         };
         room = k.room;
+        device = device_by_turn o old new k.device o.hash seat did does t (λ _. made)
+            (λ honest. led_here o.hash o.content past old new (h.led honest));
       }
 
 -- the calls of both are no more than their entries, for which there is memory
@@ -259,6 +263,8 @@ module _ {K : Type 0} (past : List Entry) (seat : ℕ) (call : Call) (old new : 
           counted = counted_at_begin count held.counted;
         };
         room = kept.room;
+        device = device_same o old new kept.device (ap (λ (k : KernelState K). k.pool) h.is)
+            (ap (λ (k : KernelState K). k.failed) h.is);
       }
 
 -- ---- or is refused
@@ -282,6 +288,8 @@ kept_at_refusal {K} of_key o past capacity seat call refusal old new d d' count 
         counted = h.counted ∙ sym (ap (λ (k : KernelState K). calls_in seat_of (past ++ k.journal)) refused.same);
       };
       room = kept.room;
+      device = device_same o old new kept.device (ap (λ (k : KernelState K). k.pool) refused.same)
+          (ap (λ (k : KernelState K). k.failed) refused.same);
     }
 
 no_call : (at : Option ActiveView) → call_of at ≡ None → at ≡ None
@@ -305,89 +313,3 @@ never_busy {K} of_key o seat old d count x h right at rests sound busy =
     ∙ place_is old.seats seat in
     busy (no_call (call_at old.seats seat)
     (ap (λ (p : Place Entry Call). p.call) (sym known ∙ right.place ∙ place)))
-
--- ---- a stop
-
-module _ {K : Type 0} (past : List Entry) (old new : KernelState K) (stops : IsStopped old new) where
-  at_stop : (b : Bool) → old.stopped ≡ b →
-      IsChange seat_of 0 [] (known_of (whole past old)) (known_of (whole past new))
-  at_stop true is =
-      subst (λ (k : KernelState K). IsChange seat_of 0 [] (known_of (whole past old)) (known_of (whole past k)))
-      (sym (stops.again is))
-      record {
-        added = [];
-        journal = sym (append-nil (past ++ old.journal));
-        own = λ none. absurd (omega arith);
-        others = λ other apart. refl;
-        owed = λ none. absurd (omega arith);
-        places = λ other apart. refl;
-        failed = λ e. e;
-        dealt = refl;
-      }
-  at_stop false is =
-      subst (λ (k : KernelState K). IsChange seat_of 0 [] (known_of (whole past old)) (known_of (whole past k)))
-      (sym (stops.first is))
-      record {
-        added = Stopped ∷ [];
-        journal = sym (append_assoc past old.journal (Stopped ∷ []));
-        own = λ none. absurd (omega arith);
-        others = λ other apart. refl;
-        owed = λ none. absurd (omega arith);
-        places = λ other apart. refl;
-        failed = λ e. e;
-        dealt = refl;
-      }
-
-  pub change_by_stop : IsChange seat_of 0 [] (known_of (whole past old)) (known_of (whole past new))
-  change_by_stop = at_stop old.stopped refl
-
-  pub count_by_stop : (count : ℕ) → count ≡ calls_in seat_of (past ++ old.journal) →
-      count ≡ calls_in seat_of (past ++ new.journal)
-  count_by_stop count is = by old.stopped refl
-    where
-      by : (b : Bool) → old.stopped ≡ b → count ≡ calls_in seat_of (past ++ new.journal)
-      by true e = is ∙ sym (ap (λ (k : KernelState K). calls_in seat_of (past ++ k.journal)) (stops.again e))
-      by false e = is ∙ calls_append seat_of past old.journal
-          ∙ ap (λ (n : ℕ). calls_in seat_of past + n) (sym (more e)) ∙ sym (calls_append seat_of past new.journal)
-        where
-          more : old.stopped ≡ false → calls_in seat_of new.journal ≡ calls_in seat_of old.journal
-          more first =
-              let calls = ap (λ (k : KernelState K). calls_in seat_of k.journal) (stops.first first)
-              ∙ calls_append seat_of old.journal (Stopped ∷ []) in
-              omega (arith, calls)
-
-  pub kept_at_stop : (of_key : K → RecordKey → ℕ) (o : Origin) (capacity : ℕ) (d d' : Desk Entry Call) (count n : ℕ) →
-      StopsRefine K → IsKept of_key o past capacity old d count → d' ≡ known_of (whole past new) →
-      n ≡ calls_in seat_of (past ++ new.journal) → IsKept of_key o past capacity new d' n
-  kept_at_stop of_key o capacity d d' count n leads was known counted = by old.stopped refl
-    where
-      h : IsHeld of_key o (whole past old) d count
-      h = was.held
-
-      kept : of_key new.keys ≡ of_key old.keys → new.pool.honest ≡ old.pool.honest → new.callers ≡ old.callers →
-          length new.locks ≡ length old.locks → length new.seats ≡ length old.seats →
-          IsKept of_key o past capacity new d' n
-      kept keys honest callers locks seats = record {
-        held = record {
-          led = λ true_to_it. carried o.hash o.content past old new (h.led true_to_it) callers
-              (λ base refines. leads o.hash base old new refines stops);
-          hash = keys ∙ h.hash;
-          honest = honest ∙ h.honest;
-          callers = callers ∙ h.callers;
-          rows = locks ∙ h.rows;
-          seats = seats ∙ h.seats;
-          known = known;
-          counted = counted;
-        };
-        room = was.room;
-      }
-
-      by : (b : Bool) → old.stopped ≡ b → IsKept of_key o past capacity new d' n
-      by true e = let same = stops.again e in kept
-          (ap (λ (k : KernelState K). of_key k.keys) same) (ap (λ (k : KernelState K). k.pool.honest) same)
-          (ap (λ (k : KernelState K). k.callers) same) (ap (λ (k : KernelState K). length k.locks) same)
-          (ap (λ (k : KernelState K). length k.seats) same)
-      by false e = let same = stops.first e in kept
-          (ap (λ (k : KernelState K). of_key k.keys) same) (ap (λ (k : KernelState K). k.pool.honest) same)
-          (ap (λ (k : KernelState K). k.callers) same) (ap (λ (k : KernelState K). length k.locks) same)
-          (ap (λ (k : KernelState K). length k.seats) same)

@@ -1,6 +1,8 @@
 pub mod EntryLemmas
 pub mod WholeLemmas
+pub mod DeviceLemmas
 pub mod HeldLemmas
+pub mod StopLemmas
 pub mod SeatLemmas
 pub mod OpenLemmas
 pub mod CloseLemmas

@@ -1,5 +1,5 @@
 -- A service begins: its kernel was just opened, and passes are dealt to the seats.
-use Rattle.std.proofs.Common.{◌≡◌, ◌≤◌, ◌<◌, ℕ, zero, suc, ◌+◌, Bool, false, IsTrue, List, [], ◌∷◌, ◌++◌, length, Option, None, refl, sym, ap, ◌∙◌, subst, arith, length-append}
+use Rattle.std.proofs.Common.{◌≡◌, ◌≤◌, ◌<◌, ℕ, zero, suc, ◌+◌, Bool, true, false, IsTrue, List, [], ◌∷◌, ◌++◌, length, Option, None, refl, sym, ap, ◌∙◌, subst, arith, length-append}
 use Rattle.std.specs.Prelude.{replicate, slice_index_or}
 use Rattle.std.proofs.lemmas.List.{length-replicate}
 use Rattle.atomic_table.specs.Seated.{TableId}
@@ -7,8 +7,9 @@ use Rattle.interleavings.specs.Laws.{OpensRefine}
 use Rattle.interleavings.specs.Words.{HasSystem, MAX_SEATS}
 use Rattle.seat_passes.specs.Views.{calls_in, newcomer, no_place, place_at, with_one_more}
 use Rattle.workers.specs.Entries.{seat_of}
-use Rattle.workers.specs.Held.{IsHeld, IsKept, places_from}
-use Rattle.workers.specs.Opening.{IsOpenedOn, IsPrepared, PreparedView, dealt_desk, newcomers, origin_of}
+use Rattle.workers.proofs.DeviceLemmas.{all_spared}
+use Rattle.workers.specs.Held.{IsHeld, IsKept, KeepsDevice, places_from}
+use Rattle.workers.specs.Opening.{HasFrames, IsOpenedOn, IsPrepared, PreparedView, dealt_desk, newcomers, origin_of}
 use Rattle.workers.specs.Origins.{Origin}
 use Rattle.workers.specs.Told.{IsSeated, Sitter}
 use Rattle.workers.specs.Words.{ActiveView, Call, Caller, Desk, Entry, RefinesFile, IsOpened, KernelState, Place, RecordKey}
@@ -21,6 +22,8 @@ view_of table k = record {
   keys = k.keys;
   content = k.pool.stored;
   honest = k.pool.honest;
+  faults = k.pool.faults;
+  frames = k.pool.frames;
   callers = k.callers;
 }
 
@@ -33,16 +36,17 @@ module _ {K : Type 0} (of_key : K → RecordKey → ℕ) (keys : K) (content : L
     as_honest : k.pool.honest ≡ honest
     as_honest = ap (λ p. p.honest) opened.pool
 
-    pub opened_on : (table : TableId) → IsOpenedOn keys content honest callers (view_of table k)
+    pub opened_on : (table : TableId) → IsOpenedOn keys content honest callers frames (view_of table k)
     opened_on table = record {
       keys_are = opened.keys;
       content_is = stored;
       honest_is = as_honest;
       callers_are = opened.callers;
+      frames_are = ap (λ p. p.frames) opened.pool;
     }
 
-    pub is_prepared : OpensRefine K → (table seats : ℕ) → table ≡ seats → 1 ≤ length callers → length callers ≤ MAX_SEATS →
-        (IsTrue honest → HasSystem (of_key keys) content) → seats ≡ length callers →
+    pub is_prepared : OpensRefine K → (table seats : ℕ) → table ≡ seats → 1 ≤ length callers →
+        length callers ≤ MAX_SEATS → (IsTrue honest → HasSystem (of_key keys) content) → seats ≡ length callers →
         IsPrepared of_key k table seats
     is_prepared opens table seats fits some few has as_many = record {
       led = λ true_to_it.
@@ -122,10 +126,10 @@ many_none : (n : ℕ) → length (replicate {A = Option ActiveView} n None) ≡ 
 many_none zero = refl
 many_none (suc n) = ap suc (many_none n)
 
-held_at_start : {K : Type 0} (of_key : K → RecordKey → ℕ) (o : Origin) (name : TableId) (table many : ℕ)
-    (k : KernelState K) (d : Desk Entry Call) → IsPrepared of_key k table many →
-    origin_of of_key (view_of name k) ≡ o → d ≡ dealt_desk many many → IsHeld of_key o k d 0
-held_at_start {K} of_key o name table many k d p origin is =
+held_at_start : {K : Type 0} (of_key : K → RecordKey → ℕ) (o : Origin) (spares : Bool) (name : TableId)
+    (table many : ℕ) (k : KernelState K) (d : Desk Entry Call) → IsPrepared of_key k table many →
+    origin_of of_key spares (view_of name k) ≡ o → d ≡ dealt_desk many many → IsHeld of_key o k d 0
+held_at_start {K} of_key o spares name table many k d p origin is =
     subst (λ (from : Origin). IsHeld of_key from k d 0) origin
     record {
       led = p.led;
@@ -149,11 +153,27 @@ held_at_start {K} of_key o name table many k d p origin is =
     length_seats : length k.seats ≡ length k.callers
     length_seats = ap length p.seats_are ∙ many_none (length k.callers)
 
+-- the device has what it had
+device_at_start : {K : Type 0} (of_key : K → RecordKey → ℕ) (o : Origin) (spares : Bool) (name : TableId)
+    (k : KernelState K) → k.failed ≡ false → origin_of of_key spares (view_of name k) ≡ o →
+    (IsTrue spares → HasFrames (view_of name k)) → KeepsDevice o k.pool k.failed
+device_at_start of_key o spares name k sound origin frames =
+    subst (λ (from : Origin). KeepsDevice from k.pool k.failed) origin
+    record {
+      pages = λ spared. all_spared k.pool (frames spared);
+      later = omega arith;
+      cause = λ honest broken. let no : false ≡ true = sym sound ∙ broken in absurd cc;
+    }
+
 -- and nothing was taken out of its journal
-pub kept_at_start : {K : Type 0} (of_key : K → RecordKey → ℕ) (o : Origin) (name : TableId) (table many : ℕ)
-    (past : List Entry) (capacity : ℕ) (k : KernelState K) (d : Desk Entry Call) → past ≡ [] →
-    IsPrepared of_key k table many → origin_of of_key (view_of name k) ≡ o → d ≡ dealt_desk many many →
-    IsKept of_key o past capacity k d 0
-kept_at_start {K} of_key o name table many past capacity k d empty p origin is =
+pub kept_at_start : {K : Type 0} (of_key : K → RecordKey → ℕ) (o : Origin) (spares : Bool) (name : TableId)
+    (table many : ℕ) (past : List Entry) (capacity : ℕ) (k : KernelState K) (d : Desk Entry Call) → past ≡ [] →
+    IsPrepared of_key k table many → origin_of of_key spares (view_of name k) ≡ o →
+    (IsTrue spares → HasFrames (view_of name k)) → d ≡ dealt_desk many many → IsKept of_key o past capacity k d 0
+kept_at_start {K} of_key o spares name table many past capacity k d empty p origin frames is =
     subst (λ (es : List Entry). IsKept of_key o es capacity k d 0) (sym empty)
-    record { held = held_at_start of_key o name table many k d p origin is; room = tt }
+    record {
+      held = held_at_start of_key o spares name table many k d p origin is;
+      room = tt;
+      device = device_at_start of_key o spares name k p.failed origin frames;
+    }

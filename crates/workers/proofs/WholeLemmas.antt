@@ -65,6 +65,9 @@ module _ {K : Type 0} (hash : RecordKey → ℕ) (content : List (List ℕ)) (pa
   abbrev begun : State
   begun = after old.callers past was.base
 
+  pub led_here : (base : State) × Refines hash base old
+  led_here = (begun, refines_here hash was.base past old was.led)
+
   -- what leaves it over its system leaves it so, whatever was taken out
   pub carried : new.callers ≡ old.callers →
       ((base : State) → Refines hash base old → Refines hash base new) →

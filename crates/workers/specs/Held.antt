@@ -1,6 +1,7 @@
 -- What lies under the latch: a kernel, what was taken out of its journal, and what its pass knows of both.
-use Rattle.std.specs.Prelude.{ℕ, suc, ◌≡◌, ◌≤◌, ◌+◌, ◌++◌, true, IsTrue, List, [], ◌∷◌, Option, Result, Ok, Err, length}
+use Rattle.std.specs.Prelude.{ℕ, suc, ◌≡◌, ◌≤◌, ◌+◌, ◌++◌, Bool, true, IsTrue, List, [], ◌∷◌, Option, Some, Result, Ok, Err, length, ⊤}
 use Rattle.page_device.specs.Device.{HasRisen}
+use Rattle.buffer_pool.specs.Pool.{PoolState, spared}
 use Rattle.interleaving_core.specs.declared.fault.CloseFault.{CloseFault}
 use Rattle.interleaving_core.specs.declared.fault.CloseFault.TheVariants as closes
 use Rattle.interleaving_core.specs.declared.kernel.TheConstants.{MAX_DECIDED}
@@ -9,6 +10,7 @@ use Rattle.workers.specs.Entries.{seat_of}
 use Rattle.workers.specs.Origins.{LeavesFile, Origin}
 use Rattle.workers.specs.Words.{ActiveView, Call, Desk, Entry, RefinesFile, KernelState, Place, RecordKey, call_of, untold}
 use Rattle.workers.specs.declared.fault.Fault.{Fault}
+use Rattle.workers.specs.declared.fault.Fault.TheVariants as calls
 
 -- a kernel, and the entries that were taken out of its journal, in their order
 pub record HeldState (K : Type 0) : Type 0 where
@@ -49,16 +51,25 @@ pub record IsHeld {K : Type 0} (of_key : K → RecordKey → ℕ) (o : Origin) (
   pub known : d ≡ known_of k
   pub counted : count ≡ calls_in seat_of k.journal
 
+-- what its device has come to since then
+pub record KeepsDevice (o : Origin) (pool : PoolState) (failed : Bool) : Type 0 where
+  -- one that is spared has the pages that it had
+  pub pages : IsTrue o.spares → spared pool ≡ Some o.content
+  -- transfers that failed are counted; and of an honest device a step has failed only where one of them did
+  pub later : o.faults ≤ pool.faults
+  pub cause : IsTrue o.honest → failed ≡ true → HasRisen o.faults pool.faults
+
 -- once something was taken out, there is memory for as many entries more as a journal has at most
 abbrev pub HasRoom : (past : List Entry) → (capacity : ℕ) → Type 0
 HasRoom [] capacity = Unit {0}
 HasRoom (e ∷ es) capacity = length (e ∷ es) + (MAX_DECIDED + 1) ≤ capacity
 
--- so what was taken out and what followed it are one journal
+-- so what was taken out and what followed it are one journal, over the device from which it began
 pub record IsKept {K : Type 0} (of_key : K → RecordKey → ℕ) (o : Origin) (past : List Entry) (capacity : ℕ)
     (k : KernelState K) (d : Desk Entry Call) (count : ℕ) : Type 0 where
   pub held : IsHeld of_key o (whole past k) d count
   pub room : HasRoom past capacity
+  pub device : KeepsDevice o k.pool k.failed
 
 -- ---- between calls
 
@@ -77,6 +88,13 @@ Saves o (Err closes.Failed) old new = old.kernel.failed ≡ true
 pub record IsTakenOut {K : Type 0} (old new : HeldState K) : Type 0 where
   pub kept : new.past ≡ old.past ++ old.kernel.journal
   pub none : new.kernel.journal ≡ []
+
+-- for want of memory to keep it, or after a step has failed
+abbrev pub MayNotRenew : Fault → Type 0
+MayNotRenew calls.NoRoom = ⊥
+MayNotRenew calls.NoMemory = ⊤
+MayNotRenew calls.SessionFull = ⊥
+MayNotRenew calls.Failed = ⊤
 
 -- or nothing was
 abbrev pub Renews : {K : Type 0} → Result Unit Fault → (old new : HeldState K) → Type 0

@@ -1,5 +1,5 @@
 -- How a service begins.
-use Rattle.std.specs.Prelude.{ℕ, zero, suc, ◌≡◌, Bool, false, IsTrue, List, [], ◌∷◌, ◌++◌, None, length, replicate}
+use Rattle.std.specs.Prelude.{ℕ, zero, suc, ◌≡◌, ◌≤◌, Bool, false, IsTrue, List, [], ◌∷◌, ◌++◌, None, length, replicate}
 use Rattle.atomic_table.specs.Seated.{TableId}
 use Rattle.seat_passes.specs.Views.{first_desk, no_place}
 use Rattle.workers.specs.Origins.{Origin}
@@ -12,19 +12,34 @@ pub record PreparedView (K : Type 0) : Type 0 where
   pub keys : K
   pub content : List (List ℕ)
   pub honest : Bool
+  pub faults : ℕ
+  -- so many pages of it fit in memory
+  pub frames : ℕ
   pub callers : List Caller
 
--- from there a service of it begins
-abbrev pub origin_of : {K : Type 0} → (K → RecordKey → ℕ) → PreparedView K → Origin
-origin_of of_key p = record { content = p.content; honest = p.honest; hash = of_key p.keys; callers = p.callers }
+-- there is a frame for each page
+abbrev pub HasFrames : {K : Type 0} → PreparedView K → Type 0
+HasFrames p = length p.content ≤ p.frames
+
+-- from there a service of it begins, which spares its device or does not
+abbrev pub origin_of : {K : Type 0} → (K → RecordKey → ℕ) → (spares : Bool) → PreparedView K → Origin
+origin_of of_key spares p = record {
+  content = p.content;
+  honest = p.honest;
+  faults = p.faults;
+  spares = spares;
+  hash = of_key p.keys;
+  callers = p.callers;
+}
 
 -- it was opened on these
 pub record IsOpenedOn {K : Type 0} (keys : K) (content : List (List ℕ)) (honest : Bool) (callers : List Caller)
-    (p : PreparedView K) : Type 0 where
+    (frames : ℕ) (p : PreparedView K) : Type 0 where
   pub keys_are : p.keys ≡ keys
   pub content_is : p.content ≡ content
   pub honest_is : p.honest ≡ honest
   pub callers_are : p.callers ≡ callers
+  pub frames_are : p.frames ≡ frames
 
 -- a kernel that was just opened, and the seats of its table, as many as it has
 pub record IsPrepared {K : Type 0} (of_key : K → RecordKey → ℕ) (k : KernelState K) (table seats : ℕ) : Type 0 where

@@ -3,9 +3,12 @@ use Rattle.std.specs.Prelude.{ℕ, Bool, false, List, []}
 use Rattle.workers.specs.Words.{Caller, Entry, IsFifo, IsFileOf, IsLegal, RecordKey, State, after, restarted}
 
 pub record Origin : Type 0 where
-  -- the pages that its device had, and whether the device gives back what was written
+  -- the pages that its device had, whether the device gives back what was written, and how often a transfer had failed
   pub content : List (List ℕ)
   pub honest : Bool
+  pub faults : ℕ
+  -- whether the device is spared until the service ends: there is a frame for each page, and the file is not saved
+  pub spares : Bool
   -- the pseudokeys of the file
   pub hash : RecordKey → ℕ
   -- who sits at its seats, one caller a seat
@@ -13,7 +16,7 @@ pub record Origin : Type 0 where
 
 -- that of no service
 abbrev pub no_origin : Origin
-no_origin = record { content = []; honest = false; hash = λ key. 0; callers = [] }
+no_origin = record { content = []; honest = false; faults = 0; spares = false; hash = λ key. 0; callers = [] }
 
 -- a journal that is legal from the one system whose file the device had, and in which of each type messages are
 -- received in the order in which they were sent, each once

@@ -2,7 +2,7 @@
 
 ghost use Rattle.std.specs.Prelude.{◌≡◌, ◌↔◌, ◌+◌, ◌++◌, ◌≤◌, true, length, vec_capacity};
 ghost use Rattle.std.specs.List.{list_any};
-ghost use Rattle.workers.specs.Closing.{Each, IsBeside, IsEndedWith, IsLetGo, IsToComeBack, sits_at};
+ghost use Rattle.workers.specs.Closing.{Each, IsBeside, IsEndedWith, IsLetGo, IsToComeBack, remains_of, sits_at};
 ghost use Rattle.workers.specs.Held.{HasRoom};
 
 use crate::entries::{Own, Passes};
@@ -40,7 +40,8 @@ pub struct Ended<D, N: Room + Base> {
 pub enum Ending<D: PageDevice, K: PseudoKey, G: Gate, N: Room + Base> {
     /// It is closed, and its device has the file of the system after the journal.
     Closed(Ended<D, N>),
-    /// A step had failed (62), or a transfer failed (20). What was changed may be lost.
+    /// A step had failed (62), and nothing was written; or a transfer failed as the pages were
+    /// written (20), and what was changed may be lost.
     Fault(Ended<D, N>, CloseFault),
     /// One of its seats is missing, and no step has failed (63). All of it comes back.
     Missing(Service<D, K, G, N>, Vec<Seat<N>>),
@@ -53,9 +54,10 @@ impl<D: PageDevice + Drop, K: PseudoKey + Drop, G: Gate + Drop, N: Room + Base> 
     N,
 > {
     /// Ends the service, where all of its seats come back: there is one journal, legal from the
-    /// system whose file the device had, of which each seat's list is its part.
+    /// system whose file the device had, of which each seat's list is its part. Where a step has
+    /// failed nothing is written.
     pub fn close(self, seats: Vec<Seat<N>>) -> Ending<D, K, G, N>
-        ensures { IsEndedWith D.content N.origin seats.items result }
+        ensures { IsEndedWith D.content D.fault_count N.origin seats.items result }
     {
         a_refining_kernel_answers_as_plain_lists::<K>();
         a_refining_kernel_closes_on_its_file::<K>();
@@ -114,12 +116,11 @@ impl<D: PageDevice + Drop, K: PseudoKey + Drop, G: Gate + Drop, N: Room + Base> 
         }
     }
 
-    /// Lets the service go, with the seats that come back: nothing is written. There is one journal,
-    /// legal from the system whose file the device had; each seat's list is its part of it, or where a
-    /// step has failed lacks one entry.
+    /// Lets the service go, with the seats that come back: nothing is written, and a device that
+    /// was spared has what it had. There is one journal, legal from the system whose file that was;
+    /// each seat's list is its part of it, or where a step has failed lacks one entry.
     pub fn abandon(self, seats: Vec<Seat<N>>) -> Ended<D, N>
-        ensures { IsLetGo K N.origin seats.items result.failure result.journal.items
-            result.seats.items (D.content result.device) }
+        ensures { IsLetGo K N.origin seats.items (remains_of D.content D.fault_count result) }
     {
         a_refining_kernel_answers_as_plain_lists::<K>();
         let Service {

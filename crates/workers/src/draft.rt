@@ -15,7 +15,8 @@ pub(crate) struct Draft {
 }
 
 impl Draft {
-    /// That of a call, and a place for its entry in this list. Only the answer to a Receive has bytes.
+    /// That of a call, and a place for its entry in this list. Only the answer to a Receive has
+    /// bytes.
     pub(crate) fn of(list: &mut Vec<Entry>, call: &Call) -> Result<Draft, NoMemory>
         ensures call { IfOk result (λ d. d.call ≡ call.now) }
         ensures room { OnOk result (vec_len list.new < vec_capacity list.new) }

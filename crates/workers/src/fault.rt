@@ -19,7 +19,8 @@ pub enum Fault {
     /// Nothing was decided.
     #[error("the session is full")]
     SessionFull,
-    /// A step has failed, of this call or before it. Whether the call was decided the journal tells.
+    /// A step has failed, of this call or before it. Whether the call was decided the journal
+    /// tells.
     #[error("a step has failed")]
     Failed,
 }

@@ -1,5 +1,5 @@
-//! What lies under the latch: the kernel, what was taken out of its journal, its pass, the number of
-//! its calls, and who sleeps.
+//! What lies under the latch: the kernel, what was taken out of its journal, its pass, the number
+//! of its calls, and who sleeps.
 
 ghost use Rattle.std.specs.Prelude.{◌≡◌, ◌≤◌, ◌++◌, IfOk, OnErr, length};
 ghost use Rattle.interleaving_core.specs.Renewing.{Withdraws};
@@ -16,7 +16,8 @@ use crate::naming::Base;
 use bucket_page::PseudoKey;
 use interleavings::interleaving_core::{BeginFault, Kernel, Step};
 use interleavings::{
-    begins_refine, refusals_refine, steps_refine, stops_refine, withdrawals_refine,
+    a_step_does_what_its_seat_is_told, begins_refine, refusals_refine, steps_refine, stops_refine,
+    withdrawals_refine,
 };
 use page_device::PageDevice;
 use queue_model::{Call, Entry};
@@ -44,8 +45,8 @@ pub(crate) struct Sleepers {
     pub(crate) blocked: bool,
     /// One whose call waits, until the journal has grown.
     pub(crate) waiting: bool,
-    /// One that wants a moment between calls, until a call has ended or waits. Until it was there no
-    /// call begins: who would begin one sleeps too.
+    /// One that wants a moment between calls, until a call has ended or waits. Until it was there
+    /// no call begins: who would begin one sleeps too.
     pub(crate) resting: bool,
 }
 
@@ -109,6 +110,7 @@ impl<D: PageDevice + Drop, K: PseudoKey + Drop, N: Room + Base> Held<D, K, N> {
         ensures told { IsTold result pass.old pass.new }
     {
         steps_refine::<K>();
+        a_step_does_what_its_seat_is_told::<K>();
         let before = self.kernel.journal().len();
         let did = self.kernel.step(seat);
         self.kernel.is_whole();
@@ -156,8 +158,9 @@ impl<D: PageDevice + Drop, K: PseudoKey + Drop, N: Room + Base> Held<D, K, N> {
         self.step(gauge, pass, seat)
     }
 
-    /// Takes the call at the seat of this pass back where it waits: it holds no name and has written
-    /// nothing, so the system is as it was. `None` where it does not wait; then nothing is changed.
+    /// Takes the call at the seat of this pass back where it waits: it holds no name and has
+    /// written nothing, so the system is as it was. `None` where it does not wait; then nothing is
+    /// changed.
     pub(crate) fn withdraw(
         &mut self,
         gauge: &Passes<N>,
@@ -224,8 +227,8 @@ impl<D: PageDevice + Drop, K: PseudoKey + Drop, N: Room + Base> Held<D, K, N> {
         self.wake(gives_back(kind), kind == Kind::Decide)
     }
 
-    /// Who is to be woken, and is noted no more: seats that were blocked where a lock was given back,
-    /// and seats whose calls wait where the journal has grown.
+    /// Who is to be woken, and is noted no more: seats that were blocked where a lock was given
+    /// back, and seats whose calls wait where the journal has grown.
     pub(crate) fn wake(&mut self, freed: bool, grown: bool) -> Sleepers {
         Sleepers {
             blocked: freed && mem::replace(&mut self.sleepers.blocked, false),
@@ -234,8 +237,8 @@ impl<D: PageDevice + Drop, K: PseudoKey + Drop, N: Room + Base> Held<D, K, N> {
         }
     }
 
-    /// The moment between calls was there: who waited for it, or for its end, is to be woken; and so
-    /// are all others where a step has failed.
+    /// The moment between calls was there: who waited for it, or for its end, is to be woken; and
+    /// so are all others where a step has failed.
     pub(crate) fn wake_rested(&mut self) -> Sleepers {
         let failed = self.kernel.has_failed();
         Sleepers {
@@ -245,8 +248,8 @@ impl<D: PageDevice + Drop, K: PseudoKey + Drop, N: Room + Base> Held<D, K, N> {
     }
 }
 
-/// Whether a lock may be given back by a step of this kind. It is by no other; and the journal grows
-/// at a Decide alone.
+/// Whether a lock may be given back by a step of this kind. It is by no other; and the journal
+/// grows at a Decide alone.
 fn gives_back(kind: Kind) -> bool {
     matches!(kind, Kind::Release | Kind::Hop)
 }
@@ -284,7 +287,8 @@ pub(crate) fn tell_all<
 >(gauge: &Passes<N>, own: &mut Own<N>, count: u64, past: &Vec<Entry>, kernel: &Kernel<D, K>)
     requires desk { M.desk ≡ known_of (whole past.now.items kernel.now) }
     requires count { count ≡ calls_in seat_of (past.now.items ++ kernel.now.journal) }
-    requires change { IsChange seat_of 0 M.told own.old (known_of (whole past.now.items kernel.now)) }
+    requires change { IsChange seat_of 0 M.told own.old
+        (known_of (whole past.now.items kernel.now)) }
     ensures own { own.new ≡ known_of (whole past.now.items kernel.now) }
 {
     gauge.publish::<M>(own, count);

@@ -6,7 +6,7 @@ ghost use Rattle.interleavings.specs.interleaving_core.Fault.{device_failed};
 ghost use Rattle.page_device.specs.Device.{HasRisen};
 ghost use Rattle.page_locks.specs.declared.lock_table.TheConstants.{MAX_SEATS};
 ghost use Rattle.seat_passes.specs.Views.{first_desk};
-ghost use Rattle.workers.specs.Opening.{IsOpenedOn, dealt_desk, newcomers, origin_of};
+ghost use Rattle.workers.specs.Opening.{HasFrames, IsOpenedOn, dealt_desk, newcomers, origin_of};
 
 use crate::entries::{Own, Passes, Unnamed};
 use crate::gate::Gate;
@@ -43,6 +43,8 @@ impl<D: PageDevice, K: PseudoKey> Model for Prepared<D, K> {
       keys = p.kernel.keys;
       content = p.kernel.pool.stored;
       honest = p.kernel.pool.honest;
+      faults = p.kernel.pool.faults;
+      frames = p.kernel.pool.frames;
       callers = p.kernel.callers;
     } };
 
@@ -77,14 +79,15 @@ impl<D: PageDevice + Drop, K: PseudoKey + Drop> Prepared<D, K> {
         requires some { 1 ≤ length callers.now }
         requires few { length callers.now ≤ MAX_SEATS }
         ensures ok { IfOk result (IsOpenedOn keys (D.content device) (D.is_honest device)
-            callers.now) }
+            callers.now frames) }
         ensures few { IsErrAnd result (λ refusal. refusal.1 ≡ OpenFault.TooFewFrames) ↔
             (frames < 4 * length callers.now + 8) }
         ensures refused { IsTrue (D.is_honest device) → IfErr result (λ refusal.
             MayRefuse (K.of_key keys) (D.content device) refusal.1) }
         ensures err { IfErr result (λ refusal. (D.content refusal.0 ≡ D.content device)
             × (D.is_honest refusal.0 ≡ D.is_honest device)) }
-        ensures cause { IfErr result (λ refusal. refusal.1 ≡ device_failed →
+        ensures cause { IfOk result (λ p. D.fault_count device ≤ p.faults)
+            × IfErr result (λ refusal. refusal.1 ≡ device_failed →
             HasRisen (D.fault_count device) (D.fault_count refusal.0)) }
     {
         an_opened_kernel_refines::<K>();
@@ -112,14 +115,16 @@ impl<D: PageDevice + Drop, K: PseudoKey + Drop> Prepared<D, K> {
         self.kernel.abandon().device
     }
 
-    /// The service by this name, with one seat a caller.
+    /// The service by this name, with one seat a caller. Its device may be spared where there is a
+    /// frame for each page.
     ///
     /// # Errors
     ///
     /// The device, with its pages as they were, where there is no memory for the seats.
     pub fn start<G: Gate + Drop, N: Room + Base>(self, gate: G) -> Result<Started<D, K, G, N>, D>
         requires table { self.table ≡ N.table }
-        requires origin { origin_of K.of_key self ≡ N.origin }
+        requires origin { origin_of K.of_key N.origin.spares self ≡ N.origin }
+        requires spares { IsTrue N.origin.spares → HasFrames self }
         ensures seats { IfOk result (λ s. s.seats.items ≡ newcomers (length self.callers)) }
         ensures err { IfErr result (λ device. (D.content device ≡ self.content)
             × (D.is_honest device ≡ self.honest)) }

@@ -8,8 +8,8 @@ use queue_model::Entry;
 use seat_passes::Room;
 use std::marker::Model;
 
-/// A seat of a service: who has it makes one call at a time. Contracts see what it knows, that is its
-/// number, the entries of its calls, and the most calls that it was shown.
+/// A seat of a service: who has it makes one call at a time. Contracts see what it knows, that is
+/// its number, the entries of its calls, and the most calls that it was shown.
 #[derive(Drop)]
 pub struct Seat<N: Room + Base> {
     pub(crate) number: u8,

@@ -51,14 +51,14 @@ impl<D: PageDevice, K: PseudoKey, G: Gate, N: Room + Base> Model for Service<D, 
 }
 
 impl<D: PageDevice + Drop, K: PseudoKey + Drop, G: Gate, N: Room + Base> Service<D, K, G, N> {
-    /// Makes a call at a seat, and waits for its answer: that is told, and joins the seat's list with
-    /// the call. All memory but that of the kernel is taken before anything else is done.
+    /// Makes a call at a seat, and waits for its answer: that is told, and joins the seat's list
+    /// with the call. All memory but that of the kernel is taken before anything else is done.
     ///
     /// # Errors
     ///
     /// The first of `NoMemory`, `Failed` and `SessionFull` that is so when the call begins, and
-    /// `NoMemory` also where the kernel has none for it; then `NoRoom` or `Failed` where it does not
-    /// go on. The seat's list is as it was.
+    /// `NoMemory` also where the kernel has none for it; then `NoRoom` or `Failed` where it does
+    /// not go on. The seat's list is as it was.
     pub fn call<R: Wait>(&self, rt: &R, seat: &mut Seat<N>, call: Call) -> Result<Answer, Fault>
         ensures ok { IfOk result (λ answer.
             seat.new.list ≡ seat.old.list ++ Decided seat.old.seat call answer ∷ []) }
@@ -94,15 +94,15 @@ impl<D: PageDevice + Drop, K: PseudoKey + Drop, G: Gate, N: Room + Base> Service
         unreachable!()
     }
 
-    /// Makes a call as `call` does, with a limit of time: a call that waits when it is over is taken
-    /// back. Only to wait ends then: a call that goes on, or is blocked by a lock, comes to its answer
-    /// first. The clock counts from before the call begins.
+    /// Makes a call as `call` does, with a limit of time: a call that waits when it is over is
+    /// taken back. Only to wait ends then: a call that goes on, or is blocked by a lock, comes to
+    /// its answer first. The clock counts from before the call begins.
     ///
     /// # Errors
     ///
-    /// `TimedOut` gives the call back that was taken back: it has changed nothing, and is not in the
-    /// journal. A clock that can't be read ends the time. The others are those of `call`. The seat's
-    /// list is as it was.
+    /// `TimedOut` gives the call back that was taken back: it has changed nothing, and is not in
+    /// the journal. A clock that can't be read ends the time. The others are those of `call`. The
+    /// seat's list is as it was.
     pub fn call_within<R: Wait + Clock>(
         &self,
         rt: &R,

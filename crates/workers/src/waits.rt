@@ -16,8 +16,8 @@ use std::time::{Clock, Duration};
 const LOOKS: u32 = 20;
 
 impl<D: PageDevice + Drop, K: PseudoKey + Drop, G: Gate, N: Room + Base> Service<D, K, G, N> {
-    /// The latch, once it is free. It is free again soon, since a hold is short: so a thread looks for
-    /// it a while before it sleeps.
+    /// The latch, once it is free. It is free again soon, since a hold is short: so a thread looks
+    /// for it a while before it sleeps.
     pub(crate) fn hold<R: Wait>(&self, rt: &R) -> MutexGuard<'_, Held<D, K, N>> {
         let backoff = Backoff::new();
         for _ in 0..LOOKS {

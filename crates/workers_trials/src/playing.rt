@@ -1,8 +1,8 @@
 //! Seats of a service at their calls, each in a thread of its own.
 
-ghost use Rattle.std.specs.Prelude.{◌≡◌};
+ghost use Rattle.std.specs.Prelude.{◌≡◌, IsTrue};
 ghost use Rattle.bucket_page.specs.Pseudokeys.{number_key};
-ghost use Rattle.workers.specs.Opening.{origin_of};
+ghost use Rattle.workers.specs.Opening.{HasFrames, origin_of};
 
 use crate::closing::{Left, close, shown};
 use crate::flag::{Flag, LOOKS};
@@ -79,7 +79,8 @@ fn play_named<
     plan: &Plan<'_>,
 ) -> Result<Left<D>, Fail>
     requires table { prepared.table ≡ N.table }
-    requires origin { origin_of (λ _. number_key) prepared ≡ N.origin }
+    requires origin { origin_of (λ _. number_key) N.origin.spares prepared ≡ N.origin }
+    requires spares { IsTrue N.origin.spares → HasFrames prepared }
 {
     let Ok(
         Started {

@@ -1,17 +1,18 @@
-use Rattle.std.proofs.Common.{rules, ◌≡◌, ◌≤◌, ◌<◌, List, length, refl, sym, ap, ◌∙◌, subst, arith, ℕ}
+use Rattle.std.proofs.Common.{rules, ◌≡◌, ◌≤◌, ◌<◌, Bool, List, length, refl, sym, ap, ◌∙◌, subst, arith, ℕ}
 use denote.Param.Send.{sendable}
 use Rattle.std.specs.Prelude.{replicate}
 use Rattle.std.specs.Vec.{vec_len}
+use Rattle.bucket_page.specs.Pseudokeys.{sha_key}
 use Rattle.msgq_cli.specs.Scripts.{greatest_seat}
 use Rattle.msgq_cli.specs.declared.line.Line.{Line}
 use Rattle.threaded_runs.proofs.BesideLemmas.{beside, from_origin, no_room}
 use Rattle.threaded_runs.proofs.LineLemmas.{seats_within}
 use Rattle.threaded_runs.proofs.PairLemmas.{all_back, done_at, length-newcomers, many_made, of_seats, same_seats, sitters, untouched}
-use Rattle.threaded_runs.specs.Beside.{HasEnded}
+use Rattle.threaded_runs.specs.Beside.{HasEnded, counted_from}
 use Rattle.threaded_runs.specs.Desks.{ArePaired, DeskView}
 use Rattle.threaded_runs.specs.Printing.{AreOfSeats, IsPrintedOf}
-use Rattle.workers.specs.Closing.{HasMissing}
-use Rattle.workers.specs.Opening.{newcomers}
+use Rattle.workers.specs.Closing.{HasMissing, remains_of}
+use Rattle.workers.specs.Opening.{newcomers, origin_of}
 use Rattle.workers.specs.Origins.{Origin}
 use Rattle.workers.specs.Told.{Sitter}
 use Rattle.msgq.proofs.runs.run_prepared.Goals as goal
@@ -20,20 +21,27 @@ use Rattle.msgq.proofs.runs.run_prepared.Goals as goal
 
 pub returns-in_default : goal.returns-in_default
 returns-in_default g c =
-    λ was. no_room _ _ _ _ (rw c.unrun.ensures.device c.abandon.ensures.content)
+    λ was before. no_room _ _ _ _ (rw c.unrun.ensures.device c.abandon.ensures.content)
     (rw c.unrun.ensures.ending c.leave_refused.ensures) c.unrun.ensures.told
 
 pub returns-in_default-with_capacity : goal.returns-in_default-with_capacity
 returns-in_default-with_capacity g c =
-    λ was. no_room _ _ _ _
+    λ was before. no_room _ _ _ _
     (rw c.unrun-in_default-with_capacity.ensures.device c.abandon-in_default-with_capacity.ensures.content)
     (rw c.unrun-in_default-with_capacity.ensures.ending c.leave_refused-in_default-with_capacity.ensures)
     c.unrun-in_default-with_capacity.ensures.told
 
 pub returns-in-Err : goal.returns-in-Err
 returns-in-Err g c =
-    λ was. no_room _ _ _ _ (rw c.unrun-in-Err.ensures.device c.in-Err.ensures.err.0)
+    λ was before. no_room _ _ _ _ (rw c.unrun-in-Err.ensures.device c.in-Err.ensures.err.0)
     (rw c.unrun-in-Err.ensures.ending c.leave_refused-in-Err.ensures) c.unrun-in-Err.ensures.told
+
+-- ---- the service spares its device
+
+pub start-requires-clause-origin : goal.start-requires-clause-origin
+start-requires-clause-origin g c =
+    subst (λ (spares : Bool). origin_of (λ _. sha_key) spares c.args.prepared ≡ g.N.Base.origin)
+    (ap (λ (o : Origin). o.spares) c.requires.origin) c.requires.origin
 
 -- ---- each seat has its lines at a desk
 
@@ -127,9 +135,14 @@ returns g c =
     (subst (λ (l : List DeskView). IsPrintedOf c.lines.result.now l c.args.output.now first c.print_all-so_far.result)
     c.as_slice.ensures.value c.print_all-so_far.ensures) in
     let ended = subst (λ (l : List Sitter). HasEnded g.N.Base.origin l c.has_refused-is_untold.result
-    c.end_service-ended.result.1 c.end_service-ended.result.0.journal.items
-    (g.D.PageDevice.content c.end_service-ended.result.0.device)) c.seats_of.ensures c.end_service-ended.ensures in
-    λ was. from_origin _ _ g.N.Base.origin _ _ c.requires.origin
+    c.end_service-ended.result.1
+    (remains_of g.D.PageDevice.content g.D.PageDevice.fault_count c.end_service-ended.result.0)) c.seats_of.ensures
+    c.end_service-ended.ensures in
+    let pages = sym (ap (λ (o : Origin). o.content) c.requires.origin) in
+    let spared = sym (ap (λ (o : Origin). o.spares) c.requires.origin) in
+    λ was before. from_origin _ _ (counted_from was g.N.Base.origin) _ _ (ap (counted_from was) c.requires.origin)
     (beside c.args.plan.script.now c.make_all-desks.result.items made done g.N.Base.origin _ _
-    c.print_all-so_far.result c.end_service-ended.result.1 c.end_service-ended.result.0.journal.items first told printed
-    c.flush.ensures.same c.has_refused-is_untold.ensures c.flush.ensures.handed ended c.tell_end-ending.ensures)
+    c.print_all-so_far.result c.end_service-ended.result.1 c.end_service-ended.result.0.journal.items
+    c.end_service-ended.result.0.seats.items c.end_service-ended.result.0.failure first told printed
+    c.flush.ensures.same c.has_refused-is_untold.ensures c.flush.ensures.handed ended c.tell_end-ending.ensures pages
+    spared (subst (λ (n : ℕ). was ≤ n) (ap (λ (o : Origin). o.faults) c.requires.origin) before))

@@ -27,9 +27,16 @@ open-requires-clause-few g c =
 pub returns-clause-ok : goal.returns-clause-ok
 returns-clause-ok g c =
     IfOk-weaker c.open.result _ _
-    (λ p. prepared_for c.args.script.now _ _ _ _
-    (c.as_slice.ensures.value ∙ c.in-Ok.ensures ∙ ap (callers_of c.args.script.now.ids) c.greatest_seat-seats.ensures) p)
-    c.open.ensures.ok
+    (λ p. prepared_for c.args.script.now _ _ _ _ _ enough
+    (c.as_slice.ensures.value ∙ c.in-Ok.ensures ∙ ap (callers_of c.args.script.now.ids) c.greatest_seat-seats.ensures)
+    p) c.open.ensures.ok
+  where
+    -- there are as many frames as pages, or more
+    enough : length (g.D.PageDevice.content c.args.device) ≤ c.max-frames.result
+    enough =
+        let pages = c.pages.ensures in
+        let frames = c.max-frames.ensures in
+        omega (arith, clamps, pages, frames)
 
 -- there are frames enough
 pub returns-clause-enough : goal.returns-clause-enough

@@ -29,6 +29,7 @@ invariant_of-self g c =
     let now = counted_after c.self.inside.past.items _ _ _ _ c.step-did.ensures.turn _ _ _ c.self.invariant.held.counted
     (ap length c.journal-before.ensures) (ap length c.journal.ensures) in
     kept_after _ _ _ _ _ c.step-did.ensures.turn _ _ _ _ _ _ _ c.steps_refine.ensures
+    c.a_step_does_what_its_seat_is_told.ensures
     (c.requires.within.0, subst (λ n. c.args.seat ≤ n) (sym c.self.invariant.held.rows) c.requires.within.1)
     (record { turn = c.step-did.ensures.turn; makes = c.step-did.ensures.makes }) c.self.invariant c.tell.ensures.own
     now
