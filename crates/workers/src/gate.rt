@@ -14,8 +14,9 @@ pub trait Gate {
     }
 }
 
-/// How many steps a hold makes at most where no gate is to see them: a call makes some forty.
-const AT_ONCE: u32 = 1;
+/// How many steps a hold makes at most where no gate is to see them: a call makes some forty. With
+/// more of them threads sleep and look as often.
+const AT_ONCE: u32 = 16;
 
 /// A gate that stands open.
 #[derive(Clone, Copy, Debug, Drop, PartialEq, Eq)]
