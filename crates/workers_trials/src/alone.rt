@@ -1,10 +1,10 @@
 //! A kernel whose seat 1 is stepped alone.
 
-use crate::files::kernel;
+use crate::files::{kernel, new_file};
 use crate::gated::{before, long};
 use bucket_page::NumberKey;
 use page_device::MemDevice;
-use queue_model::Call;
+use queue_model::{Answer, Call};
 use std::alloc::Global;
 use std::test::Fail;
 use step_rules::Kind;
@@ -18,10 +18,9 @@ type Alone = Kernel<MemDevice, NumberKey>;
 
 /// The kinds by which the Send that the gate holds moves on a kernel in the same state.
 pub fn moved_kinds(alloc: Global) -> Result<Vec<Kind>, Fail> {
-    let mut kernel = kernel(alloc, 352, 3)?;
+    let mut kernel = kernel(alloc, new_file(alloc, 352)?, 3)?;
     for call in before(alloc)? {
-        begin(&mut kernel, call)?;
-        drive(&mut kernel)?;
+        answer(&mut kernel, call)?;
     }
     begin(&mut kernel, long(alloc)?)?;
     let mut kinds = Vec::new(alloc);
@@ -32,6 +31,16 @@ pub fn moved_kinds(alloc: Global) -> Result<Vec<Kind>, Fail> {
         }
     }
     Err(Fail::from("it ends"))
+}
+
+/// What calls are answered on a device, which is opened once more for one seat.
+pub fn answers_on(alloc: Global, device: MemDevice, calls: Vec<Call>) -> Result<Vec<Answer>, Fail> {
+    let mut kernel = kernel(alloc, device, 1)?;
+    let mut answers = Vec::new(alloc);
+    for call in calls {
+        answers.push(answer(&mut kernel, call)?)?;
+    }
+    Ok(answers)
 }
 
 /// A call begins at seat 1.
@@ -50,13 +59,14 @@ fn step(kernel: &mut Alone) -> Result<Step, Fail> {
     Ok(kernel.step(1))
 }
 
-/// Seat 1 is driven until it is answered.
-fn drive(kernel: &mut Alone) -> Result<(), Fail> {
+/// What a call of seat 1 is answered.
+fn answer(kernel: &mut Alone, call: Call) -> Result<Answer, Fail> {
+    begin(kernel, call)?;
     if kernel.seats() == 0 {
         return Err(Fail::from("a seat"));
     }
     match kernel.drive(1) {
-        Step::Answered(_) => Ok(()),
+        Step::Answered(answer) => Ok(answer),
         _ => Err(Fail::from("it is answered")),
     }
 }

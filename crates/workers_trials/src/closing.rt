@@ -10,6 +10,15 @@ use std::test::Fail;
 use workers::interleavings::interleaving_core::CloseFault;
 use workers::{Base, Ended, Ending, Fault, Gate, GaugePass, Room, Seat};
 
+/// How a service ends.
+#[derive(Clone, Copy, Debug, PartialEq, Eq)]
+pub enum End {
+    /// It is closed, and its file is written.
+    Closed,
+    /// It is let go, and its file is as it was saved last.
+    LetGo,
+}
+
 /// What is left of a service. The answers of its journal are those of plain lists, and each seat's
 /// list was its part, but for one entry where a step has failed.
 #[derive(Drop)]
@@ -20,6 +29,8 @@ pub struct Left<D> {
     pub journal: Vec<Entry>,
     /// What each seat was told beside answers, from seat 1 on.
     pub faults: Vec<Option<Fault>>,
+    /// How many calls were taken back.
+    pub taken_back: u32,
     /// How many calls a pass of no seat was shown once all threads had ended.
     pub shown: u64,
     /// Why it was not closed well.
@@ -38,29 +49,51 @@ pub fn shown<D: PageDevice + Drop, G: Gate, N: Room + Base>(
     }
 }
 
-/// Closes a service whose threads have ended; where none was told a fault, first with a seat missing.
+/// Ends a service whose threads have ended; where none was told a fault it is first closed with a seat
+/// missing.
 pub fn close<D: PageDevice + Drop, G: Gate + Drop, N: Room + Base>(
     alloc: Global,
     service: Shared<D, G, N>,
     players: Vec<Player<N>>,
     shown: u64,
+    end: End,
 ) -> Result<Left<D>, Fail> {
     let mut faults = Vec::new(alloc);
     let mut seats = Vec::new(alloc);
+    let mut taken_back: u32 = 0;
     for player in players {
         faults.push(player.fault)?;
         seats.push(player.seat)?;
+        taken_back = taken_back.saturating_add(player.taken_back);
     }
     let (service, seats) = if faults.iter().all(Option::is_none) {
         come_back(service, seats)?
     } else {
         (service, seats)
     };
-    match service.close(seats) {
-        Ending::Closed(ended) => remains(alloc, ended, None, faults, shown),
-        Ending::Fault(ended, fault) => remains(alloc, ended, Some(fault), faults, shown),
-        Ending::Missing(_, _) => Err(Fail::from("no seat is missing")),
-    }
+    let (ended, fault) = match end {
+        End::LetGo => (service.abandon(seats), None),
+        End::Closed => match service.close(seats) {
+            Ending::Closed(ended) => (ended, None),
+            Ending::Fault(ended, fault) => (ended, Some(fault)),
+            Ending::Missing(_, _) => return Err(Fail::from("no seat is missing")),
+        },
+    };
+    compare(alloc, &ended, fault, shown)?;
+    let Ended {
+        device,
+        journal,
+        seats: _,
+        failure: _,
+    } = ended;
+    Ok(Left {
+        device,
+        journal,
+        faults,
+        taken_back,
+        shown,
+        fault,
+    })
 }
 
 /// Where a seat is missing, service and seats come back.
@@ -82,34 +115,23 @@ fn come_back<D: PageDevice + Drop, G: Gate + Drop, N: Room + Base>(
     }
 }
 
-/// What is left of a service that was closed.
-fn remains<D: PageDevice + Drop, N: Room + Base>(
+/// The journal of a service that has ended is what its seats and its pass were told, and what plain
+/// lists answer.
+fn compare<D: Drop, N: Room + Base>(
     alloc: Global,
-    ended: Ended<D, N>,
+    ended: &Ended<D, N>,
     fault: Option<CloseFault>,
-    faults: Vec<Option<Fault>>,
     shown: u64,
-) -> Result<Left<D>, Fail> {
-    let Ended {
-        device,
-        journal,
-        seats,
-        failure: _,
-    } = ended;
-    have_parts(journal.as_slice(), seats.as_slice(), fault)?;
-    if shown != calls(journal.as_slice()) as u64 {
+) -> Result<(), Fail> {
+    let journal = ended.journal.as_slice();
+    have_parts(journal, ended.seats.as_slice(), fault)?;
+    if shown != calls(journal) as u64 {
         return Err(Fail::from("a pass is shown another number of calls"));
     }
-    if replayed(alloc, journal.as_slice()).is_none() {
+    if replayed(alloc, journal).is_none() {
         return Err(Fail::from("plain lists answer otherwise"));
     }
-    Ok(Left {
-        device,
-        journal,
-        faults,
-        shown,
-        fault,
-    })
+    Ok(())
 }
 
 /// Each seat's list is its part of the journal; where a step has failed, but for one entry.

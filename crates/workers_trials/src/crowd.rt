@@ -2,6 +2,7 @@
 //! same, and the file that is left is right.
 
 use crate::asks::{get, receive, send, set};
+use crate::closing::End;
 use crate::files::{is_file_of, prepared};
 use crate::playing::{Deed, Plan, play};
 use queue_model::Call;
@@ -12,7 +13,7 @@ use workers::Open;
 /// How often each of eight seats calls.
 const CALLS: u32 = 2000;
 
-/// How often each of 64 seats sends and receives.
+/// How often a seat sends and receives by turns.
 const TURNS: u32 = 20;
 
 /// Seats 1 to 4 send messages of 0 to 1,000 bytes to queues 1 to 4, and seats 5 to 8 receive them.
@@ -30,6 +31,7 @@ fn eight_seats_send_and_receive_on_four_queues(rt: HostRuntime) -> Result<(), Fa
         before: queues(alloc, 4)?,
         scripts,
         rounds: 1,
+        end: End::Closed,
     };
     let left = play(&rt, alloc, prepared(alloc, 352, 8)?, Open, &plan)?;
     assert_eq!(rt; left.shown, 16_008);
@@ -44,12 +46,13 @@ fn sixty_four_seats_send_and_receive_on_one_queue(rt: HostRuntime) -> Result<(),
     let alloc = rt.alloc();
     let mut scripts = Vec::new(alloc);
     for _ in 0..64 {
-        scripts.push(by_turns(alloc)?)?;
+        scripts.push(by_turns(alloc, 1)?)?;
     }
     let plan = Plan {
         before: queues(alloc, 1)?,
         scripts,
         rounds: 1,
+        end: End::Closed,
     };
     let left = play(&rt, alloc, prepared(alloc, 352, 64)?, Open, &plan)?;
     assert_eq!(rt; left.shown, 2562);
@@ -59,7 +62,7 @@ fn sixty_four_seats_send_and_receive_on_one_queue(rt: HostRuntime) -> Result<(),
 }
 
 /// So many queues, each for some messages only.
-fn queues(alloc: Global, many: u32) -> Result<Vec<Call>, Fail> {
+pub fn queues(alloc: Global, many: u32) -> Result<Vec<Call>, Fail> {
     let mut calls = Vec::new(alloc);
     for place in 0..many {
         let queue = place.saturating_add(1);
@@ -89,11 +92,12 @@ fn receives(alloc: Global, queue: u32) -> Result<Vec<Deed<'static>>, Fail> {
     Ok(script)
 }
 
-fn by_turns(alloc: Global) -> Result<Vec<Deed<'static>>, Fail> {
+/// Sends and receives by turns on a queue.
+pub fn by_turns<'a>(alloc: Global, queue: u32) -> Result<Vec<Deed<'a>>, Fail> {
     let mut script = Vec::new(alloc);
     for _ in 0..TURNS {
-        script.push(Deed::Call(send(alloc, 1, 1, b"ab")?))?;
-        script.push(Deed::Call(receive(1, 1024)))?;
+        script.push(Deed::Call(send(alloc, queue, 1, b"ab")?))?;
+        script.push(Deed::Call(receive(queue, 1024)))?;
     }
     Ok(script)
 }

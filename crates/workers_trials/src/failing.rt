@@ -1,7 +1,7 @@
 //! A device one of whose transfers fails while messages are sent and received.
 
 use crate::asks::{get, receive, send, set};
-use crate::closing::Left;
+use crate::closing::{End, Left};
 use crate::files::{copy_of, is_file_of, new_file, open};
 use crate::playing::{Deed, Plan, play};
 use file_check::CheckFault;
@@ -18,7 +18,7 @@ use workers::{Fault, Open};
 /// The frames of the pool: so few that pages come and go.
 const FRAMES: usize = 16;
 
-/// How many messages are sent and received.
+/// How many messages are sent and received. The file is saved once, when half of them are received.
 const MESSAGES: u32 = 40;
 
 /// The calls: two make the queue, and each message is sent and received.
@@ -48,6 +48,7 @@ fn calls_in_turn_are_answered_or_told_that_a_step_has_failed(rt: HostRuntime) ->
             before,
             scripts,
             rounds: 1,
+            end: End::Closed,
         },
     )
 }
@@ -71,6 +72,7 @@ fn calls_at_once_are_answered_or_told_that_a_step_has_failed(rt: HostRuntime) ->
             before,
             scripts,
             rounds: 1,
+            end: End::Closed,
         },
     )
 }
@@ -90,7 +92,10 @@ fn message(alloc: Global) -> Result<Call, Fail> {
 
 fn receives(alloc: Global) -> Result<Vec<Deed<'static>>, Fail> {
     let mut script = Vec::new(alloc);
-    for _ in 0..MESSAGES {
+    for place in 0..MESSAGES {
+        if place == MESSAGES / 2 {
+            script.push(Deed::Save)?;
+        }
         script.push(Deed::Call(receive(1, 1024)))?;
     }
     Ok(script)

@@ -102,13 +102,16 @@ pub fn prepared(
     prepared_on(alloc, new_file(alloc, pages)?, seats)
 }
 
-/// A kernel on a new file.
-pub fn kernel(alloc: Global, pages: u32, seats: u8) -> Result<Kernel<MemDevice, NumberKey>, Fail>
+/// A kernel on a device.
+pub fn kernel(
+    alloc: Global,
+    device: MemDevice,
+    seats: u8,
+) -> Result<Kernel<MemDevice, NumberKey>, Fail>
     requires some { 1 ≤ seats }
     requires few { seats ≤ 64 }
 {
     let callers = callers();
-    let device = new_file(alloc, pages)?;
     match Kernel::open(alloc, device, NumberKey, &callers[..seats as usize], FRAMES) {
         Ok(kernel) => Ok(kernel),
         Err((_, fault)) => Err(fault.into()),

@@ -2,6 +2,7 @@
 //! whose seats is missing comes back, is tried wherever a service is closed.
 
 use crate::asks::{get, info, receive, received, send};
+use crate::closing::End;
 use crate::files::prepared;
 use crate::plain::is_told;
 use crate::playing::{Plan, play};
@@ -17,6 +18,7 @@ fn the_first_script_is_answered_and_counted(rt: HostRuntime) -> Result<(), Fail>
         before: script(alloc)?,
         scripts: Vec::new(alloc),
         rounds: 0,
+        end: End::Closed,
     };
     let left = play(&rt, alloc, prepared(alloc, 258, 2)?, Open, &plan)?;
     assert!(rt; is_told(left.journal.as_slice(), 1, answers(alloc)?.as_slice()));

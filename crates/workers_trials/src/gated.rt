@@ -3,6 +3,7 @@
 
 use crate::alone::moved_kinds;
 use crate::asks::{get, info, receive, received, send};
+use crate::closing::End;
 use crate::files::prepared;
 use crate::flag::{Flag, LOOKS};
 use crate::plain::is_told;
@@ -139,6 +140,7 @@ fn plan(alloc: Global, shown: &Shown) -> Result<Plan<'_>, Fail> {
         before: before(alloc)?,
         scripts,
         rounds: 1,
+        end: End::Closed,
     })
 }
 

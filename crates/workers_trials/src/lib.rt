@@ -8,6 +8,8 @@ mod alone;
 #[cfg(test)]
 mod asks;
 #[cfg(test)]
+mod between;
+#[cfg(test)]
 mod closing;
 #[cfg(test)]
 mod crowd;
@@ -21,6 +23,8 @@ mod first;
 mod flag;
 #[cfg(test)]
 mod gated;
+#[cfg(test)]
+mod limits;
 #[cfg(test)]
 mod order;
 #[cfg(test)]

@@ -1,6 +1,7 @@
 //! Two senders and a receiver, each in a thread of its own.
 
 use crate::asks::{get, receive, send};
+use crate::closing::End;
 use crate::files::prepared;
 use crate::plain::answer_of;
 use crate::playing::{Deed, Plan, play};
@@ -47,6 +48,7 @@ fn plan(alloc: Global) -> Result<Plan<'static>, Fail> {
         before,
         scripts,
         rounds: 1,
+        end: End::Closed,
     })
 }
 

@@ -4,7 +4,7 @@ ghost use Rattle.std.specs.Prelude.{◌≡◌, IsTrue};
 ghost use Rattle.bucket_page.specs.Pseudokeys.{number_key};
 ghost use Rattle.workers.specs.Opening.{HasFrames, origin_of};
 
-use crate::closing::{Left, close, shown};
+use crate::closing::{End, Left, close, shown};
 use crate::flag::{Flag, LOOKS};
 use bucket_page::NumberKey;
 use page_device::PageDevice;
@@ -15,16 +15,22 @@ use std::sync::Wait;
 use std::test::Fail;
 use std::thread;
 use std::thread::Threads;
-use std::time::Clock;
-use workers::{Base, Fault, Gate, Prepared, Room, Seat, Service, Started};
+use std::time::{Clock, Duration, Instant};
+use workers::{Base, Fault, Gate, Prepared, Room, Seat, Service, Started, Unanswered};
 
 /// What a seat does next.
 #[derive(Drop)]
 pub enum Deed<'a> {
     /// It makes a call, and waits for its answer.
     Call(Call),
+    /// It makes a call, and waits for its answer so long at most.
+    CallWithin(Call, Duration),
     /// It stops the system.
     Stop,
+    /// It saves the file.
+    Save,
+    /// It renews the service.
+    Renew,
     /// It waits for a flag to come up, but not for ever.
     Await(&'a Flag),
     /// It raises a flag.
@@ -40,6 +46,8 @@ pub struct Plan<'a> {
     pub scripts: Vec<Vec<Deed<'a>>>,
     /// How often, each time once all have done it.
     pub rounds: u32,
+    /// How the service ends.
+    pub end: End,
 }
 
 /// A service of trials.
@@ -50,9 +58,11 @@ pub type Shared<D, G, N> = Service<D, NumberKey, G, N>;
 pub struct Player<N: Room + Base> {
     pub seat: Seat<N>,
     pub fault: Option<Fault>,
+    /// How many of its calls were taken back, each as it was, once its time was over.
+    pub taken_back: u32,
 }
 
-/// Plays a plan on what was prepared, and closes the service.
+/// Plays a plan on what was prepared, and ends the service.
 pub fn play<D: PageDevice + Drop + Send, G: Gate + Drop + Send + Sync, R>(
     rt: &R,
     alloc: Global,
@@ -94,14 +104,18 @@ fn play_named<
     };
     let players = play_rounds(rt, &service, seated(alloc, seats)?, plan)?;
     let shown = shown(&service, passes);
-    close(alloc, service, players, shown)
+    close(alloc, service, players, shown, plan.end)
 }
 
 /// A player for each seat.
 fn seated<N: Room + Base>(alloc: Global, seats: Vec<Seat<N>>) -> Result<Vec<Player<N>>, Fail> {
     let mut players = Vec::new(alloc);
     for seat in seats {
-        players.push(Player { seat, fault: None })?;
+        players.push(Player {
+            seat,
+            fault: None,
+            taken_back: 0,
+        })?;
     }
     Ok(players)
 }
@@ -177,7 +191,13 @@ impl<N: Room + Base> Player<N> {
     ) {
         match deed {
             Deed::Call(call) => self.call(rt, service, call),
+            Deed::CallWithin(call, limit) => self.call_within(rt, service, call, *limit),
             Deed::Stop => service.stop(rt),
+            Deed::Save => {
+                let fault = service.save(rt).err().map(|_| Fault::Failed);
+                self.fault = self.fault.or(fault);
+            }
+            Deed::Renew => self.fault = self.fault.or(service.renew(rt).err()),
             Deed::Await(flag) => {
                 flag.comes_up(rt, LOOKS);
             }
@@ -199,4 +219,37 @@ impl<N: Room + Base> Player<N> {
             };
         }
     }
+
+    /// It makes a call with a limit of time, where it was told no fault.
+    fn call_within<D: PageDevice + Drop, G: Gate, R: Wait + Clock>(
+        &mut self,
+        rt: &R,
+        service: &Shared<D, G, N>,
+        call: &Call,
+        limit: Duration,
+    ) {
+        if self.fault.is_some() {
+            return;
+        }
+        let Ok(copy) = call.try_copy() else {
+            self.fault = Some(Fault::NoMemory);
+            return;
+        };
+        let start = Instant::now(rt).ok();
+        match service.call_within(rt, &mut self.seat, copy, limit) {
+            Ok(_) => {}
+            Err(Unanswered::TimedOut(back)) => {
+                if back == *call && is_over(rt, start, limit) {
+                    self.taken_back = self.taken_back.saturating_add(1);
+                }
+            }
+            Err(Unanswered::Fault(fault)) => self.fault = Some(fault),
+        }
+    }
+}
+
+/// Whether a limit of time that began then is over.
+fn is_over(clock: &impl Clock, start: Option<Instant>, limit: Duration) -> bool {
+    let spent = start.and_then(|start| start.elapsed(clock).ok());
+    spent.is_some_and(|spent| limit <= spent)
 }

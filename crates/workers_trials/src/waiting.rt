@@ -1,6 +1,7 @@
 //! Calls that wait in a thread of their own, and what ends their wait.
 
 use crate::asks::{get, receive, received, send};
+use crate::closing::End;
 use crate::files::{new_file, prepared, prepared_on};
 use crate::plain::is_told;
 use crate::playing::{Deed, Plan, play};
@@ -8,10 +9,14 @@ use page_device::MemDevice;
 use queue_model::{Answer, Errno};
 use std::alloc::Global;
 use std::test::Fail;
+use std::time::Duration;
 use workers::Open;
 
 /// How often each is tried.
 const ROUNDS: u32 = 200;
+
+/// A limit of time, in seconds, in which each trial ends.
+const LONG: u64 = 3600;
 
 /// A plan of two seats with a queue: each does one thing, so often.
 fn each(
@@ -32,19 +37,26 @@ fn each(
         before,
         scripts,
         rounds,
+        end: End::Closed,
     })
 }
 
-/// A Receive and a Send in threads of their own: whichever comes first, the message is received.
+/// A Receive and a Send in threads of their own: whichever comes first, the message is received, also
+/// where there is a limit of time.
 #[test]
 fn a_receive_is_answered_once_its_message_is_sent(rt: HostRuntime) -> Result<(), Fail> {
     let alloc = rt.alloc();
-    let sends = Deed::Call(send(alloc, 1, 3, b"ab")?);
-    let plan = each(alloc, Deed::Call(receive(1, 10)), sends, ROUNDS)?;
-    let left = play(&rt, alloc, prepared(alloc, 258, 2)?, Open, &plan)?;
-    let (first, second) = of_rounds(alloc)?;
-    assert!(rt; is_told(left.journal.as_slice(), 1, first.as_slice()));
-    assert!(rt; is_told(left.journal.as_slice(), 2, second.as_slice()));
+    for receives in [
+        Deed::Call(receive(1, 10)),
+        Deed::CallWithin(receive(1, 10), Duration::from_secs(LONG)),
+    ] {
+        let sends = Deed::Call(send(alloc, 1, 3, b"ab")?);
+        let plan = each(alloc, receives, sends, ROUNDS)?;
+        let left = play(&rt, alloc, prepared(alloc, 258, 2)?, Open, &plan)?;
+        let (first, second) = of_rounds(alloc)?;
+        assert!(rt; is_told(left.journal.as_slice(), 1, first.as_slice()));
+        assert!(rt; is_told(left.journal.as_slice(), 2, second.as_slice()));
+    }
     Ok(())
 }
 
