@@ -1,26 +1,28 @@
 //! Calls of one seat on a kernel, over a file in memory of which all pages are in frames.
 
+use crate::asking::{get, receive, send, set};
 use bucket_page::ShaKey;
 use interleaving_core::{Kernel, Step};
 use kept_keys::KeptKeys;
 use page_device::MemDevice;
-use queue_model::{
-    Body, Call, Caller, GetArguments, NoMemory, ReceiveArguments, SendArguments, SetArguments,
-};
+use queue_model::{Call, Caller, NoMemory};
 use record_file::format;
 use std::alloc::Global;
 use std::time::Instant;
 use step_rules::Kind;
 
+/// The pseudokeys of files here.
+pub type Keys = KeptKeys<ShaKey>;
+
 /// Who calls.
-const CALLER: Caller = Caller {
+pub const CALLER: Caller = Caller {
     pid: 1,
     uid: 0,
     gid: 0,
 };
 
 /// Pages of the file.
-const PAGES: u32 = 352;
+pub const PAGES: u32 = 352;
 
 /// So many Receives are timed together.
 const BATCH: u32 = 16;
@@ -37,53 +39,69 @@ pub struct Plan {
     pub bytes: usize,
 }
 
-/// A queue on a kernel.
-#[derive(Drop)]
+/// A queue on a kernel, which is to be let go at its end: were it dropped, each of its parts would be
+/// proved to be dropped here.
 pub struct Called {
     alloc: Global,
-    kernel: Kernel<MemDevice, KeptKeys<ShaKey>>,
+    kernel: Kernel<MemDevice, Keys>,
     bytes: Vec<u8>,
+}
+
+/// A new file.
+pub fn new_file(alloc: Global) -> anyhow::Result<MemDevice> {
+    let mut device = MemDevice::new(alloc);
+    format(&mut device, PAGES)?;
+    Ok(device)
 }
 
 impl Called {
     /// A new file with the queue of a plan.
     pub fn new(alloc: Global, plan: &Plan) -> anyhow::Result<Called> {
-        let mut device = MemDevice::new(alloc);
-        format(&mut device, PAGES)?;
+        let mut bytes = Vec::new(alloc);
+        bytes.resize(plan.bytes, 7)?;
+        let device = new_file(alloc)?;
         let keys = KeptKeys::new(alloc, ShaKey)?;
         let kernel = match Kernel::open(alloc, device, keys, &[CALLER], PAGES as usize) {
             Ok(kernel) => kernel,
             Err((_, fault)) => return Err(fault.into()),
         };
-        let mut bytes = Vec::new(alloc);
-        bytes.resize(plan.bytes, 7)?;
         let mut called = Called {
             alloc,
             kernel,
             bytes,
         };
-        called.is_answered(GET);
-        called.is_answered(SET);
+        called.is_answered(get(7));
+        called.is_answered(set());
         for place in 0..plan.standing {
             let place = place.checked_rem(plan.types).unwrap_or(0);
-            called.sends(i64::from(place).saturating_add(1))?;
+            called.sends(i64::from(place).saturating_add(1));
         }
         Ok(called)
     }
 
+    /// Lets the kernel go.
+    pub fn end(self) {
+        let Called {
+            alloc: _,
+            kernel,
+            bytes: _,
+        } = self;
+        drop(kernel.abandon());
+    }
+
     /// Sends a message of type 1 and receives one of a type, so many times; tells how many were
     /// received.
-    pub fn sends_and_receives(&mut self, mtype: i64, rounds: u32) -> Result<u32, NoMemory> {
+    pub fn sends_and_receives(&mut self, mtype: i64, rounds: u32) -> u32 {
         let mut received = 0u32;
         for _ in 0..rounds {
-            if self.sends(1)? && self.is_answered(receive(mtype)) {
+            if self.sends(1) && self.is_answered(receive(1, mtype)) {
                 received = received.wrapping_add(1);
             }
         }
-        Ok(received)
+        received
     }
 
-    /// The nanoseconds of so many Receives of a type, and how many were answered. Behind some of
+    /// The nanoseconds of so many Receives of a type, and how many were answered. After some of
     /// them as many messages of type 1 are sent, which are not timed.
     pub fn times_of_receives(
         &mut self,
@@ -96,13 +114,13 @@ impl Called {
         for _ in 0..rounds / BATCH {
             let start = Instant::now(rt)?;
             for _ in 0..BATCH {
-                if self.is_answered(receive(mtype)) {
+                if self.is_answered(receive(1, mtype)) {
                     received = received.wrapping_add(1);
                 }
             }
             spent = spent.saturating_add(start.elapsed(rt)?.as_nanos());
             for _ in 0..BATCH {
-                self.sends(1)?;
+                self.sends(1);
             }
         }
         Ok((spent, received))
@@ -121,26 +139,17 @@ impl Called {
 
     /// How many steps of each kind a Send of type 1 makes, and then a Receive of a type.
     pub fn steps(&mut self, mtype: i64) -> anyhow::Result<[Vec<(Kind, u32)>; 2]> {
-        let send = self.send(1)?;
+        let send = send(self.alloc, 1, 1, self.bytes.as_slice())?;
         let sent = self.steps_of(send)?;
-        Ok([sent, self.steps_of(receive(mtype))?])
+        Ok([sent, self.steps_of(receive(1, mtype))?])
     }
 
-    /// Whether a Send is answered.
-    fn sends(&mut self, mtype: i64) -> Result<bool, NoMemory> {
-        let send = self.send(mtype)?;
-        Ok(self.is_answered(send))
-    }
-
-    fn send(&self, mtype: i64) -> Result<Call, NoMemory> {
-        let bytes = Vec::from_slice(self.alloc, self.bytes.as_slice())?;
-        Ok(Call::Send(SendArguments {
-            id: 1,
-            mtype,
-            body: Body::new(bytes),
-            nowait: true,
-            moment: 2,
-        }))
+    /// Whether a Send is answered, for which there is memory.
+    fn sends(&mut self, mtype: i64) -> bool {
+        match send(self.alloc, 1, mtype, self.bytes.as_slice()) {
+            Ok(send) => self.is_answered(send),
+            Err(_) => false,
+        }
     }
 
     /// Whether a call is answered.
@@ -172,36 +181,6 @@ impl Called {
         }
         self.kernel.step(1)
     }
-}
-
-/// The queue is made.
-const GET: Call = Call::Get(GetArguments {
-    key: Some(7),
-    create: true,
-    excl: false,
-    mode: 0o666,
-    moment: 1,
-});
-
-/// It may have as many bytes as any queue.
-const SET: Call = Call::Set(SetArguments {
-    id: 1,
-    qbytes: 65_536,
-    uid: None,
-    gid: None,
-    mode: None,
-    moment: 1,
-});
-
-fn receive(mtype: i64) -> Call {
-    Call::Receive(ReceiveArguments {
-        id: 1,
-        size: 1024,
-        mtype,
-        nowait: true,
-        noerror: false,
-        moment: 3,
-    })
 }
 
 /// One step more of a kind.

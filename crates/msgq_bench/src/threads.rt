@@ -1,0 +1,153 @@
+//! Calls of threads on a service, each at a seat and on a queue of its own.
+
+ghost use Rattle.std.specs.Prelude.{◌≡◌, ◌≤◌, length};
+ghost use Rattle.bucket_page.specs.Pseudokeys.{sha_key};
+ghost use Rattle.workers.specs.Opening.{origin_of};
+
+use crate::asking::{get, receive, send};
+use crate::calling::{CALLER, Keys, PAGES, new_file};
+use crate::{nanoseconds, spent_since};
+use bucket_page::ShaKey;
+use kept_keys::KeptKeys;
+use page_device::MemDevice;
+use queue_model::{Answer, Caller};
+use std::alloc::Global;
+use std::marker::Brand;
+use std::sync::Wait;
+use std::thread;
+use std::thread::Threads;
+use std::time::{Clock, Duration, Instant};
+use step_rules::Kind;
+use workers::{Base, Gate, Prepared, Room, Seat, Service, Started};
+
+/// A gate that stands open, with so many steps in a hold at most.
+#[derive(Drop)]
+struct AtOnce(u32);
+
+impl Gate for AtOnce {
+    fn between(&self, _seat: u8, _kind: Kind) {}
+
+    fn steps_at_once(&self) -> u32 {
+        self.0
+    }
+}
+
+/// Runs each workload once, small.
+pub fn once<R: Threads + Wait + Clock + Print + AllocGlobal + Sync>(rt: &R) -> anyhow::Result<()> {
+    let (_, one) = spent(rt, rt.alloc(), &[CALLER], AtOnce(4), 3)?;
+    let (_, four) = spent(rt, rt.alloc(), &[CALLER; 4], AtOnce(4), 3)?;
+    println!(rt; "received by one thread: {one}, by four: {four}")?;
+    Ok(())
+}
+
+/// Times messages of 64 bytes sent and received by turns, so many together, by one thread and by four,
+/// each on a queue of its own, beside the nanoseconds that a kernel alone takes for a call.
+pub fn times<R: Threads + Wait + Clock + Print + AllocGlobal + Sync>(
+    rt: &R,
+    alone: u128,
+    messages: u32,
+) -> anyhow::Result<()> {
+    for most in [1, 4, 16, 64] {
+        let one = of_a_call(rt, rt.alloc(), &[CALLER], AtOnce(most), messages)?;
+        let four = of_a_call(rt, rt.alloc(), &[CALLER; 4], AtOnce(most), messages / 4)?;
+        let (slower, more) = (percent(one, alone), percent(one, four));
+        println!(rt; "steps at once {most}: by one thread {one} ns, {slower} % of a kernel's")?;
+        println!(rt;
+            "steps at once {most}: by four threads {four} ns, {more} % of the calls of one"
+        )?;
+    }
+    Ok(())
+}
+
+/// The nanoseconds of a call.
+fn of_a_call<R: Threads + Wait + Clock + Sync>(
+    rt: &R,
+    alloc: Global,
+    callers: &[Caller],
+    gate: AtOnce,
+    rounds: u32,
+) -> anyhow::Result<u128>
+    requires some { 1 ≤ length callers.now }
+    requires few { length callers.now ≤ 64 }
+{
+    let (spent, received) = spent(rt, alloc, callers, gate, rounds)?;
+    Ok(nanoseconds(spent, received.saturating_mul(2)))
+}
+
+fn percent(part: u128, whole: u128) -> u128 {
+    part.saturating_mul(100).checked_div(whole).unwrap_or(0)
+}
+
+/// How long threads take, one for each caller, each of which sends a message of 64 bytes and receives
+/// it, so often, and how many were received.
+fn spent<R: Threads + Wait + Clock + Sync>(
+    rt: &R,
+    alloc: Global,
+    callers: &[Caller],
+    gate: AtOnce,
+    rounds: u32,
+) -> anyhow::Result<(Duration, u32)>
+    requires some { 1 ≤ length callers.now }
+    requires few { length callers.now ≤ 64 }
+{
+    let device = new_file(alloc)?;
+    let keys = KeptKeys::new(alloc, ShaKey)?;
+    match Prepared::open(alloc, device, keys, callers, PAGES as usize) {
+        Ok(prepared) => share::<Brand, R>(rt, alloc, prepared, gate, rounds),
+        Err((_, fault)) => Err(fault.into()),
+    }
+}
+
+fn share<N: Room + Base + Send + Sync, R: Threads + Wait + Clock + Sync>(
+    rt: &R,
+    alloc: Global,
+    prepared: Prepared<MemDevice, Keys>,
+    gate: AtOnce,
+    rounds: u32,
+) -> anyhow::Result<(Duration, u32)>
+    requires table { prepared.table ≡ N.table }
+    requires origin { origin_of (λ _. sha_key) prepared ≡ N.origin }
+{
+    let Ok(Started { service, seats, .. }) = prepared.start::<AtOnce, N>(gate) else {
+        anyhow::bail!("it does not start");
+    };
+    let start = Instant::now(rt);
+    let received = thread::map_vec(
+        rt,
+        seats,
+        &|seat| by_turns(rt, alloc, &service, seat, rounds),
+    );
+    let spent = spent_since(rt, start);
+    drop(service.abandon(Vec::new(alloc)));
+    let all = received?
+        .iter()
+        .fold(0u32, |sum, many| sum.saturating_add(*many));
+    Ok((spent?, all))
+}
+
+/// Sends and receives by turns on a queue of its own, and tells how many were received.
+fn by_turns<N: Room + Base, R: Wait>(
+    rt: &R,
+    alloc: Global,
+    service: &Service<MemDevice, Keys, AtOnce, N>,
+    seat: Seat<N>,
+    rounds: u32,
+) -> u32 {
+    let mut seat = seat;
+    let key = u32::from(seat.number());
+    let Ok(Answer::Id(id)) = service.call(rt, &mut seat, get(key)) else {
+        return 0;
+    };
+    let mut received = 0u32;
+    for _ in 0..rounds {
+        let Ok(send) = send(alloc, id, 1, &[7; 64]) else {
+            return received;
+        };
+        let sent = service.call(rt, &mut seat, send);
+        let told = service.call(rt, &mut seat, receive(id, 0));
+        if let (Ok(Answer::Sent(_)), Ok(Answer::Received(_))) = (sent, told) {
+            received = received.wrapping_add(1);
+        }
+    }
+    received
+}
