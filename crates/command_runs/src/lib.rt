@@ -13,6 +13,3 @@ pub use error::{CallFault, CommandError};
 pub use looking::{Form, Look, look_on};
 pub use queue_commands;
 pub use running::{Ran, run_on};
-
-#[cfg(test)]
-mod tests;

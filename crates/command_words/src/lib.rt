@@ -13,6 +13,3 @@ mod values;
 pub use key::queue_name;
 pub use reading::read_command;
 pub use task::{CallerIds, Deed, Patience, SendTask, ShellTask};
-
-#[cfg(test)]
-mod tests;

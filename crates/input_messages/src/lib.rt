@@ -8,6 +8,3 @@ mod unsent;
 
 pub use messages::{Framing, messages_of};
 pub use unsent::Unsent;
-
-#[cfg(test)]
-mod tests;

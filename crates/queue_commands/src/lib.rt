@@ -20,6 +20,3 @@ pub use plain::PlainLists;
 pub use queue_lists;
 pub use queue_lists::QueueName;
 pub use request::{Command, Receiving, Request, Sending, Setting};
-
-#[cfg(test)]
-mod tests;

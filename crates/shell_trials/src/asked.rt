@@ -1,6 +1,6 @@
 //! Commands on plain lists.
 
-use crate::{
+use queue_commands::{
     AskError, Command, ExitStatus, PlainLists, QueueName, Receiving, Request, Sending, Setting, ask,
 };
 use queue_model::{Body, Caller, Errno, System};

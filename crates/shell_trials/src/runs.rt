@@ -1,6 +1,6 @@
 //! Commands and looks on a file in memory.
 
-use crate::{CommandError, Form, Look, Ran, look_on, run_on};
+use command_runs::{CommandError, Form, Look, Ran, look_on, run_on};
 use page_device::MemDevice;
 use queue_commands::{Command, QueueName, Receiving, Request, Sending};
 use queue_model::{Body, Caller, Errno};

@@ -1,6 +1,6 @@
 //! Command lines that are read.
 
-use crate::{CallerIds, Deed, Patience, SendTask, ShellTask, queue_name, read_command};
+use command_words::{CallerIds, Deed, Patience, SendTask, ShellTask, queue_name, read_command};
 use input_messages::Framing;
 use queue_commands::{QueueName, Receiving, Setting};
 use std::process::Abort;

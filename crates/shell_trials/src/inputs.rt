@@ -1,6 +1,6 @@
 //! Inputs that are cut into messages.
 
-use crate::{Framing, Unsent, messages_of};
+use input_messages::{Framing, Unsent, messages_of};
 use std::process::Abort;
 use std::test::Fail;
 
