@@ -73,6 +73,19 @@ pub fn close<K: PseudoKey + Copy>(
     }
 }
 
+/// Whether two devices have the same pages.
+pub fn are_alike(one: &mut MemDevice, other: &mut MemDevice) -> Result<bool, Fail> {
+    if one.pages() != other.pages() {
+        return Ok(false);
+    }
+    for page in 0..one.pages() {
+        if page_of(one, page)? != page_of(other, page)? {
+            return Ok(false);
+        }
+    }
+    Ok(true)
+}
+
 /// Whether this is left.
 fn is_left(closed: &mut Closed<MemDevice>, left: Left) -> Result<bool, Fail> {
     Ok(match left {

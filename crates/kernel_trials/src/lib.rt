@@ -6,6 +6,8 @@
 #[cfg(test)]
 mod asks;
 #[cfg(test)]
+mod between;
+#[cfg(test)]
 mod cases;
 #[cfg(test)]
 mod closing;

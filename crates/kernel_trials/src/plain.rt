@@ -6,9 +6,13 @@ use std::alloc::Global;
 
 /// Whether each answer of a journal is that of plain lists which were asked the calls before it.
 pub fn is_that_of_lists(alloc: Global, journal: &[Entry]) -> bool {
-    let mut system = System::empty(alloc);
+    follow(&mut System::empty(alloc), journal)
+}
+
+/// Whether each answer of a journal is that of these plain lists, which go on as it says.
+pub fn follow(system: &mut System, journal: &[Entry]) -> bool {
     for entry in journal {
-        if !follows(&mut system, entry) {
+        if !follows(system, entry) {
             return false;
         }
     }

@@ -43,7 +43,7 @@ pub const CALLERS: [Caller; 5] = [
     },
 ];
 
-/// What is done with a kernel, and what is wanted of it. But for three, each begins with a seat.
+/// What is done with a kernel, and what is wanted of it. But for four, each begins with a seat.
 #[derive(Clone, Copy)]
 pub enum Row {
     /// A call begins.
@@ -60,6 +60,12 @@ pub enum Row {
     Drives(u8, Want),
     /// A call begins, and its steps come to this.
     Calls(u8, Asks, Want),
+    /// Its call is taken back, and is this one.
+    Withdraws(u8, Asks),
+    /// It has no call that is taken back.
+    Keeps(u8),
+    /// Whether the kernel is between calls.
+    Between(bool),
     /// So many steps of seat 1, behind each of which it blocks seat 2.
     Blocks(u32),
     /// All seats make steps by turns, until the first ones have each been answered this.
@@ -130,6 +136,9 @@ fn does<K: PseudoKey + Copy>(
         Row::Calls(seat, asks, want) => {
             begins(alloc, kernel, seat, asks)? && is_wanted(&drive(kernel, seat), want)
         }
+        Row::Withdraws(seat, asks) => withdrawn(kernel, seat) == Some(asks.to_call(alloc)?),
+        Row::Keeps(seat) => withdrawn(kernel, seat).is_none(),
+        Row::Between(is) => kernel.is_between_calls() == is,
         Row::Blocks(many) => blocks(kernel, many),
         Row::Turns(wants) => take_turns(kernel, wants),
         Row::Stops => {
@@ -187,6 +196,14 @@ fn drive<K: PseudoKey + Copy>(kernel: &mut Kernel<MemDevice, K>, seat: u8) -> St
         return Step::Idle;
     }
     kernel.drive(seat)
+}
+
+/// The call of a seat that is taken back; none where there is no such seat.
+fn withdrawn<K: PseudoKey + Copy>(kernel: &mut Kernel<MemDevice, K>, seat: u8) -> Option<Call> {
+    if seat == 0 || seat > kernel.seats() {
+        return None;
+    }
+    kernel.withdraw(seat)
 }
 
 /// What is counted of the last search of a seat; none where there is no such seat.
