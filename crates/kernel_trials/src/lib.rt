@@ -4,6 +4,8 @@
 #![tactic(auto)]
 
 #[cfg(test)]
+mod alone;
+#[cfg(test)]
 mod asks;
 #[cfg(test)]
 mod between;
@@ -36,7 +38,11 @@ mod racing;
 #[cfg(test)]
 mod rows;
 #[cfg(test)]
+mod saving;
+#[cfg(test)]
 mod scripts;
+#[cfg(test)]
+mod sessions;
 #[cfg(test)]
 mod splitting;
 #[cfg(test)]
