@@ -1,8 +1,8 @@
 //! Calls of threads on a service, each at a seat and on a queue of its own.
 
-ghost use Rattle.std.specs.Prelude.{◌≡◌, ◌≤◌, length};
+ghost use Rattle.std.specs.Prelude.{◌≡◌, ◌≤◌, IsTrue, length};
 ghost use Rattle.bucket_page.specs.Pseudokeys.{sha_key};
-ghost use Rattle.workers.specs.Opening.{origin_of};
+ghost use Rattle.workers.specs.Opening.{HasFrames, origin_of};
 
 use crate::asking::{get, receive, send};
 use crate::calling::{CALLER, Keys, PAGES, new_file};
@@ -106,7 +106,8 @@ fn share<N: Room + Base + Send + Sync, R: Threads + Wait + Clock + Sync>(
     rounds: u32,
 ) -> anyhow::Result<(Duration, u32)>
     requires table { prepared.table ≡ N.table }
-    requires origin { origin_of (λ _. sha_key) prepared ≡ N.origin }
+    requires origin { origin_of (λ _. sha_key) N.origin.spares prepared ≡ N.origin }
+    requires spares { IsTrue N.origin.spares → HasFrames prepared }
 {
     let Ok(Started { service, seats, .. }) = prepared.start::<AtOnce, N>(gate) else {
         anyhow::bail!("it does not start");
