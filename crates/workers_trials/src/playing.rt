@@ -1,8 +1,8 @@
 //! Seats of a service at their calls, each in a thread of its own.
 
-ghost use Rattle.std.specs.Prelude.{◌≡◌, IsTrue};
+ghost use Rattle.std.specs.Prelude.{◌≡◌, false};
 ghost use Rattle.bucket_page.specs.Pseudokeys.{number_key};
-ghost use Rattle.workers.specs.Opening.{HasFrames, origin_of};
+ghost use Rattle.workers.specs.Opening.{origin_of};
 
 use crate::closing::{End, Left, close, shown};
 use crate::flag::{Flag, LOOKS};
@@ -89,8 +89,7 @@ fn play_named<
     plan: &Plan<'_>,
 ) -> Result<Left<D>, Fail>
     requires table { prepared.table ≡ N.table }
-    requires origin { origin_of (λ _. number_key) N.origin.spares prepared ≡ N.origin }
-    requires spares { IsTrue N.origin.spares → HasFrames prepared }
+    requires origin { origin_of (λ _. number_key) false prepared ≡ N.origin }
 {
     let Ok(
         Started {
@@ -131,7 +130,9 @@ fn play_rounds<
     service: &Shared<D, G, N>,
     players: Vec<Player<N>>,
     plan: &Plan<'_>,
-) -> Result<Vec<Player<N>>, Fail> {
+) -> Result<Vec<Player<N>>, Fail>
+    requires saves { N.origin.spares ≡ false }
+{
     let mut players = players;
     if let Some(first) = players.first_mut() {
         for call in &plan.before {
@@ -155,7 +156,9 @@ fn play_round<
     service: &Shared<D, G, N>,
     players: Vec<Player<N>>,
     plan: &Plan<'_>,
-) -> Result<Vec<Player<N>>, Fail> {
+) -> Result<Vec<Player<N>>, Fail>
+    requires saves { N.origin.spares ≡ false }
+{
     let scripts = plan.scripts.as_slice();
     Ok(thread::map_vec(
         rt,
@@ -170,7 +173,9 @@ fn play_script<D: PageDevice + Drop, G: Gate, N: Room + Base, R: Wait + Clock>(
     service: &Shared<D, G, N>,
     player: Player<N>,
     scripts: &[Vec<Deed<'_>>],
-) -> Player<N> {
+) -> Player<N>
+    requires saves { N.origin.spares ≡ false }
+{
     let mut player = player;
     let place = usize::from(player.seat.number()).saturating_sub(1);
     if let Some(script) = scripts.get(place) {
@@ -188,7 +193,9 @@ impl<N: Room + Base> Player<N> {
         rt: &R,
         service: &Shared<D, G, N>,
         deed: &Deed<'_>,
-    ) {
+    )
+        requires saves { N.origin.spares ≡ false }
+    {
         match deed {
             Deed::Call(call) => self.call(rt, service, call),
             Deed::CallWithin(call, limit) => self.call_within(rt, service, call, *limit),
