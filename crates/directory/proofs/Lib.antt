@@ -2,4 +2,5 @@ pub mod EntryLaws
 pub mod HalfLaws
 pub mod HeaderLaws
 pub mod PageLaws
+pub mod StrideLaws
 pub use Rattle.fields.proofs as of_fields
