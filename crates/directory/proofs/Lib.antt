@@ -1,3 +1,4 @@
+pub mod CopyLaws
 pub mod EntryLaws
 pub mod HalfLaws
 pub mod HeaderLaws

@@ -48,9 +48,12 @@ pub fn copy_upper(payload: &mut Payload, page: u32, depth: u8, lower: &Payload)
     ensures directory { IsDirectoryPage payload.new }
 {
     let first = first_entry(page);
-    for slot in 0..PAGE_ENTRIES {
-        let bucket = copied(payload, first + slot as u32, depth, lower);
-        put_entry(payload, slot, bucket);
+    let half = half_of(depth);
+    let begin = half.saturating_sub(first);
+    let end = (2 * half).saturating_sub(first).min(PAGE_ENTRIES as u32);
+    for slot in begin..end {
+        let bucket = directory_of(lower).entry(slot_of(first + slot - half));
+        put_entry(payload, slot as usize, bucket);
     }
 }
 
@@ -118,17 +121,4 @@ fn half_of(depth: u8) -> u32
     ensures { result ≡ 2 ^ depth }
 {
     1 << depth
-}
-
-/// What an entry becomes where the directory doubles.
-fn copied(payload: &Payload, index: u32, depth: u8, lower: &Payload) -> u32
-    requires { depth < GREATEST_DEPTH }
-    ensures { result ≡ copied depth lower.now payload.now index }
-{
-    let half = 1 << depth;
-    if half <= index && index < 2 * half {
-        directory_of(lower).entry(slot_of(index - half))
-    } else {
-        directory_of(payload).entry(slot_of(index))
-    }
 }

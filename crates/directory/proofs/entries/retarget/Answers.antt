@@ -1,6 +1,6 @@
-use Rattle.std.proofs.Common.{◌≡◌, ℕ, ◌+◌, ◌*◌, ◌-◌, ◌%◌, ◌^◌, ◌<◌, ap, sym, ◌∙◌, arith}
+use Rattle.std.proofs.Common.{◌≡◌, ℕ, ◌+◌, ◌*◌, ◌%◌, ◌^◌, ◌<◌, ap, ◌∙◌, arith}
 use Rattle.std.proofs.Math.Nat.{mod-eq_of_lt}
-use Rattle.directory.proofs.StrideLaws.{IsRetargetedTo, begun, one_more, stride_fits}
+use Rattle.directory.proofs.StrideLaws.{begun, one_more, stride_fits}
 use Rattle.directory.proofs.entries.retarget.Goals as goal
 
 pub loop-slot-init : goal.loop-slot-init
