@@ -18,7 +18,7 @@ use workers::{Fault, Open};
 /// The frames of the pool: so few that pages come and go.
 const FRAMES: usize = 16;
 
-/// How many messages are sent and received. The file is saved once, when half of them are received.
+/// How many messages are sent and received.
 const MESSAGES: u32 = 40;
 
 /// The calls: two make the queue, and each message is sent and received.
@@ -92,10 +92,7 @@ fn message(alloc: Global) -> Result<Call, Fail> {
 
 fn receives(alloc: Global) -> Result<Vec<Deed<'static>>, Fail> {
     let mut script = Vec::new(alloc);
-    for place in 0..MESSAGES {
-        if place == MESSAGES / 2 {
-            script.push(Deed::Save)?;
-        }
+    for _ in 0..MESSAGES {
         script.push(Deed::Call(receive(1, 1024)))?;
     }
     Ok(script)
