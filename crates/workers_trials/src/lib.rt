@@ -24,12 +24,12 @@ mod flag;
 #[cfg(test)]
 mod gated;
 #[cfg(test)]
-mod limits;
-#[cfg(test)]
 mod order;
 #[cfg(test)]
 mod plain;
 #[cfg(test)]
 mod playing;
+#[cfg(test)]
+mod timed;
 #[cfg(test)]
 mod waiting;
