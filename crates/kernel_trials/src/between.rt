@@ -227,7 +227,7 @@ const PARTS: [Part; 8] = [
 ];
 
 /// Takes the journal out, or lets it go. How many entries it had; none where a call is under way.
-fn emptied<K: PseudoKey + Copy>(
+pub fn emptied<K: PseudoKey + Copy>(
     kernel: &mut Kernel<MemDevice, K>,
     forgets: bool,
 ) -> Result<Option<usize>, Fail> {

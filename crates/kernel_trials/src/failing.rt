@@ -3,9 +3,9 @@
 use crate::asks::Asks;
 use crate::asks::Asks::{Get, Receive, Send, SendLong};
 use crate::cases::page_of;
-use crate::rows::{begin, step};
+use crate::rows::{begin, has_failed_by, step};
 use bucket_page::NumberKey;
-use interleaving_core::{Closed, Kernel, NotClosed, Step};
+use interleaving_core::{BeginFault, Closed, Kernel, NotClosed, Step};
 use page_device::{FaultyDevice, MemDevice, PageDevice};
 use queue_model::{Call, Caller, Entry};
 use record_file::format;
@@ -50,6 +50,8 @@ enum Told {
     Opening,
     /// By a call, and from then on.
     Call,
+    /// By a flush after the calls, and from then on.
+    Flushing,
     Closing,
     Never,
 }
@@ -96,7 +98,24 @@ fn fault_of(
     panic!(rt; "a call does not end")
 }
 
-/// Makes the calls on a kernel over a device, and closes it.
+/// Whether a kernel is flushed, where no call was told a fault. Else it has failed, by no seat.
+fn flushes(rt: &impl Abort, kernel: &mut Kernel<FaultyDevice<MemDevice>, NumberKey>) -> bool {
+    if !kernel.is_between_calls() {
+        panic!(rt; "a call is under way");
+    }
+    match kernel.flush() {
+        Ok(()) => true,
+        Err(fault) => {
+            assert_eq!(rt; fault.number(), 20);
+            assert!(rt; has_failed_by(kernel, 20) && !kernel.is_between_calls());
+            let refused = begin(kernel, 1, Call::Stat { id: 1 });
+            assert!(rt; matches!(refused, Err((_, BeginFault::Failed))));
+            false
+        }
+    }
+}
+
+/// Makes the calls on a kernel over a device, flushes it, and closes it.
 fn runs(rt: &(impl Abort + AllocGlobal), device: FaultyDevice<MemDevice>) -> Result<Ran, Fail> {
     let mut kernel = match Kernel::open(rt.alloc(), device, NumberKey, &SEAT, FRAMES) {
         Ok(kernel) => kernel,
@@ -119,6 +138,9 @@ fn runs(rt: &(impl Abort + AllocGlobal), device: FaultyDevice<MemDevice>) -> Res
             }
             None => assert!(rt; told == Told::Never),
         }
+    }
+    if told == Told::Never && !flushes(rt, &mut kernel) {
+        told = Told::Flushing;
     }
     let (Closed { device, journal }, told) = match kernel.close() {
         Ok(closed) => {
@@ -158,6 +180,7 @@ fn each_transfer_fails_in_turn(rt: HostRuntime) -> Result<(), Fail> {
     assert_eq!(rt; whole.journal.len(), CALLS.len());
     let mut met: u64 = 0;
     let mut last = Told::Opening;
+    let mut flushes = 0u32;
     for nth in 1..=MOST_TRANSFERS {
         let ran = runs(&rt, faulty(alloc, &mut file, nth)?)?;
         assert!(rt; whole.journal.starts_with(&ran.journal), "transfer {nth}");
@@ -168,10 +191,14 @@ fn each_transfer_fails_in_turn(rt: HostRuntime) -> Result<(), Fail> {
         if ran.told != Told::Never {
             last = ran.told;
         }
+        if ran.told == Told::Flushing {
+            flushes = flushes.wrapping_add(1);
+        }
         met = nth;
     }
-    // opening reads each page, a call a few, and closing writes some: the last one is its sync
+    // opening reads each page, a call a few, a flush writes some and syncs, and closing syncs
     assert_eq!(rt; last, Told::Closing);
+    assert!(rt; flushes > 1, "{flushes} transfers");
     assert!(rt;
         met > u64::from(PAGES) && met < MOST_TRANSFERS,
         "{met} transfers"

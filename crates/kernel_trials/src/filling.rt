@@ -1,6 +1,8 @@
-//! A session that has decided as many calls as it may, 65,536.
+//! A session that has decided as many calls as it may, 65,536, and goes on once its journal is taken
+//! out.
 
 use crate::asks::Asks::Stat;
+use crate::between::emptied;
 use crate::cases::close;
 use crate::rows::Row::{Begins, Calls, Drives, Stops};
 use crate::rows::Want::Refused;
@@ -32,8 +34,16 @@ fn tells_full(rt: &impl Abort, kernel: &mut Kernel<MemDevice, ShaKey>, seat: u8)
     );
 }
 
+/// As many calls more may be decided.
+const GOES_ON: [Row; 2] = [
+    Calls(2, Stat(0), Refused(Errno::EINVAL)),
+    Calls(1, Stat(0), Refused(Errno::EINVAL)),
+];
+
 #[test]
-fn a_session_decides_so_many_calls_and_no_more(rt: HostRuntime) -> Result<(), Fail> {
+fn a_session_decides_so_many_calls_until_its_journal_is_taken_out(
+    rt: HostRuntime,
+) -> Result<(), Fail> {
     let mut kernel = new_kernel(rt.alloc(), 258, ShaKey)?;
     for _ in 0..65_535 {
         show(&rt, &mut kernel, &ASKED)?;
@@ -45,6 +55,8 @@ fn a_session_decides_so_many_calls_and_no_more(rt: HostRuntime) -> Result<(), Fa
         tells_full(&rt, &mut kernel, seat);
     }
     assert_eq!(rt; BeginFault::SessionFull.number(), 61);
-    assert_eq!(rt; close(&rt, kernel).journal.len(), 65_537);
+    assert!(rt; emptied(&mut kernel, false)? == Some(65_537));
+    show(&rt, &mut kernel, &GOES_ON)?;
+    assert_eq!(rt; close(&rt, kernel).journal.len(), 2);
     Ok(())
 }

@@ -38,7 +38,11 @@ mod racing;
 #[cfg(test)]
 mod rows;
 #[cfg(test)]
+mod saving;
+#[cfg(test)]
 mod scripts;
+#[cfg(test)]
+mod sessions;
 #[cfg(test)]
 mod splitting;
 #[cfg(test)]

@@ -179,6 +179,17 @@ pub fn begin<D: PageDevice + Drop, K: PseudoKey + Copy>(
     kernel.begin(seat, call)
 }
 
+/// Whether a kernel has failed with this fault, and by no step of a seat.
+pub fn has_failed_by<D: PageDevice + Drop, K: PseudoKey + Copy>(
+    kernel: &Kernel<D, K>,
+    number: u8,
+) -> bool {
+    match kernel.failure() {
+        Some(failure) => (failure.seat, failure.number()) == (0, number),
+        None => false,
+    }
+}
+
 /// One step of a seat; of none where there is no such seat.
 pub fn step<D: PageDevice + Drop, K: PseudoKey + Copy>(
     kernel: &mut Kernel<D, K>,
@@ -285,7 +296,7 @@ pub fn is_wanted(told: &Step, want: Want) -> bool {
 }
 
 /// Whether an answer is what is wanted.
-fn is_answer(answer: &Answer, want: Want) -> bool {
+pub fn is_answer(answer: &Answer, want: Want) -> bool {
     match (answer, want) {
         (Answer::Id(id), Want::Id(wanted)) => *id == wanted,
         (Answer::Sent(serial), Want::Sent(wanted)) => *serial == wanted,

@@ -31,7 +31,7 @@ pub const SPLIT: [Row; 2] = [
 ];
 
 /// The first two are received, which merges nothing.
-const STAYS: [Row; 4] = [
+pub const STAYS: [Row; 4] = [
     Begins(1, Receive(1, 0)),
     Counts(1, Kind::Tombstone, 0, Received(1)),
     Begins(1, Receive(1, 0)),
@@ -39,7 +39,7 @@ const STAYS: [Row; 4] = [
 ];
 
 /// The third is received.
-const MERGED: [Row; 2] = [
+pub const MERGED: [Row; 2] = [
     Begins(1, Receive(1, 0)),
     Counts(1, Kind::Tombstone, 1, Received(3)),
 ];

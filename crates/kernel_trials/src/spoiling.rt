@@ -3,7 +3,7 @@
 use crate::asks::Asks::Get;
 use crate::cases::run;
 use crate::malicious::TWO_BUCKETS;
-use crate::rows::{CALLERS, begin, step};
+use crate::rows::{CALLERS, begin, has_failed_by, step};
 use bucket_page::NumberKey;
 use interleaving_core::{BeginFault, Kernel, NotClosed, Step};
 use page_device::{DeviceFault, MemDevice, Page, PageDevice};
@@ -80,20 +80,39 @@ fn fails(kernel: &mut Kernel<SpoilingDevice, NumberKey>, seat: u8) -> bool {
     false
 }
 
+/// A kernel over the file of two buckets, which is spoilt from now on.
+fn opened(rt: &(impl Abort + AllocGlobal)) -> Result<Kernel<SpoilingDevice, NumberKey>, Fail> {
+    let device = SpoilingDevice {
+        inner: run(rt, NumberKey, TWO_BUCKETS)?,
+        right: READS_OF_OPENING,
+    };
+    match Kernel::open(rt.alloc(), device, NumberKey, &CALLERS, 28) {
+        Ok(kernel) => Ok(kernel),
+        Err((_, fault)) => Err(fault.into()),
+    }
+}
+
+/// A page that is read between calls is no step of a seat.
+#[test]
+fn a_page_that_is_spoilt_between_calls_fails_the_kernel(rt: HostRuntime) -> Result<(), Fail> {
+    let mut kernel = opened(&rt)?;
+    let call = Get(7).to_call(rt.alloc())?;
+    if !kernel.is_between_calls() || kernel.pages() <= 258 {
+        panic!(rt; "there is no page 258");
+    }
+    assert!(rt; matches!(kernel.page(258), Err(fault) if fault.number() == 21));
+    assert!(rt; has_failed_by(&kernel, 21) && !kernel.is_between_calls());
+    assert!(rt; matches!(begin(&mut kernel, 1, call), Err((_, BeginFault::Failed))));
+    Ok(())
+}
+
 #[test]
 fn a_page_that_is_spoilt_behind_opening_fails_the_kernel(rt: HostRuntime) -> Result<(), Fail> {
     let alloc = rt.alloc();
-    let device = SpoilingDevice {
-        inner: run(&rt, NumberKey, TWO_BUCKETS)?,
-        right: READS_OF_OPENING,
-    };
+    let mut kernel = opened(&rt)?;
     let call = Get(7).to_call(alloc)?;
     let other = Get(9).to_call(alloc)?;
     let late = Get(7).to_call(alloc)?;
-    let mut kernel = match Kernel::open(alloc, device, NumberKey, &CALLERS, 28) {
-        Ok(kernel) => kernel,
-        Err((_, fault)) => return Err(fault.into()),
-    };
     assert!(rt; begin(&mut kernel, 1, call).is_ok());
     assert!(rt; begin(&mut kernel, 2, other).is_ok());
     assert!(rt; fails(&mut kernel, 1));
