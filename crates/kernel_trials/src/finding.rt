@@ -11,7 +11,7 @@ use std::test::Fail;
 use step_rules::Kind;
 
 /// Messages 1, 2 and 4 of type 5 and 3 of type 7 on queue 1, and none on queue 2.
-const STANDING: [Row; 6] = [
+pub const STANDING: [Row; 6] = [
     Calls(1, Get(7), Id(1)),
     Calls(1, Get(8), Id(2)),
     Calls(1, Send(1, 5, "a"), Sent(1)),
@@ -21,7 +21,7 @@ const STANDING: [Row; 6] = [
 ];
 
 /// Receives that are given nothing.
-const REFUSED: [Row; 21] = [
+pub const REFUSED: [Row; 21] = [
     // of an id that was not given out: its queue, and the counter
     Begins(1, ReceiveNow(9, 0)),
     Counts(1, Kind::ReadEntry, 2, Moved(Kind::Decide)),
@@ -50,7 +50,7 @@ const REFUSED: [Row; 21] = [
 ];
 
 /// Receives that are given a message.
-const RECEIVED: [Row; 12] = [
+pub const RECEIVED: [Row; 12] = [
     // the first message, which is not the last of its type
     Begins(1, Receive(1, 0)),
     Counts(1, Kind::ReadEntry, 2, Moved(Kind::Decide)),

@@ -4,6 +4,8 @@
 #![tactic(auto)]
 
 #[cfg(test)]
+mod alone;
+#[cfg(test)]
 mod asks;
 #[cfg(test)]
 mod between;

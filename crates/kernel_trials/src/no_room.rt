@@ -14,7 +14,7 @@ use std::test::Fail;
 
 /// A queue of three long messages: the Counter has 23 bytes, a Key 19, a Queue 114, a Type 47, and
 /// each Message 1,075.
-const THREE_MESSAGES: [Row; 4] = [
+pub const THREE_MESSAGES: [Row; 4] = [
     Calls(1, Get(7), Id(1)),
     Calls(1, SendLong(1, 1024), Sent(1)),
     Calls(1, SendLong(1, 1024), Sent(2)),
@@ -22,13 +22,13 @@ const THREE_MESSAGES: [Row; 4] = [
 ];
 
 /// A Message that has no room, and one of 581 bytes, of the 620 that are left, whose Type has none.
-const REFUSED: [Row; 2] = [
+pub const REFUSED: [Row; 2] = [
     Calls(1, SendLong(1, 1024), NoRoom),
     Calls(1, SendLong(2, 530), NoRoom),
 ];
 
 /// The first message is received, and leaves room for another.
-const GOES_ON: [Row; 2] = [
+pub const GOES_ON: [Row; 2] = [
     Calls(2, ReceiveCut(1, 0, 0), Received(1)),
     Calls(1, SendLong(1, 1024), Sent(4)),
 ];

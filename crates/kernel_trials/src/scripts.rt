@@ -34,7 +34,7 @@ const USED: QueueInfo = QueueInfo {
     },
 };
 
-const ONE_MESSAGE: [Row; 4] = [
+pub const ONE_MESSAGE: [Row; 4] = [
     Calls(1, Get(7), Id(1)),
     Calls(1, Send(1, 5, "a"), Sent(1)),
     Calls(1, Receive(1, 0), Message(1, 1, 5, "a")),
@@ -49,7 +49,7 @@ pub const FOUR_SENT: [Row; 5] = [
     Calls(1, Send(1, 2, "d"), Sent(4)),
 ];
 
-const LOWEST_FIRST: [Row; 5] = [
+pub const LOWEST_FIRST: [Row; 5] = [
     Calls(1, Receive(1, -3), Message(2, 1, 2, "b")),
     Calls(1, Receive(1, -3), Message(4, 1, 2, "d")),
     Calls(1, Receive(1, -3), Message(3, 1, 3, "c")),
@@ -58,18 +58,18 @@ const LOWEST_FIRST: [Row; 5] = [
 ];
 
 /// The least type there is has no absolute value of 64 bits.
-const LEAST_BOUND: [Row; 1] = [Calls(1, Receive(1, i64::MIN), Message(2, 1, 2, "b"))];
+pub const LEAST_BOUND: [Row; 1] = [Calls(1, Receive(1, i64::MIN), Message(2, 1, 2, "b"))];
 
-const ONE_TYPE_FIRST: [Row; 4] = [
+pub const ONE_TYPE_FIRST: [Row; 4] = [
     Calls(1, Receive(1, 2), Message(2, 1, 2, "b")),
     Calls(1, Receive(1, 2), Message(4, 1, 2, "d")),
     Calls(1, Receive(1, 0), Message(1, 1, 5, "a")),
     Calls(1, Receive(1, 0), Message(3, 1, 3, "c")),
 ];
 
-const REMOVED: [Row; 1] = [Calls(1, Remove(1), Done)];
+pub const REMOVED: [Row; 1] = [Calls(1, Remove(1), Done)];
 
-const LONG_AND_EMPTY: [Row; 7] = [
+pub const LONG_AND_EMPTY: [Row; 7] = [
     Calls(1, Get(7), Id(1)),
     Calls(1, Send(1, 1, "abcd"), Sent(1)),
     Calls(1, ReceiveShort(1, 0, 3), Refused(Errno::E2BIG)),
@@ -79,7 +79,7 @@ const LONG_AND_EMPTY: [Row; 7] = [
     Calls(1, ReceiveShort(1, 0, 0), Message(2, 1, 1, "")),
 ];
 
-const OUT_OF_RANGE: [Row; 14] = [
+pub const OUT_OF_RANGE: [Row; 14] = [
     Calls(1, Get(7), Id(1)),
     Calls(1, Send(1, 0, "a"), Refused(Errno::EINVAL)),
     Calls(1, Send(1, -1, "a"), Refused(Errno::EINVAL)),
@@ -97,7 +97,7 @@ const OUT_OF_RANGE: [Row; 14] = [
 ];
 
 /// A Send that waits for room, and a Receive that waits for a type.
-const FULL_QUEUE: [Row; 13] = [
+pub const FULL_QUEUE: [Row; 13] = [
     Calls(1, Get(7), Id(1)),
     Calls(1, Send(1, 1, "aaaaa"), Sent(1)),
     Calls(1, Set(1, 3), Done),
@@ -113,7 +113,7 @@ const FULL_QUEUE: [Row; 13] = [
     Drives(3, Refused(Errno::EIDRM)),
 ];
 
-const KEYS: [Row; 6] = [
+pub const KEYS: [Row; 6] = [
     Calls(1, GetNew(7), Id(1)),
     Calls(1, GetNew(7), Refused(Errno::EEXIST)),
     Calls(1, Find(8), Refused(Errno::ENOENT)),
@@ -143,7 +143,7 @@ const GIVEN: QueueInfo = QueueInfo {
     },
 };
 
-const OWNERS: [Row; 15] = [
+pub const OWNERS: [Row; 15] = [
     Calls(3, GetMode(7, 0o640), Id(1)),
     Calls(3, Send(1, 1, "ab"), Sent(1)),
     Calls(4, ReceiveNow(1, 0), Message(1, 3, 1, "ab")),
