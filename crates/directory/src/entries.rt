@@ -1,6 +1,6 @@
 //! Entries on one page of the directory, and their changes.
 
-ghost use Rattle.std.specs.Prelude.{◌≡◌, ◌≢◌, ◌*◌, ◌-◌, ◌≤◌, ◌<◌, ◌^◌, ℕ, slice_set, true};
+ghost use Rattle.std.specs.Prelude.{◌≡◌, ◌≢◌, ◌+◌, ◌*◌, ◌-◌, ◌%◌, ◌≤◌, ◌<◌, ◌^◌, ℕ, slice_set, true};
 ghost use Rattle.directory.specs.declared.layout.TheConstants.{DIRECTORY_PAGES, FIRST_DIRECTORY_PAGE, GREATEST_DEPTH, PAGE_ENTRIES};
 ghost use Rattle.directory.specs.Entries.{copied, entry_in, is_upper, page_of, retargeted, slot_at};
 ghost use Rattle.directory.specs.Pages.{IsDirectoryPage, SpellsDirectory, entries_at};
@@ -48,9 +48,12 @@ pub fn copy_upper(payload: &mut Payload, page: u32, depth: u8, lower: &Payload)
     ensures directory { IsDirectoryPage payload.new }
 {
     let first = first_entry(page);
-    for slot in 0..PAGE_ENTRIES {
-        let bucket = copied(payload, first + slot as u32, depth, lower);
-        put_entry(payload, slot, bucket);
+    let half = half_of(depth);
+    let begin = half.saturating_sub(first);
+    let end = (2 * half).saturating_sub(first).min(PAGE_ENTRIES as u32);
+    for slot in begin..end {
+        let bucket = directory_of(lower).entry(slot_of(first + slot - half));
+        put_entry(payload, slot as usize, bucket);
     }
 }
 
@@ -77,9 +80,29 @@ pub fn retarget(payload: &mut Payload, page: u32, depth: u8, range: Range, bucke
     ensures directory { IsDirectoryPage payload.new }
 {
     let first = first_entry(page);
-    for slot in 0..PAGE_ENTRIES {
-        let named = retargeted(payload, first + slot as u32, depth, range, bucket);
-        put_entry(payload, slot, named);
+    let stride = 1 << range.depth;
+    if range.pattern < stride {
+        let end = (1_u32 << depth).saturating_sub(first).min(PAGE_ENTRIES as u32);
+        let mut slot = first_in(range, first);
+        while slot < end {
+            put_entry(payload, slot as usize, bucket);
+            slot += stride;
+        }
+    }
+}
+
+/// How far after an entry the first one of a range stands.
+fn first_in(range: Range, entry: u32) -> u32
+    requires local_depth { range.depth ≤ GREATEST_DEPTH }
+    requires pattern { range.pattern < 2 ^ range.depth }
+    ensures there { (entry + result) % 2 ^ range.depth ≡ range.pattern }
+    ensures first { result < 2 ^ range.depth }
+{
+    let low = positions::index(entry, range.depth);
+    if low <= range.pattern {
+        range.pattern - low
+    } else {
+        range.pattern + (1 << range.depth) - low
     }
 }
 
@@ -98,30 +121,4 @@ fn half_of(depth: u8) -> u32
     ensures { result ≡ 2 ^ depth }
 {
     1 << depth
-}
-
-/// What an entry becomes where the directory doubles.
-fn copied(payload: &Payload, index: u32, depth: u8, lower: &Payload) -> u32
-    requires { depth < GREATEST_DEPTH }
-    ensures { result ≡ copied depth lower.now payload.now index }
-{
-    let half = 1 << depth;
-    if half <= index && index < 2 * half {
-        directory_of(lower).entry(slot_of(index - half))
-    } else {
-        directory_of(payload).entry(slot_of(index))
-    }
-}
-
-/// What an entry becomes where a bucket gets the entries of a range.
-fn retargeted(payload: &Payload, index: u32, depth: u8, range: Range, bucket: u32) -> u32
-    requires depth { depth ≤ GREATEST_DEPTH }
-    requires local_depth { range.depth ≤ GREATEST_DEPTH }
-    ensures { result ≡ retargeted depth range bucket payload.now index }
-{
-    if index < 1 << depth && positions::index(index, range.depth) == range.pattern {
-        bucket
-    } else {
-        directory_of(payload).entry(slot_of(index))
-    }
 }

@@ -1,12 +1,10 @@
-use Rattle.std.proofs.Common.{◌+◌, ◌*◌, ◌-◌}
-use Rattle.directory.specs.declared.layout.TheConstants.{FIRST_DIRECTORY_PAGE, PAGE_ENTRIES}
-use Rattle.directory.specs.Entries.{retargeted}
-use Rattle.directory.proofs.EntryLaws.{IsDoneTo}
+use Rattle.std.proofs.Common.{◌-◌}
+use Rattle.directory.proofs.StrideLaws.{IsRetargetedTo}
 use Rattle.directory.proofs.entries.retarget.Given as goal
 
--- the entries in the slots so far name the bucket where they are in the range
+-- the entries in the slots so far name the bucket where they are in the range, and the next slot's is in it
 abbrev pub invariant-loop-slot : goal.invariant-loop-slot
-invariant-loop-slot l =
-    IsDoneTo (λ slot. retargeted l.depth l.range l.bucket l.initial.payload
-    (PAGE_ENTRIES * (l.page - FIRST_DIRECTORY_PAGE) + slot))
-    l.slot l.initial.payload l.payload
+invariant-loop-slot l = IsRetargetedTo l.depth l.fn.range l.bucket l.first l.slot l.initial.payload l.payload
+
+abbrev pub decreases-loop-slot : goal.decreases-loop-slot
+decreases-loop-slot l = l.end - l.slot
