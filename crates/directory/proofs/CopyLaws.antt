@@ -29,9 +29,10 @@ after_stays depth first slot lower old above = stays depth first slot lower old 
 pub begun_above : (depth first slot : ℕ) (lower old : List ℕ) → IsDirectoryPage old → 2 ^ depth - first ≡ slot
     → IsDoneTo (doubled depth first lower old) slot old old
 begun_above depth first slot lower old page is = record {
-    done = λ other before. sym (before_stays depth first other lower old (omega (arith, before, is)));
-    left = λ other from. refl;
-    page = page }
+  done = λ other before. sym (before_stays depth first other lower old (omega (arith, before, is)));
+  left = λ other from. refl;
+  page = page;
+}
 
 -- and goes on by one
 pub one_copied : (depth first slot : ℕ) (lower old now new : List ℕ) → 2 ^ depth ≤ first + slot → first + slot < 2 * 2 ^ depth
@@ -39,14 +40,17 @@ pub one_copied : (depth first slot : ℕ) (lower old now new : List ℕ) → 2 ^
     → ((other : ℕ) → other ≢ slot → slot_at other new ≡ slot_at other now) → IsDirectoryPage new
     → IsDoneTo (doubled depth first lower old) (slot + 1) old new
 one_copied depth first slot lower old now new from to so put others page = record {
-    done = λ other before. by other before (cases_lt other slot);
-    left = λ other past. others other (λ same. omega (arith, past, same)) ∙ so.left other (omega (arith, past));
-    page = page }
+  done = λ other before. by other before (cases_lt other slot);
+  left = λ other past. others other (λ same. omega (arith, past, same)) ∙ so.left other (omega (arith, past));
+  page = page;
+}
   where
     upper : is_upper depth (first + slot) ≡ true
     upper = and_from _ _ (le-leb _ _ from) (lt-ltb _ _ to)
+
     there : doubled depth first lower old slot ≡ entry_in lower (first + slot - 2 ^ depth)
     there = ap (λ (b : Bool). if b then entry_in lower (first + slot - 2 ^ depth) else slot_at slot old) upper
+
     by : (other : ℕ) → other < slot + 1 → (other < slot) ⊎ (slot ≤ other)
         → slot_at other new ≡ doubled depth first lower old other
     by other before (inl low) = others other (λ same. omega (arith, low, same)) ∙ so.done other low
@@ -63,12 +67,16 @@ all_copied i page depth slot end lower old new on so past is = by (cases_lt (slo
   where
     first : ℕ
     first = PAGE_ENTRIES * (page - FIRST_DIRECTORY_PAGE)
+
     place : first + slot_of i ≡ i
     place = place_of i page on
+
     low : slot_of i < 512
     low = mod-lt i (omega arith)
+
     is_so : doubled depth first lower old (slot_of i) ≡ copied depth lower old i
     is_so = ap (λ (k : ℕ). if is_upper depth k then entry_in lower (k - 2 ^ depth) else entry_in old i) place
+
     by : (slot_of i < slot) ⊎ (slot ≤ slot_of i) → entry_in new i ≡ copied depth lower old i
     by (inl before) = so.done (slot_of i) before ∙ is_so
     by (inr from) =

@@ -24,8 +24,10 @@ rests_apart n more m some less same = by (cases_lt (n / m) ((n + more) / m))
   where
     here : m * (n / m) + n % m ≡ n
     here = div-add-mod n m
+
     there : m * ((n + more) / m) + (n + more) % m ≡ n + more
     there = div-add-mod (n + more) m
+
     by : (n / m < (n + more) / m) ⊎ ((n + more) / m ≤ n / m) → ⊥
     by (inl above) =
         let wide : m * suc (n / m) ≤ m * ((n + more) / m) = mul-le-mul_left m above in
@@ -55,7 +57,7 @@ pub other_stays : (depth : ℕ) (range : Range) (bucket first slot : ℕ) (old :
     ((first + slot) % 2 ^ range.depth ≡ range.pattern → ⊥) → named depth range bucket first old slot ≡ slot_at slot old
 other_stays depth range bucket first slot old out =
     let no : ((first + slot) % 2 ^ range.depth == range.pattern) ≡ false =
-        false_from_ne_true _ (λ yes. out (eqb-true _ _ yes)) in
+    false_from_ne_true _ (λ yes. out (eqb-true _ _ yes)) in
     ap (λ (b : Bool). if b then bucket else slot_at slot old) (and_right _ _ no)
 
 -- so does one past the directory's last
@@ -74,13 +76,15 @@ chosen depth range bucket first slot old within there =
 pub begun : (depth : ℕ) (range : Range) (bucket first slot : ℕ) (old : List ℕ) → IsDirectoryPage old →
     slot < 2 ^ range.depth → (first + slot) % 2 ^ range.depth ≡ range.pattern → IsRetargetedTo depth range bucket first slot old old
 begun depth range bucket first slot old page low there = record {
-    so_far = record {
-        done = λ other before. sym (other_stays depth range bucket first other old (λ same.
-            rests_apart (first + other) (slot - other) (2 ^ range.depth) (omega (arith, before)) (omega (arith, before, low))
-            (ap (λ (k : ℕ). k % 2 ^ range.depth) (omega (arith, before)) ∙ there ∙ sym same)));
-        left = λ other from. refl;
-        page = page };
-    next = there }
+  so_far = record {
+    done = λ other before. sym (other_stays depth range bucket first other old (λ same.
+        rests_apart (first + other) (slot - other) (2 ^ range.depth) (omega (arith, before)) (omega (arith, before, low))
+        (ap (λ (k : ℕ). k % 2 ^ range.depth) (omega (arith, before)) ∙ there ∙ sym same)));
+    left = λ other from. refl;
+    page = page;
+  };
+  next = there;
+}
 
 -- and goes on by the divisor
 pub one_more : (depth : ℕ) (range : Range) (bucket first slot : ℕ) (old now new : List ℕ) → first + slot < 2 ^ depth →
@@ -88,24 +92,28 @@ pub one_more : (depth : ℕ) (range : Range) (bucket first slot : ℕ) (old now 
     ((other : ℕ) → other ≢ slot → slot_at other new ≡ slot_at other now) → IsDirectoryPage new →
     IsRetargetedTo depth range bucket first (slot + 2 ^ range.depth) old new
 one_more depth range bucket first slot old now new within so put others page = record {
-    so_far = record {
-        done = λ other before. by other before (cases_lt other slot);
-        left = λ other from. others other (λ same. omega (arith, from, same, some)) ∙ so.so_far.left other (omega (arith, from));
-        page = page };
-    next = ap (λ (k : ℕ). k % 2 ^ range.depth) (omega arith) ∙ add-mod_right (first + slot) (2 ^ range.depth) ∙ so.next }
+  so_far = record {
+    done = λ other before. by other before (cases_lt other slot);
+    left = λ other from. others other (λ same. omega (arith, from, same, some)) ∙ so.so_far.left other (omega (arith, from));
+    page = page;
+  };
+  next = ap (λ (k : ℕ). k % 2 ^ range.depth) (omega arith) ∙ add-mod_right (first + slot) (2 ^ range.depth) ∙ so.next;
+}
   where
     some : 0 < 2 ^ range.depth
     some = pow_pos range.depth
+
     here : (other : ℕ) → other < slot + 2 ^ range.depth → (slot < other) ⊎ (other ≤ slot) → slot ≤ other
         → slot_at other new ≡ named depth range bucket first old other
     here other before (inl above) from =
         others other (λ same. omega (arith, above, same)) ∙ so.so_far.left other from
         ∙ sym (other_stays depth range bucket first other old (λ same.
-            rests_apart (first + slot) (other - slot) (2 ^ range.depth) (omega (arith, above)) (omega (arith, above, before))
-            (ap (λ (k : ℕ). k % 2 ^ range.depth) (omega (arith, above)) ∙ same ∙ sym so.next)))
+        rests_apart (first + slot) (other - slot) (2 ^ range.depth) (omega (arith, above)) (omega (arith, above, before))
+        (ap (λ (k : ℕ). k % 2 ^ range.depth) (omega (arith, above)) ∙ same ∙ sym so.next)))
     here other before (inr below) from =
         let same : slot ≡ other = omega (arith, below, from) in
         rw (← same) (put ∙ sym (chosen depth range bucket first slot old within so.next))
+
     by : (other : ℕ) → other < slot + 2 ^ range.depth → (other < slot) ⊎ (slot ≤ other)
         → slot_at other new ≡ named depth range bucket first old other
     by other before (inl low) = others other (λ same. omega (arith, low, same)) ∙ so.so_far.done other low
@@ -120,12 +128,16 @@ ended i page depth range bucket slot end old new on so past is = by (cases_lt (s
   where
     first : ℕ
     first = PAGE_ENTRIES * (page - FIRST_DIRECTORY_PAGE)
+
     place : first + slot_of i ≡ i
     place = place_of i page on
+
     low : slot_of i < 512
     low = mod-lt i (omega arith)
+
     is_so : named depth range bucket first old (slot_of i) ≡ retargeted depth range bucket old i
     is_so = ap (λ (k : ℕ). if is_in_range depth range k then bucket else entry_in old i) place
+
     by : (slot_of i < slot) ⊎ (slot ≤ slot_of i) → entry_in new i ≡ retargeted depth range bucket old i
     by (inl before) = so.so_far.done (slot_of i) before ∙ is_so
     by (inr from) =

@@ -82,7 +82,9 @@ pub fn retarget(payload: &mut Payload, page: u32, depth: u8, range: Range, bucke
     let first = first_entry(page);
     let stride = 1 << range.depth;
     if range.pattern < stride {
-        let end = (1_u32 << depth).saturating_sub(first).min(PAGE_ENTRIES as u32);
+        let end = (1_u32 << depth)
+            .saturating_sub(first)
+            .min(PAGE_ENTRIES as u32);
         let mut slot = first_in(range, first);
         while slot < end {
             put_entry(payload, slot as usize, bucket);

@@ -16,14 +16,14 @@ loop-slot-init c =
 pub loop-slot-preserved : goal.loop-slot-preserved
 loop-slot-preserved c =
     let from : 2 ^ c.args.depth ≤ c.first_entry-first.result + c.loop-slot.slot =
-        omega (arith, c.half_of-half.ensures, c.saturating_sub-begin.ensures, c.loop-slot.auto.slot) in
+    omega (arith, c.half_of-half.ensures, c.saturating_sub-begin.ensures, c.loop-slot.auto.slot) in
     let to : c.first_entry-first.result + c.loop-slot.slot < 2 * 2 ^ c.args.depth =
-        omega (arith, c.half_of-half.ensures, c.saturating_sub.ensures, c.min-end.ensures, c.loop-slot-test.true) in
+    omega (arith, c.half_of-half.ensures, c.saturating_sub.ensures, c.min-end.ensures, c.loop-slot-test.true) in
     let put : _ ≡ entry_in c.args.lower.now (c.first_entry-first.result + c.loop-slot.slot - 2 ^ c.args.depth) =
-        c.put_entry.ensures.ok ∙ c.entry-bucket.ensures ∙ ap (λ (k : ℕ). slice_index c.directory_of.result k) c.slot_of.ensures.value
-        ∙ ap (λ (l : List ℕ). slice_index l (slot_of (c.first_entry-first.result + c.loop-slot.slot - c.half_of-half.result)))
-        c.directory_of.ensures
-        ∙ ap (λ (k : ℕ). entry_in c.args.lower.now (c.first_entry-first.result + c.loop-slot.slot - k)) c.half_of-half.ensures in
+    c.put_entry.ensures.ok ∙ c.entry-bucket.ensures ∙ ap (λ (k : ℕ). slice_index c.directory_of.result k) c.slot_of.ensures.value
+    ∙ ap (λ (l : List ℕ). slice_index l (slot_of (c.first_entry-first.result + c.loop-slot.slot - c.half_of-half.result)))
+    c.directory_of.ensures
+    ∙ ap (λ (k : ℕ). entry_in c.args.lower.now (c.first_entry-first.result + c.loop-slot.slot - k)) c.half_of-half.ensures in
     one_copied c.args.depth c.first_entry-first.result c.loop-slot.slot c.args.lower.now c.args.payload.now c.loop-slot.payload
     c.put_entry.new.payload from to c.loop-slot.invariant put c.put_entry.ensures.others c.put_entry.ensures.directory
 
