@@ -104,8 +104,8 @@ pub extern "C" fn msgq_session_page(
     }
 }
 
-/// The first page from this one on that has changed since the pages were saved; there is no such
-/// page where no other has. Each page between is as it was saved.
+/// The next page from this one on that may have changed since the pages were saved; no such page is
+/// told where there is none. Each page that is passed by is as it was saved.
 #[unsafe(no_mangle)]
 pub extern "C" fn msgq_session_next_changed(
     alloc: Global,

@@ -118,8 +118,8 @@ impl Session {
         self.kernel.page(page).ok()
     }
 
-    /// The first page from this one on that has changed since the pages were saved; none where no
-    /// other has. Each page between is as it was saved.
+    /// The next page from this one on that may have changed since the pages were saved; none where
+    /// there is none. Each page that is passed by is as it was saved.
     pub fn next_changed(&self, from: u32) -> Option<u32>
         ensures { TellsChanges from result self.now }
     {

@@ -80,8 +80,8 @@ impl<D: PageDevice + Drop, K: PseudoKey + Drop> Kernel<D, K> {
         self.pool.pages()
     }
 
-    /// The first page from this one on that was changed since the device had it; `None` where none
-    /// was. An honest device has all between, and a flush leaves none.
+    /// The next page from this one on that may have changed since the device had it; `None` where
+    /// there is none. An honest device has the images of all pages that are passed by.
     pub fn next_changed(&self, from: u32) -> Option<u32>
         ensures { TellsChanged from result self.now.pool }
     {
