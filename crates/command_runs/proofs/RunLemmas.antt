@@ -58,12 +58,12 @@ is_free k s rests busy =
 
 -- it is always closed well
 pub never_unclosed : {D : Type 0} (n : NotClosed D ShaKey) (k : KernelState ShaKey) (s : State) (content : D → Pages)
-    (honest : D → Bool) → RestsOver sha_key s k → ((is_busy {D = D} {K = ShaKey} (Err n) ≡ true) ↔ IsBusy k) →
+    (honest synced : D → Bool) → RestsOver sha_key s k → ((is_busy {D = D} {K = ShaKey} (Err n) ≡ true) ↔ IsBusy k) →
     ((fault_in {D = D} {K = ShaKey} (Err n) ≡ Some closes.Failed) ↔ (k.failed ≡ true)) →
     OnDevice {D = D} {K = ShaKey}
-    (λ d. IsReleased k (fault_in {D = D} {K = ShaKey} (Err n)) (content d) (honest d) 0) (Err n) → ⊥
-never_unclosed (Busy kernel) k s content honest rests busy failed device = is_free k s rests (busy.0 refl)
-never_unclosed (Fault closed fault) k s content honest rests busy failed device =
+    (λ d. IsReleased k (fault_in {D = D} {K = ShaKey} (Err n)) (content d) (honest d) (synced d) 0) (Err n) → ⊥
+never_unclosed (Busy kernel) k s content honest synced rests busy failed device = is_free k s rests (busy.0 refl)
+never_unclosed (Fault closed fault) k s content honest synced rests busy failed device =
     no_fault fault k rests.sound failed.0 device.cause
 
 -- ---- it was asked in a session

@@ -1,5 +1,5 @@
 -- What is left of a kernel that was closed, or was not.
-use Rattle.std.specs.Prelude.{ℕ, ◌≡◌, ◌≤◌, Bool, true, false, List, Option, Some, None, Result, Ok, Err, ⊤}
+use Rattle.std.specs.Prelude.{ℕ, ◌≡◌, ◌≤◌, Bool, true, false, IsTrue, List, Option, Some, None, Result, Ok, Err, ⊤}
 use Rattle.std.specs.List.{list_any}
 use Rattle.page_device.specs.Device.{HasRisen}
 use Rattle.buffer_pool.specs.Pool.{KeepsSeals, PoolState, payloads_of}
@@ -50,9 +50,11 @@ pub record IsFlushedTo (pool : PoolState) (content : List (List ℕ)) : Type 0 w
 
 -- what the device of a kernel that ended with this fault, or with none, has when it comes back
 pub record IsReleased {K : Type 0} (s : KernelState K) (fault : Option CloseFault) (content : List (List ℕ))
-    (honest : Bool) (faults : ℕ) : Type 0 where
+    (honest is_synced : Bool) (faults : ℕ) : Type 0 where
   -- it is as honest as it was
   pub same : honest ≡ s.pool.honest
+  -- where none is told, an honest one was synced behind the last write
+  pub synced : IsTrue s.pool.honest → fault ≡ None → IsTrue is_synced
   -- where a step had failed it has what the pool knew to be stored
   pub unwritten : s.failed ≡ true → content ≡ s.pool.stored
   pub later : s.pool.faults ≤ faults

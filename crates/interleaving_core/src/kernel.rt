@@ -329,8 +329,8 @@ impl<D: PageDevice + Drop, K: PseudoKey + Drop> Kernel<D, K> {
         self.stopped = true;
     }
 
-    /// Writes the pages to the device, and gives it back with the journal. Where a step has failed
-    /// nothing is written; where a seat has a call under way the kernel comes back.
+    /// Writes the pages to the device, syncs it, and gives it back with the journal. Where a step
+    /// has failed nothing is written; where a seat has a call under way the kernel comes back.
     pub fn close(self) -> Result<Closed<D>, NotClosed<D, K>>
         ensures ok { IsTrue self.pool.honest →
             IfOk result (λ closed. IsFlushedTo self.pool (D.content closed.device)) }
@@ -338,7 +338,7 @@ impl<D: PageDevice + Drop, K: PseudoKey + Drop> Kernel<D, K> {
         ensures busy { (is_busy result ≡ true) ↔ IsBusy self }
         ensures failed { (fault_in result ≡ Some CloseFault.Failed) ↔ (self.failed ≡ true) }
         ensures device { OnDevice (λ d. IsReleased self (fault_in result)
-            (D.content d) (D.is_honest d) (D.fault_count d)) result }
+            (D.content d) (D.is_honest d) (D.is_synced d) (D.fault_count d)) result }
         ensures back { IfBusy (λ kernel. kernel ≡ self) result }
     {
         if self.failure.is_none() && has_call(self.seats.as_slice()) {
