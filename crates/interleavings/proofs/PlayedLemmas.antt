@@ -72,10 +72,10 @@ untold_is seat (Some a) = refl
 
 module _ {K : Type 0} (of : K → RecordKey → ℕ) (keys : K) (content : List (List ℕ)) (honest : Bool)
     (callers : List Caller) (frames : ℕ) (es : List Event) (old new : KernelState K) {D : Type 0} (played : Played D)
-    (left : List (List ℕ)) (left_honest : Bool) (faults : ℕ)
+    (left : List (List ℕ)) (left_honest left_synced : Bool) (faults : ℕ)
     (opened : IsOpened keys content honest callers frames old) (are : AreOfSeats (length callers) es)
     (ran : Runs (of old.keys) es played.outcomes.items old new)
-    (ended : HasEnded new played.fault played.journal.items left left_honest faults) where
+    (ended : HasEnded new played.fault played.journal.items left left_honest left_synced faults) where
   abbrev hash : RecordKey → ℕ
   hash = of keys
 
@@ -290,7 +290,7 @@ module _ {K : Type 0} (of : K → RecordKey → ℕ) (keys : K) (content : List 
             by (Some e) is_e (Some o) is_o = here e o is_e is_o
 
       pub plays_plain : StepsRefineAndDo K → StepsRefine K → AnswersAsPlainLists K → ClosesRefine K →
-          PlaysAsPlainLists hash callers es content left played
+          PlaysAsPlainLists hash callers es content left left_synced played
       plays_plain does steps plain closes =
           let lists = plain hash led.base new led.file.system.has.lawful led_behind in
           record {
@@ -311,6 +311,7 @@ module _ {K : Type 0} (of : K → RecordKey → ℕ) (keys : K) (content : List 
                 (sym ended.journal_is)
                 (closes hash led.base left new led_behind (idle_by none) (sound_by none)
                 (ended.flushed honest_still none)));
+            synced = ended.synced honest_still;
           }
 
       step_reason : StepsRefineAndDo K → DrivesEnd K → (was : ℕ) → was ≤ old.pool.faults →

@@ -35,7 +35,7 @@ pub record HasReason {D : Type 0} (honest : Bool) (old new : ℕ) (played : Play
 
 -- whatever the events, and so whatever the order of the seats' steps
 pub record PlaysAsPlainLists {D : Type 0} (hash : RecordKey → ℕ) (callers : List Caller) (es : List Event)
-    (content left : List (List ℕ)) (played : Played D) : Type 0 where
+    (content left : List (List ℕ)) (is_synced : Bool) (played : Played D) : Type 0 where
   -- the one system whose file the device had
   pub base : State
   pub file : IsFileOf hash content base
@@ -49,3 +49,5 @@ pub record PlaysAsPlainLists {D : Type 0} (hash : RecordKey → ℕ) (callers : 
   -- where each call has ended and nothing failed the device is left with the file of the system after the journal,
   -- which is not stopped for who opens it next
   pub leaves : played.fault ≡ None → IsFileOf hash left (restarted (after callers played.journal.items base))
+  -- and synced, so that what was written outlasts the program
+  pub synced : played.fault ≡ None → IsTrue is_synced

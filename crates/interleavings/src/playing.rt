@@ -76,7 +76,7 @@ pub fn play_on<D: PageDevice + Drop, K: PseudoKey + Drop>(
     requires seats { AreOfSeats (length callers.now) events.items }
     ensures headline { IsTrue (D.is_honest device) → IfOk result (λ played.
         PlaysAsPlainLists (K.of_key keys) callers.now events.items (D.content device)
-        (D.content played.device) played) }
+        (D.content played.device) (D.is_synced played.device) played) }
     ensures played { IfOk result (λ played. HasPlayed events.items played) }
     ensures refused { IsTrue (D.is_honest device) → IfErr result (λ refusal.
         MayRefuse (K.of_key keys) (D.content device) refusal.1) }
@@ -115,7 +115,8 @@ fn end<D: PageDevice + Drop, K: PseudoKey + Drop>(
     kernel: Kernel<D, K>,
 ) -> (Closed<D>, Option<EndFault>)
     ensures { HasEnded kernel result.1 result.0.journal.items (D.content result.0.device)
-        (D.is_honest result.0.device) (D.fault_count result.0.device) }
+        (D.is_honest result.0.device) (D.is_synced result.0.device)
+        (D.fault_count result.0.device) }
 {
     match kernel.close() {
         Ok(closed) => (closed, None),

@@ -18,7 +18,7 @@ pub returns-clause-headline : goal.returns-clause-headline
 returns-clause-headline g c = λ true_to_it.
     plays_plain g.K.PseudoKey.of_key c.args.keys (g.D.PageDevice.content c.args.device)
     (g.D.PageDevice.is_honest c.args.device) c.args.callers.now c.args.frames c.args.events.items
-    c.in_ok-kernel.kernel c.run.new.kernel _ _ _ _ c.in_ok-kernel.ensures.ok c.requires.seats c.in-Ok.ensures.runs
+    c.in_ok-kernel.kernel c.run.new.kernel _ _ _ _ _ c.in_ok-kernel.ensures.ok c.requires.seats c.in-Ok.ensures.runs
     c.end-closed.ensures c.in-Ok.ensures.told c.in-Ok.ensures.linear c.events_refine.ensures true_to_it
     (c.an_opened_kernel_refines.ensures (g.K.PseudoKey.of_key c.args.keys) c.args.keys
     (g.D.PageDevice.content c.args.device) (g.D.PageDevice.is_honest c.args.device) c.args.callers.now c.args.frames
@@ -30,7 +30,7 @@ pub returns-clause-played : goal.returns-clause-played
 returns-clause-played g c =
     has_played g.K.PseudoKey.of_key c.args.keys (g.D.PageDevice.content c.args.device)
     (g.D.PageDevice.is_honest c.args.device) c.args.callers.now c.args.frames c.args.events.items
-    c.in_ok-kernel.kernel c.run.new.kernel _ _ _ _ c.in_ok-kernel.ensures.ok c.requires.seats c.in-Ok.ensures.runs
+    c.in_ok-kernel.kernel c.run.new.kernel _ _ _ _ _ c.in_ok-kernel.ensures.ok c.requires.seats c.in-Ok.ensures.runs
     c.end-closed.ensures c.in-Ok.ensures.told c.in-Ok.ensures.linear
 
 -- no event changes whether the device is honest
@@ -47,7 +47,7 @@ pub returns-clause-cause : goal.returns-clause-cause
 returns-clause-cause g c = (
   has_reason g.K.PseudoKey.of_key c.args.keys (g.D.PageDevice.content c.args.device)
       (g.D.PageDevice.is_honest c.args.device) c.args.callers.now c.args.frames c.args.events.items
-      c.in_ok-kernel.kernel c.run.new.kernel _ _ _ _ c.in_ok-kernel.ensures.ok c.requires.seats
+      c.in_ok-kernel.kernel c.run.new.kernel _ _ _ _ _ c.in_ok-kernel.ensures.ok c.requires.seats
       c.in-Ok.ensures.runs c.end-closed.ensures c.in-Ok.ensures.told c.in-Ok.ensures.linear c.events_refine.ensures
       (λ true_to_it. c.an_opened_kernel_refines.ensures (g.K.PseudoKey.of_key c.args.keys) c.args.keys
       (g.D.PageDevice.content c.args.device) (g.D.PageDevice.is_honest c.args.device) c.args.callers.now
