@@ -12,6 +12,8 @@ mod file_tests;
 #[cfg(test)]
 mod run_tests;
 #[cfg(test)]
+mod schedule_tests;
+#[cfg(test)]
 mod script_tests;
 #[cfg(test)]
 mod serving_tests;

@@ -1,6 +1,6 @@
 //! Schedules, typed from their grammar.
 
-use super::*;
+use schedules::{Event, Expected, ScheduleError, read_schedule, word_at};
 use std::alloc::Global;
 use std::process::Abort;
 use std::test::Fail;

@@ -8,6 +8,3 @@ mod kept_keys;
 
 pub use alike::Alike;
 pub use kept_keys::KeptKeys;
-
-#[cfg(test)]
-mod tests;

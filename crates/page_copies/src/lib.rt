@@ -6,6 +6,3 @@ mod copies;
 
 pub use copies::{copied, write_back};
 pub use page_device;
-
-#[cfg(test)]
-mod tests;

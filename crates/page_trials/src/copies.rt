@@ -1,6 +1,6 @@
 //! Pages in memory and back.
 
-use crate::{copied, write_back};
+use page_copies::{copied, write_back};
 use page_device::{DeviceFault, FaultyDevice, MemDevice, PAGE_BYTES, PageDevice};
 use std::process::Abort;
 use std::test::Fail;

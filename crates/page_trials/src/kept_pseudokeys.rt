@@ -1,7 +1,7 @@
 //! Keys that are asked for again, and keys that take one another's slots.
 
-use crate::{Alike, KeptKeys};
 use bucket_page::{NumberKey, PseudoKey, RecordKey, ShaKey};
+use kept_keys::{Alike, KeptKeys};
 use std::cell::Cell;
 use std::test::Fail;
 

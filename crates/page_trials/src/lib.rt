@@ -9,11 +9,17 @@ mod bucket;
 #[cfg(test)]
 mod buckets;
 #[cfg(test)]
+mod copies;
+#[cfg(test)]
 mod devices;
 #[cfg(test)]
 mod directories;
 #[cfg(test)]
 mod files;
+#[cfg(test)]
+mod kept_pseudokeys;
+#[cfg(test)]
+mod ranges;
 #[cfg(test)]
 mod records;
 #[cfg(test)]

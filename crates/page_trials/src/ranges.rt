@@ -3,7 +3,13 @@
 
 ghost use Rattle.std.specs.Prelude.{◌≡◌};
 
-use super::*;
+use positions::{
+    Range, a_pseudokey_lies_in_exactly_one_range_of_a_tiling,
+    ascending_and_covering_once_is_tiling, buddies_of_a_tiling_are_neighbours, index,
+    joining_two_buddies_keeps_the_tiling, position, splitting_one_tile_keeps_the_tiling,
+    the_whole_range_is_a_tiling, walking_finds_the_tile, walking_meets_all_tiles,
+};
+use std::process::Abort;
 
 /// A quarter of all positions.
 const QUARTER: u64 = 1_073_741_824;

@@ -19,6 +19,3 @@ pub use laws::{
 };
 pub use pseudokey::{POSITIONS, PSEUDOKEY_BITS, index, position};
 pub use range::Range;
-
-#[cfg(test)]
-mod tests;

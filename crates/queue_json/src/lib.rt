@@ -5,6 +5,3 @@
 mod objects;
 
 pub use objects::{put_messages_json, put_queues_json};
-
-#[cfg(test)]
-mod tests;

@@ -11,6 +11,3 @@ mod text;
 pub use queue_name::QueueName;
 pub use tables::{put_messages, put_queues};
 pub use text::Text;
-
-#[cfg(test)]
-mod tests;

@@ -11,3 +11,5 @@ mod command_lines;
 mod inputs;
 #[cfg(test)]
 mod runs;
+#[cfg(test)]
+mod shown;

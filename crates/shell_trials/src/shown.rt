@@ -1,6 +1,7 @@
-//! Tables of a small system.
+//! A small system, shown as tables and as JSON.
 
-use crate::{Text, put_messages, put_queues};
+use queue_json::{put_messages_json, put_queues_json};
+use queue_lists::{Text, put_messages, put_queues};
 use queue_model::{Body, Call, Caller, GetArguments, SendArguments, System};
 use std::alloc::Global;
 use std::process::Abort;
@@ -12,8 +13,8 @@ const NANCY: Caller = Caller {
     gid: 7,
 };
 
-/// Queue 1 of key 7 with two messages, and the private queue 2.
-fn system(alloc: Global) -> Result<System, Fail> {
+/// Queue 1 of key 7 with two messages of these bodies, and the private queue 2.
+fn system(alloc: Global, bodies: [&[u8]; 2]) -> Result<System, Fail> {
     let mut system = System::empty(alloc);
     for key in [Some(7), None] {
         let get = GetArguments {
@@ -25,7 +26,7 @@ fn system(alloc: Global) -> Result<System, Fail> {
         };
         let _ = system.apply(NANCY, &Call::Get(get));
     }
-    for body in [&b"Good day\n"[..], &[b'x'; 40]] {
+    for body in bodies {
         let send = SendArguments {
             id: 1,
             mtype: 5,
@@ -41,7 +42,7 @@ fn system(alloc: Global) -> Result<System, Fail> {
 #[test]
 fn queues_and_messages_have_tables(rt: HostRuntime) -> Result<(), Fail> {
     let alloc = rt.alloc();
-    let system = system(alloc)?;
+    let system = system(alloc, [b"Good day\n", &[b'x'; 40]])?;
     let mut text = Text::new(alloc);
     put_queues(&mut text, &system)?;
     let wanted: &[u8] =
@@ -54,6 +55,35 @@ fn queues_and_messages_have_tables(rt: HostRuntime) -> Result<(), Fail> {
     let wanted: &[u8] = b"SERIAL\tTYPE\tSENDER\tLENGTH\tBODY\n\
         1\t5\t42\t9\tGood day.\n\
         2\t5\t42\t40\txxxxxxxxxxxxxxxxxxxxxxxxxxxxxxxx\n";
+    assert!(rt; text.as_slice() == wanted);
+    Ok(())
+}
+
+#[test]
+fn queues_and_messages_are_objects(rt: HostRuntime) -> Result<(), Fail> {
+    let alloc = rt.alloc();
+    let system = system(alloc, [b"a\"\n", b"\xff"])?;
+    let mut text = Text::new(alloc);
+    put_queues_json(&mut text, alloc, &system)?;
+    let wanted: &[u8] = b"{\"queues\":[\
+        {\"id\":1,\"key\":7,\"msg_cbytes\":4,\"msg_ctime\":1700000000,\"msg_lrpid\":0,\"msg_lspid\":42,\
+        \"msg_perm\":{\"cgid\":7,\"cuid\":100,\"gid\":7,\"mode\":416,\"uid\":100},\
+        \"msg_qbytes\":16384,\"msg_qnum\":2,\"msg_rtime\":0,\"msg_stime\":1700000060},\
+        {\"id\":2,\"key\":null,\"msg_cbytes\":0,\"msg_ctime\":1700000000,\"msg_lrpid\":0,\"msg_lspid\":0,\
+        \"msg_perm\":{\"cgid\":7,\"cuid\":100,\"gid\":7,\"mode\":416,\"uid\":100},\
+        \"msg_qbytes\":16384,\"msg_qnum\":0,\"msg_rtime\":0,\"msg_stime\":0}]}\n";
+    assert!(rt; text.as_slice() == wanted);
+    let Some(info) = system.info(1) else {
+        return Err(Fail::new("there is no second queue"));
+    };
+    let mut text = Text::new(alloc);
+    put_messages_json(&mut text, alloc, &info, &system.queue(0).messages)?;
+    let wanted: &[u8] = b"{\"messages\":[\
+        {\"length\":3,\"mtext\":\"a\\\"\\n\",\"mtext_hex\":\"61220a\",\"mtype\":5,\"sender\":42,\"serial\":1},\
+        {\"length\":1,\"mtext\":\"\xef\xbf\xbd\",\"mtext_hex\":\"ff\",\"mtype\":5,\"sender\":42,\"serial\":2}],\
+        \"queue\":{\"id\":2,\"key\":null,\"msg_cbytes\":0,\"msg_ctime\":1700000000,\"msg_lrpid\":0,\"msg_lspid\":0,\
+        \"msg_perm\":{\"cgid\":7,\"cuid\":100,\"gid\":7,\"mode\":416,\"uid\":100},\
+        \"msg_qbytes\":16384,\"msg_qnum\":0,\"msg_rtime\":0,\"msg_stime\":0}}\n";
     assert!(rt; text.as_slice() == wanted);
     Ok(())
 }
