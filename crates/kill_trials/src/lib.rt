@@ -3,4 +3,6 @@
 #![tactic(auto)]
 
 #[cfg(test)]
+mod longest_file;
+#[cfg(test)]
 mod sessions;
