@@ -1,5 +1,5 @@
-//! Tests of the public calls of `msgq_cli` and `script_runs`, which are proved here alone and not with
-//! those crates once more.
+//! Tests of the public calls of `schedules`, `msgq_cli` and `script_runs`, which are proved here alone
+//! and not with those crates once more.
 
 #![tactic(auto)]
 

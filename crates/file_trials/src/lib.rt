@@ -6,6 +6,3 @@
 mod laws;
 
 pub use laws::{each_kind_of_step_comes_in_a_worked_schedule, wrong_turns_are_not_allowed};
-
-#[cfg(test)]
-mod tests;

@@ -35,9 +35,10 @@ fn ask(table: &mut LockTable, seat: u8, name: LockName, kind: LockKind) -> Optio
 
 /// Asks for another kind, where the conditions of `convert` hold.
 fn turn(table: &mut LockTable, seat: u8, name: LockName, kind: LockKind) -> Option<Grant> {
-    if !has_seat(table, seat) || table.holds(seat, name).is_none() {
+    if !has_seat(table, seat) {
         return None;
     }
+    table.holds(seat, name)?;
     Some(table.convert(seat, name, kind))
 }
 

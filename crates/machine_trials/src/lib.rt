@@ -16,6 +16,8 @@ mod bytes;
 #[cfg(test)]
 mod files;
 #[cfg(test)]
+mod kinds;
+#[cfg(test)]
 mod merges;
 #[cfg(test)]
 mod rows;

@@ -1,5 +1,5 @@
-//! Tests of the public calls of `input_messages`, `queue_commands`, `command_words` and `command_runs`,
-//! which are proved here alone and not with those crates once more.
+//! Tests of the public calls of `queue_lists`, `queue_json`, `input_messages`, `queue_commands`,
+//! `command_words` and `command_runs`, which are proved here alone and not with those crates once more.
 
 #![tactic(auto)]
 

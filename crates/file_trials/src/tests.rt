@@ -1,3 +1,0 @@
-//! Names of kinds, worked by hand.
-
-mod kinds;
