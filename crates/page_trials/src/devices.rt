@@ -188,10 +188,10 @@ fn what_the_system_does_not_open_is_a_fault(rt: HostRuntime) {
 }
 
 /// Adds a page to a file as long as so many, and tells what came of it and how many there are then.
-fn added(rt: &HostRuntime, pages: u64) -> Result<(Result<(), DeviceFault>, u32), Fail> {
+fn added(rt: &HostRuntime, pages: u32) -> Result<(Result<(), DeviceFault>, u32), Fail> {
     let path = "device_full/pages";
     let file = OpenOptions::new().write(true).open(rt, path)?;
-    file.set_len(pages * PAGE_BYTES as u64)?;
+    file.set_len(u64::from(pages) * PAGE_BYTES as u64)?;
     let mut device = FileDevice::open(rt, path)?;
     let came = device.extend(&[4; PAGE_BYTES]);
     Ok((came, device.pages()))
