@@ -1,5 +1,5 @@
 //! Pools: the images of a device's pages, in frames.
-ghost use Rattle.std.specs.Prelude.{◌≡◌, ◌↔◌, ◌+◌, ◌-◌, ◌^◌, ◌<◌, ◌≤◌, false, length, is_ok, Some, IsTrue, IfOk, IfErr, IsErrAnd, IsErrOf, OnOk, slice_get, slice_set, if◌then◌else◌};
+ghost use Rattle.std.specs.Prelude.{◌≡◌, ◌↔◌, ◌+◌, ◌-◌, ◌^◌, ◌<◌, ◌≤◌, false, length, is_ok, Some, IsTrue, IfOk, IfErr, IfSome, IsErrAnd, IsErrOf, OnOk, slice_get, slice_set, if◌then◌else◌};
 ghost use Rattle.page_device.specs.declared.fault.DeviceFault.TheVariants.{PastEnd};
 ghost use Rattle.buffer_pool.specs.Pool.{pins_at, opened, IsAtRest, payloads_of, IsCrowded, IsOnDevice, KeepsImages, KeepsStored, PoolHasCause, MayNotOpen, MayNotPin, MayNotFlush, TellsChanged};
 ghost use Rattle.std.specs.Borrow.{sem};
@@ -120,6 +120,30 @@ impl<D: PageDevice> Pool<D> {
         ensures { slice_get self.now.images frame.now ≡ Some result.now }
     {
         self.table.payload(self.table.frame_of(frame.page()))
+    }
+
+    /// The image of a page that is in a frame, pinned or not; none where it is in no frame.
+    pub fn resident(&self, page: u32) -> Option<&FilePage>
+        ensures { IfSome result (λ image. slice_get self.now.images page ≡ Some image.now) }
+    {
+        if page >= self.device.pages() {
+            return None;
+        }
+        let frame = self.table.place(page)?;
+        Some(self.table.payload(frame))
+    }
+
+    /// Notes that a page was used, so that it stays in its frame for longer. One that is in none is
+    /// not brought in.
+    pub fn touch(&mut self, page: u32)
+        ensures { self.new ≡ self.old }
+    {
+        if page >= self.device.pages() {
+            return;
+        }
+        if let Some(frame) = self.table.place(page) {
+            self.table.touch(frame);
+        }
     }
 
     /// Makes this page the image of a pinned page.

@@ -1,8 +1,10 @@
 -- A page that is pinned, read and given back: what the pool is then, and why it was not pinned.
-use Rattle.std.proofs.Common.{◌≡◌, refl, ◌∙◌, sym, ap, subst, ℕ, zero, suc, ◌-◌, ◌<◌, ◌≤◌, List, [], Bool, true, IsTrue, Option, Some}
-use Rattle.std.proofs.Common.{length, arith, slice_get, slice_set, Result, Ok, Err, IsErr, IsErrAnd, IsErrOf, IfErr, IfOk, ◌⊎◌, inl, inr}
+use Rattle.std.proofs.Common.{◌≡◌, refl, ◌∙◌, sym, ap, subst, ℕ, zero, suc, ◌-◌, ◌<◌, ◌≤◌, List, [], Bool, true, IsTrue, Option, None, Some}
+use Rattle.std.proofs.Common.{length, arith, slice_get, slice_set, Result, Ok, Err, IsErr, IsErrAnd, IsErrOf, IfErr, IfOk, IfSome, ◌⊎◌, inl, inr}
 use Rattle.file_pages.proofs.Names.{Bucket, DIRECTORY_PAGES, Device, HasRisen, IsBucketPage, IsCrowded, IsWell, KeepsSeals, Malformed, MayNotPin, NoMemory, PageKind, PoolFault, PoolState, ROOT_PAGE, RecordKey, Spells, TooFewFrames, bucket_again, bucket_in, bucket_of, cases_lt, count_none, directory_well, entries_at, get_or_from_slice_get, is_bucket, lookup, page_at, page_in, page_is, pins_at, records_in, rest_again}
 use Rattle.buffer_pool.proofs.SparedLemmas.{spared_is}
+use Rattle.std.specs.Result.{result_ok}
+use Rattle.directory.specs.Entries.{slot_at}
 use Rattle.page_device.specs.declared.fault.DeviceFault.TheVariants as device
 use Rattle.bucket_page.specs.declared.page.PageKind.TheVariants as kinds
 use Rattle.file_pages.specs.declared.fault.FileFault.{FileFault}
@@ -126,6 +128,28 @@ copied_of (Ok found) bytes p key old new was it said =
     let is = was ∙ page_is (kinds.Bucket (bucket_in bytes)) bytes it in
     subst (λ (q : PageKind). IsCopied found (lookup key (bucket_of q).records) old new) (sym is) said
 copied_of (Err fault) bytes p key old new was it said = tt
+
+-- what a slot says is the entry
+pub same_slot : (r : Result ℕ FileFault) {there slot : ℕ} {page was : List ℕ} {here : ℕ}
+    → IfOk r (λ bucket. bucket ≡ slot_at slot page)
+    → slot ≡ there → page ≡ was → slot_at there was ≡ here → IfOk r (λ bucket. bucket ≡ here)
+same_slot (Ok bucket) it slot page here = it ∙ (λ j. slot_at (slot j) (page j)) ∙ here
+same_slot (Err fault) it slot page here = tt
+
+-- the value that a bucket lends is the page's
+pub lent_of : {B : Type 0} (now : B → List ℕ) (r : Option B) (bytes : List ℕ) (b : Bucket) (p : PageKind)
+    (key : RecordKey) → p ≡ page_in bytes → IsBucketPage bytes → b ≡ bucket_in bytes
+    → IfSome r (λ (value : B). lookup key b.records ≡ Some (now value))
+    → IfSome r (λ (value : B). lookup key (bucket_of p).records ≡ Some (now value))
+lent_of now None bytes b p key was it is lent = tt
+lent_of now (Some value) bytes b p key was it is lent =
+    ap (λ (q : PageKind). lookup key (bucket_of q).records) (was ∙ page_is (kinds.Bucket (bucket_in bytes)) bytes it)
+    ∙ ap (λ (c : Bucket). lookup key c.records) (sym is) ∙ lent
+
+-- what is told is told also where no fault is
+pub if_told : {X : Type 0} (r : Result X FileFault) (P : X → Type 0) → IfOk r P → IfSome (result_ok r) P
+if_told (Ok x) P is = is
+if_told (Err fault) P is = tt
 
 -- ---- one step behind another
 

@@ -11,6 +11,7 @@ mod header;
 mod pinning;
 mod read;
 mod records;
+mod resident;
 mod sight;
 
 pub use bucket::{write_free, write_left, write_new, write_old, write_tombstone};
@@ -24,4 +25,5 @@ pub use header::{
 pub use page_device;
 pub use read::{copy_value, look, read_bucket, read_depth, read_entry};
 pub use records::{put_record, remove_record, replace_front};
+pub use resident::{peek, peek_depth, peek_entry, peek_value};
 pub use sight::{BucketSight, Sight};

@@ -131,6 +131,15 @@ impl LockTable {
         }
     }
 
+    /// Whether `try_grant` would be blocked. Nothing changes.
+    pub fn is_opposed(&self, seat: u8, name: LockName, kind: LockKind) -> bool
+        requires seat { IsSeat self.now seat }
+        ensures { IsTrue result ↔ IsOpposed self.now seat name kind }
+    {
+        let spot = self.slots.spot(name);
+        spot.holders.opponent(seat, kind).is_some()
+    }
+
     /// How many slots the last `try_grant` or `attempt` looked at, from the name's home to where it
     /// stood or was put, both counted; 0 before the first.
     pub fn looked(&self) -> usize

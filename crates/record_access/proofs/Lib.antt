@@ -12,4 +12,5 @@ pub mod BucketLemmas
 pub mod TakeLemmas
 pub mod TakingLemmas
 pub mod OperationLemmas
+pub mod AheadLemmas
 pub use Rattle.record_operation.proofs.of_step_rules

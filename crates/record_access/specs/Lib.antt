@@ -2,6 +2,7 @@ pub mod Words
 pub mod Purposes
 pub mod Accesses
 pub mod AccessSteps
+pub mod AccessRuns
 pub mod Beginnings
 pub mod Readings
 pub mod Lending

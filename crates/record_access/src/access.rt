@@ -10,6 +10,8 @@ ghost use Rattle.record_access.specs.Accesses.{Allows, HasFound, Serves, access_
 ghost use Rattle.record_access.specs.AccessSteps.{Faces, KeepsAccess, MakesAccess, TellsOf};
 ghost use Rattle.record_access.specs.Readings.{IsReplace, Takes};
 
+mod ahead;
+
 use crate::fitting::links_fit;
 use crate::reading::{read_front, read_value};
 use bucket_page::{PseudoKey, RecordKey};

@@ -12,4 +12,5 @@ pub mod CallerLemmas
 pub mod StepLemmas
 pub mod PartLemmas
 pub mod AimLemmas
+pub mod AheadLemmas
 pub use Rattle.bucket_merge.proofs as of_bucket_merge

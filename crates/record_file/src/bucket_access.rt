@@ -3,11 +3,14 @@
 //! What is done at the page that answers promises what `step` does there: so `step` is a match on
 //! the stages, and each deed is proved by itself.
 
-ghost use Rattle.std.specs.Prelude.{◌≡◌, ◌-◌, ℕ, List, IsSome, Some, None, true};
+ghost use Rattle.std.specs.Prelude.{◌≡◌, ◌-◌, ℕ, List, IfSome, IsSome, Some, None, true};
 ghost use Rattle.page_locks.specs.declared.lock.LockName.{LockName};
+ghost use Rattle.bucket_merge.specs.stale_search.SearchRuns.{HasNoLock, at};
 ghost use Rattle.bucket_merge.specs.stale_search.Searches.{IsShared};
+ghost use Rattle.step_rules.specs.Runs.{MovesAlong};
 ghost use Rattle.record_file.specs.Words.{IsSeat, row_of, IsReady, EndsRow, Moved, Release, Selective, without_lock};
 ghost use Rattle.record_file.specs.BucketAccesses.{SuitsKind, begun_access, bucket_locks, ended_in, found_of, has_ended, has_room, is_due, kind_for};
+ghost use Rattle.record_file.specs.BucketRuns.{BucketStep, bucket_found, bucket_stops};
 ghost use Rattle.record_file.specs.BucketSteps.{MakesBucket};
 
 use bucket_merge::buffer_pool::Pool;
@@ -133,6 +136,37 @@ impl BucketAccess {
             BucketStage::Written(page, due) => self.give_back(locks, seat, page, due),
             BucketStage::Ended(_) => Progress::Ended,
         }
+    }
+
+    /// Where a find arrives that has not begun and goes straight to the page that the directory
+    /// names, to give it back at once. Nothing is done.
+    pub fn ahead<D: PageDevice>(
+        &self,
+        pool: &mut Pool<D>,
+        locks: &LockTable,
+        seat: u8,
+    ) -> Option<(u32, Option<usize>)>
+        requires seat { IsSeat locks.now seat }
+        requires ready { IsReady pool.old }
+        requires row { EndsRow (bucket_locks self.now) 2 (row_of locks.now seat) }
+        ensures pool { pool.new ≡ pool.old }
+        ensures bare { IsSome result → HasNoLock (bucket_locks self.now) }
+        ensures moves { IfSome result (λ there. MovesAlong (BucketStep Deed.Find seat)
+            (at self.now pool.old locks.now)
+            (bucket_stops seat there.0 there.1 (at self.now pool.old locks.now))) }
+    {
+        match self.stage {
+            BucketStage::Searching => self.search.ahead(pool, locks, seat),
+            _ => None,
+        }
+    }
+
+    /// A page has answered a find, and was given back.
+    pub fn arrive(&mut self, page: u32, found: Option<usize>)
+        ensures { self.new ≡ bucket_found page found self.old }
+    {
+        self.search.arrive(page, found);
+        self.stage = BucketStage::Ended(false);
     }
 
     /// The record is written on the page that answered, or that page is given back.

@@ -1,6 +1,7 @@
 pub mod Words
 pub mod Operations
 pub mod OperationSteps
+pub mod OperationRuns
 pub mod Callers
 pub mod Lengths
 pub use Rattle.record_insert.specs as record_insert

@@ -1,10 +1,13 @@
 //! The operation.
 
-ghost use Rattle.std.specs.Prelude.{◌≡◌, ◌↔◌, ℕ, List, true, false, length};
+ghost use Rattle.std.specs.Prelude.{◌≡◌, ◌↔◌, ℕ, List, true, false, length, IfSome, IsSome};
+ghost use Rattle.record_insert.specs.stale_search.SearchRuns.{HasNoLock, at};
 ghost use Rattle.record_insert.specs.stale_search.Steps.{FollowsRow};
+ghost use Rattle.record_insert.specs.step_rules.Runs.{MovesAlong};
 ghost use Rattle.record_insert.specs.SecondSteps.{NearsOrSpares};
 ghost use Rattle.record_operation.specs.Words.{RecordKey, Lock, Change, IsReady, IsSeat, row_of, store_of, is_fault, EndsRow, HasNoFileLock, Sees, Step, world};
 ghost use Rattle.record_operation.specs.Operations.{FoundAtEnd, HasEnded, IsKeyed, MayBeLent, OwnsWritten, SuitsFile, TriedAtEnd, begun_delete, begun_find, begun_insert, begun_replace, operation_facts, operation_found, operation_left, operation_locks, operation_tried, operation_turn};
+ghost use Rattle.record_operation.specs.OperationRuns.{IsFind, OperationStep, operation_done, operation_stops};
 ghost use Rattle.record_operation.specs.OperationSteps.{KeepsOperation, LeavesPages, MakesOperation, TellsOf};
 
 use bucket_page::{PseudoKey, RecordKey};
@@ -141,6 +144,39 @@ impl RecordOperation {
             (world pool.old.images locks.old change) (world pool.new.images locks.new change) }
     {
         self.make(pool, locks, keys, seat, bytes)
+    }
+
+    /// Where a find arrives that has not begun and goes straight to the page that the directory
+    /// names, to give it back at once. Nothing is done. Others tell none.
+    pub fn ahead<D: PageDevice>(
+        &self,
+        pool: &mut Pool<D>,
+        locks: &LockTable,
+        seat: u8,
+    ) -> Option<(u32, Option<usize>)>
+        requires seat { IsSeat locks.now seat }
+        requires ready { IsReady pool.old }
+        requires row { EndsRow (operation_locks self.now) 3 (row_of locks.now seat) }
+        ensures pool { pool.new ≡ pool.old }
+        ensures find { IsSome result → IsFind self.now }
+        ensures bare { IsSome result → HasNoLock (operation_locks self.now) }
+        ensures moves { IfSome result (λ there. MovesAlong (OperationStep seat)
+            (at self.now pool.old locks.now)
+            (operation_stops seat there.0 there.1 (at self.now pool.old locks.now))) }
+    {
+        match self {
+            RecordOperation::Find(find) => find.ahead(pool, locks, seat),
+            _ => None,
+        }
+    }
+
+    /// A page has answered a find, and was given back.
+    pub fn arrive(&mut self, page: u32, found: Option<usize>)
+        ensures { self.new ≡ operation_done page found self.old }
+    {
+        if let RecordOperation::Find(find) = self {
+            find.arrive(page, found);
+        }
     }
 
     /// One step, by the operation.

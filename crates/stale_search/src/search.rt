@@ -3,20 +3,22 @@
 //! What is done at a page promises what `step` does, at the place of that page: so `step` is a
 //! match on the places, and each of them is proved by itself.
 
-ghost use Rattle.std.specs.Prelude.{◌≡◌, not};
+ghost use Rattle.std.specs.Prelude.{◌≡◌, not, IfSome, IsSome};
 ghost use Rattle.page_locks.specs.Table.{IsSeat, row_of};
 ghost use Rattle.file_pages.specs.Files.{IsReady};
 ghost use Rattle.file_pages.specs.Reads.{OnlyReads};
+ghost use Rattle.step_rules.specs.Runs.{MovesAlong};
 ghost use Rattle.step_rules.specs.Turns.{is_fault};
 ghost use Rattle.stale_search.specs.Steps.{Advances, FollowsRow, MakesStep};
 ghost use Rattle.stale_search.specs.Searches.{GivesAnswer, HasRow, IsShared, KeepsAim};
+ghost use Rattle.stale_search.specs.SearchRuns.{HasNoLock, SearchStep, at, search_at, search_stops};
 ghost use Rattle.stale_search.specs.Searches.{search_facts, search_locks, search_turn, left_in};
 
 use crate::place::SearchPlace;
 use file_pages::bucket_page::RecordKey;
 use file_pages::buffer_pool::Pool;
 use file_pages::page_device::PageDevice;
-use file_pages::{FileFault, Sight, look, read_depth, read_entry};
+use file_pages::{FileFault, Sight, look, peek, peek_depth, peek_entry, read_depth, read_entry};
 use page_locks::{Grant, LockKind, LockName, LockTable};
 use positions::index;
 use std::marker::Model;
@@ -152,6 +154,48 @@ impl Search {
             SearchPlace::Hop(page) => self.hop_from(pool, locks, seat, page),
             SearchPlace::Found(_, _) => Progress::Ended,
         }
+    }
+
+    /// Where a search arrives that has not begun and goes straight to the page that the directory
+    /// names: the pages are in frames, that one has the pseudokey, and nobody stands in its way. It
+    /// tells that page and, of the key, the length of the value there. Nothing is done.
+    pub fn ahead<D: PageDevice>(
+        &self,
+        pool: &mut Pool<D>,
+        locks: &LockTable,
+        seat: u8,
+    ) -> Option<(u32, Option<usize>)>
+        requires seat { IsSeat locks.now seat }
+        requires ready { IsReady pool.old }
+        requires row { HasRow self.now (row_of locks.now seat) }
+        ensures pool { pool.new ≡ pool.old }
+        ensures bare { IsSome result → HasNoLock (search_locks self.now) }
+        ensures moves { IfSome result (λ there. MovesAlong (SearchStep seat)
+            (at self.now pool.old locks.now)
+            (search_stops seat there.0 there.1 (at self.now pool.old locks.now))) }
+    {
+        let SearchPlace::GrantDirectory = self.place else {
+            return None;
+        };
+        if locks.is_opposed(seat, LockName::Directory, LockKind::Read) {
+            return None;
+        }
+        let depth = peek_depth(pool)?;
+        let page = peek_entry(pool, index(self.pseudokey, depth))?;
+        if locks.is_opposed(seat, LockName::Page(page), self.kind) {
+            return None;
+        }
+        match peek(pool, page, self.pseudokey, &self.key)? {
+            Sight::Covering(found) => Some((page, found)),
+            Sight::Naming(_) => None,
+        }
+    }
+
+    /// Is at the page that answers.
+    pub fn arrive(&mut self, page: u32, found: Option<usize>)
+        ensures { self.new ≡ search_at (SearchPlace.Found page found) self.old }
+    {
+        self.place = SearchPlace::Found(page, found);
     }
 
     /// The page is read: it answers, or it is to be left.

@@ -24,3 +24,4 @@ pub mod WalkingLemmas
 pub mod AnswerLemmas
 pub mod RoomLemmas
 pub mod FallLemmas
+pub mod RunLemmas

@@ -20,4 +20,5 @@ pub mod Walking
 pub mod Answering
 pub mod Rooms
 pub mod Falls
+pub mod Runs
 pub use Rattle.queue_records.specs as queue_records

@@ -1,11 +1,9 @@
 -- The image of the entry's page says the entry.
-use Rattle.std.proofs.Common.{◌≡◌, List, ℕ, Result, Ok, Err, IfOk, arith, refl, ap, subst, ◌∙◌, sym}
+use Rattle.std.proofs.Common.{arith, refl, ap, subst, ◌∙◌, sym}
 use Rattle.buffer_pool.proofs.TransferLemmas.{not_ok}
-use Rattle.directory.specs.Entries.{slot_at}
 use Rattle.directory.specs.Pages.{IsDirectoryPage}
-use Rattle.file_pages.specs.declared.fault.FileFault.{FileFault}
 use Rattle.file_pages.specs.Files.{image}
-use Rattle.file_pages.proofs.ReadLemmas.{handed_on, image_was, never_fails, only_reads}
+use Rattle.file_pages.proofs.ReadLemmas.{handed_on, image_was, never_fails, only_reads, same_slot}
 use Rattle.file_pages.proofs.StoreLemmas.{entry_is}
 use Rattle.file_pages.proofs.read.read_entry.Goals as goal
 
@@ -24,12 +22,6 @@ pub returns-clause-reads : goal.returns-clause-reads
 returns-clause-reads g c =
     only_reads _ c.args.pool.now c.pin.new.pool c.unpin.new.self _ c.in_ok-frame.frame c.requires.ready
     c.in_ok-frame.ensures.ok c.unpin.ensures
-
-same_slot : (r : Result ℕ FileFault) {there slot : ℕ} {page was : List ℕ} {here : ℕ}
-    → IfOk r (λ bucket. bucket ≡ slot_at slot page)
-    → slot ≡ there → page ≡ was → slot_at there was ≡ here → IfOk r (λ bucket. bucket ≡ here)
-same_slot (Ok bucket) it slot page here = it ∙ (λ j. slot_at (slot j) (page j)) ∙ here
-same_slot (Err fault) it slot page here = tt
 
 pub returns-clause-ok : goal.returns-clause-ok
 returns-clause-ok g c = λ honest.

@@ -1,0 +1,70 @@
+//! Reads of pages that are in frames. Nothing is pinned, and nothing can fail: what is not there, or
+//! is not what it should be, is none.
+
+ghost use Rattle.std.specs.Prelude.{◌≡◌, ◌<◌, ◌≤◌, ◌^◌, IfSome, Some};
+ghost use Rattle.bucket_page.specs.Records.{lookup};
+ghost use Rattle.directory.specs.declared.layout.TheConstants.{GREATEST_DEPTH};
+ghost use Rattle.hash_file.specs.Store.{entry_at, page_at, records_at};
+ghost use Rattle.file_pages.specs.Files.{store_of};
+ghost use Rattle.file_pages.specs.Reads.{IsSight};
+
+use crate::read::{depth_of, entry_of};
+use crate::sight::{Sight, see};
+use bucket_page::RecordKey;
+use buffer_pool::Pool;
+use directory::{ROOT_PAGE, page_of, slot_of};
+use page_device::PageDevice;
+
+/// The depth of the directory, where the header is in a frame.
+pub fn peek_depth<D: PageDevice>(pool: &mut Pool<D>) -> Option<u8>
+    ensures same { pool.new ≡ pool.old }
+    ensures small { IfSome result (λ depth. depth ≤ GREATEST_DEPTH) }
+    ensures ok { IfSome result (λ depth. depth ≡ (store_of pool.old.images).header.depth) }
+{
+    pool.touch(0);
+    depth_of(pool.resident(0)?).ok()
+}
+
+/// The page that an entry names, where the entry's page is in a frame.
+pub fn peek_entry<D: PageDevice>(pool: &mut Pool<D>, index: u32) -> Option<u32>
+    requires within { index < 2 ^ GREATEST_DEPTH }
+    ensures same { pool.new ≡ pool.old }
+    ensures ok { IfSome result (λ page. page ≡ entry_at (store_of pool.old.images) index) }
+{
+    let page = page_of(index);
+    pool.touch(page);
+    entry_of(pool.resident(page)?, slot_of(index)).ok()
+}
+
+/// What `look` sees of a page, where it is in a frame.
+pub fn peek<D: PageDevice>(
+    pool: &mut Pool<D>,
+    page: u32,
+    pseudokey: u32,
+    key: &RecordKey,
+) -> Option<Sight>
+    ensures same { pool.new ≡ pool.old }
+    ensures ok { IfSome result (λ sight.
+        IsSight sight (page_at (store_of pool.old.images) page) pseudokey key.now) }
+{
+    if page < ROOT_PAGE {
+        return None;
+    }
+    pool.touch(page);
+    see(pool.resident(page)?, pseudokey, key).ok()
+}
+
+/// The value of a key in the bucket on a page, where that is in a frame.
+pub fn peek_value<'a, D: PageDevice>(
+    pool: &'a Pool<D>,
+    page: u32,
+    key: &RecordKey,
+) -> Option<&'a [u8]>
+    ensures ok { IfSome result (λ value.
+        lookup key.now (records_at (store_of pool.now.images) page) ≡ Some value.now) }
+{
+    if page < ROOT_PAGE {
+        return None;
+    }
+    pool.resident(page)?.bucket()?.find(key)
+}

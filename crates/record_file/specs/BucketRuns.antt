@@ -1,0 +1,31 @@
+-- A find within one bucket that is made in one go: its states on the way. docs/STEPS.md, "Search".
+use Rattle.std.specs.Prelude.{ℕ, false, List, [], ◌∷◌, ◌++◌, Option}
+use Rattle.bucket_merge.specs.file_pages.declared.fault.FileFault.{FileFault}
+use Rattle.bucket_merge.specs.stale_search.SearchRuns.{At, at, standing, search_at, way_to}
+use Rattle.bucket_merge.specs.stale_search.declared.place.SearchPlace.{SearchPlace}
+use Rattle.bucket_merge.specs.stale_search.declared.place.SearchPlace.TheVariants.{Found}
+use Rattle.step_rules.specs.Runs.{Stop, stop, stops_in}
+use Rattle.record_file.specs.Words.{Progress, Release, store_of}
+use Rattle.record_file.specs.BucketAccesses.{BucketView, bucket_locks}
+use Rattle.record_file.specs.BucketSteps.{MakesBucket}
+use Rattle.record_file.specs.declared.bucket_access.BucketStage.TheVariants.{Ended as HasEnded}
+use Rattle.record_file.specs.declared.bucket_access.Deed.{Deed}
+
+-- a step of a deed, whatever bytes are lent to it
+abbrev pub BucketStep : Deed → ℕ → Progress FileFault → (old new : At BucketView) → Type 0
+BucketStep deed seat did old new = (bytes : List ℕ) →
+    MakesBucket deed seat bytes did old.machine new.machine old.pool new.pool old.locks new.locks
+
+abbrev pub bucket_at : SearchPlace → BucketView → BucketView
+bucket_at place b = record b { search = search_at place b.search }
+
+-- it has found, and given the page back
+abbrev pub bucket_found : ℕ → Option ℕ → BucketView → BucketView
+bucket_found page found b = record { search = search_at (Found page found) b.search; stage = HasEnded false }
+
+-- its states, from where it has not begun
+abbrev pub bucket_stops : ℕ → (page : ℕ) → Option ℕ → At BucketView → List (Stop (At BucketView))
+bucket_stops seat page found old =
+    stops_in (λ (place : SearchPlace). standing bucket_locks seat old.pool old.locks (bucket_at place old.machine))
+    (way_to (store_of old.pool.images).header.depth page found)
+    ++ stop Release (at (bucket_found page found old.machine) old.pool old.locks) ∷ []
