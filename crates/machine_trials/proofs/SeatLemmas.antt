@@ -1,5 +1,5 @@
 -- What seats hold once they have begun, stepped or given the lock of their record back.
-use Rattle.std.proofs.Common.{arith, ◌≡◌, ◌∙◌, refl, sym, ap, subst, ℕ, suc, ◌<◌, List, [], ◌∷◌, Option, Some, None, length, replicate, slice_get, slice_index_or, slice_set, ◌≤◌, false, inl, inr, get_or-set_other}
+use Rattle.std.proofs.Common.{arith, ◌≡◌, ◌∙◌, refl, sym, ap, subst, ℕ, suc, ◌<◌, List, [], ◌∷◌, Option, Some, None, length, replicate, slice_get, slice_index_or, slice_set, ◌≤◌, Bool, true, false, inl, inr, get_or-set_other}
 use Rattle.std.specs.Option.{is_some}
 use Rattle.std.proofs.lemmas.Bool.{cases_eq, true≢false}
 use Rattle.std.proofs.lemmas.Grind.{get_or-set_at}
@@ -12,8 +12,10 @@ use Rattle.page_locks.specs.declared.lock.LockKind.TheVariants.{Exclusive}
 use Rattle.page_locks.specs.declared.lock.LockName.{LockName}
 use Rattle.page_locks.specs.Locks.{without}
 use Rattle.page_locks.specs.Table.{Table, row_of, with_row, with_lock, without_lock}
-use Rattle.page_locks.proofs.ChangeLemmas.{length-with_row, with_row-twice}
+use Rattle.page_locks.proofs.ChangeLemmas.{length-with_row, with_row-own, with_row-twice}
 use Rattle.page_locks.proofs.TableLemmas.{row_of-empty, row_of-other, row_of-same}
+use Rattle.record_access.specs.AccessRuns.{FindsAtOnce}
+use Rattle.record_access.specs.Accesses.{AccessView, access_locks}
 use Rattle.machine_trials.specs.declared.task.Task.{Task}
 use Rattle.machine_trials.specs.declared.task.Value.{Value}
 use Rattle.machine_trials.specs.declared.task.TheConstants.{MAX_VALUE_BYTES}
@@ -64,6 +66,34 @@ Follows-released t stepped new seat row w v name made given = record {
       ∙ with_row-twice t seat row (without (row_of stepped seat) name);
   holds = tt;
 }
+
+-- a find that has made all its steps in one go has no lock, as before; one that has made none is what it was
+pub row_skipped : (made : Bool) (seat : ℕ) (old new : AccessView) (pool : PoolState) (t : Table) →
+    (made ≡ true → FindsAtOnce seat old new pool t) → (made ≡ false → new ≡ old) →
+    (before : List Lock) → access_locks new before ≡ access_locks old before
+row_skipped true seat old new pool t finds spares before =
+    let did = finds refl in
+    did.given before ∙ sym (did.bare before)
+row_skipped false seat old new pool t finds spares before =
+    ap (λ (a : AccessView). access_locks a before) (spares refl)
+
+-- a seat holds what its work says also where that makes its steps in one go
+pub holds_skipped : (w w' : Work) (v : Value) (guard : Option LockName) (row : List Lock) →
+    ((before : List Lock) → work_locks w' before ≡ work_locks w before) →
+    ((bytes : ℕ) → MayLend bytes w → MayLend bytes w') →
+    Holds (Some (record { work = w; value = v; guard = guard })) row →
+    Holds (Some (record { work = w'; value = v; guard = guard })) row
+holds_skipped w w' v None row same may holds = tt
+holds_skipped w w' v (Some name) row same may holds = record {
+  guard = holds.guard;
+  locks = holds.locks ∙ sym (same (guarded name));
+  few = holds.few;
+  lent = may v.bytes holds.lent;
+}
+
+-- a table in which nothing changed
+pub Follows-same : (t : Table) (seat : ℕ) (s : Option Task) → Holds s (row_of t seat) → Follows seat t s t
+Follows-same t seat s holds = record { row = row_of t seat; is = sym (with_row-own t seat); holds = holds }
 
 -- a seat that was read is idle
 pub idle_read : (seats : List (Option Task)) (place : ℕ) (s : Option Task) → place < length seats →

@@ -10,10 +10,11 @@ use Rattle.file_pages.specs.Files.{IsReady}
 use Rattle.stale_search.specs.Rows.{HasNoFileLock}
 use Rattle.stale_search.specs.Searches.{search_locks}
 use Rattle.record_operation.specs.Operations.{MayBeLent, operation_locks}
+use Rattle.record_access.specs.Accesses.{access_locks}
 use Rattle.machine_trials.specs.declared.task.Task.{Task}
 use Rattle.machine_trials.specs.declared.task.TheConstants.{MAX_VALUE_BYTES}
 use Rattle.machine_trials.specs.declared.work.Work.{Work}
-use Rattle.machine_trials.specs.declared.work.Work.TheVariants.{Operation, Search}
+use Rattle.machine_trials.specs.declared.work.Work.TheVariants.{Operation, Access, Search}
 
 -- of the directory and of pages
 abbrev pub MOST_LOCKS : ℕ
@@ -22,11 +23,13 @@ MOST_LOCKS = 3
 -- its locks, behind those that its seat had before
 abbrev pub work_locks : Work → List Lock → List Lock
 work_locks (Operation o) before = operation_locks o before
+work_locks (Access a) before = access_locks a before
 work_locks (Search s) before = search_locks s before
 
 -- as many bytes may be lent to it
 abbrev pub MayLend : ℕ → Work → Type 0
 MayLend bytes (Operation o) = MayBeLent bytes o
+MayLend bytes (Access a) = ⊤
 MayLend bytes (Search s) = ⊤
 
 -- it holds nothing yet, and a value of any length may be lent to it

@@ -18,8 +18,15 @@ pub const LONG: Value = Value {
     bytes: 1060,
 };
 
+/// The key of the one record of a new file.
+pub const COUNTER: RecordKey = RecordKey {
+    kind: 1,
+    queue: 0,
+    number: 0,
+};
+
 /// More steps than any operation makes.
-const MOST_STEPS: u32 = 4000;
+pub const MOST_STEPS: u32 = 4000;
 
 /// The key of a record of this number. Each is of a queue of its own.
 pub fn key(number: u32) -> RecordKey {
@@ -30,21 +37,21 @@ pub fn key(number: u32) -> RecordKey {
     }
 }
 
+/// A trial of a new file, with a frame for each page. No page is in a frame yet.
+pub fn new_file<K: PseudoKey + Drop>(alloc: Global, keys: K) -> Result<Trial<MemDevice, K>, Fail> {
+    let mut device = MemDevice::new(alloc);
+    format(&mut device, PAGES)?;
+    Ok(Trial::open(alloc, device, PAGES as usize, keys)?)
+}
+
 /// A trial of a file without records.
 pub fn empty_file<K: PseudoKey + Drop>(
     rt: &impl Abort,
     alloc: Global,
     keys: K,
 ) -> Result<Trial<MemDevice, K>, Fail> {
-    let mut device = MemDevice::new(alloc);
-    format(&mut device, PAGES)?;
-    let mut trial = Trial::open(alloc, device, PAGES as usize, keys)?;
-    let counter = RecordKey {
-        kind: 1,
-        queue: 0,
-        number: 0,
-    };
-    let Some(seat) = trial.delete(counter) else {
+    let mut trial = new_file(alloc, keys)?;
+    let Some(seat) = trial.delete(COUNTER) else {
         panic!(rt; "no seat");
     };
     assert_eq!(rt; count(&mut trial, seat, Kind::WriteRecord), Some(1));

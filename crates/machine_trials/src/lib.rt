@@ -24,6 +24,8 @@ mod rows;
 #[cfg(test)]
 mod searches;
 #[cfg(test)]
+mod skips;
+#[cfg(test)]
 mod soundness;
 #[cfg(test)]
 mod splits;

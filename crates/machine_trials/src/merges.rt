@@ -35,7 +35,7 @@ const TWO_HALVES: [Row; 14] = [
 ];
 
 /// A trial of the file with these.
-fn two_halves(rt: &(impl Abort + AllocGlobal)) -> Result<Trial<MemDevice, NumberKey>, Fail> {
+pub fn two_halves(rt: &(impl Abort + AllocGlobal)) -> Result<Trial<MemDevice, NumberKey>, Fail> {
     let mut trial = empty_file(rt, rt.alloc(), NumberKey)?;
     show(rt, &mut trial, &TWO_HALVES);
     Ok(trial)

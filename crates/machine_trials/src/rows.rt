@@ -104,7 +104,7 @@ fn find<D: PageDevice + Drop, K: PseudoKey + Drop>(
 }
 
 /// Whether the next steps of a seat are of these kinds.
-fn makes<D: PageDevice + Drop, K: PseudoKey + Drop>(
+pub fn makes<D: PageDevice + Drop, K: PseudoKey + Drop>(
     trial: &mut Trial<D, K>,
     seat: u8,
     kinds: &[Kind],

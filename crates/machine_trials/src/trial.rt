@@ -11,6 +11,7 @@ use buffer_pool::{Pool, PoolFault};
 use file_pages::FileFault;
 use page_device::{PageDevice, Payload};
 use page_locks::{LockTable, MAX_SEATS};
+use queue_records::Record;
 use record_operation::{RecordOperation, Tried};
 use std::alloc::Global;
 use std::marker::Model;
@@ -117,6 +118,12 @@ impl<D: PageDevice + Drop, K: PseudoKey + Drop> Trial<D, K> {
         self.begin(&key, Work::Operation(operation), NO_VALUE)
     }
 
+    /// The seat that has begun an access that finds a record.
+    pub fn ask(&mut self, key: RecordKey) -> Option<u8> {
+        let access = Work::access(key, self.keys.of(&key));
+        self.begin(&key, access, NO_VALUE)
+    }
+
     /// The seat that has begun a search alone, which stays on the page that answers.
     pub fn search(&mut self, key: RecordKey) -> Option<u8> {
         let search = Work::search(key, self.keys.of(&key));
@@ -147,6 +154,20 @@ impl<D: PageDevice + Drop, K: PseudoKey + Drop> Trial<D, K> {
         }
         let task = self.seats[seat as usize - 1].as_mut()?;
         Some(task.step(&mut self.pool, &mut self.locks, &self.keys, seat))
+    }
+
+    /// Whether the access of a seat has made all its steps in one go; else it has made none.
+    pub fn skip(&mut self, seat: u8) -> Option<bool> {
+        if seat == 0 || seat > self.locks.seats() {
+            return None;
+        }
+        let task = self.seats[seat as usize - 1].as_mut()?;
+        Some(task.skip(&mut self.pool, &self.locks, seat))
+    }
+
+    /// What the access of a seat has found at its key, once a page answered.
+    pub fn told(&self, seat: u8) -> Option<Option<Record<'_>>> {
+        self.work(seat)?.told()
     }
 
     /// What the insert of a seat came to.

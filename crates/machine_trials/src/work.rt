@@ -1,6 +1,7 @@
-//! What a seat is at: an operation on a record, or a search alone.
+//! What a seat is at: an operation on a record, an access that finds a record of queues, or a search
+//! alone.
 
-ghost use Rattle.std.specs.Prelude.{◌≡◌, List, length};
+ghost use Rattle.std.specs.Prelude.{◌≡◌, ℕ, List, length};
 ghost use Rattle.page_locks.specs.declared.lock.Lock.{Lock};
 ghost use Rattle.page_locks.specs.Table.{IsSeat, row_of, with_row};
 ghost use Rattle.file_pages.specs.Files.{IsReady};
@@ -12,14 +13,17 @@ use buffer_pool::Pool;
 use file_pages::FileFault;
 use page_device::PageDevice;
 use page_locks::{LockKind, LockTable};
+use queue_records::Record;
+use record_access::Access;
 use record_operation::{RecordOperation, Tried};
 use stale_search::{Search, SearchPlace};
 use step_rules::Progress;
 
-/// An operation on a record, or a search that stays on the page that answers.
+/// An operation on a record, an access, or a search that stays on the page that answers.
 #[derive(Drop)]
 pub enum Work {
     Operation(RecordOperation),
+    Access(Access),
     Search(Search),
 }
 
@@ -31,7 +35,14 @@ impl Work {
         Work::Search(Search::new(key, pseudokey, LockKind::Read))
     }
 
-    /// One step. A value is lent to it; of a search nothing is read of that.
+    /// An access that finds the record of a key of this pseudokey.
+    pub fn access(key: RecordKey, pseudokey: u32) -> Work
+        ensures { IsBegun result }
+    {
+        Work::Access(Access::find(key, pseudokey))
+    }
+
+    /// One step. A value is lent to it; of an access and of a search nothing is read of that.
     pub fn step<D: PageDevice, K: PseudoKey>(
         &mut self,
         pool: &mut Pool<D>,
@@ -52,7 +63,32 @@ impl Work {
     {
         match self {
             Work::Operation(operation) => operation.step(pool, locks, keys, seat, value),
+            Work::Access(access) => access.step(pool, locks, keys, seat),
             Work::Search(search) => search.step(pool, locks, seat),
+        }
+    }
+
+    /// All steps of an access, in one go, where it can make them so. Others make none so.
+    pub fn skip<D: PageDevice>(&mut self, pool: &mut Pool<D>, locks: &LockTable, seat: u8) -> bool
+        requires seat { IsSeat locks.now seat }
+        requires ready { IsReady pool.old }
+        requires row { EndsRow (work_locks self.old) MOST_LOCKS (row_of locks.now seat) }
+        ensures pool { pool.new ≡ pool.old }
+        ensures lent { (bytes : ℕ) → MayLend bytes self.old → MayLend bytes self.new }
+        ensures row { (before : List Lock) →
+            work_locks self.new before ≡ work_locks self.old before }
+    {
+        match self {
+            Work::Access(access) => access.skip(pool, locks, seat),
+            _ => false,
+        }
+    }
+
+    /// What an access has found at its key, once a page answered.
+    pub fn told(&self) -> Option<Option<Record<'_>>> {
+        match self {
+            Work::Access(access) => access.found(),
+            _ => None,
         }
     }
 
@@ -60,14 +96,15 @@ impl Work {
     pub fn tried(&self) -> Option<Tried> {
         match self {
             Work::Operation(operation) => operation.tried(),
-            Work::Search(_) => None,
+            _ => None,
         }
     }
 
-    /// The page that answered, and the length of the value there. An insert tells none.
+    /// The page that answered, and the length of the value there. An insert and an access tell none.
     pub fn found(&self) -> Option<(u32, Option<usize>)> {
         match self {
             Work::Operation(operation) => operation.found(),
+            Work::Access(_) => None,
             Work::Search(search) => match search.place() {
                 SearchPlace::Found(page, bytes) => Some((page, bytes)),
                 _ => None,
@@ -78,8 +115,8 @@ impl Work {
     /// The hops of a search alone.
     pub fn hops(&self) -> Option<u32> {
         match self {
-            Work::Operation(_) => None,
             Work::Search(search) => Some(search.hops()),
+            _ => None,
         }
     }
 }

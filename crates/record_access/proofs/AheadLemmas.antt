@@ -6,7 +6,7 @@ use Rattle.file_pages.specs.Reads.{OnlyReads}
 use Rattle.page_locks.proofs.ChangeLemmas.{IsSeat-with_row}
 use Rattle.page_locks.proofs.TableLemmas.{row_of-same}
 use Rattle.page_locks.specs.declared.row.TheConstants.{MAX_LOCKS}
-use Rattle.record_operation.specs.OperationRuns.{IsFind, OperationStep, operation_stops}
+use Rattle.record_operation.specs.OperationRuns.{IsFind, OperationStep, operation_done, operation_stops}
 use Rattle.record_operation.specs.declared.operation.RecordOperation.TheVariants as operations
 use Rattle.record_operation.specs.record_file.BucketAccesses.{BucketView}
 use Rattle.record_operation.specs.record_file.BucketRuns.{bucket_at}
@@ -211,9 +211,17 @@ module _ (seat : ℕ) (pool : PoolState) (ready : IsReady pool) (locks : Table) 
     page = page;
     found = found;
     is = is;
+    bare = none;
+    given = subst (λ (a : AccessView). HasNoLock (access_locks a)) (sym is) (free old.operation find);
     moves = λ hash. by hash old.operation find none ahead moves;
   }
     where
+      free : (o : RecordOperation) → IsFind o → HasNoLock (operation_locks (operation_done page found o))
+      free (operations.Find f) find = λ before. refl
+      free (operations.Insert i) find = absurd find
+      free (operations.Replace r) find = absurd find
+      free (operations.Delete d) find = absurd find
+
       by : (hash : RecordKey → ℕ) (o : RecordOperation) → IsFind o → HasNoLock (operation_locks o) →
           AreRead found page (operation_key o) pool old.bytes new.bytes →
           MovesAlong (OperationStep seat) (at o pool locks) (operation_stops seat page found (at o pool locks)) →

@@ -2,7 +2,7 @@
 use Rattle.std.specs.Prelude.{ℕ, ◌≡◌, List, [], ◌∷◌, ◌++◌, length, Option, Some, None}
 use Rattle.file_pages.specs.declared.fault.FileFault.{FileFault}
 use Rattle.record_operation.specs.OperationRuns.{operation_at, operation_done}
-use Rattle.record_operation.specs.stale_search.SearchRuns.{At, at, standing, way_up_to}
+use Rattle.record_operation.specs.stale_search.SearchRuns.{At, HasNoLock, at, standing, way_up_to}
 use Rattle.record_operation.specs.stale_search.declared.place.SearchPlace.{SearchPlace}
 use Rattle.record_operation.specs.stale_search.declared.place.SearchPlace.TheVariants.{Found}
 use Rattle.record_operation.specs.step_rules.Runs.{MovesAlong, Stop, stop, stops_in}
@@ -51,6 +51,9 @@ pub record FindsAtOnce (seat : ℕ) (old new : AccessView) (pool : PoolState) (l
   -- of its key, the length of the value there
   pub found : Option ℕ
   pub is : new ≡ access_done page found new.bytes old
+  -- it had no lock, and has none
+  pub bare : HasNoLock (access_locks old)
+  pub given : HasNoLock (access_locks new)
   pub moves : (hash : RecordKey → ℕ) →
       MovesAlong (AccessStep hash seat) (at old pool locks) (find_stops seat page found new.bytes (at old pool locks))
 

@@ -1,0 +1,26 @@
+-- The seat has begun, and holds behind its steps what its task says.
+use Rattle.std.proofs.Common.{rules, ◌≡◌, suc, sym, subst, ◌-◌, ◌<◌, length, Some, slice_get}
+use Rattle.file_pages.specs.Files.{IsReady}
+use Rattle.machine_trials.proofs.SeatLemmas.{Follows-same, Holds-at, IsTrial-set, task_read}
+use Rattle.machine_trials.proofs.trial.Trial.skip.Goals as goal
+
+pub skip-requires-clause-holds : goal.skip-requires-clause-holds
+skip-requires-clause-holds g c =
+    let its : c.args.seat ≡ suc (c.args.seat - 1) = search rules in
+    let within : c.args.seat - 1 < length c.self.inside.seats.items = search rules in
+    let task : c.index_mut.result.now ≡ Some c.in_ok-task.task.now = search rules in
+    let at : slice_get c.self.inside.seats.items (c.args.seat - 1) ≡ Some (Some c.in_ok-task.task.now) =
+    task_read c.self.inside.seats.items (c.args.seat - 1) c.index_mut.result.now c.in_ok-task.task.now within
+    c.index_mut.ensures.value task
+    in
+    Holds-at c.self.inside.pool c.self.inside.locks c.self.inside.seats.items c.self.invariant (c.args.seat - 1)
+    c.args.seat (Some c.in_ok-task.task.now) its at
+
+pub invariant_of-self-2 : goal.invariant_of-self-2
+invariant_of-self-2 g c =
+    let its : c.args.seat ≡ suc (c.args.seat - 1) = search rules in
+    let within : c.args.seat - 1 < length c.self.inside.seats.items = search rules in
+    IsTrial-set c.self.inside.pool c.self.inside.locks c.self.inside.seats.items c.self.invariant (c.args.seat - 1)
+    c.args.seat (Some c.skip.new.self) its c.skip.new.pool c.self.inside.locks
+    (subst IsReady (sym c.skip.ensures.pool) c.self.invariant.ready) within
+    (Follows-same c.self.inside.locks c.args.seat (Some c.skip.new.self) c.skip.ensures.holds)
