@@ -126,14 +126,14 @@ module _ (seat : ℕ) (pool : PoolState) (ready : IsReady pool) (locks : Table) 
           value_takes (operations.Find (bucket_at (places.Found page (Some len)) f)) links bytes bytes' written page len
           refl pool pool 0 (untouched pool ready) long (λ honest. holds)
 
-      looks : (found : Option ℕ) (t : Table) → AreRead found page f.search.key pool bytes bytes' →
+      looks : (found : Option ℕ) (t t' : Table) → AreRead found page f.search.key pool bytes bytes' →
           MakesOperation hash seat bytes (Moved Look) (b (places.Look page) bytes).operation
-          (b (places.Found page found) bytes).operation pool pool t t →
+          (b (places.Found page found) bytes).operation pool pool t t' →
           MakesAccess hash seat (Moved Look) (b (places.Look page) bytes) (b (places.Found page found) bytes') pool pool
-          t t
-      looks found t ahead op =
+          t t'
+      looks found t t' ahead op =
           took {X = ℕ} hash seat (Moved Look) (b (places.Look page) bytes) (b (places.Found page found) bytes).operation
-          pool pool pool t t op refl refl (b (places.Found page found) bytes') (Ok 0) (read_takes found ahead) refl refl
+          pool pool pool t t' op refl refl (b (places.Found page found) bytes') (Ok 0) (read_takes found ahead) refl refl
 
       finds_straight : (found : Option ℕ) → AreRead found page f.search.key pool bytes bytes' →
           MovesAlong (OperationStep seat) (at (operations.Find f) pool locks)
@@ -169,7 +169,7 @@ module _ (seat : ℕ) (pool : PoolState) (ready : IsReady pool) (locks : Table) 
                       (left hash bytes);
                 },
                 (
-                  record { may = may_at (b (places.Look page) bytes); makes = looks found _ ahead (looked hash bytes) },
+                  record { may = may_at (b (places.Look page) bytes); makes = looks found _ _ ahead (looked hash bytes) },
                   (
                     record {
                       may = may_at (b (places.Found page found) bytes');
