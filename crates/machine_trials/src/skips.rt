@@ -1,6 +1,6 @@
 //! Finds that make all their steps in one go, or none of them.
 
-use crate::files::{COUNTER, MOST_STEPS, count, key, new_file};
+use crate::files::{COUNTER, LONG, MOST_STEPS, count, key, new_file};
 use crate::merges::two_halves;
 use crate::rows::makes;
 use crate::trial::Trial;
@@ -19,6 +19,13 @@ const STEPS: [Kind; 7] = [Grant, ReadDepth, ReadEntry, Grant, Release, Look, Rel
 const NEW: Counter = Counter {
     next_id: 1,
     queues_alive: 0,
+};
+
+/// The key of a queue.
+const QUEUE: RecordKey = RecordKey {
+    kind: 3,
+    queue: 9,
+    number: 0,
 };
 
 /// Whether a find makes its steps in one go exactly where that is wanted, else one by one, and then
@@ -101,11 +108,15 @@ fn a_find_goes_step_by_step_where_a_lock_opposes(rt: HostRuntime) -> Result<(), 
     Ok(())
 }
 
-/// The value at the key is a long row of one byte, which no message has.
+/// The key of a queue stands before a value that is longer than that of any queue.
 #[test]
 fn a_value_that_is_no_record_is_left_to_steps(rt: HostRuntime) -> Result<(), Fail> {
-    let mut trial = two_halves(&rt)?;
-    let Some(seat) = trial.ask(key(5)) else {
+    let mut trial = new_file(rt.alloc(), NumberKey)?;
+    let Some(writing) = trial.insert(QUEUE, LONG) else {
+        panic!(rt; "no seat");
+    };
+    assert_eq!(rt; count(&mut trial, writing, Kind::WriteRecord), Some(1));
+    let Some(seat) = trial.ask(QUEUE) else {
         panic!(rt; "no seat");
     };
     assert_eq!(rt; trial.skip(seat), Some(false));
