@@ -115,7 +115,7 @@ stands_behind : (xs : List Lock) (x : Lock) → slice_get (xs ++ x ∷ []) (leng
 stands_behind [] x = refl
 stands_behind (y ∷ ys) x = stands_behind ys x
 
-last_there : (xs : List Lock) (x : Lock) → last_of (xs ++ x ∷ []) ≡ Some x
+pub last_there : (xs : List Lock) (x : Lock) → last_of (xs ++ x ∷ []) ≡ Some x
 last_there xs x =
     let more = length-append xs (x ∷ []) in
     let place : length (xs ++ x ∷ []) - 1 ≡ length xs = omega (arith, more) in

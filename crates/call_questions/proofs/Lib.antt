@@ -14,6 +14,8 @@ pub mod GoingLemmas
 pub mod ListenLemmas
 pub mod OpenLemmas
 pub mod FewLemmas
+pub mod QuestionRunLemmas
+pub mod AtOnceLemmas
 pub mod Names
 pub mod AimLemmas
 pub use Rattle.step_rules.proofs as of_step_rules

@@ -5,3 +5,4 @@ pub mod Counting
 pub mod Questions
 pub mod QuestionSteps
 pub mod Laws
+pub mod QuestionRuns

@@ -1,6 +1,6 @@
 //! What an inquiry is told of the record that was found.
 
-ghost use Rattle.std.specs.Prelude.{◌≡◌, Ok, Some};
+ghost use Rattle.std.specs.Prelude.{◌≡◌, Ok, OnErr, Some};
 ghost use Rattle.std.specs.Prelude.{nat_lt, ℕ};
 ghost use Rattle.queue_records.specs.declared.record.Record.TheVariants as records;
 ghost use Rattle.call_questions.specs.Words.{Counter};
@@ -12,16 +12,17 @@ use queue_records::Record;
 use xsi_inquiry::{Inquiry, NotASystem, Room, Wanted, counter_in, tell, tell_given};
 
 /// Tells an inquiry what was found at the key that it asked for, or by the Counter that was found
-/// whether the id was given out.
+/// whether the id was given out. After an error both stand where they stood.
 pub(crate) fn hear(
     inquiry: &mut AnyInquiry,
     room: &mut Room,
     call: &Call,
     found: Option<Record<'_>>,
 ) -> Result<(), NotASystem>
-    ensures { Hears call.now found.entry result
+    ensures hears { Hears call.now found.entry result
         (record { inquiry = inquiry.old; room = room.old })
         (record { inquiry = inquiry.new; room = room.new }) }
+    ensures err { OnErr result ((inquiry.new ≡ inquiry.old) × (room.new ≡ room.old)) }
 {
     match inquiry.wants(call) {
         Some(Wanted::At(_)) => tell(inquiry, call, found, room),

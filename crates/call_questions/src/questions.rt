@@ -10,6 +10,8 @@ ghost use Rattle.call_questions.specs.Counting.{finds_behind};
 ghost use Rattle.call_questions.specs.Questions.{IsBare, KnowsNear, changes, has_asked, is_done, is_ready, questions_facts, questions_left, questions_locks, questions_turn};
 ghost use Rattle.call_questions.specs.QuestionSteps.{Faces, KeepsQuestions, Learns, MakesQuestions, is_blocked};
 
+mod skipping;
+
 use crate::counting::finds_behind;
 use crate::question::{Question, goes_on, listen, read};
 use any_inquiry::AnyInquiry;

@@ -1,5 +1,5 @@
 -- A seat is driven.
-use Rattle.std.proofs.Common.{◌≡◌, refl, subst, inl, inr, ℕ, suc, ◌+◌, ◌<◌, true, None, arith}
+use Rattle.std.proofs.Common.{◌≡◌, refl, sym, ◌∙◌, subst, inl, inr, ℕ, zero, suc, ◌+◌, ◌<◌, true, None, arith}
 use Rattle.step_rules.specs.declared.kind.Kind.{Kind}
 use Rattle.interleaving_core.specs.Words.{IsSeat, RecordKey}
 use Rattle.interleaving_core.specs.Driving.{IsDriven, IsStep, Moves}
@@ -61,3 +61,25 @@ module _ {K : Type 0} (of : K → RecordKey → ℕ) (seat moves : ℕ) (old now
     moved = so_far.moved;
     ends = inr (record { most = most; told = refl; marked = marked });
   }
+
+-- so many moves after those
+pub moves_after : {K : Type 0} (of : K → RecordKey → ℕ) (seat moves : ℕ) (old now : KernelState K) →
+    HasMoved of seat moves old now → (n : ℕ) (new : KernelState K) → Moves (of now.keys) seat n now new →
+    HasMoved of seat (moves + n) old new
+moves_after {K} of seat moves old now so_far zero new is =
+    subst (λ (k : KernelState K). HasMoved of seat (moves + 0) old k) (sym is)
+    (subst (λ (n : ℕ). HasMoved of seat n old now) more so_far)
+  where
+    more : moves ≡ moves + 0
+    more = omega arith
+moves_after {K} of seat moves old now so_far (suc n) new m =
+    subst (λ (x : ℕ). HasMoved of seat x old new) more
+    (moves_on of seat (moves + n) old m.before before (steps.Moved m.kind) new
+    (subst (λ (keys : K). IsStep (of keys) seat (steps.Moved m.kind) m.before new)
+    (so_far.run.rest.keys ∙ sym before.run.rest.keys) m.step) m.kind refl)
+  where
+    before : HasMoved of seat (moves + n) old m.before
+    before = moves_after of seat moves old now so_far n m.before m.stands
+
+    more : moves + n + 1 ≡ moves + suc n
+    more = omega arith

@@ -7,6 +7,7 @@ pub mod SeatLemmas
 pub mod BetweenLemmas
 pub mod FailureLemmas
 pub mod KernelLemmas
+pub mod AtOnceLemmas
 pub mod SparedLemmas
 pub mod BeginLemmas
 pub mod RunLemmas

@@ -4,6 +4,7 @@ pub mod Fault
 pub mod Waiting
 pub mod Past
 pub mod Turn
+pub mod AtOnce
 pub mod Kernel
 pub mod Searches
 pub mod Owing

@@ -10,6 +10,8 @@ ghost use Rattle.interleaving_core.specs.Turn.{GoesAnew};
 ghost use Rattle.interleaving_core.specs.Waiting.{stays_waiting};
 ghost use Rattle.interleaving_core.specs.Words.{IsReady, IsSeat, row_of};
 
+mod skipping;
+
 use crate::fault::StepFault;
 use crate::step::Step;
 use crate::waiting::is_woken;

@@ -7,13 +7,13 @@ ghost use Rattle.search_counts.specs.Counting.{count_at};
 ghost use Rattle.interleaving_core.specs.Active.{ActiveView};
 ghost use Rattle.interleaving_core.specs.Beginning.{HasCall, HasSystem, IsOpened, IsRefused, IsStopped, MayRefuse};
 ghost use Rattle.interleaving_core.specs.Closing.{IfBusy, IsBusy, IsFlushedTo, IsReleased, OnDevice, fault_in, has_one, is_busy, journal_in};
-ghost use Rattle.interleaving_core.specs.Driving.{IsDriven};
 ghost use Rattle.interleaving_core.specs.Fault.{device_failed};
 ghost use Rattle.interleaving_core.specs.Kernel.{IsWhole, call_at, entries_of};
 ghost use Rattle.interleaving_core.specs.Owing.{IsMove, IsRun, IsTurn, answer_told, told_of_failure};
 ghost use Rattle.interleaving_core.specs.Turn.{TakesTurn};
 ghost use Rattle.interleaving_core.specs.Words.{IsSeat, caller_at};
 
+mod driving;
 mod renewing;
 
 use crate::closing::{Closed, NotClosed};
@@ -293,29 +293,6 @@ impl<D: PageDevice + Drop, K: PseudoKey + Drop> Kernel<D, K> {
             return Step::Moved(kind);
         }
         step
-    }
-
-    /// Steps a seat until its call does not move: it is answered, waits, is blocked, meets a fault,
-    /// or there is none. A call that still moves after `MOST_STEPS` fails the kernel.
-    pub fn drive(&mut self, seat: u8) -> Step
-        requires { IsSeat self.old.locks seat }
-        ensures run { IsRun seat (answer_told result) self.old self.new }
-        ensures rests { IsMove result → ⊥ }
-        // Each step of it is one of the seat, from where the one before it led.
-        ensures driven { IsDriven (K.of_key self.old.keys) seat result self.old self.new }
-    {
-        self.is_whole();
-        for _ in 0..MOST_STEPS {
-            match self.step(seat) {
-                Step::Moved(_) => {}
-                other => return other,
-            }
-        }
-        self.failure = Some(Failure {
-            seat,
-            fault: FileFault::Failed,
-        });
-        Step::Fault(StepFault::File(FileFault::Failed))
     }
 
     /// Stops the system: from here on a call that would wait is refused EINTR.

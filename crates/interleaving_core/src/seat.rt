@@ -1,7 +1,8 @@
 //! A seat, and a step of it over the parts of a kernel.
 
-ghost use Rattle.std.specs.Prelude.{◌≡◌, ◌↔◌, ◌+◌, ◌≤◌, IfErr, IfOk, IfSome, IsTrue, None, Some, length, option_map, vec_capacity};
+ghost use Rattle.std.specs.Prelude.{◌≡◌, ◌↔◌, ◌+◌, ◌≤◌, IfErr, IfOk, IfSome, IsTrue, None, Some, false, length, option_map, true, vec_capacity};
 ghost use Rattle.interleaving_core.specs.Active.{ActiveView, HasBegunAt};
+ghost use Rattle.interleaving_core.specs.AtOnce.{SeatAsks};
 ghost use Rattle.interleaving_core.specs.Closing.{has_one};
 ghost use Rattle.interleaving_core.specs.Kernel.{due_at, locks_of};
 ghost use Rattle.interleaving_core.specs.Renewing.{IsIdleOrWaits, IsNewWhileWaiting, MayGiveBack, outlasting};
@@ -165,6 +166,34 @@ impl Seat {
         self.is_busy = false;
         let active = self.last.take().unwrap();
         Some(active.into_call())
+    }
+
+    /// All steps of the next question of its call, in one go, while the journal has so many entries,
+    /// where that can be asked so (`Active::skip`). Else nothing is done, and it is left to
+    /// `advance`.
+    pub(crate) fn skip<D: PageDevice, K: PseudoKey>(
+        &mut self,
+        pool: &mut Pool<D>,
+        locks: &LockTable,
+        keys: &K,
+        many: usize,
+        seat: u8,
+    ) -> bool
+        requires seat { IsSeat locks.now seat }
+        requires ready { IsReady pool.old }
+        requires row { row_of locks.now seat ≡ locks_of self.old }
+        ensures pool { pool.new ≡ pool.old }
+        ensures made { result ≡ true →
+            SeatAsks (K.of_key keys.now) seat many self.old self.new pool.old locks.now }
+        ensures spares { result ≡ false → self.new ≡ self.old }
+    {
+        if !self.is_busy {
+            return false;
+        }
+        match &mut self.last {
+            Some(active) => active.skip(pool, locks, keys, many, seat),
+            None => false,
+        }
     }
 
     /// A step of its call, if it has one: none while that waits, and nothing has woken it. A call

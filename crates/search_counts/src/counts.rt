@@ -2,7 +2,7 @@
 
 ghost use Rattle.std.specs.Prelude.{◌≡◌, false, map, IfOk};
 ghost use Rattle.search_counts.specs.Counting.{changes_counts, count_at, count_beside, opened_counts, touches_others};
-ghost use Rattle.search_counts.specs.Counting.{IsCountedSeat, Notes};
+ghost use Rattle.search_counts.specs.Counting.{AreSoundCounts, IsCountedSeat, Notes};
 
 use crate::count::SearchCount;
 use crate::under_way::UnderWay;
@@ -53,6 +53,14 @@ impl SearchCounts {
         ensures { result ≡ count_at self.now.counts seat }
     {
         self.counts[seat as usize - 1]
+    }
+
+    /// No number of changes is past the greatest, and while a structure change is under way no count
+    /// is calm.
+    pub fn are_sound(&self)
+        ensures { AreSoundCounts self.now }
+    {
+        let _ = &self.under_way;
     }
 
     /// A seat has made a step of this kind, by which a search of its own begins, or goes on to

@@ -7,6 +7,7 @@ pub mod SweepLemmas
 pub mod BeginLemmas
 pub mod TryLemmas
 pub mod StepLemmas
+pub mod AtOnceLemmas
 pub mod DecideLemmas
 pub mod LawLemmas
 pub mod AimLemmas

@@ -10,6 +10,8 @@ ghost use Rattle.undecided_calls.specs.Knowing.{IsUndecided};
 ghost use Rattle.undecided_calls.specs.UndecidedSteps.{GoesOn, KeepsUndecided, MakesUndecided};
 ghost use Rattle.undecided_calls.specs.Deciding.{IsDecided};
 
+mod skipping;
+
 use crate::decided::Decided;
 use crate::trials::Trials;
 use any_inquiry::AnyInquiry;

@@ -7,6 +7,7 @@ pub mod DecideLemmas
 pub mod DecidedLemmas
 pub mod CounterLemmas
 pub mod GoLemmas
+pub mod AtOnceLemmas
 pub mod PhaseLemmas
 pub mod ReleaseLemmas
 pub mod PayLemmas

@@ -4,7 +4,7 @@ pub use Rattle.call_payments.specs.Payments.{IsPaid, begun_payment, owes_now, pa
 pub use Rattle.call_payments.specs.Paying.{IsPaying}
 pub use Rattle.call_payments.specs.PaySteps.{KeepsPayment, Pays}
 pub use Rattle.call_payments.specs.declared.payment.Stage.{Stage as PaymentStage}
-pub use Rattle.undecided_calls.specs.Words.{Agrees, AreNames, AreNamesOf, Blocked, IsBare, KnowsNear, MAX_NAMES, QuestionsView, Sees, TrialLacksRoom, Writes, caller_of, finds_behind, locked_of, nothing, with_row}
+pub use Rattle.undecided_calls.specs.Words.{Agrees, AreNames, AreNamesOf, AskStep, AsksAtOnce, At, Blocked, IsBare, Kind, KnowsNear, MAX_NAMES, MovesAlong, QuestionsView, Sees, TrialLacksRoom, Way, Writes, at, caller_of, finds_behind, locked_of, nothing, stops_on, with_row}
 pub use Rattle.undecided_calls.specs.Undecided.{CanDecide, IsCalm, IsFresh, has_no_room, its_plan, undecided_facts, undecided_left, trials_of, undecided_locks, undecided_owes, undecided_turn}
 pub use Rattle.undecided_calls.specs.Knowing.{IsUndecided}
 pub use Rattle.undecided_calls.specs.UndecidedSteps.{AsksOn, GoesOn, IsBehind, KeepsUndecided}

@@ -8,6 +8,8 @@ ghost use Rattle.xsi_calls.specs.Machine.{Begins, IsOver, answer_of_call, call_l
 ghost use Rattle.xsi_calls.specs.Calling.{IsCalling};
 ghost use Rattle.xsi_calls.specs.CallSteps.{Decides, KeepsCall, MakesCall, MakesRelease, StepsCall, is_end};
 
+mod skipping;
+
 use crate::conclusion::Conclusion;
 use crate::phase::Phase;
 use bucket_page::PseudoKey;

@@ -1,0 +1,43 @@
+-- The moves of a question are so many steps of its seat.
+use Rattle.std.proofs.Common.{◌∙◌, sym, subst, vec_capacity}
+use Rattle.std.specs.Option.{is_some}
+use Rattle.interleaving_core.specs.Kernel.{KernelState}
+use Rattle.interleaving_core.specs.Words.{IsSeat}
+use Rattle.interleaving_core.proofs.AtOnceLemmas.{asked_at_once}
+use Rattle.interleaving_core.proofs.KernelLemmas.{row_there}
+use Rattle.interleaving_core.proofs.kernel.Kernel.skip.Goals as goal
+
+pub skip-requires-clause-row : goal.skip-requires-clause-row
+skip-requires-clause-row g c =
+    let old : KernelState g.row.K.Denot = record {
+      keys = c.self.inside.keys;
+      pool = c.self.inside.pool;
+      locks = c.self.inside.locks;
+      callers = c.self.inside.callers.items;
+      seats = c.self.inside.seats.items;
+      journal = c.self.inside.journal.items;
+      room = vec_capacity c.self.inside.journal;
+      stopped = c.self.inside.stopped;
+      failed = is_some c.self.inside.failure;
+      failure = c.self.inside.failure;
+      searches = c.self.inside.searches;
+    } in
+    let is : IsSeat old.locks c.args.seat =
+    subst (λ (k : KernelState g.row.K.Denot). IsSeat k.locks c.args.seat) (sym c.self.view_is) c.requires in
+    row_there c.args.seat c.index_mut.result.now old c.self.invariant is c.index_mut.ensures.value
+
+pub invariant_of-self-2 : goal.invariant_of-self-2
+invariant_of-self-2 g c =
+    (asked_at_once g.K.PseudoKey.of_key c.args.seat c.index_mut.result.now c.skip.new.self _ c.args.self.now
+    c.skip.new.pool c.note.new.self c.self.view_is c.self.invariant c.requires c.index_mut.ensures.value
+    (sym c.is_some.ensures ∙ c.if-is_some.false) c.len-many.result c.len-many.ensures
+    (c.skip.ensures.made c.if-not-skip.false) c.skip.ensures.pool c.are_sound.ensures c.are_sound-2.ensures
+    c.note.ensures).whole
+
+pub returns-clause-made : goal.returns-clause-made
+returns-clause-made g c = λ made.
+    (asked_at_once g.K.PseudoKey.of_key c.args.seat c.index_mut.result.now c.skip.new.self _ c.args.self.now
+    c.skip.new.pool c.note.new.self c.self.view_is c.self.invariant c.requires c.index_mut.ensures.value
+    (sym c.is_some.ensures ∙ c.if-is_some.false) c.len-many.result c.len-many.ensures
+    (c.skip.ensures.made c.if-not-skip.false) c.skip.ensures.pool c.are_sound.ensures c.are_sound-2.ensures
+    c.note.ensures).moves

@@ -1,0 +1,71 @@
+//! A seat is stepped until its call does not move.
+
+ghost use Rattle.std.specs.Prelude.{◌≡◌, false, true};
+ghost use Rattle.interleaving_core.specs.Driving.{IsDriven, Moves};
+ghost use Rattle.interleaving_core.specs.Owing.{IsMove, IsRun, answer_told};
+ghost use Rattle.interleaving_core.specs.Words.{IsSeat};
+
+use crate::fault::{Failure, StepFault};
+use crate::kernel::{Kernel, MOST_STEPS};
+use crate::step::Step;
+use bucket_page::PseudoKey;
+use file_pages::FileFault;
+use page_device::PageDevice;
+use step_rules::Kind;
+
+/// The steps of a question that is asked in one go.
+const QUESTION_STEPS: u32 = 7;
+
+impl<D: PageDevice + Drop, K: PseudoKey + Drop> Kernel<D, K> {
+    /// Steps a seat until its call does not move: it is answered, waits, is blocked, meets a fault,
+    /// or there is none. A call that still moves after `MOST_STEPS` fails the kernel. The steps of a
+    /// question in whose way nothing stands are made in one go.
+    pub fn drive(&mut self, seat: u8) -> Step
+        requires { IsSeat self.old.locks seat }
+        ensures run { IsRun seat (answer_told result) self.old self.new }
+        ensures rests { IsMove result → ⊥ }
+        // Each step of it is one of the seat, from where the one before it led.
+        ensures driven { IsDriven (K.of_key self.old.keys) seat result self.old self.new }
+    {
+        self.is_whole();
+        let mut moves = 0;
+        while moves < MOST_STEPS {
+            if moves + QUESTION_STEPS <= MOST_STEPS && self.skip(seat) {
+                moves += QUESTION_STEPS;
+                continue;
+            }
+            match self.step(seat) {
+                Step::Moved(_) => moves += 1,
+                other => return other,
+            }
+        }
+        self.failure = Some(Failure {
+            seat,
+            fault: FileFault::Failed,
+        });
+        Step::Fault(StepFault::File(FileFault::Failed))
+    }
+
+    /// All steps of the next question of the seat's call, in one go, where that can be asked so
+    /// (`Seat::skip`). Else nothing is done, and it is left to `step`. Of these steps the second
+    /// alone, by which the depth is read, changes what is counted.
+    fn skip(&mut self, seat: u8) -> bool
+        requires { IsSeat self.old.locks seat }
+        ensures made { result ≡ true →
+            Moves (K.of_key self.old.keys) seat QUESTION_STEPS self.old self.new }
+        ensures spares { result ≡ false → self.new ≡ self.old }
+    {
+        if self.failure.is_some() {
+            return false;
+        }
+        let place = seat as usize - 1;
+        let many = self.journal.len();
+        if !self.seats[place].skip(&mut self.pool, &self.locks, &self.keys, many, seat) {
+            return false;
+        }
+        self.searches.are_sound();
+        self.searches.note(seat, Kind::ReadDepth, true, false);
+        self.searches.are_sound();
+        true
+    }
+}

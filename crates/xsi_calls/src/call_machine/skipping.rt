@@ -1,0 +1,39 @@
+//! A question of a call that is asked in one go.
+
+ghost use Rattle.std.specs.Prelude.{◌≡◌, Bool, false, true};
+ghost use Rattle.xsi_calls.specs.CallSteps.{MakesCall};
+ghost use Rattle.xsi_calls.specs.Machine.{call_locks, is_undecided};
+ghost use Rattle.xsi_calls.specs.Words.{AsksAtOnce, IsReady, IsSeat, row_of};
+
+use crate::call_machine::CallMachine;
+use bucket_page::PseudoKey;
+use buffer_pool::Pool;
+use page_device::PageDevice;
+use page_locks::LockTable;
+
+impl CallMachine {
+    /// All steps of the next question, in one go, where it has not decided and the question can be
+    /// asked so (`UndecidedCall::skip`). Else nothing is done, and it is left to `step`.
+    pub fn skip<D: PageDevice, K: PseudoKey>(
+        &mut self,
+        pool: &mut Pool<D>,
+        locks: &LockTable,
+        keys: &K,
+        seat: u8,
+    ) -> bool
+        requires seat { IsSeat locks.now seat }
+        requires ready { IsReady pool.old }
+        requires row { row_of locks.now seat ≡ call_locks self.old }
+        ensures pool { pool.new ≡ pool.old }
+        ensures made { result ≡ true → (stopped : Bool) → AsksAtOnce
+            (MakesCall (K.of_key keys.now) seat stopped) seat self.old self.new
+            pool.old locks.now }
+        ensures undecided { result ≡ true → is_undecided self.old.stage ≡ true }
+        ensures spares { result ≡ false → self.new ≡ self.old }
+    {
+        if !self.is_undecided() {
+            return false;
+        }
+        self.undecided.skip(pool, locks, keys, seat, &self.call)
+    }
+}
