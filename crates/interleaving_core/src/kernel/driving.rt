@@ -1,6 +1,6 @@
 //! A seat is stepped until its call does not move.
 
-ghost use Rattle.std.specs.Prelude.{◌≡◌, false, true};
+ghost use Rattle.std.specs.Prelude.{◌≡◌, ◌≤◌, false, true};
 ghost use Rattle.interleaving_core.specs.Driving.{IsDriven, Moves};
 ghost use Rattle.interleaving_core.specs.Owing.{IsMove, IsRun, answer_told};
 ghost use Rattle.interleaving_core.specs.Words.{IsSeat};
@@ -30,7 +30,7 @@ impl<D: PageDevice + Drop, K: PseudoKey + Drop> Kernel<D, K> {
         self.is_whole();
         let mut moves = 0;
         while moves < MOST_STEPS {
-            if moves + QUESTION_STEPS <= MOST_STEPS && self.skip(seat) {
+            if self.skip(seat, MOST_STEPS - moves) {
                 moves += QUESTION_STEPS;
                 continue;
             }
@@ -46,15 +46,19 @@ impl<D: PageDevice + Drop, K: PseudoKey + Drop> Kernel<D, K> {
         Step::Fault(StepFault::File(FileFault::Failed))
     }
 
-    /// All steps of the next question of the seat's call, in one go, where that can be asked so
-    /// (`Seat::skip`). Else nothing is done, and it is left to `step`. Of these steps the second
-    /// alone, by which the depth is read, changes what is counted.
-    fn skip(&mut self, seat: u8) -> bool
+    /// All steps of the next question of the seat's call, in one go, where so many steps may be made
+    /// and it can be asked so (`Seat::skip`). Else nothing is done, and it is left to `step`. Of these
+    /// steps the second alone, by which the depth is read, changes what is counted.
+    fn skip(&mut self, seat: u8, most: u32) -> bool
         requires { IsSeat self.old.locks seat }
         ensures made { result ≡ true →
             Moves (K.of_key self.old.keys) seat QUESTION_STEPS self.old self.new }
+        ensures few { result ≡ true → QUESTION_STEPS ≤ most }
         ensures spares { result ≡ false → self.new ≡ self.old }
     {
+        if most < QUESTION_STEPS {
+            return false;
+        }
         if self.failure.is_some() {
             return false;
         }

@@ -1,0 +1,80 @@
+-- Each step goes on from those before it, each of which moved; so do those of a question.
+use Rattle.std.proofs.Common.{◌≡◌, ◌<◌, ap, sym, subst, true, None, arith}
+use Rattle.interleaving_core.specs.Kernel.{KernelState}
+use Rattle.interleaving_core.specs.Owing.{failed, failure_by}
+use Rattle.interleaving_core.specs.Words.{IsSeat}
+use Rattle.interleaving_core.specs.declared.kernel.TheConstants.{MOST_STEPS}
+use Rattle.interleaving_core.specs.declared.kernel.driving.TheConstants.{QUESTION_STEPS}
+use Rattle.interleaving_core.proofs.DriveLemmas.{HasMoved, is_spent, moves_after, moves_on, none_made, rests_at}
+use Rattle.interleaving_core.proofs.RunLemmas.{no_move, runs_on}
+use Rattle.interleaving_core.proofs.kernel.Kernel.drive.Goals as goal
+
+pub loop-moves-init : goal.loop-moves-init
+loop-moves-init g c = record {
+  few = omega arith;
+  moved = none_made g.K.PseudoKey.of_key c.args.seat c.args.self.now c.is_whole.ensures c.requires;
+}
+
+pub skip-requires : goal.skip-requires
+skip-requires g c = c.loop-moves.invariant.moved.seated
+
+pub overflow_add-moves : goal.overflow_add-moves
+overflow_add-moves g c =
+    let few = c.loop-moves.invariant.few in
+    let room = c.skip.ensures.few c.if-skip.true in
+    omega (arith, few, room)
+
+pub loop-moves-preserved-then-skip : goal.loop-moves-preserved-then-skip
+loop-moves-preserved-then-skip g c =
+    let test = c.loop-moves-test.true in
+    let room = c.skip.ensures.few c.if-skip.true in
+    record {
+      few = omega (arith, test, room);
+      moved = moves_after g.K.PseudoKey.of_key c.args.seat c.loop-moves.moves c.args.self.now c.loop-moves.self
+          c.loop-moves.invariant.moved QUESTION_STEPS c.skip.new.self (c.skip.ensures.made c.if-skip.true);
+    }
+
+pub step-requires : goal.step-requires
+step-requires g c =
+    subst (λ (k : KernelState g.row.K.Denot). IsSeat k.locks c.args.seat) (sym (c.skip.ensures.spares c.if-skip.false))
+    c.loop-moves.invariant.moved.seated
+
+pub loop-moves-preserved : goal.loop-moves-preserved
+loop-moves-preserved g c =
+    let test = c.loop-moves-test.true in
+    let so_far = subst (λ (k : KernelState g.row.K.Denot). HasMoved g.K.PseudoKey.of_key c.args.seat
+    c.loop-moves.moves c.args.self.now k) (sym (c.skip.ensures.spares c.if-skip.false)) c.loop-moves.invariant.moved in
+    record {
+      few = omega (arith, test);
+      moved = moves_on g.K.PseudoKey.of_key c.args.seat c.loop-moves.moves c.args.self.now c.skip.new.self so_far
+          c.step.result c.step.new.self (record { turn = c.step.ensures.turn; makes = c.step.ensures.makes })
+          c.in-Moved.field-0 c.in-Moved.is;
+    }
+
+pub returns-in_default : goal.returns-in_default
+returns-in_default g c =
+    let rests = no_move c.step.result c.in_default.not-Moved in
+    let test = c.loop-moves-test.true in
+    let few : c.loop-moves.moves < MOST_STEPS = omega (arith, test) in
+    let so_far = subst (λ (k : KernelState g.row.K.Denot). HasMoved g.K.PseudoKey.of_key c.args.seat
+    c.loop-moves.moves c.args.self.now k) (sym (c.skip.ensures.spares c.if-skip.false)) c.loop-moves.invariant.moved in
+    record {
+      run = runs_on c.args.seat c.step.result c.args.self.now c.skip.new.self c.step.new.self so_far.run
+          c.step.ensures.turn;
+      rests = rests;
+      driven = rests_at g.K.PseudoKey.of_key c.args.seat c.loop-moves.moves c.args.self.now c.skip.new.self so_far
+          c.step.result c.step.new.self (record { turn = c.step.ensures.turn; makes = c.step.ensures.makes })
+          few rests;
+    }
+
+pub returns-clause-driven : goal.returns-clause-driven
+returns-clause-driven g c =
+    let test = c.loop-moves-test.false in
+    let few = c.loop-moves.invariant.few in
+    let most : c.loop-moves.moves ≡ MOST_STEPS = omega (arith, test, few) in
+    is_spent g.K.PseudoKey.of_key c.args.seat c.loop-moves.moves c.args.self.now c.loop-moves.self
+    c.loop-moves.invariant.moved _ most
+    (ap (λ (s : KernelState g.row.K.Denot). record s {
+      failed = true;
+      failure = failure_by c.args.seat failed None;
+    }) c.self-2.view_is)
