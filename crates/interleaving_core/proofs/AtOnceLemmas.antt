@@ -64,10 +64,11 @@ open_on hash seat stopped kind other m m' pool pool' locks locks' makes draft is
             absurd (other cc)
 
     by : (d : Option Draft) → IsDrafted m d → IsDrafted m' d
-    by None some = absurd (none_some (subst IsSome (unanswered m is.undecided) some))
+    by None some = absurd (none_some (answer_of_call m) (unanswered m is.undecided) some)
       where
-        none_some : IsSome {A = Answer} None → ⊥
-        none_some clash = absurd cc
+        none_some : (o : Option Answer) → o ≡ None → IsSome o → ⊥
+        none_some None none has = absurd cc
+        none_some (Some answer) none has = absurd cc
     by (Some d) had = record {
       unanswered = unanswered m' undecided;
       call = had.call ∙ sym makes.aim.call;
@@ -215,8 +216,8 @@ module _ {K : Type 0} (of : K → RecordKey → ℕ) (seat : ℕ) (old : KernelS
 
   -- what is so of each kernel on the way
   record Stands (k : KernelState K) (m : CallView) : Type 0 where
-    pub whole : IsWhole k
-    pub seated : IsSeat k.locks seat
+    pub is_whole : IsWhole k
+    pub is_seat : IsSeat k.locks seat
     pub is_open : IsOpen m a.draft
 
   abbrev Makes : Kind → (s t : At CallView) → Type 0
@@ -240,9 +241,9 @@ module _ {K : Type 0} (of : K → RecordKey → ℕ) (seat : ℕ) (old : KernelS
         step = step_on of seat old whole is sound a there asks.awake so kind other t.machine t.pool t.locks n makes
             counts;
         stands = record {
-          whole = whole_on of seat old whole is sound a there asks.awake so kind other t.machine t.pool t.locks n makes
+          is_whole = whole_on of seat old whole is sound a there asks.awake so kind other t.machine t.pool t.locks n makes
               counts;
-          seated = seated_on of seat old whole is sound a there asks.awake so kind other t.machine t.pool t.locks n
+          is_seat = seated_on of seat old whole is sound a there asks.awake so kind other t.machine t.pool t.locks n
               makes counts;
           is_open = open_then of seat old whole is sound a there asks.awake so kind other t.machine t.pool t.locks n
               makes;
@@ -257,16 +258,16 @@ module _ {K : Type 0} (of : K → RecordKey → ℕ) (seat : ℕ) (old : KernelS
       record {
         step = subst (λ (xs : Seats). IsStep (of old.keys) seat (steps.Moved kind) (kernel_at n s)
             (record old { pool = t.pool; locks = t.locks; seats = xs; searches = n' })) twice
-            (step_on of seat (kernel_at n s) so_far.whole so_far.seated sound (active s.machine) (here s.machine) refl
+            (step_on of seat (kernel_at n s) so_far.is_whole so_far.is_seat sound (active s.machine) (here s.machine) refl
             so_far.is_open kind other t.machine t.pool t.locks n' makes counts);
         stands = record {
-          whole = subst (λ (xs : Seats). IsWhole
+          is_whole = subst (λ (xs : Seats). IsWhole
               (record old { pool = t.pool; locks = t.locks; seats = xs; searches = n' })) twice
-              (whole_on of seat (kernel_at n s) so_far.whole so_far.seated sound (active s.machine) (here s.machine)
+              (whole_on of seat (kernel_at n s) so_far.is_whole so_far.is_seat sound (active s.machine) (here s.machine)
               refl so_far.is_open kind other t.machine t.pool t.locks n' makes counts);
-          seated = seated_on of seat (kernel_at n s) so_far.whole so_far.seated sound (active s.machine)
+          is_seat = seated_on of seat (kernel_at n s) so_far.is_whole so_far.is_seat sound (active s.machine)
               (here s.machine) refl so_far.is_open kind other t.machine t.pool t.locks n' makes counts;
-          is_open = open_then of seat (kernel_at n s) so_far.whole so_far.seated sound (active s.machine)
+          is_open = open_then of seat (kernel_at n s) so_far.is_whole so_far.is_seat sound (active s.machine)
               (here s.machine) refl so_far.is_open kind other t.machine t.pool t.locks n' makes;
         };
       }
@@ -290,15 +291,15 @@ module _ {K : Type 0} (of : K → RecordKey → ℕ) (seat : ℕ) (old : KernelS
       (subst (λ (b : Bool). Notes seat kinds.ReadDepth b false old.searches noted)
       (sym (ap is_shared (m.1.0.shared refl))) notes) in
       let s3 = next kinds.ReadEntry (λ e. absurd cc) noted noted w.deep w.named s2.stands m.1.1.0.makes
-      (none kinds.ReadEntry noted has (kernel_at noted w.deep) s2.stands.whole refl s2.stands.seated refl) in
+      (none kinds.ReadEntry noted has (kernel_at noted w.deep) s2.stands.is_whole refl s2.stands.is_seat refl) in
       let s4 = next kinds.Grant (λ e. absurd cc) noted noted w.named w.arrived s3.stands m.1.1.1.0.makes
-      (none kinds.Grant noted has (kernel_at noted w.named) s3.stands.whole refl s3.stands.seated refl) in
+      (none kinds.Grant noted has (kernel_at noted w.named) s3.stands.is_whole refl s3.stands.is_seat refl) in
       let s5 = next kinds.Release (λ e. absurd cc) noted noted w.arrived w.alone s4.stands m.1.1.1.1.0.makes
-      (none kinds.Release noted has (kernel_at noted w.arrived) s4.stands.whole refl s4.stands.seated refl) in
+      (none kinds.Release noted has (kernel_at noted w.arrived) s4.stands.is_whole refl s4.stands.is_seat refl) in
       let s6 = next kinds.Look (λ e. absurd cc) noted noted w.alone w.looked s5.stands m.1.1.1.1.1.0.makes
-      (none kinds.Look noted has (kernel_at noted w.alone) s5.stands.whole refl s5.stands.seated refl) in
+      (none kinds.Look noted has (kernel_at noted w.alone) s5.stands.is_whole refl s5.stands.is_seat refl) in
       let s7 = next kinds.Release (λ e. absurd cc) noted noted w.looked end s6.stands m.1.1.1.1.1.1.0.makes
-      (none kinds.Release noted has (kernel_at noted w.looked) s6.stands.whole refl s6.stands.seated refl) in
+      (none kinds.Release noted has (kernel_at noted w.looked) s6.stands.is_whole refl s6.stands.is_seat refl) in
       (
         record {
           before = kernel_at noted w.looked;
@@ -336,7 +337,7 @@ module _ {K : Type 0} (of : K → RecordKey → ℕ) (seat : ℕ) (old : KernelS
           kind = kinds.Release;
           step = s7.step;
         },
-        s7.stands.whole,
+        s7.stands.is_whole,
       )
 
 -- ---- the kernel as it is left
@@ -371,10 +372,11 @@ asked_at_once {K} of seat slot left old now pool noted view whole seated at_slot
     there : call_at old.seats seat ≡ Some asks.before
     there = sym (slot_here old.seats seat slot is.0 (seat_there old whole seat is) at_slot) ∙ asks.had
 
-    made : Moves (of old.keys) seat 7 old (kernel_at of seat old whole is sound asks.before asks.after there asks.asks noted had has notes noted
-        (at asks.after.machine old.pool old.locks))
-        × IsWhole (kernel_at of seat old whole is sound asks.before asks.after there asks.asks noted had has notes noted
-        (at asks.after.machine old.pool old.locks))
+    asked : KernelState K
+    asked = kernel_at of seat old whole is sound asks.before asks.after there asks.asks noted had has notes noted
+        (at asks.after.machine old.pool old.locks)
+
+    made : Moves (of old.keys) seat 7 old asked × IsWhole asked
     made = many_steps of seat old whole is sound asks.before asks.after there asks.asks noted had has notes
 
     -- the call that is left is the one that was asked

@@ -190,10 +190,10 @@ impl Seat {
         if !self.is_busy {
             return false;
         }
-        let Some(active) = &mut self.last else {
-            return false;
-        };
-        active.skip(pool, locks, keys, many, seat)
+        match &mut self.last {
+            Some(active) => active.skip(pool, locks, keys, many, seat),
+            None => false,
+        }
     }
 
     /// A step of its call, if it has one: none while that waits, and nothing has woken it. A call
