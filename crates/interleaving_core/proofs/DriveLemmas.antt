@@ -2,7 +2,7 @@
 use Rattle.std.proofs.Common.{◌≡◌, refl, sym, ◌∙◌, subst, inl, inr, ℕ, zero, suc, ◌+◌, ◌<◌, true, None, arith}
 use Rattle.step_rules.specs.declared.kind.Kind.{Kind}
 use Rattle.interleaving_core.specs.Words.{IsSeat, RecordKey}
-use Rattle.interleaving_core.specs.Driving.{IsDriven, IsStep, Moves}
+use Rattle.interleaving_core.specs.Driving.{IsDriven, IsStep, Moves, MovesFrom}
 use Rattle.interleaving_core.specs.Kernel.{IsWhole, KernelState}
 use Rattle.interleaving_core.specs.Owing.{IsMove, IsRun, answer_told, failed, failure_by}
 use Rattle.interleaving_core.specs.declared.kernel.TheConstants.{MOST_STEPS}
@@ -62,6 +62,20 @@ module _ {K : Type 0} (of : K → RecordKey → ℕ) (seat moves : ℕ) (old now
     ends = inr (record { most = most; told = refl; marked = marked });
   }
 
+-- so many moves after those, and one more
+one_after : {K : Type 0} (of : K → RecordKey → ℕ) (seat moves n : ℕ) (old now : KernelState K) →
+    HasMoved of seat moves old now → (new : KernelState K)
+    (m : MovesFrom (λ before. Moves (of now.keys) seat n now before) (of now.keys) seat new) →
+    HasMoved of seat (moves + n) old m.before → HasMoved of seat (moves + suc n) old new
+one_after {K} of seat moves n old now so_far new m before =
+    subst (λ (x : ℕ). HasMoved of seat x old new) more
+    (moves_on of seat (moves + n) old m.before before (steps.Moved m.kind) new
+    (subst (λ (keys : K). IsStep (of keys) seat (steps.Moved m.kind) m.before new)
+    (so_far.run.rest.keys ∙ sym before.run.rest.keys) m.step) m.kind refl)
+  where
+    more : moves + n + 1 ≡ moves + suc n
+    more = omega arith
+
 -- so many moves after those
 pub moves_after : {K : Type 0} (of : K → RecordKey → ℕ) (seat moves : ℕ) (old now : KernelState K) →
     HasMoved of seat moves old now → (n : ℕ) (new : KernelState K) → Moves (of now.keys) seat n now new →
@@ -72,14 +86,5 @@ moves_after {K} of seat moves old now so_far zero new is =
   where
     more : moves ≡ moves + 0
     more = omega arith
-moves_after {K} of seat moves old now so_far (suc n) new m =
-    subst (λ (x : ℕ). HasMoved of seat x old new) more
-    (moves_on of seat (moves + n) old m.before before (steps.Moved m.kind) new
-    (subst (λ (keys : K). IsStep (of keys) seat (steps.Moved m.kind) m.before new)
-    (so_far.run.rest.keys ∙ sym before.run.rest.keys) m.step) m.kind refl)
-  where
-    before : HasMoved of seat (moves + n) old m.before
-    before = moves_after of seat moves old now so_far n m.before m.stands
-
-    more : moves + n + 1 ≡ moves + suc n
-    more = omega arith
+moves_after of seat moves old now so_far (suc n) new m =
+    one_after of seat moves n old now so_far new m (moves_after of seat moves old now so_far n m.before m.stands)

@@ -5,7 +5,7 @@ use Rattle.std.specs.Vec.{vec_len}
 use Rattle.interleaving_core.specs.Kernel.{KernelState}
 use Rattle.interleaving_core.specs.Words.{IsSeat}
 use Rattle.interleaving_core.proofs.AtOnceLemmas.{asked_at_once}
-use Rattle.interleaving_core.proofs.KernelLemmas.{row_there}
+use Rattle.interleaving_core.proofs.KernelLemmas.{is_counted, row_there}
 use Rattle.interleaving_core.proofs.kernel.Kernel.skip.Goals as goal
 
 pub skip-requires-clause-row : goal.skip-requires-clause-row
@@ -26,6 +26,25 @@ skip-requires-clause-row g c =
     let is : IsSeat old.locks c.args.seat =
     subst (λ (k : KernelState g.row.K.Denot). IsSeat k.locks c.args.seat) (sym c.self.view_is) c.requires in
     row_there c.args.seat c.index_mut.result.now old c.self.invariant is c.index_mut.ensures.value
+
+pub note-requires : goal.note-requires
+note-requires g c =
+    let old : KernelState g.row.K.Denot = record {
+      keys = c.self.inside.keys;
+      pool = c.self.inside.pool;
+      locks = c.self.inside.locks;
+      callers = c.self.inside.callers.items;
+      seats = c.self.inside.seats.items;
+      journal = c.self.inside.journal.items;
+      room = vec_capacity c.self.inside.journal;
+      stopped = c.self.inside.stopped;
+      failed = is_some c.self.inside.failure;
+      failure = c.self.inside.failure;
+      searches = c.self.inside.searches;
+    } in
+    let is : IsSeat old.locks c.args.seat =
+    subst (λ (k : KernelState g.row.K.Denot). IsSeat k.locks c.args.seat) (sym c.self.view_is) c.requires in
+    is_counted old c.self.invariant c.args.seat is
 
 pub invariant_of-self-2 : goal.invariant_of-self-2
 invariant_of-self-2 g c =
