@@ -299,8 +299,7 @@ module _ {K : Type 0} (of : K → RecordKey → ℕ) (seat : ℕ) (old : KernelS
       let s6 = next kinds.Look (λ e. absurd cc) noted noted w.alone w.looked s5.stands m.1.1.1.1.1.0.makes
       (none kinds.Look noted has (kernel_at noted w.alone) s5.stands.is_whole refl s5.stands.is_seat refl) in
       let s7 = next kinds.Release (λ e. absurd cc) noted noted w.looked end s6.stands m.1.1.1.1.1.1.0.makes
-      (none kinds.Release noted has (kernel_at noted w.looked) s6.stands.is_whole refl s6.stands.is_seat refl) in
-      (
+      (none kinds.Release noted has (kernel_at noted w.looked) s6.stands.is_whole refl s6.stands.is_seat refl) in (
         record {
           before = kernel_at noted w.looked;
           stands = record {
