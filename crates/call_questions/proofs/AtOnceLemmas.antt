@@ -1,5 +1,5 @@
 -- The moves of a question that is asked in one go.
-use Rattle.std.proofs.Common.{ℕ, ◌≡◌, ◌+◌, Bool, true, false, List, ◌++◌, ◌∷◌, [], min, Option, Some, None, IsOk, Result, Ok, if◌then◌else◌, refl, sym, ap, ◌∙◌, subst, inl, inr}
+use Rattle.std.proofs.Common.{ℕ, ◌≡◌, ◌+◌, Bool, true, false, List, ◌++◌, ◌∷◌, [], min, Option, Some, None, Result, Ok, if◌then◌else◌, refl, sym, ap, ◌∙◌, subst, inl, inr}
 use Rattle.file_pages.specs.declared.fault.FileFault.{FileFault}
 use Rattle.page_locks.proofs.ChangeLemmas.{IsSeat-with_row}
 use Rattle.page_locks.proofs.RowLemmas.{kind_of-append, first_kind}
@@ -16,12 +16,12 @@ use Rattle.record_access.specs.stale_search.declared.place.SearchPlace.TheVarian
 use Rattle.step_rules.specs.declared.kind.Kind.{Kind}
 use Rattle.step_rules.specs.declared.kind.Kind.TheVariants as kinds
 use Rattle.call_questions.specs.declared.question.Question.{Question}
-use Rattle.call_questions.specs.Words.{AccessView, AnyInquiry, AreNames, Call, GiveBack, HasEnded, HasFound, IsSeat, Lock, Look, Moved, NameTurn, NotASystem, PoolState, Progress, Ready, Record, RecordKey, Roomful, Table, Take, ToFind, Wanted, access_locks, asked_of, begun, name_turn, names_for, row_of, store_of, with_row}
+use Rattle.call_questions.specs.Words.{AccessView, AnyInquiry, AreNames, Call, GiveBack, HasFound, IsSeat, Lock, Look, Moved, NameTurn, NotASystem, PoolState, Ready, Record, RecordKey, Roomful, Table, Take, ToFind, Wanted, access_locks, asked_of, begun, name_turn, names_for, row_of, store_of, with_row}
 use Rattle.call_questions.specs.Answering.{key_asked}
 use Rattle.call_questions.specs.Counting.{MOST_FINDS, enters_directory, finds_behind, is_to_search, last_of}
 use Rattle.call_questions.specs.Questions.{IsUnderWay, QuestionsView, is_ready}
 use Rattle.call_questions.specs.QuestionSteps.{Hears, Listens, MakesQuestions}
-use Rattle.call_questions.specs.QuestionRuns.{AsksAtOnce, At, at}
+use Rattle.call_questions.specs.QuestionRuns.{AskStep, AsksAtOnce, At, Way, at}
 use Rattle.call_questions.proofs.AskingLemmas.{first_step}
 use Rattle.call_questions.proofs.CountLemmas.{last_there, none_more}
 use Rattle.call_questions.proofs.ListenLemmas.{went_on}
@@ -213,45 +213,50 @@ module _ (hash : RecordKey → ℕ) (seat : ℕ) (call : Call) (i : AnyInquiry) 
           either = inl (record { silent = inl refl; same = (refl, refl); fine = refl });
         }) None (inl ((refl, λ key serves none. absurd cc), refl)) (seat_with looked) more refl
 
+    -- a move by which no depth is read asks nothing of the directory's lock
+    apart : (kind : Kind) → (kind ≡ kinds.ReadDepth → ⊥) → (old new : At QuestionsView) →
+        MakesQuestions hash seat call (Moved kind) old.machine new.machine old.pool new.pool old.locks new.locks →
+        AskStep (MakesQuestions hash seat call) seat (Moved kind) old new
+    apart kind other old new makes = record { makes = makes; shared = λ is. absurd (other cc) }
+
+    abbrev way : Way (At QuestionsView)
+    way = record {
+      locked = on_way places.ReadDepth;
+      deep = on_way (places.ReadEntry (store_of pool.images).header.depth);
+      named = on_way (places.GrantPage finds.page);
+      arrived = on_way (places.ReleaseDirectory finds.page);
+      alone = on_way (places.Look finds.page);
+      looked = at heard pool (with_access looked);
+    }
+
     pub asks_at_once : AsksAtOnce (MakesQuestions hash seat call) seat before after pool locks
     asks_at_once =
         let depth : ℕ = (store_of pool.images).header.depth in
         let page : ℕ = finds.page in
         let m = finds.moves hash in
+        let locks_it = apart kinds.Grant (λ is. absurd cc) (at before pool locks) way.locked (begins m.0.makes) in
+        let reads : AskStep (MakesQuestions hash seat call) seat (Moved kinds.ReadDepth) way.locked way.deep =
         record {
-          way = record {
-            locked = on_way places.ReadDepth;
-            deep = on_way (places.ReadEntry depth);
-            named = on_way (places.GrantPage page);
-            arrived = on_way (places.ReleaseDirectory page);
-            alone = on_way (places.Look page);
-            looked = at heard pool (with_access looked);
-          };
-          moves = (
-            record { makes = begins m.0.makes; shared = λ is. absurd cc }, (
-            record {
-              makes = goes_to kinds.ReadDepth (λ look. absurd cc) places.ReadDepth (places.ReadEntry depth) m.1.0.makes
-                  refl;
-              shared = λ is. shared depth;
-            }, (
-            record {
-              makes = goes_to kinds.ReadEntry (λ look. absurd cc) (places.ReadEntry depth) (places.GrantPage page)
-                  m.1.1.0.makes refl;
-              shared = λ is. absurd cc;
-            }, (
-            record {
-              makes = goes_to kinds.Grant (λ look. absurd cc) (places.GrantPage page) (places.ReleaseDirectory page)
-                  m.1.1.1.0.makes counts_not;
-              shared = λ is. absurd cc;
-            }, (
-            record {
-              makes = goes_to kinds.Release (λ look. absurd cc) (places.ReleaseDirectory page) (places.Look page)
-                  m.1.1.1.1.0.makes refl;
-              shared = λ is. absurd cc;
-            }, (
-            record { makes = looks (places.Look page) m.1.1.1.1.1.0.makes; shared = λ is. absurd cc }, (
-            record { makes = ends m.1.1.1.1.1.1.0.makes; shared = λ is. absurd cc }, (
-            tt))))))));
+          makes = goes_to kinds.ReadDepth (λ look. absurd cc) places.ReadDepth (places.ReadEntry depth) m.1.0.makes
+              refl;
+          shared = λ is. shared depth;
+        } in
+        let names_it = apart kinds.ReadEntry (λ is. absurd cc) way.deep way.named
+        (goes_to kinds.ReadEntry (λ look. absurd cc) (places.ReadEntry depth) (places.GrantPage page) m.1.1.0.makes
+        refl) in
+        let arrives = apart kinds.Grant (λ is. absurd cc) way.named way.arrived
+        (goes_to kinds.Grant (λ look. absurd cc) (places.GrantPage page) (places.ReleaseDirectory page)
+        m.1.1.1.0.makes counts_not) in
+        let gives_back = apart kinds.Release (λ is. absurd cc) way.arrived way.alone
+        (goes_to kinds.Release (λ look. absurd cc) (places.ReleaseDirectory page) (places.Look page)
+        m.1.1.1.1.0.makes refl) in
+        let looks_there = apart kinds.Look (λ is. absurd cc) way.alone way.looked
+        (looks (places.Look page) m.1.1.1.1.1.0.makes) in
+        let leaves = apart kinds.Release (λ is. absurd cc) way.looked (at after pool locks)
+        (ends m.1.1.1.1.1.1.0.makes) in
+        record {
+          way = way;
+          moves = (locks_it, (reads, (names_it, (arrives, (gives_back, (looks_there, (leaves, tt)))))));
         }
 
 -- the names are held that are needed

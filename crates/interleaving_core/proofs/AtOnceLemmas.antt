@@ -1,10 +1,7 @@
 -- A question of a seat's call that is asked in one go is so many steps of a kernel.
-use Rattle.std.proofs.Common.{◌≡◌, refl, sym, ap, ◌∙◌, subst, ℕ, ◌-◌, ◌≤◌, Bool, true, false, true≢false, IsSome, inl, List, ◌++◌, Option, Some, None, length, slice_set, slice_index_or, append-nil, arith}
+use Rattle.std.proofs.Common.{◌≡◌, refl, sym, ap, ◌∙◌, subst, ℕ, ◌-◌, Bool, true, false, true≢false, IsSome, inl, ◌++◌, Option, Some, None, length, slice_set, slice_index_or, append-nil, arith}
 use Rattle.std.specs.Option.{is_some}
 use Rattle.page_locks.proofs.ChangeLemmas.{IsSeat-with_row}
-use Rattle.page_locks.specs.Table.{held}
-use Rattle.page_locks.specs.declared.lock.LockKind.TheVariants.{Read}
-use Rattle.page_locks.specs.declared.lock.LockName.TheVariants.{Directory}
 use Rattle.search_counts.proofs.CountLemmas.{none_noted}
 use Rattle.search_counts.specs.Counting.{AreSoundCounts, CountsState, IsCountedSeat, Notes, changes_counts}
 use Rattle.step_rules.specs.declared.kind.Kind.{Kind}
@@ -24,7 +21,6 @@ use Rattle.interleaving_core.specs.Searches.{Counts, is_shared}
 use Rattle.interleaving_core.specs.Turn.{Turns}
 use Rattle.interleaving_core.specs.Waiting.{stays_waiting}
 use Rattle.interleaving_core.specs.declared.active.Draft.{Draft}
-use Rattle.interleaving_core.specs.declared.step.Step.{Step}
 use Rattle.interleaving_core.specs.declared.step.Step.TheVariants as steps
 use Rattle.interleaving_core.proofs.AnewLemmas.{turn_does}
 use Rattle.interleaving_core.proofs.FailureLemmas.{none_blamed}

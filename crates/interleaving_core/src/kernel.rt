@@ -9,7 +9,7 @@ ghost use Rattle.interleaving_core.specs.Beginning.{HasCall, HasSystem, IsOpened
 ghost use Rattle.interleaving_core.specs.Closing.{IfBusy, IsBusy, IsFlushedTo, IsReleased, OnDevice, fault_in, has_one, is_busy, journal_in};
 ghost use Rattle.interleaving_core.specs.Fault.{device_failed};
 ghost use Rattle.interleaving_core.specs.Kernel.{IsWhole, call_at, entries_of};
-ghost use Rattle.interleaving_core.specs.Owing.{IsMove, IsRun, IsTurn, answer_told, told_of_failure};
+ghost use Rattle.interleaving_core.specs.Owing.{IsTurn, told_of_failure};
 ghost use Rattle.interleaving_core.specs.Turn.{TakesTurn};
 ghost use Rattle.interleaving_core.specs.Words.{IsSeat, caller_at};
 
@@ -17,7 +17,7 @@ mod driving;
 mod renewing;
 
 use crate::closing::{Closed, NotClosed};
-use crate::fault::{BeginFault, CloseFault, Failure, OpenFault, StepFault};
+use crate::fault::{BeginFault, CloseFault, Failure, OpenFault};
 use crate::opening::{copied, idle_seats, least_frames};
 use crate::places::{due, failure_of, has_call, told_of_failure};
 use crate::searches::{last_page, note};

@@ -5,7 +5,7 @@ use Rattle.call_questions.specs.QuestionSteps.{MakesQuestions}
 use Rattle.call_questions.specs.Words.{Moved}
 use Rattle.undecided_calls.specs.Words.{AsksAtOnce, Call, Ended, Kind, PoolState, QuestionsView, RecordKey, Table, is_done}
 use Rattle.undecided_calls.specs.UndecidedSteps.{MakesUndecided}
-use Rattle.undecided_calls.proofs.StepLemmas.{asked, asking}
+use Rattle.undecided_calls.proofs.StepLemmas.{asked}
 
 module _ (hash : RecordKey → ℕ) (seat : ℕ) (call : Call) where
   -- a question that moves has not asked all

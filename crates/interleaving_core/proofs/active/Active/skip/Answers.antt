@@ -1,5 +1,5 @@
 -- What is kept for its entry stays.
-use Rattle.std.proofs.Common.{◌≡◌, sym, ◌∙◌, false}
+use Rattle.std.proofs.Common.{sym, ◌∙◌, false}
 use Rattle.interleaving_core.proofs.AtOnceLemmas.{kept_still}
 use Rattle.interleaving_core.proofs.active.Active.skip.Goals as goal
 

@@ -1,5 +1,5 @@
 -- A question makes its moves.
-use Rattle.std.proofs.Common.{◌≡◌, sym, ◌∙◌, subst, Option}
+use Rattle.std.proofs.Common.{sym, ◌∙◌, subst, Option}
 use Rattle.undecided_calls.specs.declared.trials.Trials.{Trials}
 use Rattle.undecided_calls.specs.UndecidedSteps.{MakesUndecided}
 use Rattle.undecided_calls.specs.Words.{AsksAtOnce}
