@@ -32,15 +32,14 @@ impl<D: PageDevice + Drop, K: PseudoKey + Drop, G: Gate, N: Room + Base> Service
     pub fn save<R: Wait>(&self, rt: &R) -> Result<(), CloseFault>
         requires { N.origin.spares ≡ false }
     {
+        let mut held = self.hold(rt);
         for _ in rt.forever() {
-            let mut held = self.hold(rt);
             if let Some(saved) = held.save(&self.gauge) {
-                let sleepers = held.wake_rested();
-                drop(held);
-                self.rouse(sleepers);
+                held.wake_rested();
+                self.let_go(held);
                 return saved;
             }
-            self.await_rest(rt, held);
+            held = self.await_rest(rt, held);
         }
         unreachable!()
     }
@@ -57,15 +56,14 @@ impl<D: PageDevice + Drop, K: PseudoKey + Drop, G: Gate, N: Room + Base> Service
     pub fn renew<R: Wait>(&self, rt: &R) -> Result<(), Fault>
         ensures { IfErr result MayNotRenew }
     {
+        let mut held = self.hold(rt);
         for _ in rt.forever() {
-            let mut held = self.hold(rt);
             if let Some(renewed) = held.renew() {
-                let sleepers = held.wake_rested();
-                drop(held);
-                self.rouse(sleepers);
+                held.wake_rested();
+                self.let_go(held);
                 return renewed;
             }
-            self.await_rest(rt, held);
+            held = self.await_rest(rt, held);
         }
         unreachable!()
     }

@@ -20,7 +20,7 @@ use page_device::PageDevice;
 use queue_model::Entry;
 use seat_passes::Room;
 use std::marker::PhantomData;
-use std::sync::{Condvar, Mutex};
+use std::sync::Mutex;
 
 /// What is left of a service that was closed.
 #[derive(Drop)]
@@ -64,9 +64,7 @@ impl<D: PageDevice + Drop, K: PseudoKey + Drop, G: Gate + Drop, N: Room + Base> 
         let Service {
             gate,
             latch,
-            freed,
-            decided,
-            rested,
+            signals,
             gauge,
             seats: many,
         } = self;
@@ -76,9 +74,7 @@ impl<D: PageDevice + Drop, K: PseudoKey + Drop, G: Gate + Drop, N: Room + Base> 
             let service = Service {
                 gate,
                 latch: Mutex::new(held),
-                freed,
-                decided,
-                rested,
+                signals,
                 gauge,
                 seats: many,
             };
@@ -89,7 +85,8 @@ impl<D: PageDevice + Drop, K: PseudoKey + Drop, G: Gate + Drop, N: Room + Base> 
             past,
             mut pass,
             count: _,
-            sleepers: _,
+            asleep: _,
+            due: _,
             room: _,
         } = held;
         compare_all(&gauge, &mut pass, &mut seats);
@@ -126,9 +123,7 @@ impl<D: PageDevice + Drop, K: PseudoKey + Drop, G: Gate + Drop, N: Room + Base> 
         let Service {
             gate: _,
             latch,
-            freed: _,
-            decided: _,
-            rested: _,
+            signals: _,
             gauge,
             seats: _,
         } = self;
@@ -139,7 +134,8 @@ impl<D: PageDevice + Drop, K: PseudoKey + Drop, G: Gate + Drop, N: Room + Base> 
             past,
             mut pass,
             count: _,
-            sleepers: _,
+            asleep: _,
+            due: _,
             room: _,
         } = held;
         compare_all(&gauge, &mut pass, &mut seats);

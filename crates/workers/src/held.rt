@@ -13,6 +13,7 @@ ghost use Rattle.workers.specs.Told.{HasBegun, IsTold, Rests, TakesBack};
 use crate::entries::{Own, Passes, Sitter};
 use crate::fault::Fault;
 use crate::naming::Base;
+use crate::sleepers::Sleepers;
 use bucket_page::PseudoKey;
 use interleavings::interleaving_core::{BeginFault, Kernel, Step};
 use interleavings::{
@@ -20,6 +21,7 @@ use interleavings::{
     withdrawals_refine,
 };
 use page_device::PageDevice;
+use page_locks::LockName;
 use queue_model::{Call, Entry};
 use seat_passes::{Change, Room};
 use std::marker::{Brand, Model, PhantomData};
@@ -34,20 +36,11 @@ pub(crate) struct Held<D: PageDevice, K: PseudoKey, N: Room + Base> {
     pub(crate) past: Vec<Entry>,
     pub(crate) pass: Own<N>,
     pub(crate) count: u64,
-    pub(crate) sleepers: Sleepers,
+    /// Who may sleep.
+    pub(crate) asleep: Sleepers,
+    /// Who of them is to be woken once the latch is let go.
+    pub(crate) due: Sleepers,
     pub(crate) room: PhantomData<N>,
-}
-
-/// Which seats may sleep.
-#[derive(Clone, Copy, Debug, Drop, PartialEq, Eq)]
-pub(crate) struct Sleepers {
-    /// One that was blocked, until a lock is given back.
-    pub(crate) blocked: bool,
-    /// One whose call waits, until the journal has grown.
-    pub(crate) waiting: bool,
-    /// One that wants a moment between calls, until a call has ended or waits. Until it was there
-    /// no call begins: who would begin one sleeps too.
-    pub(crate) resting: bool,
 }
 
 impl<D: PageDevice, K: PseudoKey, N: Room + Base> Model for Held<D, K, N> {
@@ -128,8 +121,9 @@ impl<D: PageDevice + Drop, K: PseudoKey + Drop, N: Room + Base> Held<D, K, N> {
         did
     }
 
-    /// So many steps of the call at the seat of this pass at most, in one hold: none follows one by
-    /// which it does not move, or by which one is to be woken who sleeps. Tells the last.
+    /// Some steps of the call at the seat of this pass, in one hold: so many at most, and from half
+    /// as many on none follows one after which no other seat needs to wait for a page or the
+    /// directory. None follows one by which it does not move. Tells the last.
     pub(crate) fn steps(
         &mut self,
         gauge: &Passes<N>,
@@ -141,10 +135,10 @@ impl<D: PageDevice + Drop, K: PseudoKey + Drop, N: Room + Base> Held<D, K, N> {
         requires within { (1 ≤ seat) × (seat ≤ length N.origin.callers) }
         ensures told { IsTold result pass.old pass.new }
     {
-        for _ in 1..most {
-            match self.step(gauge, pass, seat) {
+        for done in 1..most {
+            match self.step_and_note(gauge, pass, seat) {
                 Step::Moved(kind) => {
-                    if self.is_to_wake(kind) {
+                    if done >= most / 2 && self.is_between_accesses(seat) {
                         return Step::Moved(kind);
                     }
                 }
@@ -155,7 +149,36 @@ impl<D: PageDevice + Drop, K: PseudoKey + Drop, N: Room + Base> Held<D, K, N> {
                 Step::Fault(fault) => return Step::Fault(fault),
             }
         }
-        self.step(gauge, pass, seat)
+        self.step_and_note(gauge, pass, seat)
+    }
+
+    /// One step, by which those are to be woken who wait for a lock that it gives back.
+    fn step_and_note(&mut self, gauge: &Passes<N>, pass: &mut Sitter<N>, seat: u8) -> Step
+        requires seat { pass.old.seat ≡ seat }
+        requires within { (1 ≤ seat) × (seat ≤ length N.origin.callers) }
+        ensures told { IsTold result pass.old pass.new }
+    {
+        let had_names_alone = self.is_between_accesses(seat);
+        let did = self.step(gauge, pass, seat);
+        if gives_back(&did) {
+            self.wake(Sleepers::paged_by(seat));
+            if had_names_alone {
+                self.wake(Sleepers::named_by(seat));
+            }
+        }
+        did
+    }
+
+    /// Whether a seat holds neither the directory nor a page, so that it stands in nobody's way but
+    /// by names: they are granted before these.
+    fn is_between_accesses(&self, seat: u8) -> bool {
+        if seat == 0 || seat > self.kernel.seats() {
+            return false;
+        }
+        match self.kernel.locks().last(seat) {
+            Some(lock) => !matches!(lock.name, LockName::Directory | LockName::Page(_)),
+            None => true,
+        }
     }
 
     /// Takes the call at the seat of this pass back where it waits: it holds no name and has
@@ -189,6 +212,16 @@ impl<D: PageDevice + Drop, K: PseudoKey + Drop, N: Room + Base> Held<D, K, N> {
         Some(call)
     }
 
+    /// Whether the call at the seat of this pass was taken back, as one that waits is.
+    pub(crate) fn take_back(&mut self, gauge: &Passes<N>, pass: &mut Sitter<N>, seat: u8) -> bool
+        requires seat { pass.old.seat ≡ seat }
+        requires within { (1 ≤ seat) × (seat ≤ length N.origin.callers) }
+        ensures back { IsTrue result → IsTakenBack pass.old pass.new }
+        ensures stays { result ≡ false → pass.new ≡ pass.old }
+    {
+        self.withdraw(gauge, pass, seat).is_some()
+    }
+
     /// The system is stopped.
     pub(crate) fn stop(&mut self, gauge: &Passes<N>) {
         stops_refine::<K>();
@@ -196,62 +229,48 @@ impl<D: PageDevice + Drop, K: PseudoKey + Drop, N: Room + Base> Held<D, K, N> {
         tell_all::<Brand, D, K, N>(gauge, &mut self.pass, self.count, &self.past, &self.kernel);
     }
 
-    /// Notes that the seat that holds the latch will sleep until a lock is given back.
-    pub(crate) fn note_blocked(&mut self) {
-        self.sleepers.blocked = true;
+    /// Among whom a seat sleeps that was blocked by another: at a name, where both hold names alone.
+    pub(crate) fn blocked_by(&self, seat: u8, other: u8) -> Sleepers {
+        if self.is_between_accesses(seat) && self.is_between_accesses(other) {
+            Sleepers::named_by(other)
+        } else {
+            Sleepers::paged_by(other)
+        }
     }
 
-    /// Notes that the seat that holds the latch will sleep until the journal has grown.
-    pub(crate) fn note_waiting(&mut self) {
-        self.sleepers.waiting = true;
-    }
-
-    /// Notes that a moment between calls is wanted.
-    pub(crate) fn note_resting(&mut self) {
-        self.sleepers.resting = true;
+    /// Notes that whoever holds the latch will sleep among these.
+    pub(crate) fn note(&mut self, sleepers: Sleepers) {
+        self.asleep = self.asleep.and(sleepers);
     }
 
     /// Whether a moment between calls is wanted: then no call is to begin.
     pub(crate) fn is_to_rest(&self) -> bool {
-        self.sleepers.resting
+        self.asleep.is_resting()
     }
 
-    /// Whether a seat that sleeps is to be woken by a step of this kind.
-    fn is_to_wake(&self, kind: Kind) -> bool {
-        (gives_back(kind) && self.sleepers.blocked)
-            || (kind == Kind::Decide && self.sleepers.waiting)
-    }
-
-    /// Who is to be woken by a step of this kind, and is noted no more.
-    pub(crate) fn wake_by(&mut self, kind: Kind) -> Sleepers {
-        self.wake(gives_back(kind), kind == Kind::Decide)
-    }
-
-    /// Who is to be woken, and is noted no more: seats that were blocked where a lock was given
-    /// back, and seats whose calls wait where the journal has grown.
-    pub(crate) fn wake(&mut self, freed: bool, grown: bool) -> Sleepers {
-        Sleepers {
-            blocked: freed && mem::replace(&mut self.sleepers.blocked, false),
-            waiting: grown && mem::replace(&mut self.sleepers.waiting, false),
-            resting: false,
-        }
+    /// Those among these who sleep are to be woken once the latch is let go.
+    pub(crate) fn wake(&mut self, sleepers: Sleepers) {
+        self.due = self.due.and(self.asleep.take(sleepers));
     }
 
     /// The moment between calls was there: who waited for it, or for its end, is to be woken; and
     /// so are all others where a step has failed.
-    pub(crate) fn wake_rested(&mut self) -> Sleepers {
-        let failed = self.kernel.has_failed();
-        Sleepers {
-            resting: mem::replace(&mut self.sleepers.resting, false),
-            ..self.wake(failed, failed)
+    pub(crate) fn wake_rested(&mut self) {
+        self.wake(Sleepers::at_rest());
+        if self.kernel.has_failed() {
+            self.wake(Sleepers::in_calls());
         }
+    }
+
+    /// Who is to be woken now that the latch is let go.
+    pub(crate) fn take_due(&mut self) -> Sleepers {
+        mem::replace(&mut self.due, Sleepers::nobody())
     }
 }
 
-/// Whether a lock may be given back by a step of this kind. It is by no other; and the journal
-/// grows at a Decide alone.
-fn gives_back(kind: Kind) -> bool {
-    matches!(kind, Kind::Release | Kind::Hop)
+/// Whether a lock may be given back by a step: by one of no other kind.
+fn gives_back(did: &Step) -> bool {
+    matches!(did, Step::Moved(Kind::Release | Kind::Hop))
 }
 
 /// What the kernel has done for a seat is told to its pass.

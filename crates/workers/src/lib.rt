@@ -15,6 +15,7 @@ mod naming;
 mod opening;
 mod seat;
 mod service;
+mod sleepers;
 mod unanswered;
 mod waits;
 

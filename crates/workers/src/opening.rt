@@ -10,10 +10,11 @@ ghost use Rattle.workers.specs.Opening.{HasFrames, IsOpenedOn, dealt_desk, newco
 
 use crate::entries::{Own, Passes, Unnamed};
 use crate::gate::Gate;
-use crate::held::{Held, Sleepers};
+use crate::held::Held;
 use crate::naming::Base;
 use crate::seat::Seat;
 use crate::service::Service;
+use crate::sleepers::{Signals, Sleepers};
 use bucket_page::PseudoKey;
 use interleavings::an_opened_kernel_refines;
 use interleavings::interleaving_core::{Kernel, OpenFault};
@@ -22,7 +23,7 @@ use queue_model::{Call, Caller, Entry, NoMemory};
 use seat_passes::{GaugePass, Room};
 use std::alloc::Global;
 use std::marker::{Model, PhantomData};
-use std::sync::{Condvar, Mutex};
+use std::sync::Mutex;
 
 /// A kernel that was opened, and a table of passes that has no name yet.
 #[derive(Drop)]
@@ -147,20 +148,15 @@ impl<D: PageDevice + Drop, K: PseudoKey + Drop> Prepared<D, K> {
             past: Vec::new(alloc),
             pass,
             count: 0,
-            sleepers: Sleepers {
-                blocked: false,
-                waiting: false,
-                resting: false,
-            },
+            asleep: Sleepers::nobody(),
+            due: Sleepers::nobody(),
             room: PhantomData,
         };
         Ok(Started {
             service: Service {
                 gate,
                 latch: Mutex::new(held),
-                freed: Condvar::new(),
-                decided: Condvar::new(),
-                rested: Condvar::new(),
+                signals: Signals::new(),
                 gauge,
                 seats,
             },

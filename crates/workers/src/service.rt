@@ -13,29 +13,25 @@ use crate::held::Held;
 use crate::limit::Limit;
 use crate::naming::Base;
 use crate::seat::Seat;
+use crate::sleepers::{Signals, Sleepers, queue_on};
 use crate::unanswered::Unanswered;
+use crate::waits::Patience;
 use bucket_page::PseudoKey;
-use crossbeam_utils::Backoff;
 use interleavings::interleaving_core::Step;
 use page_device::PageDevice;
 use queue_model::{Answer, Call, Entry};
 use seat_passes::{GaugePass, Room};
 use std::marker::Model;
-use std::sync::{Condvar, Mutex, MutexGuard, Wait};
+use std::sync::{Mutex, MutexGuard, Wait};
 use std::time::{Clock, Duration};
 
-/// A kernel that threads share. One latch lies over it: each hold of it is the beginning of a call,
-/// one step, or the stop.
+/// A kernel that threads share. One latch lies over it: each hold of it is some steps of a call, its
+/// beginning before them, or the stop, or what is done between calls.
 #[derive(Drop)]
 pub struct Service<D: PageDevice, K: PseudoKey, G: Gate, N: Room + Base> {
     pub(crate) gate: G,
     pub(crate) latch: Mutex<Held<D, K, N>>,
-    /// A lock was given back, or a step has failed.
-    pub(crate) freed: Condvar,
-    /// The journal has grown, or a step has failed.
-    pub(crate) decided: Condvar,
-    /// A moment between calls is wanted, and a call has ended or waits; or that moment was there.
-    pub(crate) rested: Condvar,
+    pub(crate) signals: Signals,
     pub(crate) gauge: Passes<N>,
     pub(crate) seats: u8,
 }
@@ -68,22 +64,24 @@ impl<D: PageDevice + Drop, K: PseudoKey + Drop, G: Gate, N: Room + Base> Service
         let Ok(draft) = Draft::of(&mut seat.list, &call) else {
             return Err(Fault::NoMemory);
         };
-        if let Err(fault) = self.begin(rt, &mut seat.pass, seat.number, call) {
+        let queue = queue_on(&call);
+        let mut held = self.hold_to_begin(rt);
+        if let Err(fault) = held.begin(&self.gauge, &mut seat.pass, seat.number, call) {
             return Err(fault);
         }
-        let patience = Backoff::new();
+        let mut patience = Patience::new();
         for _ in rt.forever() {
-            let (held, step) = self.advance(rt, &mut seat.pass, seat.number, &patience);
+            let (last, step) = self.advance(rt, held, &mut seat.pass, seat.number, &mut patience);
             match step {
-                Step::Waiting => self.await_entry(rt, held, &patience),
+                Step::Waiting => held = self.await_call(rt, last, queue, &mut patience),
                 Step::Answered(answer) => {
-                    drop(held);
+                    self.end(last, queue);
                     let number = seat.number;
                     seat.list.push_reserved(draft.entry(rt, number, &answer));
                     return Ok(answer);
                 }
                 Step::Fault(fault) => {
-                    self.rouse_all(held);
+                    self.rouse_all(last);
                     return Err(Fault::of_step(fault));
                 }
                 Step::Idle => unreachable!(),
@@ -120,23 +118,29 @@ impl<D: PageDevice + Drop, K: PseudoKey + Drop, G: Gate, N: Room + Base> Service
         let Ok(draft) = Draft::of(&mut seat.list, &call) else {
             return Err(Unanswered::Fault(Fault::NoMemory));
         };
-        if let Err(fault) = self.begin(rt, &mut seat.pass, seat.number, call) {
+        let queue = queue_on(&call);
+        let mut held = self.hold_to_begin(rt);
+        if let Err(fault) = held.begin(&self.gauge, &mut seat.pass, seat.number, call) {
             return Err(Unanswered::Fault(fault));
         }
-        let patience = Backoff::new();
+        let mut patience = Patience::new();
         for _ in rt.forever() {
-            let (held, step) = self.advance(rt, &mut seat.pass, seat.number, &patience);
+            let (last, step) = self.advance(rt, held, &mut seat.pass, seat.number, &mut patience);
+            held = last;
             match step {
                 Step::Waiting => match limit.left(rt) {
-                    Some(left) => self.await_entry_within(rt, held, &patience, left),
+                    Some(left) => {
+                        held = self.await_call_within(rt, held, queue, &mut patience, left);
+                    }
                     None => {
-                        if take_back(held, &self.gauge, &mut seat.pass, seat.number) {
+                        if held.take_back(&self.gauge, &mut seat.pass, seat.number) {
+                            self.let_go(held);
                             return Err(Unanswered::TimedOut(draft.into_call()));
                         }
                     }
                 },
                 Step::Answered(answer) => {
-                    drop(held);
+                    self.end(held, queue);
                     let number = seat.number;
                     seat.list.push_reserved(draft.entry(rt, number, &answer));
                     return Ok(answer);
@@ -157,9 +161,8 @@ impl<D: PageDevice + Drop, K: PseudoKey + Drop, G: Gate, N: Room + Base> Service
     pub fn stop<R: Wait>(&self, rt: &R) {
         let mut held = self.hold(rt);
         held.stop(&self.gauge);
-        let sleepers = held.wake(false, true);
-        drop(held);
-        self.rouse(sleepers);
+        held.wake(Sleepers::in_calls());
+        self.let_go(held);
     }
 
     /// How many calls were decided, by one load. For one pass it never goes back.
@@ -179,49 +182,31 @@ impl<D: PageDevice + Drop, K: PseudoKey + Drop, G: Gate, N: Room + Base> Service
         self.gauge.look_from_seat(&mut seat.pass)
     }
 
-    /// A call begins at the seat of this pass, once no moment between calls is wanted.
-    fn begin<R: Wait>(
-        &self,
-        rt: &R,
-        pass: &mut Sitter<N>,
-        number: u8,
-        call: Call,
-    ) -> Result<(), Fault>
-        requires seat { pass.old.seat ≡ number }
-        requires within { (1 ≤ number) × (number ≤ length N.origin.callers) }
-        requires rests { Rests pass.old }
-        ensures ok { IfOk result (λ _. HasBegun call pass.old pass.new) }
-        ensures err { OnErr result (pass.new ≡ pass.old) }
-    {
-        let mut held = self.hold_to_begin(rt);
-        held.begin(&self.gauge, pass, number, call)
-    }
-
     /// The call at the seat of this pass goes on until it is answered, waits or fails. The latch is
     /// held as it was in its last step.
-    fn advance<R: Wait>(
-        &self,
+    fn advance<'a, R: Wait>(
+        &'a self,
         rt: &R,
+        held: MutexGuard<'a, Held<D, K, N>>,
         pass: &mut Sitter<N>,
         number: u8,
-        patience: &Backoff,
-    ) -> (MutexGuard<'_, Held<D, K, N>>, Step)
+        patience: &mut Patience,
+    ) -> (MutexGuard<'a, Held<D, K, N>>, Step)
         requires seat { pass.old.seat ≡ number }
         requires within { (1 ≤ number) × (number ≤ length N.origin.callers) }
         ensures told { IsTold result.1 pass.old pass.new }
         ensures rests { GoesOn result.1 → ⊥ }
     {
+        let mut held = held;
         for _ in rt.forever() {
-            let mut held = self.hold(rt);
             match held.steps(&self.gauge, pass, number, self.gate.steps_at_once()) {
                 Step::Moved(kind) => {
-                    let sleepers = held.wake_by(kind);
-                    drop(held);
-                    self.rouse(sleepers);
-                    patience.reset();
+                    self.let_go(held);
+                    *patience = Patience::new();
                     self.gate.between(number, kind);
+                    held = self.hold(rt);
                 }
-                Step::Blocked(_) => self.await_lock(rt, held, patience),
+                Step::Blocked(by) => held = self.await_lock(rt, held, number, by, patience),
                 Step::Waiting => return self.last(held, Step::Waiting),
                 Step::Answered(answer) => return self.last(held, Step::Answered(answer)),
                 Step::Fault(fault) => return self.last(held, Step::Fault(fault)),
@@ -241,24 +226,17 @@ impl<D: PageDevice + Drop, K: PseudoKey + Drop, G: Gate, N: Room + Base> Service
         ensures { result.1 ≡ step }
     {
         if held.is_to_rest() {
-            self.rested.notify_all();
+            self.signals.ended.notify_all();
         }
         (held, step)
     }
-}
 
-/// Whether the call at the seat of this pass was taken back, as one that waits is.
-fn take_back<D: PageDevice + Drop, K: PseudoKey + Drop, N: Room + Base>(
-    held: MutexGuard<'_, Held<D, K, N>>,
-    gauge: &Passes<N>,
-    pass: &mut Sitter<N>,
-    number: u8,
-) -> bool
-    requires seat { pass.old.seat ≡ number }
-    requires within { (1 ≤ number) × (number ≤ length N.origin.callers) }
-    ensures back { IsTrue result → IsTakenBack pass.old pass.new }
-    ensures stays { result ≡ false → pass.new ≡ pass.old }
-{
-    let mut held = held;
-    held.withdraw(gauge, pass, number).is_some()
+    /// A call on this queue is answered: lets the latch go, and wakes those whose calls wait on it.
+    fn end(&self, held: MutexGuard<'_, Held<D, K, N>>, queue: Option<u32>) {
+        let mut held = held;
+        if queue.is_some() {
+            held.wake(Sleepers::waiting_on(queue));
+        }
+        self.let_go(held);
+    }
 }

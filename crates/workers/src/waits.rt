@@ -1,126 +1,180 @@
-//! How the threads of a service wait: for the latch, for a lock, for an entry, and for a moment
-//! between calls.
+//! How the threads of a service wait: for the latch, for a lock, for a call on a queue, and for a
+//! moment between calls.
 
 use crate::gate::Gate;
-use crate::held::{Held, Sleepers};
+use crate::held::Held;
 use crate::naming::Base;
 use crate::service::Service;
+use crate::sleepers::Sleepers;
 use bucket_page::PseudoKey;
-use crossbeam_utils::Backoff;
 use page_device::PageDevice;
 use seat_passes::Room;
 use std::sync::{Condvar, MutexGuard, Wait};
+use std::thread;
 use std::time::{Clock, Duration};
 
 /// How often a thread looks for the latch before it sleeps.
-const LOOKS: u32 = 20;
+const LOOKS: u32 = 100;
+
+/// How often a call makes its step again, which is blocked or waits, before its seat sleeps.
+const TRIES: u32 = 6;
+
+/// A pause has two to the power of so many yields at most.
+const LONGEST: u32 = 4;
+
+/// What is left of the patience of a thread: in each pause it lets others go on, for longer than
+/// in the one before.
+#[derive(Clone, Copy, Debug, Drop)]
+pub(crate) struct Patience {
+    pauses: u32,
+}
+
+impl Patience {
+    pub(crate) fn new() -> Patience {
+        Patience { pauses: 0 }
+    }
+
+    /// Whether the thread is to sleep now.
+    pub(crate) fn is_over(&self) -> bool {
+        self.pauses >= TRIES
+    }
+
+    /// Lets others go on for a while.
+    fn pause(&mut self) {
+        for _ in 0..1u32 << self.pauses.min(LONGEST) {
+            thread::yield_now();
+        }
+        self.pauses = self.pauses.saturating_add(1);
+    }
+}
 
 impl<D: PageDevice + Drop, K: PseudoKey + Drop, G: Gate, N: Room + Base> Service<D, K, G, N> {
-    /// The latch, once it is free. It is free again soon, since a hold is short: so a thread looks
-    /// for it a while before it sleeps.
+    /// The latch, once it is free. A thread looks for it for a while before it sleeps, since a hold
+    /// is short, and looks seldom: then another seldom takes over from one that goes on at once,
+    /// and what that has at hand in its processor seldom goes to another.
     pub(crate) fn hold<R: Wait>(&self, rt: &R) -> MutexGuard<'_, Held<D, K, N>> {
-        let backoff = Backoff::new();
+        let mut patience = Patience::new();
         for _ in 0..LOOKS {
             if let Some(held) = self.latch.try_lock() {
                 return held;
             }
-            backoff.snooze();
+            patience.pause();
         }
         self.latch.lock(rt)
     }
 
     /// The latch, once it is free and no moment between calls is wanted.
     pub(crate) fn hold_to_begin<R: Wait>(&self, rt: &R) -> MutexGuard<'_, Held<D, K, N>> {
+        let mut held = self.hold(rt);
         for _ in rt.forever() {
-            let held = self.hold(rt);
             if !held.is_to_rest() {
                 return held;
             }
-            drop(self.rested.wait(rt, held));
+            held = self.signals.rested.wait(rt, held);
         }
         unreachable!()
     }
 
-    /// A seat that is blocked lets others go on for a while, and then sleeps until a lock is given
-    /// back.
-    pub(crate) fn await_lock<R: Wait>(
-        &self,
-        rt: &R,
-        held: MutexGuard<'_, Held<D, K, N>>,
-        patience: &Backoff,
-    ) {
+    /// Lets the latch go, and wakes those who are to be woken.
+    pub(crate) fn let_go(&self, held: MutexGuard<'_, Held<D, K, N>>) {
         let mut held = held;
-        if patience.is_completed() {
-            held.note_blocked();
-            drop(self.freed.wait(rt, held));
-        } else {
-            drop(held);
-            patience.snooze();
-        }
+        let due = held.take_due();
+        drop(held);
+        self.signals.rouse(due);
     }
 
-    /// A seat whose call waits lets others go on for a while, and then sleeps until the journal has
-    /// grown.
-    pub(crate) fn await_entry<R: Wait>(
-        &self,
+    /// A seat that was blocked by another lets others go on for a while, and then sleeps until that
+    /// one gives a lock back.
+    pub(crate) fn await_lock<'a, R: Wait>(
+        &'a self,
         rt: &R,
-        held: MutexGuard<'_, Held<D, K, N>>,
-        patience: &Backoff,
-    ) {
-        let mut held = held;
-        if patience.is_completed() {
-            held.note_waiting();
-            drop(self.decided.wait(rt, held));
-        } else {
-            drop(held);
-            patience.snooze();
+        held: MutexGuard<'a, Held<D, K, N>>,
+        seat: u8,
+        by: u8,
+        patience: &mut Patience,
+    ) -> MutexGuard<'a, Held<D, K, N>> {
+        if patience.is_over() {
+            let among = held.blocked_by(seat, by);
+            let held = self.to_sleep(held, among);
+            return self.signals.freed(by).wait(rt, held);
         }
+        self.pause(rt, held, patience)
+    }
+
+    /// A seat whose call on a queue waits lets others go on for a while, and then sleeps until a
+    /// call on this queue is over.
+    pub(crate) fn await_call<'a, R: Wait>(
+        &'a self,
+        rt: &R,
+        held: MutexGuard<'a, Held<D, K, N>>,
+        queue: Option<u32>,
+        patience: &mut Patience,
+    ) -> MutexGuard<'a, Held<D, K, N>> {
+        if patience.is_over() {
+            let held = self.to_sleep(held, Sleepers::waiting_on(queue));
+            return self.signals.decided(queue).wait(rt, held);
+        }
+        self.pause(rt, held, patience)
     }
 
     /// The same for so long at most.
-    pub(crate) fn await_entry_within<R: Wait + Clock>(
-        &self,
+    pub(crate) fn await_call_within<'a, R: Wait + Clock>(
+        &'a self,
         rt: &R,
-        held: MutexGuard<'_, Held<D, K, N>>,
-        patience: &Backoff,
+        held: MutexGuard<'a, Held<D, K, N>>,
+        queue: Option<u32>,
+        patience: &mut Patience,
         left: Duration,
-    ) {
-        let mut held = held;
-        if patience.is_completed() {
-            held.note_waiting();
-            drop(self.decided.wait_timeout(rt, held, left));
-        } else {
-            drop(held);
-            patience.snooze();
+    ) -> MutexGuard<'a, Held<D, K, N>> {
+        if patience.is_over() {
+            let held = self.to_sleep(held, Sleepers::waiting_on(queue));
+            let (held, _) = self.signals.decided(queue).wait_timeout(rt, held, left);
+            return held;
         }
+        self.pause(rt, held, patience)
     }
 
     /// Who wants a moment between calls sleeps until a call has ended or waits; from here on none
     /// begins.
-    pub(crate) fn await_rest<R: Wait>(&self, rt: &R, held: MutexGuard<'_, Held<D, K, N>>) {
+    pub(crate) fn await_rest<'a, R: Wait>(
+        &'a self,
+        rt: &R,
+        held: MutexGuard<'a, Held<D, K, N>>,
+    ) -> MutexGuard<'a, Held<D, K, N>> {
+        let held = self.to_sleep(held, Sleepers::at_rest());
+        self.signals.ended.wait(rt, held)
+    }
+
+    /// Whoever holds the latch is noted among these, and will sleep: it wakes those who are to be
+    /// woken.
+    fn to_sleep<'a>(
+        &self,
+        held: MutexGuard<'a, Held<D, K, N>>,
+        among: Sleepers,
+    ) -> MutexGuard<'a, Held<D, K, N>> {
         let mut held = held;
-        held.note_resting();
-        drop(self.rested.wait(rt, held));
+        let due = held.take_due();
+        self.signals.rouse(due);
+        held.note(among);
+        held
     }
 
-    /// Wakes who sleeps.
-    pub(crate) fn rouse(&self, sleepers: Sleepers) {
-        if sleepers.blocked {
-            self.freed.notify_all();
-        }
-        if sleepers.waiting {
-            self.decided.notify_all();
-        }
-        if sleepers.resting {
-            self.rested.notify_all();
-        }
+    /// Lets the latch go, and then others go on for a while, and takes it again.
+    fn pause<R: Wait>(
+        &self,
+        rt: &R,
+        held: MutexGuard<'_, Held<D, K, N>>,
+        patience: &mut Patience,
+    ) -> MutexGuard<'_, Held<D, K, N>> {
+        self.let_go(held);
+        patience.pause();
+        self.hold(rt)
     }
 
-    /// A step has failed, or a call has no room: lets the latch go, and wakes all.
+    /// A step has failed, or a call has no room: lets the latch go, and wakes all that have a call.
     pub(crate) fn rouse_all(&self, held: MutexGuard<'_, Held<D, K, N>>) {
         let mut held = held;
-        let sleepers = held.wake(true, true);
-        drop(held);
-        self.rouse(sleepers);
+        held.wake(Sleepers::in_calls());
+        self.let_go(held);
     }
 }
