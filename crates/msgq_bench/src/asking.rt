@@ -39,13 +39,22 @@ pub fn send(alloc: Global, id: u32, mtype: i64, bytes: &[u8]) -> Result<Call, No
     }))
 }
 
-/// The first message of a type.
+/// The first message of a type, which stands.
 pub fn receive(id: u32, mtype: i64) -> Call {
+    receives(id, mtype, true)
+}
+
+/// The first message of a type, once it stands.
+pub fn await_message(id: u32, mtype: i64) -> Call {
+    receives(id, mtype, false)
+}
+
+fn receives(id: u32, mtype: i64, nowait: bool) -> Call {
     Call::Receive(ReceiveArguments {
         id,
         size: 1024,
         mtype,
-        nowait: true,
+        nowait,
         noerror: false,
         moment: 3,
     })

@@ -1,10 +1,10 @@
-//! Calls of threads on a service, each at a seat and on a queue of its own.
+//! Calls of threads on a service, each at a seat and on a queue of its own, and of more that wait.
 
 ghost use Rattle.std.specs.Prelude.{◌≡◌, ◌≤◌, IsTrue, length};
 ghost use Rattle.bucket_page.specs.Pseudokeys.{sha_key};
 ghost use Rattle.workers.specs.Opening.{HasFrames, origin_of};
 
-use crate::asking::{get, receive, send};
+use crate::asking::{await_message, get, receive, send};
 use crate::calling::{CALLER, Keys, PAGES, new_file};
 use crate::{nanoseconds, spent_since};
 use bucket_page::ShaKey;
@@ -19,6 +19,15 @@ use std::thread::Threads;
 use std::time::{Clock, Duration, Instant};
 use step_rules::Kind;
 use workers::{Base, Gate, Prepared, Room, Seat, Service, Started};
+
+/// Seats up to this one make calls. Those above wait meanwhile.
+const CALLING: usize = 4;
+
+/// The key of the queue on which they wait.
+const WAITING: u32 = 64;
+
+/// Who calls, and who waits beside them.
+const CALLERS: [Caller; 32] = [CALLER; 32];
 
 /// A gate that stands open, with so many steps in a hold at most.
 #[derive(Drop)]
@@ -36,24 +45,33 @@ impl Gate for AtOnce {
 pub fn once<R: Threads + Wait + Clock + Print + AllocGlobal + Sync>(rt: &R) -> anyhow::Result<()> {
     let (_, one) = spent(rt, rt.alloc(), &[CALLER], AtOnce(4), 3)?;
     let (_, four) = spent(rt, rt.alloc(), &[CALLER; 4], AtOnce(4), 3)?;
-    println!(rt; "received by one thread: {one}, by four: {four}")?;
+    let (_, beside) = spent(rt, rt.alloc(), &CALLERS, AtOnce(4), 3)?;
+    println!(rt;
+        "received by one thread: {one}, by four: {four}, beside others that wait: {beside}"
+    )?;
     Ok(())
 }
 
 /// Times messages of 64 bytes sent and received by turns, so many together, by one thread and by four,
-/// each on a queue of its own, beside the nanoseconds that a kernel alone takes for a call.
+/// each on a queue of its own, beside the nanoseconds that a kernel alone takes for a call; and by the
+/// four beside 28 more that wait.
 pub fn times<R: Threads + Wait + Clock + Print + AllocGlobal + Sync>(
     rt: &R,
     alone: u128,
     messages: u32,
 ) -> anyhow::Result<()> {
-    for most in [1, 4, 16, 64] {
+    for most in [1, 4, 16, 32, 64] {
         let one = of_a_call(rt, rt.alloc(), &[CALLER], AtOnce(most), messages)?;
         let four = of_a_call(rt, rt.alloc(), &[CALLER; 4], AtOnce(most), messages / 4)?;
+        let beside = of_a_call(rt, rt.alloc(), &CALLERS, AtOnce(most), messages / 4)?;
         let (slower, more) = (percent(one, alone), percent(one, four));
+        let still = percent(one, beside);
         println!(rt; "steps at once {most}: by one thread {one} ns, {slower} % of a kernel's")?;
         println!(rt;
             "steps at once {most}: by four threads {four} ns, {more} % of the calls of one"
+        )?;
+        println!(rt;
+            "steps at once {most}: by four beside 28 that wait {beside} ns, {still} % of the calls of one"
         )?;
     }
     Ok(())
@@ -79,7 +97,7 @@ fn percent(part: u128, whole: u128) -> u128 {
 }
 
 /// How long threads take, one for each caller, each of which sends a message of 64 bytes and receives
-/// it, so often, and how many were received.
+/// it, so often, and how many were received. From the fifth on each waits until the others are done.
 fn spent<R: Threads + Wait + Clock + Sync>(
     rt: &R,
     alloc: Global,
@@ -112,11 +130,12 @@ fn share<N: Room + Base + Send + Sync, R: Threads + Wait + Clock + Sync>(
     let Ok(Started { service, seats, .. }) = prepared.start::<AtOnce, N>(gate) else {
         anyhow::bail!("it does not start");
     };
+    let waiting = seats.len().saturating_sub(CALLING) / CALLING;
     let start = Instant::now(rt);
     let received = thread::map_vec(
         rt,
         seats,
-        &|seat| by_turns(rt, alloc, &service, seat, rounds),
+        &|seat| takes_part(rt, alloc, &service, seat, rounds, waiting),
     );
     let spent = spent_since(rt, start);
     drop(service.abandon(Vec::new(alloc)));
@@ -126,17 +145,55 @@ fn share<N: Room + Base + Send + Sync, R: Threads + Wait + Clock + Sync>(
     Ok((spent?, all))
 }
 
-/// Sends and receives by turns on a queue of its own, and tells how many were received.
-fn by_turns<N: Room + Base, R: Wait>(
+/// Sends and receives by turns, and then sends so many messages to those that wait, or is one of them.
+/// Tells how many were received by turns.
+fn takes_part<N: Room + Base, R: Wait>(
     rt: &R,
     alloc: Global,
     service: &Service<MemDevice, Keys, AtOnce, N>,
     seat: Seat<N>,
     rounds: u32,
+    waiting: usize,
 ) -> u32 {
     let mut seat = seat;
-    let key = u32::from(seat.number());
-    let Ok(Answer::Id(id)) = service.call(rt, &mut seat, get(key)) else {
+    let number = seat.number();
+    if usize::from(number) > CALLING {
+        if let Ok(Answer::Id(id)) = service.call(rt, &mut seat, get(WAITING)) {
+            let _ = service.call(rt, &mut seat, await_message(id, 0));
+        }
+        return 0;
+    }
+    let received = by_turns(rt, alloc, service, &mut seat, u32::from(number), rounds);
+    for _ in 0..waiting {
+        sends(rt, alloc, service, &mut seat);
+    }
+    received
+}
+
+/// Sends a message to those that wait.
+fn sends<N: Room + Base, R: Wait>(
+    rt: &R,
+    alloc: Global,
+    service: &Service<MemDevice, Keys, AtOnce, N>,
+    seat: &mut Seat<N>,
+) {
+    if let Ok(Answer::Id(id)) = service.call(rt, seat, get(WAITING)) {
+        if let Ok(send) = send(alloc, id, 1, &[7; 64]) {
+            let _ = service.call(rt, seat, send);
+        }
+    }
+}
+
+/// Sends and receives by turns on the queue of a key, and tells how many were received.
+fn by_turns<N: Room + Base, R: Wait>(
+    rt: &R,
+    alloc: Global,
+    service: &Service<MemDevice, Keys, AtOnce, N>,
+    seat: &mut Seat<N>,
+    key: u32,
+    rounds: u32,
+) -> u32 {
+    let Ok(Answer::Id(id)) = service.call(rt, seat, get(key)) else {
         return 0;
     };
     let mut received = 0u32;
@@ -144,8 +201,8 @@ fn by_turns<N: Room + Base, R: Wait>(
         let Ok(send) = send(alloc, id, 1, &[7; 64]) else {
             return received;
         };
-        let sent = service.call(rt, &mut seat, send);
-        let told = service.call(rt, &mut seat, receive(id, 0));
+        let sent = service.call(rt, seat, send);
+        let told = service.call(rt, seat, receive(id, 0));
         if let (Ok(Answer::Sent(_)), Ok(Answer::Received(_))) = (sent, told) {
             received = received.wrapping_add(1);
         }

@@ -8,15 +8,17 @@ pub trait Gate {
     /// The call of this seat has moved, and its last step is of this kind.
     fn between(&self, seat: u8, kind: Kind);
 
-    /// How many steps a hold makes at most. A gate that is to see each step says 1, as this does.
+    /// How many steps a hold makes at most. From half as many on it ends at the first after which
+    /// its seat holds neither the directory nor a page. A gate that is to see each step says 1, as
+    /// this does.
     fn steps_at_once(&self) -> u32 {
         1
     }
 }
 
-/// How many steps a hold makes at most where no gate is to see them: a call makes some forty. With
-/// more of them threads sleep and look as often.
-const AT_ONCE: u32 = 16;
+/// How many steps a hold makes at most where no gate is to see them. A Send or a Receive is then of
+/// three holds.
+const AT_ONCE: u32 = 32;
 
 /// A gate that stands open.
 #[derive(Clone, Copy, Debug, Drop, PartialEq, Eq)]

@@ -73,7 +73,13 @@ impl<D: PageDevice + Drop, K: PseudoKey + Drop, G: Gate, N: Room + Base> Service
         for _ in rt.forever() {
             let (last, step) = self.advance(rt, held, &mut seat.pass, seat.number, &mut patience);
             match step {
-                Step::Waiting => held = self.await_call(rt, last, queue, &mut patience),
+                Step::Waiting => held = self.await_call(
+                    rt,
+                    last,
+                    queue,
+                    &mut patience,
+                    Duration::MAX,
+                ),
                 Step::Answered(answer) => {
                     self.end(last, queue);
                     let number = seat.number;
@@ -130,7 +136,7 @@ impl<D: PageDevice + Drop, K: PseudoKey + Drop, G: Gate, N: Room + Base> Service
             match step {
                 Step::Waiting => match limit.left(rt) {
                     Some(left) => {
-                        held = self.await_call_within(rt, held, queue, &mut patience, left);
+                        held = self.await_call(rt, held, queue, &mut patience, left);
                     }
                     None => {
                         if held.take_back(&self.gauge, &mut seat.pass, seat.number) {

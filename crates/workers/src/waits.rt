@@ -11,7 +11,7 @@ use page_device::PageDevice;
 use seat_passes::Room;
 use std::sync::{Condvar, MutexGuard, Wait};
 use std::thread;
-use std::time::{Clock, Duration};
+use std::time::Duration;
 
 /// How often a thread looks for the latch before it sleeps.
 const LOOKS: u32 = 100;
@@ -70,7 +70,8 @@ impl<D: PageDevice + Drop, K: PseudoKey + Drop, G: Gate, N: Room + Base> Service
             if !held.is_to_rest() {
                 return held;
             }
-            held = self.signals.rested.wait(rt, held);
+            let rested = &self.signals.rested;
+            held = self.sleep(rt, held, rested, Sleepers::nobody(), Duration::MAX);
         }
         unreachable!()
     }
@@ -95,41 +96,24 @@ impl<D: PageDevice + Drop, K: PseudoKey + Drop, G: Gate, N: Room + Base> Service
     ) -> MutexGuard<'a, Held<D, K, N>> {
         if patience.is_over() {
             let among = held.blocked_by(seat, by);
-            let held = self.to_sleep(held, among);
-            return self.signals.freed(by).wait(rt, held);
+            return self.sleep(rt, held, self.signals.freed(by), among, Duration::MAX);
         }
         self.pause(rt, held, patience)
     }
 
     /// A seat whose call on a queue waits lets others go on for a while, and then sleeps until a
-    /// call on this queue is over.
+    /// call on this queue is over, but for so long at most.
     pub(crate) fn await_call<'a, R: Wait>(
         &'a self,
         rt: &R,
         held: MutexGuard<'a, Held<D, K, N>>,
         queue: Option<u32>,
         patience: &mut Patience,
+        most: Duration,
     ) -> MutexGuard<'a, Held<D, K, N>> {
         if patience.is_over() {
-            let held = self.to_sleep(held, Sleepers::waiting_on(queue));
-            return self.signals.decided(queue).wait(rt, held);
-        }
-        self.pause(rt, held, patience)
-    }
-
-    /// The same for so long at most.
-    pub(crate) fn await_call_within<'a, R: Wait + Clock>(
-        &'a self,
-        rt: &R,
-        held: MutexGuard<'a, Held<D, K, N>>,
-        queue: Option<u32>,
-        patience: &mut Patience,
-        left: Duration,
-    ) -> MutexGuard<'a, Held<D, K, N>> {
-        if patience.is_over() {
-            let held = self.to_sleep(held, Sleepers::waiting_on(queue));
-            let (held, _) = self.signals.decided(queue).wait_timeout(rt, held, left);
-            return held;
+            let among = Sleepers::waiting_on(queue);
+            return self.sleep(rt, held, self.signals.decided(queue), among, most);
         }
         self.pause(rt, held, patience)
     }
@@ -141,31 +125,36 @@ impl<D: PageDevice + Drop, K: PseudoKey + Drop, G: Gate, N: Room + Base> Service
         rt: &R,
         held: MutexGuard<'a, Held<D, K, N>>,
     ) -> MutexGuard<'a, Held<D, K, N>> {
-        let held = self.to_sleep(held, Sleepers::at_rest());
-        self.signals.ended.wait(rt, held)
+        let ended = &self.signals.ended;
+        self.sleep(rt, held, ended, Sleepers::at_rest(), Duration::MAX)
     }
 
-    /// Whoever holds the latch is noted among these, and will sleep: it wakes those who are to be
-    /// woken.
-    fn to_sleep<'a>(
-        &self,
+    /// Sleeps until this signal is given, but for so long at most, and takes the latch again. It is
+    /// noted among whom. A signal that is given once the latch is free is not missed; and the latch
+    /// is not taken as by a wait on the signal, which soon sleeps again where it is not free.
+    fn sleep<'a, R: Wait>(
+        &'a self,
+        rt: &R,
         held: MutexGuard<'a, Held<D, K, N>>,
+        signal: &Condvar,
         among: Sleepers,
+        most: Duration,
     ) -> MutexGuard<'a, Held<D, K, N>> {
         let mut held = held;
-        let due = held.take_due();
-        self.signals.rouse(due);
         held.note(among);
-        held
+        let seen = signal.notifications();
+        self.let_go(held);
+        signal.sleep(rt, seen, most);
+        self.hold(rt)
     }
 
     /// Lets the latch go, and then others go on for a while, and takes it again.
-    fn pause<R: Wait>(
-        &self,
+    fn pause<'a, R: Wait>(
+        &'a self,
         rt: &R,
-        held: MutexGuard<'_, Held<D, K, N>>,
+        held: MutexGuard<'a, Held<D, K, N>>,
         patience: &mut Patience,
-    ) -> MutexGuard<'_, Held<D, K, N>> {
+    ) -> MutexGuard<'a, Held<D, K, N>> {
         self.let_go(held);
         patience.pause();
         self.hold(rt)
