@@ -1,14 +1,14 @@
 //! What lies under the latch: the kernel, what was taken out of its journal, its pass, the number
 //! of its calls, and who sleeps.
 
-ghost use Rattle.std.specs.Prelude.{◌≡◌, ◌≤◌, ◌++◌, IfOk, OnErr, length};
+ghost use Rattle.std.specs.Prelude.{◌≡◌, ◌≤◌, ◌++◌, IfOk, IsTrue, OnErr, false, length};
 ghost use Rattle.interleaving_core.specs.Renewing.{Withdraws};
 ghost use Rattle.interleavings.specs.Words.{answer_told, entry_of};
 ghost use Rattle.seat_passes.specs.Rule.{IsChange, IsRight, moved};
 ghost use Rattle.seat_passes.specs.Views.{calls_in, place_at};
 ghost use Rattle.workers.specs.Entries.{seat_of};
 ghost use Rattle.workers.specs.Held.{known_of, whole};
-ghost use Rattle.workers.specs.Told.{HasBegun, IsTold, Rests, TakesBack};
+ghost use Rattle.workers.specs.Told.{HasBegun, IsTakenBack, IsTold, Rests, TakesBack};
 
 use crate::entries::{Own, Passes, Sitter};
 use crate::fault::Fault;

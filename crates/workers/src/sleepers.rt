@@ -1,5 +1,7 @@
 //! Who sleeps, and what they sleep on.
 
+ghost use Rattle.std.specs.Prelude.{◌<◌};
+
 use queue_model::Call;
 use std::array;
 use std::sync::Condvar;
@@ -179,12 +181,16 @@ pub(crate) fn queue_on(call: &Call) -> Option<u32> {
 }
 
 /// The place of a seat. Seats count from 1.
-fn place_of_seat(seat: u8) -> u32 {
+fn place_of_seat(seat: u8) -> u32
+    ensures { result < PLACES }
+{
     u32::from(seat) % PLACES
 }
 
 /// The place of a queue. Ids count from 1, so a Get's place is that of queue 64.
-fn place_of_queue(queue: Option<u32>) -> u32 {
+fn place_of_queue(queue: Option<u32>) -> u32
+    ensures { result < PLACES }
+{
     queue.unwrap_or(0) % PLACES
 }
 

@@ -1,5 +1,5 @@
 use Rattle.workers.proofs.SeatLemmas.{Stays}
 use Rattle.workers.proofs.held.Held.steps.Given as goal
 
-abbrev pub invariant-loop : goal.invariant-loop
-invariant-loop g l = Stays l.fn.pass l.pass
+abbrev pub invariant-loop-done : goal.invariant-loop-done
+invariant-loop-done g l = Stays l.fn.pass l.pass
