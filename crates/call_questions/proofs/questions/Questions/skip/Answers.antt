@@ -1,5 +1,5 @@
 -- The access makes its moves, and the inquiry hears of it.
-use Rattle.std.proofs.Common.{◌≡◌, ℕ, ◌+◌, min, sym, ap, ◌∙◌, subst, Bool, Option, None, if◌then◌else◌}
+use Rattle.std.proofs.Common.{◌≡◌, ℕ, ◌+◌, min, sym, ap, ◌∙◌, subst, Bool, Option, Some, None, if◌then◌else◌}
 use Rattle.record_access.specs.AccessRuns.{FindsAtOnce}
 use Rattle.call_questions.specs.Counting.{MOST_FINDS}
 use Rattle.call_questions.specs.QuestionRuns.{AsksAtOnce}
