@@ -6,7 +6,7 @@ ghost use Rattle.workers.specs.Opening.{HasFrames, origin_of};
 
 use crate::asking::{await_message, get, receive, send};
 use crate::calling::{CALLER, Keys, PAGES, new_file};
-use crate::{nanoseconds, spent_since};
+use crate::nanoseconds;
 use bucket_page::ShaKey;
 use kept_keys::KeptKeys;
 use page_device::MemDevice;
@@ -14,9 +14,9 @@ use queue_model::{Answer, Caller};
 use std::alloc::Global;
 use std::marker::Brand;
 use std::sync::Wait;
-use std::thread;
 use std::thread::Threads;
 use std::time::{Clock, Duration, Instant};
+use std::{io, thread};
 use step_rules::Kind;
 use workers::{Base, Gate, Prepared, Room, Seat, Service, Started};
 
@@ -97,7 +97,8 @@ fn percent(part: u128, whole: u128) -> u128 {
 }
 
 /// How long threads take, one for each caller, each of which sends a message of 64 bytes and receives
-/// it, so often, and how many were received. From the fifth on each waits until the others are done.
+/// it, so often, and how many were received. From the fifth on each waits until the others are done,
+/// and is not counted.
 fn spent<R: Threads + Wait + Clock + Sync>(
     rt: &R,
     alloc: Global,
@@ -130,82 +131,93 @@ fn share<N: Room + Base + Send + Sync, R: Threads + Wait + Clock + Sync>(
     let Ok(Started { service, seats, .. }) = prepared.start::<AtOnce, N>(gate) else {
         anyhow::bail!("it does not start");
     };
-    let waiting = seats.len().saturating_sub(CALLING) / CALLING;
-    let start = Instant::now(rt);
-    let received = thread::map_vec(
-        rt,
-        seats,
-        &|seat| takes_part(rt, alloc, &service, seat, rounds, waiting),
-    );
-    let spent = spent_since(rt, start);
-    drop(service.abandon(Vec::new(alloc)));
-    let all = received?
-        .iter()
-        .fold(0u32, |sum, many| sum.saturating_add(*many));
-    Ok((spent?, all))
-}
-
-/// Sends and receives by turns, and then sends so many messages to those that wait, or is one of them.
-/// Tells how many were received by turns.
-fn takes_part<N: Room + Base, R: Wait>(
-    rt: &R,
-    alloc: Global,
-    service: &Service<MemDevice, Keys, AtOnce, N>,
-    seat: Seat<N>,
-    rounds: u32,
-    waiting: usize,
-) -> u32 {
-    let mut seat = seat;
-    let number = seat.number();
-    if usize::from(number) > CALLING {
-        if let Ok(Answer::Id(id)) = service.call(rt, &mut seat, get(WAITING)) {
-            let _ = service.call(rt, &mut seat, await_message(id, 0));
-        }
-        return 0;
-    }
-    let received = by_turns(rt, alloc, service, &mut seat, u32::from(number), rounds);
-    for _ in 0..waiting {
-        sends(rt, alloc, service, &mut seat);
-    }
-    received
-}
-
-/// Sends a message to those that wait.
-fn sends<N: Room + Base, R: Wait>(
-    rt: &R,
-    alloc: Global,
-    service: &Service<MemDevice, Keys, AtOnce, N>,
-    seat: &mut Seat<N>,
-) {
-    if let Ok(Answer::Id(id)) = service.call(rt, seat, get(WAITING)) {
-        if let Ok(send) = send(alloc, id, 1, &[7; 64]) {
-            let _ = service.call(rt, seat, send);
-        }
-    }
-}
-
-/// Sends and receives by turns on the queue of a key, and tells how many were received.
-fn by_turns<N: Room + Base, R: Wait>(
-    rt: &R,
-    alloc: Global,
-    service: &Service<MemDevice, Keys, AtOnce, N>,
-    seat: &mut Seat<N>,
-    key: u32,
-    rounds: u32,
-) -> u32 {
-    let Ok(Answer::Id(id)) = service.call(rt, seat, get(key)) else {
-        return 0;
+    let start = Instant::now(rt)?;
+    let work = Work {
+        alloc,
+        service: &service,
+        start,
+        rounds,
+        waiting: seats.len().saturating_sub(CALLING) / CALLING,
     };
-    let mut received = 0u32;
-    for _ in 0..rounds {
-        let Ok(send) = send(alloc, id, 1, &[7; 64]) else {
-            return received;
-        };
-        let sent = service.call(rt, seat, send);
-        let told = service.call(rt, seat, receive(id, 0));
-        if let (Ok(Answer::Sent(_)), Ok(Answer::Received(_))) = (sent, told) {
-            received = received.wrapping_add(1);
+    let parts = thread::map_vec(rt, seats, &|seat| work.part(rt, seat));
+    drop(service.abandon(Vec::new(alloc)));
+    let (mut spent, mut received) = (Duration::ZERO, 0u32);
+    for part in parts? {
+        spent = spent.max(part.spent?);
+        received = received.saturating_add(part.received);
+    }
+    Ok((spent, received))
+}
+
+/// What the threads of a service do.
+#[derive(Drop)]
+struct Work<'a, N: Room + Base> {
+    alloc: Global,
+    service: &'a Service<MemDevice, Keys, AtOnce, N>,
+    start: Instant,
+    /// So many messages each sends and receives by turns.
+    rounds: u32,
+    /// So many it sends after that to those that wait.
+    waiting: usize,
+}
+
+/// The part of a thread.
+#[derive(Debug, Drop)]
+struct Part {
+    /// How many messages were received by turns.
+    received: u32,
+    /// How long after the start that was done.
+    spent: io::Result<Duration>,
+}
+
+impl<N: Room + Base> Work<'_, N> {
+    /// Sends and receives by turns on a queue of its own, and then sends to those that wait, or is
+    /// one of them.
+    fn part<R: Wait + Clock>(&self, rt: &R, seat: Seat<N>) -> Part {
+        let mut seat = seat;
+        let number = seat.number();
+        if usize::from(number) > CALLING {
+            if let Ok(Answer::Id(id)) = self.service.call(rt, &mut seat, get(WAITING)) {
+                let _ = self.service.call(rt, &mut seat, await_message(id, 0));
+            }
+            return Part {
+                received: 0,
+                spent: Ok(Duration::ZERO),
+            };
+        }
+        let received = self.by_turns(rt, &mut seat, u32::from(number));
+        let spent = self.start.elapsed(rt);
+        for _ in 0..self.waiting {
+            self.sends(rt, &mut seat);
+        }
+        Part { received, spent }
+    }
+
+    /// Sends a message to those that wait.
+    fn sends<R: Wait>(&self, rt: &R, seat: &mut Seat<N>) {
+        if let Ok(Answer::Id(id)) = self.service.call(rt, seat, get(WAITING)) {
+            if let Ok(send) = send(self.alloc, id, 1, &[7; 64]) {
+                let _ = self.service.call(rt, seat, send);
+            }
         }
     }
-    received
+
+    /// Sends and receives by turns on the queue of a key, and tells how many were received.
+    fn by_turns<R: Wait>(&self, rt: &R, seat: &mut Seat<N>, key: u32) -> u32 {
+        let Ok(Answer::Id(id)) = self.service.call(rt, seat, get(key)) else {
+            return 0;
+        };
+        let mut received = 0u32;
+        for _ in 0..self.rounds {
+            let Ok(send) = send(self.alloc, id, 1, &[7; 64]) else {
+                return received;
+            };
+            let sent = self.service.call(rt, seat, send);
+            let told = self.service.call(rt, seat, receive(id, 0));
+            if let (Ok(Answer::Sent(_)), Ok(Answer::Received(_))) = (sent, told) {
+                received = received.wrapping_add(1);
+            }
+        }
+        received
+    }
 }
