@@ -1,5 +1,6 @@
 pub mod FaultLemmas
 pub mod LoadLemmas
+pub mod RefusalLemmas
 pub mod SessionLemmas
 pub mod PageLemmas
 pub mod SaveLemmas

@@ -1,15 +1,23 @@
 -- A session over the pages of a file in memory: the system that it holds, and what its calls are answered.
 -- docs/QUEUES.md, "Calls"; docs/FORMAT.md, "Pages".
-use Rattle.std.specs.Prelude.{ℕ, ◌≡◌, ◌*◌, ◌<◌, ◌≤◌, Bool, true, false, List, [], Option, Some, None, Result, Ok, Err, drop, length, slice_index_or, take}
+use Rattle.std.specs.Prelude.{ℕ, ◌≡◌, ◌≢◌, ◌⊎◌, ◌*◌, ◌/◌, ◌%◌, ◌<◌, ◌≤◌, Bool, true, false, List, [], Option, Some, None, Result, Ok, Err, drop, length, slice_index_or, take}
 use Rattle.bucket_page.specs.Pseudokeys.{sha_key}
 use Rattle.bucket_page.specs.declared.pseudokey.ShaKey.{ShaKey}
 use Rattle.page_device.specs.Device.{HasRisen}
-use Rattle.page_device.specs.declared.page.TheConstants.{PAGE_BYTES}
+use Rattle.page_device.specs.declared.fault.DeviceFault.{DeviceFault}
+use Rattle.page_device.specs.declared.fault.DeviceFault.TheVariants as devices
+use Rattle.page_device.specs.declared.page.TheConstants.{MAX_PAGES, PAGE_BYTES}
 use Rattle.file_pages.specs.Files.{listed}
 use Rattle.queue_model.specs.Journal.{outcome_for}
+use Rattle.file_walk.specs.declared.fault.StructureFault.TheVariants as structure
 use Rattle.one_bucket_file.specs.Files.{no_queues}
+use Rattle.interleaving_core.specs.Beginning.{MayRefuseUnchecked}
+use Rattle.interleaving_core.specs.Fault.{device_failed}
+use Rattle.interleaving_core.specs.file_check.declared.fault.CheckFault.TheVariants.{Structure}
 use Rattle.interleaving_core.specs.Renewing.{IsPage}
 use Rattle.interleaving_core.specs.declared.fault.BeginFault.TheVariants as begins
+use Rattle.interleaving_core.specs.declared.fault.OpenFault.{OpenFault}
+use Rattle.interleaving_core.specs.declared.fault.OpenFault.TheVariants as opens
 use Rattle.interleaving_core.specs.declared.fault.StepFault.TheVariants as faults
 use Rattle.interleaving_core.specs.declared.step.Step.TheVariants as steps
 use Rattle.lone_kernel.specs.Lone.{RestsOver}
@@ -63,6 +71,41 @@ pub record OpensNew (caller : Caller) (pages : ℕ) (k : SessionState) : Type 0 
   pub holds : Holds no_queues k
   pub sits : caller_of k ≡ Some caller
   pub many : pages_of k ≡ pages
+
+-- ---- it is not opened
+
+-- why pages are not opened: by the first thing that is wrong with the file that they are, or there is no memory. There
+-- are frames enough, and no transfer fails in memory
+pub record MayNotOpen (content : List (List ℕ)) (fault : OpenFault) : Type 0 where
+  pub cause : MayRefuseUnchecked sha_key content fault
+  pub framed : fault ≢ opens.TooFewFrames
+  pub sound : fault ≢ device_failed
+
+-- what is told of bytes that are no pages of a file
+abbrev pub unloaded_by : DeviceFault → OpenFault
+unloaded_by devices.Device = opens.NoMemory
+unloaded_by devices.BadDigest = opens.NoMemory
+unloaded_by devices.PastEnd = opens.NoMemory
+unloaded_by devices.DeviceFull = opens.Wrong (Structure structure.BadHeader)
+unloaded_by devices.NoMemory = opens.NoMemory
+
+-- the last page is cut
+pub record IsCut (bytes : List ℕ) (fault : OpenFault) : Type 0 where
+  pub told : fault ≡ opens.Wrong (Structure structure.PastEnd)
+  pub rest : length bytes % PAGE_BYTES ≢ 0
+
+-- a file has fewer
+pub record HasTooManyPages (bytes : List ℕ) (fault : OpenFault) : Type 0 where
+  pub told : fault ≡ opens.Wrong (Structure structure.BadHeader)
+  pub more : MAX_PAGES < length bytes / PAGE_BYTES
+
+-- why bytes are no pages of a file; or there is no memory for them
+abbrev pub MayNotLoad : List ℕ → OpenFault → Type 0
+MayNotLoad bytes fault = IsCut bytes fault ⊎ HasTooManyPages bytes fault ⊎ (fault ≡ opens.NoMemory)
+
+-- why a file is not opened that is given by its bytes
+abbrev pub MayNotOpenBytes : List ℕ → OpenFault → Type 0
+MayNotOpenBytes bytes fault = MayNotLoad bytes fault ⊎ MayNotOpen (pages_in (length bytes / PAGE_BYTES) bytes) fault
 
 -- ---- its calls
 

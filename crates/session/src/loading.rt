@@ -1,8 +1,8 @@
 //! The pages of a file, from its bytes.
 
-ghost use Rattle.std.specs.Prelude.{◌≡◌, ◌/◌, ◌++◌, ◌∷◌, [], IfOk, length};
-ghost use Rattle.session.specs.Session.{pages_in};
-ghost use Rattle.page_device.specs.declared.page.TheConstants.{PAGE_BYTES};
+ghost use Rattle.std.specs.Prelude.{◌≡◌, ◌/◌, ◌≤◌, ◌++◌, ◌∷◌, [], IfErr, IfOk, IsErrOf, length};
+ghost use Rattle.session.specs.Session.{MayNotLoad, pages_in, unloaded_by};
+ghost use Rattle.page_device.specs.declared.page.TheConstants.{MAX_PAGES, PAGE_BYTES};
 
 use file_walk::StructureFault;
 use interleaving_core::OpenFault;
@@ -13,7 +13,9 @@ use std::alloc::Global;
 /// The pages that these bytes are. Bytes that are not whole pages are those of a file that is cut,
 /// and more pages than a file can have are none of its header.
 pub(crate) fn loaded(alloc: Global, bytes: &[u8]) -> Result<MemDevice, OpenFault>
-    ensures { IfOk result (λ device. device ≡ pages_in (length bytes.now / PAGE_BYTES) bytes.now) }
+    ensures ok { IfOk result
+        (λ device. device ≡ pages_in (length bytes.now / PAGE_BYTES) bytes.now) }
+    ensures refused { IfErr result (MayNotLoad bytes.now) }
 {
     if bytes.len() % PAGE_BYTES != 0 {
         return Err(OpenFault::Wrong(CheckFault::Structure(StructureFault::PastEnd)));
@@ -31,7 +33,8 @@ pub(crate) fn loaded(alloc: Global, bytes: &[u8]) -> Result<MemDevice, OpenFault
 /// Adds a page behind the others.
 fn add(device: &mut MemDevice, bytes: &[u8]) -> Result<(), DeviceFault>
     requires { length bytes.now ≡ PAGE_BYTES }
-    ensures { IfOk result (λ _. device.new ≡ device.old ++ bytes.now ∷ []) }
+    ensures ok { IfOk result (λ _. device.new ≡ device.old ++ bytes.now ∷ []) }
+    ensures full { IsErrOf result DeviceFault.DeviceFull → MAX_PAGES ≤ length device.old }
 {
     let mut page = [0; PAGE_BYTES];
     page.copy_from_slice(bytes);
@@ -39,7 +42,9 @@ fn add(device: &mut MemDevice, bytes: &[u8]) -> Result<(), DeviceFault>
 }
 
 /// Why pages are not loaded.
-fn refusal(fault: DeviceFault) -> OpenFault {
+fn refusal(fault: DeviceFault) -> OpenFault
+    ensures { result ≡ unloaded_by fault }
+{
     match fault {
         DeviceFault::DeviceFull => {
             OpenFault::Wrong(CheckFault::Structure(StructureFault::BadHeader))

@@ -1,9 +1,9 @@
 //! A session, and what is asked of it.
 
-ghost use Rattle.std.specs.Prelude.{◌≡◌, ◌/◌, ◌<◌, IfOk, length};
+ghost use Rattle.std.specs.Prelude.{◌≡◌, ◌/◌, ◌<◌, IfErr, IfOk, length};
 ghost use Rattle.page_device.specs.declared.page.TheConstants.{PAGE_BYTES};
-ghost use Rattle.session.specs.Session.{Calls, GivesPage, IsShortened, NotesSave, Opens, OpensNew, Stops, TellsChanges, pages_in, pages_of};
-ghost use Rattle.session.specs.Words.{CanHavePages};
+ghost use Rattle.session.specs.Session.{Calls, GivesPage, IsShortened, MayNotOpen, MayNotOpenBytes, NotesSave, Opens, OpensNew, Stops, TellsChanges, pages_in, pages_of};
+ghost use Rattle.session.specs.Words.{CanHavePages, NO_MEMORY, open_number_of};
 
 use crate::loading::loaded;
 use crate::unanswered::{Unanswered, came_of, is_waiting};
@@ -50,19 +50,30 @@ impl Model for Session {
 }
 
 impl Session {
-    /// Opens a file for a caller, from its bytes. The file is checked, and refused by the first
-    /// thing that is wrong with it.
+    /// Opens a file for a caller, from its bytes. The file is checked.
+    ///
+    /// # Errors
+    ///
+    /// The first thing that is wrong with it; `PastEnd` where the bytes are no whole pages, and
+    /// `BadHeader` where they are more pages than a file has. A fault of no memory where there is
+    /// none.
     pub fn open(alloc: Global, bytes: &[u8], caller: Caller) -> Result<Session, OpenFault>
-        ensures { IfOk result
+        ensures ok { IfOk result
             (Opens caller (pages_in (length bytes.now / PAGE_BYTES) bytes.now)) }
+        ensures refused { IfErr result (MayNotOpenBytes bytes.now) }
     {
         Session::on(alloc, loaded(alloc, bytes)?, caller)
     }
 
     /// Opens a new file of so many pages for a caller.
+    ///
+    /// # Errors
+    ///
+    /// A fault of no memory alone.
     pub fn create(alloc: Global, pages: u32, caller: Caller) -> Result<Session, OpenFault>
         requires { CanHavePages pages }
-        ensures { IfOk result (OpensNew caller pages) }
+        ensures ok { IfOk result (OpensNew caller pages) }
+        ensures refused { IfErr result (λ fault. open_number_of fault ≡ NO_MEMORY) }
     {
         a_new_file_has_no_queues();
         let mut device = MemDevice::new(alloc);
@@ -143,7 +154,8 @@ impl Session {
 
     /// Opens the pages of a device for a caller.
     fn on(alloc: Global, device: MemDevice, caller: Caller) -> Result<Session, OpenFault>
-        ensures { IfOk result (Opens caller device) }
+        ensures ok { IfOk result (Opens caller device) }
+        ensures refused { IfErr result (MayNotOpen device) }
     {
         a_kernel_opens_at_rest::<FileKeys>();
         let frames = LEAST_FRAMES.max(device.pages() as usize);
