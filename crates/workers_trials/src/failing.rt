@@ -50,6 +50,7 @@ fn calls_in_turn_are_answered_or_told_that_a_step_has_failed(rt: HostRuntime) ->
             rounds: 1,
             end: End::Closed,
         },
+        1,
     )
 }
 
@@ -74,6 +75,37 @@ fn calls_at_once_are_answered_or_told_that_a_step_has_failed(rt: HostRuntime) ->
             rounds: 1,
             end: End::Closed,
         },
+        1,
+    )
+}
+
+/// The same, with the file saved once half of them are sent; one of five transfers fails in turn.
+#[test]
+fn calls_beside_a_save_are_answered_or_told_that_a_step_has_failed(
+    rt: HostRuntime,
+) -> Result<(), Fail> {
+    let alloc = rt.alloc();
+    let mut sends = Vec::new(alloc);
+    for sent in 0..MESSAGES {
+        if sent == MESSAGES / 2 {
+            sends.push(Deed::Save)?;
+        }
+        sends.push(Deed::Call(message(alloc)?))?;
+    }
+    let mut scripts = Vec::new(alloc);
+    scripts.push(sends)?;
+    scripts.push(receives(alloc)?)?;
+    let before = queue(alloc)?;
+    fail_each(
+        &rt,
+        alloc,
+        &Plan {
+            before,
+            scripts,
+            rounds: 1,
+            end: End::Closed,
+        },
+        5,
     )
 }
 
@@ -107,11 +139,12 @@ enum Run {
     Failed,
 }
 
-/// Plays a plan again and again, each time with the next transfer failed, until none is.
+/// Plays a plan again and again, each time with a transfer failed that is so much later, until none is.
 fn fail_each<R: Threads + Wait + Clock + Sync>(
     rt: &R,
     alloc: Global,
     plan: &Plan<'_>,
+    later: u64,
 ) -> Result<(), Fail> {
     let mut file = new_file(alloc, 352)?;
     let mut nth: u64 = 1;
@@ -120,7 +153,7 @@ fn fail_each<R: Threads + Wait + Clock + Sync>(
         if fail(rt, alloc, device, plan)? == Run::Well {
             return Ok(());
         }
-        nth = nth.saturating_add(1);
+        nth = nth.saturating_add(later);
     }
     Err(Fail::from("each run has failed"))
 }
