@@ -1,5 +1,5 @@
 -- What C is told of a session that is opened, and of a call on one.
-use Rattle.std.proofs.Common.{arith, ℕ, ◌≡◌, ◌≤◌, refl, sym, subst, inl, inr, true, Option, Some, None, Result, Ok, Err, IfOk}
+use Rattle.std.proofs.Common.{arith, ℕ, ◌≡◌, ◌≤◌, refl, sym, subst, inl, inr, Bool, true, false, Option, Some, None, Result, Ok, Err, IfOk}
 use Rattle.std.specs.Option.{is_some}
 use Rattle.queue_model.specs.declared.answer.Answer.{Answer}
 use Rattle.queue_model.specs.declared.call.Call.{Call}
@@ -9,7 +9,7 @@ use Rattle.session.specs.declared.unanswered.Unanswered.{Unanswered}
 use Rattle.session.specs.declared.unanswered.Unanswered.TheVariants as unanswered
 use Rattle.session.proofs.FaultLemmas.{fault_numbers}
 use Rattle.msgq_c.specs.Codes.{code_of}
-use Rattle.msgq_c.specs.Files.{HasOpened, IsKept}
+use Rattle.msgq_c.specs.Files.{HasOpened, IsKept, Keeps}
 use Rattle.msgq_c.specs.Held.{KeptSession}
 use Rattle.msgq_c.specs.Serving.{Answers, Serves}
 use Rattle.msgq_c.specs.declared.codes.TheConstants.{DONE, NO_MEMORY}
@@ -41,6 +41,12 @@ opened_so Is (Ok k) code after is (inr (code_is, none)) =
     not_in Is code after (subst IsFaultNumber (sym code_is) (record { least = omega arith; most = omega arith })) none
 opened_so Is (Err fault) code after is (code_is, none) =
     not_in Is code after (subst IsFaultNumber (sym code_is) (fault_numbers fault)) none
+
+-- in a handle that had none
+pub opened_in : (Is : SessionState → Type 0) (is_open : Bool) (code : ℕ) (old after : KeptSession) →
+    is_open ≡ is_some old → is_open ≡ false → HasOpened Is code after → Keeps Is code old after
+opened_in Is is_open code None after agrees closed opened = opened
+opened_in Is is_open code (Some k) after agrees closed opened = absurd (let clash : true ≡ false = cc in cc)
 
 -- ---- a call is made
 
