@@ -10,7 +10,7 @@ use Rattle.bucket_page.specs.Bucket.{Bucket}
 use Rattle.bucket_page.specs.Reading.{used_at, bucket_in, records_in}
 use Rattle.bucket_page.specs.Changes.{SpellsBucket, IsBucketPage, Appends}
 use Rattle.bucket_page.specs.Dividing.{has_bit_as, with_bit, pattern_of_half, half_of}
-use Rattle.directory.proofs.of_fields.Tests.{both_true}
+use Rattle.directory.proofs.of_numbers.Tests.{both_true}
 use Rattle.bucket_page.proofs.Steps.{length-pair}
 use Rattle.bucket_page.proofs.PageLaws.{bucket_again}
 use Rattle.bucket_page.proofs.OrderLaws.{ascend_lower}

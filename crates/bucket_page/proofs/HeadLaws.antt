@@ -3,12 +3,12 @@ use Rattle.std.proofs.Common.{◌≡◌, ℕ, ◌<◌, ◌^◌, true, List, ◌�
 use Rattle.std.proofs.lemmas.List.{take_at, length-append}
 use Rattle.bucket_page.specs.declared.layout.TheConstants.{BUCKET}
 use Rattle.bucket_page.specs.declared.head.Head.{Head}
-use Rattle.directory.specs.fields.Numbers.{two, four, zeros, four_at}
+use Rattle.directory.specs.numbers.Numbers.{two, four, zeros, four_at}
 use Rattle.bucket_page.specs.Spelling.{head_bytes}
 use Rattle.bucket_page.specs.Reading.{record_count_at, used_at}
-use Rattle.directory.specs.fields.Numbers.{is_zero}
-use Rattle.directory.proofs.of_fields.ZeroLaws.{zeros_again, length-zeros}
-use Rattle.directory.proofs.of_fields.NumberLaws.{after_part, two_again, four_again, length-two, length-four}
+use Rattle.directory.specs.numbers.Numbers.{is_zero}
+use Rattle.directory.proofs.of_numbers.ZeroLaws.{zeros_again, length-zeros}
+use Rattle.directory.proofs.of_numbers.NumberLaws.{after_part, two_again, four_again, length-two, length-four}
 
 -- the fields one by one
 pub head_parts : (h : Head) (body : List ℕ) → head_bytes h ++ body

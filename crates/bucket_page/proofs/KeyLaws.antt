@@ -3,9 +3,9 @@ use Rattle.std.proofs.Common.{true, false, ◌≡◌, ℕ, ◌≤◌, List, [], 
 use Rattle.std.proofs.lemmas.Bool.Decides.{nat_tests}
 use Rattle.std.proofs.lemmas.List.{append-nil, append_assoc, drop_at, length-append, nil_from_length, length-drop}
 use Rattle.bucket_page.specs.declared.record_key.RecordKey.{RecordKey}
-use Rattle.directory.specs.fields.Numbers.{four, eight, four_at, eight_at}
+use Rattle.directory.specs.numbers.Numbers.{four, eight, four_at, eight_at}
 use Rattle.bucket_page.specs.Keys.{IsKey, key_bytes, key_at, is_same, is_below}
-use Rattle.directory.proofs.of_fields.NumberLaws.{IsBytes, past, length-four, length-eight, four_takes, eight_takes, four_again, eight_again, four_small, eight_small}
+use Rattle.directory.proofs.of_numbers.NumberLaws.{IsBytes, past, length-four, length-eight, four_takes, eight_takes, four_again, eight_again, four_small, eight_small}
 
 pub length-key : (k : RecordKey) → length (key_bytes k) ≡ 13
 unfolding key_bytes

@@ -10,9 +10,9 @@ use Rattle.std.specs.Cmp.Lexicographic.{slice_cmp}
 use Rattle.byteorder.specs.Endian.{big_number}
 use Rattle.byteorder.specs.Numbers.{big_from-cons, big_from-lt}
 use Rattle.bucket_page.specs.declared.record_key.RecordKey.{RecordKey}
-use Rattle.directory.specs.fields.Numbers.{four, eight, four_at, eight_at}
+use Rattle.directory.specs.numbers.Numbers.{four, eight, four_at, eight_at}
 use Rattle.bucket_page.specs.Keys.{IsKey, key_bytes, is_below}
-use Rattle.directory.proofs.of_fields.NumberLaws.{IsBytes, IsBytes-four, IsBytes-eight, length-four, length-eight, four_again, eight_again}
+use Rattle.directory.proofs.of_numbers.NumberLaws.{IsBytes, IsBytes-four, IsBytes-eight, length-four, length-eight, four_again, eight_again}
 
 -- ---- numbers with a highest digit
 

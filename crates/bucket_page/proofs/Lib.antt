@@ -13,4 +13,4 @@ pub mod SpliceLaws
 pub mod StandingLaws
 pub mod Steps
 pub use Rattle.directory.proofs as of_directory
-pub use Rattle.directory.proofs.of_fields
+pub use Rattle.directory.proofs.of_numbers

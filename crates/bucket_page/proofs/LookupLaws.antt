@@ -10,7 +10,7 @@ use Rattle.bucket_page.specs.Changes.{inserted, removed, replaced}
 use Rattle.bucket_page.specs.Dividing.{ShareNoKey, has_bit_as, merged, with_bit}
 use Rattle.bucket_page.specs.Laws.{either}
 use Rattle.bucket_page.proofs.OrderLaws.{none_above, ascend_rest}
-use Rattle.directory.proofs.of_fields.Tests.{both_true}
+use Rattle.directory.proofs.of_numbers.Tests.{both_true}
 use Rattle.bucket_page.proofs.KeyLaws.{same_is, below_other, below_past}
 
 -- a key that is below another is not the same as a third that is

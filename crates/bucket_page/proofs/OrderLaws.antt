@@ -8,7 +8,7 @@ use Rattle.bucket_page.specs.Keys.{is_same, is_below}
 use Rattle.bucket_page.specs.Records.{Pair, pair, is_above, pair_bytes, ascend_from, ascend, lookup, record_bytes}
 use Rattle.bucket_page.specs.Changes.{below, inserted, replaced, removed}
 use Rattle.bucket_page.proofs.Steps.{length-cons}
-use Rattle.directory.proofs.of_fields.Tests.{both_true}
+use Rattle.directory.proofs.of_numbers.Tests.{both_true}
 use Rattle.bucket_page.proofs.KeyLaws.{below_other, below_past, other_way, same_is}
 
 -- the records above a key don't have it

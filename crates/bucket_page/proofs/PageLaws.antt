@@ -9,14 +9,14 @@ use Rattle.directory.specs.declared.layout.TheConstants.{GREATEST_DEPTH}
 use Rattle.bucket_page.specs.declared.page.Malformed.{Malformed}
 use Rattle.bucket_page.specs.declared.page.PageKind.{PageKind}
 use Rattle.bucket_page.specs.declared.page.PageKind.TheVariants as kinds
-use Rattle.directory.specs.fields.Numbers.{four, zeros, four_at}
+use Rattle.directory.specs.numbers.Numbers.{four, zeros, four_at}
 use Rattle.bucket_page.specs.Records.{record_bytes, pairs_of, fills, ascend}
 use Rattle.bucket_page.specs.Bucket.{Bucket}
 use Rattle.bucket_page.specs.Spelling.{head_of, bucket_bytes, link_bytes, bytes_of, IsBucket, IsPage, Spells}
 use Rattle.bucket_page.specs.Reading.{record_count_at, used_at, area, after_area, bucket_in, page_in, bucket_fault, link_fault, fault_of, reading, answer}
-use Rattle.directory.specs.fields.Numbers.{is_zero}
-use Rattle.directory.proofs.of_fields.ZeroLaws.{zeros_again, length-zeros}
-use Rattle.directory.proofs.of_fields.NumberLaws.{after_part, four_again, length-four}
+use Rattle.directory.specs.numbers.Numbers.{is_zero}
+use Rattle.directory.proofs.of_numbers.ZeroLaws.{zeros_again, length-zeros}
+use Rattle.directory.proofs.of_numbers.NumberLaws.{after_part, four_again, length-four}
 use Rattle.bucket_page.proofs.HeadLaws.{head_again}
 use Rattle.bucket_page.proofs.RecordLaws.{records_again, count_below}
 use Rattle.directory.specs.Pages.{IsDirectoryPage}

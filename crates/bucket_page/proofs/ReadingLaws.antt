@@ -9,15 +9,15 @@ use Rattle.bucket_page.specs.declared.page.Malformed.{Malformed}
 use Rattle.bucket_page.specs.declared.page.Malformed.TheVariants as faults
 use Rattle.bucket_page.specs.declared.page.PageKind.{PageKind}
 use Rattle.bucket_page.specs.declared.page.PageKind.TheVariants as kinds
-use Rattle.directory.specs.fields.Numbers.{two, four, zeros, two_at, four_at}
+use Rattle.directory.specs.numbers.Numbers.{two, four, zeros, two_at, four_at}
 use Rattle.bucket_page.specs.Records.{Pair, record_bytes, pairs_of}
 use Rattle.directory.specs.Pages.{entries_at}
 use Rattle.bucket_page.specs.Spelling.{head_bytes, padded, link_bytes, Spells}
 use Rattle.bucket_page.specs.Reading.{kind_at, local_depth_at, record_count_at, used_at, area, after_area, head_at, bucket_in, page_in, bucket_fault, directory_fault, link_fault, fault_of, answer, reading}
-use Rattle.directory.specs.fields.Numbers.{is_zero}
-use Rattle.directory.proofs.of_fields.Tests.{both_true}
-use Rattle.directory.proofs.of_fields.ZeroLaws.{zeros_at, zeros_of}
-use Rattle.directory.proofs.of_fields.NumberLaws.{IsBytes, IsBytes-drop, IsBytes-take, two_takes, four_takes, four_small}
+use Rattle.directory.specs.numbers.Numbers.{is_zero}
+use Rattle.directory.proofs.of_numbers.Tests.{both_true}
+use Rattle.directory.proofs.of_numbers.ZeroLaws.{zeros_at, zeros_of}
+use Rattle.directory.proofs.of_numbers.NumberLaws.{IsBytes, IsBytes-drop, IsBytes-take, two_takes, four_takes, four_small}
 use Rattle.bucket_page.proofs.RecordLaws.{records_take}
 use Rattle.directory.proofs.PageLaws.{directory_takes}
 use Rattle.bucket_page.proofs.HeadLaws.{head_parts}

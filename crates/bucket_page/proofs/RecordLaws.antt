@@ -5,12 +5,12 @@ use Rattle.bucket_page.specs.Laws.{AreBytesOf}
 use Rattle.std.specs.List.{AllByRecursion}
 use Rattle.std.proofs.lemmas.Bool.{eqb-true, le-leb}
 use Rattle.std.proofs.lemmas.List.{take-append-drop, take_at, drop_at, length-append, length-take, length-drop, nil_from_length}
-use Rattle.directory.specs.fields.Numbers.{two, two_at}
+use Rattle.directory.specs.numbers.Numbers.{two, two_at}
 use Rattle.bucket_page.specs.Keys.{key_bytes, key_at}
 use Rattle.bucket_page.specs.Records.{Pair, IsPair, pair_bytes, record_bytes, pair_at, after_pair, pairs_of, begins, fills}
-use Rattle.directory.proofs.of_fields.Tests.{both_true}
+use Rattle.directory.proofs.of_numbers.Tests.{both_true}
 use Rattle.bucket_page.proofs.Steps.{begins_within, length-pair}
-use Rattle.directory.proofs.of_fields.NumberLaws.{IsBytes, IsBytes-drop, past, after_part, two_takes, two_again, two_small, length-two}
+use Rattle.directory.proofs.of_numbers.NumberLaws.{IsBytes, IsBytes-drop, past, after_part, two_takes, two_again, two_small, length-two}
 use Rattle.bucket_page.proofs.KeyLaws.{key_takes, key_again, key_small, length-key}
 
 -- ---- from bytes to records

@@ -3,10 +3,10 @@ use Rattle.std.proofs.Common.{◌≡◌, ℕ, ◌+◌, ◌-◌, ◌≤◌, List,
 use Rattle.std.proofs.lemmas.List.{append-nil, drop_all, take_rest, take_at, drop_at, drop-drop, drop-take, length-append, length-take, length-drop, take-take}
 use Rattle.std.proofs.lemmas.Int.{clamps}
 use Rattle.std.specs.List.{copy_within}
-use Rattle.directory.specs.fields.Numbers.{zeros}
+use Rattle.directory.specs.numbers.Numbers.{zeros}
 use Rattle.bucket_page.specs.Spelling.{padded}
 use Rattle.bucket_page.specs.Changes.{inserted_at, taken_out}
-use Rattle.directory.proofs.of_fields.ZeroLaws.{drop-zeros, zeros-zeros}
+use Rattle.directory.proofs.of_numbers.ZeroLaws.{drop-zeros, zeros-zeros}
 
 -- what stands behind the first n places once the others were moved there
 pub moved_back : (bytes : List ℕ) (n : ℕ) → n ≤ length bytes

@@ -7,18 +7,18 @@ use Rattle.std.proofs.lemmas.List.Concat.{flat_map-append}
 use Rattle.bucket_page.specs.declared.layout.TheConstants.{ROOM_BYTES}
 use Rattle.bucket_page.specs.declared.head.Head.{Head}
 use Rattle.bucket_page.specs.declared.record_key.RecordKey.{RecordKey}
-use Rattle.directory.specs.fields.Numbers.{two, zeros, two_at, overwritten}
+use Rattle.directory.specs.numbers.Numbers.{two, zeros, two_at, overwritten}
 use Rattle.bucket_page.specs.Keys.{key_bytes}
 use Rattle.bucket_page.specs.Records.{Pair, pair, is_above, ascend_from, IsPair, pair_bytes, record_bytes, ascend, lookup}
 use Rattle.bucket_page.specs.Spelling.{head_bytes, padded}
 use Rattle.bucket_page.specs.Reading.{record_count_at, used_at, head_at, bucket_in, records_in}
 use Rattle.bucket_page.specs.Changes.{SpellsBucket, IsBucketPage, Changes, below, fronted, replaced, removed, taken_out, value_of_key}
-use Rattle.directory.proofs.of_fields.NumberLaws.{two_again, length-two}
+use Rattle.directory.proofs.of_numbers.NumberLaws.{two_again, length-two}
 use Rattle.bucket_page.proofs.KeyLaws.{length-key}
 use Rattle.bucket_page.proofs.Steps.{length-pair}
 use Rattle.bucket_page.proofs.OrderLaws.{behind, IsAmong, is_among, ascend_without}
 use Rattle.bucket_page.proofs.SpliceLaws.{taken_between}
-use Rattle.directory.proofs.of_fields.WrittenLaws.{written_between}
+use Rattle.directory.proofs.of_numbers.WrittenLaws.{written_between}
 use Rattle.bucket_page.proofs.ChangeLaws.{opened, remade}
 
 -- the bytes before a record, its own, and those behind it

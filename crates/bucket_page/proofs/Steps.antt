@@ -2,12 +2,12 @@
 use Rattle.std.proofs.Common.{◌≡◌, ◌≢◌, ℕ, zero, suc, ◌+◌, ◌-◌, ◌<◌, ◌≤◌, true, ◌&&◌, List, ◌∷◌, length, drop, ◌++◌, refl, arith}
 use Rattle.std.proofs.lemmas.Bool.{eqb-true, leb-true}
 use Rattle.std.proofs.lemmas.List.{length-append, length-take, length-drop}
-use Rattle.directory.specs.fields.Numbers.{two, two_at}
+use Rattle.directory.specs.numbers.Numbers.{two, two_at}
 use Rattle.bucket_page.specs.Keys.{key_bytes}
 use Rattle.bucket_page.specs.Records.{Pair, pair_bytes, pair_at, after_pair, pairs_of, begins, fills, record_bytes}
-use Rattle.directory.proofs.of_fields.NumberLaws.{length-two}
+use Rattle.directory.proofs.of_numbers.NumberLaws.{length-two}
 use Rattle.bucket_page.proofs.KeyLaws.{length-key}
-use Rattle.directory.proofs.of_fields.Tests.{both_true}
+use Rattle.directory.proofs.of_numbers.Tests.{both_true}
 
 -- ---- a count down to none
 

@@ -3,7 +3,7 @@ use Rattle.std.specs.Prelude.{◌≡◌, ℕ, ◌+◌, ◌-◌, true, Some, List
 use Rattle.std.specs.Option.{option_map}
 use Rattle.bucket_page.specs.declared.record_key.RecordKey.{RecordKey}
 use Rattle.bucket_page.specs.declared.page.PageKind.TheVariants as kinds
-use Rattle.directory.specs.fields.Numbers.{zeros}
+use Rattle.directory.specs.numbers.Numbers.{zeros}
 use Rattle.bucket_page.specs.Keys.{is_same, is_below}
 use Rattle.bucket_page.specs.Records.{Pair, pair, record_bytes, ascend, lookup}
 use Rattle.bucket_page.specs.Bucket.{Bucket}

@@ -1,7 +1,7 @@
 -- Keys of records: their bytes and their order.
 use Rattle.std.specs.Prelude.{ℕ, ◌<◌, ◌^◌, ◌==◌, nat_lt, Bool, ◌&&◌, ◌||◌, List, ◌∷◌, ◌++◌, slice_index}
 use Rattle.bucket_page.specs.declared.record_key.RecordKey.{RecordKey}
-use Rattle.directory.specs.fields.Numbers.{four, eight, four_at, eight_at}
+use Rattle.directory.specs.numbers.Numbers.{four, eight, four_at, eight_at}
 
 -- a key's numbers fit their bytes
 pub record IsKey (k : RecordKey) : Type 0 where

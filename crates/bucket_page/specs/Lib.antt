@@ -9,5 +9,5 @@ pub mod Reading
 pub mod Records
 pub mod Spelling
 pub use Rattle.directory.specs as directory
-pub use Rattle.directory.specs.fields
+pub use Rattle.directory.specs.numbers
 pub use Rattle.directory.specs.page_device

@@ -4,7 +4,7 @@ use Rattle.std.proofs.Math.Nat.{mod-lt}
 use Rattle.std.specs.Int.{byte_at, bytes_high_first}
 use Rattle.sha2.specs.Sha256.{sha256, digest_bytes}
 use Rattle.bucket_page.specs.declared.record_key.RecordKey.{RecordKey}
-use Rattle.directory.specs.fields.Numbers.{four_at}
+use Rattle.directory.specs.numbers.Numbers.{four_at}
 use Rattle.bucket_page.specs.Keys.{key_bytes}
 use Rattle.bucket_page.specs.Pseudokeys.{sha_key, number_key}
 use Rattle.byteorder.specs.Numbers.{big_from-lt}

@@ -2,7 +2,7 @@
 use Rattle.std.specs.Prelude.{ℕ, ◌^◌, ◌%◌}
 use Rattle.sha2.specs.Sha256.{sha256}
 use Rattle.bucket_page.specs.declared.record_key.RecordKey.{RecordKey}
-use Rattle.directory.specs.fields.Numbers.{four_at}
+use Rattle.directory.specs.numbers.Numbers.{four_at}
 use Rattle.bucket_page.specs.Keys.{key_bytes}
 
 -- the first four bytes of the key's digest; unfoldable, so that it never computes

@@ -7,7 +7,7 @@ use Rattle.bucket_page.specs.declared.page.Malformed.{Malformed}
 use Rattle.bucket_page.specs.declared.page.Malformed.TheVariants as faults
 use Rattle.bucket_page.specs.declared.page.PageKind.{PageKind}
 use Rattle.bucket_page.specs.declared.page.PageKind.TheVariants as kinds
-use Rattle.directory.specs.fields.Numbers.{two_at, four_at, is_zero}
+use Rattle.directory.specs.numbers.Numbers.{two_at, four_at, is_zero}
 use Rattle.bucket_page.specs.Records.{Pair, pairs_of, fills, ascend}
 use Rattle.bucket_page.specs.Bucket.{Bucket}
 use Rattle.directory.specs.Pages.{entries_at, has_entries_padding}

@@ -2,7 +2,7 @@
 use Rattle.std.specs.Prelude.{ℕ, zero, suc, ◌<◌, ◌^◌, ◌==◌, nat_le, Option, Some, None, Bool, true, ◌&&◌, List, [], ◌∷◌, ◌++◌, length, take, drop, if◌then◌else◌}
 use Rattle.std.specs.List.{flat_map}
 use Rattle.bucket_page.specs.declared.record_key.RecordKey.{RecordKey}
-use Rattle.directory.specs.fields.Numbers.{two, two_at}
+use Rattle.directory.specs.numbers.Numbers.{two, two_at}
 use Rattle.bucket_page.specs.Keys.{IsKey, key_bytes, key_at, is_same, is_below}
 
 -- a key and its value

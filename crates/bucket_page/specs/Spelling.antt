@@ -7,7 +7,7 @@ use Rattle.directory.specs.declared.layout.TheConstants.{GREATEST_DEPTH}
 use Rattle.bucket_page.specs.declared.head.Head.{Head}
 use Rattle.bucket_page.specs.declared.page.PageKind.{PageKind}
 use Rattle.bucket_page.specs.declared.page.PageKind.TheVariants as kinds
-use Rattle.directory.specs.fields.Numbers.{two, four, zeros}
+use Rattle.directory.specs.numbers.Numbers.{two, four, zeros}
 use Rattle.bucket_page.specs.Records.{IsPair, record_bytes, ascend}
 use Rattle.bucket_page.specs.Bucket.{Bucket}
 use Rattle.directory.specs.Pages.{IsDirectory, directory_bytes}

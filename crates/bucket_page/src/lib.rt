@@ -1,10 +1,15 @@
 //! Pages of an extendible hash file as bytes: buckets, directory pages, tombstones and free pages.
+//!
+//! Pseudokeys that were computed are kept, so that one that is used again is computed once.
 
 #![tactic(auto)]
 
+mod alike;
 mod change;
 mod divide;
 mod head;
+mod kept;
+mod kept_keys;
 pub mod laws;
 mod layout;
 mod page;
@@ -15,10 +20,12 @@ mod splice;
 mod view;
 mod write;
 
+pub use alike::Alike;
 pub use change::{DoesNotFit, put, remove, replace_front};
 pub use directory;
-pub use directory::{fields, page_device, positions};
+pub use directory::{fields, page_device};
 pub use divide::{cut, join, write_lower_half, write_upper_half};
+pub use kept_keys::KeptKeys;
 pub use layout::{BUCKET, FREE, RECORD_HEAD_BYTES, ROOM_BYTES, TOMBSTONE};
 pub use page::{Malformed, PageKind, bucket_of, link_of, read_page};
 pub use pseudokey::{ConstantKey, NumberKey, PseudoKey, ShaKey};

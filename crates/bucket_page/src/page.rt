@@ -1,9 +1,9 @@
 //! Which page a payload spells.
 
 ghost use Rattle.std.specs.Prelude.{◌≡◌, IfOk, Ok, drop, length, take};
-ghost use Rattle.directory.specs.faults.declared.TheConstants.{MALFORMED};
+ghost use Rattle.directory.specs.numbers.declared.faults.TheConstants.{MALFORMED};
 ghost use Rattle.directory.specs.page_device.declared.page.TheConstants.{PAYLOAD_BYTES};
-ghost use Rattle.directory.specs.fields.Numbers.{four_at};
+ghost use Rattle.directory.specs.numbers.Numbers.{four_at};
 ghost use Rattle.bucket_page.specs.Reading.{answer, bucket_in, bucket_fault, link_fault, reading};
 ghost use Rattle.bucket_page.specs.Spelling.{Spells};
 ghost use Rattle.bucket_page.specs.Changes.{IsBucketPage};

@@ -1,7 +1,7 @@
 //! Keys of records, and their thirteen bytes.
 
 ghost use Rattle.std.specs.Prelude.{◌≡◌, ◌≤◌, length, true, IsTrue, ◌↔◌};
-ghost use Rattle.directory.specs.fields.Numbers.{four, eight};
+ghost use Rattle.directory.specs.numbers.Numbers.{four, eight};
 ghost use Rattle.bucket_page.specs.Keys.{IsKey, key_bytes, key_at, is_below};
 
 use directory::fields::{eight_at, four_at, write_eight, write_four};

@@ -3,7 +3,7 @@
 ghost use Rattle.std.specs.Prelude.{◌≡◌, true, false, length, ◌<◌, ◌+◌, ◌≤◌, IfSome, IfNone, Some, None};
 ghost use Rattle.bucket_page.specs.Keys.{is_below};
 ghost use Rattle.bucket_page.specs.Records.{Pair, pair_at, after_pair, pairs_of, begins, fills, record_bytes, lookup, ascend, is_above};
-ghost use Rattle.directory.specs.fields.Numbers.{two_at};
+ghost use Rattle.directory.specs.numbers.Numbers.{two_at};
 
 use crate::layout::RECORD_HEAD_BYTES;
 use crate::record_key::{RecordKey, key_at};

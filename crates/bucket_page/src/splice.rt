@@ -1,7 +1,7 @@
 //! Edits of the bytes of records, which stand at the front of a slice with room behind them.
 
 ghost use Rattle.std.specs.Prelude.{◌≡◌, ◌+◌, ◌-◌, ◌≤◌, ◌++◌, drop, length, take};
-ghost use Rattle.directory.specs.fields.Numbers.{zeros};
+ghost use Rattle.directory.specs.numbers.Numbers.{zeros};
 ghost use Rattle.bucket_page.specs.Records.{pair, pair_bytes};
 ghost use Rattle.bucket_page.specs.Changes.{inserted_at, taken_out};
 

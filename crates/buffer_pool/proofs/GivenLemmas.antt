@@ -3,7 +3,7 @@ use Rattle.std.proofs.Common.{◌≡◌, ◌∙◌, sym, ap, subst, ℕ, suc, �
 use Rattle.std.proofs.Common.{arith, Some, None, slice_index_or, slice_set, replicate}
 use Rattle.std.proofs.Math.Seq.{set-append_seam}
 use Rattle.std.proofs.lemmas.List.{append_assoc, get_or_append_left, length-append, length-set, set-append_left}
-use Rattle.page_forms.specs.Forms.{blank_page}
+use Rattle.buffer_pool.specs.Forms.{blank_page}
 use Rattle.buffer_pool.specs.Table.{Held, IsFree, IsKept, IsNext, filled_up, moved_in, place_of, stored_in}
 use Rattle.buffer_pool.proofs.FilledLemmas.{IsKept-moved_in, filled_again, filled_next, is_earlier}
 

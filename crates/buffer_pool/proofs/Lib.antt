@@ -1,3 +1,4 @@
+pub mod FormLemmas
 pub mod FilledLemmas
 pub mod GivenLemmas
 pub mod ImagesLemmas
@@ -5,4 +6,3 @@ pub mod PoolLemmas
 pub mod SparedLemmas
 pub mod TableLemmas
 pub mod TransferLemmas
-pub use Rattle.page_forms.proofs as of_page_forms

@@ -1,6 +1,6 @@
 -- The numbers of faults.
 use Rattle.std.specs.Prelude.{ℕ}
-use Rattle.page_device.specs.faults.declared.TheConstants.{MALFORMED, NO_MEMORY, TOO_FEW_FRAMES}
+use Rattle.page_device.specs.numbers.declared.faults.TheConstants.{MALFORMED, NO_MEMORY, TOO_FEW_FRAMES}
 use Rattle.page_device.specs.Fault.{number_of as device_number_of}
 use Rattle.buffer_pool.specs.declared.fault.PoolFault.{PoolFault}
 use Rattle.buffer_pool.specs.declared.fault.PoolFault.TheVariants.{Device, Malformed, TooFewFrames, NoMemory}

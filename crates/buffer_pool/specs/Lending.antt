@@ -4,7 +4,7 @@ use Rattle.std.specs.Borrow.{Lends, MutBor, Fml, RattleType}
 use Rattle.page_device.specs.declared.device.PageDevice.{Ghosts}
 use Rattle.buffer_pool.specs.Table.{Held, stored_in}
 use Rattle.buffer_pool.specs.Pool.{PoolState}
-use Rattle.page_forms.specs.contracts.file_page.FilePage as page
+use Rattle.buffer_pool.specs.contracts.file_page.FilePage as page
 use Rattle.buffer_pool.specs.contracts.table.Table as table
 use Rattle.buffer_pool.specs.contracts.pool.Pool as pool
 

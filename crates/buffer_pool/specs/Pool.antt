@@ -7,7 +7,7 @@ use Rattle.page_device.specs.Device.{HasRisen}
 use Rattle.page_device.specs.declared.fault.DeviceFault.TheVariants as device
 use Rattle.buffer_pool.specs.declared.fault.PoolFault.{PoolFault}
 use Rattle.buffer_pool.specs.declared.fault.PoolFault.TheVariants.{Device, Malformed, TooFewFrames, NoMemory}
-use Rattle.page_forms.specs.Forms.{IsWell}
+use Rattle.buffer_pool.specs.Forms.{IsWell}
 use Rattle.buffer_pool.specs.Table.{Held, place_of, page_of, is_changed, payload_in, count_pinned, IsWhole}
 
 pub record PoolState : Type 0 where

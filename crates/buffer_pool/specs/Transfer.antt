@@ -2,7 +2,7 @@
 use Rattle.std.specs.Prelude.{◌≡◌, ℕ, ◌<◌, Bool, false, List, [], length, Some, IsTrue, slice_index_or, ⊤}
 use Rattle.page_device.specs.declared.fault.DeviceFault.TheVariants as device
 use Rattle.page_device.specs.Sealed.{IsSealed}
-use Rattle.page_forms.specs.Forms.{IsWell}
+use Rattle.buffer_pool.specs.Forms.{IsWell}
 use Rattle.buffer_pool.specs.declared.fault.PoolFault.{PoolFault}
 use Rattle.buffer_pool.specs.declared.fault.PoolFault.TheVariants.{Device, Malformed, TooFewFrames, NoMemory}
 use Rattle.buffer_pool.specs.Pool.{IsClean, KeepsSeals}

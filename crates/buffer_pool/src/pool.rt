@@ -5,12 +5,12 @@ ghost use Rattle.buffer_pool.specs.Pool.{pins_at, opened, IsAtRest, payloads_of,
 ghost use Rattle.std.specs.Borrow.{sem};
 ghost use Rattle.buffer_pool.specs.Lending.{LendsImage};
 
+use crate::FilePage;
 use crate::fault::PoolFault;
 use crate::frame::Frame;
 use crate::table::Table;
 use crate::transfer::{bring_in, write_all};
 use page_device::{DeviceFault, PageDevice};
-use page_forms::FilePage;
 use std::alloc::Global;
 use std::marker::Model;
 

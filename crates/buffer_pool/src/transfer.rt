@@ -5,10 +5,10 @@ ghost use Rattle.buffer_pool.specs.Pool.{IsSoundPool, IsClean, PoolHasCause, ima
 ghost use Rattle.buffer_pool.specs.Table.{place_of, page_of, count_pinned};
 ghost use Rattle.buffer_pool.specs.Transfer.{AreWritten, KeepsDevice, KeepsPages, KeepsPins, MayBeUnread};
 
+use crate::FilePage;
 use crate::fault::PoolFault;
 use crate::table::Table;
 use page_device::{DeviceFault, PAGE_BYTES, PageDevice, seal, unseal};
-use page_forms::FilePage;
 
 /// Writes the page of a frame to the device where the frame was changed.
 pub fn write_back<D: PageDevice>(

@@ -4,7 +4,7 @@ use Rattle.std.specs.Prelude.{if◌then◌else◌}
 use Rattle.std.specs.List.{All, Contains}
 use Rattle.std.proofs.lemmas.List.Elements.{All-head, All-tail}
 use Rattle.bucket_page.specs.Keys.{is_same}
-use Rattle.owed_records.proofs.OverlayLemmas.{one_local}
+use Rattle.call_decisions.proofs.OverlayLemmas.{one_local}
 use Rattle.xsi_inquiry.specs.declared.write.Write.TheVariants.{Replace, Relink, Delete}
 use Rattle.call_decisions.specs.Words.{AreAbsent, CanAllBe, CanBe, LockName, Record, RecordKey, Records, Write, guard_of, key_of, key_written, with_at, written_by}
 use Rattle.call_decisions.specs.Settling.{AreAlike}

@@ -4,13 +4,13 @@ use Rattle.std.specs.Prelude.{◌==◌, ◌||◌, ◌&&◌, nat_lt, IsSome, if�
 use Rattle.std.specs.List.{Contains}
 use Rattle.std.proofs.lemmas.Bool.Decides.{nat_tests}
 use Rattle.call_decisions.proofs.Names.{AnyInquiry, Counter, END_OF_IDS, Effect-outcome, Errno, GetArguments, Getting, IsFiled, IsOfKind, KnowsAt, KnowsOf, KnowsOfGet, MAX_QUEUES, Outcome, Roomful, Stage, asked, asked_of, caller_of, counter_of, create, get_locked, get_wanted, if_of, key_names, key_wanted, locked_at, locked_of, made_names, making_names, new_queue, of_receive, of_send, of_set, one_more, queue_of, refuse, sought_next}
-use Rattle.any_inquiry.specs.declared.any_inquiry.AnyInquiry.TheVariants as any
+use Rattle.call_decisions.specs.declared.any_inquiry.AnyInquiry.TheVariants as any
 use Rattle.page_locks.specs.declared.lock.LockName.TheVariants as names
 use Rattle.queue_model.specs.declared.answer.Answer.TheVariants.{Id}
 use Rattle.queue_model.specs.declared.call.Call.TheVariants.{Get, Send, Receive, Stat, Set, Remove}
 use Rattle.queue_model.specs.declared.errno.Errno.TheVariants.{EEXIST, ENOENT, ENOSPC}
 use Rattle.xsi_control.specs.declared.get_inquiry.Getting.TheVariants.{AtKey, Found, Absent, AtCounter, Counted}
-use Rattle.xsi_sweep.specs.declared.stage.Stage.TheVariants.{Seeking, Refused, Keyed, Counting, Removing}
+use Rattle.xsi_control.specs.declared.stage.Stage.TheVariants.{Seeking, Refused, Keyed, Counting, Removing}
 use Rattle.call_decisions.specs.Words.{Answer, Call, Caller, LockName, State, outcome}
 use Rattle.call_decisions.proofs.HoldLemmas.{has_queue}
 

@@ -3,16 +3,16 @@ use Rattle.std.proofs.Common.{◌≡◌, ℕ, List, [], Option, Some, None, Resu
 use Rattle.std.specs.List.{Contains}
 use Rattle.page_locks.specs.declared.lock.LockName.TheVariants as names
 use Rattle.queue_model.specs.declared.call.Call.TheVariants as calls
-use Rattle.any_inquiry.specs.declared.any_inquiry.AnyInquiry.{AnyInquiry}
-use Rattle.any_inquiry.specs.Anything.{caller_of, decided_of, if_of, locked_of, of_remove, plan_of}
-use Rattle.any_inquiry.specs.Words.{RemoveInquiry}
+use Rattle.call_decisions.specs.declared.any_inquiry.AnyInquiry.{AnyInquiry}
+use Rattle.call_decisions.specs.Anything.{caller_of, decided_of, if_of, locked_of, of_remove, plan_of}
+use Rattle.call_decisions.specs.InquiryWords.{RemoveInquiry}
 use Rattle.xsi_inquiry.specs.declared.decision.Decision.TheVariants as decisions
 use Rattle.xsi_inquiry.specs.declared.inquiry.NotASystem.{NotASystem}
 use Rattle.xsi_inquiry.specs.Telling.{Gives}
-use Rattle.xsi_sweep.specs.declared.stage.Stage.{Stage}
-use Rattle.xsi_sweep.specs.declared.stage.Stage.TheVariants.{Seeking, Refused, Keyed, Counting, Removing}
-use Rattle.xsi_sweep.specs.Asking.{decided_at, locked_at}
-use Rattle.xsi_sweep.specs.Removing.{names_of}
+use Rattle.xsi_control.specs.declared.stage.Stage.{Stage}
+use Rattle.xsi_control.specs.declared.stage.Stage.TheVariants.{Seeking, Refused, Keyed, Counting, Removing}
+use Rattle.xsi_control.specs.Asking.{decided_at, locked_at}
+use Rattle.xsi_control.specs.Removing.{names_of}
 use Rattle.call_decisions.specs.Words.{Call, Decides, Decision, State, Sweep}
 use Rattle.call_decisions.specs.Settling.{IsRight}
 

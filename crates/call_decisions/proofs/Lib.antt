@@ -1,7 +1,16 @@
+pub mod DecideLemmas
+pub mod HeldLemmas
+pub mod OwedNames
+pub mod OverlayLemmas
 pub mod AlikeLemmas
 pub mod ChangeLemmas
 pub mod HoldLemmas
 pub mod OtherLemmas
 pub mod SettleLemmas
 pub mod Names
-pub use Rattle.owed_records.proofs as of_owed_records
+pub mod AskLemmas
+pub mod GrowLemmas
+pub mod Words
+pub mod NamesLemmas
+pub mod WriteLemmas
+pub use Rattle.stale_search.proofs as of_stale_search

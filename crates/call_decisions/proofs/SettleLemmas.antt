@@ -1,9 +1,9 @@
 -- What a decision means.
 use Rattle.std.proofs.Common.{◌≡◌, ℕ, Bool, true, false, List, [], length, refl, ap, ◌∙◌, subst, arith}
 use Rattle.std.specs.List.{All, Contains}
-use Rattle.owed_records.specs.Owing.{Sweeps, Writes}
-use Rattle.owed_records.proofs.DecideLemmas.{answers_owe, none_left, sweeps_owe}
-use Rattle.owed_records.proofs.OverlayLemmas.{overlaid_local}
+use Rattle.call_decisions.specs.Owing.{Sweeps, Writes}
+use Rattle.call_decisions.proofs.DecideLemmas.{answers_owe, none_left, sweeps_owe}
+use Rattle.call_decisions.proofs.OverlayLemmas.{overlaid_local}
 use Rattle.page_locks.specs.declared.lock.LockName.TheVariants as names
 use Rattle.queue_model.specs.declared.answer.Answer.TheVariants as answers
 use Rattle.queue_model.specs.Rules.{refuse}

@@ -1,5 +1,13 @@
+pub mod OwedLaws
+pub mod Owing
+pub mod Anything
+pub mod Asked
+pub mod InquiryWords
 pub mod Laws
 pub mod Others
 pub mod Settling
 pub mod Words
-pub use Rattle.owed_records.specs as owed_records
+pub mod NameLaws
+pub mod Names
+pub use Rattle.stale_search.specs as stale_search
+pub use Rattle.stale_search.specs.file_pages

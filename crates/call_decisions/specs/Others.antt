@@ -2,8 +2,8 @@
 -- docs/STEPS.md, "Locks", "What a seat may know".
 use Rattle.std.specs.Prelude.{◌≡◌, List, Option, Some, None, ⊤, ℕ}
 use Rattle.std.specs.List.{Contains}
-use Rattle.any_inquiry.specs.declared.any_inquiry.AnyInquiry.{AnyInquiry}
-use Rattle.any_inquiry.specs.Anything.{KnowsOf, asked_of, caller_of, locked_of}
+use Rattle.call_decisions.specs.declared.any_inquiry.AnyInquiry.{AnyInquiry}
+use Rattle.call_decisions.specs.Anything.{KnowsOf, asked_of, caller_of, locked_of}
 use Rattle.page_locks.specs.declared.lock.LockName.TheVariants as names
 use Rattle.queue_model.specs.declared.call.Call.TheVariants.{Get, Send, Receive, Stat, Set, Remove}
 use Rattle.xsi_inquiry.specs.Agreeing.{AgreesFor}

@@ -2,7 +2,7 @@
 -- docs/STEPS.md, "Calls"; docs/QUEUES.md, "Calls".
 use Rattle.std.specs.Prelude.{◌≡◌, Bool, List, [], Option, Some, None, ⊤, if◌then◌else◌, ℕ}
 use Rattle.std.specs.List.{All, Contains, find}
-use Rattle.owed_records.specs.Owing as owed
+use Rattle.call_decisions.specs.Owing as owed
 use Rattle.page_locks.specs.declared.lock.LockName.TheVariants as names
 use Rattle.queue_model.specs.declared.answer.Answer.TheVariants as answers
 use Rattle.queue_model.specs.declared.errno.Errno.TheVariants.{EINTR}

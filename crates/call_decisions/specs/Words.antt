@@ -20,4 +20,4 @@ pub use Rattle.xsi_inquiry.specs.declared.verdict.Verdict.{Verdict}
 pub use Rattle.xsi_inquiry.specs.declared.write.Write.{Write}
 pub use Rattle.xsi_inquiry.specs.Deciding.{Decides, IsAnswered, IsPutOff, IsSwept, answer_of}
 pub use Rattle.xsi_inquiry.specs.Writing.{AreAbsent, CanAllBe, CanBe, HasRange, Plan, Records, inserted, key_written, nothing, with_at, writes_of, written_by}
-pub use Rattle.owed_records.specs.Owing.{Owes, OwesUnder, overlaid, without_swept}
+pub use Rattle.call_decisions.specs.Owing.{Owes, OwesUnder, overlaid, without_swept}

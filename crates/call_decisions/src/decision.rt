@@ -1,13 +1,13 @@
 //! The decision of a call.
 
 ghost use Rattle.std.specs.Prelude.{◌≡◌, None};
-ghost use Rattle.any_inquiry.specs.Anything.{KnowsOf, asked_of, caller_of, decided_of, locked_of, plan_of};
+ghost use Rattle.call_decisions.specs.Anything.{KnowsOf, asked_of, caller_of, decided_of, locked_of, plan_of};
 ghost use Rattle.queue_model.specs.State.{State};
 ghost use Rattle.xsi_inquiry.specs.Rooms.{Roomful};
 ghost use Rattle.xsi_inquiry.specs.Telling.{Gives, IsFiled};
 ghost use Rattle.call_decisions.specs.Settling.{IsRight};
 
-use any_inquiry::AnyInquiry;
+use crate::AnyInquiry;
 use queue_model::Call;
 use xsi_inquiry::{Decision, Inquiry, NotASystem};
 

@@ -6,7 +6,7 @@ use file_walk::StructureFault;
 use msgq_cli::file_check::CheckFault;
 use msgq_cli::{Ending, Failure, Stage, new_on, read_script};
 use page_device::{FaultyDevice, MemDevice, PAGE_BYTES, PageDevice};
-use script_runs::run_on;
+use replays::run_on;
 use std::alloc::Global;
 use std::ops::RangeInclusive;
 use std::process::Abort;

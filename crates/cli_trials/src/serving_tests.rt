@@ -2,7 +2,7 @@
 
 use crate::trial::{Refusing, buffered, printed, unbuffered};
 use msgq_cli::{Ending, Failure, Fullness, Reply, Stage, complain_of_lines, print_made};
-use script_runs::{serve, serve_text};
+use replays::{serve, serve_text};
 use std::io;
 use std::io::{ErrorKind, Read};
 use std::process::Abort;

@@ -3,8 +3,7 @@
 use crate::run_tests::{FIRST, new_device, prints};
 use crate::trial::{Refusing, unbuffered};
 use msgq_cli::Ending;
-use script_runs::replays::{Texts, replay_on};
-use script_runs::run_text_on;
+use replays::{Texts, replay_on, run_text_on};
 use std::test::Fail;
 
 /// What the script's lines are answered.

@@ -4,15 +4,15 @@ use Rattle.std.proofs.lemmas.List.{length-map}
 use Rattle.page_device.specs.Device.{HasRisen}
 use Rattle.bucket_page.specs.Pseudokeys.{sha_key}
 use Rattle.bucket_page.specs.declared.pseudokey.ShaKey.{ShaKey}
-use Rattle.lone_kernel.specs.Laws.{AnswersLoneCalls, IsAnswered, StandsBehind, StandsDriven}
-use Rattle.lone_kernel.specs.Lone.{RestsOver}
-use Rattle.lone_kernel.specs.Words.{Answer, BeginFault, Call, Caller, FoundNoRoom, HasCall, IsDriven, IsRefused, IsSeat, IsWhole, KernelState, State, Step, caller_at, outcome}
-use Rattle.lone_kernel.specs.interleaving_core.Beginning.{Refuses}
-use Rattle.lone_kernel.specs.interleaving_core.Kernel.{locks_of}
-use Rattle.lone_kernel.specs.interleaving_core.Owing.{KeepsRest}
-use Rattle.lone_kernel.specs.interleaving_core.declared.fault.BeginFault.TheVariants as begins
-use Rattle.lone_kernel.specs.interleaving_core.declared.fault.StepFault.TheVariants as faults
-use Rattle.lone_kernel.specs.interleaving_core.declared.step.Step.TheVariants as steps
+use Rattle.interleavings.specs.LoneKernelLaws.{AnswersLoneCalls, IsAnswered, StandsBehind, StandsDriven}
+use Rattle.interleavings.specs.Lone.{RestsOver}
+use Rattle.interleavings.specs.LoneKernelWords.{Answer, BeginFault, Call, Caller, FoundNoRoom, HasCall, IsDriven, IsRefused, IsSeat, IsWhole, KernelState, State, Step, caller_at, outcome}
+use Rattle.interleavings.specs.interleaving_core.Beginning.{Refuses}
+use Rattle.interleavings.specs.interleaving_core.Kernel.{locks_of}
+use Rattle.interleavings.specs.interleaving_core.Owing.{KeepsRest}
+use Rattle.interleavings.specs.interleaving_core.declared.fault.BeginFault.TheVariants as begins
+use Rattle.interleavings.specs.interleaving_core.declared.fault.StepFault.TheVariants as faults
+use Rattle.interleavings.specs.interleaving_core.declared.step.Step.TheVariants as steps
 use Rattle.queue_commands.specs.Asking.{IsAsked}
 use Rattle.command_runs.specs.Faults.{told}
 use Rattle.command_runs.specs.Sessions.{Lacks, MayLack, MayNotBegin, SessionState, Stands}

@@ -5,17 +5,17 @@ use Rattle.std.specs.Option.{option_map}
 use Rattle.std.proofs.lemmas.Bool.{cases_lt}
 use Rattle.std.proofs.lemmas.Option.{slice_get-get_or, slice_get_past}
 use Rattle.bucket_page.specs.Pseudokeys.{sha_key}
-use Rattle.lone_kernel.specs.Words.{Caller, IsFileOf, State}
-use Rattle.lone_kernel.specs.interleaving_core.file_check.Records.{HasCheckCause}
-use Rattle.lone_kernel.specs.interleaving_core.file_check.Whole.{IsToldOf}
-use Rattle.lone_kernel.specs.interleaving_core.file_check.declared.fault.CheckFault.{CheckFault}
-use Rattle.lone_kernel.specs.interleaving_core.Fault.{device_failed}
-use Rattle.lone_kernel.specs.interleaving_core.declared.fault.OpenFault.{OpenFault}
-use Rattle.lone_kernel.specs.interleaving_core.declared.fault.OpenFault.TheVariants.{Wrong}
+use Rattle.interleavings.specs.LoneKernelWords.{Caller, IsFileOf, State}
+use Rattle.interleavings.specs.interleaving_core.file_check.Records.{HasCheckCause}
+use Rattle.interleavings.specs.interleaving_core.file_check.Whole.{IsToldOf}
+use Rattle.interleavings.specs.interleaving_core.file_check.declared.fault.CheckFault.{CheckFault}
+use Rattle.interleavings.specs.interleaving_core.Fault.{device_failed}
+use Rattle.interleavings.specs.interleaving_core.declared.fault.OpenFault.{OpenFault}
+use Rattle.interleavings.specs.interleaving_core.declared.fault.OpenFault.TheVariants.{Wrong}
 use Rattle.queue_model.specs.Rules.{info_of}
 use Rattle.queue_model.specs.declared.answer.QueueInfo.{QueueInfo}
 use Rattle.queue_model.specs.declared.queue.Queue.{Queue}
-use Rattle.queue_json.specs.Json.{PutsJson, messages_data}
+use Rattle.queue_commands.specs.Json.{PutsJson, messages_data}
 use Rattle.command_runs.specs.Looking.{AreMessagesAt, LooksAt, LooksOn}
 use Rattle.command_runs.specs.Memory.{Pages}
 use Rattle.command_runs.specs.Running.{Seen}

@@ -2,17 +2,17 @@
 use Rattle.std.proofs.Common.{◌≡◌, ◌≢◌, ◌↔◌, ℕ, ◌≤◌, inl, inr, Bool, true, false, List, [], ◌∷◌, length, Option, Some, None, unwrap_or, Result, Ok, Err, refl, sym, ap, subst, slice_index_or, suc}
 use Rattle.std.specs.List.{list_any}
 use Rattle.page_device.specs.Device.{HasRisen}
-use Rattle.page_copies.proofs.CopyLemmas.{risen-since}
+use Rattle.page_device.proofs.CopyLemmas.{risen-since}
 use Rattle.bucket_page.specs.Pseudokeys.{sha_key}
 use Rattle.bucket_page.specs.declared.pseudokey.ShaKey.{ShaKey}
-use Rattle.lone_kernel.specs.Laws.{ClosesAKernel}
-use Rattle.lone_kernel.specs.Lone.{RestsOver}
-use Rattle.lone_kernel.specs.Words.{ActiveView, Caller, IsFileOf, KernelState, State, restarted}
-use Rattle.lone_kernel.specs.interleaving_core.Closing.{IsBusy, IsReleased, OnDevice, fault_in, has_one, is_busy}
-use Rattle.lone_kernel.specs.interleaving_core.declared.closing.NotClosed.{NotClosed}
-use Rattle.lone_kernel.specs.interleaving_core.declared.closing.NotClosed.TheVariants.{Busy, Fault}
-use Rattle.lone_kernel.specs.interleaving_core.declared.fault.CloseFault.{CloseFault}
-use Rattle.lone_kernel.specs.interleaving_core.declared.fault.CloseFault.TheVariants as closes
+use Rattle.interleavings.specs.LoneKernelLaws.{ClosesAKernel}
+use Rattle.interleavings.specs.Lone.{RestsOver}
+use Rattle.interleavings.specs.LoneKernelWords.{ActiveView, Caller, IsFileOf, KernelState, State, restarted}
+use Rattle.interleavings.specs.interleaving_core.Closing.{IsBusy, IsReleased, OnDevice, fault_in, has_one, is_busy}
+use Rattle.interleavings.specs.interleaving_core.declared.closing.NotClosed.{NotClosed}
+use Rattle.interleavings.specs.interleaving_core.declared.closing.NotClosed.TheVariants.{Busy, Fault}
+use Rattle.interleavings.specs.interleaving_core.declared.fault.CloseFault.{CloseFault}
+use Rattle.interleavings.specs.interleaving_core.declared.fault.CloseFault.TheVariants as closes
 use Rattle.queue_commands.specs.Asking.{Asking}
 use Rattle.queue_commands.specs.Coming.{Comes}
 use Rattle.queue_commands.specs.Commands.{AsksAs}

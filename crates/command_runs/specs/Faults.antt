@@ -1,13 +1,13 @@
 -- Why a call is not answered, and why a command is not done. docs/SHELL.md, "Exit status"; docs/FAULTS.md.
 use Rattle.std.specs.Prelude.{ℕ, Option, None, Some, Result, Ok, Err, unwrap_or}
-use Rattle.faults.specs.declared.TheConstants.{FAILED, NO_MEMORY}
+use Rattle.numbers.specs.declared.faults.TheConstants.{FAILED, NO_MEMORY}
 use Rattle.page_device.specs.declared.fault.DeviceFault.{DeviceFault}
 use Rattle.page_device.specs.declared.fault.DeviceFault.TheVariants as device
-use Rattle.lone_kernel.specs.Words.{Answer, Step}
-use Rattle.lone_kernel.specs.interleaving_core.declared.step.Step.TheVariants as steps
-use Rattle.lone_kernel.specs.interleaving_core.Fault.{begin_number_of, close_number_of, device_failed, open_number_of, step_number_of}
-use Rattle.lone_kernel.specs.interleaving_core.declared.fault.OpenFault.{OpenFault}
-use Rattle.lone_kernel.specs.interleaving_core.declared.fault.OpenFault.TheVariants as opens
+use Rattle.interleavings.specs.LoneKernelWords.{Answer, Step}
+use Rattle.interleavings.specs.interleaving_core.declared.step.Step.TheVariants as steps
+use Rattle.interleavings.specs.interleaving_core.Fault.{begin_number_of, close_number_of, device_failed, open_number_of, step_number_of}
+use Rattle.interleavings.specs.interleaving_core.declared.fault.OpenFault.{OpenFault}
+use Rattle.interleavings.specs.interleaving_core.declared.fault.OpenFault.TheVariants as opens
 use Rattle.queue_commands.specs.Statuses.{status_of}
 use Rattle.queue_commands.specs.declared.error.AskError.{AskError}
 use Rattle.queue_commands.specs.declared.error.AskError.TheVariants as asking

@@ -1,3 +1,5 @@
+pub mod Keys
+pub mod Tasks
 pub mod Faults
 pub mod Sessions
 pub mod Memory

@@ -2,15 +2,15 @@
 use Rattle.std.specs.Prelude.{◌≡◌, ◌⊎◌, ℕ, List, [], Option, None, Some, ⊤, Result, Ok, Err, position, slice_index_or}
 use Rattle.std.specs.Io.KnownBytes.{Appends}
 use Rattle.bucket_page.specs.Pseudokeys.{sha_key}
-use Rattle.lone_kernel.specs.Words.{Caller, IsFileOf, State}
-use Rattle.lone_kernel.specs.interleaving_core.file_check.declared.fault.CheckFault.{CheckFault}
-use Rattle.lone_kernel.specs.interleaving_core.declared.fault.OpenFault.TheVariants.{Wrong}
+use Rattle.interleavings.specs.LoneKernelWords.{Caller, IsFileOf, State}
+use Rattle.interleavings.specs.interleaving_core.file_check.declared.fault.CheckFault.{CheckFault}
+use Rattle.interleavings.specs.interleaving_core.declared.fault.OpenFault.TheVariants.{Wrong}
 use Rattle.queue_model.specs.declared.errno.Errno.TheVariants.{ENOENT}
 use Rattle.queue_model.specs.declared.queue.Queue.{Queue}
 use Rattle.queue_model.specs.Rules.{info_of}
-use Rattle.queue_json.specs.Json.{PutsJson, messages_data, queues_data}
-use Rattle.queue_lists.specs.Naming.{is_named}
-use Rattle.queue_lists.specs.Tables.{messages_text, queues_text}
+use Rattle.queue_commands.specs.Json.{PutsJson, messages_data, queues_data}
+use Rattle.queue_commands.specs.Naming.{is_named}
+use Rattle.queue_commands.specs.Tables.{messages_text, queues_text}
 use Rattle.queue_commands.specs.Commands.{AsksAs}
 use Rattle.command_runs.specs.Memory.{Pages}
 use Rattle.command_runs.specs.Running.{IsUnopened, Seen}

@@ -1,11 +1,11 @@
 -- A command that is asked of a file in memory. docs/SHELL.md, "What a command asks".
 use Rattle.std.specs.Prelude.{◌≡◌, ◌≢◌, ◌⊎◌, ℕ, List, ⊤, Result, Ok, Err, length}
 use Rattle.bucket_page.specs.Pseudokeys.{sha_key}
-use Rattle.lone_kernel.specs.Words.{Caller, IsFileOf, IsFlushedTo, KernelState, State, restarted}
-use Rattle.lone_kernel.specs.interleaving_core.Beginning.{MayRefuseUnchecked}
-use Rattle.lone_kernel.specs.interleaving_core.Fault.{device_failed}
-use Rattle.lone_kernel.specs.interleaving_core.declared.fault.OpenFault.{OpenFault}
-use Rattle.lone_kernel.specs.interleaving_core.declared.fault.OpenFault.TheVariants.{TooFewFrames}
+use Rattle.interleavings.specs.LoneKernelWords.{Caller, IsFileOf, IsFlushedTo, KernelState, State, restarted}
+use Rattle.interleavings.specs.interleaving_core.Beginning.{MayRefuseUnchecked}
+use Rattle.interleavings.specs.interleaving_core.Fault.{device_failed}
+use Rattle.interleavings.specs.interleaving_core.declared.fault.OpenFault.{OpenFault}
+use Rattle.interleavings.specs.interleaving_core.declared.fault.OpenFault.TheVariants.{TooFewFrames}
 use Rattle.queue_commands.specs.Asking.{Asking}
 use Rattle.queue_commands.specs.Commands.{AsksAs}
 use Rattle.queue_commands.specs.declared.request.Request.{Request}

@@ -3,12 +3,12 @@ use Rattle.std.specs.Prelude.{◌≡◌, ◌≢◌, ◌⊎◌, ℕ, List, Option
 use Rattle.std.specs.Io.KnownBytes.{Appends}
 use Rattle.page_device.specs.Device.{HasRisen}
 use Rattle.bucket_page.specs.Pseudokeys.{sha_key}
-use Rattle.lone_kernel.specs.Words.{Caller, IsFileOf, State, restarted}
-use Rattle.lone_kernel.specs.interleaving_core.Beginning.{MayRefuseUnchecked}
-use Rattle.lone_kernel.specs.interleaving_core.Fault.{device_failed}
-use Rattle.lone_kernel.specs.interleaving_core.declared.fault.CloseFault.TheVariants as closes
-use Rattle.lone_kernel.specs.interleaving_core.declared.fault.OpenFault.{OpenFault}
-use Rattle.lone_kernel.specs.interleaving_core.declared.fault.OpenFault.TheVariants.{TooFewFrames}
+use Rattle.interleavings.specs.LoneKernelWords.{Caller, IsFileOf, State, restarted}
+use Rattle.interleavings.specs.interleaving_core.Beginning.{MayRefuseUnchecked}
+use Rattle.interleavings.specs.interleaving_core.Fault.{device_failed}
+use Rattle.interleavings.specs.interleaving_core.declared.fault.CloseFault.TheVariants as closes
+use Rattle.interleavings.specs.interleaving_core.declared.fault.OpenFault.{OpenFault}
+use Rattle.interleavings.specs.interleaving_core.declared.fault.OpenFault.TheVariants.{TooFewFrames}
 use Rattle.queue_commands.specs.Asking.{Asking}
 use Rattle.queue_commands.specs.Commands.{AsksAs}
 use Rattle.queue_commands.specs.declared.request.Request.{Request}

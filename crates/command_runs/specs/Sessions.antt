@@ -2,11 +2,11 @@
 use Rattle.std.specs.Prelude.{◌≡◌, [], ◌∷◌, Option, Some, ⊤}
 use Rattle.bucket_page.specs.Pseudokeys.{sha_key}
 use Rattle.bucket_page.specs.declared.pseudokey.ShaKey.{ShaKey}
-use Rattle.lone_kernel.specs.Lone.{RestsOver}
-use Rattle.lone_kernel.specs.Words.{BeginFault, Call, Caller, FoundNoRoom, KernelState, State}
-use Rattle.lone_kernel.specs.interleaving_core.declared.fault.BeginFault.TheVariants as begins
-use Rattle.lone_kernel.specs.interleaving_core.declared.fault.StepFault.{StepFault}
-use Rattle.lone_kernel.specs.interleaving_core.declared.fault.StepFault.TheVariants as faults
+use Rattle.interleavings.specs.Lone.{RestsOver}
+use Rattle.interleavings.specs.LoneKernelWords.{BeginFault, Call, Caller, FoundNoRoom, KernelState, State}
+use Rattle.interleavings.specs.interleaving_core.declared.fault.BeginFault.TheVariants as begins
+use Rattle.interleavings.specs.interleaving_core.declared.fault.StepFault.{StepFault}
+use Rattle.interleavings.specs.interleaving_core.declared.fault.StepFault.TheVariants as faults
 use Rattle.command_runs.specs.declared.error.CallFault.{CallFault}
 use Rattle.command_runs.specs.declared.error.CallFault.TheVariants.{NotBegun, Failed, Lost}
 use Rattle.command_runs.specs.declared.session.TheConstants.{SEAT}

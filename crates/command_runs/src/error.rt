@@ -3,8 +3,9 @@
 ghost use Rattle.std.specs.Prelude.{◌≡◌};
 ghost use Rattle.command_runs.specs.Faults.{call_number_of, exit_of, number_of, of_asking};
 
-use faults::NoMemory;
-use lone_kernel::interleaving_core::{BeginFault, CloseFault, OpenFault, StepFault};
+use interleavings::interleaving_core::{BeginFault, CloseFault, OpenFault, StepFault};
+use numbers::faults;
+use numbers::faults::NoMemory;
 use queue_commands::{AskError, ExitStatus};
 use queue_model::Errno;
 use std::io;

@@ -1,15 +1,27 @@
 //! Commands of a shell on the file of a device: each is asked of the file in memory, and its text
 //! is printed before the device is written; what is looked at alone is read and not written.
+//!
+//! The command lines of a shell's commands: `send`, `receive`, `peek`, `list`, `make`, `remove` and
+//! `set`.
 
 #![tactic(auto)]
 
+mod commands;
 mod error;
+mod key;
 mod looking;
+mod mistake;
 mod printing;
+mod reading;
 mod running;
 mod session;
+mod task;
+mod values;
 
 pub use error::{CallFault, CommandError};
+pub use key::queue_name;
 pub use looking::{Form, Look, look_on};
 pub use queue_commands;
+pub use reading::read_command;
 pub use running::{Ran, run_on};
+pub use task::{CallerIds, Deed, Patience, SendTask, ShellTask};

@@ -1,7 +1,7 @@
 //! What is looked at of a file, which is not written.
 
 ghost use Rattle.std.specs.Prelude.{◌≡◌, ℕ, IsTrue};
-ghost use Rattle.lone_kernel.specs.Words.{Caller};
+ghost use Rattle.interleavings.specs.LoneKernelWords.{Caller};
 ghost use Rattle.command_runs.specs.Looking.{LooksAt, LooksOn, Shows};
 ghost use Rattle.command_runs.specs.Running.{seen};
 ghost use Rattle.command_runs.specs.declared.looking.Look.TheVariants.{Queues, Messages};
@@ -10,12 +10,13 @@ use crate::error::CommandError;
 use crate::printing::deliver;
 use crate::running::Ran;
 use bucket_page::ShaKey;
-use lone_kernel::interleaving_core::OpenFault;
-use lone_kernel::interleaving_core::file_check::{CheckFault, Checked, check};
+use interleavings::interleaving_core::OpenFault;
+use interleavings::interleaving_core::file_check::{CheckFault, Checked, check};
 use page_device::PageDevice;
-use queue_commands::queue_lists::{QueueName, Text, put_messages, put_queues};
-use queue_commands::{AskError, PlainLists, Request, ask};
-use queue_json::{put_messages_json, put_queues_json};
+use queue_commands::{
+    AskError, PlainLists, QueueName, Request, Text, ask, put_messages, put_messages_json,
+    put_queues, put_queues_json,
+};
 use queue_model::{Caller, Errno, System};
 use std::alloc::Global;
 use std::io::Write;

@@ -4,10 +4,9 @@ ghost use Rattle.std.specs.Prelude.{◌≡◌, None, length};
 ghost use Rattle.command_runs.specs.Faults.{told};
 
 use crate::error::CallFault;
-use bucket_page::ShaKey;
-use kept_keys::KeptKeys;
-use lone_kernel::a_lone_call_is_answered_by_the_rules;
-use lone_kernel::interleaving_core::{Kernel, Step};
+use bucket_page::{KeptKeys, ShaKey};
+use interleavings::a_lone_call_is_answered_by_the_rules;
+use interleavings::interleaving_core::{Kernel, Step};
 use page_device::PageDevice;
 use queue_commands::Answering;
 use queue_model::{Answer, Call};

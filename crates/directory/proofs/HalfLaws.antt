@@ -5,7 +5,7 @@ use Rattle.std.proofs.lemmas.Nat.{pow-add}
 use Rattle.std.proofs.Math.Nat.{add-mul-div_right, div-eq_of_lt, mod-lt, pow-le-pow_right}
 use Rattle.directory.specs.Entries.{page_of, slot_of, is_upper}
 use Rattle.directory.proofs.EntryLaws.{place_of}
-use Rattle.fields.proofs.Tests.{both_true}
+use Rattle.numbers.proofs.Tests.{both_true}
 
 -- a half that fits the first page
 within_first : (first slot half : ℕ) → slot < 512 → 2 * half ≤ 512 → half ≤ 512 * first + slot

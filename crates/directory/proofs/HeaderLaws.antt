@@ -10,13 +10,13 @@ use Rattle.directory.specs.declared.layout.Layout.{Layout}
 use Rattle.directory.specs.Layouts.{IsLayout, header_size, least_pages}
 use Rattle.directory.specs.declared.header.Header.{Header}
 use Rattle.directory.specs.declared.read.HeaderFault.{HeaderFault}
-use Rattle.fields.specs.Numbers.{four, four_at, numbers_bytes, numbers_of, zeros, is_zero}
+use Rattle.numbers.specs.Numbers.{four, four_at, numbers_bytes, numbers_of, zeros, is_zero}
 use Rattle.directory.specs.Spelling.{IsHeaderIn, SpellsHeader, SpellsIn, bytes_in}
 use Rattle.directory.specs.Reading.{kind_at, version_at, depth_at, pages_at, counts_area, counts_at, header_at, has_magic, has_range, has_padding, has_layout, fault_in, answer, reading, reading_in}
-use Rattle.fields.proofs.Tests.{both_true}
-use Rattle.fields.proofs.ZeroLaws.{drop-zeros, zeros-zeros, zeros_of, zeros_again}
-use Rattle.fields.proofs.NumberLaws.{IsBytes, IsBytes-drop, IsBytes-take, past, four_takes, four_again, four_small, after_part, length-four}
-use Rattle.fields.proofs.ListLaws.{number_is, numbers_take, numbers_again, length-numbers}
+use Rattle.numbers.proofs.Tests.{both_true}
+use Rattle.numbers.proofs.ZeroLaws.{drop-zeros, zeros-zeros, zeros_of, zeros_again}
+use Rattle.numbers.proofs.NumberLaws.{IsBytes, IsBytes-drop, IsBytes-take, past, four_takes, four_again, four_small, after_part, length-four}
+use Rattle.numbers.proofs.ListLaws.{number_is, numbers_take, numbers_again, length-numbers}
 
 pub is_today : IsLayout LAYOUT
 is_today = record { root = refl; room = omega arith; depths = refl; depth = omega arith; pages = omega arith }

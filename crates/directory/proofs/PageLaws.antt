@@ -3,12 +3,12 @@ use Rattle.std.proofs.Common.{◌≡◌, ◌≢◌, ℕ, ◌-◌, ◌*◌, ◌<�
 use Rattle.std.specs.List.{AllByRecursion}
 use Rattle.std.proofs.lemmas.List.{take_at, drop_at, get_or-set_other, get_or-set_same, length-drop, length-set, length-take, nil_from_length, take-append-drop}
 use Rattle.page_device.specs.declared.page.TheConstants.{PAYLOAD_BYTES}
-use Rattle.fields.specs.Numbers.{four, four_at, is_zero, numbers_bytes, numbers_of, overwritten, zeros}
-use Rattle.fields.proofs.ListLaws.{all_set, all_small, length-numbers, number_is, numbers_again, numbers_take}
-use Rattle.fields.proofs.NumberLaws.{IsBytes, IsBytes-drop, IsBytes-take, after_part}
-use Rattle.fields.proofs.Tests.{both_true}
-use Rattle.fields.proofs.WrittenLaws.{number_written}
-use Rattle.fields.proofs.ZeroLaws.{length-zeros, zeros_again, zeros_at, zeros_of}
+use Rattle.numbers.specs.Numbers.{four, four_at, is_zero, numbers_bytes, numbers_of, overwritten, zeros}
+use Rattle.numbers.proofs.ListLaws.{all_set, all_small, length-numbers, number_is, numbers_again, numbers_take}
+use Rattle.numbers.proofs.NumberLaws.{IsBytes, IsBytes-drop, IsBytes-take, after_part}
+use Rattle.numbers.proofs.Tests.{both_true}
+use Rattle.numbers.proofs.WrittenLaws.{number_written}
+use Rattle.numbers.proofs.ZeroLaws.{length-zeros, zeros_again, zeros_at, zeros_of}
 use Rattle.directory.specs.declared.layout.TheConstants.{DIRECTORY, ENTRIES_BYTES, HEAD_BYTES, PAGE_ENTRIES}
 use Rattle.directory.specs.Entries.{slot_at}
 use Rattle.directory.specs.Pages.{IsDirectory, IsDirectoryPage, SpellsDirectory, after_entries, directory_bytes, entries_area, entries_at, entries_of, has_entries_padding}

@@ -2,7 +2,7 @@
 use Rattle.std.proofs.Common.{◌≡◌, ℕ, ◌+◌, ◌*◌, ◌-◌, ◌/◌, ◌%◌, ◌^◌, ◌<◌, ◌≤◌, ◌≢◌, ◌==◌, Bool, false, List, if◌then◌else◌, min, suc, sym, ap, ◌∙◌, arith, ◌⊎◌, inl, inr, eqb-true, eq-eqb, lt-ltb, le-ltb, pow_pos, refl}
 use Rattle.std.proofs.lemmas.Bool.{and_from, and_left, and_right, cases_lt, false_from_ne_true}
 use Rattle.std.proofs.Math.Nat.{add-mod_right, add-mul-mod_self_left, div-add-mod, mod-eq_of_lt, mod-lt, mul-le-mul_left, pow-le-pow_right}
-use Rattle.positions.specs.declared.range.Range.{Range}
+use Rattle.directory.specs.declared.range.Range.{Range}
 use Rattle.directory.specs.declared.layout.TheConstants.{FIRST_DIRECTORY_PAGE, PAGE_ENTRIES}
 use Rattle.directory.specs.Entries.{entry_in, is_in_range, page_of, retargeted, slot_at, slot_of}
 use Rattle.directory.specs.Pages.{IsDirectoryPage}

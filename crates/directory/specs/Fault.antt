@@ -1,6 +1,6 @@
 -- The numbers of faults.
 use Rattle.std.specs.Prelude.{ℕ}
-use Rattle.page_device.specs.faults.declared.TheConstants.{BAD_HEADER, BAD_VERSION}
+use Rattle.page_device.specs.numbers.declared.faults.TheConstants.{BAD_HEADER, BAD_VERSION}
 use Rattle.directory.specs.declared.read.HeaderFault.{HeaderFault}
 use Rattle.directory.specs.declared.read.HeaderFault.TheVariants.{BadHeader, BadVersion}
 

@@ -2,7 +2,7 @@
 use Rattle.std.specs.Prelude.{◌≡◌, ℕ, ◌-◌, ◌<◌, ◌^◌, Bool, ◌&&◌, List, ◌∷◌, ◌++◌, length, take, drop, Option, Some, None, if◌then◌else◌}
 use Rattle.std.specs.List.{AllByRecursion}
 use Rattle.page_device.specs.declared.page.TheConstants.{PAYLOAD_BYTES}
-use Rattle.fields.specs.Numbers.{is_zero, numbers_bytes, numbers_of, zeros}
+use Rattle.numbers.specs.Numbers.{is_zero, numbers_bytes, numbers_of, zeros}
 use Rattle.directory.specs.declared.layout.TheConstants.{DIRECTORY, ENTRIES_BYTES, HEAD_BYTES, PAGE_ENTRIES}
 
 -- entries that have a spelling

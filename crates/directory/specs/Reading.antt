@@ -8,7 +8,7 @@ use Rattle.directory.specs.declared.header.Header.{Header}
 use Rattle.directory.specs.declared.read.HeaderFault.{HeaderFault}
 use Rattle.directory.specs.declared.read.HeaderFault.TheVariants as faults
 use Rattle.directory.specs.Layouts.{header_size, least_pages}
-use Rattle.fields.specs.Numbers.{four_at, numbers_of, is_zero}
+use Rattle.numbers.specs.Numbers.{four_at, numbers_of, is_zero}
 
 -- what stands at the places of the fields
 abbrev pub kind_at : List ℕ → ℕ

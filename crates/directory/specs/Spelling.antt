@@ -6,7 +6,7 @@ use Rattle.directory.specs.declared.layout.Layout.{Layout}
 use Rattle.directory.specs.declared.layout.TheConstants.{HEADER, HEADER_BYTES, LAYOUT, LOCAL_DEPTHS, MAGIC}
 use Rattle.directory.specs.declared.header.Header.{Header}
 use Rattle.directory.specs.Layouts.{least_pages}
-use Rattle.fields.specs.Numbers.{four, numbers_bytes, zeros}
+use Rattle.numbers.specs.Numbers.{four, numbers_bytes, zeros}
 
 -- the payload that spells a header in a layout; the counts that a shorter layout lacks are zero, as its padding is
 abbrev pub bytes_in : Layout → Header → List ℕ

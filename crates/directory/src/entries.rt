@@ -5,12 +5,12 @@ ghost use Rattle.directory.specs.declared.layout.TheConstants.{DIRECTORY_PAGES, 
 ghost use Rattle.directory.specs.Entries.{copied, entry_in, is_upper, page_of, retargeted, slot_at};
 ghost use Rattle.directory.specs.Pages.{IsDirectoryPage, SpellsDirectory, entries_at};
 
+use crate::Range;
 use crate::directory::{page_of, slot_of};
 use crate::layout::{FIRST_DIRECTORY_PAGE, HEAD_BYTES, PAGE_ENTRIES};
 use crate::page::directory_of;
-use fields::set_four;
+use numbers::fields::set_four;
 use page_device::Payload;
-use positions::Range;
 
 /// Has a slot name a bucket's page.
 pub fn set_entry(payload: &mut Payload, slot: usize, bucket: u32)
@@ -100,7 +100,7 @@ fn first_in(range: Range, entry: u32) -> u32
     ensures there { (entry + result) % 2 ^ range.depth ≡ range.pattern }
     ensures first { result < 2 ^ range.depth }
 {
-    let low = positions::index(entry, range.depth);
+    let low = crate::index(entry, range.depth);
     if low <= range.pattern {
         range.pattern - low
     } else {

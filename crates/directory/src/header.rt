@@ -78,7 +78,7 @@ fn fits(number: u32)
     let _ = number;
 }
 
-#[tactic(auto, using(fields::proofs::ListLaws::all_small))]
+#[tactic(auto, using(numbers::proofs::ListLaws::all_small))]
 fn counts_fit(counts: &[u32; LOCAL_DEPTHS])
     ensures number { length counts.now ≡ LOCAL_DEPTHS }
     ensures small { AllByRecursion (λ n. n < 2 ^ 32) counts.now }

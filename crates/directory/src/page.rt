@@ -5,7 +5,7 @@ ghost use Rattle.page_device.specs.declared.page.TheConstants.{PAYLOAD_BYTES};
 ghost use Rattle.directory.specs.Pages.{IsDirectoryPage, SpellsDirectory, directory_bytes, entries_at, entries_read, has_entries_padding};
 
 use crate::layout::{DIRECTORY, ENTRIES_BYTES, HEAD_BYTES, PAGE_ENTRIES};
-use fields::{blank, four_at, is_zero, write_numbers};
+use numbers::fields::{blank, four_at, is_zero, write_numbers};
 use page_device::Payload;
 use std::marker::Model;
 

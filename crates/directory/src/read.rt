@@ -3,7 +3,7 @@
 ghost use Rattle.std.specs.Prelude.{◌≡◌, IfOk, Ok, length};
 ghost use Rattle.page_device.specs.declared.page.TheConstants.{PAYLOAD_BYTES};
 ghost use Rattle.directory.specs.Fault.{number_of};
-ghost use Rattle.fields.specs.Numbers.{numbers_of};
+ghost use Rattle.numbers.specs.Numbers.{numbers_of};
 ghost use Rattle.directory.specs.Layouts.{IsLayout};
 ghost use Rattle.directory.specs.Reading.{counts_at, header_at, has_layout, has_magic, has_padding, has_range, reading, reading_in};
 ghost use Rattle.directory.specs.Spelling.{SpellsHeader, SpellsIn};
@@ -12,7 +12,7 @@ use crate::header::Header;
 use crate::layout::{
     COUNTS_BEGIN, HEADER, HEADER_BYTES, LAYOUT, LOCAL_DEPTHS, Layout, MAGIC, layouts_are_right,
 };
-use fields::{four_at, is_zero, read_numbers};
+use numbers::fields::{four_at, is_zero, read_numbers};
 use page_device::{MAX_PAGES, Payload, faults};
 use thiserror::Error;
 

@@ -6,7 +6,7 @@ ghost use Rattle.directory.specs.Spelling.{SpellsHeader, header_bytes};
 
 use crate::header::Header;
 use crate::layout::{COUNTS_BYTES, GREATEST_DEPTH, HEADER, LEAST_PAGES, MAGIC, VERSION};
-use fields::{blank, write_four, write_numbers};
+use numbers::fields::{blank, write_four, write_numbers};
 use page_device::{MAX_PAGES, Payload};
 
 /// Writes a header over the whole payload.

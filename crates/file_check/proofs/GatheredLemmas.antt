@@ -14,8 +14,8 @@ use Rattle.file_check.proofs.Names.{all_of, AreLinksOf, contains_head, contains_
 use Rattle.file_check.specs.Gathered.{AreCounted, AreJustOf, AreLinksOfAll, IsOf}
 use Rattle.file_check.specs.Strays.{AreNeeded, AreNeededOn, IsNeeded}
 use Rattle.file_check.specs.Words.{Layout, Pair, Record, RecordKey, SpellsRecord, SpellsIn, State, Store, contents, held_in, pair, pairs_on, records_at}
-use Rattle.file_records.proofs.VersionLemmas.{held_some, some_held}
-use Rattle.file_records.specs.Versions.{today_in}
+use Rattle.record_walk.proofs.VersionLemmas.{held_some, some_held}
+use Rattle.record_walk.specs.Versions.{today_in}
 use Rattle.file_check.proofs.CountLemmas.{count_more, named_each}
 use Rattle.file_check.proofs.RecordLemmas.{AreTestedTo, tested_all}
 

@@ -20,7 +20,7 @@ use Rattle.record_walk.specs.Systems.{AreQueueIds}
 use Rattle.type_chains.proofs.Members.{contains_head}
 use Rattle.file_check.specs.Ids.{is_queue, id_in, ids_in}
 use Rattle.file_check.specs.Words.{Layout, Pair, Store, chain, held_in, pairs_on, records_at}
-use Rattle.file_records.proofs.VersionLemmas.{held_none, none_held}
+use Rattle.record_walk.proofs.VersionLemmas.{held_none, none_held}
 
 -- ---- record by record
 

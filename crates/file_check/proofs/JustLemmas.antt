@@ -17,7 +17,7 @@ use Rattle.type_chains.proofs.Members.{from_flat_map, in_flat_map}
 use Rattle.file_check.specs.declared.fault.CheckFault.TheVariants as faults
 use Rattle.file_check.specs.Strays.{AreNeeded, IsFirstStray, IsNeeded, IsStrayIn}
 use Rattle.file_check.specs.Whole.{HasJust}
-use Rattle.file_records.proofs.VersionLemmas.{held_none, held_some}
+use Rattle.record_walk.proofs.VersionLemmas.{held_none, held_some}
 use Rattle.file_check.specs.Words.{CheckFault, Layout, Pair, Record, RecordKey, SpellsRecord, State, Store, bucket_at, contents, held_in, pairs_on, records_at}
 use Rattle.file_check.proofs.RecordLemmas.{stands_on}
 

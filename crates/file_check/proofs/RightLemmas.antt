@@ -11,7 +11,7 @@ use Rattle.bucket_page.specs.declared.page.PageKind.TheVariants as kinds
 use Rattle.bucket_page.specs.Reading as reading
 use Rattle.bucket_page.specs.Records.{ascend}
 use Rattle.directory.specs.Pages.{entries_at}
-use Rattle.fields.specs.Numbers.{four_at}
+use Rattle.numbers.specs.Numbers.{four_at}
 use Rattle.file_walk.specs.Files.{said_by, pages_in}
 use Rattle.file_walk.specs.Laws.{IsQuietFile}
 use Rattle.file_walk.specs.Order.{after_reading}

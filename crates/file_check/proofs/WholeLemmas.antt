@@ -9,7 +9,7 @@ use Rattle.record_walk.proofs.SystemLemmas.{wrong_queue}
 use Rattle.file_check.specs.declared.fault.CheckFault.TheVariants as faults
 use Rattle.record_walk.specs.declared.fault.WalkFault.{WalkFault}
 use Rattle.record_walk.specs.declared.fault.WalkFault.TheVariants as walked
-use Rattle.file_records.specs.Files.{HasRecords, Source, source}
+use Rattle.record_walk.specs.Files.{HasRecords, Source, source}
 use Rattle.file_check.specs.Fault.{IsOfMachineToo, of_walk}
 use Rattle.file_check.specs.Gathered.{AreJustOf}
 use Rattle.file_check.specs.Ids.{HasChain}

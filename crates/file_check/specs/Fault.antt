@@ -1,6 +1,6 @@
 -- The numbers of faults.
 use Rattle.std.specs.Prelude.{ℕ}
-use Rattle.faults.specs.declared.TheConstants.{BAD_RECORD, MALFORMED, NO_SYSTEM, STRAY}
+use Rattle.numbers.specs.declared.faults.TheConstants.{BAD_RECORD, MALFORMED, NO_SYSTEM, STRAY}
 use Rattle.file_walk.specs.Fault as walk
 use Rattle.file_walk.specs.Order.{IsOfMachine}
 use Rattle.file_walk.specs.declared.fault.StructureFault.TheVariants as structure

@@ -3,18 +3,17 @@
 ghost use Rattle.std.specs.Prelude.{◌≡◌, ◌≤◌, ◌⊎◌, ℕ, List, length, IsTrue, Ok, IfOk, IfErr, OnOk};
 ghost use Rattle.std.specs.List.{All};
 ghost use Rattle.page_device.specs.Sealed.{payload_of};
-ghost use Rattle.positions.specs.declared.pseudokey.TheConstants.{PSEUDOKEY_BITS};
+ghost use Rattle.directory.specs.declared.pseudokey.TheConstants.{PSEUDOKEY_BITS};
 ghost use Rattle.file_check.specs.Fault.{IsOfMachineToo};
 ghost use Rattle.file_check.specs.Records.{AreRightOn, HasCheckCause, IsLivePage, IsRightRecordIn, IsWrongIn};
 ghost use Rattle.file_check.specs.Words.{Layout, bucket_at, file_in, payload_on};
 
 use crate::fault::CheckFault;
 use bucket_page::{PseudoKey, RecordKey};
-use directory::Layout;
-use file_records::{TestedBucket, decode_in, read_tested};
+use directory::{Layout, Range};
 use file_walk::StructureFault;
 use page_device::{DeviceFault, PAGE_BYTES, Page, PageDevice};
-use positions::Range;
+use record_walk::{TestedBucket, decode_in, read_tested};
 
 /// Reads a page whose digest was tested before.
 pub(crate) fn read_again<D: PageDevice>(

@@ -2,7 +2,7 @@
 //! of one system.
 
 ghost use Rattle.std.specs.Prelude.{◌≡◌, ◌⊎◌, false, IsTrue, IfOk, IfErr};
-ghost use Rattle.file_records.specs.Files.{HasRecords};
+ghost use Rattle.record_walk.specs.Files.{HasRecords};
 ghost use Rattle.record_walk.specs.Systems.{AreQueueIds, IsSystemOf};
 ghost use Rattle.file_check.specs.Records.{HasCheckCause};
 ghost use Rattle.file_check.specs.Right.{IsRightFileOf};
@@ -16,11 +16,10 @@ use crate::records::test_records;
 use crate::strays::test_strays;
 use bucket_page::PseudoKey;
 use directory::{LAYOUT, Layout, OLDER_LAYOUT, layouts_are_right};
-use file_records::FileRecords;
 use file_walk::{Outline, Structure, check_structure, check_structure_in};
 use page_device::PageDevice;
 use queue_model::System;
-use record_walk::read_system;
+use record_walk::{FileRecords, read_system};
 use std::alloc::Global;
 
 /// What was found of the file on a device, and the device.

@@ -16,11 +16,10 @@ use crate::gathered::gather;
 use crate::needs::{place_of, place_of_message};
 use bucket_page::{PseudoKey, RecordKey};
 use directory::Layout;
-use file_records::{TestedBucket, is_spelled_in};
 use page_device::{PAGE_BYTES, PageDevice};
 use queue_model::{Queue, System};
 use queue_records::{COUNTER, Counter, KEY, KeyEntry, MESSAGE, QUEUE, Record, TYPE};
-use record_walk::QueueLinks;
+use record_walk::{QueueLinks, TestedBucket, is_spelled_in};
 use std::alloc::Global;
 
 /// The system of which these pages hold exactly the records, where each is right by itself. None

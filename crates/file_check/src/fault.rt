@@ -4,6 +4,7 @@ ghost use Rattle.std.specs.Prelude.{◌≡◌};
 ghost use Rattle.file_check.specs.Fault.{number_of};
 
 use file_walk::StructureFault;
+use numbers::faults;
 use record_walk::WalkFault;
 use std::alloc::AllocFailed;
 use thiserror::Error;

@@ -9,12 +9,11 @@ ghost use Rattle.file_check.specs.Words.{IsLayout, IsRightStructureIn, file_in};
 use crate::bucket::{bucket_in, read_again, test_bucket};
 use bucket_page::PseudoKey;
 use directory::Layout;
-use file_records::{TestedBucket, decode_in};
-use limits::{MAX_MESSAGES, MAX_QUEUES};
+use numbers::limits::{MAX_MESSAGES, MAX_QUEUES};
 use page_device::{PAGE_BYTES, PageDevice};
 use queue_model::{Body, Message, Messages, Queue, System};
 use queue_records::{MessageEntry, QueueEntry, Record};
-use record_walk::queue_in;
+use record_walk::{TestedBucket, decode_in, queue_in};
 use std::alloc::Global;
 
 /// What was found so far of the queue of an id.

@@ -12,9 +12,9 @@ ghost use Rattle.file_check.specs.Words.{file_in, held_in, records_at};
 use crate::bucket::{bucket_in, read_again};
 use crate::fault::CheckFault;
 use directory::Layout;
-use file_records::TestedBucket;
 use page_device::{PAGE_BYTES, PageDevice};
 use queue_records::QUEUE;
+use record_walk::TestedBucket;
 use std::alloc::Global;
 
 /// The ids of all Queues of a file whose structure is right, in ascending order. Nothing is

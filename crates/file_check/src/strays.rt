@@ -12,9 +12,9 @@ use crate::fault::CheckFault;
 use crate::needs::needs;
 use bucket_page::RecordKey;
 use directory::Layout;
-use file_records::TestedBucket;
 use page_device::{PAGE_BYTES, PageDevice};
 use queue_model::System;
+use record_walk::TestedBucket;
 
 /// Tests of each record of a file whose structure is right that a system needs it. They are tested
 /// in the order of the chain, on each page from the lowest key on; the first that it does not need

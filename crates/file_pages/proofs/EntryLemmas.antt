@@ -6,12 +6,12 @@ use Rattle.std.proofs.lemmas.List.{get_or-set_same, length-set}
 use Rattle.bucket_page.specs.declared.page.PageKind.TheVariants as kinds
 use Rattle.bucket_page.specs.Reading.{page_in}
 use Rattle.bucket_page.specs.Spelling.{Spells}
-use Rattle.positions.specs.declared.range.Range.{Range}
+use Rattle.directory.specs.declared.range.Range.{Range}
 use Rattle.directory.specs.declared.layout.TheConstants.{DIRECTORY_PAGES, FIRST_DIRECTORY_PAGE, GREATEST_DEPTH, ROOT_PAGE}
 use Rattle.directory.specs.Entries.{copied, entry_in, is_in_range, is_upper, page_of, retargeted}
 use Rattle.directory.specs.Pages.{IsDirectoryPage}
 use Rattle.directory.specs.Reading.{header_at}
-use Rattle.buffer_pool.specs.page_forms.Forms.{IsHeaderPage}
+use Rattle.buffer_pool.specs.Forms.{IsHeaderPage}
 use Rattle.hash_file.specs.Store.{Store, entry_at}
 use Rattle.hash_file.specs.Changes.{copy_directory, mapped_from, retarget}
 use Rattle.file_pages.specs.Entries.{IsLowerHalf}

@@ -15,7 +15,7 @@ pub use Rattle.directory.specs.Pages.{entries_at}
 pub use Rattle.directory.specs.declared.layout.TheConstants.{DIRECTORY_PAGES, ROOT_PAGE}
 pub use Rattle.hash_file.specs.Store.{bucket_of, is_bucket, page_at}
 pub use Rattle.page_device.specs.Device.{HasRisen}
-pub use Rattle.buffer_pool.proofs.of_page_forms.FormLemmas.{directory_well, page_is}
-pub use Rattle.buffer_pool.specs.page_forms.Forms.{IsWell}
+pub use Rattle.buffer_pool.proofs.FormLemmas.{directory_well, page_is}
+pub use Rattle.buffer_pool.specs.Forms.{IsWell}
 pub use Rattle.std.proofs.lemmas.Bool.{cases_lt}
 pub use Rattle.std.proofs.lemmas.Option.{get_or_from_slice_get}

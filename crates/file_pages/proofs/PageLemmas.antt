@@ -7,7 +7,7 @@ use Rattle.bucket_page.specs.Changes.{IsBucketPage, SpellsBucket}
 use Rattle.bucket_page.specs.Dividing.{joined}
 use Rattle.bucket_page.specs.Reading.{bucket_in, page_in}
 use Rattle.bucket_page.specs.Spelling.{Spells}
-use Rattle.buffer_pool.proofs.of_page_forms.FormLemmas.{page_is as read_is, same_page}
+use Rattle.buffer_pool.proofs.FormLemmas.{page_is as read_is, same_page}
 use Rattle.buffer_pool.specs.Pool.{PoolState}
 use Rattle.directory.specs.declared.layout.TheConstants.{ROOT_PAGE}
 use Rattle.hash_file.specs.Changes.{with_page}

@@ -7,7 +7,7 @@ use Rattle.bucket_page.specs.Bucket.{Bucket}
 use Rattle.bucket_page.specs.Changes.{IsBucketPage, Changes}
 use Rattle.bucket_page.specs.Reading.{bucket_in, page_in, records_in}
 use Rattle.directory.specs.declared.layout.TheConstants.{ROOT_PAGE}
-use Rattle.buffer_pool.proofs.of_page_forms.FormLemmas.{page_is as read_is}
+use Rattle.buffer_pool.proofs.FormLemmas.{page_is as read_is}
 use Rattle.bucket_page.specs.Spelling.{Spells}
 use Rattle.hash_file.specs.Store.{bucket_at, bucket_of, is_bucket}
 use Rattle.hash_file.specs.Changes.{RecordWrite, records_after, with_bucket, with_page, write_record}

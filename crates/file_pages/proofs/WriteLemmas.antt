@@ -14,8 +14,8 @@ use Rattle.directory.specs.declared.layout.TheConstants.{GREATEST_DEPTH, ROOT_PA
 use Rattle.directory.specs.Entries.{page_of, entry_in}
 use Rattle.directory.specs.Pages.{IsDirectoryPage}
 use Rattle.directory.specs.Reading.{header_at}
-use Rattle.buffer_pool.specs.page_forms.Forms.{IsHeaderPage}
-use Rattle.buffer_pool.proofs.of_page_forms.FormLemmas.{same_page}
+use Rattle.buffer_pool.specs.Forms.{IsHeaderPage}
+use Rattle.buffer_pool.proofs.FormLemmas.{same_page}
 use Rattle.hash_file.specs.Changes.{with_header, with_page}
 use Rattle.file_pages.specs.Files.{listed, image, kind_on, entry_on, entries_of, store_of, SpellsFile, IsReady}
 use Rattle.file_pages.specs.Pinning.{IsPinned}

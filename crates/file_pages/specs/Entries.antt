@@ -1,6 +1,6 @@
 -- Which pages of the directory may be written.
 use Rattle.std.specs.Prelude.{◌≡◌, ℕ, ◌-◌, ◌<◌, ◌≤◌, ◌^◌, true, List}
-use Rattle.positions.specs.declared.range.Range.{Range}
+use Rattle.directory.specs.declared.range.Range.{Range}
 use Rattle.directory.specs.declared.layout.TheConstants.{DIRECTORY_PAGES, FIRST_DIRECTORY_PAGE, GREATEST_DEPTH}
 use Rattle.directory.specs.Entries.{is_upper, page_of}
 use Rattle.hash_file.specs.Store.{Store}

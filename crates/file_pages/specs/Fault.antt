@@ -1,6 +1,6 @@
 -- The numbers of faults, and which of them is the device's.
 use Rattle.std.specs.Prelude.{ℕ, ◌≡◌}
-use Rattle.page_device.specs.faults.declared.TheConstants.{FAILED}
+use Rattle.page_device.specs.numbers.declared.faults.TheConstants.{FAILED}
 use Rattle.page_device.specs.Device.{HasRisen}
 use Rattle.page_device.specs.declared.fault.DeviceFault.TheVariants as device
 use Rattle.buffer_pool.specs.Fault.{number_of as pool_number_of}

@@ -10,7 +10,7 @@ use Rattle.directory.specs.declared.layout.TheConstants.{DIRECTORY_PAGES, FIRST_
 use Rattle.directory.specs.Entries.{page_of, entry_in}
 use Rattle.directory.specs.Pages.{IsDirectoryPage}
 use Rattle.directory.specs.Reading.{header_at}
-use Rattle.buffer_pool.specs.page_forms.Forms.{IsHeaderPage}
+use Rattle.buffer_pool.specs.Forms.{IsHeaderPage}
 use Rattle.hash_file.specs.Store.{Store}
 
 -- what stands at each place below n

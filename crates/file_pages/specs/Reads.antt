@@ -7,7 +7,7 @@ use Rattle.bucket_page.specs.declared.page.PageKind.{PageKind}
 use Rattle.bucket_page.specs.declared.page.PageKind.TheVariants as kinds
 use Rattle.bucket_page.specs.Bucket.{Bucket}
 use Rattle.bucket_page.specs.Records.{lookup, record_bytes}
-use Rattle.positions.specs.Ranges.{Covers}
+use Rattle.directory.specs.Ranges.{Covers}
 use Rattle.hash_file.specs.Store.{is_bucket, bucket_of, range_of}
 use Rattle.file_pages.specs.Files.{IsFilePool, IsReady}
 use Rattle.file_pages.specs.declared.sight.BucketSight.{BucketSight}

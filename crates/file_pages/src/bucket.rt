@@ -20,8 +20,7 @@ use crate::header::read_header;
 use crate::pinning::pin;
 use crate::read::read_page;
 use bucket_page::PseudoKey;
-use buffer_pool::Pool;
-use buffer_pool::page_forms::FilePage;
+use buffer_pool::{FilePage, Pool};
 use directory::{GREATEST_DEPTH, ROOT_PAGE};
 use page_device::PageDevice;
 

@@ -9,7 +9,7 @@ ghost use Rattle.file_pages.specs.Buckets.{AreJoinable};
 
 use crate::fault::FileFault;
 use bucket_page::{BucketView, ROOM_BYTES};
-use buffer_pool::page_forms::FilePage;
+use buffer_pool::FilePage;
 
 /// The bucket of two buddies. It is `Failed` where a page is no bucket, or they may not be joined.
 pub fn join(left: &FilePage, right: &FilePage) -> Result<FilePage, FileFault>

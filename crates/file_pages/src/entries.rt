@@ -14,11 +14,9 @@ use crate::fault::FileFault;
 use crate::header::read_header;
 use crate::pinning::pin;
 use crate::read::read_page;
-use buffer_pool::Pool;
-use buffer_pool::page_forms::FilePage;
-use directory::{DIRECTORY_PAGES, FIRST_DIRECTORY_PAGE, GREATEST_DEPTH, lower_page};
+use buffer_pool::{FilePage, Pool};
+use directory::{DIRECTORY_PAGES, FIRST_DIRECTORY_PAGE, GREATEST_DEPTH, Range, lower_page};
 use page_device::PageDevice;
-use positions::Range;
 
 /// The directory is about to double: on one of its pages, each entry of the upper half becomes that
 /// of the lower half with the same low bits (Fagin et al. 1979). It is `Failed` where the page is

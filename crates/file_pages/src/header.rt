@@ -12,7 +12,7 @@ ghost use Rattle.directory.specs.Reading.{header_at};
 ghost use Rattle.directory.specs.Spelling.{IsHeader};
 ghost use Rattle.hash_file.specs.Changes.{link_free, lower_depth, merge_counts, raise_depth, set_counts, split_counts, take_page, with_header};
 ghost use Rattle.hash_file.specs.Store.{IsFreePage, next_at};
-ghost use Rattle.buffer_pool.specs.page_forms.Forms.{IsHeaderPage};
+ghost use Rattle.buffer_pool.specs.Forms.{IsHeaderPage};
 ghost use Rattle.file_pages.specs.Fault.{FileHasCause, IsDevicesFault};
 ghost use Rattle.file_pages.specs.Files.{IsReady, IsFilePool, store_of};
 ghost use Rattle.file_pages.specs.Headers.{HasFreePage, MayMergeCount, MaySplitCount};
@@ -21,8 +21,7 @@ ghost use Rattle.file_pages.specs.Writes.{OnlyWrites};
 
 use crate::fault::FileFault;
 use crate::pinning::pin;
-use buffer_pool::Pool;
-use buffer_pool::page_forms::FilePage;
+use buffer_pool::{FilePage, Pool};
 use directory::{GREATEST_DEPTH, Header, ROOT_PAGE};
 use page_device::PageDevice;
 

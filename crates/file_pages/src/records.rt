@@ -18,8 +18,7 @@ ghost use Rattle.file_pages.specs.Writes.{IsBucketThere, OnlyWrites, TakesRecord
 use crate::fault::FileFault;
 use crate::pinning::pin;
 use bucket_page::{RECORD_HEAD_BYTES, ROOM_BYTES, RecordKey};
-use buffer_pool::Pool;
-use buffer_pool::page_forms::FilePage;
+use buffer_pool::{FilePage, Pool};
 use directory::ROOT_PAGE;
 use page_device::PageDevice;
 

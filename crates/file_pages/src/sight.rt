@@ -8,8 +8,8 @@ ghost use Rattle.file_pages.specs.Reads.{IsOnWay, IsSight, sight_of};
 
 use crate::fault::FileFault;
 use bucket_page::RecordKey;
-use buffer_pool::page_forms::FilePage;
-use positions::Range;
+use buffer_pool::FilePage;
+use directory::Range;
 
 /// What a search for a key sees of a page.
 #[derive(Clone, Copy, Debug, PartialEq, Eq)]

@@ -2,16 +2,16 @@
 use Rattle.std.proofs.Common.{ℕ, ◌≡◌, ◌≢◌, ◌<◌, List, [], ◌∷◌, ◌++◌, true, false, refl, sym, ap, subst, ◌∙◌, inl, inr, arith}
 use Rattle.std.specs.List.{Contains}
 use Rattle.std.proofs.lemmas.List.Elements.{Contains-append_cases}
-use Rattle.positions.specs.declared.pseudokey.TheConstants.{POSITIONS}
-use Rattle.positions.specs.declared.range.Range.{Range}
-use Rattle.positions.specs.Links.{Links}
-use Rattle.positions.specs.Ranges.{stop_of}
-use Rattle.positions.specs.Tiles.{IsTileAt, Tiles}
-use Rattle.positions.proofs.MemberLaws.{contains_cases, contains_none, contains_head, contains_tail}
-use Rattle.positions.proofs.PartitionLaws.{partition_tiles, tiles_partition}
-use Rattle.positions.proofs.PositionLaws.{position_below, width_positive}
-use Rattle.positions.proofs.TileLaws.{tiles_push}
-use Rattle.positions.proofs.WalkLaws.{links_join}
+use Rattle.directory.specs.declared.pseudokey.TheConstants.{POSITIONS}
+use Rattle.directory.specs.declared.range.Range.{Range}
+use Rattle.directory.specs.Links.{Links}
+use Rattle.directory.specs.Ranges.{stop_of}
+use Rattle.directory.specs.Tiles.{IsTileAt, Tiles}
+use Rattle.directory.proofs.MemberLaws.{contains_cases, contains_none, contains_head, contains_tail}
+use Rattle.directory.proofs.PartitionLaws.{partition_tiles, tiles_partition}
+use Rattle.directory.proofs.PositionLaws.{position_below, width_positive}
+use Rattle.directory.proofs.TileLaws.{tiles_push}
+use Rattle.directory.proofs.WalkLaws.{links_join}
 use Rattle.hash_file.specs.Store.{Store, has_bucket, range_at, next_at}
 use Rattle.hash_file.specs.declared.page.Shape.{Shape}
 use Rattle.file_walk.specs.Outlines.{IsBucketAt}

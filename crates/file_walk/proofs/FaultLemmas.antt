@@ -3,12 +3,12 @@ use Rattle.std.proofs.Common.{ℕ, suc, ◌≡◌, ◌≢◌, ◌+◌, ◌<◌, 
 use Rattle.std.specs.List.{Contains}
 use Rattle.std.proofs.lemmas.List.{append_assoc, append-nil}
 use Rattle.std.proofs.lemmas.Bool.Decides.{nat_tests}
-use Rattle.positions.specs.declared.pseudokey.TheConstants.{POSITIONS}
-use Rattle.positions.specs.Links.{Links}
-use Rattle.positions.specs.Ranges.{stop_of}
-use Rattle.positions.specs.Tiles.{Tiles, IsTileAt}
-use Rattle.positions.proofs.MemberLaws.{contains_head, contains_tail}
-use Rattle.positions.proofs.PartitionLaws.{partition_tiles}
+use Rattle.directory.specs.declared.pseudokey.TheConstants.{POSITIONS}
+use Rattle.directory.specs.Links.{Links}
+use Rattle.directory.specs.Ranges.{stop_of}
+use Rattle.directory.specs.Tiles.{Tiles, IsTileAt}
+use Rattle.directory.proofs.MemberLaws.{contains_head, contains_tail}
+use Rattle.directory.proofs.PartitionLaws.{partition_tiles}
 use Rattle.hash_file.specs.Store.{Store, range_at, next_at, IsFreePage}
 use Rattle.hash_file.specs.Chain.{times}
 use Rattle.hash_file.specs.Sound.{is_numbered}

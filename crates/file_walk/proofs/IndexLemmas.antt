@@ -4,8 +4,8 @@ use Rattle.std.specs.List.{Contains}
 use Rattle.std.proofs.lemmas.Bool.Decides.{nat_tests}
 use Rattle.std.proofs.lemmas.List.{take_more}
 use Rattle.std.proofs.lemmas.List.Elements.{Contains-append_cases}
-use Rattle.positions.specs.Ranges.{Covers}
-use Rattle.positions.proofs.MemberLaws.{contains_cases, contains_none}
+use Rattle.directory.specs.Ranges.{Covers}
+use Rattle.directory.proofs.MemberLaws.{contains_cases, contains_none}
 use Rattle.hash_file.specs.declared.page.Shape.{Shape}
 use Rattle.hash_file.specs.Store.{Store, is_bucket, has_bucket, bucket_at}
 use Rattle.hash_file.specs.Chain.{IsBucketOn, times, number_on}

@@ -3,11 +3,11 @@ use Rattle.std.proofs.Common.{ℕ, ◌≡◌, ◌<◌, ◌≤◌, ◌⊎◌, ◌
 use Rattle.std.proofs.Math.ListN.{get_or-map}
 use Rattle.std.proofs.Math.Path.{fun_ext}
 use Rattle.std.proofs.lemmas.List.{length-map}
-use Rattle.positions.specs.declared.range.Range.{Range}
-use Rattle.positions.specs.Links.{Links}
-use Rattle.positions.specs.Partition.{IsPartition}
-use Rattle.positions.specs.Ranges.{Covers}
-use Rattle.positions.specs.Tiles.{IsTileAt, Tiles}
+use Rattle.directory.specs.declared.range.Range.{Range}
+use Rattle.directory.specs.Links.{Links}
+use Rattle.directory.specs.Partition.{IsPartition}
+use Rattle.directory.specs.Ranges.{Covers}
+use Rattle.directory.specs.Tiles.{IsTileAt, Tiles}
 use Rattle.bucket_page.specs.declared.page.PageKind.{PageKind}
 use Rattle.bucket_page.specs.declared.page.PageKind.TheVariants as kinds
 use Rattle.hash_file.specs.Store.{Store, page_at, bucket_of, is_bucket, range_of, has_bucket, bucket_at, range_at, next_at, entry_at, IsFreePage}

@@ -7,15 +7,15 @@ use Rattle.std.proofs.lemmas.List.Elements.{Contains-append_cases, All-contains_
 use Rattle.std.proofs.lemmas.List.Sums.{sum_by-set}
 use Rattle.std.proofs.Math.ListN.{length-set}
 use Rattle.std.proofs.Math.Seq.{drop-cons}
-use Rattle.positions.specs.Links.{Links}
-use Rattle.positions.proofs.MemberLaws.{contains_cases, contains_none, contains_head}
-use Rattle.positions.proofs.PartitionLaws.{partition_tiles}
-use Rattle.positions.specs.declared.pseudokey.TheConstants.{POSITIONS}
-use Rattle.positions.specs.Ranges.{stop_of}
-use Rattle.positions.specs.Tiles.{Tiles}
-use Rattle.positions.proofs.PositionLaws.{width_positive}
-use Rattle.positions.proofs.TileLaws.{tiles_within}
-use Rattle.positions.proofs.WalkLaws.{links_join}
+use Rattle.directory.specs.Links.{Links}
+use Rattle.directory.proofs.MemberLaws.{contains_cases, contains_none, contains_head}
+use Rattle.directory.proofs.PartitionLaws.{partition_tiles}
+use Rattle.directory.specs.declared.pseudokey.TheConstants.{POSITIONS}
+use Rattle.directory.specs.Ranges.{stop_of}
+use Rattle.directory.specs.Tiles.{Tiles}
+use Rattle.directory.proofs.PositionLaws.{width_positive}
+use Rattle.directory.proofs.TileLaws.{tiles_within}
+use Rattle.directory.proofs.WalkLaws.{links_join}
 use Rattle.bucket_page.specs.declared.page.PageKind.TheVariants as kinds
 use Rattle.hash_file.specs.Store.{Store, is_bucket, has_bucket, range_at, next_at, IsFreePage}
 use Rattle.hash_file.specs.Chain.{times}

@@ -1,6 +1,6 @@
 -- The numbers of faults.
 use Rattle.std.specs.Prelude.{ℕ}
-use Rattle.faults.specs.declared.TheConstants.{BAD_DIGEST, BAD_HEADER, BAD_VERSION, CHAIN_BROKEN, DEVICE, ENTRY_WRONG, MALFORMED, NO_MEMORY, PAGE_LOST, PAST_END}
+use Rattle.numbers.specs.declared.faults.TheConstants.{BAD_DIGEST, BAD_HEADER, BAD_VERSION, CHAIN_BROKEN, DEVICE, ENTRY_WRONG, MALFORMED, NO_MEMORY, PAGE_LOST, PAST_END}
 use Rattle.file_walk.specs.declared.fault.StructureFault.{StructureFault}
 use Rattle.file_walk.specs.declared.fault.StructureFault.TheVariants as faults
 

@@ -2,10 +2,10 @@
 -- Each is tested on a file of which the pages are right (Fagin, Nievergelt, Pippenger and Strong 1979).
 use Rattle.std.specs.Prelude.{ℕ, ◌≡◌, ◌≢◌, ◌<◌, ◌≤◌, ◌^◌, ◌⊎◌, Bool, true, false, slice_index_or, List, ◌++◌, length, if◌then◌else◌}
 use Rattle.std.specs.List.{Contains}
-use Rattle.positions.specs.declared.pseudokey.TheConstants.{POSITIONS}
-use Rattle.positions.specs.Links.{Links}
-use Rattle.positions.specs.Partition.{IsPartition}
-use Rattle.positions.specs.Tiles.{IsTileAt, Tiles}
+use Rattle.directory.specs.declared.pseudokey.TheConstants.{POSITIONS}
+use Rattle.directory.specs.Links.{Links}
+use Rattle.directory.specs.Partition.{IsPartition}
+use Rattle.directory.specs.Tiles.{IsTileAt, Tiles}
 use Rattle.hash_file.specs.Store.{Store, entry_at, count_at, has_bucket, bucket_at, range_at, next_at, IsFreePage}
 use Rattle.hash_file.specs.Chain.{IsBucketOn, times, number_on}
 use Rattle.hash_file.specs.Sound.{IsFreeList, is_numbered}

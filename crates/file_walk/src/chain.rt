@@ -6,7 +6,7 @@ ghost use Rattle.file_walk.specs.Walks.{IsChainFault, IsRightChain};
 
 use crate::fault::StructureFault;
 use crate::outline::Outline;
-use positions::POSITIONS;
+use directory::POSITIONS;
 use std::alloc::Global;
 
 /// The pages of the chain, from the root to its end. Each stands where the range of the one before

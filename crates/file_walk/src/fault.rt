@@ -4,6 +4,7 @@ ghost use Rattle.std.specs.Prelude.{◌≡◌};
 ghost use Rattle.file_walk.specs.Fault.{number_of};
 
 use bucket_page::Malformed;
+use numbers::faults;
 use std::alloc::{AllocError, AllocFailed};
 use thiserror::Error;
 

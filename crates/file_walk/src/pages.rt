@@ -13,10 +13,9 @@ use crate::header_page::header_of;
 use crate::outline::Outline;
 use crate::sealed_page::read_sealed;
 use bucket_page::{BucketView, Malformed, PageKind, read_page};
-use directory::{DirectoryView, FIRST_DIRECTORY_PAGE, Layout, PAGE_ENTRIES};
+use directory::{DirectoryView, FIRST_DIRECTORY_PAGE, Layout, PAGE_ENTRIES, Range};
 use hash_file::Shape;
 use page_device::{PAYLOAD_BYTES, PageDevice};
-use positions::Range;
 use std::alloc::{AllocFailed, Global};
 
 /// Reads the header and then each page: its digest first, and then what it spells. Each

@@ -1,13 +1,13 @@
 -- The chain of a file: it is what next links lead to, and each pseudokey has one bucket on it.
 use Rattle.std.proofs.Common.{ℕ, ◌≡◌, List, arith}
 use Rattle.std.specs.List.{Contains}
-use Rattle.positions.specs.declared.pseudokey.TheConstants.{POSITIONS}
-use Rattle.positions.specs.Positions.{position_of}
-use Rattle.positions.specs.Ranges.{IsRange, HasPosition}
-use Rattle.positions.proofs.PositionLaws.{position_below}
-use Rattle.positions.proofs.RangeLaws.{range_has, range_covers}
-use Rattle.positions.proofs.TileLaws.{tiles_within, tiles_found, tiles_unique}
-use Rattle.positions.proofs.WalkLaws.{walk_meets_all}
+use Rattle.directory.specs.declared.pseudokey.TheConstants.{POSITIONS}
+use Rattle.directory.specs.Positions.{position_of}
+use Rattle.directory.specs.Ranges.{IsRange, HasPosition}
+use Rattle.directory.proofs.PositionLaws.{position_below}
+use Rattle.directory.proofs.RangeLaws.{range_has, range_covers}
+use Rattle.directory.proofs.TileLaws.{tiles_within, tiles_found, tiles_unique}
+use Rattle.directory.proofs.WalkLaws.{walk_meets_all}
 use Rattle.hash_file.specs.Store.{Store, has_bucket, range_at, next_at}
 use Rattle.hash_file.specs.Chain.{chain, IsChain, IsBucketOn}
 use Rattle.hash_file.specs.Sound.{HasLayout}

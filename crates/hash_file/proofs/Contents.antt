@@ -4,12 +4,12 @@ use Rattle.std.specs.List.{All, AllPairs, AllByRecursion, Contains}
 use Rattle.std.proofs.lemmas.List.Elements.{All-head, All-tail, All-nil, All-cons, All-append}
 use Rattle.std.proofs.lemmas.Bool.{both_ways, eq-eqb}
 use Rattle.std.proofs.lemmas.List.Kept.{AllPairs-cons}
-use Rattle.positions.specs.declared.pseudokey.TheConstants.{POSITIONS}
-use Rattle.positions.specs.Positions.{position_of}
-use Rattle.positions.specs.Ranges.{stop_of}
-use Rattle.positions.specs.Tiles.{Tiles}
-use Rattle.positions.proofs.MemberLaws.{contains_head, contains_tail, contains_cases, contains_none}
-use Rattle.positions.proofs.RangeLaws.{range_has}
+use Rattle.directory.specs.declared.pseudokey.TheConstants.{POSITIONS}
+use Rattle.directory.specs.Positions.{position_of}
+use Rattle.directory.specs.Ranges.{stop_of}
+use Rattle.directory.specs.Tiles.{Tiles}
+use Rattle.directory.proofs.MemberLaws.{contains_head, contains_tail, contains_cases, contains_none}
+use Rattle.directory.proofs.RangeLaws.{range_has}
 use Rattle.bucket_page.specs.declared.record_key.RecordKey.{RecordKey}
 use Rattle.bucket_page.specs.Keys.{is_same, is_below}
 use Rattle.bucket_page.specs.Records.{Pair, pair, ascend, lookup}

@@ -3,8 +3,8 @@ use Rattle.std.proofs.Common.{ℕ, suc, ◌≡◌, ◌+◌, ◌-◌, ◌<◌, �
 use Rattle.std.specs.List.{Contains}
 use Rattle.std.proofs.lemmas.Bool.{cases_lt, cases_eq, lt-leb, eq-eqb, both_ways}
 use Rattle.std.proofs.Math.Nat.{two-pow-succ, pow-le-pow_right}
-use Rattle.positions.proofs.MemberLaws.{contains_cases, contains_none}
-use Rattle.positions.proofs.RangeLaws.{covers_above}
+use Rattle.directory.proofs.MemberLaws.{contains_cases, contains_none}
+use Rattle.directory.proofs.RangeLaws.{covers_above}
 use Rattle.bucket_page.specs.declared.record_key.RecordKey.{RecordKey}
 use Rattle.bucket_page.specs.directory.Entries.{page_of, is_upper}
 use Rattle.hash_file.specs.Store.{Store, entry_at, bucket_at, range_at, count_at}

@@ -2,14 +2,14 @@
 use Rattle.std.proofs.Common.{ℕ, ◌≡◌, ◌≢◌, ◌+◌, ◌==◌, ◌<◌, ◌≤◌, List, Bool, true, false, length, arith, refl, sym, ap, subst, ◌∙◌, inl, inr}
 use Rattle.std.specs.List.{Contains}
 use Rattle.std.proofs.lemmas.List.{get_or-set_same, get_or-set_other}
-use Rattle.positions.specs.declared.range.Range.{Range}
-use Rattle.positions.specs.Positions.{position_of}
-use Rattle.positions.specs.Ranges.{Covers, start_of}
-use Rattle.positions.specs.Tiles.{begun}
-use Rattle.positions.proofs.CountLaws.{begun_same}
-use Rattle.positions.proofs.TileLaws.{tiles_same}
-use Rattle.positions.proofs.WalkLaws.{links_same}
-use Rattle.positions.specs.declared.pseudokey.TheConstants.{POSITIONS}
+use Rattle.directory.specs.declared.range.Range.{Range}
+use Rattle.directory.specs.Positions.{position_of}
+use Rattle.directory.specs.Ranges.{Covers, start_of}
+use Rattle.directory.specs.Tiles.{begun}
+use Rattle.directory.proofs.CountLaws.{begun_same}
+use Rattle.directory.proofs.TileLaws.{tiles_same}
+use Rattle.directory.proofs.WalkLaws.{links_same}
+use Rattle.directory.specs.declared.pseudokey.TheConstants.{POSITIONS}
 use Rattle.bucket_page.specs.declared.record_key.RecordKey.{RecordKey}
 use Rattle.bucket_page.specs.declared.page.PageKind.{PageKind}
 use Rattle.bucket_page.specs.declared.page.PageKind.TheVariants as kinds

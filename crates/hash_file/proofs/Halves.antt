@@ -4,16 +4,16 @@ use Rattle.std.specs.List.{All, filter}
 use Rattle.std.proofs.lemmas.Bool.{cases_eq, eqb-true, eq-eqb, not-true, both_ways}
 use Rattle.std.proofs.lemmas.Nat.{mod-pow-add, mod_below}
 use Rattle.std.proofs.lemmas.List.Elements.{All-filter, filter_passes}
-use Rattle.positions.specs.declared.pseudokey.TheConstants.{PSEUDOKEY_BITS}
-use Rattle.positions.specs.declared.range.Range.{Range}
-use Rattle.positions.specs.Ranges.{IsRange, Covers, lower_half_of, upper_half_of}
-use Rattle.positions.proofs.BuddyLaws.{same_range}
-use Rattle.positions.proofs.RangeLaws.{halves_apart, half_in_range}
+use Rattle.directory.specs.declared.pseudokey.TheConstants.{PSEUDOKEY_BITS}
+use Rattle.directory.specs.declared.range.Range.{Range}
+use Rattle.directory.specs.Ranges.{IsRange, Covers, lower_half_of, upper_half_of}
+use Rattle.directory.proofs.BuddyLaws.{same_range}
+use Rattle.directory.proofs.RangeLaws.{halves_apart, half_in_range}
 use Rattle.bucket_page.specs.declared.record_key.RecordKey.{RecordKey}
 use Rattle.bucket_page.specs.Bucket.{Bucket}
 use Rattle.bucket_page.specs.Records.{Pair, is_above, ascend_from, lookup}
 use Rattle.bucket_page.specs.Dividing.{has_bit, lower_half, upper_half}
-use Rattle.bucket_page.proofs.of_fields.Tests.{both_true}
+use Rattle.bucket_page.proofs.of_numbers.Tests.{both_true}
 use Rattle.bucket_page.proofs.OrderLaws.{ascend_lower}
 use Rattle.bucket_page.proofs.LookupLaws.{lookup_half}
 use Rattle.hash_file.specs.Store.{range_of}

@@ -2,11 +2,11 @@
 use Rattle.std.proofs.Common.{ℕ, suc, ◌≡◌, ◌<◌, Option, Some, None, List, [], ◌∷◌, true, slice_index_or, arith, refl, sym, ap, subst, ◌∙◌, inl, inr}
 use Rattle.std.specs.List.{All}
 use Rattle.std.proofs.lemmas.List.Elements.{All-head, All-tail}
-use Rattle.positions.specs.declared.pseudokey.TheConstants.{PSEUDOKEY_BITS}
-use Rattle.positions.specs.declared.range.Range.{Range}
-use Rattle.positions.specs.Ranges.{IsRange, Covers, AreHalvesOf, lower_half_of, upper_half_of}
-use Rattle.positions.proofs.BuddyLaws.{same_range}
-use Rattle.positions.proofs.RangeLaws.{half_in_range, halves_apart}
+use Rattle.directory.specs.declared.pseudokey.TheConstants.{PSEUDOKEY_BITS}
+use Rattle.directory.specs.declared.range.Range.{Range}
+use Rattle.directory.specs.Ranges.{IsRange, Covers, AreHalvesOf, lower_half_of, upper_half_of}
+use Rattle.directory.proofs.BuddyLaws.{same_range}
+use Rattle.directory.proofs.RangeLaws.{half_in_range, halves_apart}
 use Rattle.bucket_page.specs.declared.record_key.RecordKey.{RecordKey}
 use Rattle.bucket_page.specs.Bucket.{Bucket}
 use Rattle.bucket_page.specs.Records.{Pair, ascend, lookup}

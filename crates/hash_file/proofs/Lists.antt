@@ -3,7 +3,7 @@ use Rattle.std.proofs.Common.{ℕ, suc, ◌≡◌, ◌≢◌, ◌+◌, ◌==◌,
 use Rattle.std.specs.List.{All, Contains}
 use Rattle.std.proofs.lemmas.Bool.{cases_eq, ne_eqb, eq-eqb}
 use Rattle.std.proofs.lemmas.List.Elements.{All-head, All-tail}
-use Rattle.positions.proofs.MemberLaws.{contains_head, contains_tail, contains_cases, contains_none}
+use Rattle.directory.proofs.MemberLaws.{contains_head, contains_tail, contains_cases, contains_none}
 use Rattle.bucket_page.specs.declared.record_key.RecordKey.{RecordKey}
 use Rattle.bucket_page.specs.Keys.{is_same}
 use Rattle.bucket_page.specs.Records.{Pair, lookup}

@@ -1,13 +1,13 @@
 -- What is looked up in the records of a chain.
 use Rattle.std.proofs.Common.{ℕ, ◌≡◌, ◌≢◌, None, List, [], ◌∷◌, arith, refl, ◌∙◌, inl, inr}
 use Rattle.std.specs.List.{Contains, All}
-use Rattle.positions.specs.declared.pseudokey.TheConstants.{POSITIONS}
-use Rattle.positions.specs.Positions.{position_of}
-use Rattle.positions.specs.Ranges.{Covers, HasPosition, stop_of}
-use Rattle.positions.specs.Tiles.{Tiles}
-use Rattle.positions.proofs.MemberLaws.{contains_head, contains_tail, contains_cases, contains_none}
-use Rattle.positions.proofs.RangeLaws.{range_has}
-use Rattle.positions.proofs.TileLaws.{LiesWithin, tiles_within}
+use Rattle.directory.specs.declared.pseudokey.TheConstants.{POSITIONS}
+use Rattle.directory.specs.Positions.{position_of}
+use Rattle.directory.specs.Ranges.{Covers, HasPosition, stop_of}
+use Rattle.directory.specs.Tiles.{Tiles}
+use Rattle.directory.proofs.MemberLaws.{contains_head, contains_tail, contains_cases, contains_none}
+use Rattle.directory.proofs.RangeLaws.{range_has}
+use Rattle.directory.proofs.TileLaws.{LiesWithin, tiles_within}
 use Rattle.bucket_page.specs.declared.record_key.RecordKey.{RecordKey}
 use Rattle.bucket_page.specs.Bucket.{Bucket}
 use Rattle.bucket_page.specs.Records.{Pair, lookup}

@@ -5,12 +5,12 @@ use Rattle.std.proofs.lemmas.Bool.{cases_eq, both_ways}
 use Rattle.std.proofs.lemmas.List.{length-set}
 use Rattle.std.proofs.lemmas.List.Elements.{Contains-append_right}
 use Rattle.hash_file.proofs.Names.{Absorbed, AreHalvesOf, AreNeighbours, Bucket, Change, Covers, IsBucketOn, IsChain, IsPlaced, IsRange, POSITIONS, PSEUDOKEY_BITS, PageKind, PageLeadsOn, Quiet, Range, RecordKey, Store, begun, bucket_at, bucket_of, chain, count_at, distance_on, entry_at, gained, has_bucket, is_bucket, joined, lookup, lost, lower_half_of, next_at, number_on, page_at, pairs_on, position_of, range_at, range_of, reach, start_of, times, upper_half_of}
-use Rattle.positions.proofs.MemberLaws.{contains_head, contains_tail, contains_none, contains_grown, contains_new, contains_grown_cases}
-use Rattle.positions.proofs.RangeLaws.{halved_valid, half_in_range}
-use Rattle.positions.proofs.TileLaws.{tiles_not_before, tiles_not_behind}
-use Rattle.positions.proofs.ChangeLaws.{join_tiles, joins_in_place, halves_neighbours}
-use Rattle.positions.proofs.CountLaws.{begun_insert, begun_same, begun_rises}
-use Rattle.positions.proofs.WalkLaws.{links_remove, links_neighbours}
+use Rattle.directory.proofs.MemberLaws.{contains_head, contains_tail, contains_none, contains_grown, contains_new, contains_grown_cases}
+use Rattle.directory.proofs.RangeLaws.{halved_valid, half_in_range}
+use Rattle.directory.proofs.TileLaws.{tiles_not_before, tiles_not_behind}
+use Rattle.directory.proofs.ChangeLaws.{join_tiles, joins_in_place, halves_neighbours}
+use Rattle.directory.proofs.CountLaws.{begun_insert, begun_same, begun_rises}
+use Rattle.directory.proofs.WalkLaws.{links_remove, links_neighbours}
 use Rattle.bucket_page.specs.declared.page.PageKind.TheVariants as kinds
 use Rattle.hash_file.specs.Phases.{IsAbsorbed}
 use Rattle.hash_file.specs.Sound.{IsSoundOn, IsSoundFile, HasEntry}

@@ -1,9 +1,9 @@
 -- Words of the crates below and of this one, under one name for its proofs.
-unfoldable pub use Rattle.positions.specs.Positions.{position_of}
-pub use Rattle.positions.specs.Ranges.{AreHalvesOf, Covers, HasPosition, IsRange, lower_half_of, start_of, stop_of, upper_half_of}
-pub use Rattle.positions.specs.Tiles.{AreNeighbours, begun}
-pub use Rattle.positions.specs.declared.pseudokey.TheConstants.{POSITIONS, PSEUDOKEY_BITS}
-pub use Rattle.positions.specs.declared.range.Range.{Range}
+unfoldable pub use Rattle.directory.specs.Positions.{position_of}
+pub use Rattle.directory.specs.Ranges.{AreHalvesOf, Covers, HasPosition, IsRange, lower_half_of, start_of, stop_of, upper_half_of}
+pub use Rattle.directory.specs.Tiles.{AreNeighbours, begun}
+pub use Rattle.directory.specs.declared.pseudokey.TheConstants.{POSITIONS, PSEUDOKEY_BITS}
+pub use Rattle.directory.specs.declared.range.Range.{Range}
 pub use Rattle.bucket_page.specs.directory.declared.header.Header.{Header}
 pub use Rattle.bucket_page.specs.Bucket.{Bucket}
 pub use Rattle.bucket_page.specs.Dividing.{has_bit, joined, lower_half, upper_half}

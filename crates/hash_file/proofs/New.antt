@@ -2,11 +2,11 @@
 use Rattle.std.proofs.Common.{ℕ, zero, suc, ◌≡◌, ◌+◌, ◌-◌, ◌<◌, ◌≤◌, ◌^◌, ◌==◌, List, [], ◌∷◌, ◌++◌, true, length, ltb, arith, refl, sym, ap, subst, ◌∙◌, inl, inr, if◌then◌else◌}
 use Rattle.std.specs.List.{Contains}
 use Rattle.std.proofs.lemmas.Bool.{cases_lt, cases_eq, eq-eqb, ne_eqb, le-leb, lt-leb, lt-ltb, le-ltb}
-use Rattle.positions.specs.declared.range.Range.{Range}
-use Rattle.positions.specs.Ranges.{Covers, whole_range}
-use Rattle.positions.specs.Links.{Links}
-use Rattle.positions.proofs.MemberLaws.{contains_head, contains_cases, contains_none}
-use Rattle.positions.proofs.TileLaws.{tiles_whole}
+use Rattle.directory.specs.declared.range.Range.{Range}
+use Rattle.directory.specs.Ranges.{Covers, whole_range}
+use Rattle.directory.specs.Links.{Links}
+use Rattle.directory.proofs.MemberLaws.{contains_head, contains_cases, contains_none}
+use Rattle.directory.proofs.TileLaws.{tiles_whole}
 use Rattle.bucket_page.specs.declared.record_key.RecordKey.{RecordKey}
 use Rattle.bucket_page.specs.declared.page.PageKind.{PageKind}
 use Rattle.bucket_page.specs.declared.page.PageKind.TheVariants as kinds

@@ -4,9 +4,9 @@ use Rattle.std.specs.List.{Contains}
 use Rattle.std.proofs.lemmas.Bool.{both_ways}
 use Rattle.std.proofs.lemmas.List.{length-set}
 use Rattle.hash_file.proofs.Names.{IsRange, POSITIONS, PSEUDOKEY_BITS, PageKind, Range, RecordKey, begun, position_of, start_of, stop_of, upper_half_of}
-use Rattle.positions.proofs.MemberLaws.{contains_head, contains_tail, contains_cases, contains_none}
-use Rattle.positions.proofs.CountLaws.{begun_inside}
-use Rattle.positions.proofs.RangeLaws.{range_has_start, upper_half_start, upper_half_stop}
+use Rattle.directory.proofs.MemberLaws.{contains_head, contains_tail, contains_cases, contains_none}
+use Rattle.directory.proofs.CountLaws.{begun_inside}
+use Rattle.directory.proofs.RangeLaws.{range_has_start, upper_half_start, upper_half_stop}
 use Rattle.bucket_page.specs.declared.page.PageKind.TheVariants as kinds
 use Rattle.bucket_page.specs.Records.{Pair, lookup}
 use Rattle.bucket_page.specs.Dividing.{upper_half}

@@ -2,12 +2,12 @@
 use Rattle.std.proofs.Common.{ℕ, suc, ◌≡◌, ◌≢◌, ◌+◌, ◌-◌, ◌<◌, ◌^◌, ◌==◌, ◌%◌, ◌&&◌, List, length, Bool, true, false, cond, slice_index_or, slice_set, arith, refl, sym, ap, subst, ◌∙◌, ◌⊎◌, inl, inr, if◌then◌else◌}
 use Rattle.std.proofs.lemmas.Bool.{cases_eq, eq-eqb, ne_eqb, eqb-true}
 use Rattle.std.proofs.lemmas.List.{get_or-set_same, get_or-set_other, length-set}
-use Rattle.positions.specs.declared.pseudokey.TheConstants.{PSEUDOKEY_BITS}
-use Rattle.positions.specs.declared.range.Range.{Range}
-use Rattle.positions.specs.Ranges.{IsRange, Covers, upper_half_of}
-use Rattle.positions.proofs.RangeLaws.{half_in_range}
+use Rattle.directory.specs.declared.pseudokey.TheConstants.{PSEUDOKEY_BITS}
+use Rattle.directory.specs.declared.range.Range.{Range}
+use Rattle.directory.specs.Ranges.{IsRange, Covers, upper_half_of}
+use Rattle.directory.proofs.RangeLaws.{half_in_range}
 use Rattle.bucket_page.specs.declared.record_key.RecordKey.{RecordKey}
-use Rattle.bucket_page.proofs.of_fields.Tests.{both_true}
+use Rattle.bucket_page.proofs.of_numbers.Tests.{both_true}
 use Rattle.bucket_page.specs.directory.Entries.{page_of, is_in_range}
 use Rattle.hash_file.specs.Store.{Store, entry_at, count_at}
 use Rattle.hash_file.specs.Chain.{chain, IsBucketOn, number_on}

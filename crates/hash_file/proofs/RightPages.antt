@@ -2,14 +2,14 @@
 use Rattle.std.proofs.Common.{ℕ, ◌≡◌, ◌≤◌, ◌<◌, ◌↔◌, ◌⊎◌, [], ◌∷◌, ◌++◌, false, refl, sym, ap, subst, inl, inr, arith}
 use Rattle.std.specs.List.{Contains}
 use Rattle.std.proofs.lemmas.List.Elements.{All-contains}
-use Rattle.positions.specs.declared.pseudokey.TheConstants.{POSITIONS, PSEUDOKEY_BITS}
-use Rattle.positions.specs.declared.range.Range.{Range}
-use Rattle.positions.specs.Positions.{position_of}
-use Rattle.positions.specs.Ranges.{IsRange, Covers, start_of, stop_of, upper_half_of}
-use Rattle.positions.specs.Tiles.{Tiles}
-use Rattle.positions.proofs.MemberLaws.{contains_cases, contains_head}
-use Rattle.positions.proofs.RangeLaws.{range_has, range_covers, range_has_start, upper_half_start, upper_half_stop, upper_half_valid}
-use Rattle.positions.proofs.TileLaws.{tiles_cut, tiles_within}
+use Rattle.directory.specs.declared.pseudokey.TheConstants.{POSITIONS, PSEUDOKEY_BITS}
+use Rattle.directory.specs.declared.range.Range.{Range}
+use Rattle.directory.specs.Positions.{position_of}
+use Rattle.directory.specs.Ranges.{IsRange, Covers, start_of, stop_of, upper_half_of}
+use Rattle.directory.specs.Tiles.{Tiles}
+use Rattle.directory.proofs.MemberLaws.{contains_cases, contains_head}
+use Rattle.directory.proofs.RangeLaws.{range_has, range_covers, range_has_start, upper_half_start, upper_half_stop, upper_half_valid}
+use Rattle.directory.proofs.TileLaws.{tiles_cut, tiles_within}
 use Rattle.bucket_page.specs.declared.record_key.RecordKey.{RecordKey}
 use Rattle.bucket_page.specs.declared.page.PageKind.{PageKind}
 use Rattle.bucket_page.specs.Records.{Pair}

@@ -3,7 +3,7 @@ use Rattle.std.proofs.Common.{ℕ, suc, ◌≡◌, ◌≢◌, ◌+◌, ◌<◌, 
 use Rattle.std.specs.List.{Contains}
 use Rattle.std.proofs.lemmas.Bool.{leb-true, ltb-true}
 use Rattle.bucket_page.specs.declared.record_key.RecordKey.{RecordKey}
-use Rattle.bucket_page.proofs.of_fields.Tests.{both_true}
+use Rattle.bucket_page.proofs.of_numbers.Tests.{both_true}
 use Rattle.hash_file.specs.Store.{Store}
 use Rattle.hash_file.specs.Chain.{times}
 use Rattle.hash_file.specs.Change.{Change, owned}

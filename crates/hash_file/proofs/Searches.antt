@@ -2,11 +2,11 @@
 use Rattle.std.proofs.Common.{ℕ, ◌≡◌, ◌<◌, ◌≤◌, ◌%◌, ◌^◌, List, [], ◌∷◌, true, false, arith, refl, sym, ap, ◌∙◌, ◌⊎◌, inl, inr}
 use Rattle.std.specs.List.{Contains}
 use Rattle.hash_file.proofs.Names.{Covers, HasPosition, IsRange, POSITIONS, PSEUDOKEY_BITS, Range, position_of, start_of, stop_of, upper_half_of}
-use Rattle.positions.proofs.MemberLaws.{contains_head, contains_cases, contains_none}
-use Rattle.positions.proofs.PositionLaws.{position_below, position_truncated}
-use Rattle.positions.proofs.RangeLaws.{range_has, range_has_start, range_passed, upper_half_valid, upper_half_start, upper_half_stop, half_in_range, halved_valid, halves_apart}
-use Rattle.positions.proofs.CountLaws.{begun_rises, begun_next, begun_inside}
-use Rattle.positions.proofs.WalkLaws.{tiles_next}
+use Rattle.directory.proofs.MemberLaws.{contains_head, contains_cases, contains_none}
+use Rattle.directory.proofs.PositionLaws.{position_below, position_truncated}
+use Rattle.directory.proofs.RangeLaws.{range_has, range_has_start, range_passed, upper_half_valid, upper_half_start, upper_half_stop, half_in_range, halved_valid, halves_apart}
+use Rattle.directory.proofs.CountLaws.{begun_rises, begun_next, begun_inside}
+use Rattle.directory.proofs.WalkLaws.{tiles_next}
 use Rattle.bucket_page.specs.declared.record_key.RecordKey.{RecordKey}
 use Rattle.bucket_page.specs.declared.page.PageKind.{PageKind}
 use Rattle.bucket_page.specs.Records.{lookup}

@@ -2,12 +2,12 @@
 use Rattle.std.proofs.Common.{ℕ, zero, suc, ◌≡◌, ◌+◌, ◌-◌, ◌<◌, ◌≤◌, ◌==◌, cond, if◌then◌else◌, Bool, true, false, List, [], ◌∷◌, length, arith, inl, inr}
 use Rattle.std.specs.List.{Contains}
 use Rattle.std.proofs.lemmas.Bool.{cases_eq, eq-eqb, le-leb}
-use Rattle.positions.specs.declared.pseudokey.TheConstants.{POSITIONS}
-use Rattle.positions.specs.declared.range.Range.{Range}
-use Rattle.positions.specs.Positions.{position_of}
-use Rattle.positions.specs.Tiles.{Tiles, begun}
-use Rattle.positions.proofs.CountLaws.{begun_one}
-use Rattle.positions.proofs.MemberLaws.{contains_head, contains_tail}
+use Rattle.directory.specs.declared.pseudokey.TheConstants.{POSITIONS}
+use Rattle.directory.specs.declared.range.Range.{Range}
+use Rattle.directory.specs.Positions.{position_of}
+use Rattle.directory.specs.Tiles.{Tiles, begun}
+use Rattle.directory.proofs.CountLaws.{begun_one}
+use Rattle.directory.proofs.MemberLaws.{contains_head, contains_tail}
 use Rattle.bucket_page.specs.declared.record_key.RecordKey.{RecordKey}
 use Rattle.hash_file.specs.Store.{Store, has_bucket, range_at}
 use Rattle.hash_file.specs.Chain.{chain, times}

@@ -2,8 +2,8 @@
 use Rattle.std.proofs.Common.{ℕ, zero, suc, ◌≡◌, ◌+◌, ◌<◌, ◌≤◌, ◌==◌, [], ◌∷◌, arith, refl, sym, subst, inl, inr, if◌then◌else◌}
 use Rattle.std.specs.List.{Contains}
 use Rattle.std.proofs.lemmas.Bool.{cases_eq}
-use Rattle.positions.specs.Ranges.{Covers, whole_range, upper_half_of}
-use Rattle.positions.proofs.MemberLaws.{contains_head, contains_tail, contains_none}
+use Rattle.directory.specs.Ranges.{Covers, whole_range, upper_half_of}
+use Rattle.directory.proofs.MemberLaws.{contains_head, contains_tail, contains_none}
 use Rattle.bucket_page.specs.Keys.{is_below}
 use Rattle.hash_file.specs.Store.{Store, page_at, entry_at, count_at}
 use Rattle.hash_file.specs.Chain.{chain}

@@ -5,12 +5,12 @@ use Rattle.std.proofs.lemmas.Bool.{cases_eq, both_ways}
 use Rattle.std.proofs.lemmas.List.{length-set}
 use Rattle.std.proofs.lemmas.List.Elements.{Contains-append_right}
 use Rattle.hash_file.proofs.Names.{AreHalvesOf, Bucket, Change, Covers, Filled, IsBucketOn, IsChain, IsPlaced, IsRange, Linked, POSITIONS, PSEUDOKEY_BITS, PageKind, Range, RecordKey, Store, begun, bucket_at, bucket_of, chain, count_at, entry_at, gained, has_bit, has_bucket, is_bucket, lookup, lost, lower_half, lower_half_of, next_at, number_on, owned, page_at, pairs_on, position_of, range_at, range_of, start_of, times, upper_half, upper_half_of}
-use Rattle.positions.proofs.MemberLaws.{contains_head, contains_none, contains_between, contains_grown, contains_new, contains_grown_cases}
-use Rattle.positions.proofs.RangeLaws.{range_in_half}
-use Rattle.positions.proofs.TileLaws.{tiles_not_before, tiles_not_behind}
-use Rattle.positions.proofs.ChangeLaws.{split_tiles, splits_in_place}
-use Rattle.positions.proofs.CountLaws.{begun_insert, begun_same, begun_one}
-use Rattle.positions.proofs.WalkLaws.{links_insert}
+use Rattle.directory.proofs.MemberLaws.{contains_head, contains_none, contains_between, contains_grown, contains_new, contains_grown_cases}
+use Rattle.directory.proofs.RangeLaws.{range_in_half}
+use Rattle.directory.proofs.TileLaws.{tiles_not_before, tiles_not_behind}
+use Rattle.directory.proofs.ChangeLaws.{split_tiles, splits_in_place}
+use Rattle.directory.proofs.CountLaws.{begun_insert, begun_same, begun_one}
+use Rattle.directory.proofs.WalkLaws.{links_insert}
 use Rattle.bucket_page.specs.declared.page.PageKind.TheVariants as kinds
 use Rattle.hash_file.specs.Search.{reach, PageLeadsOn, distance_on}
 use Rattle.hash_file.specs.Sound.{IsSoundOn, IsSoundFile, HasEntry}

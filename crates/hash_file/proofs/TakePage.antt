@@ -1,8 +1,8 @@
 -- The first free page is taken off the free list, and a page is put on it.
 use Rattle.std.proofs.Common.{ℕ, ◌≡◌, ◌≢◌, List, [], ◌∷◌, ◌++◌, if◌then◌else◌, arith, refl, sym, ap, subst, ◌∙◌, inl, inr}
 use Rattle.std.specs.List.{Contains}
-use Rattle.positions.specs.Links.{Links}
-use Rattle.positions.proofs.MemberLaws.{contains_head, contains_tail, contains_cases}
+use Rattle.directory.specs.Links.{Links}
+use Rattle.directory.proofs.MemberLaws.{contains_head, contains_tail, contains_cases}
 use Rattle.bucket_page.specs.declared.record_key.RecordKey.{RecordKey}
 use Rattle.bucket_page.specs.declared.page.PageKind.{PageKind}
 use Rattle.bucket_page.specs.declared.page.PageKind.TheVariants as kinds

@@ -4,14 +4,14 @@ use Rattle.std.specs.List.{Contains, All, AllPairs}
 use Rattle.std.proofs.lemmas.Bool.{le-leb, lt-ltb, eq-eqb}
 use Rattle.std.proofs.lemmas.List.Elements.{All-contains_itself, Contains-append_cases}
 use Rattle.std.proofs.lemmas.List.Kept.{AllPairs-cons}
-use Rattle.positions.specs.declared.pseudokey.TheConstants.{POSITIONS}
-use Rattle.positions.specs.Positions.{position_of}
-use Rattle.positions.specs.Ranges.{start_of, stop_of}
-use Rattle.positions.specs.Tiles.{Tiles}
-use Rattle.positions.proofs.MemberLaws.{contains_cases, contains_between}
-use Rattle.positions.proofs.PartitionLaws.{partition_tiles, tiles_partition}
-use Rattle.positions.proofs.RangeLaws.{range_has_start}
-use Rattle.positions.proofs.TileLaws.{tiles_within, tiles_cut}
+use Rattle.directory.specs.declared.pseudokey.TheConstants.{POSITIONS}
+use Rattle.directory.specs.Positions.{position_of}
+use Rattle.directory.specs.Ranges.{start_of, stop_of}
+use Rattle.directory.specs.Tiles.{Tiles}
+use Rattle.directory.proofs.MemberLaws.{contains_cases, contains_between}
+use Rattle.directory.proofs.PartitionLaws.{partition_tiles, tiles_partition}
+use Rattle.directory.proofs.RangeLaws.{range_has_start}
+use Rattle.directory.proofs.TileLaws.{tiles_within, tiles_cut}
 use Rattle.bucket_page.specs.declared.record_key.RecordKey.{RecordKey}
 use Rattle.hash_file.specs.Store.{Store, range_at, entry_at}
 use Rattle.hash_file.specs.Chain.{chain, IsChain, IsBucketOf, times}

@@ -1,8 +1,8 @@
 -- No entry and no next link names a page that is drained.
 use Rattle.std.proofs.Common.{ℕ, ◌≡◌, ◌≢◌, List, [], ◌∷◌, sym, subst, ◌∙◌, ◌⊎◌, inl, inr, refl}
 use Rattle.std.specs.List.{Contains}
-use Rattle.positions.specs.Links.{Links}
-use Rattle.positions.proofs.MemberLaws.{contains_head, contains_tail, contains_cases, contains_none}
+use Rattle.directory.specs.Links.{Links}
+use Rattle.directory.proofs.MemberLaws.{contains_head, contains_tail, contains_cases, contains_none}
 use Rattle.bucket_page.specs.declared.record_key.RecordKey.{RecordKey}
 use Rattle.hash_file.specs.Store.{Store, entry_at, next_at}
 use Rattle.hash_file.specs.Chain.{chain}

@@ -6,7 +6,7 @@ use Rattle.bucket_page.specs.declared.record_key.RecordKey.{RecordKey}
 use Rattle.bucket_page.specs.Keys.{is_same, is_below}
 use Rattle.bucket_page.specs.Records.{Pair, is_above, ascend_from, ascend, lookup}
 use Rattle.bucket_page.specs.Changes.{inserted, replaced, removed}
-use Rattle.bucket_page.proofs.of_fields.Tests.{both_true}
+use Rattle.bucket_page.proofs.of_numbers.Tests.{both_true}
 use Rattle.bucket_page.proofs.KeyLaws.{same_is}
 use Rattle.bucket_page.proofs.OrderLaws.{ascends_with, ascend_lower}
 use Rattle.bucket_page.proofs.LookupLaws.{lookup_inserted, lookup_replaced, lookup_removed}

@@ -1,9 +1,9 @@
 -- Each wrong change is refuted by the field of soundness that it breaks.
 use Rattle.std.proofs.Common.{ℕ, ◌≡◌, ◌≢◌, ◌+◌, ◌≤◌, List, [], ◌∷◌, Some, None, arith, refl, sym, ap, subst, inl, inr}
 use Rattle.std.specs.List.{Contains}
-use Rattle.positions.specs.Positions.{position_of, bits_reversed, width_of}
-use Rattle.positions.specs.Links.{Links}
-use Rattle.positions.proofs.MemberLaws.{contains_head, contains_cases, contains_none}
+use Rattle.directory.specs.Positions.{position_of, bits_reversed, width_of}
+use Rattle.directory.specs.Links.{Links}
+use Rattle.directory.proofs.MemberLaws.{contains_head, contains_cases, contains_none}
 use Rattle.bucket_page.specs.Keys.{is_below}
 use Rattle.bucket_page.specs.declared.page.PageKind.{PageKind}
 use Rattle.bucket_page.specs.declared.page.PageKind.TheVariants as kinds

@@ -1,10 +1,10 @@
 -- The chain of live buckets, and what the file holds.
 use Rattle.std.specs.Prelude.{ℕ, ◌≡◌, ◌≤◌, ◌+◌, ◌^◌, ◌==◌, Bool, true, List, [], ◌∷◌, Option, if◌then◌else◌}
 use Rattle.std.specs.List.{All, Contains, flat_map}
-use Rattle.positions.specs.declared.pseudokey.TheConstants.{POSITIONS}
-use Rattle.positions.specs.Ranges.{Covers}
-use Rattle.positions.specs.Tiles.{Tiles}
-use Rattle.positions.specs.Links.{Links, met_from}
+use Rattle.directory.specs.declared.pseudokey.TheConstants.{POSITIONS}
+use Rattle.directory.specs.Ranges.{Covers}
+use Rattle.directory.specs.Tiles.{Tiles}
+use Rattle.directory.specs.Links.{Links, met_from}
 use Rattle.bucket_page.specs.declared.record_key.RecordKey.{RecordKey}
 use Rattle.bucket_page.specs.Bucket.{Bucket}
 use Rattle.bucket_page.specs.Records.{Pair, ascend, lookup}

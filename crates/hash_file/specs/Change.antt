@@ -1,7 +1,7 @@
 -- The structure change under way: at most one, a split or a merge, by its phases.
 use Rattle.std.specs.Prelude.{ℕ, suc, ◌≡◌, ◌==◌, List, [], ◌∷◌, if◌then◌else◌}
-use Rattle.positions.specs.declared.range.Range.{Range}
-use Rattle.positions.specs.Ranges.{Covers, upper_half_of}
+use Rattle.directory.specs.declared.range.Range.{Range}
+use Rattle.directory.specs.Ranges.{Covers, upper_half_of}
 
 -- of a split or a merge `whole` is the range of both buckets together
 pub data Change : Type 0 where

@@ -1,6 +1,6 @@
 -- The thirteen changes of a file, each the whole of what one step does to it (Fagin et al. 1979; Ellis 1983).
 use Rattle.std.specs.Prelude.{ℕ, suc, ◌≡◌, ◌+◌, ◌-◌, ◌^◌, ◌==◌, ◌&&◌, List, [], ◌∷◌, Option, Some, None, IsSome, slice_index_or, slice_set, if◌then◌else◌}
-use Rattle.positions.specs.declared.range.Range.{Range}
+use Rattle.directory.specs.declared.range.Range.{Range}
 use Rattle.bucket_page.specs.declared.record_key.RecordKey.{RecordKey}
 use Rattle.bucket_page.specs.declared.page.PageKind.{PageKind}
 use Rattle.bucket_page.specs.declared.page.PageKind.TheVariants as kinds

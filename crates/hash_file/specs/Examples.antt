@@ -1,7 +1,7 @@
 -- Small files by hand, in which the definitions compute: a bucket split twice, two merged, a freed page taken again.
 -- Keys are numbers, and a key's pseudokey is its number. Each file is made by a change of one above it.
 use Rattle.std.specs.Prelude.{ℕ, ◌≡◌, List, [], ◌∷◌, ◌++◌, map, replicate, take}
-use Rattle.positions.specs.Ranges.{whole_range, lower_half_of, upper_half_of}
+use Rattle.directory.specs.Ranges.{whole_range, lower_half_of, upper_half_of}
 use Rattle.bucket_page.specs.declared.record_key.RecordKey.{RecordKey}
 use Rattle.bucket_page.specs.declared.page.PageKind.TheVariants as kinds
 use Rattle.bucket_page.specs.Bucket.{bucket}

@@ -2,8 +2,8 @@
 -- tombstone, and not at all else.
 use Rattle.std.specs.Prelude.{ℕ, ◌≡◌, ◌<◌, List}
 use Rattle.std.specs.List.{Contains}
-use Rattle.positions.specs.declared.range.Range.{Range}
-use Rattle.positions.specs.Ranges.{AreHalvesOf}
+use Rattle.directory.specs.declared.range.Range.{Range}
+use Rattle.directory.specs.Ranges.{AreHalvesOf}
 use Rattle.bucket_page.specs.declared.record_key.RecordKey.{RecordKey}
 use Rattle.bucket_page.specs.directory.declared.header.Header.{Header}
 use Rattle.hash_file.specs.Store.{Store, bucket_at, range_at, records_at}

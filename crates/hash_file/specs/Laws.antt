@@ -2,8 +2,8 @@
 -- src/laws.rt, or is listed in the README as owed.
 use Rattle.std.specs.Prelude.{ℕ, ◌≡◌, ◌≢◌, ◌<◌, ◌+◌, ◌^◌}
 use Rattle.std.specs.List.{Contains}
-use Rattle.positions.specs.declared.range.Range.{Range}
-use Rattle.positions.specs.Ranges.{Covers, AreHalvesOf, upper_half_of}
+use Rattle.directory.specs.declared.range.Range.{Range}
+use Rattle.directory.specs.Ranges.{Covers, AreHalvesOf, upper_half_of}
 use Rattle.bucket_page.specs.declared.record_key.RecordKey.{RecordKey}
 use Rattle.hash_file.specs.Store.{Store, entry_at, count_at, bucket_at, range_at, records_at}
 use Rattle.hash_file.specs.Chain.{chain, IsBucketOf}

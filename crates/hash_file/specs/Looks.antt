@@ -3,7 +3,7 @@ use Rattle.std.specs.Prelude.{ℕ, ◌≡◌, ◌≢◌, ◌<◌, ◌≤◌, ◌
 use Rattle.std.specs.List.{Contains}
 use Rattle.bucket_page.specs.declared.record_key.RecordKey.{RecordKey}
 use Rattle.bucket_page.specs.Records.{lookup}
-use Rattle.positions.specs.Ranges.{Covers}
+use Rattle.directory.specs.Ranges.{Covers}
 use Rattle.hash_file.specs.Store.{Store, entry_at, has_bucket, range_at, records_at, next_at}
 use Rattle.hash_file.specs.Chain.{chain, contents}
 use Rattle.hash_file.specs.Change.{Change, Drained, owned, aside}

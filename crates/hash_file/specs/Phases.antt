@@ -1,8 +1,8 @@
 -- What stands on the pages of a structure change in each of its phases. Here `ns` is the chain.
 use Rattle.std.specs.Prelude.{ℕ, ◌≡◌, ◌<◌, true, List}
 use Rattle.std.specs.List.{Contains}
-use Rattle.positions.specs.declared.range.Range.{Range}
-use Rattle.positions.specs.Ranges.{Covers, AreHalvesOf, upper_half_of}
+use Rattle.directory.specs.declared.range.Range.{Range}
+use Rattle.directory.specs.Ranges.{Covers, AreHalvesOf, upper_half_of}
 use Rattle.bucket_page.specs.declared.record_key.RecordKey.{RecordKey}
 use Rattle.bucket_page.specs.declared.page.PageKind.TheVariants as kinds
 use Rattle.bucket_page.specs.Dividing.{upper_half}

@@ -1,9 +1,9 @@
 -- From which pages a search for a pseudokey finds its bucket, and in how many hops (Ellis 1983).
 use Rattle.std.specs.Prelude.{ℕ, suc, ◌≡◌, ◌≤◌, ◌+◌, ◌-◌, ◌⊎◌, List, if◌then◌else◌}
 use Rattle.std.specs.List.{Contains}
-use Rattle.positions.specs.Positions.{position_of}
-use Rattle.positions.specs.Ranges.{start_of}
-use Rattle.positions.specs.Tiles.{begun}
+use Rattle.directory.specs.Positions.{position_of}
+use Rattle.directory.specs.Ranges.{start_of}
+use Rattle.directory.specs.Tiles.{begun}
 use Rattle.hash_file.specs.Store.{Store, has_bucket, range_at, next_at}
 use Rattle.hash_file.specs.Chain.{chain}
 use Rattle.hash_file.specs.Change.{Change, aside}

@@ -1,8 +1,8 @@
 -- What makes a file sound in each phase of a structure change, and when its directory is exact.
 use Rattle.std.specs.Prelude.{ℕ, suc, ◌≡◌, ◌<◌, ◌≤◌, ◌+◌, ◌^◌, ◌⊎◌, nat_le, nat_lt, Bool, ◌&&◌, false, List, ◌++◌, length, if◌then◌else◌}
 use Rattle.std.specs.List.{Contains}
-use Rattle.positions.specs.declared.pseudokey.TheConstants.{PSEUDOKEY_BITS}
-use Rattle.positions.specs.Links.{Links}
+use Rattle.directory.specs.declared.pseudokey.TheConstants.{PSEUDOKEY_BITS}
+use Rattle.directory.specs.Links.{Links}
 use Rattle.bucket_page.specs.declared.record_key.RecordKey.{RecordKey}
 use Rattle.hash_file.specs.Store.{Store, entry_at, count_at, has_bucket, bucket_at, next_at, IsFreePage}
 use Rattle.hash_file.specs.Chain.{chain, IsChain, IsBucketOn, IsBucketOf, IsPlaced, times, number_on}

@@ -1,7 +1,7 @@
 -- An extendible hash file as a value: its header, its directory and its pages by number, as all seats see them
 -- (Fagin, Nievergelt, Pippenger and Strong 1979; Ellis 1983). Every statement reads by these total functions.
 use Rattle.std.specs.Prelude.{ℕ, ◌≡◌, Bool, true, false, List, [], slice_index_or}
-use Rattle.positions.specs.declared.range.Range.{Range}
+use Rattle.directory.specs.declared.range.Range.{Range}
 use Rattle.bucket_page.specs.declared.page.PageKind.{PageKind}
 use Rattle.bucket_page.specs.declared.page.PageKind.TheVariants as kinds
 use Rattle.bucket_page.specs.Bucket.{Bucket, bucket}

@@ -1,10 +1,10 @@
 -- A sound file in plain words, beside the working forms.
 use Rattle.std.specs.Prelude.{ℕ, ◌≡◌, ◌≢◌, ◌<◌, ◌≤◌, ◌-◌, ◌⊎◌, ◌↔◌, true, Some, List, ◌∷◌, ◌++◌, length}
 use Rattle.std.specs.List.{AllPairs, Contains}
-use Rattle.positions.specs.declared.range.Range.{Range}
-use Rattle.positions.specs.Ranges.{Covers}
-use Rattle.positions.specs.Links.{Links}
-use Rattle.positions.specs.Partition.{IsPartition}
+use Rattle.directory.specs.declared.range.Range.{Range}
+use Rattle.directory.specs.Ranges.{Covers}
+use Rattle.directory.specs.Links.{Links}
+use Rattle.directory.specs.Partition.{IsPartition}
 use Rattle.bucket_page.specs.declared.record_key.RecordKey.{RecordKey}
 use Rattle.bucket_page.specs.Records.{Pair, pair}
 use Rattle.hash_file.specs.Store.{Store, has_bucket, bucket_at, range_at, records_at, next_at}

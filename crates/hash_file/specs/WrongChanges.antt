@@ -1,7 +1,7 @@
 -- For each change one that is wrong, in the small files made by hand: none leaves the file sound, or holding what it
 -- held.
 use Rattle.std.specs.Prelude.{true, false, List}
-use Rattle.positions.specs.Ranges.{whole_range, lower_half_of}
+use Rattle.directory.specs.Ranges.{whole_range, lower_half_of}
 use Rattle.bucket_page.specs.Records.{Pair}
 use Rattle.bucket_page.specs.Dividing.{with_bit, joined, upper_half}
 use Rattle.hash_file.specs.Store.{Store, bucket_at, records_at}

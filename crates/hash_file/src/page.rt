@@ -1,6 +1,6 @@
 //! What a chain and a directory see of a bucket.
 
-use positions::Range;
+use directory::Range;
 
 /// A bucket without its records.
 #[derive(Clone, Copy, Debug, PartialEq, Eq)]

@@ -2,8 +2,8 @@
 use Rattle.std.proofs.Common.{◌≡◌, refl, sym, ap, ◌∙◌, subst, ℕ, ◌-◌, Bool, true, false, true≢false, IsSome, inl, ◌++◌, Option, Some, None, length, slice_set, slice_index_or, append-nil, arith}
 use Rattle.std.specs.Option.{is_some}
 use Rattle.page_locks.proofs.ChangeLemmas.{IsSeat-with_row}
-use Rattle.search_counts.proofs.CountLemmas.{none_noted}
-use Rattle.search_counts.specs.Counting.{AreSoundCounts, CountsState, IsCountedSeat, Notes, changes_counts}
+use Rattle.interleaving_core.proofs.CountLemmas.{none_noted}
+use Rattle.interleaving_core.specs.Counting.{AreSoundCounts, CountsState, IsCountedSeat, Notes, changes_counts}
 use Rattle.step_rules.specs.declared.kind.Kind.{Kind}
 use Rattle.step_rules.specs.declared.kind.Kind.TheVariants as kinds
 use Rattle.step_rules.specs.declared.progress.Progress.TheVariants as progress

@@ -7,8 +7,8 @@ use Rattle.std.proofs.lemmas.List.Sums.{sum_by-cons}
 use Rattle.std.specs.List.{All}
 use Rattle.std.proofs.lemmas.Option.{get_or_from_slice_get, slice_get-get_or, slice_get_within}
 use Rattle.page_locks.proofs.ChangeLemmas.{with_row-own}
-use Rattle.search_counts.specs.Counting.{CountsState, begun_count, opened_counts}
-use Rattle.search_counts.specs.declared.under_way.UnderWay.TheVariants.{Nothing}
+use Rattle.interleaving_core.specs.Counting.{CountsState, begun_count, opened_counts}
+use Rattle.interleaving_core.specs.declared.under_way.UnderWay.TheVariants.{Nothing}
 use Rattle.interleaving_core.specs.Words.{Call, Caller, Entry, HasFittingCall, HasFittingCaller, IsReady, IsSeat, Table, caller_at, with_row}
 use Rattle.xsi_calls.proofs.RowLemmas.{new_holds_nothing}
 use Rattle.interleaving_core.specs.Active.{ActiveView, HasBegun, HasBegunAt, drafted}

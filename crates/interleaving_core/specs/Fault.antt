@@ -1,7 +1,7 @@
 -- The numbers of faults. docs/FAULTS.md.
 use Rattle.std.specs.Prelude.{ℕ, ⊤}
 use Rattle.buffer_pool.specs.declared.fault.PoolFault.TheVariants as pool
-use Rattle.faults.specs.declared.TheConstants.{BUSY, DEVICE, FAILED, NO_MEMORY, NO_ROOM, SESSION_FULL, TOO_FEW_FRAMES}
+use Rattle.numbers.specs.declared.faults.TheConstants.{BUSY, DEVICE, FAILED, NO_MEMORY, NO_ROOM, SESSION_FULL, TOO_FEW_FRAMES}
 use Rattle.file_check.specs.Fault as check
 use Rattle.file_check.specs.declared.fault.CheckFault.TheVariants as checks
 use Rattle.file_pages.specs.Fault as file

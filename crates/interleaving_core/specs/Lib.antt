@@ -1,3 +1,4 @@
+pub mod Counting
 pub mod Words
 pub mod Active
 pub mod Fault
@@ -13,5 +14,4 @@ pub mod Beginning
 pub mod Closing
 pub mod Renewing
 pub use Rattle.file_check.specs as file_check
-pub use Rattle.search_counts.specs as search_counts
 pub use Rattle.xsi_calls.specs as xsi_calls

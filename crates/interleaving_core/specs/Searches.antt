@@ -5,7 +5,7 @@ use Rattle.page_locks.specs.declared.lock.LockKind.{LockKind}
 use Rattle.page_locks.specs.declared.lock.LockKind.TheVariants.{Read, Selective, Exclusive}
 use Rattle.page_locks.specs.declared.lock.LockName.{LockName}
 use Rattle.page_locks.specs.declared.lock.LockName.TheVariants.{Key, Counter, Queue, Directory, Page}
-use Rattle.search_counts.specs.Counting.{CountsState, Notes}
+use Rattle.interleaving_core.specs.Counting.{CountsState, Notes}
 use Rattle.step_rules.specs.declared.kind.Kind.{Kind}
 use Rattle.step_rules.specs.declared.kind.Kind.TheVariants as kinds
 use Rattle.interleaving_core.specs.Words.{Lock, Table, row_of}

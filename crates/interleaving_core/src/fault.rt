@@ -5,6 +5,7 @@ ghost use Rattle.interleaving_core.specs.Fault.{begin_number_of, close_number_of
 
 use file_check::CheckFault;
 use file_pages::FileFault;
+use numbers::faults;
 use thiserror::Error;
 
 /// Why a file is not opened. Nothing was written.

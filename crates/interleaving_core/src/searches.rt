@@ -1,13 +1,13 @@
 //! What a step of a seat is to the searches that are counted.
 
 ghost use Rattle.std.specs.Prelude.{◌≡◌};
-ghost use Rattle.search_counts.specs.Counting.{IsCountedSeat};
+ghost use Rattle.interleaving_core.specs.Counting.{IsCountedSeat};
 ghost use Rattle.interleaving_core.specs.Searches.{CountsFrom, begins_search, ends_on, goes_on_from};
 ghost use Rattle.interleaving_core.specs.Words.{IsSeat, row_of};
 
+use crate::SearchCounts;
 use crate::step::Step;
 use page_locks::{Lock, LockKind, LockName, LockTable};
-use search_counts::SearchCounts;
 use step_rules::Kind;
 
 /// The page on which a seat has its last lock, 0 where that is on no page.

@@ -20,9 +20,9 @@ use Rattle.step_rules.specs.Words.{Change, Quiet, Taken, Filled, Linked, Absorbe
 use Rattle.step_rules.specs.World.{World}
 use Rattle.step_rules.proofs.TurnLemmas.{is_of_its_kind}
 use Rattle.interleaving_core.specs.Searches.{begins_search, ends_on, goes_on, is_shared, is_unheld}
-use Rattle.interleaving_core.specs.search_counts.Counting.{CountsState, MOST_COUNTED, Notes, begun_count, change_after, count_at, is_nothing, own_count}
-use Rattle.interleaving_core.specs.search_counts.declared.count.SearchCount.{SearchCount}
-use Rattle.interleaving_core.specs.search_counts.declared.under_way.UnderWay.{UnderWay}
+use Rattle.interleaving_core.specs.Counting.{CountsState, MOST_COUNTED, Notes, begun_count, change_after, count_at, is_nothing, own_count}
+use Rattle.interleaving_core.specs.declared.count.SearchCount.{SearchCount}
+use Rattle.interleaving_core.specs.declared.under_way.UnderWay.{UnderWay}
 use Rattle.interleavings.specs.Counting.{HopsFew, IsCounted, under_way_in}
 use Rattle.interleavings.specs.Words.{RecordKey}
 

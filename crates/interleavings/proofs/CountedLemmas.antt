@@ -3,17 +3,17 @@ use Rattle.std.proofs.Common.{ℕ, zero, suc, ◌≡◌, ◌≤◌, refl, sym, a
 use Rattle.std.proofs.lemmas.Bool.{true≢false}
 use Rattle.std.proofs.lemmas.Int.{clamps}
 use Rattle.std.proofs.lemmas.List.{get_or-replicate}
-use Rattle.concurrent_calls.specs.Laws.{AreTogetherIn}
+use Rattle.interleavings.specs.ConcurrentLaws.{AreTogetherIn}
 use Rattle.step_rules.specs.Known.{Known}
 use Rattle.step_rules.specs.Walking.{first_walk}
 use Rattle.step_rules.specs.Words.{Change, Quiet}
 use Rattle.step_rules.specs.World.{World}
-use Rattle.interleaving_core.specs.search_counts.Counting.{begun_count, count_at, no_count, opened_counts}
-use Rattle.interleaving_core.specs.search_counts.declared.count.SearchCount.{SearchCount}
-use Rattle.interleaving_core.specs.search_counts.declared.under_way.UnderWay.TheVariants.{Nothing}
+use Rattle.interleaving_core.specs.Counting.{begun_count, count_at, no_count, opened_counts}
+use Rattle.interleaving_core.specs.declared.count.SearchCount.{SearchCount}
+use Rattle.interleaving_core.specs.declared.under_way.UnderWay.TheVariants.{Nothing}
 use Rattle.interleaving_core.specs.xsi_calls.Machine.{IsNew, call_facts, facts_at}
 use Rattle.interleaving_core.specs.xsi_calls.Below.{Question, facts_in}
-use Rattle.interleaving_core.specs.xsi_calls.undecided_calls.Words.{questions_facts}
+use Rattle.interleaving_core.specs.xsi_calls.UndecidedWords.{questions_facts}
 use Rattle.interleaving_core.specs.xsi_calls.Words.{world}
 use Rattle.interleavings.specs.Counting.{AreCounted, IsCounted, calls_of, facts_of, under_way_in}
 use Rattle.interleavings.specs.Words.{Answer, CallView, FileFault, KernelState, Progress, RecordKey, State, conclusion_of, is_fault}

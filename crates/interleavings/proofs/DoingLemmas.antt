@@ -1,10 +1,10 @@
 -- What a step of a seat does to the file and the locks is what the seat is told.
 use Rattle.std.proofs.Common.{ℕ, ◌≡◌, refl, sym, ap, ◌∙◌, subst, Bool, true, false, Option, Some, None}
 use Rattle.std.proofs.lemmas.Bool.{true≢false}
-use Rattle.concurrent_calls.specs.Together.{AreTogether, IsUnderWay}
-use Rattle.concurrent_calls.specs.lone_calls.Words.{call_left}
-use Rattle.concurrent_calls.proofs.SeatLemmas.{well}
-use Rattle.lone_calls.proofs.CauseLemmas.{fresh_room}
+use Rattle.interleavings.specs.Together.{AreTogether, IsUnderWay}
+use Rattle.interleavings.specs.LoneCallWords.{call_left}
+use Rattle.interleavings.proofs.SeatLemmas.{well}
+use Rattle.interleavings.proofs.LoneCallCauseLemmas.{fresh_room}
 use Rattle.interleaving_core.specs.Active.{is_waiting}
 use Rattle.interleaving_core.specs.Fault.{of_page}
 use Rattle.interleaving_core.specs.Owing.{is_failure}

@@ -4,8 +4,8 @@ use Rattle.std.proofs.Common.{ℕ, zero, suc, ◌≡◌, ◌+◌, ◌<◌, ◌�
 use Rattle.std.proofs.Math.Seq.{drop-length}
 use Rattle.std.proofs.lemmas.Bool.{true≢false}
 use Rattle.std.specs.List.{list_any}
-use Rattle.concurrent_calls.specs.Laws.{BeginTogether, EndTogether, StepTogether}
-use Rattle.concurrent_calls.specs.lone_calls.Words.{call_left}
+use Rattle.interleavings.specs.ConcurrentLaws.{BeginTogether, EndTogether, StepTogether}
+use Rattle.interleavings.specs.LoneCallWords.{call_left}
 use Rattle.interleaving_core.proofs.AnewLemmas.{ends_waiting, waits_from, woken_from}
 use Rattle.interleaving_core.proofs.BetweenLemmas.{between}
 use Rattle.interleaving_core.proofs.TurnLemmas.{waits_unanswered}

@@ -5,16 +5,16 @@ use Rattle.std.proofs.lemmas.Bool.{cases_eq}
 use Rattle.buffer_pool.specs.Pool.{KeepsImages}
 use Rattle.buffer_pool.specs.declared.fault.PoolFault.TheVariants.{Device, Malformed, NoMemory, TooFewFrames}
 use Rattle.page_device.specs.declared.fault.DeviceFault.TheVariants as device
-use Rattle.concurrent_calls.proofs.SeatLemmas.{well}
-use Rattle.concurrent_calls.specs.Laws.{AreTogetherIn, BeginTogether}
-use Rattle.concurrent_calls.specs.Together.{AreTogether, IsWell, Seats}
-use Rattle.concurrent_calls.specs.Words.{StandsAt}
+use Rattle.interleavings.proofs.SeatLemmas.{well}
+use Rattle.interleavings.specs.ConcurrentLaws.{AreTogetherIn, BeginTogether}
+use Rattle.interleavings.specs.Together.{AreTogether, IsWell, Seats}
+use Rattle.interleavings.specs.ConcurrentWords.{StandsAt}
 use Rattle.file_pages.proofs.ReadLemmas.{is_well}
 use Rattle.file_pages.specs.Files.{IsFilePool, SpellsFile}
 use Rattle.interleaving_core.proofs.PlaceLemmas.{at_other, at_same, length-with_call, seat_of_call, with_own}
 use Rattle.interleaving_core.proofs.RenewLemmas.{new_has_nothing, waits_at}
 use Rattle.interleaving_core.specs.Renewing.{IsBetweenCalls, IsIdleOrWaits, IsWaiting, KeepsPages}
-use Rattle.interleaving_core.specs.search_counts.Counting.{count_at}
+use Rattle.interleaving_core.specs.Counting.{count_at}
 use Rattle.interleaving_core.specs.xsi_calls.Words.{Change, world}
 use Rattle.step_rules.specs.Sound.{IsSoundWorld}
 use Rattle.interleavings.proofs.CountedLemmas.{counted_idle, counted_in}

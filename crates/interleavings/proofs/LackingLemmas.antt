@@ -1,6 +1,6 @@
 -- A call comes to lacking room only by a trial that has none.
 use Rattle.std.proofs.Common.{ℕ, ◌≡◌, refl, sym, ap, ◌∙◌, Bool, true, false, true≢false, List, Option, Some, None}
-use Rattle.lone_calls.specs.Serving.{lacks_by}
+use Rattle.interleavings.specs.Serving.{lacks_by}
 use Rattle.interleaving_core.specs.xsi_calls.CallSteps.{KeepsCall, StepsCall}
 use Rattle.interleaving_core.specs.xsi_calls.Concluding.{IsRightConclusion}
 use Rattle.interleaving_core.specs.xsi_calls.Machine.{call_owes}

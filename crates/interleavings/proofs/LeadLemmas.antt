@@ -2,7 +2,7 @@
 use Rattle.std.proofs.Common.{ℕ, ◌≡◌, refl, sym, ap, ◌∙◌, subst, List, [], ◌∷◌, ◌++◌, Option, Some, None, IsSome, option_map}
 use Rattle.std.proofs.lemmas.Bool.{true≢false}
 use Rattle.std.proofs.lemmas.List.{append-nil}
-use Rattle.concurrent_calls.specs.Laws.{AreTheOthers, LeadsBy}
+use Rattle.interleavings.specs.ConcurrentLaws.{AreTheOthers, LeadsBy}
 use Rattle.interleaving_core.proofs.PlaceLemmas.{at_other}
 use Rattle.interleaving_core.specs.Active.{IsDrafted, entries_by}
 use Rattle.interleaving_core.specs.declared.active.Draft.{Draft}

@@ -1,3 +1,48 @@
+pub mod Names
+pub mod PageLemmas
+pub mod AloneLemmas
+pub mod SystemLemmas
+pub mod EmptyLemmas
+pub mod NewLemmas
+pub mod NewStructure
+pub mod NewLaws
+pub mod OpenedSameLemmas
+pub mod StoredLemmas
+pub mod OpenedOpenLemmas
+pub mod CloseLemmas
+pub mod BesideLemmas
+pub mod SeatNameLemmas
+pub mod OwnLemmas
+pub mod PayLemmas
+pub mod AskLemmas
+pub mod ApartLemmas
+pub mod HoldLemmas
+pub mod StayLemmas
+pub mod DeedLemmas
+pub mod SameLemmas
+pub mod GivenLemmas
+pub mod SettleLemmas
+pub mod AlikeLemmas
+pub mod SeatCountLemmas
+pub mod LoneCallPlaceLemmas
+pub mod StandLemmas
+pub mod StopLemmas
+pub mod LoneCallDecideLemmas
+pub mod LoneCallCauseLemmas
+pub mod LoneCallGoLemmas
+pub mod LoneCallRestLemmas
+pub mod WaitLemmas
+pub mod RestingLemmas
+pub mod LoneKernelStepLemmas
+pub mod CauseLemmas
+pub mod LoneKernelDriveLemmas
+pub mod PlaceLemmas
+pub mod SeatLemmas
+pub mod ConcurrentCountLemmas
+pub mod DecideLemmas
+pub mod StepLemmas
+pub mod GoLemmas
+pub mod RestLemmas
 pub mod EventLemmas
 pub mod FlushLemmas
 pub mod RunLemmas
@@ -23,4 +68,7 @@ pub mod RoomLemmas
 pub mod NoRoomLemmas
 pub mod PlayedLemmas
 pub mod RenewLemmas
+pub use Rattle.file_check.proofs as of_file_check
+pub use Rattle.record_file.proofs as of_record_file
+pub use Rattle.xsi_calls.proofs as of_xsi_calls
 pub use Rattle.interleaving_core.proofs as of_interleaving_core

@@ -1,8 +1,8 @@
 -- The names that a seat holds are those of its call.
 use Rattle.std.proofs.Common.{ℕ, ◌≡◌, ◌∙◌, ap, false, Option, Some}
-use Rattle.concurrent_calls.proofs.PlaceLemmas.{held_by, names_of}
-use Rattle.concurrent_calls.proofs.SeatLemmas.{well}
-use Rattle.concurrent_calls.specs.Together.{AreTogether, IsUnderWay, locks_of}
+use Rattle.interleavings.proofs.PlaceLemmas.{held_by, names_of}
+use Rattle.interleavings.proofs.SeatLemmas.{well}
+use Rattle.interleavings.specs.Together.{AreTogether, IsUnderWay, locks_of}
 use Rattle.interleaving_core.specs.xsi_calls.Laws.{HoldTheirNames}
 use Rattle.interleaving_core.specs.xsi_calls.Words.{row_of}
 use Rattle.interleaving_core.specs.xsi_calls.Machine.{call_locks}
@@ -10,7 +10,7 @@ use Rattle.page_locks.specs.Locks.{kind_of}
 use Rattle.page_locks.specs.Table.{held}
 use Rattle.page_locks.specs.declared.lock.LockName.{LockName}
 use Rattle.page_locks.specs.declared.lock.LockName.TheVariants as names
-use Rattle.concurrent_calls.specs.Words.{counter_key, key_of_key, key_of_queue}
+use Rattle.interleavings.specs.ConcurrentWords.{counter_key, key_of_key, key_of_queue}
 use Rattle.interleavings.specs.Words.{ActiveView, CallView, KernelState, RecordKey, State, call_at}
 use Rattle.interleavings.specs.Laws.{IsOfRecords, SeatsHoldTheirNames}
 use Rattle.interleavings.specs.Refining.{Refines, calls_of}

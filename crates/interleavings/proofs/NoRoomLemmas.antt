@@ -3,8 +3,8 @@ use Rattle.std.proofs.Common.{ℕ, ◌≡◌, ◌⊎◌, inl, inr, refl, sym, ap
 use Rattle.std.proofs.lemmas.Bool.{eqb-true}
 use Rattle.std.proofs.lemmas.Option.{get_or_from_slice_get, slice_get_within}
 use Rattle.std.proofs.lemmas.List.Elements.{All-take}
-use Rattle.lone_calls.proofs.CauseLemmas.{fresh_room}
-use Rattle.lone_calls.specs.Serving.{lacks_by}
+use Rattle.interleavings.proofs.LoneCallCauseLemmas.{fresh_room}
+use Rattle.interleavings.specs.Serving.{lacks_by}
 use Rattle.step_rules.specs.declared.progress.Progress.TheVariants as progress
 use Rattle.interleaving_core.proofs.AnewLemmas.{begins_from}
 use Rattle.interleaving_core.specs.Active.{is_waiting}

@@ -2,8 +2,8 @@
 use Rattle.std.proofs.Common.{ℕ, ◌≡◌, ◌≤◌, inl, inr, refl, sym, ap, ◌∙◌, subst, Bool, true, false, List, [], ◌∷◌, ◌++◌, Option, Some, None, length}
 use Rattle.std.proofs.lemmas.Bool.{cases_eq}
 use Rattle.std.proofs.lemmas.List.{length-replicate}
-use Rattle.concurrent_calls.specs.Laws.{AreTheOthers, BeginTogether, LeaveAtRest, RestTogether, StopTogether}
-use Rattle.interleaving_core.specs.search_counts.Counting.{CountsState, count_at}
+use Rattle.interleavings.specs.ConcurrentLaws.{AreTheOthers, BeginTogether, LeaveAtRest, RestTogether, StopTogether}
+use Rattle.interleaving_core.specs.Counting.{CountsState, count_at}
 use Rattle.interleaving_core.specs.xsi_calls.Words.{world}
 use Rattle.step_rules.specs.Words.{Quiet}
 use Rattle.interleavings.specs.Counting.{facts_of}
@@ -11,8 +11,8 @@ use Rattle.interleavings.proofs.CountedLemmas.{counted_at_first, counted_in, cou
 use Rattle.interleavings.proofs.CountLemmas.{hops_few}
 use Rattle.interleaving_core.proofs.BeginLemmas.{idle_at}
 use Rattle.interleaving_core.proofs.PlaceLemmas.{at_other, at_same, length-with_call}
-use Rattle.concurrent_calls.proofs.of_lone_calls.of_opened_files.CloseLemmas.{closes_at_rest}
-use Rattle.concurrent_calls.proofs.of_lone_calls.of_opened_files.OpenLemmas.{opens_at_rest}
+use Rattle.interleavings.proofs.CloseLemmas.{closes_at_rest}
+use Rattle.interleavings.proofs.OpenedOpenLemmas.{opens_at_rest}
 use Rattle.queue_model.proofs.JournalLemmas.{LeadsAlong-push, after-LeadsAlong}
 use Rattle.queue_model.specs.Laws.{KeepsOrder}
 use Rattle.queue_model.specs.declared.entry.Entry.TheVariants.{Stopped}

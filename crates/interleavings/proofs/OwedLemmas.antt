@@ -1,8 +1,8 @@
 -- What seats owe the file is the rest of the system; and a file that was closed opens on its system.
 use Rattle.std.proofs.Common.{ℕ, zero, suc, ◌≡◌, ◌≢◌, ◌≤◌, ◌⊎◌, inl, inr, refl, sym, ap, ◌∙◌, subst, Bool, true, false, List, [], ◌∷◌, Option, Some, None, length}
-use Rattle.concurrent_calls.specs.Laws.{LeaveAtRest, OweApart, RestTogether}
-use Rattle.concurrent_calls.specs.Together.{AreTogether, owes_of}
-use Rattle.concurrent_calls.specs.Words.{owes_at}
+use Rattle.interleavings.specs.ConcurrentLaws.{LeaveAtRest, OweApart, RestTogether}
+use Rattle.interleavings.specs.Together.{AreTogether, owes_of}
+use Rattle.interleavings.specs.ConcurrentWords.{owes_at}
 use Rattle.directory.proofs.HeaderLaws.{is_today}
 use Rattle.directory.specs.declared.layout.TheConstants.{LAYOUT}
 use Rattle.file_check.specs.Whole.{FileHasNoFault}

@@ -3,20 +3,20 @@ use Rattle.std.proofs.Common.{ℕ, ◌≡◌, ◌≢◌, ◌≤◌, inl, inr, re
 use Rattle.std.proofs.Math.Path.{fun_ext}
 use Rattle.std.proofs.lemmas.Bool.{cases_eq, true≢false}
 use Rattle.std.proofs.lemmas.List.{length-map}
-use Rattle.concurrent_calls.proofs.RestLemmas.{exchanged}
-use Rattle.concurrent_calls.proofs.SeatLemmas.{owes_held}
-use Rattle.concurrent_calls.specs.Laws.{AreTheOthers, AreTogetherIn}
-use Rattle.concurrent_calls.specs.Together.{AreTogether, IsStillToCount, IsWell, Seats, locks_of, owes_of}
-use Rattle.concurrent_calls.specs.Words.{counter_key, owes_at}
+use Rattle.interleavings.proofs.RestLemmas.{exchanged}
+use Rattle.interleavings.proofs.SeatLemmas.{owes_held}
+use Rattle.interleavings.specs.ConcurrentLaws.{AreTheOthers, AreTogetherIn}
+use Rattle.interleavings.specs.Together.{AreTogether, IsStillToCount, IsWell, Seats, locks_of, owes_of}
+use Rattle.interleavings.specs.ConcurrentWords.{counter_key, owes_at}
 use Rattle.interleaving_core.proofs.PlaceLemmas.{at_other, at_same, length-with_call, seat_of_call}
 use Rattle.interleaving_core.proofs.RenewLemmas.{outlast_at}
 use Rattle.interleaving_core.specs.Renewing.{HasNothing, IsWithdrawn, failure_of_pool, outlasting}
-use Rattle.interleaving_core.specs.search_counts.Counting.{count_at}
+use Rattle.interleaving_core.specs.Counting.{count_at}
 use Rattle.interleaving_core.specs.xsi_calls.Words.{guard_of, kind_of, world}
 use Rattle.page_locks.specs.declared.lock.Lock.{Lock}
 use Rattle.page_locks.specs.declared.lock.LockKind.{LockKind}
 use Rattle.page_locks.specs.declared.lock.LockKind.TheVariants.{Exclusive}
-use Rattle.owed_records.proofs.OverlayLemmas.{overlaid_rest}
+use Rattle.call_decisions.proofs.OverlayLemmas.{overlaid_rest}
 use Rattle.queue_model.proofs.JournalLemmas.{after-LeadsAlong}
 use Rattle.queue_model.proofs.LawfulLemmas.{IsLawful-LeadsAlong}
 use Rattle.interleavings.proofs.CountedLemmas.{counted_idle, counted_in, counted_of}

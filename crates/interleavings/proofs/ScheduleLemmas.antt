@@ -2,7 +2,7 @@
 use Rattle.std.proofs.Common.{ℕ, zero, suc, inl, inr, sym, subst, true, List, [], ◌∷◌, Option, length}
 use Rattle.std.proofs.lemmas.Bool.{true≢false}
 use Rattle.std.proofs.lemmas.List.Elements.{All-head, All-tail}
-use Rattle.concurrent_calls.specs.Laws.{BeginTogether, EndTogether, StepTogether}
+use Rattle.interleavings.specs.ConcurrentLaws.{BeginTogether, EndTogether, StepTogether}
 use Rattle.interleaving_core.proofs.RunLemmas.{seat_stays}
 use Rattle.interleaving_core.specs.declared.fault.Failure.{Failure}
 use Rattle.interleavings.specs.Words.{IsSeat, IsDriven, KernelState, Moves, RecordKey, State, Step}

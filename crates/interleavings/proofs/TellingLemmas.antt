@@ -8,7 +8,7 @@ use Rattle.page_locks.specs.declared.lock.LockKind.{LockKind}
 use Rattle.page_locks.specs.declared.lock.LockName.{LockName}
 use Rattle.step_rules.specs.Turns.{Ask, ForAnswer, ForEntry, ForLock, ForPage, HopFrom, StandsInWay, ToExclusive}
 use Rattle.step_rules.specs.World.{World}
-use Rattle.concurrent_calls.specs.Together.{locks_of}
+use Rattle.interleavings.specs.Together.{locks_of}
 use Rattle.interleaving_core.proofs.RunLemmas.{others_stay}
 use Rattle.interleaving_core.specs.Owing.{IsUnwoken, failed, told_of_failure}
 use Rattle.interleaving_core.specs.Words.{row_of}

@@ -2,8 +2,8 @@
 -- is told, also where its call begins anew within it.
 use Rattle.std.proofs.Common.{ℕ, suc, zero, ◌≡◌, ◌≤◌, inl, inr, refl, sym, ap, ◌∙◌, subst, Bool, true, false, Option, Some, None, length, arith}
 use Rattle.std.proofs.lemmas.Bool.{true≢false}
-use Rattle.concurrent_calls.specs.Laws.{BeginTogether, EndTogether, StepTogether}
-use Rattle.lone_calls.proofs.CauseLemmas.{fresh_room}
+use Rattle.interleavings.specs.ConcurrentLaws.{BeginTogether, EndTogether, StepTogether}
+use Rattle.interleavings.proofs.LoneCallCauseLemmas.{fresh_room}
 use Rattle.page_device.specs.Device.{HasRisen}
 use Rattle.step_rules.specs.Turns.{DoesTied, StandsInWay}
 use Rattle.interleaving_core.proofs.AnewLemmas.{begins_from, ends_waiting, over_waits, waits_from, woken_from}

@@ -2,14 +2,14 @@
 use Rattle.std.proofs.Common.{ℕ, ◌≡◌, ◌≤◌, ◌⊎◌, inl, inr, refl, sym, ap, ◌∙◌, subst, Bool, true, false, ◌||◌, List, [], Option, Some, None, IsSome, length}
 use Rattle.std.proofs.Math.Path.{fun_ext}
 use Rattle.std.proofs.lemmas.Bool.{cases_eq, true≢false}
-use Rattle.concurrent_calls.specs.Laws.{AreTheOthers, AreTogetherIn, BeginTogether, EndTogether, LeadTogether, StepTogether}
-use Rattle.concurrent_calls.specs.Together.{AreTogether, IsUnderWay}
-use Rattle.concurrent_calls.proofs.SeatLemmas.{well}
+use Rattle.interleavings.specs.ConcurrentLaws.{AreTheOthers, AreTogetherIn, BeginTogether, EndTogether, LeadTogether, StepTogether}
+use Rattle.interleavings.specs.Together.{AreTogether, IsUnderWay}
+use Rattle.interleavings.proofs.SeatLemmas.{well}
 use Rattle.interleaving_core.proofs.PlaceLemmas.{at_other, at_same, length-with_call}
 use Rattle.interleaving_core.specs.Active.{is_waiting}
 use Rattle.interleaving_core.specs.Owing.{is_failure}
 use Rattle.interleaving_core.specs.Searches.{Counts}
-use Rattle.interleaving_core.specs.search_counts.Counting.{CountsState, count_at}
+use Rattle.interleaving_core.specs.Counting.{CountsState, count_at}
 use Rattle.interleaving_core.specs.xsi_calls.Machine.{call_facts, call_turn}
 use Rattle.interleaving_core.specs.xsi_calls.Words.{Change, world}
 use Rattle.step_rules.specs.World.{World}

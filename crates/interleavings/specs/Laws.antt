@@ -1,7 +1,7 @@
 -- Laws of kernels that refine a system. Each is the contract of a function of laws.rt.
 use Rattle.std.specs.Prelude.{ℕ, ◌≡◌, ◌≢◌, ◌≤◌, ◌+◌, ◌⊎◌, Bool, IsTrue, List, None, Some, length, true, false, ⊤}
-use Rattle.concurrent_calls.specs.Together.{owes_of}
-use Rattle.concurrent_calls.specs.Words.{Records, StandsAt, overlaid, owes_at, record_of}
+use Rattle.interleavings.specs.Together.{owes_of}
+use Rattle.interleavings.specs.ConcurrentWords.{Records, StandsAt, overlaid, owes_at, record_of}
 use Rattle.file_check.specs.Fault.{IsOfMachineToo}
 use Rattle.interleaving_core.specs.Beginning.{MayRefuse}
 use Rattle.interleaving_core.specs.Owing.{is_failure}
@@ -18,7 +18,7 @@ use Rattle.page_locks.specs.declared.lock.LockName.TheVariants as lock_names
 use Rattle.step_rules.specs.Words.{Change}
 use Rattle.interleavings.specs.Words.{ActiveView, BeginFault, Call, Caller, HasCall, HasSystem, IsDriven, IsFileOf, IsFlushedTo, IsLawful, IsOpened, IsRefused, IsSeat, IsSpent, IsStep, IsStopped, KernelState, MAX_SEATS, RecordKey, State, Step, after, call_at, restarted, store_of}
 use Rattle.interleavings.specs.Doing.{DoesAsTold}
-use Rattle.interleaving_core.specs.search_counts.Counting.{count_at}
+use Rattle.interleaving_core.specs.Counting.{count_at}
 use Rattle.interleavings.specs.Counting.{HopsFew}
 use Rattle.interleavings.specs.Refining.{Refines, RefinesIn, calls_of}
 use Rattle.interleavings.specs.Headline.{IsAsPlainLists}

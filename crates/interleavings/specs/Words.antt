@@ -9,9 +9,9 @@ pub use Rattle.interleaving_core.specs.Owing.{IsRun, IsTurn, answer_told, call_o
 pub use Rattle.interleaving_core.specs.Words.{Answer, Call, CallView, Caller, Entry, IsSeat, PoolState, Progress, RecordKey, Table, answer_of_call, caller_at, conclusion_of}
 pub use Rattle.interleaving_core.specs.declared.fault.BeginFault.{BeginFault}
 pub use Rattle.interleaving_core.specs.declared.step.Step.{Step}
-pub use Rattle.concurrent_calls.specs.lone_calls.Words.{Begins, FileFault, HasFittingCall, HasFittingCaller, IsFileAtRest, IsOver, MakesCall, State, answer_of, is_fault, outcome, store_of}
-pub use Rattle.concurrent_calls.specs.lone_calls.Serving.{lacks_room}
-pub use Rattle.concurrent_calls.specs.lone_calls.opened_files.Laws.{restarted}
+pub use Rattle.interleavings.specs.LoneCallWords.{Begins, FileFault, HasFittingCall, HasFittingCaller, IsFileAtRest, IsOver, MakesCall, State, answer_of, is_fault, outcome, store_of}
+pub use Rattle.interleavings.specs.Serving.{lacks_room}
+pub use Rattle.interleavings.specs.OpenedLaws.{restarted}
 pub use Rattle.page_locks.specs.declared.lock_table.TheConstants.{MAX_SEATS}
 pub use Rattle.queue_model.specs.Journal.{IsLegal, LeadsAlong, after, is_of, part_of}
 pub use Rattle.queue_model.specs.Lawful.{IsLawful}

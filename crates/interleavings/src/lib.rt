@@ -1,15 +1,41 @@
 //! Schedules of many seats on one kernel: whichever seat makes the next step, the answers are those
 //! of plain lists.
+//!
+//! Calls of several seats over one file, beside one another: whichever of them makes the next step,
+//! each is answered by the rules, over one system.
+//!
+//! Calls that are made one at a time on a kernel: each is answered as by plain lists.
+//!
+//! Calls that are made one at a time: each is answered by the rules, and leaves the file at rest
+//! with the records of the system after it.
+//!
+//! What the others' steps and decisions leave to a seat: a call that pays pays on, and one that has
+//! not decided asks and tries on.
+//!
+//! Files as they are opened and closed: what a file is while no seat uses it.
+//!
+//! A new file is that of the system without queues, all of whose records stand in the root bucket.
 
 #![tactic(auto)]
 
+mod concurrent_laws;
 mod event;
 mod laws;
+mod lone_call_laws;
+mod lone_kernel_laws;
+mod new_file_laws;
+mod opened_laws;
 mod playing;
 mod renewing;
 mod running;
+mod seat_laws;
 
+pub use concurrent_laws::{
+    calls_begin_together, calls_end_together, calls_leave_the_file_at_rest, calls_owe_apart,
+    calls_rest_together, calls_step_together, calls_stop_together,
+};
 pub use event::{Event, Outcome, are_of_seats};
+pub use file_check;
 pub use interleaving_core;
 pub use laws::{
     a_closed_file_opens_on_its_system, a_refining_kernel_answers_as_plain_lists,
@@ -18,9 +44,32 @@ pub use laws::{
     drives_refine, events_refine, refusals_refine, seats_hold_their_names, steps_refine,
     stops_refine, what_is_owed_is_the_rest,
 };
+pub use lone_call_laws::{
+    a_call_begins_at_rest, a_call_ends_at_rest, a_file_at_rest_is_stopped, a_lone_call_goes_on,
+    a_lone_call_nears_its_end, a_lone_call_tells_its_system,
+};
+pub use lone_kernel_laws::{
+    a_call_begins_on_a_kernel_at_rest, a_call_that_waits_is_stopped,
+    a_kernel_at_rest_closes_on_its_file, a_kernel_at_rest_is_stopped, a_kernel_opens_at_rest,
+    a_lone_call_is_answered_by_the_rules, a_lone_drive_answers_by_the_rules,
+    a_lone_step_answers_by_the_rules, a_refusal_leaves_a_kernel_at_rest,
+};
+pub use new_file_laws::a_new_file_has_no_queues;
+pub use opened_laws::{
+    a_checked_file_opens_at_rest, a_file_at_rest_closes_as_one, each_seat_sees_a_file_at_rest,
+};
 pub use playing::{EndFault, Played, play_on};
+pub use record_file;
 pub use renewing::{
     failures_refine, flushes_refine, pages_refine, reads_fail_with_the_device, renewals_refine,
     withdrawals_refine,
 };
 pub use running::run;
+pub use seat_laws::{
+    a_call_goes_over_to_what_others_decide, a_call_goes_over_to_what_others_settle,
+    a_call_goes_over_where_its_records_stay, a_call_stays_apart_by_its_own_steps,
+    a_call_stays_undecided, a_payment_goes_on, a_queue_is_counted_while_it_is_alive,
+    a_seat_sees_what_it_saw, an_id_is_given_out_under_its_name,
+    no_other_writes_under_a_calls_names, others_leave_what_a_call_knows,
+};
+pub use xsi_calls;

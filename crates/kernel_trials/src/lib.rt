@@ -1,5 +1,10 @@
 //! Trials of the kernel from outside. They stand here, so that they are proved without that crate
 //! being proved once more.
+//!
+//! Files made page by page, each with one thing wrong, and what the checker tells of them.
+//!
+//! Trials of files of which new ones are made: a file of version 1 typed out byte for byte, and each thing wrong
+//! with it; files copied to another size, and what is salvaged of spoilt ones.
 
 #![tactic(auto)]
 
@@ -13,6 +18,8 @@ mod between;
 mod cases;
 #[cfg(test)]
 mod closing;
+#[cfg(test)]
+mod copies;
 #[cfg(test)]
 mod drawn;
 #[cfg(test)]
@@ -28,6 +35,8 @@ mod malicious;
 #[cfg(test)]
 mod no_room;
 #[cfg(test)]
+mod old_file;
+#[cfg(test)]
 mod plain;
 #[cfg(test)]
 mod played;
@@ -38,11 +47,25 @@ mod racing;
 #[cfg(test)]
 mod rows;
 #[cfg(test)]
+mod salvages;
+#[cfg(test)]
 mod scripts;
 #[cfg(test)]
 mod splitting;
 #[cfg(test)]
 mod spoiling;
+#[cfg(test)]
+mod spoilt;
+#[cfg(test)]
+mod systems;
+#[cfg(test)]
+mod tests;
+#[cfg(test)]
+mod trial;
+#[cfg(test)]
+mod two_buckets;
+#[cfg(test)]
+mod two_queues;
 #[cfg(test)]
 mod types;
 #[cfg(test)]

@@ -14,8 +14,8 @@ use Rattle.page_locks.specs.Locks.{without}
 use Rattle.page_locks.specs.Table.{Table, row_of, with_row, with_lock, without_lock}
 use Rattle.page_locks.proofs.ChangeLemmas.{length-with_row, with_row-own, with_row-twice}
 use Rattle.page_locks.proofs.TableLemmas.{row_of-empty, row_of-other, row_of-same}
-use Rattle.record_access.specs.AccessRuns.{FindsAtOnce}
-use Rattle.record_access.specs.Accesses.{AccessView, access_locks}
+use Rattle.record_file.specs.AccessRuns.{FindsAtOnce}
+use Rattle.record_file.specs.Accesses.{AccessView, access_locks}
 use Rattle.machine_trials.specs.declared.task.Task.{Task}
 use Rattle.machine_trials.specs.declared.task.Value.{Value}
 use Rattle.machine_trials.specs.declared.task.TheConstants.{MAX_VALUE_BYTES}

@@ -9,8 +9,8 @@ use Rattle.buffer_pool.specs.Pool.{PoolState}
 use Rattle.file_pages.specs.Files.{IsReady}
 use Rattle.stale_search.specs.Rows.{HasNoFileLock}
 use Rattle.stale_search.specs.Searches.{search_locks}
-use Rattle.record_operation.specs.Operations.{MayBeLent, operation_locks}
-use Rattle.record_access.specs.Accesses.{access_locks}
+use Rattle.record_file.specs.Operations.{MayBeLent, operation_locks}
+use Rattle.record_file.specs.Accesses.{access_locks}
 use Rattle.machine_trials.specs.declared.task.Task.{Task}
 use Rattle.machine_trials.specs.declared.task.TheConstants.{MAX_VALUE_BYTES}
 use Rattle.machine_trials.specs.declared.work.Work.{Work}

@@ -1,12 +1,17 @@
 //! Trials of the machines of the file from outside. They stand here, so that they are proved
 //! without those crates being proved once more.
+//!
+//! Trials of the file and of the rules of steps: schedules worked by hand, and turns
+//! that are not allowed.
 
 #![tactic(auto)]
 
+mod laws;
 mod task;
 mod trial;
 mod work;
 
+pub use laws::{each_kind_of_step_comes_in_a_worked_schedule, wrong_turns_are_not_allowed};
 pub use task::{Task, Value};
 pub use trial::Trial;
 pub use work::Work;

@@ -7,7 +7,7 @@ use crate::soundness::{covers_once, is_in_place, pictured};
 use crate::trial::Trial;
 use bucket_page::NumberKey;
 use page_device::{DeviceFault, FaultyDevice, MemDevice, PAGE_BYTES, PageDevice};
-use record_operation::Tried::IsPut;
+use record_file::Tried::IsPut;
 use std::alloc::Global;
 use std::process::Abort;
 use std::test::Fail;

@@ -6,7 +6,7 @@ use crate::soundness::{Picture, covers_once, is_in_place, pictured};
 use crate::trial::Trial;
 use bucket_page::PseudoKey;
 use page_device::PageDevice;
-use record_operation::Tried;
+use record_file::Tried;
 use std::alloc::Global;
 use std::process::Abort;
 use step_rules::{Kind, Progress};

@@ -4,7 +4,7 @@ use crate::files::empty_file;
 use crate::rows::Row::{Inserts, Searched, Searches, Stands, Steps};
 use crate::rows::{Row, show};
 use bucket_page::NumberKey;
-use record_operation::Tried::IsPut;
+use record_file::Tried::IsPut;
 use std::test::Fail;
 use step_rules::Kind::{Grant, Hop, Look, ReadDepth, ReadEntry, Release};
 

@@ -4,7 +4,7 @@ use crate::files::empty_file;
 use crate::rows::Row::{Covers, Deletes, Finds, Has, Inserts, Names, Stands};
 use crate::rows::{Row, show};
 use bucket_page::{ConstantKey, NumberKey};
-use record_operation::Tried::{IsFull, IsPut, IsThere};
+use record_file::Tried::{IsFull, IsPut, IsThere};
 use std::test::Fail;
 use step_rules::Kind;
 

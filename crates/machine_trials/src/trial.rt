@@ -12,7 +12,7 @@ use file_pages::FileFault;
 use page_device::{PageDevice, Payload};
 use page_locks::{LockTable, MAX_SEATS};
 use queue_records::Record;
-use record_operation::{RecordOperation, Tried};
+use record_file::{RecordOperation, Tried};
 use std::alloc::Global;
 use std::marker::Model;
 use step_rules::Progress;

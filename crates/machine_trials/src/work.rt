@@ -14,8 +14,7 @@ use file_pages::FileFault;
 use page_device::PageDevice;
 use page_locks::{LockKind, LockTable};
 use queue_records::Record;
-use record_access::Access;
-use record_operation::{RecordOperation, Tried};
+use record_file::{Access, RecordOperation, Tried};
 use stale_search::{Search, SearchPlace};
 use step_rules::Progress;
 

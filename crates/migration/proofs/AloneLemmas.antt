@@ -2,7 +2,7 @@
 use Rattle.std.proofs.Common.{ℕ, ◌≡◌, List, [], ◌∷◌, refl, sym, ap, subst, ◌∙◌, arith}
 use Rattle.page_locks.specs.declared.lock.Lock.{Lock}
 use Rattle.page_locks.specs.Table.{IsSeat, Table, row_of, with_row}
-use Rattle.record_access.specs.Words.{EndsRow, FollowsRow, HasNoFileLock}
+use Rattle.record_file.specs.AccessWords.{EndsRow, FollowsRow, HasNoFileLock}
 
 bare : HasNoFileLock []
 bare = record { directory = refl; pages = λ n. refl }

@@ -1,1 +1,2 @@
 pub mod AloneLemmas
+pub mod UnreadLemmas

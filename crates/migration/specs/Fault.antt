@@ -1,6 +1,6 @@
 -- The numbers of faults (docs/FAULTS.md).
 use Rattle.std.specs.Prelude.{ℕ}
-use Rattle.faults.specs.declared.TheConstants.{FAILED, NO_MEMORY, NO_ROOM}
+use Rattle.numbers.specs.declared.faults.TheConstants.{FAILED, NO_MEMORY, NO_ROOM}
 use Rattle.buffer_pool.specs.Fault as pool
 use Rattle.file_check.specs.Fault as check
 use Rattle.file_pages.specs.declared.fault.FileFault.{FileFault}

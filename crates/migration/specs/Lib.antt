@@ -1,3 +1,5 @@
 pub mod Fault
 pub mod Writing
 pub mod Copying
+pub mod SalvageFault
+pub mod Printing

@@ -6,6 +6,7 @@ ghost use Rattle.migration.specs.Fault.{making_number_of, number_of};
 use buffer_pool::PoolFault;
 use file_check::CheckFault;
 use file_pages::FileFault;
+use numbers::faults;
 use page_device::DeviceFault;
 use thiserror::Error;
 

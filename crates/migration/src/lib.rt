@@ -1,12 +1,30 @@
 //! A file becomes a new one of the same system: of version 1, or of another size.
+//!
+//! What can be read of a file that is wrong becomes a new file.
+//!
+//! Files of which new ones are made: the subcommands `migrate`, `copy` and `salvage`.
 
 #![tactic(auto)]
 
 mod copied;
+mod copies;
 mod fault;
+mod found;
+mod kept;
+mod losses;
 mod made;
+mod salvage_fault;
+mod salvaged;
+mod salvages;
+mod unmade;
 mod writer;
 
 pub use copied::{Copied, copy, migrated_pages};
+pub use copies::{CopyRequest, Size, copy_file, copy_on};
 pub use fault::{CopyFault, MakingFault};
+pub use losses::{Losses, Pages};
 pub use made::{Made, Target, make};
+pub use msgq_cli;
+pub use salvage_fault::SalvageFault;
+pub use salvaged::{Rescue, Salvaged, salvage};
+pub use salvages::{SalvageRequest, salvage_file, salvage_on};

@@ -2,7 +2,7 @@
 
 ghost use Rattle.std.specs.Prelude.{◌≡◌, [], OnOk};
 ghost use Rattle.queue_model.specs.Lawful.{IsLawfulQueue};
-ghost use Rattle.record_access.specs.Accesses.{access_locks};
+ghost use Rattle.record_file.specs.Accesses.{access_locks};
 ghost use Rattle.migration.specs.Writing.{IsAlone};
 
 use crate::fault::MakingFault;
@@ -12,7 +12,7 @@ use page_device::PageDevice;
 use page_locks::LockTable;
 use queue_model::{Queue, System};
 use queue_records::{Counter, KeyEntry, Record};
-use record_access::Access;
+use record_file::Access;
 use record_walk::QueueLinks;
 use std::alloc::Global;
 use step_rules::Progress;

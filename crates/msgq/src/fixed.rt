@@ -4,7 +4,7 @@ ghost use Rattle.msgq_cli.specs.Tasks.{HasPages};
 
 use crate::crew::ThreadASeat;
 use crate::scripts::{run_file, serve};
-use migration_runs::{CopyRequest, SalvageRequest, Size, copy_file, salvage_file};
+use migration::{CopyRequest, SalvageRequest, Size, copy_file, salvage_file};
 use msgq_cli::{Ending, Output, Task, advise, complain, complain_of_lines, new_file, report_file};
 use replays::{Sources, replay_file};
 use std::fs::File;

@@ -2,9 +2,8 @@
 
 ghost use Rattle.msgq_cli.specs.Tasks.{IsFileSize};
 
-use input_messages::{Framing, Unsent, messages_of};
 use msgq_cli::{Ending, Output, complain, new_file};
-use queue_commands::ExitStatus;
+use queue_commands::{ExitStatus, Framing, Unsent, messages_of};
 use queue_model::Body;
 use rollback_journal::is_left_behind;
 use std::io::{BufWriter, ErrorKind, IsTerminal, Write};

@@ -14,9 +14,10 @@ mod trouble;
 
 use clap::Error;
 use clap::error::ErrorKind;
-use command_words::read_command;
+use command_runs::read_command;
 use fixed::fixed;
 use msgq_cli::{Output, print_fault, read_command_line};
+use numbers::faults;
 use shell::shell;
 use stack::has_stack;
 use std::fs::{File, OpenOptions};

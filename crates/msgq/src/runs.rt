@@ -3,21 +3,23 @@
 ghost use Rattle.std.specs.Prelude.{◌≡◌, ◌≤◌, ℕ, length, true};
 ghost use Rattle.bucket_page.specs.Pseudokeys.{sha_key};
 ghost use Rattle.msgq_cli.specs.Scripts.{greatest_seat};
-ghost use Rattle.threaded_runs.specs.Beside.{RunsFrom, RunsScriptOn, counted_from};
-ghost use Rattle.threaded_runs.specs.Desks.{IsPlanOf};
+ghost use Rattle.replays.specs.Beside.{RunsFrom, RunsScriptOn, counted_from};
+ghost use Rattle.replays.specs.Desks.{IsPlanOf};
 ghost use Rattle.workers.specs.Opening.{HasFrames, origin_of};
 
 use crate::crew::{ThreadASeat, make_all};
 use interleaving_core::OpenFault;
 use msgq_cli::{Output, Script};
 use page_device::PageDevice;
-use replays::{FileKeys, Ran, leave_refused, tell_end};
+use replays::{
+    FileKeys, Plan, Ran, at_desks, end_service, is_of_one_seat, leave_refused, prepare, print_all,
+    seats_of, tell_end,
+};
 use std::io::{Eprint, Write};
 use std::marker::Brand;
 use std::sync::Wait;
 use std::thread::Threads;
 use std::time::Clock;
-use threaded_runs::{Plan, at_desks, end_service, is_of_one_seat, prepare, print_all, seats_of};
 use workers::{Base, Open, Prepared, Room};
 
 /// Runs a script on the file of a device, the lines of each seat in a thread of its own, and closes
@@ -37,7 +39,7 @@ use workers::{Base, Open, Prepared, Room};
 /// after the replies tells; fault 20 stands there where the file can't be closed. It comes only
 /// where a transfer failed, and of an honest device so does fault 62.
 ///
-/// A script all of whose lines are of one seat is run as `script_runs::run_on` does, since nobody
+/// A script all of whose lines are of one seat is run as `replays::run_on` does, since nobody
 /// could end a wait.
 pub fn run_on<
     R: Threads + Wait + Clock + Eprint + Sync,
@@ -57,7 +59,7 @@ pub fn run_on<
 {
     let alloc = crew.alloc();
     if is_of_one_seat(script) {
-        return script_runs::run_on(alloc, device, script, output);
+        return replays::run_on(alloc, device, script, output);
     }
     let Ok(plan) = Plan::new(alloc, script) else {
         return Ran::unrun(device, leave_refused(OpenFault::NoMemory, output));

@@ -1,7 +1,7 @@
 //! Scripts run on files of the system, and on a file in memory, a thread a seat.
 
 ghost use Rattle.std.specs.Prelude.{◌≡◌};
-ghost use Rattle.threaded_runs.specs.Beside.{RunsInputNew, RunsTextNew};
+ghost use Rattle.replays.specs.Beside.{RunsInputNew, RunsTextNew};
 
 use crate::crew::ThreadASeat;
 use crate::runs::run_on;
@@ -11,16 +11,14 @@ use msgq_cli::{
     unread,
 };
 use page_device::MemDevice;
-use replays::{complain_of_ran, script_text};
+use replays::{MEMORY_PAGES, complain_of_ran, is_of_one_seat, script_text, serve_text};
 use rollback_journal::{Opening, open_in_turn};
-use script_runs::{MEMORY_PAGES, serve_text};
 use std::fs::File;
 use std::io::{Eprint, IsTerminal, Read, Write};
 use std::rt::Files;
 use std::sync::Wait;
 use std::thread::Threads;
 use std::time::Clock;
-use threaded_runs::is_of_one_seat;
 
 /// What the faults of a file in memory are told of.
 const MEMORY: &str = "the file in memory";

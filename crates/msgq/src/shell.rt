@@ -1,13 +1,14 @@
 //! The commands of a shell.
 
 ghost use Rattle.std.specs.Prelude.{IfSome};
-ghost use Rattle.command_words.specs.Tasks.{HasPages};
+ghost use Rattle.command_runs.specs.Tasks.{HasPages};
 ghost use Rattle.msgq_cli.specs.Tasks.{IsFileSize};
 
 use crate::input::{make_file, read_messages};
 use crate::trouble::{Errand, Trouble};
-use command_runs::{CommandError, Form, Look, Ran, look_on, run_on};
-use command_words::{CallerIds, Deed, Patience, SendTask, ShellTask};
+use command_runs::{
+    CallerIds, CommandError, Deed, Form, Look, Patience, Ran, SendTask, ShellTask, look_on, run_on,
+};
 use msgq_cli::{complain, open_to_read};
 use queue_commands::{Command, ExitStatus, Receiving, Request, Sending};
 use queue_model::Caller;

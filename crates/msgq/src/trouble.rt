@@ -5,6 +5,7 @@ use interleaving_core::OpenFault;
 use msgq_cli::{
     Ending, Failure, Plain, Stage, advise, complain, complain_of_fault, complain_of_refused,
 };
+use numbers::faults;
 use queue_commands::{Command, ExitStatus, QueueName, Sending};
 use queue_model::{Caller, Errno, MAX_QBYTES};
 use rollback_journal::{OpenError, Refused};

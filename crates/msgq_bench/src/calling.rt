@@ -1,9 +1,8 @@
 //! Calls of one seat on a kernel, over a file in memory of which all pages are in frames.
 
 use crate::asking::{get, receive, send, set};
-use bucket_page::ShaKey;
+use bucket_page::{KeptKeys, ShaKey};
 use interleaving_core::{Kernel, Step};
-use kept_keys::KeptKeys;
 use page_device::MemDevice;
 use queue_model::{Call, Caller, NoMemory};
 use record_file::format;

@@ -4,11 +4,11 @@ use Rattle.std.specs.Option.{option_map, unwrap_or}
 use Rattle.std.specs.Str.{bytes_eq}
 use Rattle.queue_model.specs.declared.call.Call.TheVariants as call
 use Rattle.queue_model.specs.declared.call.Call.{Call}
-use Rattle.script_words.specs.Numbers.{number_of, signed_of, key_of, body_of}
+use Rattle.schedules.specs.Numbers.{number_of, signed_of, key_of, body_of}
 use Rattle.msgq_cli.specs.Options.{options_of}
 use Rattle.msgq_cli.specs.Unread.{next, alone}
 use Rattle.msgq_cli.specs.declared.mistake.Optional.TheVariants as optional
-use Rattle.script_words.specs.Reading.{◌>>=◌}
+use Rattle.schedules.specs.Reading.{◌>>=◌}
 use Rattle.msgq_cli.specs.declared.command.Command.{Command}
 use Rattle.msgq_cli.specs.declared.command.Command.TheVariants as command
 use Rattle.msgq_cli.specs.declared.command.TheConstants.{DEFAULT_MODE}

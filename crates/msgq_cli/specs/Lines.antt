@@ -5,9 +5,9 @@ use Rattle.std.specs.Str.{bytes_eq}
 use Rattle.std.specs.Str.Lines.{strip_carriage_return}
 use Rattle.msgq_cli.specs.Commands.{command_of}
 use Rattle.msgq_cli.specs.Unread.{next, alone}
-use Rattle.script_words.specs.Numbers.{IsSeat, number_of, seat_of}
-use Rattle.script_words.specs.Reading.{◌>>=◌}
-use Rattle.script_words.specs.Words.{words_of}
+use Rattle.schedules.specs.Numbers.{IsSeat, number_of, seat_of}
+use Rattle.schedules.specs.Reading.{◌>>=◌}
+use Rattle.schedules.specs.Words.{words_of}
 use Rattle.msgq_cli.specs.declared.line.Content.{Content}
 use Rattle.msgq_cli.specs.declared.line.Content.TheVariants as content
 

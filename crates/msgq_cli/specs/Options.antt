@@ -1,8 +1,8 @@
 -- The options of a call, in any order, each at most once. docs/SCRIPTS.md, "Options".
 use Rattle.std.specs.Prelude.{ℕ, ◌&&◌, ◌||◌, not, Bool, true, false, List, [], ◌∷◌, length, take, drop, codes, Option, Some, None, is_some, if◌then◌else◌}
 use Rattle.std.specs.Str.{bytes_eq}
-use Rattle.script_words.specs.Numbers.{number_of, mode_of}
-use Rattle.script_words.specs.Reading.{◌>>=◌}
+use Rattle.schedules.specs.Numbers.{number_of, mode_of}
+use Rattle.schedules.specs.Reading.{◌>>=◌}
 use Rattle.msgq_cli.specs.declared.mistake.Optional.{Optional}
 use Rattle.msgq_cli.specs.declared.mistake.Optional.TheVariants.{Get, Send, Receive, Set}
 use Rattle.msgq_cli.specs.declared.options.Options.{Options}

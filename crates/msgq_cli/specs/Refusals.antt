@@ -2,7 +2,7 @@
 use Rattle.std.specs.Prelude.{◌≡◌, ◌⊎◌, ℕ, List, Option, Some, None, ⊤}
 use Rattle.std.specs.declared.io.ErrorKind.{ErrorKind}
 use Rattle.std.specs.declared.io.ErrorKind.TheVariants.{OutOfMemory}
-use Rattle.faults.specs.declared.TheConstants.{DEVICE, NO_MEMORY}
+use Rattle.numbers.specs.declared.faults.TheConstants.{DEVICE, NO_MEMORY}
 use Rattle.page_device.specs.Device.{HasRisen}
 use Rattle.file_check.specs.Fault.{number_of}
 use Rattle.record_file.specs.Files.{IsNewFile}

@@ -3,12 +3,12 @@ use Rattle.std.specs.Prelude.{◌≡◌, ℕ, ◌+◌, ◌==◌, ◌&&◌, max, 
 use Rattle.std.specs.List.{All, list_any, find, fold}
 use Rattle.queue_model.specs.declared.caller.Caller.{Caller}
 use Rattle.msgq_cli.specs.Lines.{lines_of, content_of}
-use Rattle.script_words.specs.Reading.{◌>>=◌}
+use Rattle.schedules.specs.Reading.{◌>>=◌}
 use Rattle.msgq_cli.specs.declared.line.Content.{Content}
 use Rattle.msgq_cli.specs.declared.line.Content.TheVariants as content
 use Rattle.msgq_cli.specs.declared.line.Line.{Line}
 use Rattle.msgq_cli.specs.declared.line.SeatIds.{SeatIds}
-use Rattle.script_words.specs.Numbers.{IsSeat}
+use Rattle.schedules.specs.Numbers.{IsSeat}
 use Rattle.msgq_cli.specs.declared.script.ScriptError.{ScriptError}
 use Rattle.msgq_cli.specs.declared.script.ScriptError.TheVariants.{WrongLine, NoMemory}
 

@@ -3,8 +3,8 @@ use Rattle.std.specs.Prelude.{ℕ, ◌≡◌, ◌≤◌, ◌&&◌, nat_le, Bool,
 use Rattle.std.specs.Str.{bytes_eq}
 use Rattle.page_device.specs.declared.page.TheConstants.{MAX_PAGES}
 use Rattle.directory.specs.declared.layout.TheConstants.{LEAST_PAGES}
-use Rattle.script_words.specs.Numbers.{number_of}
-use Rattle.script_words.specs.Reading.{◌>>=◌}
+use Rattle.schedules.specs.Numbers.{number_of}
+use Rattle.schedules.specs.Reading.{◌>>=◌}
 use Rattle.msgq_cli.specs.declared.command_line.Task.{Task}
 use Rattle.msgq_cli.specs.declared.command_line.Task.TheVariants.{Serve, New, Run, Replay, Migrate, Copy, Salvage, Report}
 

@@ -1,8 +1,8 @@
 -- What a reader of a line may answer, and how words are taken one after the other.
 use Rattle.std.specs.Prelude.{◌≡◌, ℕ, List, [], ◌∷◌, Option, Some, None, Result, Ok, Err, ⊤}
 use Rattle.std.specs.Borrow.{Bor}
-use Rattle.script_words.specs.Reading.{◌>>=◌}
-use Rattle.script_words.specs.Words.{texts}
+use Rattle.schedules.specs.Reading.{◌>>=◌}
+use Rattle.schedules.specs.Words.{texts}
 use Rattle.msgq_cli.specs.declared.mistake.Unread.{Unread}
 use Rattle.msgq_cli.specs.declared.mistake.Unread.TheVariants.{Wrong, NoMemory}
 

@@ -3,6 +3,7 @@
 use crate::ending::{Ending, Failure, Stage};
 use crate::plain::Plain;
 use directory::OLDER_LAYOUT;
+use numbers::faults;
 use std::fs::{File, OpenOptions};
 use std::io::{ErrorKind, Read, Write};
 use std::rt::Files;

@@ -20,6 +20,7 @@ use crate::reply::print_fault;
 use crate::reports::{Report, ReportRequest};
 use bucket_page::ShaKey;
 use file_check::{CheckFault, Checked, check};
+use numbers::faults;
 use page_device::PageDevice;
 use queue_model::System;
 use rollback_journal::look;

@@ -3,13 +3,13 @@
 ghost use Rattle.msgq_cli.specs.Commands.{get_of, send_of, receive_of, stat_of, set_of, remove_of};
 ghost use Rattle.msgq_cli.specs.Commands.{command_of};
 ghost use Rattle.msgq_cli.specs.Unread.{IsRead, Takes, next};
-ghost use Rattle.script_words.specs.Numbers.{number_of, signed_of};
-ghost use Rattle.script_words.specs.Words.{texts};
+ghost use Rattle.schedules.specs.Numbers.{number_of, signed_of};
+ghost use Rattle.schedules.specs.Words.{texts};
 
 use crate::mistake::{Expected, Optional, Unread};
 use crate::options::Options;
 use queue_model::{Call, GetArguments, ReceiveArguments, SendArguments, SetArguments};
-use script_words::{Refusal, body, is_word, key, number, signed};
+use schedules::{Refusal, body, is_word, key, number, signed};
 use std::alloc::Global;
 
 /// The mode of a queue that is made by a `get` with no `mode=`: 666 in octal digits.

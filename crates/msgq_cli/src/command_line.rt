@@ -16,7 +16,7 @@ use clap::{Arg, ArgAction, ArgMatches, Command, Error};
 use directory::LEAST_PAGES;
 use page_device::MAX_PAGES;
 use rollback_journal::Opening;
-use script_words::number;
+use schedules::number;
 use std::alloc::{AllocError, Global};
 use std::time::Duration;
 

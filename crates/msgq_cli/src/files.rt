@@ -14,6 +14,7 @@ use crate::progress::{Progress, Shown};
 use crate::refusals::{fail, read_text};
 use crate::reply::print_made;
 use directory::LEAST_PAGES;
+use numbers::faults;
 use page_device::{DeviceFault, FileDevice, MAX_PAGES, PageDevice, SystemFile};
 use record_file::format;
 use rollback_journal::{OpenError, is_left_behind};

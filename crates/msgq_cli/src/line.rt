@@ -5,11 +5,11 @@ ghost use Rattle.std.specs.List.{fold, list_all};
 ghost use Rattle.std.specs.Option.{option_copied};
 ghost use Rattle.msgq_cli.specs.Lines.{HasSeat, text_of, ids_of, worded, content_of};
 ghost use Rattle.msgq_cli.specs.Unread.{IsRead};
-ghost use Rattle.script_words.specs.Words.{texts};
+ghost use Rattle.schedules.specs.Words.{texts};
 
 use crate::command::{Command, number_at, read_command};
 use crate::mistake::{Expected, Mistake, Unread};
-use script_words::{is_word, seat, words};
+use schedules::{is_word, seat, words};
 use std::alloc::Global;
 
 /// A line with a command.

@@ -1,5 +1,7 @@
 //! Which faults lines met, so that each kind is explained once.
 
+use numbers::faults;
+
 /// Where a kind of fault was met.
 #[derive(Clone, Copy, Debug, PartialEq, Eq)]
 pub(crate) struct Met {

@@ -4,10 +4,10 @@ ghost use Rattle.std.specs.Prelude.{◌≡◌};
 ghost use Rattle.msgq_cli.specs.Options.{no_options, once, with_value, with_option, options_of};
 ghost use Rattle.msgq_cli.specs.Options.{fits};
 ghost use Rattle.msgq_cli.specs.Unread.{IsRead};
-ghost use Rattle.script_words.specs.Words.{texts};
+ghost use Rattle.schedules.specs.Words.{texts};
 
 use crate::mistake::{Expected, Optional, Unread};
-use script_words::{is_word, mode, number};
+use schedules::{is_word, mode, number};
 
 /// Which options stand after a call, and their values.
 #[derive(Clone, Copy, Debug, PartialEq, Eq)]

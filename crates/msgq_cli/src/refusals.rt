@@ -9,6 +9,7 @@ use crate::ending::{Ending, Failure, Stage};
 use crate::output::Output;
 use crate::reply::print_fault;
 use crate::script::ScriptError;
+use numbers::faults;
 use std::alloc::Global;
 use std::io;
 use std::io::{ErrorKind, Read, Write};

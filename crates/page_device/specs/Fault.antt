@@ -1,6 +1,6 @@
 -- The numbers of faults.
 use Rattle.std.specs.Prelude.{ℕ}
-use Rattle.faults.specs.declared.TheConstants.{BAD_DIGEST, DEVICE, DEVICE_FULL, NO_MEMORY, PAST_END}
+use Rattle.numbers.specs.declared.faults.TheConstants.{BAD_DIGEST, DEVICE, DEVICE_FULL, NO_MEMORY, PAST_END}
 use Rattle.page_device.specs.declared.fault.DeviceFault.{DeviceFault}
 use Rattle.page_device.specs.declared.fault.DeviceFault.TheVariants.{Device, BadDigest, PastEnd, DeviceFull, NoMemory}
 

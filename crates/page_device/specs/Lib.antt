@@ -4,4 +4,4 @@ pub mod Faulty
 pub mod File
 pub mod Pages
 pub mod Sealed
-pub use Rattle.faults.specs as faults
+pub use Rattle.numbers.specs as numbers

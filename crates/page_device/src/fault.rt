@@ -2,6 +2,7 @@
 ghost use Rattle.std.specs.Prelude.{◌≡◌};
 ghost use Rattle.page_device.specs.Fault.{number_of};
 
+use numbers::faults;
 use std::alloc::AllocFailed;
 use thiserror::Error;
 

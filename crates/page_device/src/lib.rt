@@ -1,7 +1,10 @@
 //! Devices of numbered, sealed pages: a read gives what was last written there.
+//!
+//! The pages of a device in memory, and back on the device.
 
 #![tactic(auto)]
 
+mod copies;
 mod device;
 mod fault;
 mod faulty;
@@ -11,12 +14,13 @@ mod page;
 mod page_file;
 mod sealed;
 
+pub use copies::{copied, write_back};
 pub use device::PageDevice;
 pub use fault::DeviceFault;
-pub use faults;
 pub use faulty::FaultyDevice;
 pub use file::FileDevice;
 pub use memory::MemDevice;
+pub use numbers::faults;
 pub use page::{DIGEST_BYTES, MAX_PAGES, PAGE_BYTES, PAYLOAD_BYTES, Page, Payload};
 pub use page_file::{PageFile, SystemFile};
 pub use sealed::{seal, unseal, unseal_into};

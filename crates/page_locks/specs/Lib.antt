@@ -5,4 +5,4 @@ pub mod Probing
 pub mod Table
 pub mod Ties
 pub mod Writers
-pub use Rattle.faults.specs as faults
+pub use Rattle.numbers.specs as numbers

@@ -12,10 +12,10 @@ mod row;
 mod slot;
 mod slots;
 
-pub use faults;
-pub use faults::NoMemory;
 pub use grant::{Attempt, Grant};
 pub use laws::{changes_are_local, names_differ};
 pub use lock::{Lock, LockKind, LockName};
 pub use lock_table::{LockTable, MAX_SEATS};
+pub use numbers::faults;
+pub use numbers::faults::NoMemory;
 pub use row::MAX_LOCKS;

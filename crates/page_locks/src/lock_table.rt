@@ -10,7 +10,7 @@ use crate::grant::{Attempt, Grant};
 use crate::lock::{Lock, LockKind, LockName};
 use crate::row::{MAX_LOCKS, Row};
 use crate::slots::Slots;
-use faults::NoMemory;
+use numbers::faults::NoMemory;
 use std::alloc::Global;
 use std::marker::Model;
 

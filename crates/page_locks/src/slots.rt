@@ -10,7 +10,7 @@ ghost use Rattle.page_locks.specs.Probing.{IsProbed, IsOpened, IsSpot, HasFewNam
 use crate::holders::Holders;
 use crate::lock::LockName;
 use crate::slot::{SLOTS, Slot, home, way};
-use faults::NoMemory;
+use numbers::faults::NoMemory;
 use std::alloc::Global;
 use std::marker::Model;
 

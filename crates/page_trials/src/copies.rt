@@ -1,7 +1,8 @@
 //! Pages in memory and back.
 
-use page_copies::{copied, write_back};
-use page_device::{DeviceFault, FaultyDevice, MemDevice, PAGE_BYTES, PageDevice};
+use page_device::{
+    DeviceFault, FaultyDevice, MemDevice, PAGE_BYTES, PageDevice, copied, write_back,
+};
 use std::process::Abort;
 use std::test::Fail;
 

@@ -4,12 +4,11 @@ ghost use Rattle.std.specs.Prelude.{◌≡◌};
 ghost use Rattle.directory.specs.Pages.{IsDirectoryPage};
 
 use directory::{
-    Header, HeaderFault, LOCAL_DEPTHS, OLDER_LAYOUT, PAGE_ENTRIES, copy_upper, directory_of,
+    Header, HeaderFault, LOCAL_DEPTHS, OLDER_LAYOUT, PAGE_ENTRIES, Range, copy_upper, directory_of,
     layouts_are_right, lower_page, page_of, read_header, read_header_in, retarget, set_entry,
     slot_of, write_directory, write_header,
 };
 use page_device::{PAYLOAD_BYTES, Payload};
-use positions::Range;
 use std::process::Abort;
 use std::test::Fail;
 

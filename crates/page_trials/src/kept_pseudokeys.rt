@@ -1,7 +1,6 @@
 //! Keys that are asked for again, and keys that take one another's slots.
 
-use bucket_page::{NumberKey, PseudoKey, RecordKey, ShaKey};
-use kept_keys::{Alike, KeptKeys};
+use bucket_page::{Alike, KeptKeys, NumberKey, PseudoKey, RecordKey, ShaKey};
 use std::cell::Cell;
 use std::test::Fail;
 

@@ -3,7 +3,7 @@
 
 ghost use Rattle.std.specs.Prelude.{◌≡◌};
 
-use positions::{
+use directory::{
     Range, a_pseudokey_lies_in_exactly_one_range_of_a_tiling,
     ascending_and_covering_once_is_tiling, buddies_of_a_tiling_are_neighbours, index,
     joining_two_buddies_keeps_the_tiling, position, splitting_one_tile_keeps_the_tiling,

@@ -1,7 +1,7 @@
 -- A call that does not wait is answered, and by an answer of its kind or a refusal.
 use Rattle.std.proofs.Common.{◌≡◌, ℕ, Bool, true, false, Option, Some, None, not, if◌then◌else◌, refl, subst, ◌&&◌, ◌||◌, ◌==◌, nat_le, nat_lt, int_lt, pos, length}
 use Rattle.std.specs.List.{find}
-use Rattle.limits.specs.declared.TheConstants.{END_OF_IDS, MAX_BODY, MAX_QBYTES, MAX_QUEUES}
+use Rattle.numbers.specs.declared.limits.TheConstants.{END_OF_IDS, MAX_BODY, MAX_QBYTES, MAX_QUEUES}
 use Rattle.queue_model.specs.declared.answer.Answer.TheVariants as answers
 use Rattle.queue_commands.proofs.ModelWords.{lacks_access, is_owner, with_settings, Outcome, outcome, refuse, on_found, on_queue, has_id, has_key, get_found, get_by, create, lacks_room, send_to, receive_found, receive_from, stat_of, set_to, remove_from, raises, with_queue, info_of, selected, is_too_long, State, Answer, Call, Get, Send, Receive, Stat, Set, Remove, GetArguments, SendArguments, ReceiveArguments, SetArguments, Caller, EACCES, EEXIST, EIDRM, EINVAL, ENOENT, ENOSPC, EPERM, E2BIG, Read, Write, Message, Queue}
 

@@ -1,3 +1,7 @@
+pub mod TableLemmas
+mod LineLemmas
+mod ReadLemmas
+pub mod ObjectLemmas
 pub mod ModelWords
 pub mod AnswerLemmas
 pub mod AskLemmas

@@ -9,8 +9,8 @@ use Rattle.queue_model.specs.declared.call.Call.{Call}
 use Rattle.queue_model.specs.declared.call.Call.TheVariants as calls
 use Rattle.queue_model.specs.declared.caller.Caller.{Caller}
 use Rattle.queue_model.specs.declared.errno.Errno.{Errno}
-use Rattle.queue_lists.specs.declared.queue_name.QueueName.{QueueName}
-use Rattle.queue_lists.specs.declared.queue_name.QueueName.TheVariants.{Key, Id}
+use Rattle.queue_commands.specs.declared.queue_name.QueueName.{QueueName}
+use Rattle.queue_commands.specs.declared.queue_name.QueueName.TheVariants.{Key, Id}
 
 -- what asking for a value may come to, and the system that it leaves
 abbrev pub Asking : Type 0 → Type 1

@@ -9,7 +9,7 @@ use Rattle.queue_model.specs.declared.call.Call.{Call}
 use Rattle.queue_model.specs.declared.call.Call.TheVariants as calls
 use Rattle.queue_model.specs.declared.caller.Caller.{Caller}
 use Rattle.queue_commands.specs.Asking.{Asking, FindsAs, IsAnswered, IsKnown, Then}
-use Rattle.queue_lists.specs.declared.queue_name.QueueName.{QueueName}
+use Rattle.queue_commands.specs.declared.queue_name.QueueName.{QueueName}
 use Rattle.queue_commands.specs.declared.request.Setting.{Setting}
 
 -- the Get that makes a queue, which its key may not have yet

@@ -1,3 +1,9 @@
+pub mod Cells
+pub mod Naming
+pub mod Tables
+pub mod Lines
+pub mod Messages
+pub mod Json
 pub mod Asking
 pub mod Sending
 pub mod Receiving

@@ -10,7 +10,7 @@ use crate::answering::Answering;
 use crate::asking::{done_in, find, id_in, info_in};
 use crate::error::AskError;
 use crate::request::Setting;
-use queue_lists::{QueueName, Text};
+use crate::{QueueName, Text};
 use queue_model::{Call, GetArguments, SetArguments};
 use std::alloc::Global;
 

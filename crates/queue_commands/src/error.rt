@@ -3,7 +3,7 @@
 ghost use Rattle.std.specs.Prelude.{◌≡◌};
 ghost use Rattle.queue_commands.specs.Statuses.{number_of, status_of};
 
-use faults::NoMemory;
+use numbers::faults::NoMemory;
 use queue_model::Errno;
 use thiserror::Error;
 

@@ -1,6 +1,6 @@
 //! What a command asks for, and when.
 
-use queue_lists::QueueName;
+use crate::QueueName;
 use queue_model::Body;
 
 /// A command, and when it is asked for.

@@ -5,7 +5,7 @@ use Rattle.std.specs.List.{find, remove}
 use Rattle.std.proofs.lemmas.List.{get_or_default}
 use Rattle.queue_model.proofs.Words.{Answer, Id, Sent, Received, Info, Done, Refused, Call, Get, Send, Receive, Stat, Set, Remove, GetArguments, ReceiveArguments, SendArguments, SetArguments, Caller, Errno, Message, Queue, State}
 use Rattle.queue_model.specs.declared.errno.Errno.TheVariants.{EAGAIN, EEXIST, EIDRM, EINTR, EINVAL, ENOENT, ENOMSG, ENOSPC, EACCES, EPERM, E2BIG}
-use Rattle.limits.specs.declared.TheConstants.{MAX_QUEUES, MAX_BODY, MAX_QBYTES, END_OF_IDS}
+use Rattle.numbers.specs.declared.limits.TheConstants.{MAX_QUEUES, MAX_BODY, MAX_QBYTES, END_OF_IDS}
 use Rattle.queue_model.specs.declared.permissions.Access.TheVariants.{Read, Write}
 use Rattle.queue_model.specs.Access.{lacks_access, is_owner}
 use Rattle.queue_model.specs.Places.{IsPlaceOf, IsFreshKey}

@@ -11,7 +11,7 @@ use Rattle.queue_model.proofs.ListLemmas.{position_at}
 use Rattle.queue_model.proofs.Words.{Message, Queue}
 use Rattle.queue_model.specs.Lawful.{AreKeysApart, AreLawfulMessages, AreLawfulQueues, IsLawful}
 use Rattle.queue_model.specs.Selection.{total_bytes}
-use Rattle.limits.specs.declared.TheConstants.{END_OF_IDS, MAX_BODY, MAX_MESSAGES, MAX_QUEUES}
+use Rattle.numbers.specs.declared.limits.TheConstants.{END_OF_IDS, MAX_BODY, MAX_MESSAGES, MAX_QUEUES}
 use Rattle.queue_model.specs.Places.{IsFirstOfItsKey}
 use Rattle.queue_model.specs.Rules.{has_key, is_key}
 

@@ -7,7 +7,7 @@ use Rattle.queue_model.specs.declared.permissions.Access.{Access}
 use Rattle.queue_model.specs.declared.permissions.Access.TheVariants.{Read, Write}
 use Rattle.queue_model.specs.declared.permissions.Permissions.{Permissions}
 use Rattle.queue_model.specs.declared.permissions.TheConstants.{READ, WRITE}
-use Rattle.limits.specs.declared.TheConstants.{MODES, SUPERUSER}
+use Rattle.numbers.specs.declared.limits.TheConstants.{MODES, SUPERUSER}
 
 -- the owner, creator and mode of a new queue
 abbrev pub permissions_of : Caller → ℕ → Permissions

@@ -10,4 +10,4 @@ pub mod Places
 pub mod Rules
 pub mod Selection
 pub mod State
-pub use Rattle.limits.specs as limits
+pub use Rattle.numbers.specs as numbers

@@ -14,7 +14,7 @@ use Rattle.queue_model.specs.declared.call.SetArguments.{SetArguments}
 use Rattle.queue_model.specs.declared.caller.Caller.{Caller}
 use Rattle.queue_model.specs.declared.errno.Errno.{Errno}
 use Rattle.queue_model.specs.declared.errno.Errno.TheVariants.{E2BIG, EAGAIN, EEXIST, EIDRM, EINTR, EINVAL, ENOENT, ENOMSG, ENOSPC, EACCES, EPERM}
-use Rattle.limits.specs.declared.TheConstants.{MAX_QUEUES, MAX_MESSAGES, MAX_BODY, MAX_QBYTES, DEFAULT_QBYTES, END_OF_IDS, END_OF_SERIALS, SUPERUSER}
+use Rattle.numbers.specs.declared.limits.TheConstants.{MAX_QUEUES, MAX_MESSAGES, MAX_BODY, MAX_QBYTES, DEFAULT_QBYTES, END_OF_IDS, END_OF_SERIALS, SUPERUSER}
 use Rattle.queue_model.specs.declared.message.Message.{Message}
 use Rattle.queue_model.specs.declared.permissions.Access.TheVariants.{Read, Write}
 use Rattle.queue_model.specs.declared.queue.Queue.{Queue}

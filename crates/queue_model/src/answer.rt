@@ -5,7 +5,7 @@ ghost use Rattle.std.specs.Prelude.{◌≡◌, IfOk};
 use crate::errno::Errno;
 use crate::message::Message;
 use crate::permissions::Permissions;
-use faults::NoMemory;
+use numbers::faults::NoMemory;
 
 /// What Stat tells of a queue (`msqid_ds` of POSIX.1-2017, `<sys/msg.h>`).
 #[derive(Clone, Copy, Debug, PartialEq)]

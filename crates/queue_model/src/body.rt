@@ -2,7 +2,7 @@
 
 ghost use Rattle.std.specs.Prelude.{◌≡◌, ◌<◌, ◌^◌, length, take, IfOk};
 
-use faults::NoMemory;
+use numbers::faults::NoMemory;
 use std::alloc::Global;
 use std::marker::Model;
 

@@ -4,7 +4,7 @@
 ghost use Rattle.std.specs.Prelude.{◌≡◌, IfOk};
 
 use crate::body::Body;
-use faults::NoMemory;
+use numbers::faults::NoMemory;
 
 /// What `msgget` is given.
 #[derive(Clone, Copy, Debug, PartialEq)]

@@ -4,7 +4,7 @@ ghost use Rattle.std.specs.Prelude.{◌≡◌, IfOk};
 
 use crate::answer::Answer;
 use crate::call::Call;
-use faults::NoMemory;
+use numbers::faults::NoMemory;
 
 /// What a journal tells of one moment: a call was answered, or the system was stopped.
 #[derive(Debug, Drop, PartialEq)]

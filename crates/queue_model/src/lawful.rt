@@ -8,7 +8,7 @@ ghost use Rattle.queue_model.specs.Lawful.{AreKeysApart, AreLawfulQueues, Follow
 
 use crate::queue::Queue;
 use crate::system::first_with_key;
-use limits::{END_OF_IDS, MAX_QUEUES};
+use numbers::limits::{END_OF_IDS, MAX_QUEUES};
 
 /// Whether queues and a next id make up a lawful system.
 pub(crate) fn are_lawful(queues: &[Queue], next_id: u32) -> bool

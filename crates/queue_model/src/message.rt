@@ -8,8 +8,8 @@ ghost use Rattle.queue_model.specs.Lawful.{AreLawfulMessages, FollowsMessage};
 
 use crate::body::Body;
 use crate::call::ReceiveArguments;
-use faults::NoMemory;
-use limits::MAX_BODY;
+use numbers::faults::NoMemory;
+use numbers::limits::MAX_BODY;
 use std::alloc::Global;
 use std::marker::Model;
 

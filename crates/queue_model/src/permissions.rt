@@ -5,7 +5,7 @@ ghost use Rattle.queue_model.specs.Access.{permissions_of, is_owner, lacks_acces
 
 use crate::call::SetArguments;
 use crate::caller::Caller;
-use limits::{MODES, SUPERUSER};
+use numbers::limits::{MODES, SUPERUSER};
 
 /// The bit of an octal digit of a mode that lets its class of callers read.
 pub const READ: u16 = 4;

@@ -10,8 +10,8 @@ use crate::call::{GetArguments, ReceiveArguments, SendArguments, SetArguments};
 use crate::caller::Caller;
 use crate::message::{Message, Messages};
 use crate::permissions::Permissions;
-use faults::NoMemory;
-use limits::{DEFAULT_QBYTES, END_OF_SERIALS, MAX_BODY, MAX_MESSAGES, MAX_QBYTES, MODES};
+use numbers::faults::NoMemory;
+use numbers::limits::{DEFAULT_QBYTES, END_OF_SERIALS, MAX_BODY, MAX_MESSAGES, MAX_QBYTES, MODES};
 use std::alloc::Global;
 
 /// A queue. Its `qnum` is the number of its messages, its `cbytes` the bytes that

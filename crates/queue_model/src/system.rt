@@ -15,8 +15,8 @@ use crate::errno::Errno;
 use crate::lawful::are_lawful;
 use crate::permissions::Access;
 use crate::queue::Queue;
-use faults::NoMemory;
-use limits::{END_OF_IDS, MAX_BODY, MAX_QBYTES, MAX_QUEUES, SUPERUSER};
+use numbers::faults::NoMemory;
+use numbers::limits::{END_OF_IDS, MAX_BODY, MAX_QBYTES, MAX_QUEUES, SUPERUSER};
 use std::alloc::Global;
 use std::marker::Model;
 

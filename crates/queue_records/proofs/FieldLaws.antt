@@ -6,8 +6,8 @@ use Rattle.std.proofs.lemmas.Bool.{eqb-true}
 use Rattle.std.proofs.lemmas.Int.{ints, of_z-to_z, to_z-of_z}
 use Rattle.std.proofs.lemmas.List.{append-nil, append_assoc, length-append, length-drop, nil_from_length}
 use Rattle.std.proofs.lemmas.Bool.Decides.{nat_tests}
-use Rattle.bucket_page.specs.fields.Numbers.{two, four, eight, two_at, four_at, eight_at}
-use Rattle.bucket_page.proofs.of_fields.NumberLaws.{IsBytes, after_part, length-two, length-four, length-eight, two_takes, four_takes, eight_takes, two_again, four_again, eight_again, eight_small}
+use Rattle.bucket_page.specs.numbers.Numbers.{two, four, eight, two_at, four_at, eight_at}
+use Rattle.bucket_page.proofs.of_numbers.NumberLaws.{IsBytes, after_part, length-two, length-four, length-eight, two_takes, four_takes, eight_takes, two_again, four_again, eight_again, eight_small}
 use Rattle.queue_records.specs.Fields.{serial_number, type_number, type_link_number, serial_of, type_of, type_link_of, key_flag, key_number, given_key}
 use Rattle.queue_records.specs.Range.{IsSerial, IsType}
 use Rattle.queue_records.specs.Records.{FitsFour, FitsEight}

@@ -1,7 +1,7 @@
 -- Values of one kind are as long, but for Messages.
 use Rattle.std.proofs.Common.{◌≡◌, ℕ, ◌+◌, List, ◌++◌, length, sym, ap, subst, ◌∙◌, arith}
 use Rattle.std.proofs.lemmas.List.{length-append}
-use Rattle.bucket_page.proofs.of_fields.NumberLaws.{length-two, length-four, length-eight}
+use Rattle.bucket_page.proofs.of_numbers.NumberLaws.{length-two, length-four, length-eight}
 use Rattle.queue_records.specs.declared.counter.Counter.{Counter}
 use Rattle.queue_records.specs.declared.queue_entry.QueueEntry.{QueueEntry}
 use Rattle.queue_records.specs.declared.record.Record.{Record}

@@ -6,4 +6,4 @@ pub mod RangeLaws
 pub mod ReadingLaws
 pub mod RelinkLaws
 pub mod SpellingLaws
-pub use Rattle.bucket_page.proofs.of_fields
+pub use Rattle.bucket_page.proofs.of_numbers

@@ -1,6 +1,6 @@
 -- The fields of each value, one after the other.
 use Rattle.std.proofs.Common.{◌≡◌, ℕ, List, [], ◌∷◌}
-use Rattle.bucket_page.specs.fields.Numbers.{two, four, eight}
+use Rattle.bucket_page.specs.numbers.Numbers.{two, four, eight}
 use Rattle.queue_records.specs.declared.queue_entry.QueueEntry.{QueueEntry}
 use Rattle.queue_records.specs.declared.type_entry.TypeEntry.{TypeEntry}
 use Rattle.queue_records.specs.declared.message_entry.MessageEntry.{MessageEntry}

@@ -4,10 +4,10 @@ use Rattle.std.specs.Prelude.{IfOk, OnOk}
 use Rattle.std.proofs.lemmas.Bool.{eqb-true, leb-true, ltb-true}
 use Rattle.std.proofs.lemmas.List.{append-nil}
 use Rattle.bucket_page.specs.declared.record_key.RecordKey.{RecordKey}
-use Rattle.bucket_page.specs.fields.Numbers.{four, four_at}
-use Rattle.bucket_page.proofs.of_fields.NumberLaws.{IsBytes, four_small, eight_small}
+use Rattle.bucket_page.specs.numbers.Numbers.{four, four_at}
+use Rattle.bucket_page.proofs.of_numbers.NumberLaws.{IsBytes, four_small, eight_small}
 use Rattle.bucket_page.proofs.KeyLaws.{same_is}
-use Rattle.bucket_page.proofs.of_fields.Tests.{both_true}
+use Rattle.bucket_page.proofs.of_numbers.Tests.{both_true}
 use Rattle.queue_records.specs.declared.bad_record.BadRecord.{BadRecord}
 use Rattle.queue_records.specs.declared.record.Record.TheVariants as records
 use Rattle.queue_records.specs.Reading.{Gives, counter_at, key_at, queue_at, type_at, message_at, reads_counter, reads_key, reads_queue, reads_type, reads_message}

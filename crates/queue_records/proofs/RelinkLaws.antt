@@ -2,8 +2,8 @@
 use Rattle.std.proofs.Common.{◌≡◌, ℕ, ◌+◌, ◌≤◌, List, [], ◌++◌, length, take, drop, Option, Some, subst, sym, ap, ◌∙◌, append_assoc, refl, arith}
 use Rattle.std.specs.Prelude.{unwrap_or}
 use Rattle.std.proofs.lemmas.List.{append-nil, drop-append-le, drop_at, length-append, take-append-drop, take-append-le, take_at}
-use Rattle.bucket_page.specs.fields.Numbers.{eight}
-use Rattle.bucket_page.proofs.of_fields.NumberLaws.{length-eight, length-four}
+use Rattle.bucket_page.specs.numbers.Numbers.{eight}
+use Rattle.bucket_page.proofs.of_numbers.NumberLaws.{length-eight, length-four}
 use Rattle.queue_records.specs.declared.links.Links.{Links}
 use Rattle.queue_records.specs.declared.links.Links.TheVariants as kinds
 use Rattle.queue_records.specs.declared.record.Record.{Record}

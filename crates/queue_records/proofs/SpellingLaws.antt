@@ -4,9 +4,9 @@ use Rattle.std.proofs.lemmas.Bool.{le-leb, lt-ltb}
 use Rattle.std.proofs.lemmas.Bool.Decides.{nat_tests}
 use Rattle.std.proofs.lemmas.List.{append-nil}
 use Rattle.bucket_page.specs.declared.record_key.RecordKey.{RecordKey}
-use Rattle.bucket_page.specs.fields.Numbers.{two, four, eight}
+use Rattle.bucket_page.specs.numbers.Numbers.{two, four, eight}
 use Rattle.bucket_page.specs.Keys.{is_same}
-use Rattle.bucket_page.proofs.of_fields.NumberLaws.{length-two, length-four, length-eight}
+use Rattle.bucket_page.proofs.of_numbers.NumberLaws.{length-two, length-four, length-eight}
 use Rattle.queue_records.specs.declared.bad_record.BadRecord.{BadRecord}
 use Rattle.queue_records.specs.declared.counter.Counter.{Counter}
 use Rattle.queue_records.specs.declared.key_entry.KeyEntry.{KeyEntry}

@@ -1,7 +1,7 @@
 -- Values of version 1: a Queue's ends with its lowest type, and no other differs (docs/FORMAT.md, "Version 1").
 use Rattle.std.specs.Prelude.{◌≡◌, ℕ, ◌==◌, List, [], ◌∷◌, ◌++◌, if◌then◌else◌, ⊤}
 use Rattle.bucket_page.specs.declared.record_key.RecordKey.{RecordKey}
-use Rattle.bucket_page.specs.fields.Numbers.{two, four, eight}
+use Rattle.bucket_page.specs.numbers.Numbers.{two, four, eight}
 use Rattle.queue_records.specs.declared.layout.TheConstants.{OLDER_MODE, QUEUE}
 use Rattle.queue_records.specs.declared.queue_entry.QueueEntry.{QueueEntry}
 use Rattle.queue_records.specs.declared.record.Record.{Record}

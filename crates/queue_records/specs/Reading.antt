@@ -1,10 +1,10 @@
 -- What is read from a key and a value, and the tests that they have to pass.
 use Rattle.std.specs.Prelude.{◌≡◌, ℕ, ◌==◌, ◌^◌, nat_le, nat_lt, ℤ, pos, int_le, Bool, true, false, ◌&&◌, ◌||◌, List, length, drop, slice_index, Option, Some, None, Result, Ok, Err}
 use Rattle.bucket_page.specs.declared.record_key.RecordKey.{RecordKey}
-use Rattle.bucket_page.specs.fields.Numbers.{two_at, four_at, eight_at}
+use Rattle.bucket_page.specs.numbers.Numbers.{two_at, four_at, eight_at}
 use Rattle.bucket_page.specs.Keys.{is_same}
 use Rattle.queue_records.specs.declared.layout.TheConstants.{COUNTER_BYTES, KEY_BYTES, QUEUE_BYTES, TYPE_BYTES, MESSAGE_BYTES}
-use Rattle.limits.specs.declared.TheConstants.{MAX_QUEUES, MAX_MESSAGES, MAX_BODY, MAX_QBYTES, END_OF_IDS, MODES}
+use Rattle.numbers.specs.declared.limits.TheConstants.{MAX_QUEUES, MAX_MESSAGES, MAX_BODY, MAX_QBYTES, END_OF_IDS, MODES}
 use Rattle.queue_records.specs.declared.bad_record.BadRecord.{BadRecord}
 use Rattle.queue_records.specs.declared.counter.Counter.{Counter}
 use Rattle.queue_records.specs.declared.key_entry.KeyEntry.{KeyEntry}

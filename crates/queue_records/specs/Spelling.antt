@@ -2,7 +2,7 @@
 -- Fields stand in the order written.
 use Rattle.std.specs.Prelude.{ℕ, List, [], ◌∷◌, ◌++◌}
 use Rattle.bucket_page.specs.declared.record_key.RecordKey.{RecordKey}
-use Rattle.bucket_page.specs.fields.Numbers.{two, four, eight}
+use Rattle.bucket_page.specs.numbers.Numbers.{two, four, eight}
 use Rattle.queue_records.specs.declared.layout.TheConstants.{COUNTER, KEY, QUEUE, TYPE, MESSAGE}
 use Rattle.queue_records.specs.declared.counter.Counter.{Counter}
 use Rattle.queue_records.specs.declared.key_entry.KeyEntry.{KeyEntry}

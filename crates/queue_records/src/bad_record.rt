@@ -1,7 +1,7 @@
 //! Why bytes are no record.
 
 ghost use Rattle.std.specs.Prelude.{◌≡◌};
-ghost use Rattle.page_locks.specs.faults.declared.TheConstants.{BAD_RECORD};
+ghost use Rattle.page_locks.specs.numbers.declared.faults.TheConstants.{BAD_RECORD};
 
 use page_locks::faults::BAD_RECORD;
 use thiserror::Error;

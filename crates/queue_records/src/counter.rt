@@ -13,7 +13,7 @@ use crate::layout::{COUNTER, COUNTER_BYTES};
 use crate::value::Value;
 use bucket_page::RecordKey;
 use bucket_page::fields::four_at;
-use limits::MAX_QUEUES;
+use numbers::limits::MAX_QUEUES;
 
 /// Which ids were given out, and how many queues are alive. A file has one such record.
 #[derive(Clone, Copy, Debug, PartialEq, Eq)]

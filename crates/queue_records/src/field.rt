@@ -2,13 +2,13 @@
 
 ghost use Rattle.std.specs.Prelude.{◌≡◌, ◌+◌, ◌≤◌, length, IfSome, FitsSigned};
 ghost use Rattle.std.specs.Int.{w64};
-ghost use Rattle.bucket_page.specs.fields.Numbers.{eight_at};
+ghost use Rattle.bucket_page.specs.numbers.Numbers.{eight_at};
 ghost use Rattle.queue_records.specs.Fields.{serial_number, type_number, type_link_number, serial_of, type_of, type_link_of};
 ghost use Rattle.queue_records.specs.Reading.{is_id, is_serial_link, is_type_link};
 ghost use Rattle.queue_records.specs.Records.{FitsFour, FitsEight};
 
 use bucket_page::fields::eight_at;
-use limits::END_OF_IDS;
+use numbers::limits::END_OF_IDS;
 
 /// The serial in the eight bytes from `at` on, where there is one.
 pub fn serial_at(bytes: &[u8], at: usize) -> Option<u64>

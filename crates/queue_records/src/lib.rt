@@ -31,9 +31,9 @@ pub use layout::{
     COUNTER, KEY, MAX_VALUE_BYTES, MESSAGE, MESSAGE_BYTES, OLDER_MODE, OLDER_QUEUE_BYTES, QUEUE,
     TYPE, TYPE_BYTES,
 };
-pub use limits::{END_OF_IDS, MAX_BODY, MAX_MESSAGES, MAX_QBYTES, MAX_QUEUES, MODES};
 pub use links::{Link, Links, MessageLinks, TypeLinks};
 pub use message_entry::MessageEntry;
+pub use numbers::limits::{END_OF_IDS, MAX_BODY, MAX_MESSAGES, MAX_QBYTES, MAX_QUEUES, MODES};
 pub use queue_entry::QueueEntry;
 pub use record::Record;
 pub use relinking::relink;

@@ -17,7 +17,7 @@ use crate::layout::{MESSAGE, MESSAGE_BYTES};
 use crate::value::Value;
 use bucket_page::RecordKey;
 use bucket_page::fields::{eight_at, four_at};
-use limits::MAX_BODY;
+use numbers::limits::MAX_BODY;
 
 /// A message on a queue. The messages of a queue are a list, and so are those of each of its types.
 #[derive(Debug, Drop, PartialEq)]

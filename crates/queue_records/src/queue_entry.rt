@@ -1,7 +1,7 @@
 //! The record of a queue.
 
 ghost use Rattle.std.specs.Prelude.{◌≡◌, length, slice_index, IfSome, IfOk, Ok};
-ghost use Rattle.bucket_page.specs.fields.Numbers.{four_at};
+ghost use Rattle.bucket_page.specs.numbers.Numbers.{four_at};
 ghost use Rattle.queue_records.specs.declared.layout.TheConstants.{OLDER_QUEUE_BYTES};
 ghost use Rattle.queue_records.specs.declared.record.Record.TheVariants as records;
 ghost use Rattle.queue_records.specs.Fields.{given_key, key_flag, key_number};
@@ -20,7 +20,7 @@ use crate::layout::{QUEUE, QUEUE_BYTES};
 use crate::value::Value;
 use bucket_page::RecordKey;
 use bucket_page::fields::{eight_at, four_at, two_at};
-use limits::{MAX_MESSAGES, MAX_QBYTES, MODES};
+use numbers::limits::{MAX_MESSAGES, MAX_QBYTES, MODES};
 
 /// A queue, without its messages. What it has in common with the model's `Queue` and `QueueInfo`
 /// goes by the same names, since all three are named as POSIX names them.

@@ -1,7 +1,7 @@
 //! Links set in the bytes of a value, where the record stands.
 
 ghost use Rattle.std.specs.Prelude.{◌≡◌, ◌≤◌, ◌+◌, ◌++◌, ℕ, ℤ, List, Option, Some, length, unwrap_or};
-ghost use Rattle.bucket_page.specs.fields.Numbers.{eight};
+ghost use Rattle.bucket_page.specs.numbers.Numbers.{eight};
 ghost use Rattle.queue_records.specs.declared.layout.TheConstants.{MESSAGE_BYTES, TYPE_BYTES};
 ghost use Rattle.queue_records.specs.declared.message_entry.MessageEntry.{MessageEntry};
 ghost use Rattle.queue_records.specs.declared.record.Record.{Record};

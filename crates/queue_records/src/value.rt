@@ -1,7 +1,7 @@
 //! The bytes of a record's value, in a buffer of fixed size.
 
 ghost use Rattle.std.specs.Prelude.{◌≡◌, ◌≤◌, ◌+◌, [], ◌∷◌, ◌++◌, length};
-ghost use Rattle.bucket_page.specs.fields.Numbers.{two, four, eight};
+ghost use Rattle.bucket_page.specs.numbers.Numbers.{two, four, eight};
 
 use crate::layout::MAX_VALUE_BYTES;
 use arrayvec::ArrayVec;

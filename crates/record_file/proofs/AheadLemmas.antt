@@ -1,10 +1,10 @@
 -- A find that goes straight to the page that answers: each move of its search is its own, and the page is given back.
 use Rattle.std.proofs.Common.{◌≡◌, refl, sym, ◌∙◌, subst, ℕ, false, List, [], ◌∷◌, Option, Some, None, IfSome, IsSome}
-use Rattle.bucket_merge.proofs.MoveLemmas.{nothing_read}
-use Rattle.bucket_merge.specs.buffer_pool.Pool.{PoolState}
-use Rattle.bucket_merge.specs.file_pages.declared.fault.FileFault.{FileFault}
-use Rattle.bucket_merge.specs.stale_search.SearchRuns.{At, HasNoLock, SearchStep, at, search_at, search_stops}
-use Rattle.bucket_merge.specs.stale_search.declared.place.SearchPlace.TheVariants.{Found}
+use Rattle.split_merge.proofs.MoveLemmas.{nothing_read}
+use Rattle.split_merge.specs.buffer_pool.Pool.{PoolState}
+use Rattle.split_merge.specs.file_pages.declared.fault.FileFault.{FileFault}
+use Rattle.split_merge.specs.stale_search.SearchRuns.{At, HasNoLock, SearchStep, at, search_at, search_stops}
+use Rattle.split_merge.specs.stale_search.declared.place.SearchPlace.TheVariants.{Found}
 use Rattle.page_locks.proofs.ChangeLemmas.{IsSeat-with_row, with_row-own, with_row-twice}
 use Rattle.page_locks.proofs.TableLemmas.{row_of-same}
 use Rattle.step_rules.proofs.RunLemmas.{joined, lifted}

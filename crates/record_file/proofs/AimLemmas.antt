@@ -1,11 +1,11 @@
 -- What a machine asks for while it searches is what its seat knows.
 use Rattle.std.proofs.Common.{ℕ, refl, inl, true, false, [], Some, None}
 use Rattle.step_rules.specs.Searching.{IsAimed}
-use Rattle.bucket_merge.proofs.FactLemmas.{merge_aimed}
-use Rattle.bucket_merge.proofs.of_stale_search.AimLemmas.{search_aimed}
-use Rattle.bucket_merge.specs.stale_search.Searches.{ask_at}
-use Rattle.bucket_merge.specs.stale_search.declared.place.SearchPlace.{SearchPlace}
-use Rattle.bucket_merge.specs.stale_search.declared.place.SearchPlace.TheVariants.{GrantDirectory, ReadDepth, ReadEntry, GrantPage, ReleaseDirectory, Look, Hop, Found}
+use Rattle.split_merge.proofs.MergeFactLemmas.{merge_aimed}
+use Rattle.split_merge.proofs.of_stale_search.AimLemmas.{search_aimed}
+use Rattle.split_merge.specs.stale_search.Searches.{ask_at}
+use Rattle.split_merge.specs.stale_search.declared.place.SearchPlace.{SearchPlace}
+use Rattle.split_merge.specs.stale_search.declared.place.SearchPlace.TheVariants.{GrantDirectory, ReadDepth, ReadEntry, GrantPage, ReleaseDirectory, Look, Hop, Found}
 use Rattle.record_file.specs.Words.{RecordKey, LockKind, SearchView}
 use Rattle.record_file.specs.Writers.{seen_at}
 use Rattle.record_file.specs.BucketAccesses.{BucketView, ask_in, bucket_facts, facts_in, seen_by}
@@ -14,8 +14,8 @@ use Rattle.record_file.specs.declared.bucket_access.BucketStage.TheVariants.{Sea
 use Rattle.record_file.specs.declared.bucket_access.Deed.{Deed}
 use Rattle.record_file.specs.declared.bucket_access.Deed.TheVariants as deeds
 use Rattle.record_file.specs.Deletes.{DeleteView, delete_facts, delete_turn, part}
-use Rattle.bucket_merge.specs.Facts.{merge_facts, merge_turn}
-use Rattle.bucket_merge.specs.Places.{MergeView}
+use Rattle.split_merge.specs.Facts.{merge_facts, merge_turn}
+use Rattle.split_merge.specs.Places.{MergeView}
 
 seen_aimed : (place : SearchPlace) (kind : LockKind) (key : RecordKey) (k : ℕ) →
     IsAimed (ask_at place kind k) (seen_at place key k)

@@ -1,12 +1,12 @@
 -- What a search that a machine is built on tells of its answer.
 use Rattle.std.proofs.Common.{◌≡◌, refl, sym, ap, ◌∙◌, subst, ℕ, ◌+◌, Option, Some, None, length, inl, inr, arith}
 use Rattle.std.specs.Option.{option_map}
-use Rattle.bucket_merge.specs.stale_search.declared.place.SearchPlace.{SearchPlace}
-use Rattle.bucket_merge.specs.stale_search.declared.place.SearchPlace.TheVariants.{GrantDirectory, ReadDepth, ReadEntry, GrantPage, ReleaseDirectory, Look as AtLook, Hop, Found}
-use Rattle.bucket_merge.specs.file_pages.declared.fault.FileFault.{FileFault}
+use Rattle.split_merge.specs.stale_search.declared.place.SearchPlace.{SearchPlace}
+use Rattle.split_merge.specs.stale_search.declared.place.SearchPlace.TheVariants.{GrantDirectory, ReadDepth, ReadEntry, GrantPage, ReleaseDirectory, Look as AtLook, Hop, Found}
+use Rattle.split_merge.specs.file_pages.declared.fault.FileFault.{FileFault}
 use Rattle.step_rules.specs.Answering.{TakesAnswer}
 use Rattle.step_rules.proofs.AnswerLemmas.{look_may_tell}
-use Rattle.bucket_merge.specs.stale_search.Searches.{AnswersFor, facts_at}
+use Rattle.split_merge.specs.stale_search.Searches.{AnswersFor, facts_at}
 use Rattle.record_file.specs.Words.{RecordKey, lookup, PoolState, records_at, Progress, Moved, Blocked, Fault, Ended, World, IsSoundWorld, AllKnown, Nears, found_at}
 use Rattle.record_file.specs.Machines.{Tells, FindsAt}
 

@@ -4,7 +4,7 @@ use Rattle.record_file.proofs.Names.{COUNTER, ChangesRecord, Counter, FileFault,
 use Rattle.bucket_page.specs.Keys.{is_same as is_same_key}
 use Rattle.step_rules.specs.declared.progress.Progress.TheVariants as answers
 use Rattle.step_rules.specs.Known.{Told}
-use Rattle.bucket_merge.specs.stale_search.declared.place.SearchPlace.TheVariants.{Look as AtLook}
+use Rattle.split_merge.specs.stale_search.declared.place.SearchPlace.TheVariants.{Look as AtLook}
 use Rattle.record_file.specs.Words.{RecordKey, RecordWrite, PoolState, Table, Lock, LockKind, Read, Directory, Page, Change, IsKnown, IsSeat, Known, Step, row_of, with_row, held, kind_of, lock_of, guard_of, contents, Progress, Moved, WriteRecord, World, IsHeld, Turn, IsSoundWorld, is_fault, world, SearchView, search_locks, in_directory, on_page}
 use Rattle.record_file.specs.Callers.{KeepsNames}
 use Rattle.record_file.specs.BucketAccesses.{locks_in}

@@ -2,14 +2,14 @@
 use Rattle.std.proofs.Common.{◌≡◌, refl, sym, ap, ◌∙◌, subst, ℕ, ◌+◌, ◌≤◌, Bool, true, List, [], Option, Some, None, IsSome, IsTrue, length, unwrap_or, arith}
 use Rattle.bucket_page.specs.declared.layout.TheConstants.{RECORD_HEAD_BYTES, ROOM_BYTES}
 use Rattle.bucket_page.proofs.Steps.{length-pair}
-use Rattle.bucket_merge.specs.buffer_pool.Pool.{PoolState}
-use Rattle.bucket_merge.specs.file_pages.declared.fault.FileFault.{FileFault}
-use Rattle.bucket_merge.specs.file_pages.Writes.{IsBucketThere}
-use Rattle.bucket_merge.proofs.of_file_pages.ReadLemmas.{devices_after}
+use Rattle.split_merge.specs.buffer_pool.Pool.{PoolState}
+use Rattle.split_merge.specs.file_pages.declared.fault.FileFault.{FileFault}
+use Rattle.split_merge.specs.file_pages.Writes.{IsBucketThere}
+use Rattle.split_merge.proofs.of_file_pages.ReadLemmas.{devices_after}
 use Rattle.hash_file.specs.Changes.{write_record}
-use Rattle.bucket_merge.specs.stale_search.declared.place.SearchPlace.{SearchPlace}
-use Rattle.bucket_merge.specs.stale_search.declared.place.SearchPlace.TheVariants.{Found}
-use Rattle.bucket_merge.specs.stale_search.Searches.{ask_at, locks_at}
+use Rattle.split_merge.specs.stale_search.declared.place.SearchPlace.{SearchPlace}
+use Rattle.split_merge.specs.stale_search.declared.place.SearchPlace.TheVariants.{Found}
+use Rattle.split_merge.specs.stale_search.Searches.{ask_at, locks_at}
 use Rattle.record_file.specs.Words.{RecordKey, pair, lookup, record_bytes, contents, Put, Replace, Remove, Table, Lock, LockKind, Selective, Page, Change, OnlyReads, OnlyWrites, IsDevicesFault, row_of, with_row, without, without_lock, store_of, records_at, Moved, WriteRecord, SearchView, search_locks, found_at, Store, Turn, Sees, Step, HasNoFileLock, on_page}
 use Rattle.record_file.specs.Writers.{Owns, seen_at, seen_of}
 use Rattle.record_file.specs.BucketAccesses.{IsFrontAt, with_front}

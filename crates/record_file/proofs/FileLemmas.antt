@@ -14,11 +14,11 @@ use Rattle.bucket_page.specs.declared.record_key.RecordKey.{RecordKey}
 use Rattle.bucket_page.specs.Bucket.{Bucket, bucket}
 use Rattle.bucket_page.specs.Changes.{Changes, SpellsBucket, inserted}
 use Rattle.bucket_page.specs.Keys.{key_bytes}
-use Rattle.fields.specs.Numbers.{four, two}
+use Rattle.numbers.specs.Numbers.{four, two}
 use Rattle.bucket_page.specs.Reading.{bucket_in, records_in}
 use Rattle.bucket_page.specs.Records.{pair, pair_bytes, record_bytes}
 use Rattle.bucket_page.specs.Spelling.{IsBucket}
-use Rattle.fields.proofs.NumberLaws.{length-four, length-two}
+use Rattle.numbers.proofs.NumberLaws.{length-four, length-two}
 use Rattle.bucket_page.proofs.KeyLaws.{length-key}
 use Rattle.bucket_page.proofs.PageLaws.{bucket_again}
 use Rattle.step_rules.specs.queue_records.Spelling.{counter_bytes, counter_key}

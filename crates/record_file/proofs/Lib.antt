@@ -13,4 +13,42 @@ pub mod StepLemmas
 pub mod PartLemmas
 pub mod AimLemmas
 pub mod AheadLemmas
-pub use Rattle.bucket_merge.proofs as of_bucket_merge
+pub mod InsertNames
+pub mod MoveLemmas
+pub mod HomeLemmas
+pub mod InsertCallerLemmas
+pub mod LookLemmas
+pub mod HopLemmas
+pub mod InsertWriteLemmas
+pub mod ApproachLemmas
+pub mod OrderLemmas
+pub mod SplitLemmas
+pub mod InsertReleaseLemmas
+pub mod InsertLemmas
+pub mod FactLemmas
+pub mod FewLemmas
+pub mod OperationNames
+pub mod KindLemmas
+pub mod OperationCallerLemmas
+pub mod LengthLemmas
+pub mod OperationAimLemmas
+pub mod OperationAheadLemmas
+pub mod AccessNames
+pub mod RecordLemmas
+pub mod SuitLemmas
+pub mod StandLemmas
+pub mod AccessAimLemmas
+pub mod AskLemmas
+pub mod AllowLemmas
+pub mod EndLemmas
+pub mod AccessStepLemmas
+pub mod ReadLemmas
+pub mod BucketLemmas
+pub mod TakeLemmas
+pub mod TakingLemmas
+pub mod OperationLemmas
+pub mod AccessAheadLemmas
+pub use Rattle.step_rules.proofs as of_step_rules
+pub use Rattle.split_merge.proofs as of_split_merge
+pub use Rattle.split_merge.proofs.of_file_pages
+pub use Rattle.split_merge.proofs.of_stale_search

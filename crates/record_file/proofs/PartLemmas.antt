@@ -1,13 +1,13 @@
 -- A delete in its removal, which passes on to the merge, and in its merge.
 use Rattle.std.proofs.Common.{◌≡◌, refl, sym, ap, ◌∙◌, subst, ℕ, ◌+◌, ◌≤◌, Bool, true, false, List, [], Option, Some, None, is_some, ◌⊎◌, inl, inr, arith}
 use Rattle.std.proofs.lemmas.Bool.{true≢false}
-use Rattle.bucket_merge.specs.Places.{MergeView, is_done, locks_at as merge_locks_at, merge_locks}
-use Rattle.bucket_merge.specs.Facts.{facts_at as merge_facts_at, left_at as merge_left_at, merge_facts, merge_turn, steps_left as merge_left}
-use Rattle.bucket_merge.specs.declared.place.MergePlace.{MergePlace}
-use Rattle.bucket_merge.specs.stale_search.declared.place.ApproachPlace.{ApproachPlace}
-use Rattle.bucket_merge.specs.stale_search.Approaches.{approach_facts_at, approach_locks_at}
-use Rattle.bucket_merge.specs.buffer_pool.Pool.{PoolState}
-use Rattle.bucket_merge.specs.file_pages.declared.fault.FileFault.{FileFault}
+use Rattle.split_merge.specs.Places.{MergeView, is_done, locks_at as merge_locks_at, merge_locks}
+use Rattle.split_merge.specs.Facts.{facts_at as merge_facts_at, left_at as merge_left_at, merge_facts, merge_turn, steps_left as merge_left}
+use Rattle.split_merge.specs.declared.merge_place.MergePlace.{MergePlace}
+use Rattle.split_merge.specs.stale_search.declared.place.ApproachPlace.{ApproachPlace}
+use Rattle.split_merge.specs.stale_search.Approaches.{approach_facts_at, approach_locks_at}
+use Rattle.split_merge.specs.buffer_pool.Pool.{PoolState}
+use Rattle.split_merge.specs.file_pages.declared.fault.FileFault.{FileFault}
 use Rattle.record_file.specs.Words.{RecordKey, Remove, Table, Lock, Change, Store, Progress, Moved, Blocked, Fault, Ended, World, Known, Turn, SearchView, Nears, Step}
 use Rattle.step_rules.specs.Turns.{Ask}
 use Rattle.record_file.specs.Deletes.{IsBegun, IsOver, delete_facts, delete_turn, part}

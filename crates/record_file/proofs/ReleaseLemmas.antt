@@ -1,13 +1,13 @@
 -- A page is given back, the last lock on the file.
 use Rattle.std.proofs.Common.{◌≡◌, refl, sym, ap, ◌∙◌, ℕ, List, [], ◌∷◌, ◌++◌, Some, eq-eqb}
 use Rattle.std.proofs.lemmas.List.Elements.{filter-append}
-use Rattle.bucket_merge.specs.file_pages.declared.fault.FileFault.{FileFault}
+use Rattle.split_merge.specs.file_pages.declared.fault.FileFault.{FileFault}
 use Rattle.page_locks.specs.Writers.{may_write, IsWriter}
 use Rattle.step_rules.specs.LockSteps.{Releases}
 use Rattle.step_rules.proofs.KindLemmas.{kind_keeps}
 use Rattle.step_rules.proofs.LockLemmas.{IsHeld-some}
-use Rattle.bucket_merge.specs.stale_search.Rows.{on_page}
-use Rattle.bucket_merge.proofs.of_stale_search.RowLemmas.{without-none, page_on, directory_not_on}
+use Rattle.split_merge.specs.stale_search.Rows.{on_page}
+use Rattle.split_merge.proofs.of_stale_search.RowLemmas.{without-none, page_on, directory_not_on}
 use Rattle.page_locks.proofs.RowLemmas.{kind_of-append}
 use Rattle.record_file.specs.Writers.{Owns}
 use Rattle.record_file.specs.Words.{RecordKey, Exclusive, guard_of, PoolState, Table, IsSeat, Lock, LockKind, Page, Directory, Change, row_of, held, kind_of, lock_of, without, without_lock, Moved, Release, World, Known, Turn, world, Sees, Step, HasNoFileLock}

@@ -11,7 +11,7 @@ use Rattle.hash_file.specs.Store.{Store, page_at, bucket_at, bucket_of, is_bucke
 use Rattle.hash_file.specs.Chain.{IsBucketOf}
 use Rattle.hash_file.specs.Changes.{write_record, with_bucket}
 use Rattle.hash_file.proofs.Frames.{page_other, page_same}
-use Rattle.positions.specs.Ranges.{Covers}
+use Rattle.directory.specs.Ranges.{Covers}
 use Rattle.step_rules.specs.declared.kind.TheConstants.{MERGED_BYTES}
 use Rattle.step_rules.specs.Rooms.{TurnsAway, IsWhole, IsLarge}
 use Rattle.step_rules.specs.Pages.{used_on}

@@ -1,15 +1,15 @@
 -- Whether a record fits its bucket.
 use Rattle.std.proofs.Common.{◌≡◌, refl, sym, ap, ◌∙◌, subst, ℕ, ◌+◌, ◌≤◌, ◌<◌, ◌&&◌, nat_le, true, false, List, None, IsTrue, length, arith, inl, inr}
 use Rattle.std.proofs.lemmas.Bool.{cases_lt, le-leb, leb-true}
-use Rattle.fields.proofs.Tests.{both_true}
+use Rattle.numbers.proofs.Tests.{both_true}
 use Rattle.bucket_page.specs.declared.layout.TheConstants.{RECORD_HEAD_BYTES, ROOM_BYTES}
 use Rattle.bucket_page.proofs.Steps.{length-pair}
-use Rattle.bucket_merge.specs.buffer_pool.Pool.{PoolState}
-use Rattle.bucket_merge.specs.file_pages.declared.fault.FileFault.{FileFault}
-use Rattle.bucket_merge.specs.file_pages.Writes.{TakesRecord}
-use Rattle.bucket_merge.proofs.of_file_pages.ReadLemmas.{devices_after}
+use Rattle.split_merge.specs.buffer_pool.Pool.{PoolState}
+use Rattle.split_merge.specs.file_pages.declared.fault.FileFault.{FileFault}
+use Rattle.split_merge.specs.file_pages.Writes.{TakesRecord}
+use Rattle.split_merge.proofs.of_file_pages.ReadLemmas.{devices_after}
 use Rattle.hash_file.specs.Chain.{IsBucketOf}
-use Rattle.bucket_merge.specs.stale_search.declared.place.SearchPlace.TheVariants.{Found}
+use Rattle.split_merge.specs.stale_search.declared.place.SearchPlace.TheVariants.{Found}
 use Rattle.step_rules.specs.Turns.{LacksRoom}
 use Rattle.step_rules.specs.Does.{KeepsOthers}
 use Rattle.step_rules.specs.Searching.{WalksTo}

@@ -2,14 +2,14 @@
 use Rattle.std.proofs.Common.{◌≡◌, refl, sym, ap, ◌∙◌, subst, ℕ, true, List, [], ◌∷◌, Option, Some, None, IsSome, length}
 use Rattle.std.proofs.lemmas.Bool.{true≢false}
 use Rattle.std.specs.Option.{option_map}
-use Rattle.bucket_merge.specs.stale_search.declared.place.SearchPlace.{SearchPlace}
-use Rattle.bucket_merge.specs.stale_search.declared.place.SearchPlace.TheVariants.{GrantDirectory, ReadDepth, ReadEntry, GrantPage, ReleaseDirectory, Look as AtLook, Hop, Found}
-use Rattle.bucket_merge.specs.file_pages.declared.fault.FileFault.{FileFault}
+use Rattle.split_merge.specs.stale_search.declared.place.SearchPlace.{SearchPlace}
+use Rattle.split_merge.specs.stale_search.declared.place.SearchPlace.TheVariants.{GrantDirectory, ReadDepth, ReadEntry, GrantPage, ReleaseDirectory, Look as AtLook, Hop, Found}
+use Rattle.split_merge.specs.file_pages.declared.fault.FileFault.{FileFault}
 use Rattle.page_locks.specs.Writers.{may_write}
 use Rattle.step_rules.specs.Searching.{WalksTo}
-use Rattle.bucket_merge.specs.stale_search.Searches.{AnswersFor, IsLed, KeepsAim, LeadsFrom, facts_at, locks_at}
-use Rattle.bucket_merge.specs.stale_search.Rows.{on_page}
-use Rattle.bucket_merge.proofs.of_stale_search.RowLemmas.{page_on}
+use Rattle.split_merge.specs.stale_search.Searches.{AnswersFor, IsLed, KeepsAim, LeadsFrom, facts_at, locks_at}
+use Rattle.split_merge.specs.stale_search.Rows.{on_page}
+use Rattle.split_merge.proofs.of_stale_search.RowLemmas.{page_on}
 use Rattle.record_file.specs.Words.{RecordKey, PoolState, Table, Lock, Selective, Page, Change, Store, row_of, kind_of, lookup, records_at, Progress, Moved, Look, WriteRecord, World, Turn, Known, LeadsTo, OnPage, Covering, AllKnown, IsSoundWorld, world, Sees, Step, HasNoFileLock, LockKind, SearchView, search_facts, search_locks, found_at}
 use Rattle.record_file.specs.Machines.{FindsAt, Tells}
 use Rattle.record_file.specs.Writers.{seen_at, seen_of}

@@ -3,14 +3,14 @@
 use Rattle.std.proofs.Common.{◌≡◌, refl, sym, ap, ◌∙◌, subst, ℕ, ◌<◌, Bool, true, false, not, List, [], Option, Some, None, IsSome, is_some, IsTrue, inl, inr, arith}
 use Rattle.std.specs.Prelude.{⊤}
 use Rattle.std.proofs.lemmas.Bool.{true≢false}
-use Rattle.bucket_merge.specs.buffer_pool.Pool.{PoolState}
-use Rattle.bucket_merge.specs.file_pages.declared.fault.FileFault.{FileFault}
-use Rattle.bucket_merge.specs.stale_search.Searches.{GivesAnswer, KeepsAim, facts_at, locks_at, search_turn}
-use Rattle.bucket_merge.specs.stale_search.Steps.{Advances, FollowsRow, MakesStep}
-use Rattle.bucket_merge.specs.stale_search.declared.place.SearchPlace.{SearchPlace}
-use Rattle.bucket_merge.specs.stale_search.declared.place.SearchPlace.TheVariants.{Found}
-use Rattle.bucket_merge.proofs.MoveLemmas.{nothing_written, read_only}
-use Rattle.bucket_merge.proofs.of_stale_search.StayLemmas.{Stays-of}
+use Rattle.split_merge.specs.buffer_pool.Pool.{PoolState}
+use Rattle.split_merge.specs.file_pages.declared.fault.FileFault.{FileFault}
+use Rattle.split_merge.specs.stale_search.Searches.{GivesAnswer, KeepsAim, facts_at, locks_at, search_turn}
+use Rattle.split_merge.specs.stale_search.Steps.{Advances, FollowsRow, MakesStep}
+use Rattle.split_merge.specs.stale_search.declared.place.SearchPlace.{SearchPlace}
+use Rattle.split_merge.specs.stale_search.declared.place.SearchPlace.TheVariants.{Found}
+use Rattle.split_merge.proofs.MoveLemmas.{nothing_written, read_only}
+use Rattle.split_merge.proofs.of_stale_search.StayLemmas.{Stays-of}
 use Rattle.page_locks.proofs.ChangeLemmas.{with_row-own}
 use Rattle.step_rules.proofs.LockStepLemmas.{KeepsOthers-same}
 use Rattle.record_file.specs.Words.{RecordKey, Table, IsSeat, Lock, Selective, Page, Change, Store, IsDevicesFault, IsReady, OnlyReads, OnlyWrites, Progress, Moved, Fault, Ended, Release, WriteRecord, World, AllKnown, is_fault, row_of, with_row, without_lock, store_of, SearchView, search_facts, search_locks, found_at, steps_left, HasNoFileLock, Sees, Step, WritesOrSpares, on_page, world}

@@ -1,7 +1,7 @@
 -- A record is written in the bucket of its key.
 use Rattle.std.proofs.Common.{◌≡◌, refl, sym, ap, subst, ℕ, ◌≤◌, ◌<◌, true, List, [], Some, length}
-use Rattle.bucket_merge.specs.file_pages.declared.fault.FileFault.{FileFault}
-use Rattle.bucket_merge.specs.file_pages.Writes.{IsBucketThere}
+use Rattle.split_merge.specs.file_pages.declared.fault.FileFault.{FileFault}
+use Rattle.split_merge.specs.file_pages.Writes.{IsBucketThere}
 use Rattle.hash_file.specs.Store.{bucket_at, is_bucket, page_at}
 use Rattle.directory.specs.declared.layout.TheConstants.{ROOT_PAGE}
 use Rattle.hash_file.specs.Change.{Quiet}
@@ -13,8 +13,8 @@ use Rattle.step_rules.proofs.KindLemmas.{kind_keeps}
 use Rattle.step_rules.proofs.OwnLemmas.{owned_answer_is_live}
 use Rattle.hash_file.proofs.Searches.{looks_answer}
 use Rattle.step_rules.specs.Words.{chain, PageLeads}
-use Rattle.bucket_merge.proofs.of_file_pages.StoreLemmas.{layout_is, pages_are}
-use Rattle.bucket_merge.proofs.of_stale_search.WayLemmas.{leads_on_way}
+use Rattle.split_merge.proofs.of_file_pages.StoreLemmas.{layout_is, pages_are}
+use Rattle.split_merge.proofs.of_stale_search.WayLemmas.{leads_on_way}
 use Rattle.record_file.specs.Words.{RecordKey, RecordWrite, PoolState, Table, Directory, Exclusive, Change, Store, held, store_of, records_at, lookup, contents, Answers, Moved, WriteRecord, World, guard_of, Known, LeadsTo, OnPage, Covering, IsKnown, world, Sees, Step, OnlyWrites}
 
 module _ (hash : RecordKey → ℕ) (seat : ℕ) (facts : List Known) (pool : PoolState) (locks : Table)

@@ -4,8 +4,8 @@ use Rattle.std.specs.Prelude.{ℕ, ◌≡◌, ◌≤◌, ◌+◌, ◌-◌, ◌&&
 use Rattle.std.specs.Option.{is_some}
 use Rattle.bucket_page.specs.declared.layout.TheConstants.{RECORD_HEAD_BYTES, ROOM_BYTES}
 use Rattle.step_rules.specs.declared.kind.TheConstants.{MERGED_BYTES}
-use Rattle.bucket_merge.specs.stale_search.declared.place.SearchPlace.TheVariants.{GrantDirectory}
-use Rattle.bucket_merge.specs.stale_search.Searches.{ask_at}
+use Rattle.split_merge.specs.stale_search.declared.place.SearchPlace.TheVariants.{GrantDirectory}
+use Rattle.split_merge.specs.stale_search.Searches.{ask_at}
 use Rattle.record_file.specs.Words.{RecordKey, pair, contents, RecordWrite, Put, Replace, Remove, Lock, LockKind, Read, Selective, Store, Known, Ask, Turn, SearchView, search_locks, search_facts, found_at, steps_left, on_page}
 use Rattle.record_file.specs.Writers.{Owns, seen_of}
 use Rattle.record_file.specs.declared.bucket_access.BucketStage.{BucketStage}

@@ -1,9 +1,9 @@
 -- A find within one bucket that is made in one go: its states on the way. docs/STEPS.md, "Search".
 use Rattle.std.specs.Prelude.{ℕ, false, List, [], ◌∷◌, ◌++◌, Option}
-use Rattle.bucket_merge.specs.file_pages.declared.fault.FileFault.{FileFault}
-use Rattle.bucket_merge.specs.stale_search.SearchRuns.{At, at, standing, search_at, way_to}
-use Rattle.bucket_merge.specs.stale_search.declared.place.SearchPlace.{SearchPlace}
-use Rattle.bucket_merge.specs.stale_search.declared.place.SearchPlace.TheVariants.{Found}
+use Rattle.split_merge.specs.file_pages.declared.fault.FileFault.{FileFault}
+use Rattle.split_merge.specs.stale_search.SearchRuns.{At, at, standing, search_at, way_to}
+use Rattle.split_merge.specs.stale_search.declared.place.SearchPlace.{SearchPlace}
+use Rattle.split_merge.specs.stale_search.declared.place.SearchPlace.TheVariants.{Found}
 use Rattle.step_rules.specs.Runs.{Stop, stop, stops_in}
 use Rattle.record_file.specs.Words.{Progress, Release, store_of}
 use Rattle.record_file.specs.BucketAccesses.{BucketView, bucket_locks}

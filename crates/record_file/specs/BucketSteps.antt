@@ -2,9 +2,9 @@
 use Rattle.std.specs.Prelude.{ℕ, ◌≡◌, ◌↔◌, Bool, true, false, not, IsTrue, List, Option, None, IsSome, ⊤}
 use Rattle.step_rules.specs.Turns.{LacksRoom}
 use Rattle.step_rules.specs.Rooms.{TurnsAway}
-use Rattle.bucket_merge.specs.file_pages.declared.fault.FileFault.{FileFault}
-use Rattle.bucket_merge.specs.stale_search.Searches.{KeepsAim}
-use Rattle.bucket_merge.specs.stale_search.Steps.{FollowsRow}
+use Rattle.split_merge.specs.file_pages.declared.fault.FileFault.{FileFault}
+use Rattle.split_merge.specs.stale_search.Searches.{KeepsAim}
+use Rattle.split_merge.specs.stale_search.Steps.{FollowsRow}
 use Rattle.record_file.specs.Words.{RecordKey, pair, PoolState, Table, Lock, Change, row_of, store_of, OnlyWrites, Progress, Moved, Ended, WriteRecord, World, is_fault, HasNoFileLock, Nears, Sees, Stays, Step, world}
 use Rattle.record_file.specs.Machines.{FindsAt}
 use Rattle.record_file.specs.Writers.{TellsNone, TellsSome}

@@ -1,11 +1,11 @@
 -- What a delete holds, knows and asks for at each place: a removal, and then a merge where one is due.
 -- docs/STEPS.md, "Insert, Replace, Delete".
 use Rattle.std.specs.Prelude.{ℕ, ◌≡◌, ◌↔◌, ◌+◌, ◌⊎◌, true, false, List, [], Some, None, ⊤}
-use Rattle.bucket_merge.specs.Places.{MergeView, merge_locks, is_done}
-use Rattle.bucket_merge.specs.Facts.{merge_facts, merge_turn, steps_left as merge_left}
-use Rattle.bucket_merge.specs.declared.place.MergePlace.{MergePlace}
-use Rattle.bucket_merge.specs.declared.place.MergePlace.TheVariants.{Approaching}
-use Rattle.bucket_merge.specs.stale_search.declared.place.ApproachPlace.TheVariants.{GrantDirectory}
+use Rattle.split_merge.specs.Places.{MergeView, merge_locks, is_done}
+use Rattle.split_merge.specs.Facts.{merge_facts, merge_turn, steps_left as merge_left}
+use Rattle.split_merge.specs.declared.merge_place.MergePlace.{MergePlace}
+use Rattle.split_merge.specs.declared.merge_place.MergePlace.TheVariants.{Approaching}
+use Rattle.split_merge.specs.stale_search.declared.place.ApproachPlace.TheVariants.{GrantDirectory}
 use Rattle.record_file.specs.Words.{Remove, Lock, Store, Progress, Ended, Stays, Known, Turn}
 use Rattle.record_file.specs.declared.bucket_access.BucketStage.{BucketStage}
 use Rattle.record_file.specs.declared.bucket_access.BucketStage.TheVariants.{Ended as HasEnded}

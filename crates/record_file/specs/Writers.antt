@@ -1,9 +1,9 @@
 -- What the machines that write a record have in common: a search that locks its pages Selective, what it has then seen
 -- of the page, and what leads on from it. docs/STEPS.md, "Insert, Replace, Delete".
 use Rattle.std.specs.Prelude.{ℕ, ◌≡◌, ◌⊎◌, Bool, true, false, List, [], ◌∷◌, Option, Some, None, IsSome, ⊤}
-use Rattle.bucket_merge.specs.stale_search.declared.place.SearchPlace.{SearchPlace}
-use Rattle.bucket_merge.specs.stale_search.declared.place.SearchPlace.TheVariants.{Found}
-use Rattle.bucket_merge.specs.stale_search.Searches.{facts_at}
+use Rattle.split_merge.specs.stale_search.declared.place.SearchPlace.{SearchPlace}
+use Rattle.split_merge.specs.stale_search.declared.place.SearchPlace.TheVariants.{Found}
+use Rattle.split_merge.specs.stale_search.Searches.{facts_at}
 use Rattle.record_file.specs.Words.{RecordKey, Lock, Exclusive, Progress, Moved, WriteRecord, Known, LeadsTo, OnPage, Covering, Having, Lacking, SearchView, guard_of, kind_of}
 
 -- the lock of the record is among those that the seat had before

@@ -5,20 +5,20 @@
 
 ghost use Rattle.std.specs.Prelude.{◌≡◌, ◌-◌, ℕ, List, IfSome, IsSome, Some, None, true};
 ghost use Rattle.page_locks.specs.declared.lock.LockName.{LockName};
-ghost use Rattle.bucket_merge.specs.stale_search.SearchRuns.{HasNoLock, at};
-ghost use Rattle.bucket_merge.specs.stale_search.Searches.{IsShared};
+ghost use Rattle.split_merge.specs.stale_search.SearchRuns.{HasNoLock, at};
+ghost use Rattle.split_merge.specs.stale_search.Searches.{IsShared};
 ghost use Rattle.step_rules.specs.Runs.{MovesAlong};
 ghost use Rattle.record_file.specs.Words.{IsSeat, row_of, IsReady, EndsRow, Moved, Release, Selective, without_lock};
 ghost use Rattle.record_file.specs.BucketAccesses.{SuitsKind, begun_access, bucket_locks, ended_in, found_of, has_ended, has_room, is_due, kind_for};
 ghost use Rattle.record_file.specs.BucketRuns.{BucketStep, bucket_found, bucket_stops};
 ghost use Rattle.record_file.specs.BucketSteps.{MakesBucket};
 
-use bucket_merge::buffer_pool::Pool;
-use bucket_merge::file_pages::{FileFault, put_record, read_bucket, remove_record, replace_front};
-use bucket_merge::stale_search::{Search, SearchPlace};
 use bucket_page::{RECORD_HEAD_BYTES, ROOM_BYTES, RecordKey};
 use page_device::PageDevice;
 use page_locks::{LockKind, LockName, LockTable};
+use split_merge::buffer_pool::Pool;
+use split_merge::file_pages::{FileFault, put_record, read_bucket, remove_record, replace_front};
+use split_merge::stale_search::{Search, SearchPlace};
 use std::marker::Model;
 use std::mem::size_of;
 use step_rules::{Kind, MERGED_BYTES, Progress};

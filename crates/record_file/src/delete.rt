@@ -1,10 +1,10 @@
 //! A record that is deleted.
 
 ghost use Rattle.std.specs.Prelude.{◌≡◌, ◌↔◌, ℕ, List, Option, true, false};
-ghost use Rattle.bucket_merge.specs.Steps.{TurnsAwayAt};
-ghost use Rattle.bucket_merge.specs.stale_search.declared.place.ApproachPlace.{ApproachPlace};
-ghost use Rattle.bucket_merge.specs.stale_search.declared.place.SearchPlace.{SearchPlace};
-ghost use Rattle.bucket_merge.specs.declared.place.MergePlace.{MergePlace};
+ghost use Rattle.split_merge.specs.Steps.{TurnsAwayAt};
+ghost use Rattle.split_merge.specs.stale_search.declared.place.ApproachPlace.{ApproachPlace};
+ghost use Rattle.split_merge.specs.stale_search.declared.place.SearchPlace.{SearchPlace};
+ghost use Rattle.split_merge.specs.declared.merge_place.MergePlace.{MergePlace};
 ghost use Rattle.record_file.specs.declared.bucket_access.BucketStage.{BucketStage};
 ghost use Rattle.record_file.specs.Words.{RecordKey, Lock, IsSeat, row_of, with_row, IsReady, Change, WritesOrSpares, Selective, is_fault, Sees, Step, world, EndsRow, HasNoFileLock, Nears, store_of};
 ghost use Rattle.record_file.specs.Machines.{FindsAt};
@@ -14,12 +14,12 @@ ghost use Rattle.record_file.specs.BucketSteps.{TurnsAwayIn};
 ghost use Rattle.record_file.specs.Deletes.{IsOver, KeepsDelete, delete_facts, delete_left, delete_locks, delete_turn};
 
 use crate::bucket_access::{BucketAccess, Deed};
-use bucket_merge::buffer_pool::Pool;
-use bucket_merge::file_pages::FileFault;
-use bucket_merge::{Merge, MergePlace};
 use bucket_page::RecordKey;
 use page_device::PageDevice;
 use page_locks::LockTable;
+use split_merge::buffer_pool::Pool;
+use split_merge::file_pages::FileFault;
+use split_merge::{Merge, MergePlace};
 use std::marker::Model;
 use std::mem::size_of;
 use step_rules::Progress;

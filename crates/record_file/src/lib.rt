@@ -1,14 +1,46 @@
 //! Files of records: a new file, and one record found or written in a file that other seats use.
+//!
+//! Inserts in a file of records that other seats use, step by step: a bucket that has no room for
+//! the record is split.
+//!
+//! One operation on one record of a file that other seats use, whichever it is: found,
+//! inserted, replaced or deleted.
+//!
+//! One access to one record of queues, in the records' own words: what stands at a key is found, or
+//! a record is inserted, replaced, relinked or deleted.
 
 #![tactic(auto)]
 
-// Machines promise the same of a step, each in the words of its own places: docs/DECISIONS.md,
-// "The repository", says why.
-
+mod access;
+mod access_laws;
 mod bucket_access;
 mod delete;
+mod fitting;
+mod insert;
+mod laws;
 mod new_file;
+mod operation;
+mod place;
+mod reading;
+mod second_place;
+mod second_try;
+mod tried;
 
+pub use access::Access;
+pub use access_laws::an_access_begins_right;
 pub use bucket_access::{BucketAccess, BucketStage, Deed, has_room};
 pub use delete::Delete;
+pub use file_pages;
+pub use insert::{Insert, InsertStage};
+pub use laws::an_operation_keeps_what_its_caller_knows;
 pub use new_file::format;
+pub use operation::RecordOperation;
+pub use place::AccessPlace;
+pub use second_place::SecondPlace;
+pub use second_try::SecondTry;
+pub use split_merge::buffer_pool;
+pub use step_rules;
+pub use tried::Tried;
+
+// Machines promise the same of a step, each in the words of its own places: docs/DECISIONS.md,
+// "The repository", says why.

@@ -7,3 +7,8 @@ pub mod QueueLemmas
 pub mod SystemLemmas
 pub mod MessageLemmas
 pub mod OneSystem
+pub mod TestedLemmas
+pub mod ValueLemmas
+pub mod PageLemmas
+pub mod VersionLemmas
+pub mod BucketLemmas

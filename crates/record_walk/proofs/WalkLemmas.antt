@@ -3,7 +3,7 @@ use Rattle.std.proofs.Common.{ℕ, pos, zero, suc, ◌≡◌, ◌+◌, ◌<◌, 
 use Rattle.std.specs.Prelude.{slice_get}
 use Rattle.std.proofs.Math.Seq.{take-suc}
 use Rattle.std.proofs.lemmas.List.{get_or-map, length-map, length-append, take_all}
-use Rattle.limits.specs.declared.TheConstants.{MAX_MESSAGES}
+use Rattle.numbers.specs.declared.limits.TheConstants.{MAX_MESSAGES}
 use Rattle.record_walk.proofs.LinkLemmas.{place_is}
 use Rattle.record_walk.specs.Held.{Holds, linked_of}
 use Rattle.record_walk.specs.Systems.{HasQueue}

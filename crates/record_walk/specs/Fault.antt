@@ -1,6 +1,6 @@
 -- The numbers of faults, and which of them say nothing of the records.
 use Rattle.std.specs.Prelude.{ℕ, ⊤, Result, IsErrOf}
-use Rattle.faults.specs.declared.TheConstants.{DEVICE, MALFORMED, NO_MEMORY, NO_SYSTEM}
+use Rattle.numbers.specs.declared.faults.TheConstants.{DEVICE, MALFORMED, NO_MEMORY, NO_SYSTEM}
 use Rattle.page_device.specs.Device.{HasRisen}
 use Rattle.record_walk.specs.Words.{WalkFault}
 use Rattle.record_walk.specs.declared.fault.WalkFault.TheVariants as faults

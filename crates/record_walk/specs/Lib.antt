@@ -4,3 +4,8 @@ pub mod Held
 pub mod Fault
 pub mod Systems
 pub mod Told
+pub mod LookupWords
+pub mod Versions
+pub mod Answers
+pub mod Files
+pub mod Tested

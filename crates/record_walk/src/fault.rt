@@ -3,6 +3,7 @@
 ghost use Rattle.std.specs.Prelude.{◌≡◌};
 ghost use Rattle.record_walk.specs.Fault.{number_of};
 
+use numbers::faults;
 use std::alloc::{AllocError, AllocFailed};
 use thiserror::Error;
 

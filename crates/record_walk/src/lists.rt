@@ -5,7 +5,7 @@ ghost use Rattle.std.specs.List.{AllPairs, Contains, HoldsAt};
 ghost use Rattle.type_chains.specs.Neighbours.{before_place};
 ghost use Rattle.record_walk.specs.Words.{first_of, last_of, serials, types, with_type};
 
-use faults::NoMemory;
+use numbers::faults::NoMemory;
 use queue_model::Messages;
 use std::alloc::Global;
 

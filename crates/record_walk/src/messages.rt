@@ -8,7 +8,7 @@ ghost use Rattle.record_walk.specs.Told.{IsToldOfWalk};
 
 use crate::fault::WalkFault;
 use crate::records::{MessageLinks, Records};
-use limits::MAX_MESSAGES;
+use numbers::limits::MAX_MESSAGES;
 use queue_model::Messages;
 use std::alloc::Global;
 

@@ -6,7 +6,7 @@ ghost use Rattle.record_walk.specs.Links.{AreTypeLinks, IsAscending, with_front}
 ghost use Rattle.record_walk.specs.Words.{types};
 
 use crate::lists::place_of_type;
-use faults::NoMemory;
+use numbers::faults::NoMemory;
 use queue_model::Messages;
 use std::alloc::Global;
 

@@ -18,7 +18,7 @@ use Rattle.interleavings.specs.interleaving_core.Kernel.{KernelState, call_at}
 use Rattle.interleavings.specs.interleaving_core.Owing.{is_end, is_failure}
 use Rattle.interleavings.specs.interleaving_core.Past.{call_of}
 use Rattle.interleavings.specs.interleaving_core.declared.fault.StepFault.TheVariants as faults
-use Rattle.faults.specs.declared.TheConstants.{BUSY, FAILED}
+use Rattle.numbers.specs.declared.faults.TheConstants.{BUSY, FAILED}
 use Rattle.interleavings.specs.interleaving_core.declared.step.Step.{Step}
 use Rattle.interleavings.specs.interleaving_core.declared.step.Step.TheVariants as steps
 use Rattle.msgq_cli.specs.declared.command.Command.{Command}

@@ -19,7 +19,7 @@ use Rattle.interleavings.proofs.of_interleaving_core.SparedLemmas.{stored_again}
 use Rattle.msgq_cli.specs.Scripts.{Parts, IsSound, caller_of, greatest_seat}
 use Rattle.msgq_cli.specs.declared.line.Line.{Line}
 use Rattle.msgq_cli.specs.declared.line.SeatIds.{SeatIds}
-use Rattle.script_words.specs.Numbers.{IsSeat}
+use Rattle.schedules.specs.Numbers.{IsSeat}
 use Rattle.page_locks.specs.declared.lock_table.TheConstants.{MAX_SEATS}
 use Rattle.replays.specs.Replays.{IsOpenedForSeats, callers_of}
 

@@ -1,6 +1,6 @@
 -- What events do: a line is begun, a step is made, the system is stopped. docs/SCRIPTS.md, "Schedules".
 use Rattle.std.specs.Prelude.{ℕ, zero, suc, ◌≡◌, ◌≢◌, ◌≤◌, ◌⊎◌, false, List, [], ◌∷◌, Option, Some, None, slice_get, ⊤}
-use Rattle.faults.specs.declared.TheConstants.{NO_MEMORY}
+use Rattle.numbers.specs.declared.faults.TheConstants.{NO_MEMORY}
 use Rattle.queue_model.specs.declared.call.Call.{Call}
 use Rattle.step_rules.specs.declared.kind.Kind.{Kind}
 use Rattle.bucket_page.specs.Pseudokeys.{sha_key}

@@ -5,3 +5,11 @@ pub mod Journal
 pub mod PlainLists
 pub mod Replays
 pub mod Texts
+pub mod Telling
+pub mod Taking
+pub mod Runs
+pub mod Serves
+pub mod Lines
+pub mod Desks
+pub mod Printing
+pub mod Beside

@@ -3,7 +3,7 @@
 use Rattle.std.specs.Prelude.{ℕ, zero, suc, ◌≡◌, ◌↔◌, ◌⊎◌, ◌≤◌, Bool, true, false, List, [], ◌∷◌, ◌++◌, ◌&&◌, not, IsTrue, Option, Some, None, if◌then◌else◌, length}
 use Rattle.std.specs.Bool.{then_some}
 use Rattle.std.specs.List.{list_any}
-use Rattle.faults.specs.declared.TheConstants.{BUSY, DEVICE, FAILED, NO_MEMORY}
+use Rattle.numbers.specs.declared.faults.TheConstants.{BUSY, DEVICE, FAILED, NO_MEMORY}
 use Rattle.queue_model.specs.declared.caller.Caller.{Caller}
 use Rattle.bucket_page.specs.Pseudokeys.{sha_key}
 use Rattle.bucket_page.specs.declared.pseudokey.ShaKey.{ShaKey}

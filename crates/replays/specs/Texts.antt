@@ -1,7 +1,7 @@
 -- What comes of a script and a schedule that are given as texts, on the pages of a device. docs/SCRIPTS.md, "Runs" and
 -- "Schedules".
 use Rattle.std.specs.Prelude.{ℕ, ◌≡◌, ◌≢◌, ◌⊎◌, ◌≤◌, Bool, false, IsTrue, List, length, Result, Ok, Err}
-use Rattle.faults.specs.declared.TheConstants.{NO_MEMORY}
+use Rattle.numbers.specs.declared.faults.TheConstants.{NO_MEMORY}
 use Rattle.bucket_page.specs.Pseudokeys.{sha_key}
 use Rattle.page_device.specs.Device.{HasRisen}
 use Rattle.interleavings.specs.interleaving_core.Beginning.{MayRefuseUnchecked}

@@ -13,6 +13,7 @@ use interleavings::{
     a_refining_kernel_answers_as_plain_lists, a_refining_kernel_closes_on_its_file, events_refine,
 };
 use msgq_cli::{Ending, Output, Stage, fail};
+use numbers::faults;
 use page_device::PageDevice;
 use schedules::Event;
 use std::io::Write;

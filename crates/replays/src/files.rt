@@ -2,11 +2,12 @@
 
 use crate::ending::Ran;
 use crate::texts::{Texts, refuse_schedule, replay_on};
-use faults::BUSY;
 use msgq_cli::{
     Ending, Failure, Output, Plain, STANDARD_INPUT, complain, complain_of_fault, complain_of_lines,
     complain_of_refused, leave_unopened, read_file, read_fullness, read_script, refuse, unread,
 };
+use numbers::faults;
+use numbers::faults::BUSY;
 use rollback_journal::safe_device::SafeDevice;
 use rollback_journal::{Opening, SystemPair, open_in_turn};
 use schedules::read_schedule;

@@ -11,6 +11,7 @@ use crate::opening::FileKeys;
 use crate::progress::Progress;
 use interleavings::interleaving_core::Kernel;
 use msgq_cli::{Command, Line, Reply};
+use numbers::faults;
 use page_device::PageDevice;
 use page_locks::LockTable;
 use queue_model::Call;

@@ -12,10 +12,9 @@ ghost use Rattle.replays.specs.Replays.{IsOpenedFor, IsOpenedForSeats, callers_o
 
 use crate::progress::Progress;
 use crate::replay::Replay;
-use bucket_page::ShaKey;
+use bucket_page::{KeptKeys, ShaKey};
 use interleavings::an_opened_kernel_refines;
 use interleavings::interleaving_core::{FRAMES_BESIDE, Kernel, OpenFault};
-use kept_keys::KeptKeys;
 use msgq_cli::{Ending, Output, Script, Stage, fail, print_fault};
 use page_device::PageDevice;
 use queue_model::{Caller, NoMemory};

@@ -8,6 +8,7 @@ use crate::ending::{Ran, run};
 use crate::onlooker::Trace;
 use crate::opening::{leave_refused, open};
 use msgq_cli::{Ending, Output, Stage, complain_of, fail, print_word, read_script, refuse};
+use numbers::faults;
 use page_device::PageDevice;
 use schedules::{Expected, ScheduleError, read_schedule, word_at};
 use std::alloc::Global;

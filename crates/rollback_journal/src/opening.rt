@@ -2,6 +2,7 @@
 
 use crate::holder::{Holder, holder_of};
 use crate::system_pair::{Refused, SystemPair};
+use numbers::faults;
 use safe_device::page_device::{PAGE_BYTES, unseal};
 use safe_device::{PagePair, RecoveryFault, SafeDevice, recover};
 use std::alloc::AllocError;

@@ -6,8 +6,8 @@ use Rattle.std.specs.List.{find, position}
 use Rattle.std.specs.Str.{bytes_eq}
 use Rattle.step_rules.specs.declared.kind.Kind.{Kind}
 use Rattle.step_rules.specs.Kinds.{name_of}
-use Rattle.script_words.specs.Numbers.{number_of, seat_of}
-use Rattle.script_words.specs.Reading.{◌>>=◌}
+use Rattle.schedules.specs.Numbers.{number_of, seat_of}
+use Rattle.schedules.specs.Reading.{◌>>=◌}
 use Rattle.schedules.specs.declared.event.Event.{Event}
 use Rattle.schedules.specs.declared.event.Event.TheVariants.{Steps, Drive, Until, Stop}
 use Rattle.schedules.specs.declared.event.TheConstants.{MAX_COUNT}

@@ -3,7 +3,7 @@
 ghost use Rattle.std.specs.Prelude.{◌≡◌, ℕ, IfOk, Ok, Err};
 ghost use Rattle.schedules.specs.declared.schedule.ScheduleError.TheVariants.{WrongWord};
 ghost use Rattle.schedules.specs.Schedules.{schedule_of, schedule_words};
-ghost use Rattle.script_words.specs.Words.{texts};
+ghost use Rattle.schedules.specs.Words.{texts};
 
 use crate::event::{Event, event_in};
 use std::alloc::{AllocError, AllocFailed, Global};

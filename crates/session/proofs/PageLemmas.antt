@@ -20,13 +20,13 @@ use Rattle.hash_file.specs.Chain.{contents}
 use Rattle.hash_file.specs.Sound.{IsExact}
 use Rattle.step_rules.specs.Sound.{IsSoundWorld}
 use Rattle.record_file.specs.Files.{IsNewFile}
-use Rattle.one_bucket_file.specs.Files.{no_queues}
-use Rattle.one_bucket_file.specs.Laws.{NewHasNoQueues}
+use Rattle.interleavings.specs.Files.{no_queues}
+use Rattle.interleavings.specs.NewFileLaws.{NewHasNoQueues}
 use Rattle.interleaving_core.specs.Beginning.{HasSystem, IsOpened}
 use Rattle.interleaving_core.specs.Renewing.{FailsToRead, IsBetweenCalls, IsIdleOrWaits, IsRead, KeepsPages, Reads}
 use Rattle.interleaving_core.specs.xsi_calls.Words.{world}
-use Rattle.lone_kernel.specs.Laws.{ClosesAKernel, OpensAKernel}
-use Rattle.lone_kernel.specs.Words.{Caller, IsFileAtRest, IsFileOf, IsFlushedTo, IsSeat, State, caller_at}
+use Rattle.interleavings.specs.LoneKernelLaws.{ClosesAKernel, OpensAKernel}
+use Rattle.interleavings.specs.LoneKernelWords.{Caller, IsFileAtRest, IsFileOf, IsFlushedTo, IsSeat, State, caller_at}
 use Rattle.session.specs.Session.{AreItsPages, GivesPage, HasFailed, Holds, IsSession, Opens, OpensNew, PageBecomes, PagesAreTheFile, SessionState, caller_of, pages_of}
 use Rattle.session.proofs.SessionLemmas.{KeepsSeat, same_caller, same_saved}
 

@@ -8,14 +8,14 @@ use Rattle.page_device.specs.declared.page.TheConstants.{MAX_PAGES, PAGE_BYTES}
 use Rattle.file_pages.proofs.StoreLemmas.{length-listed}
 use Rattle.file_walk.specs.declared.fault.StructureFault.TheVariants as structure
 use Rattle.record_file.specs.Files.{IsNewFile}
-use Rattle.one_bucket_file.proofs.of_file_check.Today.{file_has_no_fault}
-use Rattle.one_bucket_file.specs.Files.{no_queues}
-use Rattle.one_bucket_file.specs.Laws.{NewHasNoQueues}
+use Rattle.interleavings.proofs.of_file_check.Today.{file_has_no_fault}
+use Rattle.interleavings.specs.Files.{no_queues}
+use Rattle.interleavings.specs.NewFileLaws.{NewHasNoQueues}
 use Rattle.interleaving_core.specs.Beginning.{MayRefuse, MayRefuseUnchecked}
 use Rattle.interleaving_core.specs.Fault.{device_failed}
 use Rattle.interleaving_core.specs.declared.fault.OpenFault.TheVariants.{NoMemory, TooFewFrames, Wrong}
 use Rattle.interleaving_core.specs.file_check.declared.fault.CheckFault.TheVariants.{Structure}
-use Rattle.lone_kernel.specs.Words.{IsFileOf}
+use Rattle.interleavings.specs.LoneKernelWords.{IsFileOf}
 use Rattle.session.specs.Session.{MayNotLoad, MayNotOpen, SessionState, pages_in, unloaded_by}
 use Rattle.session.specs.Words.{NO_MEMORY, OpenFault, open_number_of}
 

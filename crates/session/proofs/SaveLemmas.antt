@@ -8,7 +8,7 @@ use Rattle.buffer_pool.specs.Pool.{IsOnDevice, payloads_of}
 use Rattle.interleaving_core.specs.Renewing.{Flushes, HasFlushed, IsBetweenCalls, IsPage}
 use Rattle.interleaving_core.specs.Words.{TellsChanged}
 use Rattle.interleaving_core.specs.declared.fault.CloseFault.{CloseFault}
-use Rattle.lone_kernel.specs.Words.{State}
+use Rattle.interleavings.specs.LoneKernelWords.{State}
 use Rattle.session.specs.Session.{AreSaved, Holds, NotesSave, SaveBecomes, SessionState, TellsChanges, caller_of, pages_of, saved_of}
 use Rattle.session.proofs.PageLemmas.{images_stay, is_between, still_holds}
 

@@ -19,9 +19,9 @@ use Rattle.interleaving_core.specs.Words.{Entry}
 use Rattle.interleaving_core.specs.declared.fault.BeginFault.TheVariants as begins
 use Rattle.interleaving_core.specs.declared.fault.StepFault.TheVariants as faults
 use Rattle.interleaving_core.specs.declared.step.Step.TheVariants as steps
-use Rattle.lone_kernel.specs.Laws.{AnswersLoneCalls, RefusesAtRest, StandsBehind, StandsDriven, StopsAKernel}
-use Rattle.lone_kernel.specs.Lone.{WaitsOver}
-use Rattle.lone_kernel.specs.Words.{ActiveView, Answer, BeginFault, Call, Caller, HasCall, IsDriven, IsMove, IsRefused, IsSeat, IsStopped, IsWhole, State, Step, call_at, caller_at, with_call}
+use Rattle.interleavings.specs.LoneKernelLaws.{AnswersLoneCalls, RefusesAtRest, StandsBehind, StandsDriven, StopsAKernel}
+use Rattle.interleavings.specs.Lone.{WaitsOver}
+use Rattle.interleavings.specs.LoneKernelWords.{ActiveView, Answer, BeginFault, Call, Caller, HasCall, IsDriven, IsMove, IsRefused, IsSeat, IsStopped, IsWhole, State, Step, call_at, caller_at, with_call}
 use Rattle.session.specs.Session.{Becomes, Calls, Holds, IsSession, IsShortened, SessionState, Stops, came_of, caller_of, is_waiting, saved_of, unanswered_by}
 use Rattle.session.specs.declared.unanswered.Unanswered.{Unanswered}
 use Rattle.session.specs.declared.unanswered.Unanswered.TheVariants.{Waits, NoRoom, NoMemory, Failed}

@@ -10,7 +10,7 @@ use Rattle.page_device.specs.declared.page.TheConstants.{MAX_PAGES, PAGE_BYTES}
 use Rattle.file_pages.specs.Files.{listed}
 use Rattle.queue_model.specs.Journal.{outcome_for}
 use Rattle.file_walk.specs.declared.fault.StructureFault.TheVariants as structure
-use Rattle.one_bucket_file.specs.Files.{no_queues}
+use Rattle.interleavings.specs.Files.{no_queues}
 use Rattle.interleaving_core.specs.Beginning.{MayRefuseUnchecked}
 use Rattle.interleaving_core.specs.Fault.{device_failed}
 use Rattle.interleaving_core.specs.file_check.declared.fault.CheckFault.TheVariants.{Structure}
@@ -20,8 +20,8 @@ use Rattle.interleaving_core.specs.declared.fault.OpenFault.{OpenFault}
 use Rattle.interleaving_core.specs.declared.fault.OpenFault.TheVariants as opens
 use Rattle.interleaving_core.specs.declared.fault.StepFault.TheVariants as faults
 use Rattle.interleaving_core.specs.declared.step.Step.TheVariants as steps
-use Rattle.lone_kernel.specs.Lone.{RestsOver}
-use Rattle.lone_kernel.specs.Words.{Answer, BeginFault, Call, Caller, FoundNoRoom, IsFileOf, IsSeat, KernelState, State, Step, caller_at, restarted}
+use Rattle.interleavings.specs.Lone.{RestsOver}
+use Rattle.interleavings.specs.LoneKernelWords.{Answer, BeginFault, Call, Caller, FoundNoRoom, IsFileOf, IsSeat, KernelState, State, Step, caller_at, restarted}
 use Rattle.session.specs.declared.unanswered.Unanswered.{Unanswered}
 use Rattle.session.specs.declared.unanswered.Unanswered.TheVariants.{Waits, NoRoom, NoMemory, Failed}
 

@@ -2,7 +2,7 @@
 use Rattle.std.specs.Prelude.{ℕ, ◌≤◌}
 use Rattle.bucket_page.specs.directory.declared.layout.TheConstants.{LEAST_PAGES}
 use Rattle.page_device.specs.declared.page.TheConstants.{MAX_PAGES}
-pub use Rattle.page_device.specs.faults.declared.TheConstants.{NO_MEMORY}
+pub use Rattle.page_device.specs.numbers.declared.faults.TheConstants.{NO_MEMORY}
 pub use Rattle.interleaving_core.specs.Fault.{open_number_of}
 pub use Rattle.interleaving_core.specs.declared.fault.OpenFault.{OpenFault}
 

@@ -7,14 +7,12 @@ ghost use Rattle.session.specs.Words.{CanHavePages, NO_MEMORY, open_number_of};
 
 use crate::loading::loaded;
 use crate::unanswered::{Unanswered, came_of, is_waiting};
-use bucket_page::ShaKey;
+use bucket_page::{KeptKeys, ShaKey};
 use interleaving_core::{Kernel, OpenFault};
-use kept_keys::KeptKeys;
-use lone_kernel::{
+use interleavings::{
     a_kernel_at_rest_is_stopped, a_kernel_opens_at_rest, a_lone_call_is_answered_by_the_rules,
-    a_refusal_leaves_a_kernel_at_rest,
+    a_new_file_has_no_queues, a_refusal_leaves_a_kernel_at_rest,
 };
-use one_bucket_file::a_new_file_has_no_queues;
 use page_device::{MemDevice, Page, PageDevice};
 use queue_model::{Answer, Call, Caller};
 use record_file::format;

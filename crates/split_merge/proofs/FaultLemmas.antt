@@ -2,8 +2,8 @@
 use Rattle.std.proofs.Common.{◌≡◌, refl, sym, ap, subst, ℕ, zero, suc, ◌+◌, ◌-◌, ◌^◌, ◌≤◌, ◌<◌, ◌==◌, Bool, true, false, if◌then◌else◌, List, [], ◌∷◌, length, inl, inr, arith, add-one}
 use Rattle.std.proofs.lemmas.Bool.{eq-eqb, ne_eqb}
 use Rattle.std.proofs.Math.Nat.{two-pow-succ}
-use Rattle.positions.specs.Links.{met_from}
-use Rattle.positions.proofs.MemberLaws.{contains_head}
+use Rattle.directory.specs.Links.{met_from}
+use Rattle.directory.proofs.MemberLaws.{contains_head}
 use Rattle.hash_file.specs.Chain.{how_many}
 use Rattle.hash_file.specs.Sound.{IsSoundFile}
 use Rattle.hash_file.specs.Store.{bucket_at, count_at, has_bucket, next_at}

@@ -1,8 +1,8 @@
 -- The first free page, and what was taken of the list.
 use Rattle.std.proofs.Common.{◌≡◌, ◌≢◌, subst, ℕ, ◌≤◌, ◌<◌, List, [], ◌∷◌, length, inl, inr, arith}
 use Rattle.std.specs.List.{Contains}
-use Rattle.positions.proofs.MemberLaws.{contains_head}
-use Rattle.positions.specs.Links.{Links}
+use Rattle.directory.proofs.MemberLaws.{contains_head}
+use Rattle.directory.specs.Links.{Links}
 use Rattle.hash_file.specs.Store.{Store, next_at, IsFreePage}
 use Rattle.hash_file.specs.Sound.{IsSoundFile}
 use Rattle.hash_file.specs.Change.{Quiet}

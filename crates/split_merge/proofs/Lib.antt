@@ -1,3 +1,17 @@
+pub mod MergeNames
+pub mod MergeRowLemmas
+pub mod ArmLemmas
+pub mod BuddyFacts
+pub mod CompareLemmas
+pub mod ApproachLemmas
+pub mod CallerLemmas
+pub mod EntryLemmas
+pub mod MergeFactLemmas
+pub mod MergeFreeLemmas
+pub mod JoinLemmas
+pub mod LockArms
+pub mod LookLemmas
+pub mod MoveLemmas
 pub mod Names
 pub mod PageLemmas
 pub mod StoreLemmas

@@ -17,7 +17,7 @@ pub use Rattle.hash_file.specs.Store.{page_at}
 pub use Rattle.page_locks.specs.Locks.{kind_of}
 pub use Rattle.page_locks.specs.Table.{IsSeat, Table, held, row_of, without_lock}
 pub use Rattle.page_locks.specs.Writers.{may_write}
-pub use Rattle.positions.proofs.MemberLaws.{contains_head}
+pub use Rattle.directory.proofs.MemberLaws.{contains_head}
 pub use Rattle.stale_search.specs.Searches.{HasNoFileLock}
 pub use Rattle.stale_search.specs.Steps.{Sees, Step, world}
 pub use Rattle.stale_search.specs.Words.{store_of}

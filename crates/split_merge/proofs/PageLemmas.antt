@@ -3,7 +3,7 @@ use Rattle.std.proofs.Common.{◌≡◌, ◌⊎◌, refl, sym, ap, subst, ◌∙
 use Rattle.std.proofs.lemmas.Bool.{cases_lt, lt-ltb, le-ltb}
 use Rattle.std.proofs.lemmas.Nat.{pow-add}
 use Rattle.std.proofs.Math.Nat.{div-add-mod, mod-lt, mod-eq_of_lt, mod-le, mul-le-mul_left, mul-suc, pow-le-pow_right, two-pow-succ}
-use Rattle.positions.proofs.RangeLaws.{mod_above, upper_half_valid}
+use Rattle.directory.proofs.RangeLaws.{mod_above, upper_half_valid}
 use Rattle.step_rules.specs.Words.{Store}
 use Rattle.step_rules.specs.Structure.{IsCopiedBefore, IsRetargetedBefore, HasUpperEntry}
 use Rattle.hash_file.specs.Laws.{IsCopied, IsRetargeted}

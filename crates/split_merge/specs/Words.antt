@@ -5,8 +5,8 @@ pub use Rattle.bucket_page.specs.Records.{Pair}
 pub use Rattle.stale_search.specs.buffer_pool.Pool.{PoolState}
 pub use Rattle.directory.specs.declared.layout.TheConstants.{DIRECTORY_PAGES, GREATEST_DEPTH, ROOT_PAGE}
 pub use Rattle.directory.specs.Entries.{page_of}
-pub use Rattle.positions.specs.declared.range.Range.{Range}
-pub use Rattle.positions.specs.Ranges.{IsRange, Covers, upper_half_of}
+pub use Rattle.directory.specs.declared.range.Range.{Range}
+pub use Rattle.directory.specs.Ranges.{IsRange, Covers, upper_half_of}
 pub use Rattle.page_locks.specs.declared.lock.Lock.{Lock}
 pub use Rattle.page_locks.specs.declared.lock.LockKind.TheVariants.{Selective}
 pub use Rattle.page_locks.specs.declared.lock.LockName.TheVariants.{Directory, Page}

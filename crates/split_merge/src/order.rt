@@ -6,7 +6,7 @@ ghost use Rattle.split_merge.specs.Order.{IsPlaced, after_copy, after_retarget, 
 
 use crate::entries::{first_upper, last_upper, stride};
 use crate::place::SplitPlace;
-use positions::Range;
+use directory::Range;
 
 /// The place after TakePage. A bucket that is as deep as the directory needs it doubled.
 pub fn after_take(whole: Range, depth: u8, new: u32) -> SplitPlace

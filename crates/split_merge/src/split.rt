@@ -9,10 +9,9 @@ use crate::order::{after_copy, after_retarget, after_take};
 use crate::place::SplitPlace;
 use crate::wanted::Wanted;
 use bucket_page::PseudoKey;
-use directory::page_of;
+use directory::{Range, index, page_of};
 use page_device::PageDevice;
 use page_locks::{LockName, LockTable};
-use positions::{Range, index};
 use stale_search::buffer_pool::Pool;
 use stale_search::file_pages::{
     BucketSight, FileFault, copy_directory, count_split, raise_depth, retarget, write_new,

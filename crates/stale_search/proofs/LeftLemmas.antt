@@ -2,7 +2,7 @@
 use Rattle.std.proofs.Common.{◌≡◌, ℕ, suc, ◌+◌, ◌*◌, ◌%◌, ◌^◌, ◌<◌, ◌≤◌, false, arith, inl, inr, eqb, eqb-true, if◌then◌else◌}
 use Rattle.std.proofs.lemmas.Bool.{cases_Bool}
 use Rattle.step_rules.specs.Words.{Store, range_at, distance, Answers}
-use Rattle.fields.proofs.Tests.{both_true}
+use Rattle.numbers.proofs.Tests.{both_true}
 use Rattle.file_pages.specs.hash_file.Store.{has_bucket}
 use Rattle.step_rules.specs.Falls.{search_left, ToLook, ToHop}
 use Rattle.stale_search.specs.Searches.{answers_at}

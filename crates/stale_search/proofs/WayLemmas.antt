@@ -3,7 +3,7 @@ use Rattle.std.proofs.Common.{◌≡◌, sym, subst, ℕ, ◌≤◌, ◌<◌, tr
 use Rattle.std.specs.List.{Contains}
 use Rattle.step_rules.specs.Words.{Store, chain, Change, Quiet, Taken, Filled, Linked, Absorbed, Buried, Drained, Freed, owned, PageLeads, IsSoundFile}
 use Rattle.stale_search.specs.Words.{RecordKey, store_of, IsOnWay}
-use Rattle.positions.proofs.MemberLaws.{contains_cases, contains_none}
+use Rattle.directory.proofs.MemberLaws.{contains_cases, contains_none}
 use Rattle.file_pages.specs.bucket_page.declared.page.PageKind.{PageKind}
 use Rattle.file_pages.specs.bucket_page.declared.page.PageKind.TheVariants as kinds
 use Rattle.file_pages.specs.directory.declared.layout.TheConstants.{ROOT_PAGE}

@@ -10,11 +10,11 @@ ghost use Rattle.stale_search.specs.Approaches.{HasApproachRow, IsShallow, Keeps
 ghost use Rattle.stale_search.specs.Approaches.{approach_facts, approach_left, approach_locks, approach_turn};
 
 use crate::place::ApproachPlace;
+use directory::index;
 use file_pages::buffer_pool::Pool;
 use file_pages::page_device::PageDevice;
 use file_pages::{FileFault, read_depth, read_entry};
 use page_locks::{Grant, LockKind, LockName, LockTable};
-use positions::index;
 use std::marker::Model;
 use std::mem::size_of;
 use step_rules::{Kind, Progress};

@@ -15,12 +15,12 @@ ghost use Rattle.stale_search.specs.SearchRuns.{HasNoLock, SearchStep, at, searc
 ghost use Rattle.stale_search.specs.Searches.{search_facts, search_locks, search_turn, left_in};
 
 use crate::place::SearchPlace;
+use directory::index;
 use file_pages::bucket_page::RecordKey;
 use file_pages::buffer_pool::Pool;
 use file_pages::page_device::PageDevice;
 use file_pages::{FileFault, Sight, look, peek, peek_depth, peek_entry, read_depth, read_entry};
 use page_locks::{Grant, LockKind, LockName, LockTable};
-use positions::index;
 use std::marker::Model;
 use std::mem::size_of;
 use step_rules::{Kind, Progress};

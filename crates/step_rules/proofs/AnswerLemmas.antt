@@ -1,7 +1,7 @@
 -- A look may tell what it sees; and a directory that is given back from an exclusive lock is halved.
 use Rattle.std.proofs.Common.{◌≡◌, ◌≢◌, ◌⊎◌, ℕ, List, [], ◌∷◌, Some, refl, sym, ◌∙◌, subst, inl, inr}
 use Rattle.std.proofs.lemmas.Bool.{cases_eq, ne_eqb}
-use Rattle.positions.proofs.MemberLaws.{contains_head, contains_tail}
+use Rattle.directory.proofs.MemberLaws.{contains_head, contains_tail}
 use Rattle.bucket_page.specs.declared.record_key.RecordKey.{RecordKey}
 use Rattle.bucket_page.specs.Records.{lookup}
 use Rattle.page_locks.specs.declared.lock.LockKind.TheVariants.{Exclusive}

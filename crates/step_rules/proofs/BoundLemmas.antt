@@ -1,9 +1,9 @@
 -- How far an entry is from the bucket of a pseudokey, that was found by a depth read before.
 use Rattle.std.proofs.Common.{subst, ◌≡◌, ◌≤◌, ◌+◌, ◌-◌, ◌%◌, ◌^◌, ℕ, suc, Bool, if◌then◌else◌, ap, ◌∙◌, inl, arith}
 use Rattle.step_rules.proofs.Names.{POSITIONS, begun, position_of, start_of}
-use Rattle.positions.proofs.CountLaws.{begun_rises, begun_inside}
-use Rattle.positions.proofs.PositionLaws.{position_truncated}
-use Rattle.positions.proofs.RangeLaws.{covers_truncated}
+use Rattle.directory.proofs.CountLaws.{begun_rises, begun_inside}
+use Rattle.directory.proofs.PositionLaws.{position_truncated}
+use Rattle.directory.proofs.RangeLaws.{covers_truncated}
 use Rattle.bucket_page.specs.declared.record_key.RecordKey.{RecordKey}
 use Rattle.hash_file.specs.Store.{Store, entry_at, has_bucket, range_at, next_at}
 use Rattle.hash_file.specs.Chain.{chain, IsChain, IsBucketOn}

@@ -3,10 +3,10 @@ use Rattle.std.proofs.Common.{◌≡◌, ◌≢◌, ◌≤◌, ◌+◌, ◌-◌,
 use Rattle.std.proofs.lemmas.Bool.{ltb-false}
 use Rattle.std.proofs.lemmas.Nat.{pow_pos}
 use Rattle.std.specs.List.{Contains}
-use Rattle.positions.specs.declared.range.Range.{Range}
-use Rattle.positions.specs.declared.pseudokey.TheConstants.{POSITIONS}
-use Rattle.positions.specs.Ranges.{IsRange, AreHalvesOf, is_lower, parent_of, buddy_of}
-use Rattle.positions.proofs.BuddyLaws.{lower_buddies, upper_buddies, buddy_depth, buddy_is}
+use Rattle.directory.specs.declared.range.Range.{Range}
+use Rattle.directory.specs.declared.pseudokey.TheConstants.{POSITIONS}
+use Rattle.directory.specs.Ranges.{IsRange, AreHalvesOf, is_lower, parent_of, buddy_of}
+use Rattle.directory.proofs.BuddyLaws.{lower_buddies, upper_buddies, buddy_depth, buddy_is}
 use Rattle.bucket_page.specs.declared.record_key.RecordKey.{RecordKey}
 use Rattle.hash_file.specs.Store.{range_at, next_at}
 use Rattle.hash_file.specs.Chain.{chain, IsBucketOf}

@@ -1,7 +1,7 @@
 -- What a seat knows is kept by what another seat's step leaves.
 use Rattle.std.proofs.Common.{◌≡◌, ◌≢◌, ℕ, true, Some, IsSome, List, [], ◌∷◌, sym, ap, ◌∙◌, subst, inl, inr, arith}
 use Rattle.std.proofs.lemmas.Bool.{true≢false}
-use Rattle.positions.specs.Ranges.{Covers}
+use Rattle.directory.specs.Ranges.{Covers}
 use Rattle.bucket_page.specs.declared.page.PageKind.{PageKind}
 use Rattle.bucket_page.specs.Records.{lookup}
 use Rattle.bucket_page.specs.Changes.{HasValueOf}

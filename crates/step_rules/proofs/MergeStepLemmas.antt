@@ -3,7 +3,7 @@
 use Rattle.std.proofs.Common.{◌≢◌, ℕ, [], ◌∷◌, refl, sym, ap, ◌∙◌, subst, inl, inr, arith}
 use Rattle.std.specs.List.{Contains}
 use Rattle.step_rules.proofs.Names.{Directory, Page, Range, RecordKey, held, joined, upper_half_of}
-use Rattle.positions.proofs.MemberLaws.{contains_cases, contains_none}
+use Rattle.directory.proofs.MemberLaws.{contains_cases, contains_none}
 use Rattle.bucket_page.specs.declared.page.PageKind.TheVariants as kinds
 use Rattle.page_locks.specs.Writers.{IsWriter}
 use Rattle.hash_file.specs.Store.{Store, bucket_at}

@@ -5,11 +5,11 @@ pub use Rattle.page_locks.specs.declared.lock.LockKind.{LockKind}
 pub use Rattle.page_locks.specs.declared.lock.LockKind.TheVariants.{Exclusive}
 pub use Rattle.page_locks.specs.declared.lock.LockName.{LockName}
 pub use Rattle.page_locks.specs.declared.lock.LockName.TheVariants.{Directory, Page}
-unfoldable pub use Rattle.positions.specs.Positions.{position_of}
-pub use Rattle.positions.specs.Ranges.{start_of, upper_half_of}
-pub use Rattle.positions.specs.Tiles.{begun}
-pub use Rattle.positions.specs.declared.pseudokey.TheConstants.{POSITIONS}
-pub use Rattle.positions.specs.declared.range.Range.{Range}
+unfoldable pub use Rattle.directory.specs.Positions.{position_of}
+pub use Rattle.directory.specs.Ranges.{start_of, upper_half_of}
+pub use Rattle.directory.specs.Tiles.{begun}
+pub use Rattle.directory.specs.declared.pseudokey.TheConstants.{POSITIONS}
+pub use Rattle.directory.specs.declared.range.Range.{Range}
 pub use Rattle.bucket_page.specs.Bucket.{Bucket}
 pub use Rattle.bucket_page.specs.Dividing.{joined}
 pub use Rattle.bucket_page.specs.Keys.{is_same}

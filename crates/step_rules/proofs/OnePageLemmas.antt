@@ -2,7 +2,7 @@
 use Rattle.std.proofs.Common.{◌≡◌, ◌≢◌, ◌≤◌, ℕ, ◌==◌, slice_index_or, Bool, ◌&&◌, ◌-◌, ◌^◌, if◌then◌else◌, List, length, refl, sym, ap, ◌∙◌, subst, inl, inr, ne_eqb}
 use Rattle.std.proofs.lemmas.Bool.{cases_lt}
 use Rattle.std.proofs.lemmas.List.{get_or_past}
-use Rattle.positions.specs.Ranges.{upper_half_of}
+use Rattle.directory.specs.Ranges.{upper_half_of}
 use Rattle.bucket_page.specs.declared.page.PageKind.TheVariants as kinds
 use Rattle.bucket_page.specs.Bucket.{Bucket}
 use Rattle.bucket_page.specs.Dividing.{lower_half, upper_half, joined}

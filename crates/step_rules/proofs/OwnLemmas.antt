@@ -4,8 +4,8 @@ use Rattle.std.proofs.lemmas.Bool.{cases_eq, true≢false}
 use Rattle.std.proofs.lemmas.Nat.{mod_below, pow_pos}
 use Rattle.std.proofs.Math.Pow.{pow_mono}
 use Rattle.std.specs.List.{Contains}
-use Rattle.positions.proofs.MemberLaws.{contains_cases, contains_head, contains_none, contains_tail}
-use Rattle.positions.proofs.RangeLaws.{covers_truncated}
+use Rattle.directory.proofs.MemberLaws.{contains_cases, contains_head, contains_none, contains_tail}
+use Rattle.directory.proofs.RangeLaws.{covers_truncated}
 use Rattle.step_rules.proofs.Names.{Absorbed, Answers, Buried, Change, Directory, Drained, Filled, Freed, HasNoWriter, HasPhase, IsBucketOf, IsBuried, IsDrained, IsHeld, IsSoundFile, IsSoundWorld, IsWriter, Linked, LockKind, LockName, MayAim, Page, PageLeads, Quiet, RecordKey, Store, Table, Taken, World, aside, busy, chain, entry_at, guard_of, held, is_bucket, lookup, may_write, next_at, page_at, range_at, records_at, row_of, with_lock, with_locks}
 use Rattle.bucket_page.specs.declared.page.PageKind.TheVariants as kinds
 use Rattle.page_locks.proofs.ChangeLemmas.{held-grant}

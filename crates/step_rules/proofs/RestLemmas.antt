@@ -8,7 +8,7 @@ use Rattle.page_locks.specs.Locks.{kind_of}
 use Rattle.page_locks.specs.Table.{Table, held, IsLawful}
 use Rattle.page_locks.specs.Ties.{IsUnheld}
 use Rattle.page_locks.proofs.WriterLemmas.{HasNoWriter-at_rest}
-use Rattle.positions.proofs.MemberLaws.{contains_none}
+use Rattle.directory.proofs.MemberLaws.{contains_none}
 use Rattle.hash_file.specs.Store.{Store}
 use Rattle.hash_file.specs.Change.{Quiet}
 use Rattle.hash_file.specs.Sound.{IsSoundFile}

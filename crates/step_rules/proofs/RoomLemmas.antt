@@ -1,10 +1,10 @@
 -- Where a record has no room it can't be put, nor room be made for it; where a merge is turned away from none is made.
 use Rattle.std.proofs.Common.{◌≡◌, ◌<◌, ◌≤◌, ◌+◌, ◌-◌, ◌^◌, ◌⊎◌, ℕ, suc, List, [], ◌∷◌, Option, Some, length, refl, sym, ap, ◌∙◌, subst, inl, inr, arith}
 use Rattle.std.specs.List.{Contains}
-use Rattle.positions.specs.declared.range.Range.{Range}
-use Rattle.positions.specs.Ranges.{IsRange, Covers, lower_half_of, upper_half_of, buddy_of}
-use Rattle.positions.proofs.MemberLaws.{contains_head, contains_none}
-use Rattle.positions.proofs.RangeLaws.{halved_valid}
+use Rattle.directory.specs.declared.range.Range.{Range}
+use Rattle.directory.specs.Ranges.{IsRange, Covers, lower_half_of, upper_half_of, buddy_of}
+use Rattle.directory.proofs.MemberLaws.{contains_head, contains_none}
+use Rattle.directory.proofs.RangeLaws.{halved_valid}
 use Rattle.std.proofs.lemmas.Bool.{lt-ltb, le-ltb}
 use Rattle.std.proofs.Math.Nat.{mod-eq_of_lt}
 use Rattle.bucket_page.specs.declared.layout.TheConstants.{ROOM_BYTES}

@@ -1,7 +1,7 @@
 -- The steps of a split and of a doubling keep the world sound, and leave the others what they know.
 use Rattle.std.proofs.Common.{◌≡◌, ◌≢◌, ℕ, [], ◌∷◌, refl, subst, inl, inr, arith}
 use Rattle.std.specs.List.{Contains}
-use Rattle.positions.proofs.MemberLaws.{contains_cases, contains_head, contains_none}
+use Rattle.directory.proofs.MemberLaws.{contains_cases, contains_head, contains_none}
 use Rattle.bucket_page.specs.declared.record_key.RecordKey.{RecordKey}
 use Rattle.bucket_page.specs.declared.page.PageKind.TheVariants as kinds
 use Rattle.bucket_page.specs.Dividing.{lower_half, upper_half}

@@ -1,12 +1,12 @@
 -- Facts of the structure are told by all of the file but its records.
 use Rattle.std.proofs.Common.{◌≡◌, ℕ, zero, suc, ◌+◌, ◌-◌, ◌^◌, List, [], ◌∷◌, Bool, if◌then◌else◌, refl, sym, ap, ◌∙◌, subst, inl, inr}
 use Rattle.std.specs.List.{Contains}
-use Rattle.positions.specs.declared.range.Range.{Range}
-use Rattle.positions.specs.Positions.{position_of}
-use Rattle.positions.specs.Ranges.{start_of, Covers}
-use Rattle.positions.specs.Tiles.{begun}
-use Rattle.positions.specs.Links.{met_from}
-use Rattle.positions.proofs.CountLaws.{begun_same}
+use Rattle.directory.specs.declared.range.Range.{Range}
+use Rattle.directory.specs.Positions.{position_of}
+use Rattle.directory.specs.Ranges.{start_of, Covers}
+use Rattle.directory.specs.Tiles.{begun}
+use Rattle.directory.specs.Links.{met_from}
+use Rattle.directory.proofs.CountLaws.{begun_same}
 use Rattle.bucket_page.specs.declared.page.PageKind.{PageKind}
 use Rattle.bucket_page.specs.declared.page.PageKind.TheVariants as kinds
 use Rattle.hash_file.specs.Store.{Store, is_bucket, bucket_of, range_of, page_at, entry_at, has_bucket, range_at, next_at}

@@ -1,7 +1,7 @@
 -- A search among the steps of the others goes on its way, and makes few hops.
 use Rattle.std.proofs.Common.{◌≡◌, ◌≢◌, ◌≤◌, ◌+◌, ◌%◌, ◌^◌, [], ◌∷◌, ◌++◌, ◌&&◌, Bool, true, false, Some, ℕ, suc, refl, sym, ap, ◌∙◌, subst, inr, arith}
 use Rattle.bucket_page.specs.declared.record_key.RecordKey.{RecordKey}
-use Rattle.bucket_page.proofs.of_fields.Tests.{both_true}
+use Rattle.bucket_page.proofs.of_numbers.Tests.{both_true}
 use Rattle.page_locks.specs.Table.{Table, row_of, held, with_lock, without_lock}
 use Rattle.page_locks.specs.Locks.{lock_of}
 use Rattle.page_locks.proofs.ChangeLemmas.{held-grant, IsSeat-with_row}

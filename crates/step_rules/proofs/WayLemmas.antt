@@ -1,6 +1,6 @@
 -- Each kind of step lengthens another seat's way by a hop at most, and most not at all.
 use Rattle.std.proofs.Common.{◌≡◌, ◌≢◌, ◌≤◌, ◌+◌, ℕ, [], ◌∷◌, List, sym, subst, inl, inr, arith}
-use Rattle.positions.specs.Ranges.{upper_half_of}
+use Rattle.directory.specs.Ranges.{upper_half_of}
 use Rattle.bucket_page.specs.declared.record_key.RecordKey.{RecordKey}
 use Rattle.hash_file.specs.Store.{Store, range_at}
 use Rattle.hash_file.specs.Change.{Change, Quiet, Taken, Filled, Linked, Absorbed, Buried, Drained, Freed}

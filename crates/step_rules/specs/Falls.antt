@@ -1,7 +1,7 @@
 -- What each own step of a search, a split or a merge brings nearer to its end, if no other seat steps.
 -- docs/STEPS.md, "Search", "Split" and "Merge".
 use Rattle.std.specs.Prelude.{ℕ, suc, ◌≡◌, ◌<◌, ◌+◌, ◌-◌, ◌*◌, ◌%◌, ◌^◌}
-use Rattle.positions.specs.Ranges.{upper_half_of}
+use Rattle.directory.specs.Ranges.{upper_half_of}
 use Rattle.bucket_page.specs.declared.record_key.RecordKey.{RecordKey}
 use Rattle.hash_file.specs.Store.{Store, bucket_at, entry_at, next_at}
 use Rattle.hash_file.specs.Change.{Change, Quiet, Taken, Filled, Linked, Absorbed, Buried, Drained, Freed}

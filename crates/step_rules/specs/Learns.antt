@@ -2,7 +2,7 @@
 -- docs/STEPS.md, "Search", "Merge" and "What a seat may know".
 use Rattle.std.specs.Prelude.{ℕ, ◌≡◌, ◌≢◌, ◌≤◌, ◌⊎◌, true, false, Some, List}
 use Rattle.std.specs.List.{Contains}
-use Rattle.positions.specs.Ranges.{AreHalvesOf, is_lower, parent_of, buddy_of}
+use Rattle.directory.specs.Ranges.{AreHalvesOf, is_lower, parent_of, buddy_of}
 use Rattle.bucket_page.specs.declared.record_key.RecordKey.{RecordKey}
 use Rattle.bucket_page.specs.Records.{lookup}
 use Rattle.page_locks.specs.declared.lock.LockKind.TheVariants.{Exclusive}

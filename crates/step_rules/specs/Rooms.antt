@@ -2,7 +2,7 @@
 -- "Merge".
 use Rattle.std.specs.Prelude.{ℕ, ◌≡◌, ◌≢◌, ◌<◌, ◌≤◌, ◌+◌, ◌⊎◌, Some, length}
 use Rattle.std.specs.List.{Contains}
-use Rattle.positions.specs.Ranges.{buddy_of}
+use Rattle.directory.specs.Ranges.{buddy_of}
 use Rattle.bucket_page.specs.declared.layout.TheConstants.{ROOM_BYTES}
 use Rattle.bucket_page.specs.declared.record_key.RecordKey.{RecordKey}
 use Rattle.bucket_page.specs.Records.{Pair}

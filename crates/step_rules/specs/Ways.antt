@@ -1,8 +1,8 @@
 -- How much longer another seat's way to its bucket grows by a step.
 -- docs/STEPS.md, "Search".
 use Rattle.std.specs.Prelude.{ℕ, suc, ◌≡◌, ◌≢◌, ◌≤◌, ◌+◌, ◌-◌, ◌%◌, ◌^◌, List, [], ◌∷◌, if◌then◌else◌}
-use Rattle.positions.specs.Positions.{position_of}
-use Rattle.positions.specs.Tiles.{begun}
+use Rattle.directory.specs.Positions.{position_of}
+use Rattle.directory.specs.Tiles.{begun}
 use Rattle.bucket_page.specs.declared.record_key.RecordKey.{RecordKey}
 use Rattle.page_locks.specs.declared.lock.LockName.TheVariants.{Directory}
 use Rattle.hash_file.specs.Store.{Store, entry_at, range_at, next_at}

@@ -4,7 +4,7 @@ use Rattle.std.specs.Prelude.{◌==◌, ◌&&◌}
 use Rattle.std.specs.List.{find}
 use Rattle.std.proofs.lemmas.Bool.{eqb-true}
 use Rattle.queue_records.specs.bucket_page.declared.record_key.RecordKey.{RecordKey}
-use Rattle.queue_records.proofs.of_fields.Tests.{both_true}
+use Rattle.queue_records.proofs.of_numbers.Tests.{both_true}
 use Rattle.queue_model.specs.declared.message.Message.{Message}
 use Rattle.queue_model.specs.declared.queue.Queue.{Queue}
 use Rattle.queue_model.specs.Rules.{has_id, has_key}

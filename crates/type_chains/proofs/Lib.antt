@@ -26,4 +26,4 @@ pub mod FewTypes
 pub mod TypesWith
 pub mod MessagesWith
 pub mod Looked
-pub use Rattle.queue_records.proofs.of_fields
+pub use Rattle.queue_records.proofs.of_numbers

@@ -3,7 +3,7 @@
 use Rattle.std.specs.Prelude.{◌≡◌, ℕ, ◌+◌, ◌==◌, nat_lt, Bool, ◌||◌, Some, None}
 use Rattle.std.specs.List.{find}
 use Rattle.queue_model.specs.declared.answer.QueueInfo.{QueueInfo}
-use Rattle.queue_model.specs.limits.declared.TheConstants.{MAX_MESSAGES, END_OF_SERIALS}
+use Rattle.queue_model.specs.numbers.declared.limits.TheConstants.{MAX_MESSAGES, END_OF_SERIALS}
 use Rattle.queue_model.specs.declared.permissions.Permissions.{Permissions}
 use Rattle.queue_model.specs.declared.queue.Queue.{Queue}
 use Rattle.queue_model.specs.Rules.{has_id, lacks_room, info_of}

@@ -11,8 +11,8 @@ use Rattle.interleaving_core.specs.declared.kernel.TheConstants.{MAX_DECIDED}
 use Rattle.interleavings.specs.Laws.{AnswersAsPlainLists}
 use Rattle.interleavings.specs.Renewing.{FailuresRefine, FlushesRefine, HasItsFile, RenewsRefine, WithdrawsRefine}
 use Rattle.page_device.specs.Device.{HasRisen}
-use Rattle.seat_passes.specs.Rule.{IsChange, moved}
-use Rattle.seat_passes.specs.Views.{calls_in, place_at}
+use Rattle.workers.specs.Rule.{IsChange, moved}
+use Rattle.workers.specs.Views.{calls_in, place_at}
 use Rattle.workers.proofs.CloseLemmas.{journal_is}
 use Rattle.workers.proofs.DeviceLemmas.{device_failed, device_flushed, device_same}
 use Rattle.workers.proofs.HeldLemmas.{nothing_told, place_is, told_none}

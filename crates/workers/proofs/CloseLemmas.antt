@@ -8,7 +8,7 @@ use Rattle.interleaving_core.specs.declared.fault.CloseFault.{CloseFault}
 use Rattle.interleaving_core.specs.declared.fault.CloseFault.TheVariants as closes
 use Rattle.page_device.specs.Device.{HasRisen}
 use Rattle.interleavings.specs.Laws.{AnswersAsPlainLists, ClosesRefine}
-use Rattle.seat_passes.specs.Views.{calls_in, no_place, nobody, place_at}
+use Rattle.workers.specs.Views.{calls_in, no_place, nobody, place_at}
 use Rattle.interleavings.proofs.RisenLemmas.{risen_within}
 use Rattle.interleavings.proofs.ToldLemmas.{risen_since}
 use Rattle.workers.proofs.DeviceLemmas.{stored_is}

@@ -4,7 +4,7 @@ use Rattle.std.specs.Prelude.{filter}
 use Rattle.std.proofs.Math.Path.{fun_ext}
 use Rattle.interleaving_core.proofs.PartLemmas.{AreOf, part_other, part_own}
 use Rattle.queue_model.specs.declared.entry.Entry.TheVariants.{Decided, Stopped}
-use Rattle.seat_passes.specs.Views as passes
+use Rattle.workers.specs.Views as passes
 use Rattle.workers.specs.Entries.{seat_of}
 use Rattle.workers.specs.Words.{Entry, is_of, part_of}
 

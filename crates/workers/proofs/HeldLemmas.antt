@@ -9,9 +9,9 @@ use Rattle.interleaving_core.proofs.PartLemmas.{added_is_of}
 use Rattle.interleavings.specs.Laws.{BeginsRefine, RefusalsRefine, StepsRefine, StepsRefineAndDo}
 use Rattle.interleavings.specs.Words.{IsStep}
 use Rattle.page_locks.proofs.ChangeLemmas.{length-with_row}
-use Rattle.seat_passes.proofs.PartLemmas.{calls_append}
-use Rattle.seat_passes.specs.Rule.{IsChange, IsRight, moved}
-use Rattle.seat_passes.specs.Views.{calls_in, no_place, place_at}
+use Rattle.workers.proofs.PartLemmas.{calls_append}
+use Rattle.workers.specs.Rule.{IsChange, IsRight, moved}
+use Rattle.workers.specs.Views.{calls_in, no_place, place_at}
 use Rattle.workers.proofs.DeviceLemmas.{device_by_turn, device_same}
 use Rattle.workers.proofs.EntryLemmas.{calls_below, calls_own, part_of_other, part_of_own}
 use Rattle.workers.specs.Entries.{seat_of}

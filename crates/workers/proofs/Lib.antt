@@ -1,3 +1,7 @@
+pub mod PartLemmas
+pub mod FitLemmas
+pub mod PassLemmas
+pub mod TieLemmas
 pub mod EntryLemmas
 pub mod WholeLemmas
 pub mod DeviceLemmas

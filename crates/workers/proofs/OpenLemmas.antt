@@ -5,7 +5,7 @@ use Rattle.std.proofs.lemmas.List.{length-replicate}
 use Rattle.atomic_table.specs.Seated.{TableId}
 use Rattle.interleavings.specs.Laws.{OpensRefine}
 use Rattle.interleavings.specs.Words.{HasSystem, MAX_SEATS}
-use Rattle.seat_passes.specs.Views.{calls_in, newcomer, no_place, place_at, with_one_more}
+use Rattle.workers.specs.Views.{calls_in, newcomer, no_place, place_at, with_one_more}
 use Rattle.workers.specs.Entries.{seat_of}
 use Rattle.workers.proofs.DeviceLemmas.{all_spared}
 use Rattle.workers.specs.Held.{IsHeld, IsKept, KeepsDevice, places_from}

@@ -5,7 +5,7 @@ use Rattle.interleaving_core.specs.declared.fault.StepFault.{StepFault}
 use Rattle.interleaving_core.specs.declared.fault.StepFault.TheVariants as faults
 use Rattle.interleaving_core.specs.declared.step.Step.TheVariants as steps
 use Rattle.queue_model.specs.declared.entry.Entry.TheVariants.{Decided}
-use Rattle.seat_passes.specs.Views.{no_place}
+use Rattle.workers.specs.Views.{no_place}
 use Rattle.workers.specs.Told.{HasBegun, IsSeated, IsTakenBack, IsTold, IsUnderWay, Rests, Sitter}
 use Rattle.workers.specs.Words.{Answer, Call, Entry, Step, answer_told, entry_of}
 

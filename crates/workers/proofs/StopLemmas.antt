@@ -3,9 +3,9 @@ use Rattle.std.proofs.Common.{◌≡◌, ℕ, ◌+◌, Bool, true, false, List, 
 use Rattle.buffer_pool.specs.Pool.{PoolState}
 use Rattle.interleavings.specs.Laws.{StopsRefine}
 use Rattle.queue_model.specs.declared.entry.Entry.TheVariants.{Stopped}
-use Rattle.seat_passes.proofs.PartLemmas.{calls_append}
-use Rattle.seat_passes.specs.Rule.{IsChange}
-use Rattle.seat_passes.specs.Views.{calls_in}
+use Rattle.workers.proofs.PartLemmas.{calls_append}
+use Rattle.workers.specs.Rule.{IsChange}
+use Rattle.workers.specs.Views.{calls_in}
 use Rattle.workers.proofs.DeviceLemmas.{device_same}
 use Rattle.workers.proofs.WholeLemmas.{carried}
 use Rattle.workers.specs.Entries.{seat_of}

@@ -5,8 +5,8 @@ use Rattle.page_device.specs.Device.{HasRisen}
 use Rattle.interleaving_core.specs.declared.fault.CloseFault.{CloseFault}
 use Rattle.interleaving_core.specs.declared.fault.CloseFault.TheVariants as closes
 use Rattle.interleaving_core.specs.declared.fault.Failure.{Failure}
-use Rattle.seat_passes.specs.Rule.{IsRight}
-use Rattle.seat_passes.specs.Views.{calls_in, nobody}
+use Rattle.workers.specs.Rule.{IsRight}
+use Rattle.workers.specs.Views.{calls_in, nobody}
 use Rattle.workers.specs.Entries.{seat_of}
 use Rattle.workers.specs.Origins.{IsJournalOf, LeavesFile, Origin}
 use Rattle.workers.specs.Told.{Rests, Sitter}

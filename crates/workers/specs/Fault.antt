@@ -1,6 +1,6 @@
 -- The numbers of faults. docs/FAULTS.md.
 use Rattle.std.specs.Prelude.{ℕ}
-use Rattle.faults.specs.declared.TheConstants.{FAILED, NO_MEMORY, NO_ROOM, SESSION_FULL}
+use Rattle.numbers.specs.declared.faults.TheConstants.{FAILED, NO_MEMORY, NO_ROOM, SESSION_FULL}
 use Rattle.workers.specs.declared.fault.Fault.{Fault}
 use Rattle.workers.specs.declared.fault.Fault.TheVariants as calls
 

@@ -5,7 +5,7 @@ use Rattle.buffer_pool.specs.Pool.{PoolState, spared}
 use Rattle.interleaving_core.specs.declared.fault.CloseFault.{CloseFault}
 use Rattle.interleaving_core.specs.declared.fault.CloseFault.TheVariants as closes
 use Rattle.interleaving_core.specs.declared.kernel.TheConstants.{MAX_DECIDED}
-use Rattle.seat_passes.specs.Views.{calls_in}
+use Rattle.workers.specs.Views.{calls_in}
 use Rattle.workers.specs.Entries.{seat_of}
 use Rattle.workers.specs.Origins.{LeavesFile, Origin}
 use Rattle.workers.specs.Words.{ActiveView, Call, Desk, Entry, RefinesFile, KernelState, Place, RecordKey, call_of, untold}

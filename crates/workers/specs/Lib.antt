@@ -1,3 +1,6 @@
+pub mod Views
+pub mod Rule
+pub mod Names
 pub mod Words
 pub mod Origins
 pub mod Entries

@@ -2,7 +2,7 @@
 use Rattle.std.specs.Prelude.{ℕ, ◌≡◌, ◌≤◌, ◌<◌, true, false, List, ◌++◌, Option, Some, None, ⊤}
 use Rattle.interleaving_core.specs.Owing.{is_end, is_failure}
 use Rattle.interleaving_core.specs.declared.step.Step.TheVariants as steps
-use Rattle.seat_passes.specs.Views.{no_place}
+use Rattle.workers.specs.Views.{no_place}
 use Rattle.workers.specs.Words.{Call, Entry, Sitting, Step, answer_told, entry_of}
 
 abbrev pub Sitter : Type 0

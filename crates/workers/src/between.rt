@@ -3,6 +3,7 @@
 ghost use Rattle.std.specs.Prelude.{◌≡◌, IfErr, IfSome, false};
 ghost use Rattle.workers.specs.Held.{MayNotRenew, Renews, Saves};
 
+use crate::Room;
 use crate::entries::Passes;
 use crate::fault::Fault;
 use crate::gate::Gate;
@@ -15,7 +16,6 @@ use interleavings::{
     a_refining_kernel_answers_as_plain_lists, failures_refine, flushes_refine, renewals_refine,
 };
 use page_device::PageDevice;
-use seat_passes::Room;
 use std::marker::Brand;
 use std::sync::Wait;
 

@@ -5,6 +5,7 @@ ghost use Rattle.std.specs.List.{list_any};
 ghost use Rattle.workers.specs.Closing.{Each, IsBeside, IsEndedWith, IsLetGo, IsToComeBack, remains_of, sits_at};
 ghost use Rattle.workers.specs.Held.{HasRoom};
 
+use crate::Room;
 use crate::entries::{Own, Passes};
 use crate::gate::Gate;
 use crate::held::Held;
@@ -18,7 +19,6 @@ use interleavings::{
 };
 use page_device::PageDevice;
 use queue_model::Entry;
-use seat_passes::Room;
 use std::marker::PhantomData;
 use std::sync::Mutex;
 

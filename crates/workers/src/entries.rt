@@ -1,7 +1,7 @@
 //! Entries of a journal, as passes read them.
 
+use crate::{Gauge, KernelPass, Opened, Recorded, SeatPass};
 use queue_model::{Call, Entry};
-use seat_passes::{Gauge, KernelPass, Opened, Recorded, SeatPass};
 
 /// An entry is of the seat whose call was decided; a stop is of none.
 pub struct Entries;

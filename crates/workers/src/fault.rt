@@ -4,6 +4,7 @@ ghost use Rattle.std.specs.Prelude.{◌≡◌};
 ghost use Rattle.workers.specs.Fault.{number_of};
 
 use interleavings::interleaving_core::StepFault;
+use numbers::faults;
 use thiserror::Error;
 
 /// Why a call is not answered. The seat's list is as it was.

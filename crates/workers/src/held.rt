@@ -4,8 +4,8 @@
 ghost use Rattle.std.specs.Prelude.{◌≡◌, ◌≤◌, ◌++◌, IfOk, IsTrue, OnErr, false, length};
 ghost use Rattle.interleaving_core.specs.Renewing.{Withdraws};
 ghost use Rattle.interleavings.specs.Words.{answer_told, entry_of};
-ghost use Rattle.seat_passes.specs.Rule.{IsChange, IsRight, moved};
-ghost use Rattle.seat_passes.specs.Views.{calls_in, place_at};
+ghost use Rattle.workers.specs.Rule.{IsChange, IsRight, moved};
+ghost use Rattle.workers.specs.Views.{calls_in, place_at};
 ghost use Rattle.workers.specs.Entries.{seat_of};
 ghost use Rattle.workers.specs.Held.{known_of, whole};
 ghost use Rattle.workers.specs.Told.{HasBegun, IsTakenBack, IsTold, Rests, TakesBack};
@@ -14,6 +14,7 @@ use crate::entries::{Own, Passes, Sitter};
 use crate::fault::Fault;
 use crate::naming::Base;
 use crate::sleepers::Sleepers;
+use crate::{Change, Room};
 use bucket_page::PseudoKey;
 use interleavings::interleaving_core::{BeginFault, Kernel, Step};
 use interleavings::{
@@ -23,7 +24,6 @@ use interleavings::{
 use page_device::PageDevice;
 use page_locks::LockName;
 use queue_model::{Call, Entry};
-use seat_passes::{Change, Room};
 use std::marker::{Brand, Model, PhantomData};
 use std::mem;
 use step_rules::Kind;

@@ -1,5 +1,8 @@
 //! Threads over a kernel: each makes its calls at a seat of its own, and what each seat was told is
 //! its part of one legal journal.
+//!
+//! The passes of a kernel, of its seats and of its gauge, and the rule that ties them: each seat's
+//! list is its part of the kernel's journal, and the gauge's word is the number of its calls.
 
 #![tactic(auto)]
 
@@ -9,24 +12,31 @@ mod draft;
 mod entries;
 mod fault;
 mod gate;
+mod gauge;
 mod held;
 mod limit;
 mod naming;
 mod opening;
+mod pass;
+mod rule;
 mod seat;
 mod service;
 mod sleepers;
 mod unanswered;
+mod view;
 mod waits;
 
 pub use closing::{Ended, Ending};
 pub use entries::Entries;
 pub use fault::Fault;
 pub use gate::{Gate, Open};
+pub use gauge::{Gauge, Opened};
 pub use interleavings;
 pub use naming::Base;
 pub use opening::{Prepared, Started};
+pub use pass::{GaugePass, KernelPass, Room, SeatPass};
+pub use rule::{Change, Recorded};
 pub use seat::Seat;
-pub use seat_passes::{GaugePass, Room};
 pub use service::Service;
 pub use unanswered::Unanswered;
+pub use view::{Desk, Place, Sitting, View};

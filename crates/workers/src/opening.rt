@@ -5,7 +5,7 @@ ghost use Rattle.interleavings.specs.interleaving_core.Beginning.{HasSystem, May
 ghost use Rattle.interleavings.specs.interleaving_core.Fault.{device_failed};
 ghost use Rattle.page_device.specs.Device.{HasRisen};
 ghost use Rattle.page_locks.specs.declared.lock_table.TheConstants.{MAX_SEATS};
-ghost use Rattle.seat_passes.specs.Views.{first_desk};
+ghost use Rattle.workers.specs.Views.{first_desk};
 ghost use Rattle.workers.specs.Opening.{HasFrames, IsOpenedOn, dealt_desk, newcomers, origin_of};
 
 use crate::entries::{Own, Passes, Unnamed};
@@ -15,12 +15,12 @@ use crate::naming::Base;
 use crate::seat::Seat;
 use crate::service::Service;
 use crate::sleepers::{Signals, Sleepers};
+use crate::{GaugePass, Room};
 use bucket_page::PseudoKey;
 use interleavings::an_opened_kernel_refines;
 use interleavings::interleaving_core::{Kernel, OpenFault};
 use page_device::PageDevice;
 use queue_model::{Call, Caller, Entry, NoMemory};
-use seat_passes::{GaugePass, Room};
 use std::alloc::Global;
 use std::marker::{Model, PhantomData};
 use std::sync::Mutex;

@@ -2,10 +2,10 @@
 
 ghost use Rattle.std.specs.Prelude.{◌≡◌};
 
+use crate::Room;
 use crate::entries::Sitter;
 use crate::naming::Base;
 use queue_model::Entry;
-use seat_passes::Room;
 use std::marker::Model;
 
 /// A seat of a service: who has it makes one call at a time. Contracts see what it knows, that is

@@ -1,6 +1,7 @@
 //! How the threads of a service wait: for the latch, for a lock, for a call on a queue, and for a
 //! moment between calls.
 
+use crate::Room;
 use crate::gate::Gate;
 use crate::held::Held;
 use crate::naming::Base;
@@ -8,7 +9,6 @@ use crate::service::Service;
 use crate::sleepers::Sleepers;
 use bucket_page::PseudoKey;
 use page_device::PageDevice;
-use seat_passes::Room;
 use std::sync::{Condvar, MutexGuard, Wait};
 use std::thread;
 use std::time::Duration;

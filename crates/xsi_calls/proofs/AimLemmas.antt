@@ -1,7 +1,7 @@
 -- What a call asks for while it searches is what its seat knows.
 use Rattle.std.proofs.Common.{ℕ}
-use Rattle.call_payments.proofs.AimLemmas.{payment_aimed}
-use Rattle.undecided_calls.proofs.AimLemmas.{undecided_aimed}
+use Rattle.xsi_calls.proofs.PaymentAimLemmas.{payment_aimed}
+use Rattle.xsi_calls.proofs.UndecidedAimLemmas.{undecided_aimed}
 use Rattle.step_rules.specs.Searching.{IsAimed}
 use Rattle.xsi_calls.specs.Machine.{CallView, call_facts, call_turn, facts_at, turn_at}
 use Rattle.xsi_calls.specs.Stages.{Stage, Undecided, Paying, Releasing}

@@ -1,7 +1,7 @@
 -- A question of a call that is asked in one go.
 use Rattle.std.proofs.Common.{◌≡◌, ℕ, Bool, true, sym, subst}
-use Rattle.undecided_calls.proofs.of_call_questions.QuestionRunLemmas.{asks_in}
-use Rattle.undecided_calls.specs.UndecidedSteps.{MakesUndecided}
+use Rattle.xsi_calls.proofs.QuestionRunLemmas.{asks_in}
+use Rattle.xsi_calls.specs.UndecidedSteps.{MakesUndecided}
 use Rattle.xsi_calls.proofs.GoLemmas.{asking, at_undecided, goes_on, with_stage}
 use Rattle.xsi_calls.specs.CallSteps.{MakesCall}
 use Rattle.xsi_calls.specs.Machine.{CallView, is_undecided}

@@ -1,10 +1,10 @@
 -- While a payment owes the Counter it has not written it.
 use Rattle.std.proofs.Common.{◌≡◌, refl, ℕ, Bool, true, false, Some, None}
 use Rattle.std.specs.Prelude.{◌==◌, ◌&&◌}
-use Rattle.call_payments.specs.PaySteps.{LeavesPart}
-use Rattle.call_payments.specs.declared.payment.Stage.TheVariants as stages
-use Rattle.undecided_calls.proofs.CounterLemmas.{counter_stands}
-use Rattle.undecided_calls.proofs.PlanLemmas.{HasOneCounter}
+use Rattle.xsi_calls.specs.PaySteps.{LeavesPart}
+use Rattle.xsi_calls.specs.declared.payment.Stage.TheVariants as stages
+use Rattle.xsi_calls.proofs.UndecidedCounterLemmas.{counter_stands}
+use Rattle.xsi_calls.proofs.PlanLemmas.{HasOneCounter}
 use Rattle.xsi_calls.proofs.Names.{is_swept}
 use Rattle.xsi_calls.specs.Below.{counter_key, owes_at}
 use Rattle.xsi_calls.specs.Words.{PaymentStage, Plan, Records, owes_now}

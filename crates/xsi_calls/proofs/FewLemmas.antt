@@ -1,7 +1,7 @@
 -- The names that a call holds are its own at each of its places, and it has few steps left there.
 use Rattle.std.proofs.Common.{ℕ, ◌≤◌, length, arith}
-use Rattle.call_payments.proofs.FewLemmas.{few_paying}
-use Rattle.undecided_calls.proofs.FewLemmas.{few_undecided, undecided_names}
+use Rattle.xsi_calls.proofs.PaymentFewLemmas.{few_paying}
+use Rattle.xsi_calls.proofs.UndecidedFewLemmas.{few_undecided, undecided_names}
 use Rattle.xsi_calls.proofs.Names.{in_order}
 use Rattle.xsi_calls.specs.Stages.{Stage, Undecided, Paying, Releasing}
 use Rattle.xsi_calls.specs.Machine.{left_at}

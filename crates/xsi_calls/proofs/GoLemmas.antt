@@ -1,7 +1,7 @@
 -- A step of what a call asks and tries.
 use Rattle.std.proofs.Common.{◌≡◌, refl, sym, ap, ◌∙◌, subst, ℕ, Bool, true, false, not, Option, Some, None, arith}
 use Rattle.std.proofs.lemmas.Bool.{true≢false}
-use Rattle.undecided_calls.proofs.CounterLemmas.{undecided_none}
+use Rattle.xsi_calls.proofs.UndecidedCounterLemmas.{undecided_none}
 use Rattle.xsi_calls.proofs.Names.{FileFault, nears_with}
 use Rattle.xsi_calls.specs.Stages.{Stage, Undecided, Paying, Releasing}
 use Rattle.xsi_calls.specs.Words.{Blocked, Call, Caller, Change, Ended, Fault, GoesOn, IsUndecided, Moved, NearsOrSpares, OnlyWrites, PoolState, Progress, RecordKey, Records, State, Table, Trials, UndecidedCall, finds_behind, is_fault, store_of, undecided_left, undecided_locks, with_row}

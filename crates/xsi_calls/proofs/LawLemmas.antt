@@ -1,7 +1,7 @@
 -- A call that has just begun.
 use Rattle.std.proofs.Common.{ℕ, ◌≡◌, ◌≤◌, sym, subst, arith}
-use Rattle.undecided_calls.proofs.LawLemmas.{begin_right as begins_undecided, few_searches, receive_untried}
-use Rattle.undecided_calls.specs.Laws.{HaveFewSteps as UndecidedHaveFew}
+use Rattle.xsi_calls.proofs.UndecidedLawLemmas.{begin_right as begins_undecided, few_searches, receive_untried}
+use Rattle.xsi_calls.specs.UndecidedLaws.{HaveFewSteps as UndecidedHaveFew}
 use Rattle.xsi_calls.specs.Stages.{Stage, Undecided}
 use Rattle.xsi_calls.specs.Machine.{CallView, finds_of, left_at}
 use Rattle.xsi_calls.specs.Calling.{IsCalling, IsCallingAt}

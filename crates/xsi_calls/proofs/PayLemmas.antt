@@ -5,10 +5,10 @@ use Rattle.step_rules.specs.Does.{KeepsOthers}
 use Rattle.step_rules.specs.Searching.{WalksTo}
 use Rattle.step_rules.specs.Turns.{TurnsAt, no_ask}
 use Rattle.xsi_calls.proofs.Names.{AccessView, Deed, FileFault, FollowsRow, facts_under, locks_under, next_deed, set_out, turn_under, nears_with, owes_nothing_at_end, row_of-same, with_row-twice}
-use Rattle.call_payments.specs.declared.payment.Stage.TheVariants as stages
+use Rattle.xsi_calls.specs.declared.payment.Stage.TheVariants as stages
 use Rattle.xsi_calls.specs.declared.conclusion.Conclusion.{Conclusion}
 use Rattle.xsi_calls.specs.Stages.{Stage, Paying, Releasing}
-use Rattle.undecided_calls.proofs.PlanLemmas.{plans_have_one_counter}
+use Rattle.xsi_calls.proofs.PlanLemmas.{plans_have_one_counter}
 use Rattle.xsi_calls.proofs.CounterLemmas.{paid_counter}
 use Rattle.xsi_calls.proofs.GoLemmas.{at_end, not_end, with_stage}
 use Rattle.xsi_calls.specs.Words.{AreNames, Blocked, Call, Caller, Change, Ended, Fault, IsPaid, IsPaying, IsSeat, KeepsPayment, Known, Lock, Moved, NearsOrSpares, OnlyWrites, PaymentStage, Pays, Plan, PoolState, Progress, QuestionsView, RecordKey, Records, Sees, State, Store, Table, Turn, UndecidedCall, World, is_fault, its_plan, TrialLacksRoom, trials_of, payment_facts, payment_left, payment_locks, payment_turn, row_of, store_of, with_row, world}

@@ -4,7 +4,7 @@ use Rattle.file_pages.specs.declared.fault.FileFault.{FileFault}
 use Rattle.step_rules.specs.declared.kind.Kind.TheVariants.{Decide}
 use Rattle.xsi_calls.specs.declared.conclusion.Conclusion.{Conclusion}
 use Rattle.xsi_calls.specs.Stages.{Stage, Undecided, Paying, Releasing}
-use Rattle.undecided_calls.specs.Deciding.{IsDecidedIn}
+use Rattle.xsi_calls.specs.Deciding.{IsDecidedIn}
 use Rattle.xsi_calls.specs.Below.{counter_key, owes_at}
 use Rattle.xsi_calls.specs.Words.{Blocked, Call, Change, Ended, Exclusive, Fault, IsBehind, IsReady, IsUndecided, Moved, NearsOrSpares, OnlyWrites, PaymentStage, PoolState, Progress, RecordKey, Records, Settled, State, Step, Table, TrialLacksRoom, UndecidedCall, begun_payment, finds_behind, guard_of, has_no_room, is_fault, is_write, its_plan, kind_of, overlaid, store_of, trials_of, with_row, world}
 use Rattle.xsi_calls.specs.Concluding.{IsRightConclusion, conclusion_by}

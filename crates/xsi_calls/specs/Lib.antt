@@ -1,3 +1,33 @@
+pub mod HeldLaws
+pub mod NameSteps
+pub mod NameTurns
+pub mod WriteWords
+pub mod Dues
+pub mod Views
+pub mod Carrying
+pub mod CarrySteps
+pub mod MakeSteps
+pub mod WriteLaws
+pub mod QuestionWords
+pub mod Answering
+pub mod Agreeing
+pub mod Counting
+pub mod Questions
+pub mod QuestionSteps
+pub mod QuestionLaws
+pub mod QuestionRuns
+pub mod PaymentWords
+pub mod Payments
+pub mod Paying
+pub mod PaySteps
+pub mod PaymentLaws
+pub mod UndecidedWords
+pub mod UndecidedBelow
+pub mod Undecided
+pub mod Knowing
+pub mod UndecidedSteps
+pub mod Deciding
+pub mod UndecidedLaws
 pub mod Words
 pub mod Below
 pub mod Stages
@@ -6,4 +36,5 @@ pub mod Machine
 pub mod Calling
 pub mod CallSteps
 pub mod Laws
-pub use Rattle.undecided_calls.specs as undecided_calls
+pub use Rattle.call_decisions.specs as call_decisions
+pub use Rattle.record_file.specs.stale_search

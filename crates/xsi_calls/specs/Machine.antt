@@ -2,7 +2,7 @@
 use Rattle.std.specs.Prelude.{ℕ, ◌≡◌, ◌+◌, Bool, true, false, List, [], Option, Some, None, length, ⊤}
 use Rattle.queue_model.specs.declared.answer.Answer.{Answer}
 use Rattle.step_rules.specs.Turns.{no_ask}
-use Rattle.call_payments.specs.Laws.{MOST_PAYMENT_STEPS}
+use Rattle.xsi_calls.specs.PaymentLaws.{MOST_PAYMENT_STEPS}
 use Rattle.xsi_calls.specs.declared.conclusion.Conclusion.{Conclusion}
 use Rattle.xsi_calls.specs.Concluding.{answer_in}
 use Rattle.xsi_calls.specs.Stages.{Stage, Undecided, Paying, Releasing}

@@ -12,16 +12,15 @@ mod skipping;
 
 use crate::conclusion::Conclusion;
 use crate::phase::Phase;
+use crate::{Decided, Payment, UndecidedCall};
 use bucket_page::PseudoKey;
 use buffer_pool::Pool;
-use call_payments::Payment;
 use file_pages::FileFault;
 use page_device::PageDevice;
 use page_locks::LockTable;
 use queue_model::{Answer, Call, Caller};
 use std::marker::Model;
 use step_rules::{Kind, Progress};
-use undecided_calls::{Decided, UndecidedCall};
 use xsi_inquiry::{NotASystem, Room};
 
 /// A call of a seat as one machine. It is lent pool, lock table, pseudokeys and the stop mark at

@@ -1,18 +1,68 @@
 //! A call as one machine: it asks, inserts on trial, decides once, writes, and gives its names
 //! back, one step at a time beside others.
+//!
+//! A call up to its Decide: it asks its questions, and tries what it is to insert.
+//!
+//! What a call owes after its decision, paid step by step: the sweep of a Remove, then its writes.
+//!
+//! A call's reading half: it takes the names that it needs, and asks the file its questions one by
+//! one, until it asks nothing more.
+//!
+//! What a call inserts on trial before its decision, and what it writes after it, step by step.
+//!
+//! The names that a call holds, and the step that takes the next one or gives the last back.
 
 #![tactic(auto)]
 
 mod call_machine;
 mod conclusion;
+mod counting;
+mod decided;
+mod deed;
+mod due;
+mod hearing;
+mod held_laws;
 mod laws;
+mod names;
+mod payment;
+mod payment_laws;
 mod phase;
+mod plan;
+mod question;
+mod question_laws;
+mod questions;
+mod ranges;
+mod trials;
+mod turn;
+mod undecided;
+mod undecided_laws;
+mod write_laws;
+mod writes;
 
 pub use call_machine::CallMachine;
-pub use call_payments;
 pub use conclusion::Conclusion;
+pub use decided::Decided;
+pub use deed::Deed;
+pub use due::Due;
+pub use held_laws::{a_turn_is_made_for_the_names, turns_come_to_an_end};
 pub use laws::{
     a_call_begins_few_searches, calls_begin_right, calls_have_few_steps, calls_have_few_steps_left,
     calls_hold_their_names,
 };
-pub use undecided_calls;
+pub use names::HeldNames;
+pub use payment::Payment;
+pub use payment_laws::{
+    a_payment_owes_what_is_held, a_payment_that_is_over_owes_nothing, what_is_decided_is_paid,
+};
+pub use plan::PlanOf;
+pub use question_laws::{
+    a_call_asks_under_its_names, a_call_writes_under_names_that_it_holds, questions_have_few_steps,
+    what_stands_answers_a_question,
+};
+pub use questions::Questions;
+pub use step_rules;
+pub use turn::NameTurn;
+pub use undecided::UndecidedCall;
+pub use undecided_laws::calls_decide_in_few_steps;
+pub use write_laws::{trials_stand_in_order, what_is_decided_is_owed, what_is_due_is_owed};
+pub use writes::CallWrites;

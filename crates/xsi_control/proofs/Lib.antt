@@ -1,3 +1,12 @@
+pub mod DecidingLemmas
+pub mod FindLemmas
+pub mod KeyedLemmas
+pub mod KindLemmas
+pub mod PlaceLemmas
+pub mod RemovingLemmas
+pub mod SweepLemmas
+pub mod SweptLemmas
+pub mod TurnLemmas
 pub mod Names
 pub mod CreatingLemmas
 pub mod MadeLemmas

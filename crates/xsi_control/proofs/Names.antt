@@ -5,7 +5,7 @@ pub use Rattle.xsi_inquiry.proofs.of_type_chains.Limits.{in_range}
 pub use Rattle.xsi_inquiry.proofs.of_type_chains.Tests.{by_guard, mapped}
 pub use Rattle.xsi_inquiry.proofs.DecisionLemmas.{decides_left, decides_refused}
 pub use Rattle.xsi_inquiry.proofs.LeadLemmas.{Fills, IsNew, Misses, MissesRecord, leads_by}
-pub use Rattle.fields.proofs.Tests.{both_true}
+pub use Rattle.numbers.proofs.Tests.{both_true}
 pub use Rattle.queue_model.proofs.EffectLemmas.{Effect-outcome}
 pub use Rattle.queue_model.proofs.ListLemmas.{find-None, position_None}
 pub use Rattle.queue_model.specs.declared.answer.Answer.TheVariants.{Info}

@@ -1,7 +1,7 @@
 -- Words of the crates below, under one name.
 pub use Rattle.queue_records.specs.bucket_page.Keys.{is_same}
 pub use Rattle.queue_records.specs.bucket_page.declared.record_key.RecordKey.{RecordKey}
-pub use Rattle.limits.specs.declared.TheConstants.{END_OF_IDS, MAX_QBYTES, MAX_QUEUES, SUPERUSER}
+pub use Rattle.numbers.specs.declared.limits.TheConstants.{END_OF_IDS, MAX_QBYTES, MAX_QUEUES, SUPERUSER}
 pub use Rattle.page_locks.specs.declared.lock.LockName.{LockName}
 pub use Rattle.queue_model.specs.Access.{is_owner, lacks_access}
 pub use Rattle.queue_model.specs.Lawful.{IsLawful}

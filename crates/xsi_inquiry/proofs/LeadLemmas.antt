@@ -6,7 +6,7 @@ use Rattle.std.proofs.lemmas.Bool.{eqb-true}
 use Rattle.std.proofs.lemmas.List.Elements.{All-nil, All-cons, All-head, All-tail, All-weaker}
 use Rattle.type_chains.specs.bucket_page.declared.record_key.RecordKey.{RecordKey}
 use Rattle.type_chains.specs.bucket_page.Keys.{is_same}
-use Rattle.type_chains.proofs.of_fields.Tests.{both_true}
+use Rattle.type_chains.proofs.of_numbers.Tests.{both_true}
 use Rattle.type_chains.specs.queue_records.declared.record.Record.{Record}
 use Rattle.type_chains.specs.queue_records.declared.record.Record.TheVariants as records
 use Rattle.type_chains.specs.queue_records.declared.links.Link.{Link}

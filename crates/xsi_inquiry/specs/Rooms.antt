@@ -3,7 +3,7 @@
 use Rattle.std.specs.Prelude.{ℕ, ◌≤◌, min, List, length, ⊤}
 use Rattle.queue_model.specs.declared.call.Call.{Call}
 use Rattle.queue_model.specs.declared.call.Call.TheVariants.{Get, Send, Receive, Stat, Set, Remove}
-use Rattle.queue_model.specs.limits.declared.TheConstants.{MAX_BODY}
+use Rattle.queue_model.specs.numbers.declared.limits.TheConstants.{MAX_BODY}
 
 -- the bytes in a room, and as how many it has room for
 pub record Roomful : Type 0 where

@@ -1,6 +1,6 @@
 -- What a sweep asks for while it searches is what its seat knows.
 use Rattle.std.proofs.Common.{Option, Some, None}
-use Rattle.record_access.proofs.AskLemmas.{access_aimed}
+use Rattle.record_file.proofs.AskLemmas.{access_aimed}
 use Rattle.step_rules.specs.Searching.{IsAimed}
 use Rattle.xsi_remove.specs.declared.work.Work.{Work}
 use Rattle.xsi_remove.specs.Sweeps.{sweep_facts, sweep_turn}

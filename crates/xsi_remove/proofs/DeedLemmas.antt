@@ -6,12 +6,12 @@ use Rattle.file_pages.specs.declared.fault.FileFault.{FileFault}
 use Rattle.queue_records.specs.Keys.{guard_of}
 use Rattle.queue_records.specs.declared.message_entry.MessageEntry.{MessageEntry}
 use Rattle.queue_records.specs.declared.record.Record.TheVariants as records
-use Rattle.record_access.specs.AccessSteps.{Faces as FacesAccess, MakesAccess, TellsOf}
-use Rattle.record_access.specs.Purposes.{left_by}
+use Rattle.record_file.specs.AccessSteps.{Faces as FacesAccess, MakesAccess, TellsOf}
+use Rattle.record_file.specs.Purposes.{left_by}
 use Rattle.type_chains.specs.Entries.{message_entry}
 use Rattle.xsi_inquiry.proofs.LeadLemmas.{same_keys}
-use Rattle.xsi_sweep.proofs.TurnLemmas.{turn_read, turn_taken}
-use Rattle.record_access.proofs.OperationLemmas.{others_hold, owns_any}
+use Rattle.xsi_control.proofs.TurnLemmas.{turn_read, turn_taken}
+use Rattle.record_file.proofs.OperationLemmas.{others_hold, owns_any}
 use Rattle.xsi_remove.proofs.LeftLemmas.{guard_is, left_other, left_reading, left_there, same_left, same_purpose, swept_key}
 use Rattle.xsi_remove.specs.declared.work.Deed.{Deed}
 use Rattle.xsi_remove.specs.declared.work.Deed.TheVariants.{Reading, DeletingMessage, DeletingType}

@@ -2,7 +2,7 @@
 use Rattle.std.proofs.Common.{◌≡◌, refl, sym, ap, ◌∙◌, subst, ℕ, inl, inr, IsOk, IsErr, Result}
 use Rattle.file_pages.specs.declared.fault.FileFault.{FileFault}
 use Rattle.file_pages.specs.declared.fault.FileFault.TheVariants.{Failed}
-use Rattle.record_access.specs.AccessSteps.{MakesAccess}
+use Rattle.record_file.specs.AccessSteps.{MakesAccess}
 use Rattle.xsi_remove.specs.declared.work.Work.{Work}
 use Rattle.xsi_remove.specs.Words.{RecordKey, PoolState, Table, Progress, Moved, Fault, Look, AccessView}
 use Rattle.xsi_remove.specs.Works.{Drives, Hears, HearsBy, IsNoMessage, heard_with}

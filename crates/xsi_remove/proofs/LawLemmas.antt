@@ -2,14 +2,14 @@
 use Rattle.std.proofs.Common.{◌≡◌, refl, sym, ap, ◌∙◌, subst, ℕ, ◌≤◌, true, length, Option, Some, None, arith}
 use Rattle.std.proofs.lemmas.Bool.{true≢false}
 use Rattle.std.specs.List.{find}
-use Rattle.owed_records.proofs.DecideLemmas.{none_left as none_stands}
-use Rattle.owed_records.specs.Owing.{without_swept}
+use Rattle.call_decisions.proofs.DecideLemmas.{none_left as none_stands}
+use Rattle.call_decisions.specs.Owing.{without_swept}
 use Rattle.queue_model.specs.Rules.{has_id}
 use Rattle.type_chains.specs.Lists.{serials}
 use Rattle.type_chains.specs.Neighbours.{first_of}
 use Rattle.type_chains.specs.RecordOf.{record_of}
-use Rattle.xsi_sweep.specs.Words.{find-Some, lawful_queue}
-use Rattle.xsi_sweep.proofs.SweepLemmas.{begins_whole}
+use Rattle.xsi_control.specs.RemoveWords.{find-Some, lawful_queue}
+use Rattle.xsi_control.proofs.SweepLemmas.{begins_whole}
 use Rattle.xsi_remove.proofs.NextLemmas.{none_left}
 use Rattle.xsi_remove.specs.Laws.{BeginsRight, EndsSwept}
 use Rattle.xsi_remove.specs.Sweeps.{IsWorking, begun_at, begun_sweep, records_left, sweep_left}

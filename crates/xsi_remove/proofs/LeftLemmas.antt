@@ -5,7 +5,7 @@ use Rattle.std.proofs.lemmas.Bool.Decides.{Decides-eqb, nat_tests}
 use Rattle.bucket_page.specs.Keys.{is_same}
 use Rattle.page_locks.specs.declared.lock.LockName.TheVariants as names
 use Rattle.queue_records.specs.Keys.{guard_of}
-use Rattle.record_access.specs.Purposes.{made}
+use Rattle.record_file.specs.Purposes.{made}
 use Rattle.xsi_remove.specs.declared.work.Deed.{Deed}
 use Rattle.xsi_remove.specs.declared.work.Deed.TheVariants.{Reading, DeletingMessage, DeletingType}
 use Rattle.xsi_remove.specs.Deeds.{message_of, purpose_of}

@@ -8,10 +8,10 @@ use Rattle.queue_model.specs.declared.message.Message.{Message}
 use Rattle.queue_model.specs.Rules.{has_id}
 use Rattle.type_chains.specs.Lists.{serials}
 use Rattle.type_chains.specs.Neighbours.{first_of}
-use Rattle.record_access.proofs.EndLemmas.{ended_written}
+use Rattle.record_file.proofs.EndLemmas.{ended_written}
 use Rattle.xsi_inquiry.specs.Writing.{Plan}
-use Rattle.xsi_sweep.proofs.PlaceLemmas.{first_left}
-use Rattle.xsi_sweep.specs.Turns.{next_by, turn_slots, type_deletion}
+use Rattle.xsi_control.proofs.PlaceLemmas.{first_left}
+use Rattle.xsi_control.specs.Turns.{next_by, turn_slots, type_deletion}
 use Rattle.xsi_remove.proofs.DeedLemmas.{IsDriven}
 use Rattle.xsi_remove.proofs.LeftLemmas.{left_reading}
 use Rattle.xsi_remove.specs.declared.work.Deed.{Deed}

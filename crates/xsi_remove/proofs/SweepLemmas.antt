@@ -3,10 +3,10 @@ use Rattle.std.proofs.Common.{◌≡◌, refl, sym, ap, ◌∙◌, subst, ℕ, �
 use Rattle.std.proofs.lemmas.Bool.{true≢false}
 use Rattle.file_pages.specs.declared.fault.FileFault.{FileFault}
 use Rattle.file_pages.specs.declared.fault.FileFault.TheVariants.{Failed}
-use Rattle.record_access.specs.AccessSteps.{MakesAccess, Rests as RestsAccess}
+use Rattle.record_file.specs.AccessSteps.{MakesAccess, Rests as RestsAccess}
 use Rattle.xsi_remove.proofs.FreshLemmas.{IsFresh, same_in, fresh_led, no_more, nears_with, nears_next, faulted, over_none, fine_of}
 use Rattle.xsi_remove.proofs.DeedLemmas.{IsDriven, driven, faced, hears_well, stepped}
-use Rattle.record_access.proofs.OperationLemmas.{asks_no_write, ended_free, find_writes_none, removes_its}
+use Rattle.record_file.proofs.OperationLemmas.{asks_no_write, ended_free, find_writes_none, removes_its}
 use Rattle.xsi_remove.proofs.LeftLemmas.{swept_key}
 use Rattle.xsi_remove.proofs.NextLemmas.{Follows, follows}
 use Rattle.xsi_remove.specs.declared.work.Deed.{Deed}

@@ -4,7 +4,7 @@ use Rattle.file_pages.specs.declared.fault.FileFault.{FileFault}
 use Rattle.file_pages.specs.declared.fault.FileFault.TheVariants.{Failed}
 use Rattle.queue_records.specs.declared.message_entry.MessageEntry.{MessageEntry}
 use Rattle.queue_records.specs.declared.record.Record.TheVariants as records
-use Rattle.record_access.specs.AccessSteps.{MakesAccess}
+use Rattle.record_file.specs.AccessSteps.{MakesAccess}
 use Rattle.xsi_remove.specs.declared.work.Work.{Work}
 use Rattle.xsi_remove.specs.Words.{RecordKey, PoolState, Table, Progress, Moved, Fault, Look, AccessView, HasFound, access_answer, MessageRead, read_of}
 

@@ -10,13 +10,13 @@ use crate::work::Work;
 use bucket_page::PseudoKey;
 use buffer_pool::Pool;
 use file_pages::FileFault;
-use limits::MAX_MESSAGES;
+use numbers::limits::MAX_MESSAGES;
 use page_device::PageDevice;
 use page_locks::LockTable;
 use std::marker::Model;
 use step_rules::Progress;
+use xsi_control::Turn;
 use xsi_inquiry::Sweep;
-use xsi_sweep::Turn;
 
 /// The sweep of the messages of a queue. It holds no name: whoever drives it holds that of the
 /// queue.

@@ -13,10 +13,10 @@ use file_pages::FileFault;
 use page_device::PageDevice;
 use page_locks::LockTable;
 use queue_records::{message_key, type_key};
-use record_access::Access;
+use record_file::Access;
 use step_rules::{Kind, Progress};
+use xsi_control::{MessageRead, Turn};
 use xsi_inquiry::{NotASystem, Write, message_in};
-use xsi_sweep::{MessageRead, Turn};
 
 /// What is done in a turn, by one access.
 #[derive(Clone, Copy, Debug)]

@@ -6,7 +6,7 @@ use Rattle.queue_model.specs.declared.answer.Answer.TheVariants.{Sent}
 use Rattle.queue_model.specs.declared.call.SendArguments.{SendArguments}
 use Rattle.queue_model.specs.declared.caller.Caller.{Caller}
 use Rattle.queue_model.specs.declared.errno.Errno.TheVariants.{EAGAIN}
-use Rattle.limits.specs.declared.TheConstants.{MAX_BODY}
+use Rattle.numbers.specs.declared.limits.TheConstants.{MAX_BODY}
 use Rattle.queue_model.specs.declared.queue.Queue.{Queue}
 use Rattle.queue_model.specs.Rules.{has_id, lacks_room, outcome_of_send, put_off, refuse, with_message, with_queue}
 use Rattle.queue_model.specs.State.{State}

@@ -2,7 +2,7 @@
 -- docs/STEPS.md, "What a call reads".
 use Rattle.std.specs.Prelude.{◌≡◌, ◌≢◌, ℕ, ◌+◌, ℤ, ◌<ℤ◌, List, ◌∷◌, ◌++◌, length, Option}
 use Rattle.std.specs.List.{All, Contains}
-use Rattle.limits.specs.declared.TheConstants.{MAX_MESSAGES}
+use Rattle.numbers.specs.declared.limits.TheConstants.{MAX_MESSAGES}
 use Rattle.queue_model.specs.declared.queue.Queue.{Queue}
 use Rattle.type_chains.specs.Entries.{type_entry}
 use Rattle.type_chains.specs.Lists.{types}

@@ -1,6 +1,6 @@
 -- Words of the crates below, under one name.
 pub use Rattle.queue_records.specs.bucket_page.declared.record_key.RecordKey.{RecordKey}
-pub use Rattle.limits.specs.declared.TheConstants.{END_OF_SERIALS, MAX_MESSAGES}
+pub use Rattle.numbers.specs.declared.limits.TheConstants.{END_OF_SERIALS, MAX_MESSAGES}
 pub use Rattle.queue_model.specs.Lawful.{IsLawful, IsLawfulMessage, IsLawfulQueue}
 pub use Rattle.queue_model.specs.Rules.{has_id, with_message, with_queue}
 pub use Rattle.queue_model.specs.State.{State}

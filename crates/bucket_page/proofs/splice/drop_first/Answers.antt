@@ -1,5 +1,5 @@
 use Rattle.std.proofs.Common.{◌≡◌, ℕ, ◌-◌, ◌++◌, length, take, ap, ap₂, ◌∙◌, arith}
-use Rattle.directory.specs.fields.Numbers.{zeros}
+use Rattle.directory.specs.numbers.Numbers.{zeros}
 use Rattle.bucket_page.proofs.SpliceLaws.{moved_front}
 use Rattle.bucket_page.proofs.splice.drop_first.Goals as goal
 

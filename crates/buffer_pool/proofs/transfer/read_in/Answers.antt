@@ -2,7 +2,7 @@
 use Rattle.std.proofs.Common.{◌≡◌, ◌∙◌, refl, sym, ap, subst, rules, ℕ, List, [], IsTrue, Option, length, ◌<◌, None, slice_index_or}
 use Rattle.std.proofs.lemmas.Option.{get_or_from_slice_get}
 use Rattle.page_device.specs.Sealed.{payload_of, IsSealed}
-use Rattle.page_forms.specs.Forms.{IsWell}
+use Rattle.buffer_pool.specs.Forms.{IsWell}
 use Rattle.buffer_pool.specs.Table.{Held, IsNext, place_of}
 use Rattle.std.proofs.lemmas.List.{length-set}
 use Rattle.buffer_pool.proofs.FilledLemmas.{roomy_is_empty}

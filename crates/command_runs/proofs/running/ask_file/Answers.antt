@@ -1,7 +1,7 @@
 use Rattle.std.proofs.Common.{inl, inr, refl, arith}
 use Rattle.std.proofs.lemmas.Result.{err_from_is_err_and}
 use Rattle.bucket_page.specs.Pseudokeys.{sha_key}
-use Rattle.lone_kernel.specs.interleaving_core.declared.fault.OpenFault.TheVariants.{NoMemory}
+use Rattle.interleavings.specs.interleaving_core.declared.fault.OpenFault.TheVariants.{NoMemory}
 use Rattle.command_runs.specs.Sessions.{Stands}
 use Rattle.command_runs.proofs.RunLemmas.{other_pages}
 use Rattle.command_runs.proofs.running.ask_file.Goals as goal

@@ -1,7 +1,7 @@
 use Rattle.std.proofs.Common.{◌≡◌, ◌-◌, ◌∙◌, ◌++◌, length, ap, arith}
 use Rattle.page_device.specs.declared.page.TheConstants.{PAYLOAD_BYTES}
 use Rattle.directory.specs.declared.layout.TheConstants.{DIRECTORY, ENTRIES_BYTES, HEAD_BYTES}
-use Rattle.fields.specs.Numbers.{zeros}
+use Rattle.numbers.specs.Numbers.{zeros}
 use Rattle.directory.proofs.PageLaws.{one_byte}
 use Rattle.directory.proofs.page.write_slots.Goals as goal
 

@@ -1,7 +1,7 @@
 use Rattle.std.proofs.Common.{◌≡◌, ◌-◌, ◌∙◌, ◌++◌, length, ap, arith}
 use Rattle.page_device.specs.declared.page.TheConstants.{PAYLOAD_BYTES}
 use Rattle.directory.specs.declared.layout.TheConstants.{HEADER_BYTES}
-use Rattle.fields.specs.Numbers.{zeros}
+use Rattle.numbers.specs.Numbers.{zeros}
 use Rattle.directory.proofs.HeaderLaws.{four_written}
 use Rattle.directory.proofs.write.write.Goals as goal
 

@@ -1,7 +1,7 @@
 -- The ids, then the walk, then the strays: the pages stay, so each speaks of the same file.
 use Rattle.std.proofs.Common.{ℕ, ◌⊎◌, inl, IsTrue, List, sym, subst, ◌∙◌}
 use Rattle.record_walk.specs.Systems.{IsSystemOf}
-use Rattle.file_records.specs.Files.{HasRecords}
+use Rattle.record_walk.specs.Files.{HasRecords}
 use Rattle.file_check.specs.Fault.{IsOfMachineToo}
 use Rattle.file_check.specs.Ids.{HasChain}
 use Rattle.file_check.specs.Strays.{AreNeeded, IsFirstStray}

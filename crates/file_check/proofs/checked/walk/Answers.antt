@@ -2,7 +2,7 @@
 use Rattle.std.proofs.Common.{sym, subst}
 use Rattle.record_walk.specs.Systems.{AreQueueIds, IsSystemOf}
 use Rattle.record_walk.specs.Told.{IsToldOfSystem}
-use Rattle.file_records.specs.Files.{Source, held_on}
+use Rattle.record_walk.specs.Files.{Source, held_on}
 use Rattle.file_check.proofs.WholeLemmas.{is_honest_too, is_honest_back}
 use Rattle.file_check.proofs.checked.walk.Goals as goal
 

@@ -3,7 +3,7 @@ use Rattle.std.proofs.Common.{subst}
 use Rattle.bucket_page.specs.declared.page.PageKind.TheVariants as kinds
 use Rattle.bucket_page.specs.Spelling.{Spells}
 use Rattle.directory.specs.declared.header.Header.{Header}
-use Rattle.buffer_pool.proofs.of_page_forms.FormLemmas.{same_page}
+use Rattle.buffer_pool.proofs.FormLemmas.{same_page}
 use Rattle.file_pages.specs.Files.{store_of}
 use Rattle.file_pages.proofs.HeaderLemmas.{nothing_changed}
 use Rattle.file_pages.proofs.PageLemmas.{fails_to_store, page_stored}

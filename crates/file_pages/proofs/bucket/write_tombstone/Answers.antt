@@ -1,6 +1,6 @@
 -- The page becomes a tombstone.
 use Rattle.bucket_page.specs.declared.page.PageKind.TheVariants as kinds
-use Rattle.buffer_pool.proofs.of_page_forms.FormLemmas.{same_page}
+use Rattle.buffer_pool.proofs.FormLemmas.{same_page}
 use Rattle.file_pages.proofs.PageLemmas.{stored_as}
 use Rattle.file_pages.proofs.bucket.write_tombstone.Goals as goal
 

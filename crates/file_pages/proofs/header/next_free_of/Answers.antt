@@ -2,7 +2,7 @@
 use Rattle.std.proofs.Common.{subst}
 use Rattle.bucket_page.specs.declared.page.PageKind.{PageKind}
 use Rattle.bucket_page.specs.Spelling.{Spells}
-use Rattle.buffer_pool.proofs.of_page_forms.FormLemmas.{free_page}
+use Rattle.buffer_pool.proofs.FormLemmas.{free_page}
 use Rattle.file_pages.proofs.HeaderLemmas.{of_none}
 use Rattle.file_pages.proofs.header.next_free_of.Goals as goal
 

@@ -1,7 +1,7 @@
 -- The header's page becomes the spelling of the header.
 use Rattle.std.proofs.Common.{◌∙◌, ap}
 use Rattle.directory.specs.declared.header.Header.{Header}
-use Rattle.buffer_pool.proofs.of_page_forms.FormLemmas.{header_is, same_header}
+use Rattle.buffer_pool.proofs.FormLemmas.{header_is, same_header}
 use Rattle.hash_file.specs.Changes.{with_header}
 use Rattle.file_pages.specs.Files.{store_of}
 use Rattle.file_pages.proofs.ReadLemmas.{page_there}

@@ -1,9 +1,9 @@
 -- The chain grows page by page, or breaks.
 use Rattle.std.proofs.Common.{◌≡◌, ◌<◌, ◌≤◌, List, ℕ, refl, sym, subst, arith, inr, lit≤}
-use Rattle.positions.specs.declared.pseudokey.TheConstants.{POSITIONS}
-use Rattle.positions.specs.Ranges.{stop_of}
-use Rattle.positions.specs.Tiles.{IsTileAt}
-use Rattle.positions.proofs.RangeLaws.{range_stop}
+use Rattle.directory.specs.declared.pseudokey.TheConstants.{POSITIONS}
+use Rattle.directory.specs.Ranges.{stop_of}
+use Rattle.directory.specs.Tiles.{IsTileAt}
+use Rattle.directory.proofs.RangeLaws.{range_stop}
 use Rattle.file_walk.specs.Walks.{IsChainSoFar}
 use Rattle.file_walk.proofs.ChainLemmas.{further, chain_begun, chain_goes_on, chain_whole, breaks_behind}
 use Rattle.file_walk.proofs.chain.chain_of.Goals as goal

@@ -1,6 +1,6 @@
 -- The pages so far are a chain, up to the position that is reached and the page that is to come.
 use Rattle.std.proofs.Common.{◌≤◌, ◌-◌}
-use Rattle.positions.specs.declared.pseudokey.TheConstants.{POSITIONS}
+use Rattle.directory.specs.declared.pseudokey.TheConstants.{POSITIONS}
 use Rattle.file_walk.specs.Walks.{IsChainSoFar}
 use Rattle.file_walk.proofs.chain.chain_of.Given as goal
 

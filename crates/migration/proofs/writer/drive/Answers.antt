@@ -1,8 +1,8 @@
 -- The seat's row follows the access, which holds nothing once it has ended.
 use Rattle.std.proofs.Common.{◌≡◌, List, [], ◌∷◌, refl, sym, ap, ◌∙◌}
 use Rattle.page_locks.specs.declared.lock.Lock.{Lock}
-use Rattle.record_access.specs.Accesses.{AccessView, access_locks}
-use Rattle.record_access.proofs.OperationLemmas.{ended_free}
+use Rattle.record_file.specs.Accesses.{AccessView, access_locks}
+use Rattle.record_file.proofs.OperationLemmas.{ended_free}
 use Rattle.migration.proofs.AloneLemmas.{ends_row, follows, is_seat}
 use Rattle.migration.proofs.writer.drive.Goals as goal
 

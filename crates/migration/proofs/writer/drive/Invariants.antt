@@ -1,6 +1,6 @@
 -- The seat holds what the access says, and the device stays as honest.
 use Rattle.std.proofs.Common.{◌≡◌, []}
-use Rattle.record_access.specs.Accesses.{access_locks}
+use Rattle.record_file.specs.Accesses.{access_locks}
 use Rattle.migration.specs.Writing.{IsAlone}
 use Rattle.migration.proofs.writer.drive.Given as goal
 

@@ -1,6 +1,6 @@
 -- An insert begins without locks.
 use Rattle.std.proofs.Common.{[], ap}
-use Rattle.record_access.specs.Accesses.{AccessView, access_locks}
+use Rattle.record_file.specs.Accesses.{AccessView, access_locks}
 use Rattle.migration.proofs.writer.insert.Goals as goal
 
 pub drive-requires-clause-begun : goal.drive-requires-clause-begun

@@ -1,6 +1,6 @@
 -- A write begins without locks.
 use Rattle.std.proofs.Common.{[], ap}
-use Rattle.record_access.specs.Accesses.{AccessView, access_locks}
+use Rattle.record_file.specs.Accesses.{AccessView, access_locks}
 use Rattle.migration.proofs.writer.replace.Goals as goal
 
 pub drive-requires-clause-begun : goal.drive-requires-clause-begun

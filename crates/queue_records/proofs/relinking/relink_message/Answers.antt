@@ -1,8 +1,8 @@
 -- The three links stand behind the type and the sender.
 use Rattle.std.proofs.Common.{◌≡◌, ◌∙◌, ◌++◌, length, arith}
 use Rattle.std.proofs.lemmas.List.{length-append}
-use Rattle.bucket_page.specs.fields.Numbers.{four, eight}
-use Rattle.bucket_page.proofs.of_fields.NumberLaws.{length-eight, length-four}
+use Rattle.bucket_page.specs.numbers.Numbers.{four, eight}
+use Rattle.bucket_page.proofs.of_numbers.NumberLaws.{length-eight, length-four}
 use Rattle.queue_records.specs.Fields.{serial_number, type_number}
 use Rattle.queue_records.proofs.RelinkLaws.{three_set}
 use Rattle.queue_records.proofs.relinking.relink_message.Goals as goal

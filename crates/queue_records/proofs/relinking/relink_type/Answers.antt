@@ -1,7 +1,7 @@
 -- The four links are all of the value.
 use Rattle.std.proofs.Common.{◌∙◌, ◌++◌}
 use Rattle.std.specs.Prelude.{unwrap_or}
-use Rattle.bucket_page.specs.fields.Numbers.{eight}
+use Rattle.bucket_page.specs.numbers.Numbers.{eight}
 use Rattle.queue_records.specs.Fields.{type_link_number}
 use Rattle.queue_records.proofs.RelinkLaws.{four_set}
 use Rattle.queue_records.proofs.relinking.relink_type.Goals as goal

@@ -1,9 +1,9 @@
 -- The number is written over the old one alone.
 use Rattle.std.proofs.Common.{◌∙◌, ◌++◌, ℕ, Option, sym, ap}
 use Rattle.std.specs.Prelude.{unwrap_or}
-use Rattle.bucket_page.specs.fields.Numbers.{eight, overwritten}
-use Rattle.bucket_page.proofs.of_fields.NumberLaws.{length-eight}
-use Rattle.bucket_page.proofs.of_fields.WrittenLaws.{written_between}
+use Rattle.bucket_page.specs.numbers.Numbers.{eight, overwritten}
+use Rattle.bucket_page.proofs.of_numbers.NumberLaws.{length-eight}
+use Rattle.bucket_page.proofs.of_numbers.WrittenLaws.{written_between}
 use Rattle.queue_records.proofs.relinking.set_number.Goals as goal
 
 pub returns-clause-set : goal.returns-clause-set

@@ -1,6 +1,6 @@
 -- The messages so far are the first of each queue that is walked, and the serial to come is that of the next.
 use Rattle.std.proofs.Common.{◌≡◌, ◌-◌, ◌≤◌, IsTrue, length}
-use Rattle.limits.specs.declared.TheConstants.{MAX_MESSAGES}
+use Rattle.numbers.specs.declared.limits.TheConstants.{MAX_MESSAGES}
 use Rattle.record_walk.specs.Held.{AreLinked, IsStill}
 use Rattle.record_walk.specs.Systems.{HasQueue}
 use Rattle.record_walk.specs.Words.{Queue, first_of, serials}

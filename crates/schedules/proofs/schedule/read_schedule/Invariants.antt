@@ -1,6 +1,6 @@
 use Rattle.std.proofs.Common.{◌≡◌, ◌+◌}
 use Rattle.std.specs.Prelude.{drop}
-use Rattle.script_words.specs.Words.{texts}
+use Rattle.schedules.specs.Words.{texts}
 use Rattle.schedules.specs.Schedules.{schedule_from, schedule_of}
 use Rattle.schedules.proofs.schedule.read_schedule.Given as goal
 

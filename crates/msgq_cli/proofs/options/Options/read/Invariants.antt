@@ -1,6 +1,6 @@
 use Rattle.std.specs.Prelude.{◌≡◌, drop}
 use Rattle.msgq_cli.specs.Options.{no_options, options_after}
-use Rattle.script_words.specs.Words.{texts}
+use Rattle.schedules.specs.Words.{texts}
 use Rattle.msgq_cli.proofs.options.Options.read.Given as goal
 
 -- what the words that are left make of the options so far is what all of them say

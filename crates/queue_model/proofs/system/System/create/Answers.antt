@@ -1,6 +1,6 @@
 use Rattle.std.proofs.Common.{length, sym, ap, ◌∙◌}
 use Rattle.std.specs.Prelude.{◌≢◌}
-use Rattle.limits.specs.declared.TheConstants.{MAX_QUEUES}
+use Rattle.numbers.specs.declared.limits.TheConstants.{MAX_QUEUES}
 use Rattle.queue_model.specs.State.{State}
 use Rattle.queue_model.proofs.LawfulLemmas.{IsLawful-create}
 use Rattle.queue_model.proofs.system.System.create.Goals as goal

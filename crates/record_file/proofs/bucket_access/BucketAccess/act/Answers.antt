@@ -1,6 +1,6 @@
 -- The deed is done, or the page is given back where it can't be.
 use Rattle.std.proofs.Common.{◌≡◌, refl, ◌∙◌, ap, ℕ, false, Option, Some, None}
-use Rattle.bucket_merge.proofs.MoveLemmas.{nothing_read}
+use Rattle.split_merge.proofs.MoveLemmas.{nothing_read}
 use Rattle.record_file.specs.Words.{found_at}
 use Rattle.record_file.specs.declared.bucket_access.Deed.TheVariants as deeds
 use Rattle.record_file.proofs.StepLemmas.{as_searching, gave_unwritten}

@@ -1,8 +1,8 @@
 -- The record is put, or the page is given back where there is no room for it.
 use Rattle.std.proofs.Common.{◌≡◌, sym, ap, ◌∙◌, subst, ℕ, ◌+◌, ◌≤◌, ◌<◌, true, false, refl, Some, None, length}
 use Rattle.bucket_page.specs.declared.layout.TheConstants.{RECORD_HEAD_BYTES, ROOM_BYTES}
-use Rattle.bucket_merge.specs.file_pages.declared.sight.BucketSight.{BucketSight}
-use Rattle.bucket_merge.proofs.MoveLemmas.{read_only}
+use Rattle.split_merge.specs.file_pages.declared.sight.BucketSight.{BucketSight}
+use Rattle.split_merge.proofs.MoveLemmas.{read_only}
 use Rattle.hash_file.specs.Changes.{write_record}
 use Rattle.record_file.specs.Words.{Put, pair, found_at}
 use Rattle.record_file.specs.declared.bucket_access.Deed.TheVariants as deeds

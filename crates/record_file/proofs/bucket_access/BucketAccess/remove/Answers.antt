@@ -1,7 +1,7 @@
 -- The record is taken out.
 use Rattle.std.proofs.Common.{◌≡◌, sym, ap, ◌∙◌, subst, ℕ, true, false, refl, Some}
-use Rattle.bucket_merge.specs.file_pages.declared.sight.BucketSight.{BucketSight}
-use Rattle.bucket_merge.proofs.MoveLemmas.{read_only}
+use Rattle.split_merge.specs.file_pages.declared.sight.BucketSight.{BucketSight}
+use Rattle.split_merge.proofs.MoveLemmas.{read_only}
 use Rattle.hash_file.specs.Chain.{IsBucketOf}
 use Rattle.hash_file.specs.Changes.{write_record}
 use Rattle.record_file.specs.Words.{Remove, Selective, found_at, store_of, world}

@@ -1,6 +1,6 @@
 -- The search goes on, the deed is done, the page is given back, or it has ended.
 use Rattle.std.proofs.Common.{refl, sym, ◌∙◌, arith}
-use Rattle.bucket_merge.proofs.MoveLemmas.{nothing_read}
+use Rattle.split_merge.proofs.MoveLemmas.{nothing_read}
 use Rattle.record_file.proofs.StepLemmas.{gave_back, given_no_more, is_over, searches_on}
 use Rattle.record_file.proofs.bucket_access.BucketAccess.step.Goals as goal
 

@@ -1,11 +1,11 @@
 -- The removal goes on, or the merge behind it.
 use Rattle.std.proofs.Common.{◌≡◌, refl, sym, ap, ◌∙◌, subst, ℕ, ◌+◌, Bool, true, false, List, [], Option, Some, None, inl, arith}
-use Rattle.bucket_merge.specs.Places.{merge_locks}
-use Rattle.bucket_merge.specs.Facts.{merge_facts, merge_turn, steps_left as merge_left}
+use Rattle.split_merge.specs.Places.{merge_locks}
+use Rattle.split_merge.specs.Facts.{merge_facts, merge_turn, steps_left as merge_left}
 use Rattle.step_rules.specs.Turns.{Ask}
 use Rattle.record_file.specs.Words.{Remove, Known, Turn, Nears, Sees, Step, with_row, store_of}
 use Rattle.record_file.specs.Deletes.{part}
-use Rattle.bucket_merge.proofs.of_stale_search.StayLemmas.{Stays-of}
+use Rattle.split_merge.proofs.of_stale_search.StayLemmas.{Stays-of}
 use Rattle.record_file.specs.BucketAccesses.{BucketView, ask_in, bucket_facts, bucket_left, bucket_locks, found_of}
 use Rattle.record_file.specs.declared.bucket_access.Deed.TheVariants as deeds
 use Rattle.record_file.proofs.StepLemmas.{fault_spares, leaves_search}

@@ -1,6 +1,6 @@
 -- A step of what it asks and tries, or its Decide behind the last one.
 use Rattle.std.proofs.Common.{◌≡◌, sym, ◌∙◌, subst, true}
-use Rattle.undecided_calls.specs.Words.{AreNames, QuestionsView}
+use Rattle.xsi_calls.specs.UndecidedWords.{AreNames, QuestionsView}
 use Rattle.xsi_calls.proofs.DecidedLemmas.{decides_by, fails_from}
 use Rattle.xsi_calls.proofs.GoLemmas.{goes_from}
 use Rattle.xsi_calls.proofs.PhaseLemmas.{undecided_still}

@@ -1,3 +1,0 @@
-pub mod Anything
-pub mod Asked
-pub mod Words

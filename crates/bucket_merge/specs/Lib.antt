@@ -1,7 +1,0 @@
-pub mod Words
-pub mod Places
-pub mod Facts
-pub mod Steps
-pub use Rattle.stale_search.specs as stale_search
-pub use Rattle.stale_search.specs.buffer_pool
-pub use Rattle.stale_search.specs.file_pages

@@ -1,0 +1,6 @@
+-- What was written spells a page of the directory.
+use Rattle.buffer_pool.proofs.FormLemmas.{directory_well}
+use Rattle.buffer_pool.proofs.file_page.FilePage.copy_upper.Goals as goal
+
+pub invariant_of-self : goal.invariant_of-self
+invariant_of-self c = directory_well _ _ c.copy_upper.ensures.directory

@@ -1,0 +1,6 @@
+-- What was written spells a page.
+use Rattle.buffer_pool.proofs.FormLemmas.{page_well}
+use Rattle.buffer_pool.proofs.file_page.FilePage.lower_half.Goals as goal
+
+pub invariant_of-result : goal.invariant_of-result
+invariant_of-result g c = page_well _ _ c.write_lower_half.ensures

@@ -1,0 +1,171 @@
+//! The inquiry of any call.
+
+use queue_model::{Call, Caller};
+use xsi_control::queue_records::Record;
+use xsi_control::xsi_inquiry::{Decision, Inquiry, NotASystem, Room, Wanted, Write};
+use xsi_control::{GetInquiry, RemoveInquiry, SetInquiry, StatInquiry};
+use xsi_receive::ReceiveInquiry;
+use xsi_send::SendInquiry;
+
+/// The inquiry of a call, by the call's kind. It is lent the call that it began with. Of a call of
+/// another kind it asks nothing, and decides nothing.
+#[derive(Clone, Copy, Debug)]
+pub enum AnyInquiry {
+    /// Of a Get.
+    Get(GetInquiry),
+    /// Of a Send.
+    Send(SendInquiry),
+    /// Of a Receive.
+    Receive(ReceiveInquiry),
+    /// Of a Stat.
+    Stat(StatInquiry),
+    /// Of a Set.
+    Set(SetInquiry),
+    /// Of a Remove.
+    Remove(RemoveInquiry),
+}
+
+const _: () = prove!(size_of::<AnyInquiry>() <= 400);
+
+impl Inquiry for AnyInquiry {
+    ghost use Rattle.call_decisions.specs.Anything.{FollowsOf, KnowsOf, asked_of, caller_of, decided_of, left_of, locked_of, plan_of};
+    ghost use Rattle.call_decisions.specs.Asked.{any_asks, any_asks_given, any_inserts, few_of};
+
+    type Arguments = Call;
+
+    ghost caller = { λ i. caller_of i };
+
+    ghost call = { λ call. call };
+
+    ghost wanted = { λ call i. asked_of call i };
+
+    ghost locked = { λ call i. locked_of call i };
+
+    ghost Knows = { λ call i room s. KnowsOf call i room s };
+
+    ghost Follows = { λ call i j. FollowsOf call i j };
+
+    ghost left = { λ call i. left_of call i };
+
+    ghost decided = { λ call i. decided_of call i };
+
+    ghost plan = { λ call i. plan_of call i };
+
+    ghost asks = { λ call i names s t found covered agrees told.
+        any_asks call i names s t found covered agrees told };
+
+    ghost asks_given = { λ call i names s t given agrees told.
+        any_asks_given call i names s t given agrees told };
+
+    ghost few = { λ call i. few_of call i };
+
+    ghost inserts = { λ call i. any_inserts call i };
+
+    fn begin(by: Caller, call: &Call) -> AnyInquiry {
+        match call {
+            Call::Get(arguments) => AnyInquiry::Get(GetInquiry::begin(by, arguments)),
+            Call::Send(arguments) => AnyInquiry::Send(SendInquiry::begin(by, arguments)),
+            Call::Receive(arguments) => AnyInquiry::Receive(ReceiveInquiry::begin(by, arguments)),
+            Call::Stat { id } => AnyInquiry::Stat(StatInquiry::begin(by, id)),
+            Call::Set(arguments) => AnyInquiry::Set(SetInquiry::begin(by, arguments)),
+            Call::Remove { id } => AnyInquiry::Remove(RemoveInquiry::begin(by, id)),
+        }
+    }
+
+    fn wants(&self, call: &Call) -> Option<Wanted> {
+        match (self, call) {
+            (AnyInquiry::Get(inquiry), Call::Get(arguments)) => inquiry.wants(arguments),
+            (AnyInquiry::Send(inquiry), Call::Send(arguments)) => inquiry.wants(arguments),
+            (AnyInquiry::Receive(inquiry), Call::Receive(arguments)) => inquiry.wants(arguments),
+            (AnyInquiry::Stat(inquiry), Call::Stat { id }) => inquiry.wants(id),
+            (AnyInquiry::Set(inquiry), Call::Set(arguments)) => inquiry.wants(arguments),
+            (AnyInquiry::Remove(inquiry), Call::Remove { id }) => inquiry.wants(id),
+            (_, _) => None,
+        }
+    }
+
+    fn take(
+        &mut self,
+        call: &Call,
+        found: Option<Record<'_>>,
+        room: &mut Room,
+    ) -> Result<(), NotASystem> {
+        match (self, call) {
+            (AnyInquiry::Get(inquiry), Call::Get(arguments)) => inquiry.take(
+                arguments, found, room,
+            ),
+            (AnyInquiry::Send(inquiry), Call::Send(arguments)) => inquiry.take(
+                arguments, found, room,
+            ),
+            (AnyInquiry::Receive(inquiry), Call::Receive(arguments)) => inquiry.take(
+                arguments, found, room,
+            ),
+            (AnyInquiry::Stat(inquiry), Call::Stat { id }) => inquiry.take(id, found, room),
+            (AnyInquiry::Set(inquiry), Call::Set(arguments)) => inquiry.take(
+                arguments, found, room,
+            ),
+            (AnyInquiry::Remove(inquiry), Call::Remove { id }) => inquiry.take(id, found, room),
+            (_, _) => Err(NotASystem),
+        }
+    }
+
+    fn take_given(&mut self, call: &Call, given: bool) -> Result<(), NotASystem> {
+        match (self, call) {
+            (AnyInquiry::Get(inquiry), Call::Get(arguments)) => inquiry.take_given(
+                arguments, given,
+            ),
+            (AnyInquiry::Send(inquiry), Call::Send(arguments)) => inquiry.take_given(
+                arguments, given,
+            ),
+            (AnyInquiry::Receive(inquiry), Call::Receive(arguments)) => inquiry.take_given(
+                arguments, given,
+            ),
+            (AnyInquiry::Stat(inquiry), Call::Stat { id }) => inquiry.take_given(id, given),
+            (AnyInquiry::Set(inquiry), Call::Set(arguments)) => inquiry.take_given(
+                arguments, given,
+            ),
+            (AnyInquiry::Remove(inquiry), Call::Remove { id }) => inquiry.take_given(id, given),
+            (_, _) => Err(NotASystem),
+        }
+    }
+
+    fn decide(&self, call: &Call) -> Result<Decision, NotASystem> {
+        match (self, call) {
+            (AnyInquiry::Get(inquiry), Call::Get(arguments)) => inquiry.decide(arguments),
+            (AnyInquiry::Send(inquiry), Call::Send(arguments)) => inquiry.decide(arguments),
+            (AnyInquiry::Receive(inquiry), Call::Receive(arguments)) => inquiry.decide(arguments),
+            (AnyInquiry::Stat(inquiry), Call::Stat { id }) => inquiry.decide(id),
+            (AnyInquiry::Set(inquiry), Call::Set(arguments)) => inquiry.decide(arguments),
+            (AnyInquiry::Remove(inquiry), Call::Remove { id }) => inquiry.decide(id),
+            (_, _) => Err(NotASystem),
+        }
+    }
+
+    fn trial<'a>(&self, call: &'a Call, place: usize) -> Option<Record<'a>> {
+        match (self, call) {
+            (AnyInquiry::Get(inquiry), Call::Get(arguments)) => inquiry.trial(arguments, place),
+            (AnyInquiry::Send(inquiry), Call::Send(arguments)) => inquiry.trial(arguments, place),
+            (AnyInquiry::Receive(inquiry), Call::Receive(arguments)) => inquiry.trial(
+                arguments, place,
+            ),
+            (AnyInquiry::Stat(inquiry), Call::Stat { id }) => inquiry.trial(id, place),
+            (AnyInquiry::Set(inquiry), Call::Set(arguments)) => inquiry.trial(arguments, place),
+            (AnyInquiry::Remove(inquiry), Call::Remove { id }) => inquiry.trial(id, place),
+            (_, _) => None,
+        }
+    }
+
+    fn write(&self, call: &Call, slot: usize) -> Option<Write> {
+        match (self, call) {
+            (AnyInquiry::Get(inquiry), Call::Get(arguments)) => inquiry.write(arguments, slot),
+            (AnyInquiry::Send(inquiry), Call::Send(arguments)) => inquiry.write(arguments, slot),
+            (AnyInquiry::Receive(inquiry), Call::Receive(arguments)) => inquiry.write(
+                arguments, slot,
+            ),
+            (AnyInquiry::Stat(inquiry), Call::Stat { id }) => inquiry.write(id, slot),
+            (AnyInquiry::Set(inquiry), Call::Set(arguments)) => inquiry.write(arguments, slot),
+            (AnyInquiry::Remove(inquiry), Call::Remove { id }) => inquiry.write(id, slot),
+            (_, _) => None,
+        }
+    }
+}

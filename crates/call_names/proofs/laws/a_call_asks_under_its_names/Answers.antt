@@ -1,5 +1,0 @@
-use Rattle.call_names.proofs.AskLemmas.{ask_under_names}
-use Rattle.call_names.proofs.laws.a_call_asks_under_its_names.Goals as goal
-
-pub returns : goal.returns
-returns c = ask_under_names

@@ -1,5 +1,0 @@
-use Rattle.call_names.proofs.NamesLemmas.{take_in_order}
-use Rattle.call_names.proofs.laws.a_call_takes_names_in_order.Goals as goal
-
-pub returns : goal.returns
-returns c = take_in_order

@@ -1,5 +1,0 @@
-use Rattle.call_names.proofs.WriteLemmas.{write_under_names}
-use Rattle.call_names.proofs.laws.a_call_writes_under_its_names.Goals as goal
-
-pub returns : goal.returns
-returns c = write_under_names

@@ -1,0 +1,129 @@
+//! A command line is read.
+
+ghost use Rattle.std.specs.Prelude.{IfOk, IfSome};
+ghost use Rattle.msgq_cli.specs.Tasks.{IsFileSize};
+ghost use Rattle.command_runs.specs.Tasks.{DeedHasPages, HasPages};
+
+use crate::commands::{
+    ALL, CREATE, FILE, GROUP, HEADER, JSON, LINES, NOERROR, OWNER, QBYTES, SIZE, VERBOSE, Verb,
+    program,
+};
+use crate::mistake::Mistake;
+use crate::task::{Deed, SendTask, ShellTask};
+use crate::values::{
+    OWNER_ALONE, any_queue, ids, mode, mtype, names_input, new_key, number, pages, patience, queue,
+};
+use clap::{ArgMatches, Error};
+use queue_commands::{Framing, Receiving, Setting};
+use queue_model::{MAX_BODY, MAX_MESSAGES};
+use std::alloc::Global;
+
+/// Reads the words of a command line of the program, of which the first names it. None where they
+/// ask for something else than a command of a shell.
+///
+/// A number of pages is one that a file can have.
+///
+/// # Errors
+///
+/// What the parser tells of a wrong command line, as where help is asked for; or which word is no
+/// value of its place.
+pub fn read_command<'a>(alloc: Global, words: &'a [String]) -> Result<Option<ShellTask<'a>>, Error>
+    ensures pages { IfOk result (λ task. IfSome task HasPages) }
+{
+    let matches = program(alloc)?.try_get_matches_from(words)?;
+    let Some((name, given)) = matches.subcommand() else {
+        return Ok(None);
+    };
+    let Some(verb) = Verb::named(name) else {
+        return Ok(None);
+    };
+    match read_task(verb, given) {
+        Ok(task) => Ok(Some(task)),
+        Err(mistake) => Err(mistake.into_error(alloc, verb)?),
+    }
+}
+
+/// What the arguments of a command ask for.
+fn read_task<'a>(verb: Verb, given: &ArgMatches<'a>) -> Result<ShellTask<'a>, Mistake<'a>>
+    ensures pages { IfOk result HasPages }
+{
+    let deed = read_deed(verb, given)?;
+    Ok(ShellTask {
+        file: given.get_str(FILE).unwrap_or(""),
+        ids: ids(given)?,
+        deed,
+    })
+}
+
+/// What the arguments of a command ask for, but for the file and who calls.
+fn read_deed<'a>(verb: Verb, given: &ArgMatches<'a>) -> Result<Deed, Mistake<'a>>
+    ensures pages { IfOk result DeedHasPages }
+{
+    match verb {
+        Verb::Send => Ok(Deed::Send(read_send(given)?)),
+        Verb::Receive => Ok(Deed::Receive {
+            receiving: read_receiving(given)?,
+            patience: patience(given)?,
+        }),
+        Verb::Peek => Ok(Deed::Peek(read_receiving(given)?)),
+        Verb::List => Ok(Deed::List {
+            queue: any_queue(given)?,
+            is_json: given.get_flag(JSON),
+        }),
+        Verb::Make => Ok(Deed::Make {
+            key: new_key(given)?,
+            mode: mode(given)?.unwrap_or(OWNER_ALONE),
+        }),
+        Verb::Remove => Ok(Deed::Remove(queue(given)?)),
+        Verb::Set => Ok(Deed::Set(read_setting(given)?)),
+    }
+}
+
+/// How standard input is sent.
+fn read_send<'a>(given: &ArgMatches<'a>) -> Result<SendTask, Mistake<'a>>
+    ensures pages { IfOk result (λ sending. IfSome sending.pages IsFileSize) }
+{
+    let create = if given.get_flag(CREATE) {
+        Some(mode(given)?.unwrap_or(OWNER_ALONE))
+    } else {
+        None
+    };
+    Ok(SendTask {
+        queue: queue(given)?,
+        create,
+        pages: pages(given)?,
+        mtype: mtype(given)?.unwrap_or(1),
+        framing: if given.get_flag(LINES) {
+            Framing::Lines
+        } else {
+            Framing::Whole
+        },
+        names_input: names_input(given)?,
+        tells: given.get_flag(VERBOSE),
+        patience: patience(given)?,
+    })
+}
+
+/// Which messages are received: a command that does not know an option has it as where it is not
+/// given.
+fn read_receiving<'a>(given: &ArgMatches<'a>) -> Result<Receiving, Mistake<'a>> {
+    Ok(Receiving {
+        queue: queue(given)?,
+        mtype: mtype(given)?.unwrap_or(0),
+        size: number(given, SIZE)?.unwrap_or(MAX_BODY as u32),
+        noerror: given.get_flag(NOERROR),
+        most: if given.get_flag(ALL) { MAX_MESSAGES } else { 1 },
+        heads: given.get_flag(HEADER),
+    })
+}
+
+/// What is set of a queue.
+fn read_setting<'a>(given: &ArgMatches<'a>) -> Result<Setting, Mistake<'a>> {
+    Ok(Setting {
+        queue: queue(given)?,
+        qbytes: number(given, QBYTES)?,
+        uid: number(given, OWNER)?,
+        gid: number(given, GROUP)?,
+        mode: mode(given)?,
+    })
+}

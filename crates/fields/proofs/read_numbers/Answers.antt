@@ -1,5 +1,0 @@
-use Rattle.fields.proofs.ListLaws.{read_all}
-use Rattle.fields.proofs.read_numbers.Goals as goal
-
-pub returns : goal.returns
-returns c = read_all _ _ c.read_u32_into.new.dst c.read_u32_into.auto.dst c.read_u32_into.ensures

@@ -1,5 +1,0 @@
-pub mod Words
-pub mod Versions
-pub mod Answers
-pub mod Files
-pub mod Tested

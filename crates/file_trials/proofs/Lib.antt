@@ -1,5 +1,0 @@
-pub mod TwoSeats
-pub mod SplitTurns
-pub mod MergeTurns
-pub mod ScheduleLemmas
-pub mod WrongTurnLemmas

@@ -1,5 +1,0 @@
-use Rattle.file_trials.proofs.ScheduleLemmas.{all_kinds_come}
-use Rattle.file_trials.proofs.laws.each_kind_of_step_comes_in_a_worked_schedule.Goals as goal
-
-pub returns : goal.returns
-returns c = all_kinds_come

@@ -1,5 +1,0 @@
-use Rattle.file_trials.proofs.WrongTurnLemmas.{wrong_turns}
-use Rattle.file_trials.proofs.laws.wrong_turns_are_not_allowed.Goals as goal
-
-pub returns : goal.returns
-returns c = wrong_turns

@@ -1,6 +1,0 @@
--- The lines so far are the first ones.
-use Rattle.input_messages.proofs.LineLemmas.{AreFirst}
-use Rattle.input_messages.proofs.lines.lines_of.Given as goal
-
-abbrev pub invariant-loop-number : goal.invariant-loop-number
-invariant-loop-number l = AreFirst l.text l.rest l.bodies.items

@@ -1,0 +1,102 @@
+-- What a call sees and holds at each of its places, and that it goes on there.
+use Rattle.std.proofs.Common.{ℕ, ◌≡◌, refl, subst, List, Option, Some, None}
+use Rattle.type_chains.specs.Entries.{counter_of}
+use Rattle.xsi_calls.proofs.Below.{operation_aside}
+use Rattle.xsi_calls.specs.Below.{AccessView, IsUndecidedIn, Question, Sweeping, Work, Writing, counter_key, facts_in, locks_behind, locks_in, locks_under, owes_in, sweep_locks}
+use Rattle.xsi_calls.specs.Calling.{IsCallingAt}
+use Rattle.xsi_calls.specs.CallSteps.{GoesOnAt}
+use Rattle.xsi_calls.specs.Machine.{facts_at, locks_at, owes_at}
+use Rattle.xsi_calls.specs.Words.{IsPaying, Lock, Owes, PaymentStage, Plan, QuestionsView, Sees, IsBehind, Trials, UndecidedCall, guard_of, kind_of, payment_facts}
+use Rattle.xsi_calls.specs.Stages.{Stage, Undecided, Paying, Releasing}
+use Rattle.interleavings.specs.LoneCallWords.{Call, Change, IsFiled, PoolState, RecordKey, Records, StandsAt, State, Table, overlaid, record_of, row_of, store_of}
+
+-- once nothing is owed the records of this system will stand
+pub record WillBe (o : Owes) (records : Records) (s : State) : Type 0 where
+  pub filed : IsFiled s
+  pub owed : (key : RecordKey) → overlaid o records key ≡ record_of s key
+
+-- ---- it sees a sound world
+
+sees_in : (hash : RecordKey → ℕ) (seat : ℕ) (call : Call) (s : State) (q : QuestionsView) (o : Option Trials)
+    (records : Records) (pool : PoolState) (locks : Table) (change : Change) →
+    IsUndecidedIn hash seat call s q o records pool locks change → Sees hash seat (facts_in q o) pool locks change
+sees_in hash seat call s q None records pool locks change is = is.faces.sees
+sees_in hash seat call s q (Some t) records pool locks change is = is.carries.sees
+
+pays_sees : (hash : RecordKey → ℕ) (seat : ℕ) (names : List Lock) (p : Plan) (v : PaymentStage) (records : Records)
+    (pool : PoolState) (locks : Table) (change : Change) → IsPaying hash seat names p v records pool locks change →
+    Sees hash seat (payment_facts v) pool locks change
+pays_sees hash seat names p (Sweeping v) records pool locks change is = is.faces.sees
+pays_sees hash seat names p (Writing w) records pool locks change is = is.carries.sees
+
+module _ (hash : RecordKey → ℕ) (seat : ℕ) (call : Call) (s : State) (u : UndecidedCall) (records : Records)
+    (pool : PoolState) (locks : Table) (change : Change) where
+  pub sees_at : (stage : Stage) → IsCallingAt hash seat call s u stage records pool locks change →
+      Sees hash seat (facts_at u stage) pool locks change
+  sees_at Undecided is = sees_in hash seat call s u.questions u.trials records pool locks change is
+  sees_at (Paying v conclusion) is = pays_sees hash seat u.questions.names _ v records pool locks change is.pays
+  sees_at (Releasing conclusion) is = is.sees
+
+  -- ---- it goes on after a step of its own, where all these records stand in the file
+
+  module _ (stands : (key : RecordKey) → StandsAt (store_of pool.images) key (records key)) where
+    asks_on : (o : Option Trials) → Sees hash seat (facts_in u.questions o) pool locks change →
+        row_of locks seat ≡ locks_in u.questions o →
+        WillBe (owes_in call u.questions o) records s →
+        IsBehind hash seat call s u.questions o records pool locks change →
+        IsUndecidedIn hash seat call s u.questions o records pool locks change
+    asks_on None sees row will on = record {
+      faces = record {
+        right = on.right;
+        sees = sees;
+        agrees = record {
+          filed = will.filed;
+          stands = λ key under. subst (StandsAt (store_of pool.images) key) (will.owed key) (stands key);
+          counter = counter_of s;
+          counts = subst (StandsAt (store_of pool.images) counter_key) (will.owed counter_key) (stands counter_key);
+          given = λ id has none. refl;
+        };
+        knows = on.knows;
+      };
+      row = row;
+      alike = λ key under. will.owed key;
+    }
+    asks_on (Some t) sees row will on = on
+
+    -- over the system that it is about until it decides
+    pub calls_at : (stage : Stage) → Sees hash seat (facts_at u stage) pool locks change →
+        row_of locks seat ≡ locks_at u stage → (stage ≡ Undecided → WillBe (owes_at call u stage) records s) →
+        GoesOnAt hash seat call s u stage records pool locks change →
+        IsCallingAt hash seat call s u stage records pool locks change
+    calls_at Undecided sees row will on = asks_on u.trials sees row (will refl) on
+    calls_at (Paying v conclusion) sees row will on = on
+    calls_at (Releasing conclusion) sees row will on = on
+
+-- ---- behind its names its seat has locks of the file alone
+
+access_aside : (o : Option AccessView) (names : List Lock) (key : RecordKey) →
+    kind_of (locks_under o names) (guard_of key) ≡ kind_of names (guard_of key)
+access_aside None names key = refl
+access_aside (Some a) names key = operation_aside a.operation names key
+
+sweep_aside : (v : Option Work) (names : List Lock) (key : RecordKey) →
+    kind_of (sweep_locks v names) (guard_of key) ≡ kind_of names (guard_of key)
+sweep_aside None names key = refl
+sweep_aside (Some w) names key = operation_aside w.access.operation names key
+
+question_aside : (o : Option Question) (names : List Lock) (key : RecordKey) →
+    kind_of (locks_behind o names) (guard_of key) ≡ kind_of names (guard_of key)
+question_aside None names key = refl
+question_aside (Some q) names key = operation_aside q.access.operation names key
+
+tries_aside : (q : QuestionsView) (o : Option Trials) (key : RecordKey) →
+    kind_of (locks_in q o) (guard_of key) ≡ kind_of q.names (guard_of key)
+tries_aside q None key = question_aside q.question q.names key
+tries_aside q (Some t) key = access_aside t.writes.access q.names key
+
+pub names_aside : (u : UndecidedCall) (stage : Stage) (key : RecordKey) →
+    kind_of (locks_at u stage) (guard_of key) ≡ kind_of u.questions.names (guard_of key)
+names_aside u Undecided key = tries_aside u.questions u.trials key
+names_aside u (Paying (Sweeping v) conclusion) key = sweep_aside v u.questions.names key
+names_aside u (Paying (Writing w) conclusion) key = access_aside w.access u.questions.names key
+names_aside u (Releasing conclusion) key = refl

@@ -1,7 +1,0 @@
-//! Trials of `page_locks` from outside. They stand here, so that they are proved without that crate
-//! being proved once more.
-
-#![tactic(auto)]
-
-#[cfg(test)]
-mod locks;

@@ -1,5 +1,0 @@
-pub mod WaitLemmas
-pub mod RestingLemmas
-pub mod StepLemmas
-pub mod CauseLemmas
-pub mod DriveLemmas

@@ -1,5 +1,0 @@
-use Rattle.lone_kernel.proofs.RestingLemmas.{begins_on_a_kernel}
-use Rattle.lone_kernel.proofs.laws.a_call_begins_on_a_kernel_at_rest.Goals as goal
-
-pub returns : goal.returns
-returns g c = begins_on_a_kernel c.a_call_begins_at_rest.ensures c.calls_have_few_steps.ensures.few _

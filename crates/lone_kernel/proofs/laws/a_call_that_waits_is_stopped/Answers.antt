@@ -1,5 +1,0 @@
-use Rattle.lone_kernel.proofs.WaitLemmas.{stops_a_waiting_call}
-use Rattle.lone_kernel.proofs.laws.a_call_that_waits_is_stopped.Goals as goal
-
-pub returns : goal.returns
-returns g c = stops_a_waiting_call c.a_call_begins_at_rest.ensures c.a_file_at_rest_is_stopped.ensures _

@@ -1,5 +1,0 @@
-use Rattle.lone_kernel.proofs.RestingLemmas.{closes_a_kernel}
-use Rattle.lone_kernel.proofs.laws.a_kernel_at_rest_closes_on_its_file.Goals as goal
-
-pub returns : goal.returns
-returns g c = closes_a_kernel _

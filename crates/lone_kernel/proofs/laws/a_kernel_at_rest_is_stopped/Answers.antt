@@ -1,5 +1,0 @@
-use Rattle.lone_kernel.proofs.RestingLemmas.{stops_a_kernel}
-use Rattle.lone_kernel.proofs.laws.a_kernel_at_rest_is_stopped.Goals as goal
-
-pub returns : goal.returns
-returns g c = stops_a_kernel c.a_file_at_rest_is_stopped.ensures _

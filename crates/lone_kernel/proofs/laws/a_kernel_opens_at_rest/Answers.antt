@@ -1,5 +1,0 @@
-use Rattle.lone_kernel.proofs.RestingLemmas.{opens_a_kernel}
-use Rattle.lone_kernel.proofs.laws.a_kernel_opens_at_rest.Goals as goal
-
-pub returns : goal.returns
-returns g c = opens_a_kernel _

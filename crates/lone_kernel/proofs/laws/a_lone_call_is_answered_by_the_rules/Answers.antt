@@ -1,5 +1,0 @@
-use Rattle.lone_kernel.proofs.DriveLemmas.{answers_lone_calls}
-use Rattle.lone_kernel.proofs.laws.a_lone_call_is_answered_by_the_rules.Goals as goal
-
-pub returns : goal.returns
-returns g c = answers_lone_calls c.a_call_begins_at_rest.ensures c.calls_have_few_steps.ensures.few _

@@ -1,5 +1,0 @@
-use Rattle.lone_kernel.proofs.DriveLemmas.{drives_by_the_rules}
-use Rattle.lone_kernel.proofs.laws.a_lone_drive_answers_by_the_rules.Goals as goal
-
-pub returns : goal.returns
-returns g c = drives_by_the_rules c.a_call_begins_at_rest.ensures c.calls_have_few_steps.ensures.few _

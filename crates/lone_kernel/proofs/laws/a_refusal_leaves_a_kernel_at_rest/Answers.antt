@@ -1,5 +1,0 @@
-use Rattle.lone_kernel.proofs.RestingLemmas.{refuses_at_rest}
-use Rattle.lone_kernel.proofs.laws.a_refusal_leaves_a_kernel_at_rest.Goals as goal
-
-pub returns : goal.returns
-returns g c = refuses_at_rest _

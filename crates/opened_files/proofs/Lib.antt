@@ -1,4 +1,0 @@
-pub mod SameLemmas
-pub mod StoredLemmas
-pub mod OpenLemmas
-pub mod CloseLemmas

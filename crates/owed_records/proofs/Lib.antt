@@ -1,4 +1,0 @@
-pub mod DecideLemmas
-pub mod HeldLemmas
-pub mod Names
-pub mod OverlayLemmas

@@ -1,6 +1,0 @@
--- What is read is spelled so, and what is spelled so is read.
-use Rattle.page_forms.proofs.FormLemmas.{header_test}
-use Rattle.page_forms.proofs.file_page.spells_header.Goals as goal
-
-pub returns : goal.returns
-returns c = header_test _ c.is_ok.result _ c.is_ok.ensures.value c.read_header.ensures.ok c.read_header.ensures.only

@@ -1,5 +1,0 @@
-use Rattle.positions.proofs.PositionLaws.{position_truncated}
-use Rattle.positions.proofs.laws.a_truncated_pseudokey_lies_no_further_right.Goals as goal
-
-pub returns : goal.returns
-returns c = position_truncated

@@ -1,5 +1,0 @@
-use Rattle.positions.proofs.ChangeLaws.{halves_neighbours}
-use Rattle.positions.proofs.laws.buddies_of_a_tiling_are_neighbours.Goals as goal
-
-pub returns : goal.returns
-returns G c = halves_neighbours

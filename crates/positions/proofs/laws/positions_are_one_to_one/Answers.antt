@@ -1,5 +1,0 @@
-use Rattle.positions.proofs.PositionLaws.{position_twice}
-use Rattle.positions.proofs.laws.positions_are_one_to_one.Goals as goal
-
-pub returns : goal.returns
-returns c = position_twice

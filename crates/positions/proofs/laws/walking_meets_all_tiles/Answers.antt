@@ -1,5 +1,0 @@
-use Rattle.positions.proofs.WalkLaws.{walk_meets_all}
-use Rattle.positions.proofs.laws.walking_meets_all_tiles.Goals as goal
-
-pub returns : goal.returns
-returns G c = walk_meets_all

@@ -1,7 +1,0 @@
--- std moves the bits over one by one, and the definition names them from the lowest
-use Rattle.std.proofs.Common.{◌∙◌}
-use Rattle.positions.proofs.PositionLaws.{position_is}
-use Rattle.positions.proofs.pseudokey.position.Goals as goal
-
-pub returns : goal.returns
-returns c = c.reverse_bits.ensures ∙ position_is c.args.pseudokey

@@ -1,0 +1,7 @@
+-- The queues so far were put.
+use Rattle.std.proofs.Common.{◌≡◌, ◌++◌, take}
+use Rattle.queue_commands.specs.Tables.{queue_rows}
+use Rattle.queue_commands.proofs.tables.put_queues.Given as goal
+
+abbrev pub invariant-loop-place : goal.invariant-loop-place
+invariant-loop-place l = l.text ≡ l.initial.text ++ queue_rows (take l.place l.system.queues)

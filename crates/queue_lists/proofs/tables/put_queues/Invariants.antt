@@ -1,7 +1,0 @@
--- The queues so far were put.
-use Rattle.std.proofs.Common.{◌≡◌, ◌++◌, take}
-use Rattle.queue_lists.specs.Tables.{queue_rows}
-use Rattle.queue_lists.proofs.tables.put_queues.Given as goal
-
-abbrev pub invariant-loop-place : goal.invariant-loop-place
-invariant-loop-place l = l.text ≡ l.initial.text ++ queue_rows (take l.place l.system.queues)

@@ -1,7 +1,0 @@
--- The bytes so far were put.
-use Rattle.std.proofs.Common.{◌≡◌, ◌++◌, map, take}
-use Rattle.queue_lists.specs.Cells.{printable}
-use Rattle.queue_lists.proofs.text.Text.put_preview.Given as goal
-
-abbrev pub invariant-loop-byte : goal.invariant-loop-byte
-invariant-loop-byte l = l.self ≡ l.initial.self ++ map printable (take l.byte-index l.byte-items)

@@ -1,0 +1,68 @@
+-- A find that is made in one go. docs/STEPS.md, "Search".
+use Rattle.std.specs.Prelude.{ℕ, ◌≡◌, List, [], ◌∷◌, ◌++◌, length, Option, Some, None}
+use Rattle.file_pages.specs.declared.fault.FileFault.{FileFault}
+use Rattle.record_file.specs.OperationRuns.{operation_at, operation_done}
+use Rattle.record_file.specs.stale_search.SearchRuns.{At, HasNoLock, at, standing, way_up_to}
+use Rattle.record_file.specs.stale_search.declared.place.SearchPlace.{SearchPlace}
+use Rattle.record_file.specs.stale_search.declared.place.SearchPlace.TheVariants.{Found}
+use Rattle.record_file.specs.step_rules.Runs.{MovesAlong, Stop, stop, stops_in}
+use Rattle.record_file.specs.step_rules.declared.kind.Kind.TheVariants as kinds
+use Rattle.record_file.specs.AccessWords.{RecordKey, PoolState, Table, IsSeat, IsReady, EndsRow, Progress, row_of, store_of}
+use Rattle.record_file.specs.Accesses.{AccessView, access_key, access_locks}
+use Rattle.record_file.specs.AccessSteps.{MakesAccess}
+use Rattle.record_file.specs.Readings.{value_on}
+
+-- where an access may be stepped
+pub record MayAccess (seat : ℕ) (s : At AccessView) : Type 0 where
+  pub seated : IsSeat s.locks seat
+  pub ready : IsReady s.pool
+  pub row : EndsRow (access_locks s.machine) 3 (row_of s.locks seat)
+
+-- a step, made where it may be, and all that is promised of it
+pub record AccessStep (hash : RecordKey → ℕ) (seat : ℕ) (did : Progress FileFault) (old new : At AccessView)
+    : Type 0 where
+  pub may : MayAccess seat old
+  pub makes : MakesAccess hash seat did old.machine new.machine old.pool new.pool old.locks new.locks
+
+-- a find whose search is at this place
+abbrev pub access_at : SearchPlace → AccessView → AccessView
+access_at place a = record a { operation = operation_at place a.operation }
+
+-- a find that has found, read these bytes, and given the page back
+abbrev pub access_done : ℕ → Option ℕ → List ℕ → AccessView → AccessView
+access_done page found bytes a =
+    record a { operation = operation_done page found a.operation; bytes = bytes }
+
+-- the states of a find from where it has not begun: on the way to the page, where that answers and the bytes are read,
+-- and where it is given back
+abbrev pub find_stops : ℕ → (page : ℕ) → Option ℕ → (bytes : List ℕ) → At AccessView → List (Stop (At AccessView))
+find_stops seat page found bytes old =
+    stops_in (λ (place : SearchPlace). standing access_locks seat old.pool old.locks (access_at place old.machine))
+    (way_up_to (store_of old.pool.images).header.depth page)
+    ++ stop kinds.Look (standing access_locks seat old.pool old.locks
+    (record (access_at (Found page found) old.machine) { bytes = bytes }))
+    ∷ stop kinds.Release (at (access_done page found bytes old.machine) old.pool old.locks)
+    ∷ []
+
+-- a find has gone straight to the page that answers and has given it back, by these of its steps; the pool is what it
+-- was, and so are the locks
+pub record FindsAtOnce (seat : ℕ) (old new : AccessView) (pool : PoolState) (locks : Table) : Type 0 where
+  pub page : ℕ
+  -- of its key, the length of the value there
+  pub found : Option ℕ
+  pub is : new ≡ access_done page found new.bytes old
+  -- it had no lock, and has none
+  pub bare : HasNoLock (access_locks old)
+  pub given : HasNoLock (access_locks new)
+  pub moves : (hash : RecordKey → ℕ) →
+      MovesAlong (AccessStep hash seat) (at old pool locks) (find_stops seat page found new.bytes (at old pool locks))
+
+-- the bytes are the value of this length that a page has of a key, or what they were where it has none
+abbrev pub AreRead : Option ℕ → ℕ → RecordKey → PoolState → (old new : List ℕ) → Type 0
+AreRead None page key pool old new = new ≡ old
+AreRead (Some len) page key pool old new = (length new ≡ len) × (value_on pool page key ≡ Some new)
+
+-- a find has read them, and is else what it was
+pub record ReadsAhead (page : ℕ) (found : Option ℕ) (pool : PoolState) (old new : AccessView) : Type 0 where
+  pub is : new ≡ record old { bytes = new.bytes }
+  pub read : AreRead found page (access_key old) pool old.bytes new.bytes

@@ -1,0 +1,386 @@
+//! The access.
+
+ghost use Rattle.std.specs.Prelude.{◌≡◌, ◌≢◌, ◌≤◌, ◌↔◌, Option, None, Some, not, true, false, length};
+ghost use Rattle.queue_records.specs.declared.layout.TheConstants.{MAX_VALUE_BYTES};
+ghost use Rattle.queue_records.specs.Range.{IsInRange};
+ghost use Rattle.xsi_inquiry.specs.Writing.{HasRange};
+ghost use Rattle.record_file.specs.AccessWords.{Change, FollowsRow, HasEnded, IsReady, IsSeat, EndsRow, Look, MayBeLent, Moved, NearsOrSpares, OnlyWrites, Record, RecordKey, Step, Write, is_fault, operation_found, operation_key, row_of, store_of, world};
+ghost use Rattle.record_file.specs.Purposes.{Purpose, ToFind, ToInsert, ToWrite, is_write};
+ghost use Rattle.record_file.specs.Accesses.{Allows, HasFound, Serves, access_answer, access_facts, access_left, access_locks, access_turn, begun, has_no_room};
+ghost use Rattle.record_file.specs.AccessSteps.{Faces, KeepsAccess, MakesAccess, TellsOf};
+ghost use Rattle.record_file.specs.Readings.{IsReplace, Takes};
+
+mod ahead;
+
+use crate::fitting::links_fit;
+use crate::reading::{read_front, read_value};
+use crate::step_rules::{Kind, Progress};
+use crate::{RecordOperation, Tried};
+use bucket_page::{PseudoKey, RecordKey};
+use file_pages::FileFault;
+use file_pages::buffer_pool::Pool;
+use page_device::PageDevice;
+use page_locks::LockTable;
+use queue_records::{Links, MAX_VALUE_BYTES, MESSAGE_BYTES, Record, Value, counter_key};
+use std::marker::Model;
+use std::mem::size_of;
+use xsi_inquiry::Write;
+
+/// One access to the record of one key: it is found, inserted, or written.
+#[derive(Drop)]
+pub struct Access {
+    key: RecordKey,
+    operation: RecordOperation,
+    links: Option<Links>,
+    bytes: [u8; MAX_VALUE_BYTES],
+    len: usize,
+    written: bool,
+}
+
+const _: () = prove!(size_of::<Access>() <= 1600);
+
+impl Model for Access {
+    ghost use Rattle.std.specs.Prelude.{take};
+    ghost use Rattle.record_file.specs.Accesses.{AccessView, IsAccess};
+
+    ghost Value = { AccessView };
+
+    ghost view = { λ a. record {
+      operation = a.operation;
+      links = a.links;
+      bytes = take a.len a.bytes;
+      written = a.written;
+    } };
+
+    ghost invariant = { λ a. IsAccess a.key a.len a.operation };
+}
+
+impl Access {
+    /// A find of a key that has this pseudokey.
+    pub fn find(key: RecordKey, pseudokey: u32) -> Access
+        ensures value { result ≡ begun (ToFind key) pseudokey }
+        ensures serves { Serves (ToFind key) result }
+    {
+        Access {
+            key,
+            operation: RecordOperation::find(key, pseudokey),
+            links: None,
+            bytes: [0; MAX_VALUE_BYTES],
+            len: 0,
+            written: false,
+        }
+    }
+
+    /// An insert of a record whose key has this pseudokey.
+    pub fn insert(entry: &Record<'_>, pseudokey: u32) -> Access
+        requires { IsInRange entry.now }
+        ensures value { result ≡ begun (ToInsert entry.now) pseudokey }
+        ensures serves { Serves (ToInsert entry.now) result }
+    {
+        let mut access = Access::find(entry.key(), pseudokey);
+        access.begin_insert(entry, pseudokey);
+        access
+    }
+
+    /// A write at a key that has this pseudokey.
+    pub fn write(write: &Write, pseudokey: u32) -> Access
+        requires { HasRange write.now }
+        ensures value { result ≡ begun (ToWrite write.now) pseudokey }
+        ensures serves { Serves (ToWrite write.now) result }
+    {
+        let mut access = Access::find(counter_key(), pseudokey);
+        access.begin_write(write, pseudokey);
+        access
+    }
+
+    /// Becomes a find of a key that has this pseudokey, in place.
+    pub fn begin_find(&mut self, key: RecordKey, pseudokey: u32)
+        ensures value { self.new ≡ begun (ToFind key) pseudokey }
+        ensures serves { Serves (ToFind key) self.new }
+    {
+        self.begin_again(key, RecordOperation::find(key, pseudokey), None, &[]);
+    }
+
+    /// Becomes an insert of a record whose key has this pseudokey, in place.
+    pub fn begin_insert(&mut self, entry: &Record<'_>, pseudokey: u32)
+        requires { IsInRange entry.now }
+        ensures value { self.new ≡ begun (ToInsert entry.now) pseudokey }
+        ensures serves { Serves (ToInsert entry.now) self.new }
+    {
+        let mut value = Value::new();
+        entry.encode(&mut value);
+        let key = entry.key();
+        self.begin_again(
+            key,
+            RecordOperation::insert(key, pseudokey),
+            None,
+            value.as_slice(),
+        );
+    }
+
+    /// Becomes a write at a key that has this pseudokey, in place.
+    pub fn begin_write(&mut self, write: &Write, pseudokey: u32)
+        requires { HasRange write.now }
+        ensures value { self.new ≡ begun (ToWrite write.now) pseudokey }
+        ensures serves { Serves (ToWrite write.now) self.new }
+    {
+        match write {
+            Write::Replace(entry) => {
+                let mut value = Value::new();
+                entry.encode(&mut value);
+                let key = entry.key();
+                self.begin_again(
+                    key,
+                    RecordOperation::replace(key, pseudokey),
+                    None,
+                    value.as_slice(),
+                );
+            }
+            Write::Relink(key, links) => {
+                links_fit(links);
+                self.begin_again(
+                    *key,
+                    RecordOperation::replace(*key, pseudokey),
+                    Some(*links),
+                    &[],
+                );
+            }
+            Write::Delete(key) => {
+                self.begin_again(*key, RecordOperation::delete(*key, pseudokey), None, &[]);
+            }
+        }
+    }
+
+    /// Begins by an operation to which these bytes are lent. Those that stand behind them are
+    /// nobody's, and stay.
+    fn begin_again(
+        &mut self,
+        key: RecordKey,
+        operation: RecordOperation,
+        links: Option<Links>,
+        value: &[u8],
+    )
+        requires key { operation_key operation ≡ key }
+        requires within { length value.now ≤ MAX_VALUE_BYTES }
+        requires lent { MayBeLent (length value.now) operation }
+        ensures { self.new ≡ record {
+          operation = operation;
+          links = links;
+          bytes = value.now;
+          written = false;
+        } }
+    {
+        self.bytes[..value.len()].copy_from_slice(value);
+        self.key = key;
+        self.operation = operation;
+        self.links = links;
+        self.len = value.len();
+        self.written = false;
+    }
+
+    /// The record that a find has found at its key, or that there is none, once a page answered.
+    /// Others tell none.
+    pub fn found(&self) -> Option<Option<Record<'_>>>
+        ensures told { (found : Option Record) → HasFound self.now found → result ≡ Some found }
+        ensures open { access_answer self.now ≡ None → result ≡ None }
+    {
+        let RecordOperation::Find(find) = &self.operation else {
+            return None;
+        };
+        match find.found() {
+            None => None,
+            Some((_, None)) => Some(None),
+            Some((_, Some(_))) => match Record::decode(&self.key, &self.bytes[..self.len]) {
+                Ok(entry) => Some(Some(entry)),
+                Err(_) => None,
+            },
+        }
+    }
+
+    /// Whether an insert has found no room for its record and has written nothing. At its end it
+    /// has done so exactly where it wrote nothing.
+    pub fn has_no_room(&self) -> bool
+        ensures full { result ≡ has_no_room self.now }
+        ensures ended { (r : Record) → (found : Option Record) →
+            Allows (ToInsert r) self.now found → Serves (ToInsert r) self.now →
+            HasEnded self.now.operation → result ≡ not self.now.written }
+    {
+        matches!(self.operation.tried(), Some(Tried::IsFull)) && !self.written
+    }
+
+    /// Whether its WriteRecord was made.
+    pub fn has_written(&self) -> bool
+        ensures { result ≡ self.now.written }
+    {
+        self.written
+    }
+
+    /// Whether it has given all its locks back. A find that has ended has been answered, and a
+    /// write has written.
+    pub fn has_ended(&self) -> bool
+        ensures ended { (result ≡ true) ↔ HasEnded self.now.operation }
+        ensures answered { (key : RecordKey) → Serves (ToFind key) self.now →
+            result ≡ true → access_answer self.now ≢ None }
+        ensures written { (write : Write) (found : Option Record) →
+            Serves (ToWrite write) self.now → Allows (ToWrite write) self.now found →
+            result ≡ true → self.now.written ≡ true }
+    {
+        self.operation.has_ended()
+    }
+
+    /// One step. It stands in whoever steps the access, which would else wait for what it tells to
+    /// pass through memory.
+    #[inline(always)]
+    pub fn step<D: PageDevice, K: PseudoKey>(
+        &mut self,
+        pool: &mut Pool<D>,
+        locks: &mut LockTable,
+        keys: &K,
+        seat: u8,
+    ) -> Progress<FileFault>
+        requires seat { IsSeat locks.old seat }
+        requires ready { IsReady pool.old }
+        requires row { EndsRow (access_locks self.old) 3 (row_of locks.old seat) }
+        // whatever the device gives
+        ensures writes { OnlyWrites (not (is_fault result)) pool.old pool.new }
+        ensures aim { KeepsAccess result self.old self.new }
+        ensures row { FollowsRow seat (access_locks self.old) (access_locks self.new)
+            locks.old locks.new }
+        // on an honest device, in a sound world
+        ensures progress { (p : Purpose) (found : Option Record) (change : Change) →
+            Faces (K.of_key keys.now) seat p found self.old pool.old locks.old change →
+            NearsOrSpares result (access_left self.old (store_of pool.old.images))
+            (access_left self.new (store_of pool.new.images)) pool.old pool.new }
+        ensures step { (p : Purpose) (found : Option Record) (change : Change) →
+            Faces (K.of_key keys.now) seat p found self.old pool.old locks.old change →
+            is_fault result ≡ false → Step (K.of_key keys.now) seat
+            (access_turn self.old (store_of pool.old.images)) result (access_facts self.new)
+            pool.old pool.new locks.old locks.new change }
+        ensures answer { (p : Purpose) (found : Option Record) (change : Change) →
+            Faces (K.of_key keys.now) seat p found self.old pool.old locks.old change →
+            is_fault result ≡ false →
+            TellsOf (K.of_key keys.now) result p found self.old self.new
+            (world pool.old.images locks.old change) (world pool.new.images locks.new change) }
+    {
+        self.make(pool, locks, keys, seat)
+    }
+
+    /// One step of its operation; where a page answers by it, that page is read.
+    #[inline(always)]
+    fn make<D: PageDevice, K: PseudoKey>(
+        &mut self,
+        pool: &mut Pool<D>,
+        locks: &mut LockTable,
+        keys: &K,
+        seat: u8,
+    ) -> Progress<FileFault>
+        requires seat { IsSeat locks.old seat }
+        requires ready { IsReady pool.old }
+        requires row { EndsRow (access_locks self.old) 3 (row_of locks.old seat) }
+        ensures { MakesAccess (K.of_key keys.now) seat result self.old self.new
+            pool.old pool.new locks.old locks.new }
+    {
+        let answered = self.operation.found().is_some();
+        let did = self
+            .operation
+            .step(pool, locks, keys, seat, &self.bytes[..self.len]);
+        if is_write(did) {
+            self.written = true;
+            return did;
+        }
+        if answered {
+            return did;
+        }
+        if !is_look(did) {
+            return did;
+        }
+        match self.take(pool) {
+            Ok(()) => did,
+            Err(fault) => Progress::Fault(fault),
+        }
+    }
+
+    /// Takes from the page that answered what the access is for, where one did. What does not suit
+    /// it is refused.
+    fn take<D: PageDevice>(&mut self, pool: &mut Pool<D>) -> Result<(), FileFault>
+        requires ready { IsReady pool.old }
+        ensures { Takes result pool.old pool.new self.old self.new }
+    {
+        let Some((page, found)) = self.operation.found() else {
+            return Ok(());
+        };
+        match &self.operation {
+            RecordOperation::Find(_) => match found {
+                None => Ok(()),
+                Some(len) => self.take_value(pool, page, len),
+            },
+            RecordOperation::Insert(_) => Ok(()),
+            RecordOperation::Replace(_) => match (self.links, found) {
+                (Some(links), Some(len)) => self.take_front(pool, page, len, &links),
+                (None, Some(len)) if len == self.len => Ok(()),
+                _ => Err(FileFault::Failed),
+            },
+            RecordOperation::Delete(_) => {
+                if found.is_none() && !self.written {
+                    return Err(FileFault::Failed);
+                }
+                Ok(())
+            }
+        }
+    }
+
+    /// Takes the value that a find has found.
+    fn take_value<D: PageDevice>(
+        &mut self,
+        pool: &mut Pool<D>,
+        page: u32,
+        len: usize,
+    ) -> Result<(), FileFault>
+        requires ready { IsReady pool.old }
+        requires finds { access_answer self.old ≡ Some (page, Some len) }
+        ensures { Takes result pool.old pool.new self.old self.new }
+    {
+        read_value(pool, page, &self.key, len, &mut self.bytes)?;
+        self.len = len;
+        Ok(())
+    }
+
+    /// Takes the front of the value that links are set in, where it is long enough.
+    fn take_front<D: PageDevice>(
+        &mut self,
+        pool: &mut Pool<D>,
+        page: u32,
+        len: usize,
+        links: &Links,
+    ) -> Result<(), FileFault>
+        requires ready { IsReady pool.old }
+        requires answered { operation_found self.old.operation ≡ Some (page, Some len) }
+        requires replaces { IsReplace self.old.operation }
+        requires links { self.old.links ≡ Some links.now }
+        ensures { Takes result pool.old pool.new self.old self.new }
+    {
+        if len < links.front_bytes() {
+            return Err(FileFault::Failed);
+        }
+        let mut front = [0; MESSAGE_BYTES];
+        let bytes = read_front(pool, page, &self.key, links, &mut front)?;
+        self.bytes[..bytes].copy_from_slice(&front[..bytes]);
+        self.len = bytes;
+        Ok(())
+    }
+}
+
+/// Whether a record was written.
+fn is_write(did: Progress<FileFault>) -> bool
+    ensures { result ≡ is_write did }
+{
+    matches!(did, Progress::Moved(Kind::WriteRecord))
+}
+
+/// Whether a page was looked at.
+fn is_look(did: Progress<FileFault>) -> bool
+    ensures looked { result ≡ true → did ≡ Moved Look }
+    ensures other { did ≡ Moved Look → result ≡ true }
+{
+    matches!(did, Progress::Moved(Kind::Look))
+}

@@ -1,0 +1,61 @@
+//! All steps of a find, in one go.
+
+ghost use Rattle.std.specs.Prelude.{◌≡◌, true, false};
+ghost use Rattle.record_file.specs.OperationRuns.{IsFind};
+ghost use Rattle.record_file.specs.AccessWords.{EndsRow, IsReady, IsSeat, row_of};
+ghost use Rattle.record_file.specs.Accesses.{access_locks};
+ghost use Rattle.record_file.specs.AccessRuns.{FindsAtOnce, ReadsAhead};
+
+use crate::access::Access;
+use file_pages::buffer_pool::Pool;
+use file_pages::peek_value;
+use page_device::PageDevice;
+use page_locks::LockTable;
+use queue_records::{MAX_VALUE_BYTES, Record};
+
+impl Access {
+    /// All steps of a find, in one go: where it has not begun, its pages are in frames, the page
+    /// that the directory names has the pseudokey, and nobody stands in its way. Else nothing is
+    /// done, and it is left to `step`. What it would be granted on the way it would give back.
+    pub fn skip<D: PageDevice>(&mut self, pool: &mut Pool<D>, locks: &LockTable, seat: u8) -> bool
+        requires seat { IsSeat locks.now seat }
+        requires ready { IsReady pool.old }
+        requires row { EndsRow (access_locks self.old) 3 (row_of locks.now seat) }
+        ensures pool { pool.new ≡ pool.old }
+        ensures made { result ≡ true → FindsAtOnce seat self.old self.new pool.old locks.now }
+        ensures spares { result ≡ false → self.new ≡ self.old }
+    {
+        let Some((page, found)) = self.operation.ahead(pool, locks, seat) else {
+            return false;
+        };
+        if !self.read_ahead(pool, page, found) {
+            return false;
+        }
+        self.operation.arrive(page, found);
+        true
+    }
+
+    /// Takes the value of its key from a page that is in a frame, where one of this length stands
+    /// there and spells a record of that key. Where none stands there is none to take.
+    fn read_ahead<D: PageDevice>(&mut self, pool: &Pool<D>, page: u32, found: Option<usize>) -> bool
+        requires find { IsFind self.old.operation }
+        ensures made { result ≡ true → ReadsAhead page found pool.now self.old self.new }
+        ensures spares { result ≡ false → self.new ≡ self.old }
+    {
+        let Some(len) = found else {
+            return true;
+        };
+        let Some(value) = peek_value(pool, page, &self.key) else {
+            return false;
+        };
+        if value.len() != len || len > MAX_VALUE_BYTES {
+            return false;
+        }
+        if Record::decode(&self.key, value).is_err() {
+            return false;
+        }
+        self.bytes[..len].copy_from_slice(value);
+        self.len = len;
+        true
+    }
+}

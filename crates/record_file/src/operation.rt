@@ -1,0 +1,206 @@
+//! The operation.
+
+ghost use Rattle.std.specs.Prelude.{◌≡◌, ◌↔◌, ℕ, List, true, false, length, IfSome, IsSome};
+ghost use Rattle.record_file.specs.stale_search.SearchRuns.{HasNoLock, at};
+ghost use Rattle.record_file.specs.stale_search.Steps.{FollowsRow};
+ghost use Rattle.record_file.specs.step_rules.Runs.{MovesAlong};
+ghost use Rattle.record_file.specs.SecondSteps.{NearsOrSpares};
+ghost use Rattle.record_file.specs.OperationWords.{RecordKey, Lock, Change, IsReady, IsSeat, row_of, store_of, is_fault, EndsRow, HasNoFileLock, Sees, Step, world};
+ghost use Rattle.record_file.specs.Operations.{FoundAtEnd, HasEnded, IsKeyed, MayBeLent, OwnsWritten, SuitsFile, TriedAtEnd, begun_delete, begun_find, begun_insert, begun_replace, operation_facts, operation_found, operation_left, operation_locks, operation_tried, operation_turn};
+ghost use Rattle.record_file.specs.OperationRuns.{IsFind, OperationStep, operation_done, operation_stops};
+ghost use Rattle.record_file.specs.OperationSteps.{KeepsOperation, LeavesPages, MakesOperation, TellsOf};
+
+use crate::buffer_pool::Pool;
+use crate::file_pages::FileFault;
+use crate::step_rules::Progress;
+use crate::{BucketAccess, Deed, Delete, Insert, Tried};
+use bucket_page::{PseudoKey, RecordKey};
+use page_device::PageDevice;
+use page_locks::LockTable;
+use std::mem::size_of;
+
+/// One operation on the record of one key.
+#[derive(Drop)]
+pub enum RecordOperation {
+    /// The record is found.
+    Find(BucketAccess),
+    /// A record is put where the key has none.
+    Insert(Insert),
+    /// The first bytes of the record's value are replaced.
+    Replace(BucketAccess),
+    /// The record is taken out.
+    Delete(Delete),
+}
+
+const _: () = prove!(size_of::<RecordOperation>() <= 300);
+
+impl RecordOperation {
+    /// A find of a key that has this pseudokey.
+    pub fn find(key: RecordKey, pseudokey: u32) -> RecordOperation
+        ensures { result ≡ begun_find key pseudokey }
+    {
+        RecordOperation::Find(BucketAccess::new(Deed::Find, key, pseudokey))
+    }
+
+    /// An insert at a key that has this pseudokey.
+    pub fn insert(key: RecordKey, pseudokey: u32) -> RecordOperation
+        ensures { result ≡ begun_insert key pseudokey }
+    {
+        RecordOperation::Insert(Insert::new(key, pseudokey))
+    }
+
+    /// A replace at a key that has this pseudokey.
+    pub fn replace(key: RecordKey, pseudokey: u32) -> RecordOperation
+        ensures { result ≡ begun_replace key pseudokey }
+    {
+        RecordOperation::Replace(BucketAccess::new(Deed::Replace, key, pseudokey))
+    }
+
+    /// A delete at a key that has this pseudokey.
+    pub fn delete(key: RecordKey, pseudokey: u32) -> RecordOperation
+        ensures { result ≡ begun_delete key pseudokey }
+    {
+        RecordOperation::Delete(Delete::new(key, pseudokey))
+    }
+
+    /// The page that answered, and of the key the length of its value, none where it has no record.
+    /// An insert tells none.
+    pub fn found(&self) -> Option<(u32, Option<usize>)>
+        ensures { result ≡ operation_found self.now }
+    {
+        match self {
+            RecordOperation::Find(find) => find.found(),
+            RecordOperation::Insert(_) => None,
+            RecordOperation::Replace(replace) => replace.found(),
+            RecordOperation::Delete(delete) => delete.found(),
+        }
+    }
+
+    /// What an insert came to, once it did. It has done so where it has ended.
+    pub fn tried(&self) -> Option<Tried>
+        ensures tried { result ≡ operation_tried self.now }
+        ensures ended { TriedAtEnd self.now }
+    {
+        match self {
+            RecordOperation::Find(_) => None,
+            RecordOperation::Insert(insert) => insert.tried(),
+            RecordOperation::Replace(_) => None,
+            RecordOperation::Delete(_) => None,
+        }
+    }
+
+    /// Whether it has given all its locks back. A find that has ended has been answered.
+    pub fn has_ended(&self) -> bool
+        ensures ended { (result ≡ true) ↔ HasEnded self.now }
+        ensures answered { result ≡ true → FoundAtEnd self.now }
+    {
+        match self {
+            RecordOperation::Find(find) => find.has_ended(),
+            RecordOperation::Insert(insert) => insert.has_ended(),
+            RecordOperation::Replace(replace) => replace.has_ended(),
+            RecordOperation::Delete(delete) => delete.has_ended(),
+        }
+    }
+
+    /// One step. The value that an insert puts is lent to it, or the bytes that a replace writes;
+    /// of a find or a delete nothing is read of them.
+    pub fn step<D: PageDevice, K: PseudoKey>(
+        &mut self,
+        pool: &mut Pool<D>,
+        locks: &mut LockTable,
+        keys: &K,
+        seat: u8,
+        bytes: &[u8],
+    ) -> Progress<FileFault>
+        requires seat { IsSeat locks.old seat }
+        requires ready { IsReady pool.old }
+        requires row { EndsRow (operation_locks self.old) 3 (row_of locks.old seat) }
+        requires lent { MayBeLent (length bytes.now) self.old }
+        // whatever the device gives
+        ensures writes { LeavesPages result self.old pool.old pool.new }
+        ensures aim { KeepsOperation (length bytes.now) result pool.old self.old self.new }
+        ensures row { FollowsRow seat (operation_locks self.old) (operation_locks self.new)
+            locks.old locks.new }
+        // on an honest device, in a sound world
+        ensures progress { (change : Change) → IsKeyed (K.of_key keys.now) self.old →
+            SuitsFile (store_of pool.old.images) self.old bytes.now →
+            Sees (K.of_key keys.now) seat (operation_facts self.old) pool.old locks.old change →
+            NearsOrSpares result (operation_left self.old (store_of pool.old.images))
+            (operation_left self.new (store_of pool.new.images)) pool.old pool.new }
+        ensures step { (change : Change) (before : List Lock) → HasNoFileLock before →
+            OwnsWritten before self.old → row_of locks.old seat ≡ operation_locks self.old before →
+            IsKeyed (K.of_key keys.now) self.old →
+            SuitsFile (store_of pool.old.images) self.old bytes.now →
+            Sees (K.of_key keys.now) seat (operation_facts self.old) pool.old locks.old change →
+            is_fault result ≡ false →
+            Step (K.of_key keys.now) seat
+            (operation_turn self.old bytes.now (store_of pool.old.images)) result
+            (operation_facts self.new) pool.old pool.new locks.old locks.new change }
+        ensures answer { (change : Change) → IsKeyed (K.of_key keys.now) self.old →
+            Sees (K.of_key keys.now) seat (operation_facts self.old) pool.old locks.old change →
+            is_fault result ≡ false →
+            TellsOf (K.of_key keys.now) seat result bytes.now self.old self.new
+            (world pool.old.images locks.old change) (world pool.new.images locks.new change) }
+    {
+        self.make(pool, locks, keys, seat, bytes)
+    }
+
+    /// Where a find arrives that has not begun and goes straight to the page that the directory
+    /// names, to give it back at once. Nothing is done. Others tell none.
+    pub fn ahead<D: PageDevice>(
+        &self,
+        pool: &mut Pool<D>,
+        locks: &LockTable,
+        seat: u8,
+    ) -> Option<(u32, Option<usize>)>
+        requires seat { IsSeat locks.now seat }
+        requires ready { IsReady pool.old }
+        requires row { EndsRow (operation_locks self.now) 3 (row_of locks.now seat) }
+        ensures pool { pool.new ≡ pool.old }
+        ensures find { IsSome result → IsFind self.now }
+        ensures bare { IsSome result → HasNoLock (operation_locks self.now) }
+        ensures moves { IfSome result (λ there. MovesAlong (OperationStep seat)
+            (at self.now pool.old locks.now)
+            (operation_stops seat there.0 there.1 (at self.now pool.old locks.now))) }
+    {
+        match self {
+            RecordOperation::Find(find) => find.ahead(pool, locks, seat),
+            _ => None,
+        }
+    }
+
+    /// A page has answered a find, and was given back.
+    pub fn arrive(&mut self, page: u32, found: Option<usize>)
+        ensures { self.new ≡ operation_done page found self.old }
+    {
+        if let RecordOperation::Find(find) = self {
+            find.arrive(page, found);
+        }
+    }
+
+    /// One step, by the operation.
+    fn make<D: PageDevice, K: PseudoKey>(
+        &mut self,
+        pool: &mut Pool<D>,
+        locks: &mut LockTable,
+        keys: &K,
+        seat: u8,
+        bytes: &[u8],
+    ) -> Progress<FileFault>
+        requires seat { IsSeat locks.old seat }
+        requires ready { IsReady pool.old }
+        requires row { EndsRow (operation_locks self.old) 3 (row_of locks.old seat) }
+        requires lent { MayBeLent (length bytes.now) self.old }
+        ensures { MakesOperation (K.of_key keys.now) seat bytes.now result self.old self.new
+            pool.old pool.new locks.old locks.new }
+    {
+        match self {
+            RecordOperation::Find(find) => find.step(Deed::Find, pool, locks, seat, bytes),
+            RecordOperation::Insert(insert) => insert.step(pool, locks, keys, seat, bytes),
+            RecordOperation::Replace(replace) => {
+                replace.step(Deed::Replace, pool, locks, seat, bytes)
+            }
+            RecordOperation::Delete(delete) => delete.step(pool, locks, seat),
+        }
+    }
+}

@@ -1,0 +1,169 @@
+-- What a run told, beside the journal of its service.
+use Rattle.std.proofs.Common.{◌≡◌, ◌<◌, ◌≤◌, ℕ, zero, suc, ◌+◌, Bool, true, false, IsTrue, inl, inr, List, [], ◌∷◌, Option, length, map, refl, sym, ap, ◌∙◌, subst, append-nil, arith}
+use Rattle.std.specs.Prelude.{slice_index_or}
+use Rattle.msgq_cli.proofs.OutputLemmas.{Prints-then}
+use Rattle.numbers.specs.declared.faults.TheConstants.{NO_MEMORY}
+use Rattle.bucket_page.specs.Pseudokeys.{sha_key}
+use Rattle.bucket_page.specs.declared.pseudokey.ShaKey.{ShaKey}
+use Rattle.interleavings.proofs.ToldLemmas.{risen_since}
+use Rattle.interleavings.specs.interleaving_core.declared.fault.Failure.{Failure}
+use Rattle.interleavings.specs.interleaving_core.declared.fault.OpenFault.TheVariants.{NoMemory}
+use Rattle.msgq_cli.specs.Outputs.{OutputState, Prints}
+use Rattle.msgq_cli.specs.Refusals.{IsFaultAlone}
+use Rattle.msgq_cli.specs.Runs.{printed}
+use Rattle.msgq_cli.specs.Scripts.{Parts, greatest_seat}
+use Rattle.msgq_cli.specs.declared.ending.Ending.{Ending}
+use Rattle.msgq_cli.specs.declared.reply.Reply.{Reply}
+use Rattle.queue_model.specs.declared.entry.Entry.{Entry}
+use Rattle.replays.specs.Replays.{EndsWith}
+use Rattle.replays.specs.Texts.{Effects}
+use Rattle.workers.specs.Views.{nobody}
+use Rattle.replays.specs.Serves.{RunsOn}
+use Rattle.workers.specs.Opening.{PreparedView, origin_of}
+use Rattle.workers.specs.Closing.{IsUnwritten, Remains}
+use Rattle.workers.specs.Origins.{IsJournalOf, LeavesFile, Origin}
+use Rattle.workers.specs.Told.{Sitter}
+use Rattle.replays.proofs.PairLemmas.{HasDone, long_sitters, sitter_there, sitters}
+use Rattle.replays.specs.Beside.{HasEnded, IsPart, RunsAsOne, RunsBeside, RunsBesideOn, RunsFrom, RunsScriptOn, counted_from, is_of_one_seat, origin_on, told_to}
+use Rattle.replays.specs.Desks.{DeskView, IsPreparedFor, desk_at}
+use Rattle.replays.specs.Lines.{entries_to, lines_of, replies_to}
+use Rattle.replays.specs.Printing.{IsPrintedOf}
+
+-- ---- where transfers had failed before
+
+module _ (was : ℕ) (o : Origin) (journal : List Entry) where
+  abbrev journal_from : IsJournalOf o journal → IsJournalOf (counted_from was o) journal
+  journal_from j = record { base = j.base; file = j.file; legal = j.legal; fifo = j.fifo }
+
+  file_from : (content : List (List ℕ)) → LeavesFile o journal content →
+      LeavesFile (counted_from was o) journal content
+  file_from content l = record { plain = journal_from l.plain; left = l.left }
+
+  unwritten_from : (content : List (List ℕ)) → IsUnwritten ShaKey o journal content →
+      IsUnwritten ShaKey (counted_from was o) journal content
+  unwritten_from content u = record {
+    kernel = u.kernel;
+    refines = u.refines;
+    journal_is = u.journal_is;
+    stored = u.stored;
+    before = u.before;
+  }
+
+-- ---- what each seat was told
+
+module _ (script : Parts) (made : List DeskView) (many : length made ≡ greatest_seat script.lines)
+    (done : (place : ℕ) → place < greatest_seat script.lines → HasDone script.lines place (desk_at made place)) where
+  part_at : (fault : Option ℕ) (journal : List Entry) (replies : List Reply) (place : ℕ) →
+      place < greatest_seat script.lines → IsPart fault journal (desk_at made place).sitter.seat
+      (desk_at made place).sitter.list →
+      replies_to (place + 1) script.lines replies ≡ (desk_at made place).lines.replies →
+      IsPart fault journal (place + 1) (told_to (place + 1) script.lines replies)
+  part_at fault journal replies place below its own =
+      let d = done place below in
+      subst (IsPart fault journal (place + 1))
+      (d.told ∙ ap (entries_to (lines_of (place + 1) script.lines)) (sym own))
+      (subst (λ (n : ℕ). IsPart fault journal n (desk_at made place).sitter.list) d.seat its)
+
+  parts_of : (o : Origin) (untold : Bool) (fault : Option ℕ) (left : Remains) (replies : List Reply) →
+      HasEnded o (sitters made) untold fault left →
+      ((place : ℕ) → place < length made →
+      replies_to (place + 1) script.lines replies ≡ (desk_at made place).lines.replies) →
+      (seat : ℕ) → 1 ≤ seat → seat ≤ greatest_seat script.lines →
+      IsPart fault left.journal seat (told_to seat script.lines replies)
+  parts_of o untold fault left replies ended own zero some few = absurd (omega arith)
+  parts_of o untold fault left replies ended own (suc place) some few =
+      let long = long_sitters made in
+      let up : place + 1 ≡ suc place = omega arith in
+      let below : place < greatest_seat script.lines = omega (arith, few) in
+      let here : place < length made = omega (arith, below, many) in
+      subst (λ (n : ℕ). IsPart fault left.journal n (told_to n script.lines replies)) up
+      (part_at fault left.journal replies place below
+      (subst (λ (x : Sitter). IsPart fault left.journal x.seat x.list) (sitter_there made place)
+      (ended.parts place (omega (arith, here, long))))
+      (own place here))
+
+  -- and the whole of it
+  pub beside : (o : Origin) (c : Effects) (ending so_far : Ending) (fault : Option ℕ) (journal : List Entry)
+      (seats : List Sitter) (failure : Option Failure) (first told : OutputState) →
+      IsPrintedOf script.lines made c.old first so_far → Prints first told [] → c.untold ≡ told.refused →
+      (told.refused ≡ false → told.handed ≡ told.known) →
+      HasEnded o (sitters made) c.untold fault (record {
+        journal = journal;
+        seats = seats;
+        failure = failure;
+        content = c.left;
+        faults = c.faults;
+      }) → EndsWith fault told so_far c.new ending → o.content ≡ c.content → IsTrue o.spares → c.was ≤ o.faults →
+      RunsBeside script (counted_from c.was o) c ending
+  beside o c ending so_far fault journal seats failure first told p flushed untold handed ended ends same spared was =
+      record {
+        replies = p.replies;
+        as_many = p.as_many;
+        journal = journal;
+        fault = fault;
+        plain = λ honest. journal_from c.was o journal (ended.plain honest);
+        parts = parts_of o c.untold fault _ p.replies ended p.own;
+        told = told;
+        prints = subst (Prints c.old told) (append-nil (printed script.lines p.replies))
+            (Prints-then c.old first told _ [] p.prints flushed);
+        untold = untold;
+        handed = λ is. handed (sym untold ∙ is);
+        kept = λ is none honest. file_from c.was o journal c.left (ended.kept is none honest);
+        unwritten = λ either. unwritten_from c.was o journal c.left (ended.unwritten either);
+        before = λ either. (ended.unwritten either).before spared ∙ same;
+        number = ended.number;
+        reason = record {
+          device = λ is. risen_since was (ended.reason.device is);
+          step = λ honest is. risen_since was (ended.reason.step honest is);
+        };
+        ends = subst (λ (e : Ending). EndsWith fault told e c.new ending) p.ends ends;
+      }
+
+-- ---- the file is not opened, or is opened for the seats
+
+pub no_room : (script : Parts) (o : Origin) (c : Effects) (ending : Ending) → c.left ≡ c.content →
+    IsFaultAlone NO_MEMORY c.old c.new ending → c.untold ≡ false → RunsFrom script o c ending
+no_room script o c ending pages alone told = inr record {
+  fault = NoMemory;
+  framed = λ is. absurd cc;
+  cause = λ honest. tt;
+  failed = λ is. absurd cc;
+  leaves = record { pages = pages; alone = alone; told = told };
+}
+
+module _ (script : Parts) (honest : Bool) (c : Effects) (p : PreparedView ShaKey)
+    (f : IsPreparedFor script c.content honest p) where
+  origin_is : counted_from c.was (origin_of (λ _. sha_key) true p) ≡ origin_on script honest c
+  origin_is = λ i. record {
+    content = f.content_is i;
+    honest = f.honest_is i;
+    faults = c.was;
+    spares = true;
+    hash = sha_key;
+    callers = f.callers_are i;
+  }
+
+  pub from_prepared : (ending : Ending) →
+      RunsFrom script (counted_from c.was (origin_of (λ _. sha_key) true p)) (record c { content = p.content }) ending →
+      RunsBesideOn script honest c ending
+  from_prepared ending runs =
+      subst (λ (o : Origin). RunsFrom script o c ending) origin_is
+      (subst (λ (x : List (List ℕ)). RunsFrom script (counted_from c.was (origin_of (λ _. sha_key) true p))
+      (record c { content = x }) ending) f.content_is runs)
+
+-- ---- by how many seats
+
+pub as_one : (script : Parts) (honest : Bool) (c : Effects) (ending : Ending) → is_of_one_seat script.lines ≡ true →
+    RunsOn script honest c ending → RunsScriptOn script honest c ending
+as_one script honest c ending one runs =
+    subst (λ (b : Bool). RunsAsOne b script honest c ending) (sym one) runs
+
+pub as_several : (script : Parts) (honest : Bool) (c : Effects) (ending : Ending) →
+    is_of_one_seat script.lines ≡ false → RunsBesideOn script honest c ending → RunsScriptOn script honest c ending
+as_several script honest c ending several runs =
+    subst (λ (b : Bool). RunsAsOne b script honest c ending) (sym several) runs
+
+pub from_origin : (script : Parts) (o other : Origin) (c : Effects) (ending : Ending) → o ≡ other →
+    RunsBeside script other c ending → RunsFrom script o c ending
+from_origin script o other c ending same runs =
+    inl (subst (λ (x : Origin). RunsBeside script x c ending) (sym same) runs)

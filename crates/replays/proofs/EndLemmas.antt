@@ -1,0 +1,112 @@
+-- How the service of a run ends.
+use Rattle.std.proofs.Common.{◌≡◌, ◌≢◌, ◌≤◌, ◌<◌, ℕ, Bool, true, false, IsTrue, inl, inr, List, [], ◌∷◌, ◌++◌, length, Option, Some, None, refl, sym, ap, ◌∙◌, subst, append-nil, arith}
+use Rattle.std.specs.Prelude.{is_some, slice_index_or}
+use Rattle.std.specs.Bool.{then_some}
+use Rattle.numbers.specs.declared.faults.TheConstants.{DEVICE, FAILED}
+use Rattle.bucket_page.specs.declared.pseudokey.ShaKey.{ShaKey}
+use Rattle.interleavings.specs.interleaving_core.Fault.{close_number_of}
+use Rattle.interleavings.specs.interleaving_core.declared.fault.CloseFault.{CloseFault}
+use Rattle.interleavings.specs.interleaving_core.declared.fault.CloseFault.TheVariants as closes
+use Rattle.interleavings.specs.interleaving_core.declared.fault.Failure.{Failure}
+use Rattle.queue_model.specs.declared.entry.Entry.{Entry}
+use Rattle.workers.specs.Views.{nobody}
+use Rattle.workers.specs.Closing.{Each, HasItsPart, HasMostOfItsPart, IsClosed, IsFaulted, IsLetGo, Remains}
+use Rattle.workers.specs.Origins.{Origin}
+use Rattle.workers.specs.Told.{Sitter}
+use Rattle.replays.specs.Beside.{HasEnded, IsPart}
+
+-- ---- parts
+
+whole : (fault : Option ℕ) (journal : List Entry) (x : Sitter) → HasItsPart journal x →
+    IsPart fault journal x.seat x.list
+whole fault journal x its = record {
+  more = [];
+  part = its.part ∙ sym (append-nil x.list);
+  one = omega arith;
+  exact = λ other. refl;
+}
+
+most : (journal : List Entry) (x : Sitter) → HasMostOfItsPart journal x → IsPart (Some FAILED) journal x.seat x.list
+most journal x its = record {
+  more = its.more;
+  part = its.part;
+  one = its.one;
+  exact = λ other. absurd (other refl);
+}
+
+abbrev Parts : Option ℕ → List Entry → List Sitter → Type 0
+Parts fault journal given = Each (λ (x : Sitter). IsPart fault journal x.seat x.list) given
+
+wholes : (fault : Option ℕ) (journal : List Entry) (given seats : List Sitter) → seats ≡ given →
+    Each (HasItsPart journal) seats → Parts fault journal given
+wholes fault journal given seats same each =
+    subst (λ (l : List Sitter). Parts fault journal l) same
+    (λ place below. whole fault journal (slice_index_or seats place nobody) (each place below))
+
+mosts : (journal : List Entry) (given seats : List Sitter) → seats ≡ given →
+    Each (HasMostOfItsPart journal) seats → Parts (Some FAILED) journal given
+mosts journal given seats same each =
+    subst (λ (l : List Sitter). Parts (Some FAILED) journal l) same
+    (λ place below. most journal (slice_index_or seats place nobody) (each place below))
+
+-- ---- it is let go, or closed, or not closed well
+
+same_number : (m n : ℕ) → Some m ≡ Some n → m ≡ n
+same_number m n is = cc
+
+none_told : {P : Type 0} (n : ℕ) → ◌≡◌ {A = Option ℕ} None (Some n) → P
+none_told n is = absurd cc
+
+let_go : (o : Origin) (given : List Sitter) (left : Remains) (untold : Bool) (fault : Option ℕ) →
+    IsLetGo ShaKey o given left → Parts fault left.journal given → (untold ≡ false → fault ≡ None → ⊥) →
+    ((n : ℕ) → fault ≡ Some n → (n ≡ FAILED) × (left.failure ≢ None)) → HasEnded o given untold fault left
+let_go o given left untold fault g parts never only = record {
+  plain = g.plain;
+  parts = parts;
+  kept = λ told none honest. absurd (never told none);
+  unwritten = λ either. g.unwritten;
+  number = λ n is. inr (only n is).0;
+  reason = record {
+    device = λ is. let no = (only DEVICE is).0 in absurd (omega (arith, no));
+    step = λ honest is. g.cause honest (only FAILED is).1;
+  };
+}
+
+pub let_go_ends : (o : Origin) (given : List Sitter) (left : Remains) (failure : Option Failure) →
+    failure ≡ left.failure → IsLetGo ShaKey o given left →
+    HasEnded o given true (then_some (is_some failure) FAILED) left
+let_go_ends o given left None known g =
+    let_go o given left true None g (wholes None left.journal given left.seats g.same (g.exact (sym known)))
+    (λ told none. absurd cc) (λ n is. none_told n is)
+let_go_ends o given left (Some failure) known g =
+    let_go o given left true (Some FAILED) g (mosts left.journal given left.seats g.same g.parts)
+    (λ told none. absurd cc)
+    (λ n is. (sym (same_number FAILED n is), λ none. let no = known ∙ none in absurd cc))
+
+pub closed_ends : (o : Origin) (given : List Sitter) (left : Remains) → IsClosed o given left →
+    HasEnded o given false None left
+closed_ends o given left e = record {
+  plain = e.sound.plain;
+  parts = wholes None left.journal given left.seats e.sound.same e.sound.parts;
+  kept = λ told none honest. e.file honest;
+  unwritten = λ either. elim either [ inl is ↦ absurd cc | inr is ↦ none_told FAILED is ];
+  number = λ n is. none_told n is;
+  reason = record { device = λ is. none_told DEVICE is; step = λ honest is. none_told FAILED is };
+}
+
+pub faulted_ends : (fault : CloseFault) (o : Origin) (given : List Sitter) (left : Remains) →
+    IsFaulted ShaKey fault o given left → HasEnded o given false (Some (close_number_of fault)) left
+faulted_ends closes.Device o given left e = record {
+  plain = e.sound.plain;
+  parts = wholes _ left.journal given left.seats e.sound.same e.sound.parts;
+  kept = λ told none honest. absurd cc;
+  unwritten = λ either. elim either [ inl is ↦ absurd cc | inr is ↦ no_step is ];
+  number = λ n is. inl (sym (same_number _ _ is));
+  reason = record { device = λ is. e.cause; step = λ honest is. no_step is };
+}
+  where
+    no_step : {P : Type 0} → ◌≡◌ {A = Option ℕ} (Some DEVICE) (Some FAILED) → P
+    no_step is = let no = same_number _ _ is in absurd (omega (arith, no))
+faulted_ends closes.Failed o given left e =
+    let_go o given left false (Some FAILED) e.let_go (mosts left.journal given left.seats e.let_go.same e.let_go.parts)
+    (λ told none. absurd cc) (λ n is. (sym (same_number FAILED n is), e.failed))

@@ -1,0 +1,95 @@
+-- A desk that makes its lines.
+use Rattle.std.proofs.Common.{◌≡◌, ◌<◌, ◌≤◌, ℕ, ◌+◌, true, false, List, [], ◌∷◌, ◌++◌, Some, length, take, get_or, refl, sym, ap, ◌∙◌, append-nil, length-append, arith}
+use Rattle.msgq_cli.specs.declared.command.Command.{Command}
+use Rattle.msgq_cli.specs.declared.command.Command.TheVariants as commands
+use Rattle.msgq_cli.specs.declared.line.Line.{Line}
+use Rattle.msgq_cli.specs.declared.reply.Reply.{Reply}
+use Rattle.msgq_cli.specs.declared.reply.Reply.TheVariants.{Failed}
+use Rattle.queue_model.specs.declared.entry.Entry.{Entry}
+use Rattle.replays.specs.Journal.{entry_at}
+use Rattle.replays.proofs.LineLemmas.{entries_more, other_more, own_more, room_at}
+use Rattle.replays.specs.Desks.{DeskView, IsFresh, IsMadeOf}
+use Rattle.replays.specs.Lines.{HasMade, entries_to, is_line_of, lines_of}
+
+-- of the lines of its script these were made
+pub record IsMaking (taken : List Line) (old d : DeskView) : Type 0 where
+  pub seat : d.lines.seat ≡ old.lines.seat
+  pub lines_are : d.lines.lines ≡ old.lines.lines
+  pub at_seat : d.sitter.seat ≡ d.lines.seat
+  pub all : length d.lines.replies ≡ length (lines_of old.lines.seat taken)
+  pub told : d.sitter.list ≡ entries_to (lines_of old.lines.seat taken) d.lines.replies
+
+pub making_starts : (d : DeskView) → IsFresh d → d.sitter.seat ≡ d.lines.seat → IsMaking [] d d
+making_starts d fresh at = record {
+  seat = refl;
+  lines_are = refl;
+  at_seat = at;
+  all = ap length fresh.unmade;
+  told = fresh.list ∙ sym (ap (entries_to []) fresh.unmade);
+}
+
+pub making_skips : (taken : List Line) (old d : DeskView) (line : Line) → IsMaking taken old d →
+    is_line_of old.lines.seat line ≡ false → IsMaking (taken ++ line ∷ []) old d
+making_skips taken old d line m other =
+    let own = other_more old.lines.seat taken line other in record {
+      seat = m.seat;
+      lines_are = m.lines_are;
+      at_seat = m.at_seat;
+      all = m.all ∙ sym (ap length own);
+      told = m.told ∙ sym (ap (λ (l : List Line). entries_to l d.lines.replies) own);
+    }
+
+pub making_goes : (taken : List Line) (old d e : DeskView) (line : Line) (reply : Reply) → IsMaking taken old d →
+    is_line_of old.lines.seat line ≡ true → e.sitter.list ≡ d.sitter.list ++ entry_at line (Some reply) →
+    e.sitter.seat ≡ d.sitter.seat → e.lines ≡ record d.lines { replies = d.lines.replies ++ reply ∷ [] } →
+    IsMaking (taken ++ line ∷ []) old e
+making_goes taken old d e line reply m its told same lines =
+    let own = own_more old.lines.seat taken line its in
+    let replies : e.lines.replies ≡ d.lines.replies ++ reply ∷ [] = ap (λ v. v.replies) lines in
+    let number : e.lines.seat ≡ d.lines.seat = ap (λ v. v.seat) lines in
+    let more : List Line = lines_of old.lines.seat taken in
+    record {
+      seat = number ∙ m.seat;
+      lines_are = ap (λ v. v.lines) lines ∙ m.lines_are;
+      at_seat = same ∙ m.at_seat ∙ sym number;
+      all = ap length replies ∙ length-append d.lines.replies (reply ∷ []) ∙ ap (λ (n : ℕ). n + 1) m.all
+          ∙ sym (length-append more (line ∷ [])) ∙ sym (ap length own);
+      told = told ∙ ap (λ (l : List Entry). l ++ entry_at line (Some reply)) m.told
+          ∙ sym (entries_more more d.lines.replies line reply m.all)
+          ∙ sym (ap (λ (l : List Line). entries_to l (d.lines.replies ++ reply ∷ [])) own)
+          ∙ sym (ap (entries_to (lines_of old.lines.seat (taken ++ line ∷ []))) replies);
+    }
+
+-- there is room for the reply to a line that is its own
+pub making_room : (lines : List Line) (i : ℕ) (old d : DeskView) (line : Line) → lines ≡ old.lines.lines →
+    IsMaking (take i lines) old d → i < length lines → get_or lines i line ≡ line → line.seat ≡ d.lines.seat →
+    length d.lines.replies < length (lines_of d.lines.seat d.lines.lines)
+making_room lines i old d line whole m below is at =
+    let fewer = room_at old.lines.seat lines i line below is (at ∙ m.seat) in
+    let all = m.all in
+    let same = ap (λ (n : ℕ). length (lines_of n d.lines.lines)) m.seat
+    ∙ ap (λ (l : List Line). length (lines_of old.lines.seat l)) (m.lines_are ∙ sym whole) in
+    omega (arith, fewer, all, same)
+
+pub making_ends : (old d : DeskView) → IsMaking old.lines.lines old d → IsMadeOf old d
+making_ends old d m =
+    let same = ap (λ (n : ℕ). lines_of n d.lines.lines) m.seat
+    ∙ ap (λ (l : List Line). lines_of old.lines.seat l) m.lines_are in record {
+      seat = m.seat;
+      lines_are = m.lines_are;
+      at_seat = m.at_seat;
+      made = record {
+        all = m.all ∙ sym (ap length same);
+        told = m.told ∙ sym (ap (λ (l : List Line). entries_to l d.lines.replies) same);
+      };
+    }
+
+-- ---- a fault
+
+-- a line that is replied a fault has no entry
+pub no_entry : (line : Line) (fault : ℕ) → entry_at line (Some (Failed fault)) ≡ []
+no_entry line fault = by line.command
+  where
+    by : (c : Command) → entry_at (record line { command = c }) (Some (Failed fault)) ≡ []
+    by commands.Stop = refl
+    by (commands.Call call) = refl

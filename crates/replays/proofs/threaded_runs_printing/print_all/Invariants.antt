@@ -1,0 +1,8 @@
+-- The replies to the lines so far are printed.
+use Rattle.std.proofs.Common.{take}
+use Rattle.replays.proofs.ThreadedRunsPrintLemmas.{ArePrinting}
+use Rattle.replays.proofs.threaded_runs_printing.print_all.Given as goal
+
+abbrev pub invariant-loop-line : goal.invariant-loop-line
+invariant-loop-line g l =
+    ArePrinting (take l.line-index l.lines) l.desks l.printed l.fn.output l.output l.ending

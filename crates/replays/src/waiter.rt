@@ -1,0 +1,30 @@
+//! Who waits for answers. This crate starts no thread and waits for none: the program does.
+
+ghost use Rattle.std.specs.Prelude.{◌≡◌, ◌∷◌, ◌++◌, [], IfOk, OnErr};
+ghost use Rattle.queue_model.specs.declared.entry.Entry.TheVariants.{Decided};
+
+use crate::FileKeys;
+use page_device::PageDevice;
+use queue_model::{Answer, Call};
+use workers::{Base, Fault, Open, Room, Seat, Service};
+
+/// A service that the seats of a script share.
+pub type Shared<D, N> = Service<D, FileKeys, Open, N>;
+
+/// Who may wait for the answer to a call.
+pub trait Waiter {
+    /// As `Service::call`.
+    fn call<D: PageDevice + Drop, N: Room + Base>(
+        &self,
+        service: &Shared<D, N>,
+        seat: &mut Seat<N>,
+        call: Call,
+    ) -> Result<Answer, Fault>
+        ensures ok { IfOk result (λ answer.
+            seat.new.list ≡ seat.old.list ++ Decided seat.old.seat call answer ∷ []) }
+        ensures err { OnErr result (seat.new.list ≡ seat.old.list) }
+        ensures same { seat.new.seat ≡ seat.old.seat };
+
+    /// As `Service::stop`.
+    fn stop<D: PageDevice + Drop, N: Room + Base>(&self, service: &Shared<D, N>);
+}

@@ -1,4 +1,0 @@
-pub mod Telling
-pub mod Taking
-pub mod Runs
-pub mod Serves

@@ -1,8 +1,0 @@
--- As many as were counted.
-use Rattle.std.proofs.Common.{◌≡◌, replicate}
-use Rattle.search_counts.specs.Counting.{begun_count}
-use Rattle.search_counts.specs.declared.under_way.UnderWay.TheVariants.{Nothing}
-use Rattle.search_counts.proofs.counts.SearchCounts.new.Given as goal
-
-abbrev pub invariant-loop : goal.invariant-loop
-invariant-loop l = l.counts.items ≡ replicate l.counter (begun_count Nothing)

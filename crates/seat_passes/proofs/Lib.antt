@@ -1,4 +1,0 @@
-pub mod PartLemmas
-pub mod FitLemmas
-pub mod PassLemmas
-pub mod TieLemmas

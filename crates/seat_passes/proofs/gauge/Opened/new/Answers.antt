@@ -1,5 +1,0 @@
-use Rattle.seat_passes.proofs.FitLemmas.{begins}
-use Rattle.seat_passes.proofs.gauge.Opened.new.Goals as goal
-
-pub of_words-requires : goal.of_words-requires
-of_words-requires g c = begins g.J.Recorded.seat_of c.args.seats

@@ -1,8 +1,0 @@
--- The replies to the lines so far are printed.
-use Rattle.std.proofs.Common.{take}
-use Rattle.threaded_runs.proofs.PrintLemmas.{ArePrinting}
-use Rattle.threaded_runs.proofs.printing.print_all.Given as goal
-
-abbrev pub invariant-loop-line : goal.invariant-loop-line
-invariant-loop-line g l =
-    ArePrinting (take l.line-index l.lines) l.desks l.printed l.fn.output l.output l.ending

@@ -1,4 +1,0 @@
-pub mod Lines
-pub mod Desks
-pub mod Printing
-pub mod Beside

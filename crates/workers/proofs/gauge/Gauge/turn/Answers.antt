@@ -1,0 +1,40 @@
+use Rattle.std.proofs.Common.{ap, sym, ◌∙◌}
+use Rattle.workers.specs.Rule.{turned}
+use Rattle.workers.proofs.PassLemmas.{passes_join_as, passes_part_as, turn_as}
+use Rattle.workers.proofs.TieLemmas.{change_at, has_word, head_is, joined_is}
+use Rattle.workers.proofs.gauge.Gauge.turn.Goals as goal
+
+pub join_seat-requires : goal.join_seat-requires
+join_seat-requires g c =
+    let took = c.into_seat-seat.ensures in
+    let own = took.0 ∙ ap (λ b. b.table_id) c.replace.ensures.value ∙ c.pass.invariant.table in
+    let seat = head_is (sym took.2 ∙ ap (λ b. b.views) c.replace.ensures.value ∙ c.pass.invariant.knows) in (
+      c.kernel.invariant.table ∙ sym c.args.self.now.table_is,
+      own ∙ sym c.args.self.now.table_is,
+      took.3,
+      has_word _ _ c.args.self.now.table_is c.args.self.now.one_word,
+      passes_join_as g.J.Recorded.seat_of _ _ _ _ _ _ c.kernel.invariant.knows seat,
+    )
+
+pub store-requires : goal.store-requires
+store-requires g c =
+    let took = c.into_seat-seat.ensures in
+    let seat = head_is (sym took.2 ∙ ap (λ b. b.views) c.replace.ensures.value ∙ c.pass.invariant.knows) in
+    let both = joined_is _ _ _ _ _ c.join_seat.ensures.2 c.kernel.invariant.knows seat in (
+      c.join_seat.ensures.0 ∙ c.kernel.invariant.table ∙ sym c.args.self.now.table_is,
+      has_word _ _ c.args.self.now.table_is c.args.self.now.one_word,
+      turn_as g.J.Recorded.seat_of _ _ _ _ _ _ _ _ both c.requires.count
+          (change_at g.J.Recorded.seat_of _ _ _ _ _ _ c.pass.view_is c.kernel.view_is c.requires.change),
+    )
+
+pub split_seat-seat-requires : goal.split_seat-seat-requires
+split_seat-seat-requires g c =
+    let took = c.into_seat-seat.ensures in
+    let seat = head_is (sym took.2 ∙ ap (λ b. b.views) c.replace.ensures.value ∙ c.pass.invariant.knows) in
+    let both = joined_is _ _ _ _ _ c.join_seat.ensures.2 c.kernel.invariant.knows seat in
+    let now = c.store.ensures.2.0.now
+    ∙ ap (λ m. turned g.J.Recorded.seat_of g.M.Change.desk g.M.Change.told m.0) both in (
+      c.store.ensures.0 ∙ c.join_seat.ensures.0 ∙ c.kernel.invariant.table ∙ sym c.args.self.now.table_is,
+      has_word _ _ c.args.self.now.table_is c.args.self.now.one_word,
+      passes_part_as g.J.Recorded.seat_of _ _ _ _ now,
+    )

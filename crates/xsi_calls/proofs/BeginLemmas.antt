@@ -1,0 +1,27 @@
+-- The decision before the first trial, and the trials that then begin.
+use Rattle.std.proofs.Common.{◌≡◌, ap, ◌∙◌, subst, Option, None, Result, Ok}
+use Rattle.xsi_calls.specs.declared.writes.CallWrites.{CallWrites}
+use Rattle.xsi_calls.specs.WriteWords.{AccessView}
+use Rattle.xsi_inquiry.specs.Telling.{Gives}
+use Rattle.xsi_calls.specs.UndecidedWords.{AnyInquiry, Call, Decision, Due, IsFiled, IsRight, KnowsOf, NotASystem, QuestionsView, Roomful, State, Trying, caller_of, locked_of, plan_of}
+use Rattle.xsi_calls.specs.Undecided.{its_plan, untried}
+use Rattle.xsi_calls.specs.Knowing.{IsDecision}
+
+pub new_is : (w : CallWrites) → w.due ≡ Trying 0 → w.access ≡ None → w ≡ untried
+new_is w due rests =
+    ap (λ (d : Due). record { due = d; access = w.access }) due
+    ∙ ap (λ (o : Option AccessView). record { due = Trying 0; access = o }) rests
+
+pub decision_of : (call : Call) (q : QuestionsView) (i : AnyInquiry) → i ≡ q.inquiry →
+    (result : Result Decision NotASystem) → ((room : Roomful) (s : State) → IsFiled s → KnowsOf call i room s →
+    Gives result (IsRight (caller_of i) call (locked_of call i) room.bytes s (plan_of call i))) →
+    (decision : Decision) → result ≡ Ok decision → IsDecision call q decision
+decision_of call q i same result right decision ok u filed knows =
+    subst (λ (r : Result Decision NotASystem).
+    Gives r (IsRight (caller_of q.inquiry) call (locked_of call q.inquiry) q.room.bytes u (its_plan call q))) ok
+    (moved q.room u filed knows)
+  where
+    moved : (room : Roomful) (s : State) → IsFiled s → KnowsOf call q.inquiry room s →
+        Gives result (IsRight (caller_of q.inquiry) call (locked_of call q.inquiry) room.bytes s (its_plan call q))
+    moved = subst (λ (j : AnyInquiry). (room : Roomful) (s : State) → IsFiled s → KnowsOf call j room s →
+        Gives result (IsRight (caller_of j) call (locked_of call j) room.bytes s (plan_of call j))) same right

@@ -1,0 +1,41 @@
+-- A step of either part in a sound world.
+use Rattle.std.proofs.Common.{◌≡◌, ℕ, false, List}
+use Rattle.file_pages.specs.declared.fault.FileFault.{FileFault}
+use Rattle.xsi_calls.proofs.SweptLemmas.{ends_with, nears_end, nears_on, sweeps_on}
+use Rattle.xsi_calls.proofs.WrittenLemmas.{writes_on}
+use Rattle.xsi_calls.specs.declared.payment.Stage.{Stage}
+use Rattle.xsi_calls.specs.declared.payment.Stage.TheVariants as stages
+use Rattle.xsi_calls.specs.PaymentWords.{RecordKey, PoolState, Table, Lock, Change, store_of, IsSeat, NearsOrSpares, Progress, is_fault, Plan, Records}
+use Rattle.xsi_calls.specs.Payments.{payment_left}
+use Rattle.xsi_calls.specs.Paying.{IsPaying}
+use Rattle.xsi_calls.specs.PaySteps.{Goes, HasFailed, Pays, StepsPart}
+
+module _ (hash : RecordKey → ℕ) (seat : ℕ) (p : Plan) (did : Progress FileFault) (pool pool' : PoolState)
+    (locks locks' : Table) (seated : IsSeat locks seat) (names : List Lock) (records : Records) (change : Change) where
+  pub nears : (old new : Stage) → StepsPart hash seat p did old new pool pool' locks locks' →
+      IsPaying hash seat names p old records pool locks change →
+      NearsOrSpares did (payment_left p old (store_of pool.images)) (payment_left p new (store_of pool'.images)) pool
+      pool'
+  nears (stages.Sweeping v) (stages.Sweeping v') (Goes going makes on) y =
+      nears_on hash seat names p did v v' pool pool' locks locks' seated makes records change y
+  nears (stages.Sweeping v) (stages.Sweeping v') (HasFailed over fault same pools tables) y =
+      absurd (y.goes_on over)
+  nears (stages.Sweeping v) (stages.Writing w) last y =
+      nears_end hash seat names p did v last.swept pool pool' locks locks' seated last.makes records change y
+      last.ends.moved w last.ends.fresh
+  nears (stages.Writing w) (stages.Sweeping v) none y = absurd none
+  nears (stages.Writing w) (stages.Writing w') makes y = makes.progress names records change y.carries
+
+  pub pays : (old new : Stage) → StepsPart hash seat p did old new pool pool' locks locks' →
+      IsPaying hash seat names p old records pool locks change → is_fault did ≡ false →
+      Pays hash seat names p did old new records pool pool' locks locks' change
+  pays (stages.Sweeping v) (stages.Sweeping v') (Goes going makes on) y fine =
+      sweeps_on hash seat names p did v v' pool pool' locks locks' seated makes records change y fine on
+  pays (stages.Sweeping v) (stages.Sweeping v') (HasFailed over fault same pools tables) y fine =
+      absurd (y.goes_on over)
+  pays (stages.Sweeping v) (stages.Writing w) last y fine =
+      ends_with hash seat names p did v last.swept pool pool' locks locks' seated last.makes records change y fine
+      last.over w last.ends.fresh
+  pays (stages.Writing w) (stages.Sweeping v) none y fine = absurd none
+  pays (stages.Writing w) (stages.Writing w') makes y fine =
+      writes_on hash seat names p did w w' pool pool' locks locks' makes records change y fine

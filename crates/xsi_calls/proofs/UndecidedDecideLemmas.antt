@@ -1,0 +1,114 @@
+-- What a call has come to at its Decide.
+use Rattle.std.proofs.Common.{◌≡◌, refl, sym, ap, ◌∙◌, subst, ℕ, Bool, true, List, [], Option, Some, None, Ok, IsSome, if◌then◌else◌, take}
+use Rattle.std.specs.List.{Contains}
+use Rattle.std.specs.Option.{is_some}
+use Rattle.std.specs.Prelude.{option_map, slice_get}
+use Rattle.call_decisions.specs.Anything.{decided_of}
+use Rattle.xsi_calls.specs.declared.deed.Deed.TheVariants as deeds
+use Rattle.xsi_calls.specs.Views.{is_full_at}
+use Rattle.xsi_calls.specs.declared.due.Due.TheVariants.{Undoing, Writing}
+use Rattle.xsi_calls.specs.WriteWords.{AccessView}
+use Rattle.xsi_calls.specs.declared.trials.Trials.{Trials}
+use Rattle.xsi_calls.proofs.UndecidedNames.{all_stand, settles, tries_rightly, write_under_names}
+use Rattle.xsi_calls.specs.UndecidedWords.{AreAlike, AreNames, Call, Change, Decision, Due, Exclusive, Full, IsOver, IsRight, Lock, LockName, Means, Plan, PoolState, QuestionsView, Record, RecordKey, Records, State, Table, Trying, caller_of, guard_of, inserted, is_done, is_full, kind_of, locked_of, names_in, next_deed, record_of, settled_by}
+use Rattle.xsi_calls.specs.Undecided.{its_plan, untried}
+use Rattle.xsi_calls.specs.Knowing.{IsAsking, IsOnTrial, IsTrying, standing}
+use Rattle.xsi_calls.specs.Deciding.{IsDecidedIn, IsSettled, settled_in}
+use Rattle.xsi_calls.proofs.HeldLemmas.{is_among, no_first}
+use Rattle.xsi_calls.proofs.ReadyLemmas.{carries, may_write}
+use Rattle.xsi_calls.proofs.SweepLemmas.{sweeps_change}
+use Rattle.xsi_calls.proofs.UndecidedNames.{agrees_itself}
+
+module _ (hash : RecordKey → ℕ) (seat : ℕ) (call : Call) (s : State) (q : QuestionsView) (records : Records)
+    (pool : PoolState) (locks : Table) (change : Change) (stopped : Bool) (mark : s.stopped ≡ stopped) where
+  abbrev p : Plan
+  p = its_plan call q
+
+  means_so : (decision : Decision) →
+      IsRight (caller_of q.inquiry) call (locked_of call q.inquiry) q.room.bytes s p decision →
+      Means (caller_of q.inquiry) call (locked_of call q.inquiry) q.room.bytes s p (settled_by stopped decision)
+  means_so decision right =
+      settles (caller_of q.inquiry) call (locked_of call q.inquiry) s p q.room.bytes stopped decision mark right
+
+  -- ---- nothing was inserted on trial
+
+  no_trials : slice_get p.trials 0 ≡ None → p.trials ≡ []
+  no_trials none = no_first p.trials (ap is_some none)
+
+  pub decides_untried : IsAsking hash seat call s q records pool locks change → AreNames q.names →
+      is_done call q ≡ true → slice_get p.trials 0 ≡ None → (decision : Decision) →
+      decided_of call q.inquiry ≡ Ok decision →
+      IsRight (caller_of q.inquiry) call (locked_of call q.inquiry) q.room.bytes s p decision →
+      IsSettled hash seat call s q (settled_by stopped decision) untried records pool locks change
+  decides_untried a names done none decision value right = record {
+    means = means_so decision right;
+    place = 0;
+    tried = refl;
+    last = ap (option_map deeds.Trial) none;
+    rests = refl;
+    carries = carries hash seat call s q records pool locks change a names done decision right;
+    alike = subst (λ (rs : List Record). AreAlike (names_in q.names) records (inserted rs (record_of s)))
+        (sym (no_trials none)) a.alike;
+    writes = may_write hash seat call s q records pool locks change a names done decision right (no_trials none);
+    sweeps = λ sweep is. sweeps_change call q.inquiry q.room.bytes s stopped decision value right sweep is;
+  }
+
+  -- ---- the trials are over
+
+  module _ (t : Trials) (is : IsTrying hash seat call s q t records pool locks change) (over : IsOver p t.writes) where
+    exclusive : (name : LockName) → Contains (locked_of call q.inquiry) name → kind_of q.names name ≡ Some Exclusive
+    exclusive name within = subst (λ (ls : List Lock). kind_of ls name ≡ Some Exclusive) (sym is.names)
+        (write_under_names call q.inquiry name within)
+
+    right : IsRight (caller_of q.inquiry) call (locked_of call q.inquiry) q.room.bytes s p t.decision
+    right = is.decision s is.filed (is.knows s is.filed (agrees_itself call _ s))
+
+    all_there : (place : ℕ) → t.writes.due ≡ Trying place →
+        AreAlike (names_in q.names) records (inserted p.trials (record_of s))
+    all_there place due =
+        let last : next_deed p (Trying place) ≡ None = subst (λ (x : Due). next_deed p x ≡ None) due over.last in
+        let so_many = subst (λ (x : Due). AreAlike (names_in q.names) records
+        (inserted (take (standing x) p.trials) (record_of s))) due is.alike in
+        subst (λ (rs : List Record). AreAlike (names_in q.names) records (inserted rs (record_of s)))
+        (all_stand p.trials place last) so_many
+
+    stands : (place : ℕ) → t.writes.due ≡ Trying place →
+        IsSettled hash seat call s q (settled_by stopped t.decision) t.writes records pool locks change
+    stands place due = record {
+      means = means_so t.decision right;
+      place = place;
+      tried = due;
+      last = subst (λ (x : Due). next_deed p x ≡ None) due over.last;
+      rests = over.rests;
+      carries = is.carries;
+      alike = all_there place due;
+      sweeps = λ sweep is_sweep. is.changes;
+      writes = λ some. record {
+        exclusive = exclusive;
+        own = (tries_rightly (caller_of q.inquiry) call (locked_of call q.inquiry) q.room.bytes s p t.decision
+            right).own;
+        alike = λ key within. all_there place due key
+            (is_among q.names (guard_of key) (subst IsSome (sym (exclusive (guard_of key) within)) refl));
+      };
+    }
+
+    pub decides_tried : IsDecidedIn hash seat call s q (settled_in stopped t) t.writes records pool locks change
+    decides_tried = by t.writes.due refl
+      where
+        full_of : (due : Due) → t.writes.due ≡ due → is_full t.writes ≡ is_full_at due None
+        full_of due is_due = ap (λ (o : Option AccessView). is_full_at t.writes.due o) over.rests
+            ∙ ap (λ (x : Due). is_full_at x None) is_due
+
+        by : (due : Due) → t.writes.due ≡ due →
+            IsDecidedIn hash seat call s q (settled_in stopped t) t.writes records pool locks change
+        by (Trying place) due =
+            subst (λ (b : Bool). IsDecidedIn hash seat call s q
+            (if b then None else Some (settled_by stopped t.decision)) t.writes records pool locks change)
+            (sym (full_of (Trying place) due)) (stands place due)
+        by (Full n) due =
+            subst (λ (b : Bool). IsDecidedIn hash seat call s q
+            (if b then None else Some (settled_by stopped t.decision)) t.writes records pool locks change)
+            (sym (full_of (Full n) due))
+            (record { standing = n; full = due; rests = over.rests; carries = is.carries })
+        by (Undoing n) due = absurd (subst IsOnTrial due is.on_trial)
+        by (Writing n) due = absurd (subst IsOnTrial due is.on_trial)

@@ -1,0 +1,10 @@
+use Rattle.std.proofs.Common.{◌≡◌, drop}
+use Rattle.call_decisions.specs.Names.{names_for}
+use Rattle.xsi_calls.specs.NameTurns.{name_turn}
+use Rattle.xsi_calls.proofs.names.HeldNames.turn.Given as goal
+
+-- what is left of both tells the turn
+abbrev pub invariant-loop-place : goal.invariant-loop-place
+invariant-loop-place l =
+    name_turn l.self (names_for l.call l.inquiry)
+    ≡ name_turn (drop l.place l.self) (drop l.place (names_for l.call l.inquiry))

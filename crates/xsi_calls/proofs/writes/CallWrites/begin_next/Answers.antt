@@ -1,0 +1,15 @@
+-- The access of the deed that comes next begins.
+use Rattle.std.proofs.Common.{sym, ap, ◌∙◌, subst, Some}
+use Rattle.xsi_calls.specs.WriteWords.{AccessView, Serves}
+use Rattle.xsi_calls.specs.Dues.{purpose_of}
+use Rattle.xsi_calls.specs.MakeSteps.{Begins}
+use Rattle.xsi_calls.specs.declared.writes.CallWrites.{CallWrites}
+use Rattle.xsi_calls.proofs.writes.CallWrites.begin_next.Goals as goal
+
+pub returns : goal.returns
+returns g c =
+    let started : (a : AccessView) → CallWrites =
+    λ a. record { due = c.args.self.now.due; access = Some a } in
+    Begins c.in-Some.deed c.requires.none (sym c.deed.ensures ∙ c.in-Some.is)
+    (subst (Serves (purpose_of c.in-Some.deed)) c.begin.ensures.value c.begin.ensures.serves)
+    (ap started c.begin.ensures.value)

@@ -1,0 +1,50 @@
+-- A question that is asked in one go, by each machine of a call that asks it. docs/STEPS.md, "Search".
+use Rattle.std.specs.Prelude.{ℕ, ◌≡◌, List, [], ◌∷◌, Some}
+use Rattle.file_pages.specs.declared.fault.FileFault.{FileFault}
+use Rattle.page_locks.specs.Table.{held}
+use Rattle.page_locks.specs.declared.lock.LockKind.TheVariants.{Read}
+use Rattle.page_locks.specs.declared.lock.LockName.TheVariants.{Directory}
+pub use Rattle.record_file.specs.stale_search.SearchRuns.{At, at}
+pub use Rattle.step_rules.specs.Runs.{MovesAlong, Stop, stop}
+pub use Rattle.step_rules.specs.declared.kind.Kind.{Kind}
+use Rattle.step_rules.specs.declared.kind.Kind.TheVariants as kinds
+use Rattle.xsi_calls.specs.QuestionWords.{Moved, PoolState, Progress, Table}
+
+-- what a machine promises of a step
+abbrev pub Promise : Type 0 → Type 1
+Promise V = Progress FileFault → (old new : V) → (pool pool' : PoolState) → (locks locks' : Table) → Type 0
+
+-- a step that a machine promises; where the depth is read by it, the directory is held as others may hold it too
+pub record AskStep {V : Type 0} (Makes : Promise V) (seat : ℕ) (did : Progress FileFault) (old new : At V)
+    : Type 0 where
+  pub makes : Makes did old.machine new.machine old.pool new.pool old.locks new.locks
+  pub shared : did ≡ Moved kinds.ReadDepth → held new.locks seat Directory ≡ Some Read
+
+-- where a machine stands on the way of a question, behind each move but the last
+pub record Way (S : Type 0) : Type 0 where
+  -- the directory is locked, its depth was read, and the entry that names the page
+  pub locked : S
+  pub deep : S
+  pub named : S
+  -- the page is locked, the directory given back, and the page looked at
+  pub arrived : S
+  pub alone : S
+  pub looked : S
+
+-- its moves; by the last one the page is given back
+abbrev pub stops_on : {S : Type 0} → Way S → S → List (Stop S)
+stops_on way new =
+    stop kinds.Grant way.locked
+    ∷ stop kinds.ReadDepth way.deep
+    ∷ stop kinds.ReadEntry way.named
+    ∷ stop kinds.Grant way.arrived
+    ∷ stop kinds.Release way.alone
+    ∷ stop kinds.Look way.looked
+    ∷ stop kinds.Release new
+    ∷ []
+
+-- a question is asked, and answered, by such moves; the pool and the locks are then what they were
+pub record AsksAtOnce {V : Type 0} (Makes : Promise V) (seat : ℕ) (old new : V) (pool : PoolState) (locks : Table)
+    : Type 0 where
+  pub way : Way (At V)
+  pub moves : MovesAlong (AskStep Makes seat) (at old pool locks) (stops_on way (at new pool locks))

@@ -1,0 +1,189 @@
+//! The payment.
+
+ghost use Rattle.std.specs.Prelude.{◌≡◌, List, None, not, false};
+ghost use Rattle.xsi_calls.specs.PaymentWords.{Change, EndsRow, FollowsRow, IsReady, IsSeat, Lock, NearsOrSpares, OnlyWrites, Records, is_fault, is_move, row_of, store_of};
+ghost use Rattle.xsi_calls.specs.Payments.{begun_payment, decided, payment_left, payment_locks, sweep_of, unwritten};
+ghost use Rattle.xsi_calls.specs.Paying.{IsPaying};
+ghost use Rattle.xsi_calls.specs.PaySteps.{KeepsPayment, Pays, StepsPart};
+
+use crate::{CallWrites, Due, PlanOf};
+use bucket_page::PseudoKey;
+use buffer_pool::Pool;
+use call_decisions::Settled;
+use file_pages::FileFault;
+use page_device::PageDevice;
+use page_locks::LockTable;
+use std::marker::Model;
+use xsi_inquiry::Sweep;
+use xsi_remove::SweepTurns;
+use xsi_remove::step_rules::Progress;
+
+/// What a call owes after its decision, paid step by step: first the sweep of a Remove, then its
+/// writes, or the deletions of its trials where one had no room. It holds no name: whoever drives
+/// it holds those of the call.
+#[derive(Drop)]
+pub struct Payment {
+    stage: Stage,
+}
+
+/// What is paid.
+#[derive(Drop)]
+pub(crate) enum Stage {
+    /// The messages of the queue are swept.
+    Sweeping(SweepTurns),
+    /// The plan is written, or its trials are undone.
+    Writing(CallWrites),
+}
+
+impl Model for Payment {
+    ghost use Rattle.xsi_calls.specs.declared.payment.Stage.{Stage};
+
+    ghost Value = { Stage };
+
+    ghost view = { λ p. p.stage };
+}
+
+impl Payment {
+    /// The place of a payment. None has begun.
+    pub fn new() -> Payment
+        ensures { result ≡ Stage.Writing unwritten }
+    {
+        Payment {
+            stage: Stage::Writing(unwritten()),
+        }
+    }
+
+    /// Begins, in the place of the last one: that of a call which has come to this; to none where one
+    /// of its trials had no room. Of its trials, which rest, this is due.
+    pub fn begin<K: PseudoKey>(&mut self, settled: Option<Settled>, due: Due, keys: &K)
+        ensures { self.new ≡ begun_payment (K.of_key keys.now) settled due }
+    {
+        let Some(sweep) = sweep_of(settled) else {
+            self.begin_writes(due);
+            return;
+        };
+        if sweep.first.is_none() {
+            self.begin_writes(due);
+            return;
+        }
+        self.stage = Stage::Sweeping(SweepTurns::begin(sweep, keys));
+    }
+
+    /// Begins with the writes, in the place of the last ones if there were any.
+    fn begin_writes(&mut self, due: Due)
+        ensures { self.new ≡ Stage.Writing (decided due) }
+    {
+        match &mut self.stage {
+            Stage::Writing(writes) => decide_at(writes, due),
+            Stage::Sweeping(_) => self.stage = Stage::Writing(decided(due)),
+        }
+    }
+
+    /// One step, of the sweep or else of the writes. It has ended where nothing is owed any more. A
+    /// sweep that has failed is refused as `Failed`, and nothing is written after it.
+    pub fn step<D: PageDevice, K: PseudoKey>(
+        &mut self,
+        plan: &PlanOf<'_>,
+        pool: &mut Pool<D>,
+        locks: &mut LockTable,
+        keys: &K,
+        seat: u8,
+    ) -> Progress<FileFault>
+        requires seat { IsSeat locks.old seat }
+        requires ready { IsReady pool.old }
+        requires row { EndsRow (payment_locks self.old) 3 (row_of locks.old seat) }
+        // whatever the device gives
+        ensures writes { OnlyWrites (not (is_fault result)) pool.old pool.new }
+        ensures aim { KeepsPayment plan.now result self.old self.new }
+        ensures row { FollowsRow seat (payment_locks self.old) (payment_locks self.new)
+            locks.old locks.new }
+        // on an honest device, in a sound world
+        ensures progress { (names : List Lock) (records : Records) (change : Change) →
+            IsPaying (K.of_key keys.now) seat names plan.now self.old records
+            pool.old locks.old change →
+            NearsOrSpares result (payment_left plan.now self.old (store_of pool.old.images))
+            (payment_left plan.now self.new (store_of pool.new.images)) pool.old pool.new }
+        ensures step { (names : List Lock) (records : Records) (change : Change) →
+            IsPaying (K.of_key keys.now) seat names plan.now self.old records
+            pool.old locks.old change → is_fault result ≡ false →
+            Pays (K.of_key keys.now) seat names plan.now result self.old self.new records
+            pool.old pool.new locks.old locks.new change }
+    {
+        self.make(plan, pool, locks, keys, seat)
+    }
+
+    /// The plan is written from the step on after that by which the sweep has ended.
+    fn make<D: PageDevice, K: PseudoKey>(
+        &mut self,
+        plan: &PlanOf<'_>,
+        pool: &mut Pool<D>,
+        locks: &mut LockTable,
+        keys: &K,
+        seat: u8,
+    ) -> Progress<FileFault>
+        requires seat { IsSeat locks.old seat }
+        requires ready { IsReady pool.old }
+        requires row { EndsRow (payment_locks self.old) 3 (row_of locks.old seat) }
+        ensures { StepsPart (K.of_key keys.now) seat plan.now result self.old self.new
+            pool.old pool.new locks.old locks.new }
+    {
+        match &mut self.stage {
+            Stage::Writing(writes) => writes.step(plan, pool, locks, keys, seat),
+            Stage::Sweeping(sweep) => {
+                if sweep.is_over() {
+                    return Progress::Fault(FileFault::Failed);
+                }
+                let did = sweep.step(pool, locks, keys, seat);
+                if !is_move(did) {
+                    return did;
+                }
+                if !sweep.is_over() {
+                    return did;
+                }
+                self.stage = Stage::Writing(unwritten());
+                did
+            }
+        }
+    }
+}
+
+/// The sweep that a call has come to.
+fn sweep_of(settled: Option<Settled>) -> Option<Sweep>
+    ensures { result ≡ sweep_of settled }
+{
+    match settled {
+        Some(Settled::Sweeps(sweep)) => Some(sweep),
+        Some(Settled::Answers(_)) | Some(Settled::Waits) | None => None,
+    }
+}
+
+/// Takes the place of trials of which this was due when their call decided.
+fn decide_at(writes: &mut CallWrites, due: Due)
+    ensures { writes.new ≡ decided due }
+{
+    writes.begin_at(due);
+    writes.decide();
+}
+
+/// What is due of trials of which this was due when their call decided.
+fn decided(due: Due) -> CallWrites
+    ensures { result ≡ decided due }
+{
+    let mut writes = CallWrites::new();
+    decide_at(&mut writes, due);
+    writes
+}
+
+/// A plan of which nothing is written yet.
+fn unwritten() -> CallWrites
+    ensures { result ≡ unwritten }
+{
+    decided(Due::Trying(0))
+}
+
+/// Whether the step moved.
+fn is_move(did: Progress<FileFault>) -> bool
+    ensures { result ≡ is_move did }
+{
+    matches!(did, Progress::Moved(_))
+}

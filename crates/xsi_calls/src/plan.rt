@@ -1,0 +1,95 @@
+//! The plan of a call, lent.
+
+ghost use Rattle.std.specs.Prelude.{◌≡◌};
+ghost use Rattle.call_decisions.specs.Anything.{plan_of};
+ghost use Rattle.xsi_calls.specs.Dues.{IsBehind, next_deed};
+
+use crate::deed::Deed;
+use crate::due::Due;
+use call_decisions::AnyInquiry;
+use queue_model::Call;
+use std::marker::Model;
+use xsi_inquiry::{Inquiry, MAX_TRIALS, Write, next_write};
+
+/// The plan of a call, lent.
+#[derive(Drop)]
+pub struct PlanOf<'a> {
+    call: &'a Call,
+    inquiry: &'a AnyInquiry,
+}
+
+impl<'a> Model for PlanOf<'a> {
+    ghost use Rattle.call_decisions.specs.Anything.{plan_of};
+    ghost use Rattle.xsi_inquiry.specs.Writing.{Plan};
+
+    ghost Value = { Plan };
+
+    ghost view = { λ p. plan_of p.call.now p.inquiry.now };
+}
+
+impl<'a> PlanOf<'a> {
+    /// That of the inquiry of a call.
+    pub fn new(call: &'a Call, inquiry: &'a AnyInquiry) -> PlanOf<'a>
+        ensures { result ≡ plan_of call.now inquiry.now }
+    {
+        PlanOf { call, inquiry }
+    }
+
+    /// The deed that comes next, if one is left.
+    pub(crate) fn deed(&self, due: Due) -> Option<Deed<'a>>
+        ensures { result ≡ next_deed self.now due }
+    {
+        match due {
+            Due::Trying(place) => self.trial(place),
+            Due::Full(_) => None,
+            Due::Undoing(standing) => self.undo(standing),
+            Due::Writing(from) => self.write(from),
+        }
+    }
+
+    fn trial(&self, place: usize) -> Option<Deed<'a>>
+        ensures { result ≡ next_deed self.now (Due.Trying place) }
+    {
+        match self.inquiry.trial(self.call, place) {
+            None => None,
+            Some(entry) => Some(Deed::Trial(entry)),
+        }
+    }
+
+    fn undo(&self, standing: usize) -> Option<Deed<'a>>
+        ensures { result ≡ next_deed self.now (Due.Undoing standing) }
+    {
+        if standing == 0 {
+            return None;
+        }
+        match self.inquiry.trial(self.call, standing - 1) {
+            None => None,
+            Some(entry) => Some(Deed::Write(Write::Delete(entry.key()))),
+        }
+    }
+
+    fn write(&self, from: usize) -> Option<Deed<'a>>
+        ensures { result ≡ next_deed self.now (Due.Writing from) }
+    {
+        match next_write(self.inquiry, self.call, from) {
+            None => None,
+            Some((_, write)) => Some(Deed::Write(write)),
+        }
+    }
+
+    /// What is due once that deed has written.
+    pub(crate) fn behind(&self, due: Due) -> Due
+        ensures { IsBehind self.now due result }
+    {
+        match due {
+            Due::Trying(place) if place < MAX_TRIALS => Due::Trying(place + 1),
+            Due::Trying(place) => Due::Trying(place),
+            Due::Full(standing) => Due::Full(standing),
+            Due::Undoing(standing) => Due::Undoing(standing.saturating_sub(1)),
+            Due::Writing(from) => match next_write(self.inquiry, self.call, from) {
+                None => Due::Writing(from),
+                Some((slot, _)) => Due::Writing(slot + 1),
+            },
+        }
+    }
+}

@@ -1,0 +1,63 @@
+//! A question that is asked in one go.
+
+ghost use Rattle.std.specs.Prelude.{◌≡◌, false, true};
+ghost use Rattle.xsi_calls.specs.QuestionWords.{IsReady, IsSeat, row_of};
+ghost use Rattle.xsi_calls.specs.Questions.{questions_locks};
+ghost use Rattle.xsi_calls.specs.QuestionSteps.{MakesQuestions};
+ghost use Rattle.xsi_calls.specs.QuestionRuns.{AsksAtOnce};
+
+use crate::hearing::hear;
+use crate::questions::{Questions, is_ready, key_asked};
+use bucket_page::PseudoKey;
+use buffer_pool::Pool;
+use page_device::PageDevice;
+use page_locks::LockTable;
+use queue_model::Call;
+use xsi_inquiry::Inquiry;
+
+impl Questions {
+    /// All steps of the next question, in one go: where none is under way, the names that it needs
+    /// are held, and its access can find so (`Access::skip`). Else nothing is done, and it is left
+    /// to `step`.
+    pub fn skip<D: PageDevice, K: PseudoKey>(
+        &mut self,
+        pool: &mut Pool<D>,
+        locks: &LockTable,
+        keys: &K,
+        seat: u8,
+        call: &Call,
+    ) -> bool
+        requires seat { IsSeat locks.now seat }
+        requires ready { IsReady pool.old }
+        requires row { row_of locks.now seat ≡ questions_locks self.old }
+        ensures pool { pool.new ≡ pool.old }
+        ensures made { result ≡ true → AsksAtOnce
+            (MakesQuestions (K.of_key keys.now) seat call.now) seat self.old self.new
+            pool.old locks.now }
+        ensures spares { result ≡ false → self.new ≡ self.old }
+    {
+        if self.is_asking {
+            return false;
+        }
+        let Some(wanted) = self.inquiry.wants(call) else {
+            return false;
+        };
+        if !is_ready(self.names.turn(call, &self.inquiry)) {
+            return false;
+        }
+        self.names.keep_order();
+        let key = key_asked(wanted);
+        self.question.access.begin_find(key, keys.of(&key));
+        if !self.question.access.skip(pool, locks, seat) {
+            return false;
+        }
+        let Some(found) = self.question.access.found() else {
+            return false;
+        };
+        let Ok(()) = hear(&mut self.inquiry, &mut self.room, call, found) else {
+            return false;
+        };
+        self.finds = self.finds.saturating_add(1);
+        true
+    }
+}

@@ -1,9 +1,0 @@
-pub mod DecidingLemmas
-pub mod FindLemmas
-pub mod KeyedLemmas
-pub mod KindLemmas
-pub mod PlaceLemmas
-pub mod RemovingLemmas
-pub mod SweepLemmas
-pub mod SweptLemmas
-pub mod TurnLemmas

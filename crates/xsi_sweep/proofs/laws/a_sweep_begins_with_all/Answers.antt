@@ -1,5 +1,0 @@
-use Rattle.xsi_sweep.proofs.laws.a_sweep_begins_with_all.Goals as goal
-use Rattle.xsi_sweep.proofs.SweepLemmas.{begins_whole}
-
-pub returns : goal.returns
-returns c = begins_whole

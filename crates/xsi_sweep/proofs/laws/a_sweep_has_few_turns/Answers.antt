@@ -1,5 +1,0 @@
-use Rattle.xsi_sweep.proofs.laws.a_sweep_has_few_turns.Goals as goal
-use Rattle.xsi_sweep.proofs.SweepLemmas.{few_turns}
-
-pub returns : goal.returns
-returns c = few_turns

@@ -1,5 +1,0 @@
-use Rattle.xsi_sweep.proofs.laws.others_keep_a_key.Goals as goal
-use Rattle.xsi_sweep.proofs.KeyedLemmas.{keeps_keyed}
-
-pub returns : goal.returns
-returns c = keeps_keyed
