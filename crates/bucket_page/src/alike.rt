@@ -2,7 +2,7 @@
 
 ghost use Rattle.std.specs.Prelude.{refl};
 
-use crate::{NumberKey, PseudoKey, ShaKey};
+use crate::pseudokey::{NumberKey, PseudoKey, ShaKey};
 
 /// A way to make a pseudokey of which all values make the same. So a pseudokey that one of them
 /// made is that of each other.

@@ -2,7 +2,8 @@
 
 ghost use Rattle.std.specs.Prelude.{◌≡◌, IfSome};
 
-use crate::{PseudoKey, RecordKey};
+use crate::pseudokey::PseudoKey;
+use crate::record_key::RecordKey;
 use std::alloc::AllocError;
 use std::marker::PhantomData;
 

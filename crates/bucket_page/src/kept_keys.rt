@@ -5,7 +5,8 @@ ghost use Rattle.bucket_page.specs.declared.kept_keys.TheConstants.{SLOTS};
 
 use crate::alike::Alike;
 use crate::kept::Kept;
-use crate::{PseudoKey, RecordKey};
+use crate::pseudokey::PseudoKey;
+use crate::record_key::RecordKey;
 use std::alloc::{AllocError, Global};
 use std::cell::Cell;
 use std::marker::Model;

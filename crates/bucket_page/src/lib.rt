@@ -1,6 +1,5 @@
-//! Pages of an extendible hash file as bytes: buckets, directory pages, tombstones and free pages.
-//!
-//! Pseudokeys that were computed are kept, so that one that is used again is computed once.
+//! Pages of an extendible hash file as bytes: buckets, directory pages, tombstones and free pages; and
+//! pseudokeys, which are kept once they were computed.
 
 #![tactic(auto)]
 

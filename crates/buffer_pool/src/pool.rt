@@ -5,8 +5,8 @@ ghost use Rattle.buffer_pool.specs.Pool.{pins_at, opened, IsAtRest, payloads_of,
 ghost use Rattle.std.specs.Borrow.{sem};
 ghost use Rattle.buffer_pool.specs.Lending.{LendsImage};
 
-use crate::FilePage;
 use crate::fault::PoolFault;
+use crate::file_page::FilePage;
 use crate::frame::Frame;
 use crate::table::Table;
 use crate::transfer::{bring_in, write_all};
@@ -167,8 +167,8 @@ impl<D: PageDevice> Pool<D> {
         self.table.payload_mut(at)
     }
 
-    /// The first page from this one on that was changed in its frame since the device had it. An
-    /// honest device has the images of those before it, or of all where there is none.
+    /// The next page from this one on that may have changed in its frame since the device had it;
+    /// `None` where there is none. An honest device has the images of all pages that are passed by.
     pub fn next_changed(&self, from: u32) -> Option<u32>
         ensures { TellsChanged from result self.now }
     {

@@ -4,7 +4,7 @@ ghost use Rattle.buffer_pool.specs.Table.{place_of, pins_of, page_of, is_changed
 ghost use Rattle.std.specs.Borrow.{sem};
 ghost use Rattle.buffer_pool.specs.Lending.{LendsPayload};
 
-use crate::FilePage;
+use crate::file_page::FilePage;
 use std::alloc::{AllocError, Global};
 use std::marker::Model;
 

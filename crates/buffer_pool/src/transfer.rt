@@ -5,8 +5,8 @@ ghost use Rattle.buffer_pool.specs.Pool.{IsSoundPool, IsClean, PoolHasCause, ima
 ghost use Rattle.buffer_pool.specs.Table.{place_of, page_of, count_pinned};
 ghost use Rattle.buffer_pool.specs.Transfer.{AreWritten, KeepsDevice, KeepsPages, KeepsPins, MayBeUnread};
 
-use crate::FilePage;
 use crate::fault::PoolFault;
+use crate::file_page::FilePage;
 use crate::table::Table;
 use page_device::{DeviceFault, PAGE_BYTES, PageDevice, seal, unseal};
 

@@ -7,7 +7,7 @@ ghost use Rattle.xsi_inquiry.specs.Rooms.{Roomful};
 ghost use Rattle.xsi_inquiry.specs.Telling.{Gives, IsFiled};
 ghost use Rattle.call_decisions.specs.Settling.{IsRight};
 
-use crate::AnyInquiry;
+use crate::any_inquiry::AnyInquiry;
 use queue_model::Call;
 use xsi_inquiry::{Decision, Inquiry, NotASystem};
 

@@ -3,7 +3,7 @@
 ghost use Rattle.std.specs.Prelude.{◌≡◌, slice_get};
 ghost use Rattle.call_decisions.specs.Names.{exclusive_lock, names_for, queue_for};
 
-use crate::AnyInquiry;
+use crate::any_inquiry::AnyInquiry;
 use page_locks::{Lock, LockKind, LockName};
 use queue_model::Call;
 

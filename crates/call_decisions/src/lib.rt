@@ -1,12 +1,5 @@
-//! What a call comes to at its Decide: its answer by the rules, or that it waits; and what it then
-//! owes the file.
-//!
-//! One inquiry for all calls: what any call asks of the records, decides and writes.
-//!
-//! The names that a call holds while it asks, inserts and writes: which, in which kinds, and in
-//! which order it takes them.
-//!
-//! What calls owe the file between their decisions and their last writes, and how it is paid.
+//! One inquiry for all calls; the names that a call holds while it asks and writes; what it comes to at
+//! its Decide, its answer by the rules or that it waits; and what it then owes the file.
 
 #![tactic(auto)]
 

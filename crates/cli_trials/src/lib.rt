@@ -1,8 +1,5 @@
-//! Tests of the public calls of `schedules`, `msgq_cli` and `script_runs`, which are proved here alone
-//! and not with those crates once more.
-//!
-//! Tests of the public calls of `queue_lists`, `queue_json`, `input_messages`, `queue_commands`,
-//! `command_words` and `command_runs`, which are proved here alone and not with those crates once more.
+//! Tests of what the program is made of below `main`: scripts, schedules and reports, and the commands
+//! of a shell.
 
 #![tactic(auto)]
 

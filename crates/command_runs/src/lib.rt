@@ -1,8 +1,5 @@
-//! Commands of a shell on the file of a device: each is asked of the file in memory, and its text
-//! is printed before the device is written; what is looked at alone is read and not written.
-//!
-//! The command lines of a shell's commands: `send`, `receive`, `peek`, `list`, `make`, `remove` and
-//! `set`.
+//! Commands of a shell on the file of a device, from their command lines: each is asked of the file in
+//! memory, and its text is printed before the device is written; what is looked at alone is read.
 
 #![tactic(auto)]
 

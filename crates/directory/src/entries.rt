@@ -5,10 +5,10 @@ ghost use Rattle.directory.specs.declared.layout.TheConstants.{DIRECTORY_PAGES, 
 ghost use Rattle.directory.specs.Entries.{copied, entry_in, is_upper, page_of, retargeted, slot_at};
 ghost use Rattle.directory.specs.Pages.{IsDirectoryPage, SpellsDirectory, entries_at};
 
-use crate::Range;
 use crate::directory::{page_of, slot_of};
 use crate::layout::{FIRST_DIRECTORY_PAGE, HEAD_BYTES, PAGE_ENTRIES};
 use crate::page::directory_of;
+use crate::range::Range;
 use numbers::fields::set_four;
 use page_device::Payload;
 

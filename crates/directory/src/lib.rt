@@ -1,8 +1,5 @@
-//! The header and the directory of an extendible hash file, as bytes of pages.
-//!
-//! Ranges of pseudokeys as intervals of bit-reversed positions, and lists of ranges that tile an
-//! interval. A list of ranges tiles all positions exactly where it ascends and each pseudokey
-//! lies in one range.
+//! The header and the directory of an extendible hash file, as bytes of pages; and the ranges of
+//! pseudokeys that its entries stand for, as intervals of bit-reversed positions.
 
 #![tactic(auto)]
 

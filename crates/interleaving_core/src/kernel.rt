@@ -17,13 +17,14 @@ mod driving;
 mod renewing;
 
 use crate::closing::{Closed, NotClosed};
+use crate::count::SearchCount;
+use crate::counts::SearchCounts;
 use crate::fault::{BeginFault, CloseFault, Failure, OpenFault};
 use crate::opening::{copied, idle_seats, least_frames};
 use crate::places::{due, failure_of, has_call, told_of_failure};
 use crate::searches::{last_page, note};
 use crate::seat::Seat;
 use crate::step::Step;
-use crate::{SearchCount, SearchCounts};
 use bucket_page::PseudoKey;
 use buffer_pool::{Pool, PoolFault};
 use file_check::{Checked, check};

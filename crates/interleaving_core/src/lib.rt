@@ -1,7 +1,5 @@
-//! Many seats at calls over one file, a step of one of them at a time, and the journal of what was
-//! decided.
-//!
-//! How many hops each seat's last search made, and what other seats did meanwhile.
+//! Many seats at calls over one file, a step of one of them at a time; the journal of what was decided;
+//! and how many hops each seat's last search made, and what other seats did meanwhile.
 
 #![tactic(auto)]
 

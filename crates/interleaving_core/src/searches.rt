@@ -5,7 +5,7 @@ ghost use Rattle.interleaving_core.specs.Counting.{IsCountedSeat};
 ghost use Rattle.interleaving_core.specs.Searches.{CountsFrom, begins_search, ends_on, goes_on_from};
 ghost use Rattle.interleaving_core.specs.Words.{IsSeat, row_of};
 
-use crate::SearchCounts;
+use crate::counts::SearchCounts;
 use crate::step::Step;
 use page_locks::{Lock, LockKind, LockName, LockTable};
 use step_rules::Kind;

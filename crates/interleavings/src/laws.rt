@@ -3,7 +3,7 @@
 
 ghost use Rattle.interleavings.specs.Laws.{AnswersAsPlainLists, BeginsRefine, ClosedOpens, ClosesRefine, DrivesEnd, DrivesRefine, EventsRefine, OpensRefine, OwedIsTheRest, RefusalsRefine, SearchesHopFew, SeatsHoldTheirNames, StepsRefineAndDo, StepsRefine, StopsRefine};
 
-use crate::{
+use crate::concurrent_laws::{
     calls_begin_together, calls_end_together, calls_leave_the_file_at_rest, calls_owe_apart,
     calls_rest_together, calls_step_together, calls_stop_together,
 };

@@ -1,20 +1,6 @@
 //! Schedules of many seats on one kernel: whichever seat makes the next step, the answers are those
-//! of plain lists.
-//!
-//! Calls of several seats over one file, beside one another: whichever of them makes the next step,
-//! each is answered by the rules, over one system.
-//!
-//! Calls that are made one at a time on a kernel: each is answered as by plain lists.
-//!
-//! Calls that are made one at a time: each is answered by the rules, and leaves the file at rest
-//! with the records of the system after it.
-//!
-//! What the others' steps and decisions leave to a seat: a call that pays pays on, and one that has
-//! not decided asks and tries on.
-//!
-//! Files as they are opened and closed: what a file is while no seat uses it.
-//!
-//! A new file is that of the system without queues, all of whose records stand in the root bucket.
+//! of plain lists; at rest the file holds just the records of the system. Before it stand what one
+//! seat's steps leave to another, and calls that are made one at a time.
 
 #![tactic(auto)]
 

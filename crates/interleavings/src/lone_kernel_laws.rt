@@ -3,7 +3,7 @@
 
 ghost use Rattle.interleavings.specs.LoneKernelLaws.{AnswersByTheRules, AnswersLoneCalls, BeginsOnAKernel, ClosesAKernel, DrivesByTheRules, OpensAKernel, RefusesAtRest, StopsAKernel, StopsAWaitingCall};
 
-use crate::{a_call_begins_at_rest, a_file_at_rest_is_stopped};
+use crate::lone_call_laws::{a_call_begins_at_rest, a_file_at_rest_is_stopped};
 use interleaving_core::xsi_calls::calls_have_few_steps;
 
 /// A kernel that is opened over the file of a system rests over that system.

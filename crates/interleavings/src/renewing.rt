@@ -3,7 +3,7 @@
 
 ghost use Rattle.interleavings.specs.Renewing.{FailuresRefine, FlushesRefine, PagesRefine, ReadsFailWithTheDevice, RenewsRefine, WithdrawsRefine};
 
-use crate::calls_begin_together;
+use crate::concurrent_laws::calls_begin_together;
 use crate::laws::a_refining_kernel_closes_on_its_file;
 
 /// A kernel still refines its system where a call is taken back that holds no lock and has no

@@ -1,10 +1,5 @@
-//! Trials of the kernel from outside. They stand here, so that they are proved without that crate
-//! being proved once more.
-//!
-//! Files made page by page, each with one thing wrong, and what the checker tells of them.
-//!
-//! Trials of files of which new ones are made: a file of version 1 typed out byte for byte, and each thing wrong
-//! with it; files copied to another size, and what is salvaged of spoilt ones.
+//! Trials from outside of the kernel; of the checker, by files made page by page, each with one thing
+//! wrong; and of files of which new ones are made.
 
 #![tactic(auto)]
 

@@ -1,8 +1,5 @@
-//! Trials of the machines of the file from outside. They stand here, so that they are proved
-//! without those crates being proved once more.
-//!
-//! Trials of the file and of the rules of steps: schedules worked by hand, and turns
-//! that are not allowed.
+//! Trials from outside of the machines of the file, and of the rules of steps: schedules worked by
+//! hand, and turns that are not allowed.
 
 #![tactic(auto)]
 

@@ -8,8 +8,10 @@ ghost use Rattle.page_device.specs.declared.page.TheConstants.{MAX_PAGES};
 ghost use Rattle.migration.specs.Copying.{IsCopied, IsToldOfOld};
 ghost use Rattle.migration.specs.Printing.{HasSize, IsDoneOrFault, deed_of};
 
+use crate::copied::{Copied, copy, migrated_pages};
+use crate::fault::{CopyFault, MakingFault};
+use crate::made::Target;
 use crate::unmade::complain_of_unmade;
-use crate::{Copied, CopyFault, MakingFault, Target, copy, migrated_pages};
 use bucket_page::ShaKey;
 use directory::{LAYOUT, Layout, OLDER_LAYOUT, layouts_are_right};
 use msgq_cli::{

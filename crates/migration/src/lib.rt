@@ -1,8 +1,5 @@
-//! A file becomes a new one of the same system: of version 1, or of another size.
-//!
-//! What can be read of a file that is wrong becomes a new file.
-//!
-//! Files of which new ones are made: the subcommands `migrate`, `copy` and `salvage`.
+//! Files of which new ones are made, and the subcommands that do it: a file of version 1, or of another
+//! size, becomes a new one of the same system; and so does what can be read of a file that is wrong.
 
 #![tactic(auto)]
 

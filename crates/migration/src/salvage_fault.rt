@@ -3,7 +3,7 @@
 ghost use Rattle.std.specs.Prelude.{◌≡◌};
 ghost use Rattle.migration.specs.SalvageFault.{number_of};
 
-use crate::MakingFault;
+use crate::fault::MakingFault;
 use numbers::faults;
 use queue_model::NoMemory;
 use thiserror::Error;

@@ -11,8 +11,12 @@ ghost use Rattle.msgq_cli.specs.Tasks.{IsFileSize};
 ghost use Rattle.msgq_cli.specs.declared.reports.Deed.TheVariants as deeds;
 ghost use Rattle.migration.specs.Printing.{IsSalvagedOrFault, unread_texts};
 
+use crate::fault::MakingFault;
+use crate::losses::{Losses, Pages};
+use crate::made::Target;
+use crate::salvage_fault::SalvageFault;
+use crate::salvaged::{Rescue, Salvaged, salvage};
 use crate::unmade::complain_of_unmade;
-use crate::{Losses, MakingFault, Pages, Rescue, SalvageFault, Salvaged, Target, salvage};
 use bucket_page::ShaKey;
 use msgq_cli::{
     Deed, Ending, Failure, Heard, Output, Plain, Progress, Shown, Stage, advise, complain_of_fault,

@@ -1,6 +1,6 @@
 //! What standard error says of a new file that could not be made. No claim rests on these words.
 
-use crate::MakingFault;
+use crate::fault::MakingFault;
 use msgq_cli::{Stage, complain_of_fault};
 use std::io::{self, Write};
 

@@ -3,7 +3,10 @@
 ghost use Rattle.std.specs.Prelude.{◌≡◌, ◌<◌, ◌≤◌, IfOk, IsErrOf, IsTrue, OnErr, OnOk, length, slice_set};
 ghost use Rattle.page_device.specs.Device.{HasRisen};
 
-use crate::{DeviceFault, MemDevice, PAGE_BYTES, Page, PageDevice};
+use crate::device::PageDevice;
+use crate::fault::DeviceFault;
+use crate::memory::MemDevice;
+use crate::page::{PAGE_BYTES, Page};
 use std::alloc::Global;
 
 /// The pages of a device in memory.

@@ -1,6 +1,5 @@
-//! Devices of numbered, sealed pages: a read gives what was last written there.
-//!
-//! The pages of a device in memory, and back on the device.
+//! Devices of numbered, sealed pages: a read gives what was last written there. And the pages of a
+//! device in memory, and back on the device.
 
 #![tactic(auto)]
 

@@ -1,20 +1,6 @@
-//! Trials of pages: bytes typed out from the format, changes worked by hand, and transfers
-//! that fail in turn. They stand here, so that they are proved without the crates below
-//! being proved once more.
-//!
-//! Trials of `page_locks` from outside. They stand here, so that they are proved without that crate
-//! being proved once more.
-//!
-//! Trials of `buffer_pool` from outside. They stand here, so that they are proved without that
-//! crate being proved once more.
-//!
-//! Trials of what calls ask of the records: how many they read, and what is of no system. They
-//! stand here, so that the calls are not proved once more for them.
-//!
-//! Trials of the model: worked rows, made by calls from outside. They stand here, so that they are
-//! proved without the model being proved once more.
-//!
-//! Sessions on a file that are killed, cut off by a crash, or whose transfers fail.
+//! Trials from outside of what stands below the machines: the model, devices and their journals, pages
+//! typed from the format, locks, pools, and what calls ask of the records. They stand here, so that
+//! those crates are not proved once more for them.
 
 #![tactic(auto)]
 
@@ -33,7 +19,7 @@ mod directories;
 #[cfg(test)]
 mod files;
 #[cfg(test)]
-mod inquiry_trials_records;
+mod inquiry_records;
 #[cfg(test)]
 mod kept_pseudokeys;
 #[cfg(test)]

@@ -1,7 +1,7 @@
 //! Records of no system: they are refused, and the same record is asked for again.
 
 use crate::asked::{Asked, ROOT};
-use crate::inquiry_trials_records::{HELD, message, mtype, receive};
+use crate::inquiry_records::{HELD, message, mtype, receive};
 use queue_model::{Body, Call, GetArguments, SendArguments};
 use queue_records::{Counter, QueueEntry, Record, counter_key, message_key, queue_key, type_key};
 use std::alloc::Global;

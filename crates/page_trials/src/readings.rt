@@ -1,6 +1,6 @@
 //! How many records a Receive reads.
 
-use crate::inquiry_trials_records::{HELD, message, mtype, receive};
+use crate::inquiry_records::{HELD, message, mtype, receive};
 use queue_records::Record;
 use std::test::Fail;
 use xsi_inquiry::{Decision, Verdict};

@@ -8,7 +8,8 @@ ghost use Rattle.queue_commands.specs.Coming.{Comes, done_in, id_in, info_in, me
 
 use crate::answering::Answering;
 use crate::error::AskError;
-use crate::{QueueName, Text};
+use crate::queue_name::QueueName;
+use crate::text::Text;
 use queue_model::{Answer, Call, GetArguments, Message, QueueInfo};
 use std::alloc::Global;
 

@@ -9,8 +9,9 @@ ghost use Rattle.queue_commands.specs.Coming.{Comes};
 use crate::answering::Answering;
 use crate::asking::{done_in, find, id_in, info_in};
 use crate::error::AskError;
+use crate::queue_name::QueueName;
 use crate::request::Setting;
-use crate::{QueueName, Text};
+use crate::text::Text;
 use queue_model::{Call, GetArguments, SetArguments};
 use std::alloc::Global;
 

@@ -6,13 +6,13 @@ ghost use Rattle.queue_model.specs.declared.caller.Caller.{Caller};
 ghost use Rattle.queue_commands.specs.Coming.{Comes};
 ghost use Rattle.queue_commands.specs.Commands.{AsksAs};
 
-use crate::Text;
 use crate::answering::Answering;
 use crate::changing::{make, remove, set};
 use crate::error::AskError;
 use crate::receiving::receive;
 use crate::request::{Command, Request};
 use crate::sending::send;
+use crate::text::Text;
 use std::alloc::Global;
 
 /// Asks the calls of a command, one after the other up to the first that is refused, and gives the

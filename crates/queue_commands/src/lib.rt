@@ -1,12 +1,6 @@
-//! Commands on message queues as a shell asks for them: to send, to receive, to make, to remove
-//! and to set. Each is a few calls of one caller, one after the other, and a text that is printed.
-//!
-//! What is shown of a system of message queues as JSON.
-//!
-//! The messages that an input is: all of it as one, or each of its lines.
-//!
-//! What is shown of a system of message queues: a table of its queues, and one of the messages of a
-//! queue that is named.
+//! Commands on message queues as a shell asks for them. Each is a few calls of one caller, one after the
+//! other, and a text that is printed: tables or JSON of queues and messages. And the messages that an
+//! input is.
 
 #![tactic(auto)]
 

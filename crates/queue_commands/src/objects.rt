@@ -5,7 +5,7 @@ ghost use Rattle.queue_commands.specs.Json.{IsPlain, PutsJson, count, info_data,
 ghost use Rattle.serde_json.specs.Data.{Data, put as with_member};
 ghost use Rattle.serde_json.specs.View.{members_view, view};
 
-use crate::Text;
+use crate::text::Text;
 use numbers::faults::NoMemory;
 use queue_model::{Message, Messages, Permissions, QueueInfo, System};
 use serde_json::{Map, Value, json, put};

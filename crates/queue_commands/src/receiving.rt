@@ -6,11 +6,11 @@ ghost use Rattle.queue_model.specs.declared.caller.Caller.{Caller};
 ghost use Rattle.queue_commands.specs.Coming.{Comes};
 ghost use Rattle.queue_commands.specs.Receiving.{ReceivesAs, TakesAllAs, TakesAs, head_text, receive_call, shown_text};
 
-use crate::Text;
 use crate::answering::Answering;
 use crate::asking::{find, message_in};
 use crate::error::AskError;
 use crate::request::Receiving;
+use crate::text::Text;
 use numbers::faults::NoMemory;
 use queue_model::{Call, Errno, Message, ReceiveArguments};
 use std::alloc::Global;

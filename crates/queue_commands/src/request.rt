@@ -1,6 +1,6 @@
 //! What a command asks for, and when.
 
-use crate::QueueName;
+use crate::queue_name::QueueName;
 use queue_model::Body;
 
 /// A command, and when it is asked for.

@@ -6,11 +6,11 @@ ghost use Rattle.queue_model.specs.declared.caller.Caller.{Caller};
 ghost use Rattle.queue_commands.specs.Coming.{Comes};
 ghost use Rattle.queue_commands.specs.Sending.{SendsAllAs, SendsAs, SendsOneAs, send_call, told_text};
 
-use crate::Text;
 use crate::answering::Answering;
 use crate::asking::{find, serial_in};
 use crate::error::AskError;
 use crate::request::Sending;
+use crate::text::Text;
 use numbers::faults::NoMemory;
 use queue_model::{Body, Call, SendArguments};
 use std::alloc::Global;

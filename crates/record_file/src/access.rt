@@ -13,9 +13,10 @@ ghost use Rattle.record_file.specs.Readings.{IsReplace, Takes};
 mod ahead;
 
 use crate::fitting::links_fit;
+use crate::operation::RecordOperation;
 use crate::reading::{read_front, read_value};
 use crate::step_rules::{Kind, Progress};
-use crate::{RecordOperation, Tried};
+use crate::tried::Tried;
 use bucket_page::{PseudoKey, RecordKey};
 use file_pages::FileFault;
 use file_pages::buffer_pool::Pool;

@@ -8,9 +8,9 @@ ghost use Rattle.record_file.specs.SecondSteps.{NearsOrSpares, SaysAt};
 ghost use Rattle.record_file.specs.Inserts.{IsLent, IsOver, insert_facts, insert_left, insert_locks, insert_turn, is_there, said_of};
 ghost use Rattle.record_file.specs.InsertSteps.{KeepsInsert, MakesInsert};
 
+use crate::bucket_access::{BucketAccess, Deed};
 use crate::second_try::SecondTry;
 use crate::tried::Tried;
-use crate::{BucketAccess, Deed};
 use bucket_page::{PseudoKey, RecordKey};
 use page_device::PageDevice;
 use page_locks::LockTable;

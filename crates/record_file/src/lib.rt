@@ -1,13 +1,5 @@
-//! Files of records: a new file, and one record found or written in a file that other seats use.
-//!
-//! Inserts in a file of records that other seats use, step by step: a bucket that has no room for
-//! the record is split.
-//!
-//! One operation on one record of a file that other seats use, whichever it is: found,
-//! inserted, replaced or deleted.
-//!
-//! One access to one record of queues, in the records' own words: what stands at a key is found, or
-//! a record is inserted, replaced, relinked or deleted.
+//! Files of records that many seats use: a new file; one record found, replaced or deleted in its
+//! bucket, or inserted, with the splits that make room for it; and one access to one record of queues.
 
 #![tactic(auto)]
 

@@ -10,10 +10,13 @@ ghost use Rattle.record_file.specs.Operations.{FoundAtEnd, HasEnded, IsKeyed, Ma
 ghost use Rattle.record_file.specs.OperationRuns.{IsFind, OperationStep, operation_done, operation_stops};
 ghost use Rattle.record_file.specs.OperationSteps.{KeepsOperation, LeavesPages, MakesOperation, TellsOf};
 
+use crate::bucket_access::{BucketAccess, Deed};
 use crate::buffer_pool::Pool;
+use crate::delete::Delete;
 use crate::file_pages::FileFault;
+use crate::insert::Insert;
 use crate::step_rules::Progress;
-use crate::{BucketAccess, Deed, Delete, Insert, Tried};
+use crate::tried::Tried;
 use bucket_page::{PseudoKey, RecordKey};
 use page_device::PageDevice;
 use page_locks::LockTable;

@@ -7,7 +7,7 @@ ghost use Rattle.record_file.specs.InsertWords.{RecordKey, pair, Lock, Change, I
 ghost use Rattle.record_file.specs.SecondTries.{HasSecondRow, said_at, second_facts, second_left, second_locks, second_turn, tried_at};
 ghost use Rattle.record_file.specs.SecondSteps.{KeepsSecondTry, MakesStep, MakesStepHere, NearsOrSpares, SaysAt};
 
-use crate::has_room;
+use crate::bucket_access::has_room;
 use crate::second_place::SecondPlace;
 use crate::tried::Tried;
 use bucket_page::{PseudoKey, RecordKey};

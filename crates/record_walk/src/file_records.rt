@@ -6,7 +6,7 @@ ghost use Rattle.record_walk.specs.Answers.{AnswersFor};
 ghost use Rattle.record_walk.specs.Files.{HasRecords, IsSameFile, held_on, source};
 ghost use Rattle.record_walk.specs.LookupWords.{IsCaused, IsOfMachine};
 
-use crate::WalkFault;
+use crate::fault::WalkFault;
 use crate::page::{page_of, read_again};
 use bucket_page::{PseudoKey, RecordKey};
 use directory::Layout;

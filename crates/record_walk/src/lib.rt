@@ -1,6 +1,5 @@
-//! The records of a file are walked along their links: they are those of one system, or of none.
-//!
-//! The records of a file are looked up by their keys.
+//! The records of a file are walked along their links, and looked up by their keys: they are those of
+//! one system, or of none.
 
 #![tactic(auto)]
 

@@ -2,11 +2,12 @@
 
 ghost use Rattle.std.specs.Prelude.{◌≡◌};
 
+use crate::fault::WalkFault;
 use crate::file_records::FileRecords;
 use crate::page::value_in;
+use crate::records::{Linked, MessageLinks, Records};
 use crate::values::record_in;
 use crate::versions::is_spelled_in;
-use crate::{Linked, MessageLinks, Records, WalkFault};
 use bucket_page::PseudoKey;
 use page_device::{PAGE_BYTES, PageDevice};
 use queue_model::{Body, Message};

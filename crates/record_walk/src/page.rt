@@ -6,7 +6,7 @@ ghost use Rattle.record_walk.specs.Answers.{AnswersFor, entry_for};
 ghost use Rattle.record_walk.specs.Versions.{today_in};
 ghost use Rattle.record_walk.specs.LookupWords.{IsOfMachine, IsCaused, RecordKey, payload_on};
 
-use crate::WalkFault;
+use crate::fault::WalkFault;
 use crate::tested::read_tested;
 use bucket_page::{PseudoKey, RecordKey};
 use directory::{Layout, index};

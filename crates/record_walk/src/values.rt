@@ -4,7 +4,7 @@ ghost use Rattle.std.specs.Prelude.{◌≡◌, ℕ, List, Option, IfErr, IfOk, I
 ghost use Rattle.record_walk.specs.Answers.{AnswersFor, IsRecordAt, StandsAt};
 ghost use Rattle.record_walk.specs.LookupWords.{RecordKey};
 
-use crate::WalkFault;
+use crate::fault::WalkFault;
 use crate::page::value_in;
 use crate::versions::decode_in;
 use bucket_page::RecordKey;

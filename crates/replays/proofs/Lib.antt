@@ -22,7 +22,7 @@ pub mod CallLemmas
 pub mod ServeLemmas
 pub mod LineLemmas
 pub mod MakeLemmas
-pub mod ThreadedRunsPrintLemmas
+pub mod ServicePrintLemmas
 pub mod PairLemmas
 pub mod PlanLemmas
 pub mod EndLemmas

@@ -8,7 +8,7 @@ use Rattle.workers.specs.Views.{nobody}
 use Rattle.workers.specs.Opening.{HasFrames, PreparedView}
 use Rattle.workers.specs.Told.{Sitter}
 use Rattle.replays.specs.Lines.{HasMade, LinesView}
-use Rattle.replays.specs.declared.threaded_runs_opening.Plan.{Plan}
+use Rattle.replays.specs.declared.service_opening.Plan.{Plan}
 
 -- ---- before the file is opened
 

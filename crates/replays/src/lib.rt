@@ -1,9 +1,5 @@
-//! The lines of several seats of a script, run beside one another by a schedule.
-//!
-//! Scripts run line by line on files of message queues: each call is answered before the next one is
-//! made.
-//!
-//! Scripts whose seats make their lines beside one another, each at a seat of a service.
+//! Scripts on files of message queues: run line by line, each call answered before the next one is made;
+//! or the lines of several seats beside one another, by a schedule or each at a seat of a service.
 
 #![tactic(auto)]
 
@@ -20,14 +16,14 @@ mod progress;
 mod replay;
 mod rounds;
 mod runs;
-mod script_runs_files;
+mod script_files;
 mod seat_lines;
+mod service_ending;
+mod service_opening;
+mod service_printing;
 mod serving;
 mod spelled;
 mod texts;
-mod threaded_runs_ending;
-mod threaded_runs_opening;
-mod threaded_runs_printing;
 mod waiter;
 
 pub use deed::Deed;
@@ -40,11 +36,11 @@ pub use opening::{FileKeys, leave_refused, open, open_kernel};
 pub use progress::{Place, Progress};
 pub use replay::{MOST_STEPS, Replay};
 pub use runs::run_lines;
-pub use script_runs_files::run_file;
+pub use script_files::run_file;
 pub use seat_lines::SeatLines;
+pub use service_ending::end_service;
+pub use service_opening::{Plan, is_of_one_seat, prepare};
+pub use service_printing::print_all;
 pub use serving::{MEMORY_PAGES, run_on, run_text_on, serve, serve_text};
 pub use texts::{Texts, replay_on};
-pub use threaded_runs_ending::end_service;
-pub use threaded_runs_opening::{Plan, is_of_one_seat, prepare};
-pub use threaded_runs_printing::print_all;
 pub use waiter::{Shared, Waiter};

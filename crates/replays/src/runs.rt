@@ -11,7 +11,7 @@ ghost use Rattle.replays.specs.Runs.{AreSeated, HasDecided, IsLeft, IsRight, IsR
 ghost use Rattle.replays.specs.Taking.{TakesCall, TakesCommand};
 ghost use Rattle.replays.specs.Telling.{is_waiting, reply_to};
 
-use crate::FileKeys;
+use crate::opening::FileKeys;
 use interleavings::interleaving_core::{Kernel, Step};
 use interleavings::{
     a_call_begins_on_a_kernel_at_rest, a_call_that_waits_is_stopped, a_kernel_at_rest_is_stopped,

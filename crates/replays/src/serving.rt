@@ -5,8 +5,9 @@ ghost use Rattle.interleavings.specs.LoneKernelWords.{State};
 ghost use Rattle.replays.specs.Runs.{Stands};
 ghost use Rattle.replays.specs.Serves.{EndsWell, RunsInput, RunsOn, RunsText, RunsTextOn};
 
+use crate::ending::{Ran, tell_end};
+use crate::opening::{FileKeys, leave_refused, open_kernel};
 use crate::runs::run_lines;
-use crate::{FileKeys, Ran, leave_refused, open_kernel, tell_end};
 use interleavings::interleaving_core::{Kernel, NotClosed};
 use interleavings::{
     a_kernel_at_rest_closes_on_its_file, a_kernel_opens_at_rest, a_new_file_has_no_queues,

@@ -3,7 +3,7 @@
 ghost use Rattle.std.specs.Prelude.{◌≡◌, ◌∷◌, ◌++◌, [], IfOk, OnErr};
 ghost use Rattle.queue_model.specs.declared.entry.Entry.TheVariants.{Decided};
 
-use crate::FileKeys;
+use crate::opening::FileKeys;
 use page_device::PageDevice;
 use queue_model::{Answer, Call};
 use workers::{Base, Fault, Open, Room, Seat, Service};

@@ -5,7 +5,7 @@ ghost use Rattle.std.specs.List.{find};
 ghost use Rattle.std.specs.Option.{option_copied};
 ghost use Rattle.schedules.specs.Events.{is_named, kind_named};
 
-use crate::is_word;
+use crate::split::is_word;
 use step_rules::Kind;
 
 /// All kinds, in the order of docs/STEPS.md.

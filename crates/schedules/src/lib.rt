@@ -1,7 +1,5 @@
-//! Schedules: texts that say which seat makes the next steps.
-//!
-//! Words of scripts and schedules: how a text is cut into them, and the numbers, keys, modes and
-//! bodies that they spell (docs/SCRIPTS.md, "Words").
+//! The words of scripts and schedules (docs/SCRIPTS.md, "Words"), and schedules: texts that say which
+//! seat makes the next steps.
 
 #![tactic(auto)]
 

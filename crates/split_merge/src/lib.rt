@@ -1,7 +1,5 @@
-//! A split of a full bucket, with the doubling of the directory where it needs one, step by step.
-//!
-//! The second half of a Delete: the bucket of its key and that bucket's buddy become
-//! one, step by step.
+//! The two changes of a file's shape, step by step: a full bucket is split, with the doubling of the
+//! directory where it needs one; and the bucket of a deleted key and its buddy become one.
 
 #![tactic(auto)]
 

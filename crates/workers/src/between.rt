@@ -3,12 +3,12 @@
 ghost use Rattle.std.specs.Prelude.{◌≡◌, IfErr, IfSome, false};
 ghost use Rattle.workers.specs.Held.{MayNotRenew, Renews, Saves};
 
-use crate::Room;
 use crate::entries::Passes;
 use crate::fault::Fault;
 use crate::gate::Gate;
 use crate::held::{Held, tell_all};
 use crate::naming::Base;
+use crate::pass::Room;
 use crate::service::Service;
 use bucket_page::PseudoKey;
 use interleavings::interleaving_core::{CloseFault, MAX_DECIDED};

@@ -5,11 +5,11 @@ ghost use Rattle.std.specs.List.{list_any};
 ghost use Rattle.workers.specs.Closing.{Each, IsBeside, IsEndedWith, IsLetGo, IsToComeBack, remains_of, sits_at};
 ghost use Rattle.workers.specs.Held.{HasRoom};
 
-use crate::Room;
 use crate::entries::{Own, Passes};
 use crate::gate::Gate;
 use crate::held::Held;
 use crate::naming::Base;
+use crate::pass::Room;
 use crate::seat::Seat;
 use crate::service::Service;
 use bucket_page::PseudoKey;

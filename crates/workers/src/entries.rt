@@ -1,6 +1,8 @@
 //! Entries of a journal, as passes read them.
 
-use crate::{Gauge, KernelPass, Opened, Recorded, SeatPass};
+use crate::gauge::{Gauge, Opened};
+use crate::pass::{KernelPass, SeatPass};
+use crate::rule::Recorded;
 use queue_model::{Call, Entry};
 
 /// An entry is of the seat whose call was decided; a stop is of none.

@@ -13,8 +13,9 @@ ghost use Rattle.workers.specs.Told.{HasBegun, IsTakenBack, IsTold, Rests, Takes
 use crate::entries::{Own, Passes, Sitter};
 use crate::fault::Fault;
 use crate::naming::Base;
+use crate::pass::Room;
+use crate::rule::Change;
 use crate::sleepers::Sleepers;
-use crate::{Change, Room};
 use bucket_page::PseudoKey;
 use interleavings::interleaving_core::{BeginFault, Kernel, Step};
 use interleavings::{

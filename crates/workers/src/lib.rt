@@ -1,8 +1,5 @@
 //! Threads over a kernel: each makes its calls at a seat of its own, and what each seat was told is
-//! its part of one legal journal.
-//!
-//! The passes of a kernel, of its seats and of its gauge, and the rule that ties them: each seat's
-//! list is its part of the kernel's journal, and the gauge's word is the number of its calls.
+//! its part of one legal journal. A rule over one atomic word ties the passes of kernel, seats and gauge.
 
 #![tactic(auto)]
 

@@ -2,9 +2,9 @@
 
 ghost use Rattle.std.specs.Prelude.{◌≡◌};
 
-use crate::Room;
 use crate::entries::Sitter;
 use crate::naming::Base;
+use crate::pass::Room;
 use queue_model::Entry;
 use std::marker::Model;
 

@@ -1,10 +1,10 @@
 //! How the threads of a service wait: for the latch, for a lock, for a call on a queue, and for a
 //! moment between calls.
 
-use crate::Room;
 use crate::gate::Gate;
 use crate::held::Held;
 use crate::naming::Base;
+use crate::pass::Room;
 use crate::service::Service;
 use crate::sleepers::Sleepers;
 use bucket_page::PseudoKey;

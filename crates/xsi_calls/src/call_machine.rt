@@ -11,8 +11,10 @@ ghost use Rattle.xsi_calls.specs.CallSteps.{Decides, KeepsCall, MakesCall, Makes
 mod skipping;
 
 use crate::conclusion::Conclusion;
+use crate::decided::Decided;
+use crate::payment::Payment;
 use crate::phase::Phase;
-use crate::{Decided, Payment, UndecidedCall};
+use crate::undecided::UndecidedCall;
 use bucket_page::PseudoKey;
 use buffer_pool::Pool;
 use file_pages::FileFault;

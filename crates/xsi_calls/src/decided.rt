@@ -1,6 +1,6 @@
 //! What a call has come to at its Decide.
 
-use crate::Due;
+use crate::due::Due;
 use call_decisions::Settled;
 
 /// What a call has come to at its Decide, and how far its trials are, which rest, and are carried

@@ -3,7 +3,7 @@
 ghost use Rattle.std.specs.Prelude.{◌+◌, ◌<◌};
 ghost use Rattle.xsi_calls.specs.Laws.{BeginFewSearches, BeginRight, HaveFewSteps, HaveFewStepsLeft, HoldTheirNames, MOST_CALL_STEPS, MOST_STEPS_LEFT, ReceiveByThree};
 
-use crate::calls_decide_in_few_steps;
+use crate::undecided_laws::calls_decide_in_few_steps;
 
 /// A call that has just begun has few steps left until it is over, if no other seat steps.
 pub fn calls_have_few_steps()

@@ -1,16 +1,5 @@
-//! A call as one machine: it asks, inserts on trial, decides once, writes, and gives its names
-//! back, one step at a time beside others.
-//!
-//! A call up to its Decide: it asks its questions, and tries what it is to insert.
-//!
-//! What a call owes after its decision, paid step by step: the sweep of a Remove, then its writes.
-//!
-//! A call's reading half: it takes the names that it needs, and asks the file its questions one by
-//! one, until it asks nothing more.
-//!
-//! What a call inserts on trial before its decision, and what it writes after it, step by step.
-//!
-//! The names that a call holds, and the step that takes the next one or gives the last back.
+//! A call as one machine, one step at a time beside others: it takes its names, asks its questions,
+//! inserts on trial, decides once, pays what it owes, and gives its names back.
 
 #![tactic(auto)]
 

@@ -6,7 +6,9 @@ ghost use Rattle.xsi_calls.specs.Payments.{begun_payment, decided, payment_left,
 ghost use Rattle.xsi_calls.specs.Paying.{IsPaying};
 ghost use Rattle.xsi_calls.specs.PaySteps.{KeepsPayment, Pays, StepsPart};
 
-use crate::{CallWrites, Due, PlanOf};
+use crate::due::Due;
+use crate::plan::PlanOf;
+use crate::writes::CallWrites;
 use bucket_page::PseudoKey;
 use buffer_pool::Pool;
 use call_decisions::Settled;

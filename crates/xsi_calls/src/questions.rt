@@ -13,8 +13,9 @@ ghost use Rattle.xsi_calls.specs.QuestionSteps.{Faces, KeepsQuestions, Learns, M
 mod skipping;
 
 use crate::counting::finds_behind;
+use crate::names::HeldNames;
 use crate::question::{Question, goes_on, listen, read};
-use crate::{HeldNames, NameTurn};
+use crate::turn::NameTurn;
 use bucket_page::{PseudoKey, RecordKey};
 use buffer_pool::Pool;
 use call_decisions::AnyInquiry;

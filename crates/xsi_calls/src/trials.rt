@@ -3,8 +3,8 @@
 ghost use Rattle.std.specs.Prelude.{◌≡◌};
 ghost use Rattle.xsi_calls.specs.Deciding.{settled_in};
 
-use crate::CallWrites;
 use crate::decided::Decided;
+use crate::writes::CallWrites;
 use call_decisions::Settled;
 use xsi_inquiry::Decision;
 

@@ -13,9 +13,12 @@ ghost use Rattle.xsi_calls.specs.Deciding.{IsDecided};
 mod skipping;
 
 use crate::decided::Decided;
+use crate::due::Due;
+use crate::plan::PlanOf;
+use crate::questions::Questions;
 use crate::step_rules::Progress;
 use crate::trials::Trials;
-use crate::{CallWrites, Due, PlanOf, Questions};
+use crate::writes::CallWrites;
 use bucket_page::PseudoKey;
 use buffer_pool::Pool;
 use call_decisions::{AnyInquiry, Settled, decide};

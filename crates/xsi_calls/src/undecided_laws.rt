@@ -2,7 +2,7 @@
 
 ghost use Rattle.xsi_calls.specs.UndecidedLaws.{HaveFewSteps};
 
-use crate::questions_have_few_steps;
+use crate::question_laws::questions_have_few_steps;
 
 /// A call that has just begun has few steps left until it can decide.
 pub fn calls_decide_in_few_steps()

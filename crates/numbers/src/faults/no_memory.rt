@@ -3,7 +3,7 @@
 ghost use Rattle.std.specs.Prelude.{◌≡◌};
 ghost use Rattle.numbers.specs.declared.faults.TheConstants.{NO_MEMORY};
 
-use crate::NO_MEMORY;
+use super::NO_MEMORY;
 use std::alloc::{AllocError, AllocFailed};
 use thiserror::Error;
 

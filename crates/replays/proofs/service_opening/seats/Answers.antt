@@ -1,7 +1,7 @@
 use Rattle.std.proofs.Common.{◌+◌, sym, ◌∙◌, subst}
 use Rattle.replays.proofs.PlanLemmas.{fresh_more, fresh_none}
 use Rattle.replays.specs.Desks.{AreFresh}
-use Rattle.replays.proofs.threaded_runs_opening.seats.Goals as goal
+use Rattle.replays.proofs.service_opening.seats.Goals as goal
 
 pub loop-place-init : goal.loop-place-init
 loop-place-init c =

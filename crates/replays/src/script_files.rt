@@ -1,7 +1,7 @@
 //! Scripts run on files: the subcommand of the program.
 
+use crate::files::{complain_of_ran, script_text};
 use crate::serving::run_text_on;
-use crate::{complain_of_ran, script_text};
 use msgq_cli::{Ending, Output, leave_unopened};
 use rollback_journal::{Opening, open_in_turn};
 use std::fs::File;

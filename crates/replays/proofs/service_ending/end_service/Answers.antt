@@ -3,7 +3,7 @@ use Rattle.std.specs.Prelude.{is_some}
 use Rattle.std.specs.Bool.{then_some}
 use Rattle.numbers.specs.declared.faults.TheConstants.{FAILED}
 use Rattle.replays.proofs.EndLemmas.{closed_ends, faulted_ends, let_go_ends}
-use Rattle.replays.proofs.threaded_runs_ending.end_service.Goals as goal
+use Rattle.replays.proofs.service_ending.end_service.Goals as goal
 
 -- the output refused a write
 pub returns-then-is_untold : goal.returns-then-is_untold

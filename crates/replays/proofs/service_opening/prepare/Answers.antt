@@ -5,7 +5,7 @@ use Rattle.bucket_page.specs.Pseudokeys.{sha_key}
 use Rattle.replays.proofs.OpeningLemmas.{greatest_within, length-callers_of, never_too_few, refused_unchecked}
 use Rattle.replays.specs.Replays.{callers_of}
 use Rattle.replays.proofs.PlanLemmas.{prepared_for}
-use Rattle.replays.proofs.threaded_runs_opening.prepare.Goals as goal
+use Rattle.replays.proofs.service_opening.prepare.Goals as goal
 
 pub open-requires-clause-some : goal.open-requires-clause-some
 open-requires-clause-some g c =

@@ -1,6 +1,6 @@
 use Rattle.std.proofs.Common.{rules, ◌<◌, length, refl}
-use Rattle.replays.proofs.ThreadedRunsPrintLemmas.{counts_there, printed_all, printing_starts, printing_there, room_there}
-use Rattle.replays.proofs.threaded_runs_printing.print_all.Goals as goal
+use Rattle.replays.proofs.ServicePrintLemmas.{counts_there, printed_all, printing_starts, printing_there, room_there}
+use Rattle.replays.proofs.service_printing.print_all.Goals as goal
 
 pub loop-line-init : goal.loop-line-init
 loop-line-init g c = printing_starts c.args.desks.now c.args.printed.now c.args.output.now c.requires.none

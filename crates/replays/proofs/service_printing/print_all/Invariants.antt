@@ -1,7 +1,7 @@
 -- The replies to the lines so far are printed.
 use Rattle.std.proofs.Common.{take}
-use Rattle.replays.proofs.ThreadedRunsPrintLemmas.{ArePrinting}
-use Rattle.replays.proofs.threaded_runs_printing.print_all.Given as goal
+use Rattle.replays.proofs.ServicePrintLemmas.{ArePrinting}
+use Rattle.replays.proofs.service_printing.print_all.Given as goal
 
 abbrev pub invariant-loop-line : goal.invariant-loop-line
 invariant-loop-line g l =
