@@ -8,7 +8,7 @@ use Rattle.std.specs.Str.{bytes_eq}
 use Rattle.std.specs.Str.Parse.{digits_value}
 use Rattle.hex.specs.Hex.{decode_of}
 use Rattle.schedules.specs.Reading.{◌>>=◌}
-use Rattle.schedules.specs.declared.numbers.TheConstants.{SEATS}
+use Rattle.schedules.specs.declared.values.TheConstants.{SEATS}
 
 -- one decimal digit or more, and nothing else
 abbrev pub is_numeral : List ℕ → Bool

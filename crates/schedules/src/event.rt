@@ -5,8 +5,8 @@ ghost use Rattle.std.specs.List.{position};
 ghost use Rattle.schedules.specs.Events.{count_of, digits_before, event_of, is_mark, seat_event_of};
 
 use crate::kinds::{KINDS, kind_named};
-use crate::numbers::{number, seat};
 use crate::split::is_word;
+use crate::values::{number, seat};
 use std::fmt;
 use std::fmt::{Display, Formatter};
 use step_rules::Kind;

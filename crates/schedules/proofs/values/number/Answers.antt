@@ -1,7 +1,7 @@
 use Rattle.std.proofs.Common.{◌∙◌, sym}
 use Rattle.std.proofs.lemmas.Str.{IsUtf8-from_ascii}
 use Rattle.schedules.proofs.NumberLemmas.{digits_ascii, parse_decimal}
-use Rattle.schedules.proofs.numbers.number.Goals as goal
+use Rattle.schedules.proofs.values.number.Goals as goal
 
 -- digits are ASCII, so they are text
 pub returns-in_default : goal.returns-in_default

@@ -1,7 +1,7 @@
 use Rattle.std.proofs.Common.{◌∙◌, sym}
 use Rattle.std.proofs.lemmas.Str.{IsUtf8-from_ascii}
 use Rattle.schedules.proofs.NumberLemmas.{signed_ascii, parse_signed}
-use Rattle.schedules.proofs.numbers.signed.Goals as goal
+use Rattle.schedules.proofs.values.signed.Goals as goal
 
 -- digits and the sign are ASCII, so they are text
 pub returns-in_default : goal.returns-in_default
