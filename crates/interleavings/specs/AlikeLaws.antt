@@ -1,5 +1,5 @@
 -- Laws of a call beside an answer of which the rules and the records tell, and of ids that are still to be counted.
--- Each is the contract of a function of laws.rt. docs/STEPS.md, "What a call reads", "Locks".
+-- Each is the contract of a function of seat_laws.rt. docs/STEPS.md, "What a call reads", "Locks".
 use Rattle.std.specs.Prelude.{ℕ, ◌≡◌, ◌≢◌, ◌⊎◌, ◌+◌, List, None, Some}
 use Rattle.std.specs.List.{find}
 use Rattle.queue_model.specs.Rules.{has_id}

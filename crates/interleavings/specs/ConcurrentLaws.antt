@@ -1,4 +1,4 @@
--- Laws of calls of several seats. Each is the contract of a function of laws.rt. docs/STEPS.md, "Calls".
+-- Laws of calls of several seats. Each is the contract of a function of concurrent_laws.rt. docs/STEPS.md, "Calls".
 use Rattle.std.specs.Prelude.{ℕ, ◌≡◌, ◌≢◌, Bool, true, false, List, Option, Some, None}
 use Rattle.hash_file.specs.Change.{Quiet}
 use Rattle.step_rules.specs.Walking.{IsOwnStep}

@@ -1,4 +1,5 @@
--- Laws of a call that has not decided beside the decisions of others. Each is the contract of a function of laws.rt.
+-- Laws of a call that has not decided beside the decisions of others.
+-- Each is the contract of a function of seat_laws.rt.
 -- docs/STEPS.md, "What a call reads", "Locks".
 use Rattle.std.specs.Prelude.{ℕ, ◌≡◌, ◌⊎◌, ◌+◌, Bool, List, [], Option, None, Some}
 use Rattle.std.specs.List.{Contains}

@@ -1,4 +1,4 @@
--- Laws of calls that are made one at a time. Each is the contract of a function of laws.rt.
+-- Laws of calls that are made one at a time. Each is the contract of a function of lone_call_laws.rt.
 use Rattle.std.specs.Prelude.{ℕ, ◌≡◌, Bool, false, IsSome, Some, None}
 use Rattle.xsi_calls.specs.declared.conclusion.Conclusion.TheVariants as conclusions
 use Rattle.interleavings.specs.LoneCallWords.{Answer, Begins, Blocked, Call, CallView, Caller, FileFault, HasFittingCall, HasFittingCaller, IsFileAtRest, IsOver, IsSeat, MakesCall, NearsOrSpares, PoolState, Progress, RecordKey, State, Table, answer_of_call, call_left, conclusion_of, is_fault, outcome, store_of}

@@ -1,4 +1,4 @@
--- Laws of calls that are made one at a time on a kernel. Each is the contract of a function of laws.rt.
+-- Laws of calls that are made one at a time on a kernel. Each is the contract of a function of lone_kernel_laws.rt.
 use Rattle.std.specs.Prelude.{ℕ, ◌≡◌, ◌≤◌, Bool, true, false, IsTrue, List, Some, length}
 use Rattle.page_locks.specs.declared.lock_table.TheConstants.{MAX_SEATS}
 use Rattle.interleaving_core.specs.declared.fault.StepFault.TheVariants as faults

@@ -1,4 +1,4 @@
--- The law of new files, which is the contract of the function of laws.rt.
+-- The law of new files, which is the contract of the function of new_file_laws.rt.
 use Rattle.std.specs.Prelude.{ℕ, List}
 use Rattle.bucket_page.specs.declared.record_key.RecordKey.{RecordKey}
 use Rattle.record_file.specs.Files.{IsNewFile}

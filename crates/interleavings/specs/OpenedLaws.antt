@@ -1,4 +1,4 @@
--- Laws of files as they are opened and closed. Each is the contract of a function of laws.rt.
+-- Laws of files as they are opened and closed. Each is the contract of a function of opened_laws.rt.
 use Rattle.std.specs.Prelude.{ℕ, ◌≡◌, ◌≤◌, Bool, true, false, IsTrue, List, [], replicate}
 use Rattle.bucket_page.specs.declared.record_key.RecordKey.{RecordKey}
 use Rattle.buffer_pool.specs.Pool.{KeepsImages, PoolState, opened, payloads_of}

@@ -1,4 +1,4 @@
--- Laws of a seat beside a step of another. Each is the contract of a function of laws.rt.
+-- Laws of a seat beside a step of another. Each is the contract of a function of seat_laws.rt.
 use Rattle.std.specs.Prelude.{ℕ, ◌≡◌, ◌≢◌, ◌+◌, IsTrue, List, Option, Some}
 use Rattle.std.specs.List.{Contains}
 use Rattle.page_locks.specs.declared.lock.LockName.TheVariants as names_are

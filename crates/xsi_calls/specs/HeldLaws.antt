@@ -1,4 +1,4 @@
--- Laws of the turns of a call with names. Each is the contract of a function of laws.rt.
+-- Laws of the turns of a call with names. Each is the contract of a function of held_laws.rt.
 use Rattle.std.specs.Prelude.{suc, ◌≡◌, ◌↔◌, ◌≤◌, ◌*◌, List, [], ◌∷◌, ◌++◌}
 use Rattle.page_locks.specs.declared.lock.Lock.{Lock}
 use Rattle.call_decisions.specs.NameLaws.{AreNames}

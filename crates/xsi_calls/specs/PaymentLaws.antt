@@ -1,4 +1,5 @@
--- Laws of payments. Each is the contract of a function of laws.rt. docs/STEPS.md, "What a call writes", "Remove".
+-- Laws of payments. Each is the contract of a function of payment_laws.rt.
+-- docs/STEPS.md, "What a call writes", "Remove".
 use Rattle.std.specs.Prelude.{ℕ, ◌≡◌, List, true, Some, None, take, ⊤}
 use Rattle.std.specs.List.{Contains}
 use Rattle.call_decisions.specs.declared.settled.Settled.TheVariants as settlements

@@ -1,4 +1,5 @@
--- Laws of the questions of calls. Each is the contract of a function of laws.rt. docs/STEPS.md, "What a call reads".
+-- Laws of the questions of calls. Each is the contract of a function of question_laws.rt.
+-- docs/STEPS.md, "What a call reads".
 use Rattle.std.specs.Prelude.{ℕ, ◌≡◌, ◌≢◌, ◌≤◌, true, Option, Some, None, [], List}
 use Rattle.std.specs.List.{Contains}
 use Rattle.call_decisions.specs.Anything.{locked_of}

@@ -1,4 +1,4 @@
--- The law of calls up to their Decide, which is the contract of the function of laws.rt.
+-- The law of calls up to their Decide, which is the contract of the function of undecided_laws.rt.
 use Rattle.std.specs.Prelude.{ℕ, ◌≤◌}
 use Rattle.xsi_calls.specs.declared.undecided.UndecidedCall.{UndecidedCall}
 use Rattle.xsi_calls.specs.UndecidedWords.{Call, Store}

@@ -13,7 +13,7 @@ ghost use Rattle.xsi_calls.specs.QuestionSteps.{Faces, KeepsQuestions, Learns, M
 mod skipping;
 
 use crate::counting::finds_behind;
-use crate::names::HeldNames;
+use crate::held_names::HeldNames;
 use crate::question::{Question, goes_on, listen, read};
 use crate::turn::NameTurn;
 use bucket_page::{PseudoKey, RecordKey};

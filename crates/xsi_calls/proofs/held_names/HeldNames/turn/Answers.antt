@@ -1,7 +1,7 @@
 use Rattle.std.proofs.Common.{sym, ◌∙◌, arith, length}
 use Rattle.call_decisions.specs.Names.{names_for}
 use Rattle.xsi_calls.proofs.HeldTurnLemmas.{differs_in, ends_in, goes_on_in, takes_next}
-use Rattle.xsi_calls.proofs.names.HeldNames.turn.Goals as goal
+use Rattle.xsi_calls.proofs.held_names.HeldNames.turn.Goals as goal
 
 pub returns-then-not-is_there : goal.returns-then-not-is_there
 returns-then-not-is_there c =

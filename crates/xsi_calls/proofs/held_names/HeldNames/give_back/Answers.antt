@@ -2,7 +2,7 @@ use Rattle.std.proofs.Common.{sym, ◌∙◌, subst, [], ◌∷◌}
 use Rattle.call_decisions.specs.NameLaws.{AreNames}
 use Rattle.xsi_calls.proofs.OrderLemmas.{begin_are_names}
 use Rattle.xsi_calls.proofs.HeldStepLemmas.{gave_last_back, row_without}
-use Rattle.xsi_calls.proofs.names.HeldNames.give_back.Goals as goal
+use Rattle.xsi_calls.proofs.held_names.HeldNames.give_back.Goals as goal
 
 pub invariant_of-self-2 : goal.invariant_of-self-2
 invariant_of-self-2 c =

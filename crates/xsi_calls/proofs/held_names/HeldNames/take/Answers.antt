@@ -5,7 +5,7 @@ use Rattle.call_decisions.specs.stale_search.Words.{kind_of}
 use Rattle.call_decisions.specs.stale_search.Steps.{world}
 use Rattle.call_decisions.proofs.of_stale_search.StepLemmas.{granted_to}
 use Rattle.xsi_calls.proofs.OrderLemmas.{last_is_new, last_is_not, next_may}
-use Rattle.xsi_calls.proofs.names.HeldNames.take.Goals as goal
+use Rattle.xsi_calls.proofs.held_names.HeldNames.take.Goals as goal
 
 pub try_grant-requires-clause-fresh : goal.try_grant-requires-clause-fresh
 try_grant-requires-clause-fresh c =
