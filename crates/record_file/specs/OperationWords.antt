@@ -9,7 +9,7 @@ pub use Rattle.record_file.specs.declared.tried.Tried.{Tried}
 pub use Rattle.record_file.specs.split_merge.Steps.{TurnsAwayAt}
 pub use Rattle.record_file.specs.stale_search.Steps.{FollowsRow}
 pub use Rattle.record_file.specs.Inserts.{InsertView, IsLent, insert_facts, insert_left, insert_locks, insert_turn, said_of, SECOND_STEPS}
-pub use Rattle.record_file.specs.InsertSteps.{KeepsInsert}
+pub use Rattle.record_file.specs.InsertSteps.{KeepsInsert, MakesInsert}
 pub use Rattle.record_file.specs.SecondSteps.{NearsOrSpares, SaysAt}
 pub use Rattle.record_file.specs.declared.operation.RecordOperation.{RecordOperation}
 pub use Rattle.record_file.specs.declared.operation.RecordOperation.TheVariants.{Find, Insert, Replace, Delete}

@@ -10,7 +10,7 @@ use Rattle.split_merge.proofs.LockArms.{grant_right, grant_left, grant_right_aga
 use Rattle.split_merge.proofs.JoinLemmas.{joins, buries, names_left}
 use Rattle.split_merge.proofs.MergeFreeLemmas.{counts, frees, links}
 use Rattle.split_merge.proofs.ApproachLemmas.{not_reached, approaches}
-use Rattle.split_merge.proofs.merge.Merge.make.Goals as goal
+use Rattle.split_merge.proofs.merge.Merge.step.Goals as goal
 
 -- ---- on the way to the bucket
 pub returns-in_default : goal.returns-in_default
