@@ -115,6 +115,7 @@ module _ (hash : RecordKey → ℕ) (seat : ℕ) (did : Progress FileFault) (a :
         pool pool' locks locks'
     makes_on = record {
       writes = op.writes.writes;
+      cause = op.cause;
       aim = record {
         key = op.aim.key;
         pseudokey = op.aim.pseudokey;

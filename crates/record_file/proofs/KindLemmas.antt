@@ -30,6 +30,7 @@ module _ (hash : RecordKey → ℕ) (seat : ℕ) (bytes : List ℕ) (did : Progr
       Makes (Find f) (Find f')
   find_makes f f' made = record {
     writes = record { writes = made.writes.writes; spares = made.writes.spares (λ may. may) };
+    cause = made.cause;
     aim = record {
       key = made.aim.key;
       pseudokey = made.aim.pseudokey;
@@ -53,6 +54,7 @@ module _ (hash : RecordKey → ℕ) (seat : ℕ) (bytes : List ℕ) (did : Progr
       Makes (Insert i) (Insert i')
   insert_makes i i' made = record {
     writes = record { writes = made.writes; spares = λ honest. tt };
+    cause = made.cause;
     aim = record {
       key = made.aim.key;
       pseudokey = made.aim.pseudokey;
@@ -74,6 +76,7 @@ module _ (hash : RecordKey → ℕ) (seat : ℕ) (bytes : List ℕ) (did : Progr
       Makes (Replace r) (Replace r')
   replace_makes r r' made = record {
     writes = record { writes = made.writes.writes; spares = λ honest other. made.writes.spares other honest };
+    cause = made.cause;
     aim = record {
       key = made.aim.key;
       pseudokey = made.aim.pseudokey;
@@ -112,6 +115,7 @@ module _ (hash : RecordKey → ℕ) (seat : ℕ) (bytes : List ℕ) (did : Progr
       Makes (Delete d) (Delete d')
   delete_makes d d' writes aim row progress step answer = record {
     writes = record { writes = writes.writes; spares = λ honest failed. writes.spares failed honest };
+    cause = writes.cause;
     aim = record {
       key = aim.key;
       pseudokey = aim.pseudokey;

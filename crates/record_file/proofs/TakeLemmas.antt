@@ -1,10 +1,11 @@
 -- What an access takes from the page that answered, after the Look of its operation.
-use Rattle.std.proofs.Common.{◌≡◌, refl, sym, ap, ◌∙◌, subst, ℕ, ◌<◌, Bool, true, false, not, ◌&&◌, List, length, inl, inr, ◌⊎◌, Option, Some, None, IsSome, IsTrue, IsOk, Result, Ok, Err, is_ok, if◌then◌else◌, arith}
+use Rattle.std.proofs.Common.{◌≡◌, refl, sym, ap, ◌∙◌, subst, ℕ, ◌<◌, Bool, true, false, not, ◌&&◌, List, length, inl, inr, ◌⊎◌, Option, Some, None, IsSome, IsTrue, IfErr, IsOk, Result, Ok, Err, is_ok, if◌then◌else◌, arith}
 use Rattle.std.proofs.lemmas.Bool.{true≢false}
 use Rattle.std.specs.Option.{option_map}
 use Rattle.bucket_page.specs.Records.{lookup}
 use Rattle.file_pages.proofs.ReadLemmas.{devices_after}
-use Rattle.file_pages.specs.Fault.{IsDevicesFault}
+use Rattle.file_pages.specs.Fault.{FileHasCause, IsDevicesFault}
+use Rattle.record_file.proofs.of_stale_search.CauseLemmas.{cause_after, told_cause}
 use Rattle.hash_file.specs.Store.{has_bucket, records_at}
 use Rattle.record_file.specs.Machines.{FindsAt, IsFoundAtLook}
 use Rattle.record_file.specs.OperationSteps.{SparesPages}
@@ -297,6 +298,8 @@ module _ {X : Type 0} (hash : RecordKey → ℕ) (seat : ℕ) (did : Progress Fi
       file = λ honest done f. t.reads.file (honest_on honest) (subst IsTrue (sym well) refl)
           (op.writes.writes.file honest done f);
     };
+    cause = λ fault same. absurd
+        (let clash : ◌≡◌ {A = Progress FileFault} (Moved Look) (Fault fault) = sym looked ∙ same in cc);
     aim = record {
       key = ap operation_key same_op ∙ op.aim.key;
       pseudokey = ap operation_pseudokey same_op ∙ op.aim.pseudokey;
@@ -339,6 +342,8 @@ module _ {X : Type 0} (hash : RecordKey → ℕ) (seat : ℕ) (did : Progress Fi
       stored = t.reads.stored ∙ op.writes.writes.stored;
       file = λ honest done f. absurd cc;
     };
+    cause = told_cause fault pool pool'' (cause_after pool pool' pool'' fault op.writes.writes.later
+        (subst (λ (r : Result X FileFault). IfErr r (FileHasCause pool' pool'')) is t.cause));
     aim = record {
       key = ap operation_key same_op ∙ op.aim.key;
       pseudokey = ap operation_pseudokey same_op ∙ op.aim.pseudokey;

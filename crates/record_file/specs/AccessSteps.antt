@@ -3,7 +3,7 @@ use Rattle.std.specs.Prelude.{ℕ, ◌≡◌, ◌≤◌, ◌↔◌, ◌⊎◌, B
 use Rattle.record_file.specs.declared.operation.RecordOperation.TheVariants as operations
 use Rattle.record_file.specs.step_rules.declared.kind.Kind.{Kind}
 use Rattle.file_pages.specs.declared.fault.FileFault.{FileFault}
-use Rattle.record_file.specs.AccessWords.{RecordKey, pair, PoolState, Table, Lock, Change, row_of, store_of, Progress, Moved, Blocked, Ended, Look, OnlyWrites, FollowsRow, World, is_fault, HasNoFileLock, Sees, Step, world, NearsOrSpares, RecordOperation, HasEnded, IsKeyed, OwnsWritten, operation_found, HasNoRoom, Links, Record, linked_bytes}
+use Rattle.record_file.specs.AccessWords.{RecordKey, pair, PoolState, Table, Lock, Change, row_of, store_of, Progress, Moved, Blocked, Ended, Look, OnlyWrites, FollowsRow, World, is_fault, HasNoFileLock, Sees, Step, StepHasCause, world, NearsOrSpares, RecordOperation, HasEnded, IsKeyed, OwnsWritten, operation_found, HasNoRoom, Links, Record, linked_bytes}
 use Rattle.record_file.specs.Purposes.{Purpose, StandsAt, is_write, left_by}
 use Rattle.record_file.specs.Accesses.{AccessView, Allows, HasFound, Serves, access_answer, access_facts, access_key, access_left, access_locks, access_pseudokey, access_turn, has_no_room, has_set_out}
 
@@ -88,6 +88,7 @@ pub record MakesAccess (hash : RecordKey → ℕ) (seat : ℕ) (did : Progress F
     (pool pool' : PoolState) (locks locks' : Table) : Type 0 where
   -- whatever the device gives
   pub writes : OnlyWrites (not (is_fault did)) pool pool'
+  pub cause : StepHasCause did pool pool'
   pub aim : KeepsAccess did old new
   pub row : FollowsRow seat (access_locks old) (access_locks new) locks locks'
   -- on an honest device, in a sound world

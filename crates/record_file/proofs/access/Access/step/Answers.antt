@@ -34,7 +34,8 @@ returns-then-answered g c =
       written = c.self.inside.written;
     } in
     rw (← c.self.view_is) (makes_other _ c.args.seat c.step-did.result a c.step-did.new.self c.args.pool.now
-    c.step-did.new.pool c.args.locks.now c.step-did.new.locks c.step-did.ensures unwritten (λ looked none. absurd (true≢false (sym some ∙ ap is_some none))))
+    c.step-did.new.pool c.args.locks.now c.step-did.new.locks c.step-did.ensures unwritten
+    (λ looked none. absurd (true≢false (sym some ∙ ap is_some none))))
 
 pub returns-then-not-is_look : goal.returns-then-not-is_look
 returns-then-not-is_look g c =
@@ -46,7 +47,8 @@ returns-then-not-is_look g c =
       written = c.self.inside.written;
     } in
     rw (← c.self.view_is) (makes_other _ c.args.seat c.step-did.result a c.step-did.new.self c.args.pool.now
-    c.step-did.new.pool c.args.locks.now c.step-did.new.locks c.step-did.ensures unwritten (λ looked none. absurd (true≢false (sym (c.is_look.ensures.other looked) ∙ c.if-not-is_look.true))))
+    c.step-did.new.pool c.args.locks.now c.step-did.new.locks c.step-did.ensures unwritten
+    (λ looked none. absurd (true≢false (sym (c.is_look.ensures.other looked) ∙ c.if-not-is_look.true))))
 
 pub returns-in-Ok : goal.returns-in-Ok
 returns-in-Ok g c =
@@ -60,7 +62,8 @@ returns-in-Ok g c =
       written = c.self.inside.written;
     } in
     rw (← c.self.view_is) (took _ c.args.seat c.step-did.result a c.step-did.new.self c.args.pool.now
-    c.step-did.new.pool c.take.new.pool c.args.locks.now c.step-did.new.locks c.step-did.ensures looked none c.take.new.self c.take.result c.take.ensures (ap is_ok c.in-Ok.is) (ap is_ok c.in-Ok.is))
+    c.step-did.new.pool c.take.new.pool c.args.locks.now c.step-did.new.locks c.step-did.ensures looked none
+    c.take.new.self c.take.result c.take.ensures (ap is_ok c.in-Ok.is) (ap is_ok c.in-Ok.is))
 
 pub returns-in-Err : goal.returns-in-Err
 returns-in-Err g c =
@@ -74,4 +77,5 @@ returns-in-Err g c =
       written = c.self.inside.written;
     } in
     rw (← c.self.view_is) (failed _ c.args.seat c.step-did.result a c.step-did.new.self c.args.pool.now
-    c.step-did.new.pool c.take.new.pool c.args.locks.now c.step-did.new.locks c.step-did.ensures looked none c.take.new.self c.take.result c.take.ensures c.in-Err.fault c.in-Err.is)
+    c.step-did.new.pool c.take.new.pool c.args.locks.now c.step-did.new.locks c.step-did.ensures looked none
+    c.take.new.self c.take.result c.take.ensures c.in-Err.fault c.in-Err.is)
